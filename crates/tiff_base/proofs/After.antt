@@ -12,7 +12,7 @@ use Rattle.std.specs.List.{All}
 use Rattle.tiff_base.specs.Directory.{fields_after}
 use Rattle.tiff_base.specs.Field.{Field}
 
--- ---- what follows a field
+-- ---- the fields after a field
 
 both_true : (a b : Bool) → T (a && b) → T a × T b
 both_true true b h = (tt, h)
@@ -23,7 +23,7 @@ above x k Less e h = ranked x k Less e
 above x k Equal e h = absurd h
 above x k Greater e h = absurd h
 
--- fields above a number are all after it, and after each lower one
+-- fields above a number are all after it, and after each lower number
 all_after : (a x : ℕ) (es : List (ℕ × Field)) → T (below_all nat_cmp x es) → a ≤ x → fields_after a es ≡ es
 all_after a x [] h l = refl
 all_after a x (e ∷ es) h l =
@@ -40,7 +40,7 @@ after_head es e h =
 none_long : (e : ℕ × Field) (rest : List (ℕ × Field)) → [] ≡ e ∷ rest → ⊥
 none_long e rest is = let l : 0 ≡ length (e ∷ rest) = ap (λ (fs : List (ℕ × Field)). length fs) is in omega arith
 
--- after the first field that isn't passed over come the others
+-- after the first field that is not skipped come the others
 pub after_first : (a : ℕ) (es rest : List (ℕ × Field)) (e : ℕ × Field) → T (is_sorted nat_cmp es) → fields_after a es ≡ e ∷ rest → fields_after e.0 es ≡ rest
 after_first a [] rest e h is = absurd (none_long e rest is)
 after_first a (x ∷ es) rest e h is =

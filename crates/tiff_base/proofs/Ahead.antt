@@ -1,4 +1,4 @@
--- What a buffer asks its source for.
+-- The bytes that a buffer asks its source for.
 use Rattle.std.proofs.Common.{◌≡◌, ℕ, ◌+◌, ◌≤◌, ◌<◌, Bool, true, false, List, [], ◌∷◌, Option, None, Some, arith, refl}
 use Rattle.std.proofs.lemmas.Bool.Decides.{nat_tests}
 use Rattle.std.specs.List.{list_any}
@@ -31,10 +31,11 @@ unfolding answers_for
 held_ahead None at k e l h = refl
 held_ahead (Some stretches) at k e l h = ahead_in stretches at k l h e
 
--- what the buffer answers for, its source does
+-- bytes that are readable through the buffer are readable in its source
 pub through_buffer : (s : SourceRecord) (at n : ℕ) → AreReadable (buffered s) at n → AreReadable s at n
 through_buffer s at n r k l h = held_ahead s.readable k k (r k l h) (omega arith) (omega arith)
 
--- with so many bytes behind the first
+-- if some bytes from an offset on are readable through the buffer, 8192 bytes from there on are
+-- readable in its source
 pub first_ahead : (s : SourceRecord) (at n : ℕ) → 0 < n → AreReadable (buffered s) at n → AreReadable s at 8192
 first_ahead s at n some r k l h = held_ahead s.readable at k (r at (omega arith) (omega (arith, some))) l h

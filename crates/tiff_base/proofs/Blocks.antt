@@ -40,7 +40,7 @@ runs_run early h v P a = runs_cons early h (v ∷ P) ∙ grind (arith, nat_tests
 pub runs_broken : (early : Bool) (h : ℕ) → 128 < h → runs early (h ∷ []) ≡ record { out = []; end = Broken }
 runs_broken early h a = runs_cons early h [] ∙ grind (arith, nat_tests)
 
--- ---- nothing else than `runs` says
+-- ---- a list unpacks to nothing else than `runs` says
 
 literal_step : (early : Bool) (bytes Q : List ℕ) (h : ℕ) → h < 128 → h + 1 ≡ length bytes → runs early (h ∷ (bytes ++ Q)) ≡ with_front bytes (runs early Q)
 literal_step early bytes Q h a e =
@@ -82,7 +82,7 @@ one_unpacked bytes early out end u =
     ap (runs early) u.list ∙ one_list early u.blocks u.rest u.are_blocks u.is_rest
     ∙ (λ i. record { out = sym u.gives i; end = sym u.ends i })
 
--- ---- and that
+-- ---- a list unpacks to what `runs` says
 
 onto : (early : Bool) (block : Block) (Q out : List ℕ) (end : End) → IsBlock block → Unpacks Q early out end → Unpacks (packed_block block ++ Q) early (plain_block block ++ out) end
 onto early block Q out end i u = record {
@@ -95,7 +95,7 @@ onto early block Q out end i u = record {
   ends = u.ends;
 }
 
--- another way to write the list, and what it gives
+-- another form of the list, and of what it unpacks to
 written_as : (early : Bool) (P Q : List ℕ) (u v : Unpacked) → P ≡ Q → u ≡ v → Unpacks P early u.out u.end → Unpacks Q early v.out v.end
 written_as early P Q u v p q h =
     (let S : List ℕ → Type 0 = λ xs. Unpacks xs early v.out v.end in
@@ -165,7 +165,7 @@ header_is h = header_by h (cases_order h 128)
 fits : (n m : ℕ) → (n ≤ m) ⊎ (m < n)
 fits n m = fits_by n m (cases_lt m n)
 
--- each part of a list behind some first bytes unpacks to what `runs_after` says
+-- each part of a list after some first bytes unpacks to what `runs_after` says
 abbrev IsEach : Bool → List ℕ → Type 0
 IsEach early Q = (n : ℕ) → n ≤ length Q → Unpacks (drop n Q) early (runs_after n early Q).out (runs_after n early Q).end
 

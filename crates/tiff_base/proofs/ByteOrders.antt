@@ -1,4 +1,4 @@
--- Numbers that are turned twice are as they were.
+-- Numbers whose bytes are reversed twice are unchanged.
 use Rattle.std.proofs.Common.{◌≡◌, ℕ, zero, suc, ◌+◌, ◌*◌, ◌/◌, ◌-◌, ◌≤◌, ◌<◌, List, ◌++◌, length, take, drop, reverse, refl, ap, sym, ◌∙◌, arith, append-nil, length-append, length-drop, []}
 use Rattle.std.proofs.Math.Seq.{take-append-add, drop-append-add}
 use Rattle.std.specs.List.{flat_map, range_with_len}
@@ -79,7 +79,7 @@ turns_back type BigEndian LittleEndian bytes = turned_back type bytes
 turns_back type LittleEndian LittleEndian bytes = refl
 turns_back type BigEndian BigEndian bytes = refl
 
--- ---- one more
+-- ---- one more number
 
 unit_onto : (size n : ℕ) (U rest : List ℕ) → length U ≡ size
     → take (size + n) (U ++ rest) ++ (reverse (take size (drop (size + n) (U ++ rest))) ++ drop (size + n + size) (U ++ rest))
@@ -92,7 +92,7 @@ unit_onto size n U rest e =
     (λ i. t i ++ (reverse (take size (d i)) ++ g i))
     ∙ append_assoc U (take n rest) (reverse (take size (drop n rest)) ++ drop (n + size) rest)
 
--- to turn the next number of those that are turned
+-- to turn the next number after those already turned
 pub turned_more : (size count : ℕ) (bytes : List ℕ) → size * suc count ≤ length bytes
     → take (count * size) (turned_units size count bytes)
     ++ (reverse (take size (drop (count * size) (turned_units size count bytes))) ++ drop (count * size + size) (turned_units size count bytes))
@@ -115,7 +115,7 @@ turned_more size (suc count) bytes h =
     ∙ ap (λ xs. U ++ xs) (turned_more size count (drop size bytes) l)
     ∙ sym (turned_first size (suc count) bytes)
 
--- one turn of a loop that turns the numbers of a slice
+-- one step of a loop that turns the numbers of a slice
 pub next_unit : (size i : ℕ) (bytes now part : List ℕ) → i < length bytes / size → now ≡ turned_units size i bytes
     → part ≡ reverse (take (i * size + size - i * size) (drop (i * size) now))
     → put_mid (i * size) (i * size + size - i * size) now part ≡ turned_units size (i + 1) bytes
@@ -134,14 +134,14 @@ next_unit size i bytes now part h e p =
     ∙ turned_more size i bytes whole
     ∙ ap (λ (n : ℕ). turned_units size n bytes) one
 
--- its end
+-- the end of the loop that turns the numbers of a slice
 pub last_unit : (size i : ℕ) (bytes now : List ℕ) → i ≡ length bytes / size → now ≡ turned_units size i bytes
     → now ≡ turned_units size (length bytes / size) bytes
 last_unit size i bytes now h e = e ∙ ap (λ (n : ℕ). turned_units size n bytes) h
 
--- ---- many at once
+-- ---- many numbers at once
 
--- some numbers that are turned, and then some more behind them
+-- some numbers turned, and then more numbers behind them
 pub turned_behind : (size a b : ℕ) (bytes : List ℕ) → size * a ≤ length bytes
     → take (a * size) (turned_units size a bytes) ++ turned_units size b (drop (a * size) (turned_units size a bytes)) ≡ turned_units size (a + b) bytes
 turned_behind size zero b bytes h =
@@ -165,7 +165,7 @@ turned_behind size (suc a) b bytes h =
     ∙ sym (turned_first size (a + b) bytes)
     ∙ ap (λ (n : ℕ). turned_units size n bytes) (sym l)
 
--- numbers that are turned in a part alone
+-- to turn numbers of the first part alone
 pub turned_in : (size count : ℕ) (xs ys : List ℕ) → length xs ≡ size * count → turned_units size count (xs ++ ys) ≡ turned_units size count xs ++ ys
 turned_in size zero xs ys h =
     turned_none size (xs ++ ys) ∙ ap (λ l. l ++ ys) (sym (turned_none size xs))
@@ -178,7 +178,7 @@ turned_in size (suc count) xs ys h =
     ∙ sym (append_assoc (reverse (take size xs)) (turned_units size count (drop size xs)) ys)
     ∙ ap (λ l. l ++ ys) (sym (turned_first size count xs))
 
--- one turn of a loop that turns m numbers of a slice at once, L bytes of it
+-- one step of a loop that turns m numbers of a slice at once, L bytes of it
 pub next_block : (size m L at k : ℕ) (bytes now part : List ℕ) → L ≡ size * m → at ≡ m * k * size → at + L ≤ length bytes → now ≡ turned_units size (m * k) bytes
     → part ≡ turned_units size m (take (at + L - at) (drop at now)) → put_mid at (at + L - at) now part ≡ turned_units size (m * k + m) bytes
 next_block size m L at k bytes now part whole there room e p =
@@ -199,7 +199,7 @@ next_block size m L at k bytes now part whole there room e p =
     ∙ ap (λ (j : ℕ). take j (turned_units size (m * k) bytes) ++ turned_units size m (drop j (turned_units size (m * k) bytes))) there
     ∙ turned_behind size (m * k) m bytes front
 
--- what follows such blocks, turned to the end
+-- the numbers after whole blocks, turned to the end
 pub last_block : (size m at k b : ℕ) (bytes now part : List ℕ) → at ≡ m * k * size → at ≤ length bytes → now ≡ turned_units size (m * k) bytes
     → part ≡ turned_units size b (take (length now - at) (drop at now)) → put_mid at (length now - at) now part ≡ turned_units size (m * k + b) bytes
 last_block size m at k b bytes now part there room e p =

@@ -1,10 +1,10 @@
--- What an error tells, where one call answers for another.
+-- The cause of an error, where one call returns the error of another.
 use Rattle.tiff_base.specs.declared.error.TiffError.{TiffError}
 use Rattle.tiff_base.specs.declared.error.TiffError.TheVariants.{FormatError, UnsupportedError, IoError, LimitsExceeded, IntSizeError, UsageError, OutOfMemory}
 use Rattle.tiff_base.specs.declared.io.IoKind.TheVariants.{UnexpectedEof, InvalidData, InvalidInput, WriteZero, Device}
 use Rattle.tiff_base.specs.Answers.{IsCause}
 
--- a cause of one is a cause of another that it leads to
+-- a cause remains one under weaker conditions
 pub cause_along : {wanting failed wanting' failed' given given' : Type 0} (e : TiffError)
     → (wanting → wanting') → (failed → failed') → (given → given') → IsCause wanting failed e given → IsCause wanting' failed' e given'
 cause_along OutOfMemory w f g h = w h

@@ -1,4 +1,4 @@
--- Directories that are extended.
+-- Directories extended by fields.
 use Rattle.std.proofs.Common.{◌≡◌, ℕ, List, [], ◌∷◌, ◌++◌, map, reverse, refl, ap, sym, ◌∙◌}
 use Rattle.std.proofs.lemmas.List.{reverse-append}
 use Rattle.std.proofs.lemmas.List.Sums.{fold_push}
@@ -10,7 +10,7 @@ use Rattle.tiff_base.specs.Directory.{with_entries, last_of_each, LastOfEachStan
 use Rattle.tiff_base.specs.Field.{Field, DirectoryRecord}
 use Rattle.tiff_base.specs.Tags.{tag_number}
 
--- to set one more field is to be extended by one more
+-- to set one more field is to extend the directory by one more field
 pub one_more : (old now new : DirectoryRecord) (seen : List (Tag × Field)) (item : Tag × Field)
     → now ≡ with_entries old seen → new ≡ record now { entries = insert now.entries (tag_number item.0) item.1 } → new ≡ with_entries old (seen ++ item ∷ [])
 one_more old now new seen item is step =
@@ -18,7 +18,7 @@ one_more old now new seen item is step =
     ∙ ap {A = DirectoryRecord} {B = DirectoryRecord} (λ d. record d { entries = insert d.entries (tag_number item.0) item.1 }) is
     ∙ ap {B = DirectoryRecord} (λ m. record old { entries = m }) (sym (fold_push (λ m x. insert m (tag_number x.0) x.1) old.entries seen item))
 
--- entries put into a map, the last first
+-- entries inserted into a map, the last first
 abbrev onto : FinMap nat_cmp Field → List (ℕ × Field) → FinMap nat_cmp Field
 onto m [] = m
 onto m (e ∷ es) = insert (onto m es) e.0 e.1

@@ -1,4 +1,4 @@
--- Each entry of a directory is one that memory can hold, and stays so.
+-- Each entry of a directory is an entry that memory can hold, and remains one.
 use Rattle.std.proofs.Common.{ℕ, ◌^◌, ◌<◌, List, [], ◌∷◌, refl, sym, subst, inl, inr}
 use Rattle.std.specs.declared.cmp.Ordering.{Ordering}
 use Rattle.std.specs.declared.cmp.Ordering.TheVariants.{Less, Equal, Greater}
@@ -9,7 +9,7 @@ use Rattle.std.specs.Ordering.{nat_cmp}
 use Rattle.tiff_base.proofs.Maps.{entries_of_empty}
 use Rattle.tiff_base.specs.Field.{Field, In, IsEntry, AreEntries}
 
--- each of a list is such an entry
+-- each member of the list is an entry that memory can hold
 abbrev pub Fit : List (ℕ × Field) → Type 0
 Fit es = (e : ℕ × Field) → In e es → IsEntry e
 
@@ -26,7 +26,7 @@ fewer_fit x es all e h = all e (inr h)
 first_fits : (x : ℕ × Field) (es : List (ℕ × Field)) → Fit (x ∷ es) → IsEntry x
 first_fits x es all = all x (inl refl)
 
--- the same field under another number
+-- an entry remains valid when its field gets another tag number
 under : (k n : ℕ) (f : Field) → n < 2 ^ 16 → IsEntry (k, f) → IsEntry (n, f)
 under k n f h e = record { tag = h; count = e.count; whole = e.whole; octets = e.octets }
 
@@ -43,7 +43,7 @@ put_fits k f (x ∷ es) new all =
     (more_fits (x.0, f) es (under k x.0 f (first_fits x es all).tag new) (fewer_fit x es all))
     (more_fits x (put nat_cmp k f es) (first_fits x es all) (put_fits k f es new (fewer_fit x es all)))
 
--- the map of a tree's entries has such entries alone
+-- the map of valid entries contains only valid entries
 pub tree_fits : (es : List (ℕ × Field)) → Fit es → AreEntries (from_entries es)
 tree_fits [] all = subst Fit (sym entries_of_empty) none_fits
 tree_fits (x ∷ es) all =

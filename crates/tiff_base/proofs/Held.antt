@@ -1,4 +1,4 @@
--- A read of bytes that are held is one of the bytes that they are a part of.
+-- A read from the bytes in a buffer is a read from the bytes of the source.
 use Rattle.std.proofs.Common.{◌≡◌, ℕ, zero, suc, ◌+◌, ◌-◌, ◌≤◌, List, ◌++◌, length, take, drop, refl, subst, ap, ◌∙◌, arith, length-drop}
 use Rattle.std.proofs.lemmas.List.{drop-drop, drop-take, length-take, take-take}
 use Rattle.tiff_base.specs.SourceAndSink.{bytes_at, HoldsByte, Reads}

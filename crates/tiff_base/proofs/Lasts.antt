@@ -1,4 +1,4 @@
--- Pairs in any order, of which the last of each number are left.
+-- Pairs in any order, of which the last pair of each number remains.
 use Rattle.std.proofs.Common.{◌≡◌, ℕ, suc, ◌+◌, ◌-◌, ◌<◌, Bool, true, false, cond, List, [], ◌∷◌, ◌++◌, None, length, get_or, reverse, nat_eq, refl, sym, ap, subst, ◌∙◌, arith, inl, inr}
 use Rattle.std.proofs.lemmas.Bool.{cases_lt}
 use Rattle.std.proofs.lemmas.Bool.Decides.{nat_tests}
@@ -28,7 +28,7 @@ Pairs = List (ℕ × Field)
 abbrev pub key : ℕ × Field → ℕ
 key e = e.0
 
--- two pairs have one number
+-- the two pairs have one number
 abbrev pub same : ℕ × Field → ℕ × Field → Bool
 same a b = nat_eq a.0 b.0
 
@@ -41,7 +41,7 @@ find_tied : (q : ℕ) (f : Field) (es : Pairs) → find nat_cmp q (filter (ties 
 find_tied q f [] = refl
 find_tied q f (e ∷ es) = grind (arith, nat_tests, find_tied q f es)
 
--- a stable sort finds what was found before
+-- a stable sort does not change what a look-up finds
 find_sorted : (q : ℕ) (rs ss : Pairs) → IsStableByKey key nat_cmp rs ss → find nat_cmp q ss ≡ find nat_cmp q rs
 find_sorted q rs ss stable =
     let f : Field = record { field_type = BYTE; count = 0; value = [] } in
@@ -94,7 +94,7 @@ sorted_ascends ss ys sorted left =
     subst (λ (ks : List ℕ). IsStrictlySortedBy nat_cmp ks) (sym (ap keys_of left ∙ keys_deduped ss))
     (IsStrictlySortedBy-dedup nat_cmp_total unsigned_ties (keys_of ss) (numbers_sorted ss sorted))
 
--- one more number is above the one before it
+-- one more number is above the number before it
 pub one_step : (es : Pairs) (i : ℕ) (x y : ℕ × Field) → 0 < i → i < length es → (get_or es (i - 1) x).0 < (get_or es i y).0
     → ((k : ℕ) → k + 1 < i → key_at es k < key_at es (k + 1)) → (k : ℕ) → k + 1 < i + 1 → key_at es k < key_at es (k + 1)
 one_step es i x y some within up before k l =
@@ -136,13 +136,13 @@ last_as_they_are es sorted =
     same_map nat_cmp_total nat_cmp-IsAntisymmetric _ _
     (λ q. get-from_entries nat_cmp_total es q ∙ sym (find_turned q es sorted) ∙ sym (get-from_entries nat_cmp_total (reverse es) q))
 
--- ---- each is an entry
+-- ---- each pair is an entry
 
 pub each_left : (xs rs ss ys : Pairs) → IsPermutation xs rs → IsPermutation rs ss → ys ≡ dedup same ss → All IsEntry xs → All IsEntry ys
 each_left xs rs ss ys p q left all =
     subst (λ (es : Pairs). All IsEntry es) (sym left) (All-dedup same IsEntry ss (All-permutation IsEntry rs ss q (All-permutation IsEntry xs rs p all)))
 
--- one more is an entry
+-- one more pair is an entry
 pub one_entry : (es : Pairs) (i : ℕ) (x y : ℕ × Field) → i < length es → IsEntry ((get_or es i x).0, (get_or es i y).1) → ((k : ℕ) (d : ℕ × Field) → k < i → IsEntry (get_or es k d))
     → (k : ℕ) (d : ℕ × Field) → k < i + 1 → IsEntry (get_or es k d)
 one_entry es i x y within this before k d l =

@@ -27,7 +27,7 @@ abbrev is_none : {A : Type 0} → Option A → Type 0
 is_none None = Unit {0}
 is_none (Some x) = ⊥
 
--- a choice by a test, whose number is n either way
+-- a choice by a test, where the number is n in both cases
 chosen : {A : Type 0} (number : A → ℕ) (n : ℕ) (b : Bool) (x y : A) → (b ≡ true → number x ≡ n) → number y ≡ n → number (if b then x else y) ≡ n
 chosen number n true x y p q = p refl
 chosen number n false x y p q = q

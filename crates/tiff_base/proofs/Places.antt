@@ -1,4 +1,4 @@
--- What stands at a place of pairs in ascending number, and what an edit there makes of them.
+-- The pair at a place among pairs in ascending number, and the result of an edit at this place.
 use Rattle.std.proofs.Common.{◌≡◌, ◌≢◌, ℕ, zero, suc, ◌+◌, ◌<◌, ◌≤◌, true, false, cond, List, [], ◌∷◌, length, drop, get_or, set, Some, None, refl, sym, ap, subst, ◌∙◌, arith, inl, inr}
 use Rattle.std.proofs.lemmas.Bool.Decides.{nat_tests}
 use Rattle.std.specs.declared.cmp.Ordering.TheVariants.{Less}
@@ -20,7 +20,7 @@ use Rattle.tiff_base.specs.Place.{IsAscending, IsBehind, IsGapFor, IsPlaceOf, ke
 abbrev pub Pairs : Type 0
 Pairs = List (ℕ × Field)
 
--- none of the first so many has the number
+-- none of the first n pairs has the number
 abbrev pub NoneBefore : ℕ → Pairs → ℕ → Type 0
 NoneBefore number entries n = (i : ℕ) → i < n → key_at entries i ≢ number
 
@@ -131,7 +131,7 @@ removed_in_gap number entries at gap =
     ∙ ap (cond (is_eq (nat_cmp q number)) None) (sym (get-from_entries nat_cmp_total entries q))
     ∙ sym (get-remove nat_cmp_total (from_entries entries) number q))
 
--- ---- the order stays
+-- ---- the order is kept
 
 less : (a b : ℕ) → a < b → nat_cmp a b ≡ Less
 less a b l = grind (arith, nat_tests)
@@ -201,7 +201,7 @@ ascending_replaced number f entries at sorted is =
 pub ascending_removed : (entries : Pairs) (at : ℕ) → IsAscending entries → IsAscending (remove entries at)
 ascending_removed entries at sorted = subst (λ (ks : List ℕ). IsStrictlySortedBy nat_cmp ks) (sym (keys_removed entries at)) (sorted_removed (keys_of entries) at sorted)
 
--- ---- each stays an entry
+-- ---- each pair remains an entry
 
 abbrev pub Fit : Pairs → Type 0
 Fit entries = (e : ℕ × Field) → In e entries → IsEntry e
@@ -238,7 +238,7 @@ pub none_ascends : IsAscending [] × Fit []
 unfolding IsStrictlySortedBy
 none_ascends = (tt, λ e h. absurd h)
 
--- ---- whole edits: the order stays, and each stays an entry
+-- ---- whole edits: the order is kept, and each pair remains an entry
 
 pub insert_keeps : (number : ℕ) (f : Field) (entries : Pairs) (at : ℕ) → IsGapFor number entries at → IsEntry (number, f) → IsAscending entries × Fit entries
     → IsAscending (insert entries at (number, f)) × Fit (insert entries at (number, f))
@@ -253,7 +253,7 @@ replace_keeps number f entries at is new both =
 pub remove_keeps : (entries : Pairs) (at : ℕ) → IsAscending entries × Fit entries → IsAscending (remove entries at) × Fit (remove entries at)
 remove_keeps entries at both = (ascending_removed entries at both.0, fit_removed entries at both.1)
 
--- ---- what follows a number
+-- ---- the pairs after a number
 
 pub behind_place : (number : ℕ) (entries : Pairs) (at : ℕ) → IsAscending entries → IsPlaceOf number entries at → IsBehind number entries (at + 1)
 behind_place number entries at sorted is = record {
@@ -294,7 +294,7 @@ first_behind number entries at sorted h =
     sym (first_of_drop entries at)
     ∙ ap (λ (es : Pairs). slice_get es 0) (sym (rest_of number entries at h) ∙ ap (fields_after number) (sym (entries_of_tree entries sorted)))
 
--- ---- the same where the number was computed
+-- ---- the same lemmas for a computed number
 
 pub get_none : (number key : ℕ) (entries : Pairs) (at : ℕ) → key ≡ number → IsGapFor key entries at → None ≡ get (from_entries {R = nat_cmp} entries) number
 get_none number key entries at e gap = subst (λ (k : ℕ). None ≡ get (from_entries {R = nat_cmp} entries) k) e (get_in_gap key entries at gap)
@@ -306,7 +306,7 @@ pub removed_none : (number key : ℕ) (entries : Pairs) (at : ℕ) → key ≡ n
     → from_entries {R = nat_cmp} entries ≡ map_remove (from_entries entries) number
 removed_none number key entries at e gap = subst (λ (k : ℕ). from_entries {R = nat_cmp} entries ≡ map_remove (from_entries entries) k) e (removed_in_gap key entries at gap)
 
--- ---- the first field behind a number
+-- ---- the first field after a number
 
 none_from : (entries : Pairs) (at : ℕ) → length entries ≤ at → None ≡ slice_get entries at
 none_from [] at h = refl

@@ -32,7 +32,7 @@ numbers_ascend entries h i j l m = ascends (keys_of entries) h i j l (omega (ari
 
 -- ---- halves
 
--- what is left of a list after so many halvings, of which each left at most half
+-- what remains of a list after some halvings, each of which leaves at most half
 halved : (size left spent whole : ℕ) → left ≤ size / 2 → size * 2 ^ spent ≤ whole → left * 2 ^ (spent + 1) ≤ whole
 halved size left spent whole h l =
     let two : left * 2 ≤ size = omega (arith, h) in
@@ -41,7 +41,7 @@ halved size left spent whole h l =
     let m : left * 2 * 2 ^ spent ≤ size * 2 ^ spent = mul-le-mul_right (2 ^ spent) two in
     omega (arith, e, m, l)
 
--- while something is left, there were fewer halvings than the number of all has binary digits
+-- while something remains, there were fewer halvings than the length of the list has binary digits
 fewer : (size spent whole digits : ℕ) → 0 < size → size * 2 ^ spent ≤ whole → whole < 2 ^ digits → spent + 1 ≤ digits
 fewer size spent whole digits some l d =
     elim (cases_lt spent digits) [
@@ -52,7 +52,7 @@ fewer size spent whole digits some l d =
           absurd (omega (arith, p, one, l, d))
     ]
 
--- Between two places of entries the number is looked for, and so many keys were compared.
+-- The search is between two places of the entries, and has compared a number of keys.
 pub record Halves (number : ℕ) (entries : List (ℕ × Field)) (before now low high : ℕ) : Type 0 where
   pub order : low ≤ high
   pub within : high ≤ length entries

@@ -1,10 +1,10 @@
--- Sixteen bytes in another order of their lanes.
+-- Sixteen bytes with their lanes in another order.
 use Rattle.std.proofs.Common.{◌≡◌, ℕ, List, [], ◌∷◌, ◌++◌, length, take, refl}
 use lib.Lanes.{pick_l, put_chunk}
 use Rattle.tiff_base.proofs.Sixteen.{sixteen}
 use Rattle.tiff_base.specs.ByteOrders.{turned_units}
 
--- The lanes at these positions, stored, are numbers that are turned.
+-- The lanes at these positions, stored, are numbers with reversed bytes.
 abbrev pub Turns : List ℕ → ℕ → ℕ → List ℕ → Type 0
 Turns ks size count xs = put_chunk 0 xs (pick_l 0 (take 16 xs ++ take 16 xs) ks) ≡ turned_units size count xs
 

@@ -1,8 +1,9 @@
--- PackBits by its blocks, as a relation on whole lists (TIFF 6.0 section 9).
+-- PackBits by its blocks, as a relation between whole lists (TIFF 6.0 section 9).
 use Rattle.std.specs.Prelude.{◌≡◌, ℕ, ◌-◌, ◌≤◌, ◌<◌, Bool, if◌then◌else◌, List, [], ◌∷◌, ◌++◌, length, replicate, flat_map}
 use Rattle.tiff_base.specs.Runs.{End, Plain, Broken, Unpacked, runs}
 
--- a block of a packed list: one that stands for nothing, bytes as they stand, or a byte so many times
+-- a block of a packed list: one that encodes nothing, one with literal bytes, or one with a byte
+-- repeated n times
 pub data Block : Type 0 where
   Nothing : Block
   Literal : List ℕ → Block
@@ -14,19 +15,21 @@ IsBlock Nothing = Unit {0}
 IsBlock (Literal bytes) = (0 < length bytes) × (length bytes ≤ 128)
 IsBlock (Repeated n value) = (1 < n) × (n ≤ 128)
 
--- its header, and what follows that: 128 alone; one less than the number of bytes, and these; 257 less the times, and the byte
+-- the packed bytes of a block: the header 128 alone; the number of literal bytes minus 1, and these
+-- bytes; 257 minus the number of repetitions, and the repeated byte
 abbrev pub packed_block : Block → List ℕ
 packed_block Nothing = 128 ∷ []
 packed_block (Literal bytes) = (length bytes - 1) ∷ bytes
 packed_block (Repeated n value) = (257 - n) ∷ value ∷ []
 
--- the bytes that it stands for
+-- the unpacked bytes that a block encodes
 abbrev pub plain_block : Block → List ℕ
 plain_block Nothing = []
 plain_block (Literal bytes) = bytes
 plain_block (Repeated n value) = replicate n value
 
--- what is left behind the last whole block: nothing; a literal that is cut short; a header whose byte is missing
+-- what follows the last whole block: nothing; a literal that is cut short; a header without its
+-- byte
 pub data Rest : Type 0 where
   Empty : Rest
   Short : ℕ → List ℕ → Rest
@@ -42,19 +45,20 @@ rest_bytes Empty = []
 rest_bytes (Short header bytes) = header ∷ bytes
 rest_bytes (Headless n) = (257 - n) ∷ []
 
--- what it stands for, and how the list ends there: a cut literal ends plainly, a missing byte breaks the list, and so does
--- the end of the source before that of the packed bytes
+-- what the rest after the blocks encodes, and how the list ends there. With no rest, the list ends
+-- plainly, or broken if the source ends before the packed bytes do. A literal that is cut short
+-- ends plainly. A header without its byte is a broken end.
 abbrev pub unpacked_end : Bool → Rest → Unpacked
 unpacked_end early Empty = record { out = []; end = if early then Broken else Plain }
 unpacked_end early (Short header bytes) = record { out = bytes; end = Plain }
 unpacked_end early (Headless n) = record { out = []; end = Broken }
 
--- each block of a list is one
+-- each member of the list is a valid block
 abbrev pub AreBlocks : List Block → Type 0
 AreBlocks [] = Unit {0}
 AreBlocks (block ∷ blocks) = IsBlock block × AreBlocks blocks
 
--- A list is blocks and what is left behind them, and unpacks to what they stand for.
+-- A list is blocks and a rest, and unpacks to what these encode.
 pub record Unpacks (bytes : List ℕ) (early : Bool) (out : List ℕ) (end : End) : Type 0 where
   pub blocks : List Block
   pub are_blocks : AreBlocks blocks
@@ -64,17 +68,17 @@ pub record Unpacks (bytes : List ℕ) (early : Bool) (out : List ℕ) (end : End
   pub gives : out ≡ flat_map plain_block blocks ++ (unpacked_end early rest).out
   pub ends : end ≡ (unpacked_end early rest).end
 
--- all numbers of a list are bytes
+-- each number of the list is below 256
 abbrev pub AreBytes : List ℕ → Type 0
 AreBytes [] = Unit {0}
 AreBytes (byte ∷ bytes) = (byte < 256) × AreBytes bytes
 
 -- ---- its laws
 
--- each list of bytes unpacks to something: to what `runs` says
+-- each list of bytes unpacks to what `runs` says
 abbrev pub IsUnpacked : Type 0
 IsUnpacked = (bytes : List ℕ) (early : Bool) → AreBytes bytes → Unpacks bytes early (runs early bytes).out (runs early bytes).end
 
--- and to nothing else
+-- each list of bytes unpacks to nothing else than what `runs` says
 abbrev pub IsOneUnpacked : Type 0
 IsOneUnpacked = (bytes : List ℕ) (early : Bool) (out : List ℕ) (end : End) → Unpacks bytes early out end → runs early bytes ≡ record { out = out; end = end }

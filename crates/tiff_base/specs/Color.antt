@@ -1,9 +1,9 @@
--- What a color says of a pixel.
+-- What a color defines for a pixel.
 use Rattle.std.specs.Prelude.{ℕ}
 use Rattle.tiff_base.specs.declared.color.ColorType.{ColorType}
 use Rattle.tiff_base.specs.declared.color.ColorType.TheVariants.{Gray, RGB, Palette, GrayA, RGBA, CMYK, CMYKA, YCbCr, Lab, Multiband}
 
--- the bits of each sample
+-- the number of bits of each sample
 abbrev pub bit_depth : ColorType → ℕ
 bit_depth (Gray n) = n
 bit_depth (RGB n) = n
@@ -16,7 +16,7 @@ bit_depth (YCbCr n) = n
 bit_depth (Lab n) = n
 bit_depth (Multiband n samples) = n
 
--- the samples that a pixel shows
+-- the number of samples that a pixel shows
 abbrev pub num_samples : ColorType → ℕ
 num_samples (Gray n) = 1
 num_samples (RGB n) = 3

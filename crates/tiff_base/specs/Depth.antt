@@ -1,4 +1,4 @@
--- How often a count was added to.
+-- The number of additions to a count.
 use Rattle.std.specs.Prelude.{ℕ, ◌+◌}
 use Rattle.tiff_base.specs.declared.count.Steps.{Steps, Steps', Held-Steps-last, None', Some'}
 

@@ -18,7 +18,7 @@ pub record Header : Type 0 where
   pub kind : FileKind
   pub first : ℕ
 
--- II or MM, read as a number
+-- the byte order of the mark II or MM, read as a number
 abbrev pub order_of : ℕ → Result ByteOrder TiffError
 order_of mark =
     if mark == 0x4949 then Ok LittleEndian else if mark == 0x4d4d then Ok BigEndian else Err (FormatError TiffSignatureNotFound)
@@ -27,11 +27,11 @@ abbrev pub order_at : List ℕ → Result ByteOrder TiffError
 order_at bytes =
     if nat_le 2 (length bytes) then order_of (number LittleEndian w16 (bytes_at bytes 0 2)) else Err (FormatError TiffSignatureNotFound)
 
--- a number of BigTIFF's header that has to be this one
+-- a number of the header of BigTIFF that must be equal to m
 abbrev pub required_number : ℕ → ℕ → Result ℕ TiffError
 required_number n m = if n == m then Ok n else Err (FormatError TiffSignatureNotFound)
 
--- the header with its first offset, which isn't 0
+-- the header with the offset of its first directory, which must not be 0
 abbrev pub header_of : ByteOrder → FileKind → ℕ → Result Header TiffError
 header_of order kind first =
     if first == 0 then Err (FormatError ImageFileDirectoryNotFound) else Ok (record { order = order; kind = kind; first = first })
@@ -54,7 +54,7 @@ abbrev pub version_at : ByteOrder → List ℕ → ℕ → Result Header TiffErr
 version_at order bytes version =
     if version == 42 then classic_at order bytes else if version == 43 then big_at order bytes else Err (FormatError TiffSignatureInvalid)
 
--- the header, each number tested before the next is read
+-- the header of a file; each number is tested before the next is read
 unfoldable pub header_at : List ℕ → Result Header TiffError
 header_at bytes = do
   order ← order_at bytes

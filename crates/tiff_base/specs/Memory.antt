@@ -1,4 +1,5 @@
--- The bytes of a source in memory, of one that lies in a slice, and of a sink in memory, and what a buffered source tells.
+-- The bytes of a source in memory, of a source over a slice, and of a sink in memory, and what a
+-- buffered source contains.
 use Rattle.std.specs.Prelude.{ℕ, ◌-◌, List, map, option_map}
 use Rattle.tiff_base.specs.SourceAndSink.{SourceRecord}
 use Rattle.tiff_base.specs.declared.io.MemorySource.{MemorySource}
@@ -18,6 +19,7 @@ sink_bytes s = s.items.items
 abbrev pub shortened : ℕ × ℕ → ℕ × ℕ
 shortened s = (s.0, s.1 - 8191)
 
--- A buffer asks for 8192 bytes at once. So it answers for the bytes of a stretch that have 8191 others of it behind them.
+-- A buffered source asks its source for 8192 bytes at once. A byte of it is readable if the byte
+-- and the 8191 bytes after it are in one readable stretch of its source.
 abbrev pub buffered : SourceRecord → SourceRecord
 buffered source = record { bytes = source.bytes; readable = option_map (map shortened) source.readable }

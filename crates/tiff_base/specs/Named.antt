@@ -1,4 +1,4 @@
--- The numbers of the enums, there and back.
+-- The numbers of the enums: conversions from number to value and back.
 use Rattle.std.specs.Prelude.{◌≡◌, ℕ, Some}
 use Rattle.tiff_base.specs.declared.tags.Tag.{Tag}
 use Rattle.tiff_base.specs.declared.tags.«Type».{«Type»}
@@ -11,13 +11,13 @@ use Rattle.tiff_base.specs.declared.tags.SampleFormat.{SampleFormat}
 use Rattle.tiff_base.specs.declared.tags.ExtraSamples.{ExtraSamples}
 use Rattle.tiff_base.specs.Tags.{tag_number, tag_of, named_tag, type_number, type_of, method_number, method_of, named_method, interpretation_number, interpretation_of, planar_number, planar_of, predictor_number, predictor_of, unit_number, unit_of, format_number, format_of, named_format, extra_number, extra_of}
 
--- Each number is that of what it names, of tags, methods and formats.
+-- Each number is the number of the tag, the method or the sample format that it names.
 pub record NumbersComeBack : Type 0 where
   pub tags : (n : ℕ) → tag_number (tag_of n) ≡ n
   pub methods : (n : ℕ) → method_number (method_of n) ≡ n
   pub formats : (n : ℕ) → format_number (format_of n) ≡ n
 
--- What has a name is what its number names.
+-- A value that has a name is the value that its number names.
 pub record NamesComeBack : Type 0 where
   pub tags : (tag named : Tag) → named_tag tag ≡ Some named → named_tag (tag_of (tag_number tag)) ≡ Some tag
   pub types : (type : «Type») → type_of (type_number type) ≡ Some type

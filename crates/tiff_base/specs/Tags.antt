@@ -19,7 +19,7 @@ use Rattle.tiff_base.specs.declared.tags.SampleFormat.TheVariants as f
 use Rattle.tiff_base.specs.declared.tags.ExtraSamples.{ExtraSamples}
 use Rattle.tiff_base.specs.declared.tags.ExtraSamples.TheVariants as e
 
--- The tags of a directory (TIFF 6.0, its supplements, GeoTIFF, EXIF, ICC, GDAL).
+-- The numbers of the tags of a directory (TIFF 6.0, its supplements, GeoTIFF, EXIF, ICC, GDAL).
 abbrev pub tag_number : Tag → ℕ
 tag_number t.NewSubfileType = 254
 tag_number t.SubfileType = 255
@@ -82,7 +82,7 @@ tag_number t.ExifVersion = 36864
 tag_number t.GdalNodata = 42113
 tag_number (t.Unknown n) = n
 
--- the one that a number names
+-- the tag of a number
 unfoldable pub tag_of : ℕ → Tag
 tag_of n =
     if n == 254 then t.NewSubfileType else if n == 255 then t.SubfileType else
@@ -113,12 +113,12 @@ tag_of n =
     if n == 42113 then t.GdalNodata else
     t.Unknown n
 
--- a tag that has a name
+-- the tag, if it has a name
 abbrev pub named_tag : Tag → Option Tag
 named_tag (t.Unknown n) = None
 named_tag tag = Some tag
 
--- The type of a field's values (TIFF 6.0 section 2; BigTIFF).
+-- The numbers of the types of a field's values (TIFF 6.0 section 2; BigTIFF).
 abbrev pub type_number : «Type» → ℕ
 type_number y.BYTE = 1
 type_number y.ASCII = 2
@@ -137,7 +137,7 @@ type_number y.LONG8 = 16
 type_number y.SLONG8 = 17
 type_number y.IFD8 = 18
 
--- the one that a number names
+-- the type of a number, if there is one
 unfoldable pub type_of : ℕ → Option «Type»
 type_of n =
     if n == 1 then Some y.BYTE else if n == 2 then Some y.ASCII else if n == 3 then Some y.SHORT else
@@ -147,7 +147,8 @@ type_of n =
     if n == 12 then Some y.DOUBLE else if n == 13 then Some y.IFD else if n == 16 then Some y.LONG8 else
     if n == 17 then Some y.SLONG8 else if n == 18 then Some y.IFD8 else None
 
--- How chunks are packed (TIFF 6.0 sections 3, 9 and later ones).
+-- The numbers of the compression methods of strips and tiles (TIFF 6.0 sections 3, 9 and later
+-- ones).
 abbrev pub method_number : CompressionMethod → ℕ
 method_number m.None = 1
 method_number m.Huffman = 2
@@ -163,7 +164,7 @@ method_number m.ZSTD = 50000
 method_number m.WebP = 50001
 method_number (m.Unknown n) = n
 
--- the one that a number names
+-- the compression method of a number
 unfoldable pub method_of : ℕ → CompressionMethod
 method_of n =
     if n == 1 then m.None else if n == 2 then m.Huffman else if n == 3 then m.Fax3 else
@@ -172,12 +173,13 @@ method_of n =
     if n == 32946 then m.OldDeflate else if n == 50000 then m.ZSTD else if n == 50001 then m.WebP else
     m.Unknown n
 
--- a method that has a name
+-- the compression method, if it has a name
 abbrev pub named_method : CompressionMethod → Option CompressionMethod
 named_method (m.Unknown n) = None
 named_method method = Some method
 
--- What the samples of a page mean (TIFF 6.0 section 8).
+-- The numbers of the photometric interpretations: what the samples of a page mean (TIFF 6.0 section
+-- 8).
 abbrev pub interpretation_number : PhotometricInterpretation → ℕ
 interpretation_number i.WhiteIsZero = 0
 interpretation_number i.BlackIsZero = 1
@@ -190,7 +192,7 @@ interpretation_number i.CIELab = 8
 interpretation_number i.IccLab = 9
 interpretation_number i.ItuLab = 10
 
--- the one that a number names
+-- the interpretation of a number, if there is one
 unfoldable pub interpretation_of : ℕ → Option PhotometricInterpretation
 interpretation_of n =
     if n == 0 then Some i.WhiteIsZero else if n == 1 then Some i.BlackIsZero else
@@ -199,40 +201,43 @@ interpretation_of n =
     if n == 6 then Some i.YCbCr else if n == 8 then Some i.CIELab else if n == 9 then Some i.IccLab else
     if n == 10 then Some i.ItuLab else None
 
--- Whether the samples of a pixel stand together or in planes (TIFF 6.0 section 8).
+-- The numbers of the planar configurations: whether the samples of a pixel lie together or in
+-- separate planes (TIFF 6.0 section 8).
 abbrev pub planar_number : PlanarConfiguration → ℕ
 planar_number c.Chunky = 1
 planar_number c.Planar = 2
 
--- the one that a number names
+-- the planar configuration of a number, if there is one
 unfoldable pub planar_of : ℕ → Option PlanarConfiguration
 planar_of n =
     if n == 1 then Some c.Chunky else if n == 2 then Some c.Planar else None
 
--- What is done to samples before they are packed (TIFF 6.0 section 14).
+-- The numbers of the predictors: what a writer does to samples before compression (TIFF 6.0 section
+-- 14).
 abbrev pub predictor_number : Predictor → ℕ
 predictor_number p.None = 1
 predictor_number p.Horizontal = 2
 predictor_number p.FloatingPoint = 3
 
--- the one that a number names
+-- the predictor of a number, if there is one
 unfoldable pub predictor_of : ℕ → Option Predictor
 predictor_of n =
     if n == 1 then Some p.None else if n == 2 then Some p.Horizontal else
     if n == 3 then Some p.FloatingPoint else None
 
--- The unit of a resolution (TIFF 6.0 section 8).
+-- The numbers of the units of a resolution (TIFF 6.0 section 8).
 abbrev pub unit_number : ResolutionUnit → ℕ
 unit_number u.None = 1
 unit_number u.Inch = 2
 unit_number u.Centimeter = 3
 
--- the one that a number names
+-- the unit of a number, if there is one
 unfoldable pub unit_of : ℕ → Option ResolutionUnit
 unit_of n =
     if n == 1 then Some u.None else if n == 2 then Some u.Inch else if n == 3 then Some u.Centimeter else None
 
--- How a sample's bits are read (TIFF 6.0 section 19).
+-- The numbers of the sample formats: what kind of number the bits of a sample are (TIFF 6.0 section
+-- 19).
 abbrev pub format_number : SampleFormat → ℕ
 format_number f.Uint = 1
 format_number f.Int = 2
@@ -240,24 +245,25 @@ format_number f.IEEEFP = 3
 format_number f.Void = 4
 format_number (f.Unknown n) = n
 
--- the one that a number names
+-- the sample format of a number
 unfoldable pub format_of : ℕ → SampleFormat
 format_of n =
     if n == 1 then f.Uint else if n == 2 then f.Int else if n == 3 then f.IEEEFP else
     if n == 4 then f.Void else f.Unknown n
 
--- a format that has a name
+-- the sample format, if it has a name
 abbrev pub named_format : SampleFormat → Option SampleFormat
 named_format (f.Unknown n) = None
 named_format format = Some format
 
--- What a sample beyond those of the color is (TIFF 6.0 section 8).
+-- The numbers of the meanings of an extra sample, one beyond those of the color (TIFF 6.0 section
+-- 8).
 abbrev pub extra_number : ExtraSamples → ℕ
 extra_number e.Unspecified = 0
 extra_number e.AssociatedAlpha = 1
 extra_number e.UnassociatedAlpha = 2
 
--- the one that a number names
+-- the meaning of a number, if there is one
 unfoldable pub extra_of : ℕ → Option ExtraSamples
 extra_of n =
     if n == 0 then Some e.Unspecified else if n == 1 then Some e.AssociatedAlpha else

@@ -1,4 +1,4 @@
--- How many bytes a value of each type has (TIFF 6.0 section 2; BigTIFF).
+-- The number of bytes of a value of each type (TIFF 6.0 section 2; BigTIFF).
 use Rattle.std.specs.Prelude.{ℕ}
 use Rattle.tiff_base.specs.declared.tags.«Type».{«Type»}
 use Rattle.tiff_base.specs.declared.tags.«Type».TheVariants.{BYTE, ASCII, SHORT, LONG, RATIONAL, SBYTE, UNDEFINED, SSHORT, SLONG, SRATIONAL, FLOAT, DOUBLE, IFD, LONG8, SLONG8, IFD8}

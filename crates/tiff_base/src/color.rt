@@ -1,9 +1,9 @@
-//! What a page's samples are.
+//! The colors of pages, and the kinds of chunks.
 
 ghost use Rattle.std.specs.Prelude.{◌≡◌};
 ghost use Rattle.tiff_base.specs.Color.{bit_depth, num_samples};
 
-/// The color of a page, with the bits of each sample.
+/// The color of a page, with the number of bits of each sample.
 #[derive(Clone, Copy, Debug, PartialEq, Eq, Hash)]
 #[non_exhaustive]
 pub enum ColorType {
@@ -11,9 +11,9 @@ pub enum ColorType {
     Gray(u8),
     /// Red, green, blue.
     RGB(u8),
-    /// An index of a color map; never answered.
+    /// An index of a color map. This library never returns it as the color of a page.
     Palette(u8),
-    /// Gray and alpha; never answered.
+    /// Gray and alpha. This library never returns it as the color of a page.
     GrayA(u8),
     /// Red, green, blue, alpha.
     RGBA(u8),
@@ -23,14 +23,14 @@ pub enum ColorType {
     CMYKA(u8),
     /// Luminance and two chrominances.
     YCbCr(u8),
-    /// CIE L*a*b* by ICC's encoding.
+    /// CIE L*a*b* in the encoding of ICC.
     Lab(u8),
     /// Several samples of one kind.
     Multiband { bit_depth: u8, num_samples: u16 },
 }
 
 impl ColorType {
-    /// The bits of each sample.
+    /// Returns the number of bits of each sample.
     pub fn bit_depth(&self) -> u8
         ensures { result ≡ bit_depth self.now }
     {
@@ -48,7 +48,7 @@ impl ColorType {
         }
     }
 
-    /// How many samples a pixel shows.
+    /// Returns the number of samples that a pixel shows.
     pub fn num_samples(&self) -> u16
         ensures { result ≡ num_samples self.now }
     {
@@ -67,11 +67,11 @@ impl ColorType {
     }
 }
 
-/// How an image is cut into chunks.
+/// How an image is divided into chunks.
 #[derive(Clone, Copy, Debug, PartialEq, Eq)]
 pub enum ChunkType {
-    /// Rows of the whole width.
+    /// Strips: rows of the whole width.
     Strip,
-    /// Rectangles of one size.
+    /// Tiles: rectangles of one size.
     Tile,
 }

@@ -5,13 +5,13 @@ ghost use Rattle.std.specs.Prelude.{◌≡◌, ◌+◌};
 use std::marker::Model;
 use std::snapshot::Snapshot;
 
-// What a count remembers: itself, before it was last added to. A snapshot has no bytes.
+// The state of a count: a snapshot of the state before the last addition. A snapshot has no bytes.
 #[derive(Drop)]
 struct Steps {
     last: Option<Snapshot<Steps>>,
 }
 
-/// A whole number that only contracts see. It has no last value.
+/// A natural number that only contracts see. It has no upper bound.
 #[derive(Drop)]
 pub struct Count {
     steps: Steps,
@@ -36,7 +36,7 @@ impl Count {
         }
     }
 
-    /// Adds one.
+    /// Adds one to the count.
     pub fn add(&mut self)
         ensures { self.new ≡ self.old + 1 }
     {

@@ -1,4 +1,4 @@
-//! Directories: a field for each of some tags.
+//! Directories (IFDs): a field for each of some tags.
 
 ghost use Rattle.std.specs.Prelude.{◌≡◌, ℕ, ◌^◌, ◌<◌, ◌++◌, ◌∷◌, [], List, IfErr, IfOk, OnOk, OnErr, None, option_map, slice_get, unwrap_or, ◌==◌};
 ghost use Rattle.std.specs.FinMap as map;
@@ -19,7 +19,7 @@ use std::alloc::{AllocError, Global};
 use std::marker::Model;
 use std::{fmt, slice};
 
-/// A field of a directory: the type of its values, how many there are, and their bytes or their offset.
+/// A field of a directory: the type of its values, their number, and their bytes or their offset.
 #[derive(Clone, Debug, Drop)]
 pub struct Entry {
     field_type: Type,
@@ -42,7 +42,7 @@ impl Model for Entry {
 }
 
 impl Entry {
-    /// A field whose value field has 4 bytes, filled up by zeros.
+    /// Makes a field from a value field of 4 bytes, followed by 4 zeros.
     pub fn new(field_type: Type, count: u32, value: [u8; 4]) -> Self
         ensures { result ≡ record { field_type = field_type; count = count; value = value ++ (0 ∷ 0 ∷ 0 ∷ 0 ∷ []) } }
     {
@@ -51,7 +51,7 @@ impl Entry {
         Entry::new_u64(field_type, u64::from(count), wide)
     }
 
-    /// A field whose value field has 8 bytes.
+    /// Makes a field from a value field of 8 bytes.
     pub fn new_u64(field_type: Type, count: u64, value: [u8; 8]) -> Self
         ensures { result ≡ record { field_type = field_type; count = count; value = value } }
     {
@@ -62,28 +62,29 @@ impl Entry {
         }
     }
 
-    /// The type of the values.
+    /// Returns the type of the values.
     pub fn field_type(&self) -> Type
         ensures { result ≡ self.now.field_type }
     {
         self.field_type
     }
 
-    /// How many values there are.
+    /// Returns the number of values.
     pub fn count(&self) -> u64
         ensures { result ≡ self.now.count }
     {
         self.count
     }
 
-    /// The eight bytes of the value field.
+    /// Returns the eight bytes of the value field.
     pub fn value(&self) -> [u8; 8]
         ensures { result ≡ self.now.value }
     {
         self.value
     }
 
-    /// Under each tag number of 16 bits it is an entry that a directory can have.
+    /// The contract states that the field, under each tag number of 16 bits, is an entry that a
+    /// directory can have. The call has no effect.
     pub fn fits(&self)
         ensures { (tag : ℕ) → tag < 2 ^ 16 → IsEntry (tag, self.now) }
     {
@@ -94,7 +95,7 @@ impl Entry {
 /// The fields of a directory by their tags, and the offset of the next directory.
 #[derive(Drop)]
 pub struct Directory {
-    // In strictly ascending tag number.
+    // The pairs are in strictly ascending tag number.
     entries: Vec<(u16, Entry)>,
     next: u64,
 }
@@ -118,7 +119,8 @@ impl Model for Directory {
     ghost invariant = { λ d. IsAscending d.entries.items × ((e : ℕ × Field) → In e d.entries.items → IsEntry e) };
 }
 
-// Where a number stands, or where it would be inserted.
+// Returns the index of the pair that has a tag number, or else the index where an insertion keeps
+// the order.
 fn place_in(entries: &Vec<(u16, Entry)>, number: u16) -> Result<usize, usize>
     requires { IsAscending entries.now.items }
     ensures found { IfOk result (IsPlaceOf number entries.now.items) }
@@ -128,7 +130,7 @@ fn place_in(entries: &Vec<(u16, Entry)>, number: u16) -> Result<usize, usize>
     find_place(entries, number, &mut count)
 }
 
-// How many have at most this number.
+// Returns how many pairs have at most this tag number.
 #[tactic(auto, using(crate::proofs::Places::behind_place, crate::proofs::Places::behind_gap))]
 fn behind(entries: &Vec<(u16, Entry)>, number: u16) -> usize
     requires { IsAscending entries.now.items }
@@ -141,7 +143,7 @@ fn behind(entries: &Vec<(u16, Entry)>, number: u16) -> usize
 }
 
 impl Directory {
-    /// A directory with no field and no next one.
+    /// Makes a directory with no field and no next directory.
     pub fn empty(alloc: Global) -> Self
         ensures { result ≡ record { entries = map.empty; next = None } }
     {
@@ -151,8 +153,9 @@ impl Directory {
         }
     }
 
-    /// A directory of fields under their tag numbers: of a number that comes twice the last stands. It has no next one. Fields
-    /// in strictly ascending number are taken as they are, others are sorted.
+    /// Makes a directory of fields under their tag numbers. Of several fields with one number, it
+    /// keeps the last. It has no next directory. Fields in strictly ascending number are taken as
+    /// they are, and others are sorted.
     pub fn from_entries(entries: Vec<(u16, Entry)>) -> Result<Self, AllocError>
         ensures { IfOk result (λ d. d ≡ record { entries = last_of_each entries.items; next = None }) }
     {
@@ -162,7 +165,7 @@ impl Directory {
         })
     }
 
-    /// The field of a tag.
+    /// Returns the field of a tag, if there is one.
     #[tactic(auto, using(crate::proofs::Places::get_at))]
     pub fn get(&self, tag: Tag) -> Option<&Entry>
         ensures { option_map (λ e. e.now) result ≡ map.get self.now.entries (tag_number tag) }
@@ -173,7 +176,7 @@ impl Directory {
         }
     }
 
-    /// Whether there is a field of a tag.
+    /// Returns whether there is a field of a tag.
     #[tactic(auto, using(crate::proofs::Places::contains_at))]
     pub fn contains(&self, tag: Tag) -> bool
         ensures { result ≡ map.contains_key self.now.entries (tag_number tag) }
@@ -184,7 +187,7 @@ impl Directory {
         }
     }
 
-    /// How many fields there are.
+    /// Returns the number of fields.
     #[tactic(auto, using(crate::proofs::Maps::len_of_tree))]
     pub fn len(&self) -> usize
         ensures { result ≡ map.len self.now.entries }
@@ -192,7 +195,7 @@ impl Directory {
         self.entries.len()
     }
 
-    /// Whether there is no field.
+    /// Returns whether there is no field.
     #[tactic(auto, using(crate::proofs::Maps::len_of_tree))]
     pub fn is_empty(&self) -> bool
         ensures { result ≡ (map.len self.now.entries == 0) }
@@ -200,14 +203,15 @@ impl Directory {
         self.len() == 0
     }
 
-    /// Each field, with its tag number, is an entry that a directory can have.
+    /// The contract states that each field, with its tag number, is an entry that a directory can
+    /// have. The call has no effect.
     pub fn entries_fit(&self)
         ensures { AreEntries self.now.entries }
     {
         let _next = &self.next;
     }
 
-    /// The offset of the next directory.
+    /// Returns the offset of the next directory, if there is one.
     pub fn next(&self) -> Option<IfdPointer>
         ensures { option_map (λ p. p.0) result ≡ self.now.next }
     {
@@ -218,7 +222,7 @@ impl Directory {
         }
     }
 
-    /// The fields with their tags, in ascending tag number.
+    /// Returns an iterator over the fields with their tags, in ascending tag number.
     #[tactic(auto, using(crate::proofs::Maps::entries_of_tree))]
     pub fn iter(&self) -> Iter<'_>
         ensures { result ≡ map.entries self.now.entries }
@@ -228,7 +232,8 @@ impl Directory {
         }
     }
 
-    /// The first field whose tag number is above a number, with its tag number (this project's). It takes a look-up.
+    /// Returns the first field whose tag number is above `number`, with its tag number. It costs
+    /// one look-up. This project adds this function.
     #[tactic(auto, using(crate::proofs::Places::none_behind, crate::proofs::Places::some_behind))]
     pub fn first_after(&self, number: u16) -> Option<(u16, &Entry)>
         ensures { option_map (λ x. (x.0, x.1.now)) result ≡ slice_get (fields_after number (map.entries self.now.entries)) 0 }
@@ -241,7 +246,8 @@ impl Directory {
         Some((*next, entry))
     }
 
-    /// Takes room for the field of a tag, where it has none, so that to set it takes no memory.
+    /// Reserves memory for the field of a tag, if the directory has no such field. After that,
+    /// setting this field allocates nothing.
     pub fn make_room(&mut self, tag: Tag) -> Result<(), AllocError>
         ensures { self.new ≡ self.old }
     {
@@ -251,7 +257,7 @@ impl Directory {
         self.entries.reserve(1)
     }
 
-    /// Sets the field of a tag number.
+    /// Sets the field of a tag number. After an error the directory is unchanged.
     #[tactic(auto, using(crate::proofs::Places::inserted_in_gap, crate::proofs::Places::replaced_at))]
     pub fn insert(&mut self, tag: u16, entry: Entry) -> Result<(), AllocError>
         ensures ok { OnOk result (self.new ≡ record self.old { entries = map.insert self.old.entries tag entry }) }
@@ -265,7 +271,7 @@ impl Directory {
         Ok(())
     }
 
-    /// Takes the field of a tag out, and answers it.
+    /// Removes the field of a tag and returns it, if there is one.
     #[tactic(auto, using(crate::proofs::Places::get_at, crate::proofs::Places::removed_at))]
     pub fn remove(&mut self, tag: Tag) -> Option<Entry>
         ensures taken { result ≡ map.get self.old.entries (tag_number tag) }
@@ -277,8 +283,8 @@ impl Directory {
         }
     }
 
-    /// Sets the fields of tags in turn: of a number that comes twice the last stands. Where memory is refused, those that
-    /// came before are set.
+    /// Sets the fields of tags in turn. Of several fields with one number, the directory keeps the
+    /// last. The only error is `OutOfMemory`, after which the fields before the failed one are set.
     pub fn extend<U: IntoIterator<Item = (Tag, Entry)>>(&mut self, iter: U) -> TiffResult<()>
         requires { (it : U.IntoIter) → U.into_iter_gives iter it
             → U.IntoIter.can_next it × IsFinite (U.IntoIter.remaining it) }
@@ -294,7 +300,8 @@ impl Directory {
         Ok(())
     }
 
-    /// A directory of the fields of tags, set in turn: of a number that comes twice the last stands. It has no next one.
+    /// Makes a directory of the fields of tags, set in turn. Of several fields with one number, it
+    /// keeps the last. It has no next directory. The only error is `OutOfMemory`.
     pub fn from_iter<U: IntoIterator<Item = (Tag, Entry)>>(
         alloc: Global,
         iter: U,
@@ -310,7 +317,8 @@ impl Directory {
         Ok(directory)
     }
 
-    /// Sets the offset of the next directory, or that there is none; so does the offset 0.
+    /// Sets the offset of the next directory. Both `None` and the offset 0 say that there is no
+    /// next directory.
     pub fn set_next(&mut self, next: Option<IfdPointer>)
         ensures { self.new ≡ record self.old { next = link (unwrap_or (option_map (λ p. p.0) next) 0) } }
     {
@@ -320,7 +328,7 @@ impl Directory {
         };
     }
 
-    /// Sets the offset of the next directory; 0 is none.
+    /// Sets the offset of the next directory. The offset 0 says that there is none.
     pub fn link_to(&mut self, offset: u64)
         ensures { self.new ≡ record self.old { next = link offset } }
     {
@@ -328,7 +336,7 @@ impl Directory {
     }
 }
 
-// The fields as a map is shown.
+// The fields of a directory, for `Debug` to show as a map.
 #[derive(Drop)]
 struct ShownFields<'a> {
     entries: &'a [(u16, Entry)],
@@ -356,7 +364,7 @@ impl fmt::Debug for Directory {
     }
 }
 
-/// The fields of a directory with their tags, in ascending tag number.
+/// An iterator over the fields of a directory with their tags, in ascending tag number.
 #[derive(Drop)]
 pub struct Iter<'a> {
     inner: slice::Iter<'a, (u16, Entry)>,
@@ -372,7 +380,7 @@ impl<'a> Model for Iter<'a> {
     ghost view = { λ i. iter_rest i.inner };
 }
 
-// A field with its tag.
+// Returns a field with its tag.
 #[tactic(auto, using(crate::proofs::Named::tags, crate::proofs::Named::tag_again))]
 fn tagged(field: &(u16, Entry)) -> (Tag, &Entry)
     ensures pair { (tag_number result.0, result.1.now) ≡ field.now }

@@ -1,4 +1,4 @@
-//! Why a file could not be read or written.
+//! The errors of reads and writes of files.
 
 ghost use Rattle.std.specs.Prelude.{◌≡◌};
 ghost use Rattle.tiff_base.specs.declared.error.TiffError.TheVariants as tiff;
@@ -17,10 +17,10 @@ use std::str::Utf8Error;
 use std::string::FromUtf8Error;
 use thiserror::Error;
 
-/// What a call answers: a value, or why there is none.
+/// The result of a call: a value, or an error.
 pub type TiffResult<T> = Result<T, TiffError>;
 
-/// The file does not have TIFF's form.
+/// The file does not have the form of a TIFF file.
 #[derive(Clone, Debug, PartialEq, Drop, Error)]
 #[non_exhaustive]
 pub enum TiffFormatError {
@@ -54,12 +54,12 @@ pub enum TiffFormatError {
     CycleInOffsets,
     #[error("samples per pixel is zero")]
     SamplesPerPixelIsZero,
-    /// Kept for the Rust crate's name; never answered.
+    /// The Rust crate has this name. This library never returns this error.
     #[error("compressed data is corrupt: {0}")]
     CompressedDataCorrupt(String),
 }
 
-/// The file asks for something that is not supported.
+/// The file needs a feature that this library does not support.
 #[derive(Clone, Debug, PartialEq, Eq, Hash, Drop, Error)]
 #[non_exhaustive]
 pub enum TiffUnsupportedError {
@@ -73,7 +73,7 @@ pub enum TiffUnsupportedError {
     InterpretationWithBits(PhotometricInterpretation, SampleBits),
     #[error("unknown photometric interpretation")]
     UnknownInterpretation,
-    /// Kept for the Rust crate's name; never answered.
+    /// The Rust crate has this name. This library never returns this error.
     #[error("unknown compression method")]
     UnknownCompressionMethod,
     #[error("compression method {0:?} is unsupported")]
@@ -84,16 +84,19 @@ pub enum TiffUnsupportedError {
     UnsupportedSampleFormat(SampleFormats),
     #[error("color type {0:?} is unsupported")]
     UnsupportedColorType(ColorType),
-    /// Kept for the Rust crate's name; never answered.
+    /// The Rust crate has this name. This library never returns this error.
     #[error("{0} bits per channel not supported")]
     UnsupportedBitsPerChannel(u8),
-    /// Kept for the Rust crate's name; never answered.
+    /// The Rust crate has this name. The decoder and the encoder never return this error. The
+    /// command-line program returns it for a picture whose samples lie in several planes.
     #[error("unsupported planar configuration “{0:?}”")]
     UnsupportedPlanarConfig(Option<PlanarConfiguration>),
-    /// Kept for the Rust crate's name; never answered.
+    /// The Rust crate has this name. The decoder and the encoder never return this error. The
+    /// command-line program returns it for a picture whose samples are signed or floating-point
+    /// numbers.
     #[error("unsupported data type")]
     UnsupportedDataType,
-    /// Kept for the Rust crate's name; never answered.
+    /// The Rust crate has this name. This library never returns this error.
     #[error("unsupported photometric interpretation {0:?}")]
     UnsupportedInterpretation(PhotometricInterpretation),
     #[error("chroma subsampling of YCbCr color is unsupported")]
@@ -102,21 +105,22 @@ pub enum TiffUnsupportedError {
     MisalignedTileBoundaries,
 }
 
-/// The call doesn't fit the file or what was called before.
+/// The call does not fit the file or an earlier call.
 #[derive(Debug, Drop, Error)]
 #[non_exhaustive]
 pub enum UsageError {
     #[error("requested operation is only valid for images with chunk encoding of type {0:?} but got {1:?}")]
     InvalidChunkType(ChunkType, ChunkType),
-    /// Kept for the Rust crate's name; never answered.
+    /// The Rust crate has this name. The decoder and the encoder never return this error. The C
+    /// interface returns it if the first chunk plus the number of chunks of a call is 2^32 or more.
     #[error("invalid chunk index ({0}) requested")]
     InvalidChunkIndex(u32),
-    /// Kept for the Rust crate's name; never answered.
+    /// The Rust crate has this name. This library never returns this error.
     #[error("invalid plane index ({0}) requested")]
     InvalidPlaneIndex(u16),
     #[error("out of bounds coding unit ({0}) requested, only {1} available")]
     InvalidCodingUnit(u32, u32),
-    /// Kept for the Rust crate's name; never answered.
+    /// The Rust crate has this name. This library never returns this error.
     #[error("requested predictor is not compatible with the requested compression")]
     PredictorCompressionMismatch,
     #[error("the requested predictor is not compatible with the image's format")]
@@ -135,15 +139,15 @@ pub enum UsageError {
     ByteOrderMismatch,
     #[error("the length of data is not a multiple of the size of the type {ty:?}, found {found}")]
     MismatchedEntryLength { ty: Type, found: usize },
-    /// This project's own.
+    /// This project adds this error.
     #[error("the parent's link lies outside what was written")]
     ParentNotWritten,
-    /// This project's own.
+    /// This project adds this error.
     #[error("an earlier write failed")]
     WriterFailed,
 }
 
-/// Why a call could not do what it was asked.
+/// The error of a call.
 #[derive(Debug, Drop, Error)]
 pub enum TiffError {
     #[error("format error: {0}")]
@@ -158,7 +162,7 @@ pub enum TiffError {
     IntSizeError,
     #[error("usage error: {0}")]
     UsageError(UsageError),
-    /// A growth of memory was refused.
+    /// The allocator refused memory.
     #[error("out of memory")]
     OutOfMemory,
 }

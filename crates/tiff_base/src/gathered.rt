@@ -1,4 +1,4 @@
-//! Fields in any order are brought into strictly ascending tag number.
+//! Sorts fields into strictly ascending tag number.
 
 ghost use Rattle.std.specs.Prelude.{◌≡◌, IfOk, All};
 ghost use Rattle.std.specs.Bool.{OnTrue};
@@ -10,7 +10,7 @@ ghost use Rattle.tiff_base.specs.Place.{IsAscending};
 use crate::directory::Entry;
 use std::alloc::AllocError;
 
-// Each pair is an entry that a directory can have. It has no effect.
+// The contract states that each pair is an entry that a directory can have. The call has no effect.
 fn each_fits(entries: &[(u16, Entry)])
     ensures { All IsEntry entries.now }
 {
@@ -20,7 +20,7 @@ fn each_fits(entries: &[(u16, Entry)])
     }
 }
 
-// Whether each number is below the next one.
+// Returns whether each tag number is below the next one.
 fn ascends(entries: &[(u16, Entry)]) -> bool
     ensures { OnTrue result (IsAscending entries.now) }
 {
@@ -32,7 +32,8 @@ fn ascends(entries: &[(u16, Entry)]) -> bool
     true
 }
 
-/// The last pair of each number, in strictly ascending number. Where the numbers ascend, they are the pairs as they are.
+/// Returns the last pair of each tag number, in strictly ascending number. Pairs whose numbers
+/// already ascend strictly stay unchanged.
 pub fn left_in_order(mut entries: Vec<(u16, Entry)>) -> Result<Vec<(u16, Entry)>, AllocError>
     ensures ascending { IfOk result (λ left. IsAscending left.items) }
     ensures last { IfOk result (λ left. map.from_entries left.items ≡ last_of_each entries.items) }

@@ -1,4 +1,4 @@
-//! Where bytes come from and go to.
+//! Sources that bytes come from, and sinks that bytes go to.
 
 ghost use Rattle.std.specs.Prelude.{◌≡◌, ℕ, ◌+◌, ◌^◌, ◌≤◌, ◌<◌, List, length, Option, None, Some, IfErr, IfOk, IsOk, OnOk, OnErr, take, true};
 ghost use Rattle.tiff_base.specs.SourceAndSink.{AreOctets, AreReadable, SourceRecord, bytes_at, HoldsByte, Reads, Appends, Overwrites};
@@ -10,22 +10,22 @@ use std::alloc::{AllocError, Global};
 use std::fmt;
 use thiserror::Error;
 
-// How many bytes the buffer of a source holds.
+// The number of bytes in the buffer of a source.
 const BUFFER_LEN: usize = 8192;
 
-/// What went wrong between this library and its bytes.
+/// The errors of input and output.
 #[derive(Clone, Copy, Debug, PartialEq, Eq, Error)]
 pub enum IoKind {
-    /// The bytes end before what was asked for.
+    /// The source ends before the bytes that a call asks for.
     #[error("unexpected end of file")]
     UnexpectedEof,
-    /// The samples handed in are too few or too many.
+    /// The caller passes too few or too many samples.
     #[error("invalid data")]
     InvalidData,
-    /// An argument that no file can have.
+    /// An argument has a value that no file can have.
     #[error("invalid input")]
     InvalidInput,
-    /// Nothing to write.
+    /// There are no bytes to write.
     #[error("write zero")]
     WriteZero,
     /// The source or the sink failed.
@@ -33,29 +33,30 @@ pub enum IoKind {
     Device,
 }
 
-/// A source did not answer.
+/// The error of a source that fails to read.
 #[derive(Clone, Copy, Debug, PartialEq, Eq)]
 pub struct DeviceFault;
 
-/// Why a sink took nothing.
+/// The reason why a sink takes no bytes.
 #[derive(Clone, Copy, Debug, PartialEq, Eq)]
 pub enum SinkFault {
     /// The device failed.
     Device,
-    /// The sink found no memory.
+    /// The sink is out of memory.
     OutOfMemory,
 }
 
-/// Bytes that can be read at any offset.
+/// Bytes that a caller can read at any offset.
 pub trait Source: Drop {
-    /// The bytes, and the stretches of them that it answers for: a read that asks for such bytes alone doesn't fail. They never
-    /// change.
+    /// The bytes of the source, and the stretches of them that are readable. A read that asks only
+    /// for bytes in these stretches succeeds. The bytes and the stretches never change.
     ghost told: { Self → SourceRecord };
 
-    /// How many reads failed so far.
+    /// The number of reads that failed so far.
     ghost failures: { Self → ℕ };
 
-    /// Reads the bytes from `at` on, as many as it gives, but none only at the end or for an empty buffer.
+    /// Reads bytes from offset `at` on into the front of `buf`, and returns how many. It reads none
+    /// only at the end of the source or for an empty buffer.
     fn read_at(&mut self, at: u64, buf: &mut [u8]) -> Result<usize, DeviceFault>
         ensures told { told self.new ≡ told self.old }
         ensures ok { IfOk result (λ n. Reads (told self.old).bytes at buf.old n buf.new) }
@@ -63,38 +64,39 @@ pub trait Source: Drop {
         ensures failed { OnErr result (failures self.old < failures self.new) }
         ensures asked { AreReadable (told self.old) at (length buf.old) → IsOk result };
 
-    /// Every offset is below 2^64.
+    /// Every offset of the source is below 2^64.
     ghost offsets: { (s : Self) → length (told s).bytes < 2 ^ 64 };
 
-    /// A byte is a number below 256.
+    /// Each byte of the source is below 256.
     ghost octets: { (s : Self) → AreOctets (told s).bytes };
 }
 
-/// Bytes that can be added to, and written over.
+/// Bytes that a caller can append to and overwrite.
 pub trait Sink: Drop {
-    /// The bytes that it was told and took.
+    /// The bytes that the sink contains.
     ghost told: { Self → List ℕ };
 
-    /// How many writes failed so far.
+    /// The number of writes that failed so far.
     ghost failures: { Self → ℕ };
 
-    /// What the last write answered, where it failed.
+    /// The error of the last write, if that write failed.
     ghost fault: { Self → Option SinkFault };
 
-    /// How many bytes there are.
+    /// Returns the number of bytes in the sink.
     fn len(&self) -> u64
         ensures { result ≡ length (told self.now) };
 
-    /// Adds bytes at the end, as many as it takes, but none only of an empty list. After a fault the bytes are as
-    /// they were.
+    /// Appends bytes at the end, and returns how many of `bytes` it takes from the front. It takes
+    /// none only if `bytes` is empty. After an error the bytes of the sink are unchanged.
     fn append(&mut self, bytes: &[u8]) -> Result<usize, SinkFault>
         ensures ok { IfOk result (λ n. Appends (told self.old) bytes.now n (told self.new)) }
         ensures err { OnErr result (told self.new ≡ told self.old) }
         ensures answered { OnOk result ((failures self.new ≡ failures self.old) × (fault self.new ≡ None)) }
         ensures failed { IfErr result (λ e. (failures self.new ≡ failures self.old + 1) × (fault self.new ≡ Some e)) };
 
-    /// Writes over the bytes from `at` on, as many as it takes, but none only of an empty list. After a fault the
-    /// bytes are as they were.
+    /// Overwrites the bytes from offset `at` on, and returns how many of `bytes` it takes from the
+    /// front. It takes none only if `bytes` is empty. After an error the bytes of the sink are
+    /// unchanged.
     fn overwrite(&mut self, at: u64, bytes: &[u8]) -> Result<usize, SinkFault>
         requires { at + length bytes.now ≤ length (told self.old) }
         ensures ok { IfOk result (λ n. Overwrites (told self.old) at bytes.now n (told self.new)) }
@@ -102,11 +104,12 @@ pub trait Sink: Drop {
         ensures answered { OnOk result ((failures self.new ≡ failures self.old) × (fault self.new ≡ None)) }
         ensures failed { IfErr result (λ e. (failures self.new ≡ failures self.old + 1) × (fault self.new ≡ Some e)) };
 
-    /// A sink holds less than 2^63 bytes.
+    /// A sink contains less than 2^63 bytes.
     ghost short: { (s : Self) → length (told s) < 2 ^ 63 };
 }
 
-// Reads the bytes of a slice from an offset on, as many as there are and as the buffer holds.
+// Reads the bytes of a slice from an offset on, as many as there are and as fit in the buffer.
+// Returns their number.
 fn read_of(items: &[u8], at: u64, buf: &mut [u8]) -> usize
     ensures { Reads items.now at buf.old result buf.new }
 {
@@ -119,7 +122,7 @@ fn read_of(items: &[u8], at: u64, buf: &mut [u8]) -> usize
     n
 }
 
-/// A source in memory. No read of it fails.
+/// A source in memory that owns its bytes. No read of it fails.
 #[derive(Debug, Drop)]
 pub struct MemorySource {
     items: Vec<u8>,
@@ -130,7 +133,7 @@ pub struct MemorySource {
 impl MemorySource {
     ghost use Rattle.tiff_base.specs.Memory.{source_bytes};
 
-    /// The source of these bytes.
+    /// Makes the source of these bytes.
     pub fn new(items: Vec<u8>) -> Self
         ensures { source_bytes result ≡ items.items }
     {
@@ -155,7 +158,7 @@ impl Source for MemorySource {
     }
 }
 
-/// A source that lies in a slice; nothing of it is copied. No read of it fails.
+/// A source over a borrowed slice, without a copy of it. No read of it fails.
 #[derive(Drop)]
 pub struct SliceSource<'a> {
     items: &'a [u8],
@@ -166,7 +169,7 @@ pub struct SliceSource<'a> {
 impl<'a> SliceSource<'a> {
     ghost use Rattle.tiff_base.specs.Memory.{slice_bytes};
 
-    /// The source of these bytes.
+    /// Makes the source of these bytes.
     pub fn new(items: &'a [u8]) -> Self
         ensures { slice_bytes result ≡ items.now }
     {
@@ -191,8 +194,9 @@ impl Source for SliceSource<'_> {
     }
 }
 
-/// A source whose reads go through a buffer of 8192 bytes. It tells the bytes of the source that it reads, and fails where
-/// that fails. A read that the buffer can't hold goes straight to the source.
+/// A source that reads another source through a buffer of 8192 bytes. It has the bytes of the other
+/// source, and fails if the other source fails. A read of 8192 bytes or more goes straight to the
+/// other source.
 #[derive(Drop)]
 pub struct BufferedSource<S: Source> {
     source: S,
@@ -205,7 +209,7 @@ pub struct BufferedSource<S: Source> {
 }
 
 impl<S: Source> BufferedSource<S> {
-    /// The source of the same bytes. It takes memory for its buffer, and reads nothing yet.
+    /// Makes the source of the same bytes. It allocates its buffer, and reads nothing yet.
     pub fn new(alloc: Global, source: S) -> Result<Self, AllocError>
         ensures { IfOk result (λ s. s.source ≡ source) }
     {
@@ -219,7 +223,7 @@ impl<S: Source> BufferedSource<S> {
 }
 
 impl<S: Source> BufferedSource<S> {
-    /// The source that it reads.
+    /// Returns the source that this source reads.
     pub fn into_inner(self) -> S
         ensures { result ≡ self.source }
     {
@@ -234,14 +238,14 @@ impl<S: Source> BufferedSource<S> {
 }
 
 impl<S: Source> BufferedSource<S> {
-    // Whether the byte at an offset is in the buffer.
+    // Returns whether the byte at an offset is in the buffer.
     fn has(&self, at: u64) -> bool
         ensures { result ≡ true → (self.now.from ≤ at) × (at < self.now.from + self.now.held) }
     {
         at >= self.from && at - self.from < self.held as u64
     }
 
-    // Reads the source from an offset on into the buffer. After a fault the buffer is empty.
+    // Reads from the source at an offset into the buffer. After an error the buffer is empty.
     fn fill(&mut self, at: u64) -> Result<(), DeviceFault>
         ensures told { S.told self.new.source ≡ S.told self.old.source }
         ensures holds { OnOk result (HoldsByte (S.told self.new.source).bytes self.new.from self.new.held at) }
@@ -255,7 +259,7 @@ impl<S: Source> BufferedSource<S> {
         Ok(())
     }
 
-    // Has the byte at an offset in the buffer, where there is one.
+    // Puts the byte at an offset into the buffer, if the source has this byte.
     fn hold(&mut self, at: u64) -> Result<(), DeviceFault>
         ensures told { S.told self.new.source ≡ S.told self.old.source }
         ensures holds { OnOk result (HoldsByte (S.told self.new.source).bytes self.new.from self.new.held at) }
@@ -269,7 +273,7 @@ impl<S: Source> BufferedSource<S> {
         self.fill(at)
     }
 
-    // Reads what the buffer has from an offset on.
+    // Reads bytes from the buffer, from an offset of the source on.
     fn read_held(&self, at: u64, buf: &mut [u8]) -> usize
         requires { HoldsByte (S.told self.now.source).bytes self.now.from self.now.held at }
         ensures { Reads (S.told self.now.source).bytes at buf.old result buf.new }
@@ -301,7 +305,7 @@ impl<S: Source> Source for BufferedSource<S> {
     }
 }
 
-/// A sink in memory. It fails only for want of memory.
+/// A sink in memory. It fails only when it is out of memory.
 #[derive(Drop)]
 pub struct MemorySink {
     items: Vec<u8>,
@@ -309,7 +313,7 @@ pub struct MemorySink {
     refused: bool,
 }
 
-/// Its bytes, and whether it was refused memory.
+/// Shows the bytes of the sink, and whether its last write ran out of memory.
 impl fmt::Debug for MemorySink {
     fn fmt<W: fmt::Write>(&self, f: &mut fmt::Formatter<W>) -> fmt::Result {
         f.debug_struct("MemorySink")
@@ -322,7 +326,7 @@ impl fmt::Debug for MemorySink {
 impl MemorySink {
     ghost use Rattle.tiff_base.specs.Memory.{sink_bytes};
 
-    /// A sink that holds these bytes.
+    /// Makes a sink that contains these bytes.
     pub fn new(items: Vec<u8>) -> Self
         ensures { sink_bytes result ≡ items.items }
     {
@@ -333,7 +337,7 @@ impl MemorySink {
         }
     }
 
-    /// The bytes.
+    /// Returns the bytes of the sink.
     pub fn into_vec(self) -> Vec<u8>
         ensures { result.items ≡ sink_bytes self }
     {

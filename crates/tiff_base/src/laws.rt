@@ -1,36 +1,38 @@
-//! Laws of the definitions, each the contract of a function with no work.
+//! Laws of the definitions. Each is the contract of a function with an empty body.
 
 ghost use Rattle.tiff_base.specs.Blocks.{IsUnpacked, IsOneUnpacked};
 ghost use Rattle.tiff_base.specs.Directory.{LastOfEachStand};
 ghost use Rattle.tiff_base.specs.Named.{NumbersComeBack, NamesComeBack};
 ghost use Rattle.tiff_base.specs.ByteOrders.{TurnsBack};
 
-/// Bytes that are turned from one order into another and back are as they were; a ragged end stays.
+/// A conversion from one byte order to another and back leaves the bytes unchanged. Bytes after the
+/// last whole number stay unchanged too.
 pub fn turns_back()
     ensures { TurnsBack }
 {}
 
-/// A list of bytes unpacks, by its blocks, to what `runs` says.
+/// A list of bytes unpacks, block by block, to what `runs` says.
 pub fn unpacked()
     ensures { IsUnpacked }
 {}
 
-/// It unpacks to nothing else.
+/// A list of bytes unpacks, block by block, to nothing else than what `runs` says.
 pub fn one_unpacked()
     ensures { IsOneUnpacked }
 {}
 
-/// A number is that of the tag, the method or the format that it names.
+/// A number is the number of the tag, the method or the sample format that it names.
 pub fn numbers_come_back()
     ensures { NumbersComeBack }
 {}
 
-/// What has a name is what its number names.
+/// A value that has a name is the value that its number names.
 pub fn names_come_back()
     ensures { NamesComeBack }
 {}
 
-/// Of fields that are set in turn in an empty directory, the last of each number stand.
+/// A directory that starts empty, and whose fields are set in turn, contains the last field of each
+/// tag number.
 pub fn last_of_each_stand()
     ensures { LastOfEachStand }
 {}

@@ -1,5 +1,5 @@
-//! What every other crate of this project stands on: faults, sources and sinks of bytes, the numbers of TIFF's
-//! enums, numbers in both byte orders, and directories.
+//! The base of every other crate of this project: errors, sources and sinks of bytes, the numbers
+//! of TIFF's enums, numbers in both byte orders, and directories.
 #![tactic(auto)]
 
 pub mod color;

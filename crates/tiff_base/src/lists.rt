@@ -1,4 +1,4 @@
-//! Lists that faults and pages carry. Contracts see each as the list that it is.
+//! Lists that errors and pages contain. Contracts see each as the list of its items.
 
 ghost use Rattle.std.specs.Prelude.{◌≡◌, length};
 ghost use Rattle.std.specs.Cmp.Lexicographic.{pointwise, lists_equiv, lists_per};
@@ -11,16 +11,16 @@ use std::fmt;
 use std::hash::{Hash, Hasher};
 use std::marker::Model;
 
-/// Items, one behind the other.
+/// A list of items, in order.
 #[derive(Drop)]
 pub struct ItemList<T> {
     items: Vec<T>,
 }
 
-/// The bits of each sample.
+/// The number of bits of each sample.
 pub type SampleBits = ItemList<u8>;
 
-/// The format of each sample.
+/// The sample format of each sample.
 pub type SampleFormats = ItemList<SampleFormat>;
 
 impl<T> Model for ItemList<T> {

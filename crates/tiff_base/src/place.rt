@@ -1,4 +1,4 @@
-//! Where a tag number stands among pairs in ascending order.
+//! The search for a tag number among pairs in ascending tag number.
 
 ghost use Rattle.std.specs.Prelude.{◌≡◌, ℕ, ◌+◌, ◌^◌, ◌<◌, ◌≤◌, length, IfErr, IfOk};
 ghost use Rattle.std.specs.Ordering.{nat_cmp};
@@ -9,7 +9,7 @@ use crate::directory::Entry;
 use std::cmp::Ordering;
 use std::marker::Model;
 
-/// How many keys were compared. Only contracts see the number, and it has no last value.
+/// The number of compared keys. Only contracts see this number, and it has no upper bound.
 #[derive(Drop)]
 pub struct KeyCount {
     count: Count,
@@ -24,7 +24,7 @@ impl Model for KeyCount {
 }
 
 impl KeyCount {
-    /// None so far.
+    /// Returns a count of zero.
     pub fn new() -> KeyCount
         ensures { result ≡ 0 }
     {
@@ -33,7 +33,7 @@ impl KeyCount {
         }
     }
 
-    /// Compares two keys, and counts it.
+    /// Compares two keys and adds one to the count.
     pub fn compare(&mut self, a: u16, b: u16) -> Ordering
         ensures order { result ≡ nat_cmp a b }
         ensures counted { self.new ≡ self.old + 1 }
@@ -43,8 +43,9 @@ impl KeyCount {
     }
 }
 
-/// The place of a number among pairs in strictly ascending number, or the place where it would be inserted. It compares at most
-/// as many keys as their number has binary digits.
+/// Searches pairs in strictly ascending tag number for `number`. Returns `Ok` with the index of the
+/// pair that has this number, or else `Err` with the index where an insertion keeps the order. The
+/// search compares at most as many keys as the number of pairs has binary digits.
 pub fn find_place(
     entries: &[(u16, Entry)],
     number: u16,

@@ -1,4 +1,4 @@
-//! Reads of all of what is asked for, and numbers in a byte order.
+//! Exact reads of bytes from a source, and numbers in a byte order.
 
 ghost use Rattle.std.specs.Prelude.{◌≡◌, ◌+◌, ◌≤◌, length};
 ghost use Rattle.std.specs.Int.{w16, w32, w64};
@@ -12,7 +12,8 @@ use crate::io::{IoKind, Source};
 use crate::tags::ByteOrder;
 use std::alloc::Global;
 
-/// Fills the buffer with the bytes at an offset. Fewer bytes there: `IoError(UnexpectedEof)`.
+/// Fills `buf` with the bytes of the source from offset `at` on. Returns `IoError(UnexpectedEof)`
+/// if the source has fewer bytes there.
 #[tactic(auto, using(crate::proofs::Bytes::next_read))]
 pub fn read_exact_at<R: Source>(source: &mut R, at: u64, buf: &mut [u8]) -> TiffResult<()>
     ensures kept { IsKept R.told R.failures result source.old source.new }
@@ -33,8 +34,10 @@ pub fn read_exact_at<R: Source>(source: &mut R, at: u64, buf: &mut [u8]) -> Tiff
     Ok(())
 }
 
-/// The `len` bytes at an offset. Fewer bytes there: `IoError(UnexpectedEof)`, told before room for them is taken: the last
-/// byte is read first. Its only other errors are those of the device, and `OutOfMemory` where the bytes are there.
+/// Returns the `len` bytes of the source from offset `at` on. Returns `IoError(UnexpectedEof)` if
+/// the source has fewer bytes there. In that case the call allocates nothing, because it reads the
+/// last byte first. The only other errors are those of the device, and `OutOfMemory` if the bytes
+/// are there.
 #[tactic(auto, using(crate::proofs::Bytes::cut_at_last, crate::proofs::Bytes::cut_past))]
 pub fn read_bytes_at<R: Source>(
     alloc: Global,
@@ -57,7 +60,7 @@ pub fn read_bytes_at<R: Source>(
     Ok(bytes)
 }
 
-/// The number that two bytes are.
+/// Returns the number that two bytes encode in a byte order.
 #[tactic(auto, unfolding(crate::specs::Number::number))]
 pub fn u16_from(order: ByteOrder, bytes: [u8; 2]) -> u16
     ensures { result ≡ number order w16 bytes }
@@ -68,7 +71,7 @@ pub fn u16_from(order: ByteOrder, bytes: [u8; 2]) -> u16
     }
 }
 
-/// The number that four bytes are.
+/// Returns the number that four bytes encode in a byte order.
 #[tactic(auto, unfolding(crate::specs::Number::number))]
 pub fn u32_from(order: ByteOrder, bytes: [u8; 4]) -> u32
     ensures { result ≡ number order w32 bytes }
@@ -79,7 +82,7 @@ pub fn u32_from(order: ByteOrder, bytes: [u8; 4]) -> u32
     }
 }
 
-/// The number that eight bytes are.
+/// Returns the number that eight bytes encode in a byte order.
 #[tactic(auto, unfolding(crate::specs::Number::number))]
 pub fn u64_from(order: ByteOrder, bytes: [u8; 8]) -> u64
     ensures { result ≡ number order w64 bytes }
@@ -90,7 +93,7 @@ pub fn u64_from(order: ByteOrder, bytes: [u8; 8]) -> u64
     }
 }
 
-// The number that the two bytes of a slice are.
+// Returns the number that a slice of two bytes encodes in a byte order.
 fn u16_of(order: ByteOrder, bytes: &[u8]) -> u16
     requires { length bytes.now ≡ 2 }
     ensures { result ≡ number order w16 bytes.now }
@@ -98,7 +101,7 @@ fn u16_of(order: ByteOrder, bytes: &[u8]) -> u16
     u16_from(order, [bytes[0], bytes[1]])
 }
 
-// The number that the four bytes of a slice are.
+// Returns the number that a slice of four bytes encodes in a byte order.
 fn u32_of(order: ByteOrder, bytes: &[u8]) -> u32
     requires { length bytes.now ≡ 4 }
     ensures { result ≡ number order w32 bytes.now }
@@ -106,7 +109,7 @@ fn u32_of(order: ByteOrder, bytes: &[u8]) -> u32
     u32_from(order, [bytes[0], bytes[1], bytes[2], bytes[3]])
 }
 
-// The number that the eight bytes of a slice are.
+// Returns the number that a slice of eight bytes encodes in a byte order.
 fn u64_of(order: ByteOrder, bytes: &[u8]) -> u64
     requires { length bytes.now ≡ 8 }
     ensures { result ≡ number order w64 bytes.now }
@@ -119,7 +122,7 @@ fn u64_of(order: ByteOrder, bytes: &[u8]) -> u64
     )
 }
 
-/// The number that the two bytes from `at` on are.
+/// Returns the number that the two bytes from index `at` on encode in a byte order.
 pub fn u16_in(order: ByteOrder, bytes: &[u8], at: usize) -> u16
     requires { at + 2 ≤ length bytes.now }
     ensures { result ≡ number order w16 (bytes_at bytes.now at 2) }
@@ -127,7 +130,7 @@ pub fn u16_in(order: ByteOrder, bytes: &[u8], at: usize) -> u16
     u16_of(order, &bytes[at..at + 2])
 }
 
-/// The number that the four bytes from `at` on are.
+/// Returns the number that the four bytes from index `at` on encode in a byte order.
 pub fn u32_in(order: ByteOrder, bytes: &[u8], at: usize) -> u32
     requires { at + 4 ≤ length bytes.now }
     ensures { result ≡ number order w32 (bytes_at bytes.now at 4) }
@@ -135,7 +138,7 @@ pub fn u32_in(order: ByteOrder, bytes: &[u8], at: usize) -> u32
     u32_of(order, &bytes[at..at + 4])
 }
 
-/// The number that the eight bytes from `at` on are.
+/// Returns the number that the eight bytes from index `at` on encode in a byte order.
 pub fn u64_in(order: ByteOrder, bytes: &[u8], at: usize) -> u64
     requires { at + 8 ≤ length bytes.now }
     ensures { result ≡ number order w64 (bytes_at bytes.now at 8) }
@@ -143,7 +146,8 @@ pub fn u64_in(order: ByteOrder, bytes: &[u8], at: usize) -> u64
     u64_of(order, &bytes[at..at + 8])
 }
 
-/// The two bytes at an offset as a number.
+/// Reads the two bytes of the source at offset `at` as a number. Returns `IoError(UnexpectedEof)`
+/// if the source has fewer bytes there.
 pub fn read_u16_at<R: Source>(source: &mut R, at: u64, order: ByteOrder) -> TiffResult<u16>
     ensures kept { IsKept R.told R.failures result source.old source.new }
     ensures answer { AnswersWithoutMemory (λ n. n) result (number_at order w16 (R.told source.old).bytes at) (R.failures source.old) (R.failures source.new) }
@@ -154,7 +158,8 @@ pub fn read_u16_at<R: Source>(source: &mut R, at: u64, order: ByteOrder) -> Tiff
     Ok(u16_from(order, bytes))
 }
 
-/// The four bytes at an offset as a number.
+/// Reads the four bytes of the source at offset `at` as a number. Returns `IoError(UnexpectedEof)`
+/// if the source has fewer bytes there.
 pub fn read_u32_at<R: Source>(source: &mut R, at: u64, order: ByteOrder) -> TiffResult<u32>
     ensures kept { IsKept R.told R.failures result source.old source.new }
     ensures answer { AnswersWithoutMemory (λ n. n) result (number_at order w32 (R.told source.old).bytes at) (R.failures source.old) (R.failures source.new) }
@@ -165,7 +170,8 @@ pub fn read_u32_at<R: Source>(source: &mut R, at: u64, order: ByteOrder) -> Tiff
     Ok(u32_from(order, bytes))
 }
 
-/// The eight bytes at an offset as a number.
+/// Reads the eight bytes of the source at offset `at` as a number. Returns `IoError(UnexpectedEof)`
+/// if the source has fewer bytes there.
 pub fn read_u64_at<R: Source>(source: &mut R, at: u64, order: ByteOrder) -> TiffResult<u64>
     ensures kept { IsKept R.told R.failures result source.old source.new }
     ensures answer { AnswersWithoutMemory (λ n. n) result (number_at order w64 (R.told source.old).bytes at) (R.failures source.old) (R.failures source.new) }

@@ -1,4 +1,4 @@
-//! The numbers of TIFF as enums, byte orders, and bit patterns.
+//! TIFF's numbers as enums, byte orders, and the bits of floating-point numbers.
 
 ghost use Rattle.std.specs.Prelude.{◌≡◌, ◌<◌, false, true};
 ghost use Rattle.std.specs.Fmt.{WritesOnOk, digits};
@@ -73,12 +73,12 @@ pub enum Tag {
     GpsDirectory,
     ExifVersion,
     GdalNodata,
-    /// A number without a name here.
+    /// A number that has no name in this enum.
     Unknown(u16),
 }
 
 impl Tag {
-    /// The tag of a number; one without a name is `Unknown`.
+    /// Returns the tag of a number, or `Unknown` if the number has no name in this enum.
     #[tactic(auto, unfolding(crate::specs::Tags::tag_of))]
     pub fn from_u16_exhaustive(n: u16) -> Self
         ensures { result ≡ tag_of n }
@@ -147,7 +147,7 @@ impl Tag {
         }
     }
 
-    /// The tag of a number, if it has a name here.
+    /// Returns the tag of a number, or `None` if the number has no name in this enum.
     pub fn from_u16(n: u16) -> Option<Self>
         ensures { result ≡ named_tag (tag_of n) }
     {
@@ -157,7 +157,7 @@ impl Tag {
         }
     }
 
-    /// The number.
+    /// Returns the number of the tag.
     pub fn to_u16(&self) -> u16
         ensures { result ≡ tag_number self.now }
     {
@@ -249,7 +249,7 @@ pub enum Type {
 }
 
 impl Type {
-    /// The value of a number, if it has one.
+    /// Returns the type of a number, or `None` if no type has this number.
     #[tactic(auto, unfolding(crate::specs::Tags::type_of))]
     pub fn from_u16(n: u16) -> Option<Self>
         ensures { result ≡ type_of n }
@@ -275,7 +275,7 @@ impl Type {
         }
     }
 
-    /// The number.
+    /// Returns the number of the type.
     pub fn to_u16(&self) -> u16
         ensures { result ≡ type_number self.now }
     {
@@ -299,7 +299,7 @@ impl Type {
         }
     }
 
-    /// How many bytes a value has.
+    /// Returns the number of bytes of one value.
     pub fn byte_len(self) -> u8
         ensures { result ≡ type_size self }
     {
@@ -324,7 +324,7 @@ impl Type {
     }
 }
 
-/// How chunks are packed (TIFF 6.0 sections 3, 9 and later ones).
+/// The compression method of strips and tiles (TIFF 6.0 sections 3, 9 and later ones).
 #[derive(Clone, Copy, Debug, PartialEq, Eq, Hash)]
 #[non_exhaustive]
 pub enum CompressionMethod {
@@ -340,12 +340,12 @@ pub enum CompressionMethod {
     OldDeflate,
     ZSTD,
     WebP,
-    /// A number without a name here.
+    /// A number that has no name in this enum.
     Unknown(u16),
 }
 
 impl CompressionMethod {
-    /// The value of a number, if it has a name here.
+    /// Returns the method of a number, or `None` if the number has no name in this enum.
     pub fn from_u16(n: u16) -> Option<Self>
         ensures { result ≡ named_method (method_of n) }
     {
@@ -355,7 +355,7 @@ impl CompressionMethod {
         }
     }
 
-    /// The value of a number; one without a name is `Unknown`.
+    /// Returns the method of a number, or `Unknown` if the number has no name in this enum.
     #[tactic(auto, unfolding(crate::specs::Tags::method_of))]
     pub fn from_u16_exhaustive(n: u16) -> Self
         ensures { result ≡ method_of n }
@@ -377,7 +377,7 @@ impl CompressionMethod {
         }
     }
 
-    /// The number.
+    /// Returns the number of the method.
     pub fn to_u16(&self) -> u16
         ensures { result ≡ method_number self.now }
     {
@@ -399,7 +399,7 @@ impl CompressionMethod {
     }
 }
 
-/// What the samples of a page mean (TIFF 6.0 section 8).
+/// The photometric interpretation: what the samples of a page mean (TIFF 6.0 section 8).
 #[derive(Clone, Copy, Debug, PartialEq, Eq, Hash)]
 #[non_exhaustive]
 pub enum PhotometricInterpretation {
@@ -416,7 +416,7 @@ pub enum PhotometricInterpretation {
 }
 
 impl PhotometricInterpretation {
-    /// The value of a number, if it has one.
+    /// Returns the interpretation of a number, or `None` if no interpretation has this number.
     #[tactic(auto, unfolding(crate::specs::Tags::interpretation_of))]
     pub fn from_u16(n: u16) -> Option<Self>
         ensures { result ≡ interpretation_of n }
@@ -436,7 +436,7 @@ impl PhotometricInterpretation {
         }
     }
 
-    /// The number.
+    /// Returns the number of the interpretation.
     pub fn to_u16(&self) -> u16
         ensures { result ≡ interpretation_number self.now }
     {
@@ -455,7 +455,7 @@ impl PhotometricInterpretation {
     }
 }
 
-/// Whether the samples of a pixel stand together or in planes (TIFF 6.0 section 8).
+/// Whether the samples of a pixel lie together or in separate planes (TIFF 6.0 section 8).
 #[derive(Clone, Copy, Debug, PartialEq, Eq, Hash)]
 #[non_exhaustive]
 pub enum PlanarConfiguration {
@@ -464,7 +464,7 @@ pub enum PlanarConfiguration {
 }
 
 impl PlanarConfiguration {
-    /// The value of a number, if it has one.
+    /// Returns the planar configuration of a number, or `None` if none has this number.
     #[tactic(auto, unfolding(crate::specs::Tags::planar_of))]
     pub fn from_u16(n: u16) -> Option<Self>
         ensures { result ≡ planar_of n }
@@ -476,7 +476,7 @@ impl PlanarConfiguration {
         }
     }
 
-    /// The number.
+    /// Returns the number of the planar configuration.
     pub fn to_u16(&self) -> u16
         ensures { result ≡ planar_number self.now }
     {
@@ -487,7 +487,7 @@ impl PlanarConfiguration {
     }
 }
 
-/// What is done to samples before they are packed (TIFF 6.0 section 14).
+/// The predictor: what a writer does to samples before compression (TIFF 6.0 section 14).
 #[derive(Clone, Copy, Debug, PartialEq, Eq, Hash)]
 #[non_exhaustive]
 pub enum Predictor {
@@ -497,7 +497,7 @@ pub enum Predictor {
 }
 
 impl Predictor {
-    /// The value of a number, if it has one.
+    /// Returns the predictor of a number, or `None` if no predictor has this number.
     #[tactic(auto, unfolding(crate::specs::Tags::predictor_of))]
     pub fn from_u16(n: u16) -> Option<Self>
         ensures { result ≡ predictor_of n }
@@ -510,7 +510,7 @@ impl Predictor {
         }
     }
 
-    /// The number.
+    /// Returns the number of the predictor.
     pub fn to_u16(&self) -> u16
         ensures { result ≡ predictor_number self.now }
     {
@@ -532,7 +532,7 @@ pub enum ResolutionUnit {
 }
 
 impl ResolutionUnit {
-    /// The value of a number, if it has one.
+    /// Returns the unit of a number, or `None` if no unit has this number.
     #[tactic(auto, unfolding(crate::specs::Tags::unit_of))]
     pub fn from_u16(n: u16) -> Option<Self>
         ensures { result ≡ unit_of n }
@@ -545,7 +545,7 @@ impl ResolutionUnit {
         }
     }
 
-    /// The number.
+    /// Returns the number of the unit.
     pub fn to_u16(&self) -> u16
         ensures { result ≡ unit_number self.now }
     {
@@ -557,7 +557,7 @@ impl ResolutionUnit {
     }
 }
 
-/// How a sample's bits are read (TIFF 6.0 section 19).
+/// The sample format: what kind of number the bits of a sample are (TIFF 6.0 section 19).
 #[derive(Clone, Copy, Debug, PartialEq, Eq, Hash)]
 #[non_exhaustive]
 pub enum SampleFormat {
@@ -565,12 +565,12 @@ pub enum SampleFormat {
     Int,
     IEEEFP,
     Void,
-    /// A number without a name here.
+    /// A number that has no name in this enum.
     Unknown(u16),
 }
 
 impl SampleFormat {
-    /// The value of a number, if it has a name here.
+    /// Returns the sample format of a number, or `None` if the number has no name in this enum.
     pub fn from_u16(n: u16) -> Option<Self>
         ensures { result ≡ named_format (format_of n) }
     {
@@ -580,7 +580,7 @@ impl SampleFormat {
         }
     }
 
-    /// The value of a number; one without a name is `Unknown`.
+    /// Returns the sample format of a number, or `Unknown` if the number has no name in this enum.
     #[tactic(auto, unfolding(crate::specs::Tags::format_of))]
     pub fn from_u16_exhaustive(n: u16) -> Self
         ensures { result ≡ format_of n }
@@ -594,7 +594,7 @@ impl SampleFormat {
         }
     }
 
-    /// The number.
+    /// Returns the number of the sample format.
     pub fn to_u16(&self) -> u16
         ensures { result ≡ format_number self.now }
     {
@@ -608,7 +608,7 @@ impl SampleFormat {
     }
 }
 
-/// What a sample beyond those of the color is (TIFF 6.0 section 8).
+/// The meaning of an extra sample, one beyond those of the color (TIFF 6.0 section 8).
 #[derive(Clone, Copy, Debug, PartialEq, Eq, Hash)]
 #[non_exhaustive]
 pub enum ExtraSamples {
@@ -618,7 +618,7 @@ pub enum ExtraSamples {
 }
 
 impl ExtraSamples {
-    /// The value of a number, if it has one.
+    /// Returns the meaning of a number, or `None` if no meaning has this number.
     #[tactic(auto, unfolding(crate::specs::Tags::extra_of))]
     pub fn from_u16(n: u16) -> Option<Self>
         ensures { result ≡ extra_of n }
@@ -631,7 +631,7 @@ impl ExtraSamples {
         }
     }
 
-    /// The number.
+    /// Returns the number of the meaning.
     pub fn to_u16(&self) -> u16
         ensures { result ≡ extra_number self.now }
     {
@@ -643,7 +643,7 @@ impl ExtraSamples {
     }
 }
 
-/// The offset of a directory; 0 is none.
+/// The offset of a directory. The offset 0 means that there is no directory.
 #[derive(Clone, Copy, Debug, PartialEq, Eq, Hash)]
 pub struct IfdPointer(pub u64);
 
@@ -663,24 +663,25 @@ impl fmt::UpperHex for IfdPointer {
     }
 }
 
-/// Which byte of a number comes first.
+/// The byte order: which byte of a number comes first.
 #[derive(Clone, Copy, Debug, PartialEq, Eq)]
 pub enum ByteOrder {
-    /// The least one, `II`.
+    /// The least significant byte comes first, `II`.
     LittleEndian,
-    /// The most one, `MM`.
+    /// The most significant byte comes first, `MM`.
     BigEndian,
 }
 
 impl ByteOrder {
-    /// The order of the machine, which is little-endian here.
+    /// Returns the byte order of the machine, which is little-endian here.
     pub fn native() -> Self
         ensures { result ≡ LittleEndian }
     {
         ByteOrder::LittleEndian
     }
 
-    /// Turns the numbers of values of a type into another order. A rational is two numbers; a ragged end stays as it is.
+    /// Converts the bytes of values of type `ty` from this byte order to the byte order `to`. A
+    /// rational is two numbers. Bytes after the last whole number stay unchanged.
     #[tactic(auto, unfolding(crate::specs::ByteOrders::turned_numbers))]
     pub fn convert(self, ty: Type, buffer: &mut [u8], to: ByteOrder)
         ensures { buffer.new ≡ convert ty self buffer.old to }
@@ -694,7 +695,7 @@ impl ByteOrder {
     }
 }
 
-// How many bytes a number of a type has.
+// The number of bytes of one number of a type. A value of a rational type has two numbers.
 fn unit_size(ty: Type) -> usize
     ensures value { result ≡ unit_size ty }
     ensures some { 0 < result }
@@ -708,23 +709,23 @@ fn unit_size(ty: Type) -> usize
     }
 }
 
-/// The two kinds of file, by the width of their offsets (this project's own).
+/// The two kinds of TIFF file, by the width of their offsets. This project adds this type.
 #[derive(Clone, Copy, Debug, PartialEq, Eq)]
 pub enum FileKind {
-    /// TIFF 6.0: offsets of 4 bytes.
+    /// TIFF 6.0: offsets have 4 bytes.
     Classic,
-    /// BigTIFF: offsets of 8 bytes.
+    /// BigTIFF: offsets have 8 bytes.
     Big,
 }
 
-/// The bits of a 16 bit floating number.
+/// The bits of a 16-bit floating-point number.
 #[derive(Clone, Copy, Debug, PartialEq, Eq, Hash)]
 pub struct Bits16(pub u16);
 
-/// The bits of a 32 bit floating number.
+/// The bits of a 32-bit floating-point number.
 #[derive(Clone, Copy, Debug, PartialEq, Eq, Hash)]
 pub struct Bits32(pub u32);
 
-/// The bits of a 64 bit floating number.
+/// The bits of a 64-bit floating-point number.
 #[derive(Clone, Copy, Debug, PartialEq, Eq, Hash)]
 pub struct Bits64(pub u64);

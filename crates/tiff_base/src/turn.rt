@@ -1,11 +1,12 @@
-//! Numbers turned into the other byte order, sixteen bytes at once where a number has two, four or eight.
+//! Converts numbers to the other byte order, sixteen bytes at once if a number has two, four or
+//! eight bytes.
 
 ghost use Rattle.std.specs.Prelude.{◌≡◌, ◌/◌, ◌<◌, length};
 ghost use Rattle.tiff_base.specs.ByteOrders.{turned_units};
 
 use std::simd::prelude::*;
 
-// Turns sixteen bytes of numbers of two bytes each.
+// Reverses the bytes of each two-byte number in sixteen bytes.
 #[inline(always)]
 fn turn_lanes_2(part: &mut [u8])
     requires { length part.old ≡ 16 }
@@ -16,7 +17,7 @@ fn turn_lanes_2(part: &mut [u8])
         .copy_to_slice(part);
 }
 
-// The same of numbers of four bytes.
+// Reverses the bytes of each four-byte number in sixteen bytes.
 #[inline(always)]
 fn turn_lanes_4(part: &mut [u8])
     requires { length part.old ≡ 16 }
@@ -27,7 +28,7 @@ fn turn_lanes_4(part: &mut [u8])
         .copy_to_slice(part);
 }
 
-// The same of numbers of eight bytes.
+// Reverses the bytes of each eight-byte number in sixteen bytes.
 #[inline(always)]
 fn turn_lanes_8(part: &mut [u8])
     requires { length part.old ≡ 16 }
@@ -38,7 +39,7 @@ fn turn_lanes_8(part: &mut [u8])
         .copy_to_slice(part);
 }
 
-// Turns each whole number of so many bytes the other way round, one by one.
+// Reverses the bytes of each whole number of `size` bytes, one number at a time.
 fn turn_plain(buffer: &mut [u8], size: usize)
     requires { 0 < size }
     ensures { buffer.new ≡ turned_units size (length buffer.old / size) buffer.old }
@@ -50,7 +51,7 @@ fn turn_plain(buffer: &mut [u8], size: usize)
     }
 }
 
-// Turns numbers of two bytes, sixteen bytes at once, and the rest one by one.
+// Reverses the bytes of each two-byte number, sixteen bytes at once, and the rest one by one.
 fn turn_units_2(buffer: &mut [u8])
     ensures { buffer.new ≡ turned_units 2 (length buffer.old / 2) buffer.old }
 {
@@ -62,7 +63,7 @@ fn turn_units_2(buffer: &mut [u8])
     turn_plain(&mut buffer[parts * 16..], 2);
 }
 
-// The same of numbers of four bytes.
+// Reverses the bytes of each four-byte number, sixteen bytes at once, and the rest one by one.
 fn turn_units_4(buffer: &mut [u8])
     ensures { buffer.new ≡ turned_units 4 (length buffer.old / 4) buffer.old }
 {
@@ -74,7 +75,7 @@ fn turn_units_4(buffer: &mut [u8])
     turn_plain(&mut buffer[parts * 16..], 4);
 }
 
-// The same of numbers of eight bytes.
+// Reverses the bytes of each eight-byte number, sixteen bytes at once, and the rest one by one.
 fn turn_units_8(buffer: &mut [u8])
     ensures { buffer.new ≡ turned_units 8 (length buffer.old / 8) buffer.old }
 {
@@ -86,7 +87,7 @@ fn turn_units_8(buffer: &mut [u8])
     turn_plain(&mut buffer[parts * 16..], 8);
 }
 
-// Turns each whole number of so many bytes the other way round.
+// Reverses the bytes of each whole number of `size` bytes.
 pub(crate) fn turn_units(buffer: &mut [u8], size: usize)
     requires { 0 < size }
     ensures { buffer.new ≡ turned_units size (length buffer.old / size) buffer.old }

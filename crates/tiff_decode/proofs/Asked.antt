@@ -1,4 +1,4 @@
--- Which bytes the steps of a decoder's calls ask for.
+-- The bytes that the steps of a decoder's calls read.
 use Rattle.std.proofs.Common.{◌≡◌, ℕ, ◌+◌, ◌-◌, ◌≤◌, List, length, Option, None, Some, Bool, true, false, Result, Ok, ap, sym, ◌∙◌, subst, arith}
 use Rattle.std.proofs.lemmas.Option.{slice_get_within}
 use Rattle.std.specs.Prelude.{option_map}
@@ -25,7 +25,7 @@ use Rattle.tiff_decode.specs.Outcome.{chain_from, chain_of, end_fault, first_dir
 use Rattle.tiff_decode.proofs.Opening.{begun_at}
 use Rattle.tiff_decode.proofs.ChainPosition.{last_of}
 
--- of a decoder as it is seen
+-- the bytes that a call reads, for an equal view of the decoder
 pub asked_of : (P : Decoding → Type 0) (d old : Decoding) (e : TiffError) → d ≡ old → (P d → IsNotDevice e) → P old → IsNotDevice e
 asked_of P d old e seen asked q = asked (subst P (sym seen) q)
 
@@ -40,7 +40,7 @@ first_asked s t header walk e same h w asked opened =
     } in
     asked (subst (λ (x : SourceRecord). NextReadable x header.kind header.order walk) (sym same) (subst (λ (v : Walked). NextReadable s header.kind header.order v) (sym w) first))
 
--- a file's first directory is that of its header
+-- the first directory of a file is that of its header
 first_is : (file : List ℕ) (found : Header × ℕ × DirectoryRecord) → first_directory file ≡ Ok found
     → (header_at file ≡ Ok found.0) × (directory_at found.0.kind found.0.order file found.1 ≡ Ok found.2)
 unfolding first_directory
@@ -52,7 +52,7 @@ first_is file found h =
     let same : (header.0, offset.0, directory.0) ≡ found = cc in
     subst P same (header.1.0, directory.1.0)
 
--- its page
+-- the page of the first directory
 pub opened_page : (s t : SourceRecord) (header : Header) (directory : DirectoryRecord) (e : TiffError) → t ≡ s
     → first_directory s.bytes ≡ Ok (header, header.first, directory)
     → (PageReadable t header.kind header.order directory → IsNotDevice e) → OpenReadable s → IsNotDevice e
@@ -71,7 +71,7 @@ entered_page s t kind order at directory r same h asked =
 
 -- ---- along the chain
 
--- the directory of a number
+-- the directory of an index
 pub sought_entry : {X : Type 0} (d old : Decoding) (t : SourceRecord) (index at : ℕ) (r : Result X TiffError) → d ≡ old → t ≡ source_of d
     → slice_get (chain_of d).offsets index ≡ Some at → AsksOnly (EntryReadable t d.kind d.order at) r → AsksOnly (SeekReadable old index) r
 sought_entry d old t index at r seen same h asked =
@@ -79,7 +79,7 @@ sought_entry d old t index at r seen same h asked =
     (asks_more (EntryReadable t d.kind d.order at) (SeekReadable d index) r
     (λ q. subst (λ (x : SourceRecord). EntryReadable x d.kind d.order at) (sym same) (q.entry at h)) asked)
 
--- the way to it
+-- the way to the directory of an index
 pub sought_way : (d old : Decoding) (index : ℕ) (e : TiffError) → d ≡ old
     → (WayReadable (source_of d) d.kind d.order d.first index → IsNotDevice e) → SeekReadable old index → IsNotDevice e
 sought_way d old index e seen asked q = asked ((subst (λ (x : Decoding). SeekReadable x index) (sym seen) q).way)
@@ -92,7 +92,7 @@ next_entry d old t at r seen same h asked =
     (asks_more (EntryReadable t d.kind d.order at) (NextPageReadable d) r
     (λ q. subst (λ (x : SourceRecord). EntryReadable x d.kind d.order at) (sym same) (q.entry at h)) asked)
 
--- the last of some offsets, where no other is behind it
+-- the last of some offsets, where no other offset follows it
 pub last_is : (offsets : List ℕ) (pointer : Option IfdPointer) (at k : ℕ) (more : Bool) → IsAt offsets pointer at more → more ≡ true → k ≡ at + 1 → length offsets ≤ k
     → last_or None offsets ≡ option_map (λ p. p.0) pointer
 last_is offsets (Some p) at k more h m e l =
@@ -101,7 +101,7 @@ last_is offsets (Some p) at k more h m e l =
     last_of offsets ∙ ap (slice_get offsets) here ∙ h
 last_is offsets None at k more h m e l = (let n : false ≡ true = sym h ∙ m in absurd (cc))
 
--- the one that the last link leads to
+-- the directory that the last link leads to
 pub next_behind : (d old : Decoding) (t : SourceRecord) (walk : Walked) (e : TiffError) → d ≡ old → t ≡ source_of d
     → ChainBegins d.kind d.order d.bytes d.first walk → last_or None walk.offsets ≡ option_map (λ p. p.0) d.state.pointer
     → (NextReadable t d.kind d.order walk → IsNotDevice e) → NextPageReadable old → IsNotDevice e

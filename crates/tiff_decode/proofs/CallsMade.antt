@@ -1,4 +1,4 @@
--- Calls that are given slices of zeros, and one more call of a list.
+-- Calls with slices of zeros, and one more call of a list.
 use Rattle.std.proofs.Common.{◌≡◌, ℕ, ◌+◌, ◌<◌, ◌≤◌, List, [], get_or, ◌∷◌, ◌++◌, length, take, replicate, Option, Result, Ok, Err, Vec, refl, ap, sym, ◌∙◌, subst, arith}
 use Rattle.std.specs.declared.alloc.Global.{Global}
 use Rattle.std.proofs.lemmas.List.{append-nil, append_assoc, take_more, take_all}
@@ -24,7 +24,7 @@ use Rattle.tiff_decode.proofs.NextState.{along}
 pub stands_here : (d : Decoding) → StandsAt d.state d d
 stands_here d = record { stands = refl; failures = omega arith }
 
--- a call that wants memory after certain faults alone
+-- a call that may run out of memory only after certain errors
 pub wanted_after : {X Y : Type 0} (early : Result (Unit {0}) TiffError) (view : X → Y) (o : Outcome Y) (r : Result X TiffError) (old new : Decoding)
     → Follows view o r old new → WantsAfter early r → FollowsBut (IsOkOrList early) view o r old new
 wanted_after early view o (Ok x) old new h w = h
@@ -63,7 +63,7 @@ unit_bytes old new unit len xs r b zeros h =
     let P : List ℕ → Type 0 = λ xs. Follows (λ _. items_of b) (outcome.read_coding_unit_bytes old unit xs) r old new in
     subst P zeros h
 
--- a call that takes no memory answers as one that may
+-- a call that cannot run out of memory follows the outcome of a call that can
 may_want : {X Y : Type 0} (view : X → Y) (r : Result X TiffError) (given : Result Y TiffError) (before after : ℕ)
     → AnswersWithoutMemory view r given before after → Answers view r given before after
 may_want view (Ok x) given before after h = h

@@ -1,4 +1,4 @@
--- A decoder goes along the chain of its file.
+-- The position of a decoder in the chain of its file.
 use Rattle.std.proofs.Common.{◌≡◌, ℕ, zero, suc, ◌+◌, ◌-◌, ◌<◌, ◌≤◌, List, [], ◌∷◌, ◌++◌, length, length-append, Option, None, Some, Bool, true, false, cond, Result, Ok, Err, refl, ap, sym, ◌∙◌, subst, arith, nat_eq}
 use Rattle.std.proofs.lemmas.Bool.Decides.{nat_tests}
 use Rattle.std.proofs.lemmas.Map.Keys.{IsDistinct-head, IsDistinct-tail}
@@ -23,7 +23,7 @@ use Rattle.tiff_decode.specs.ChainPosition.{IsAt, IsInChain}
 use Rattle.tiff_decode.specs.Machine.{State, Decoding, Outcome, GivesOutcome, FollowsBut, Follows, keeps_state, source_of}
 use Rattle.tiff_decode.specs.Outcome.{chain_of, offset_after, next_offset, next_outcome, next_image, enter, entry_outcome, seek_to_image, seek_outcome, end_outcome, end_fault, not_found, show_outcome, show_directory}
 
--- ---- where the pointer is
+-- ---- the position of the pointer
 
 pub within : (offsets : List ℕ) (pointer : Option IfdPointer) (at : ℕ) (more : Bool) → IsAt offsets pointer at more → more ≡ true → at < length offsets
 within offsets (Some p) at more h m = slice_get_within offsets at p.0 h
@@ -65,7 +65,7 @@ pub stands_longer : (offsets longer more_offsets : List ℕ) (pointer : Option I
 stands_longer offsets longer more_offsets (Some p) at more e h = ap (λ (ps : List ℕ). slice_get ps at) e ∙ front offsets more_offsets at p.0 h
 stands_longer offsets longer more_offsets None at more e h = h
 
--- some are entered where some were
+-- a list that begins with a non-empty list is not empty
 pub some_longer : (offsets longer more_offsets : List ℕ) → longer ≡ offsets ++ more_offsets → 0 < length offsets → 0 < length longer
 some_longer offsets longer more_offsets e l = (let n = ap length e ∙ length-append offsets more_offsets in omega arith)
 
@@ -74,7 +74,7 @@ pub some_offsets : (kind : FileKind) (order : ByteOrder) (bytes : List ℕ) (fir
     → IsInChain kind order bytes first walk pointer at more → 0 < length (chain kind order bytes first).offsets
 some_offsets kind order bytes first walk pointer at more c = some_longer walk.offsets (chain kind order bytes first).offsets c.begins.rest c.begins.offsets c.some
 
--- ---- the offset behind it
+-- ---- the offset after the pointer
 
 equal : (q p : ℕ) → q ≡ p → (q == p) ≡ true
 equal q p h = grind (arith, nat_tests)
@@ -107,7 +107,7 @@ next_is kind order bytes first walk (Some p) at more a m =
     ∙ ap (slice_get (chain kind order bytes first).offsets) (sym e)
 next_is kind order bytes first walk None at more a m = (let e : false ≡ true = sym a.stands ∙ m in absurd (cc))
 
--- ---- what the calls answer
+-- ---- the results of the calls
 
 pub next_by : (d : Decoding) (r : Option ℕ) → d.state.more ≡ true → next_offset d.state.pointer (chain_of d).offsets ≡ r → next_image d ≡ next_outcome d r
 unfolding next_image
@@ -123,7 +123,7 @@ closed_is : (d : Decoding) (offsets : List ℕ) (end : Option TiffError) → cha
     → end_outcome d ≡ record { answer = Err (end_fault end); next = record d.state { more = false } }
 closed_is d offsets end h = ap (λ (c : Chain). record { answer = Err (end_fault c.end); next = record d.state { more = false } }) h
 
--- ---- the same, of a decoder that was left as it was
+-- ---- the results of the calls of an unchanged decoder
 
 abbrev Call : Type 0
 Call = Outcome (Unit {0})
@@ -147,7 +147,7 @@ enters_read r o offset d old mid new e h k f =
     let P : Decoding → Type 0 = λ x. Follows (λ y. y) (entry_outcome x offset (Ok d)) r x new in
     same_outcome r (entry_outcome old offset (Ok d)) o old new (sym (h ∙ ap (entry_outcome old offset) k)) (subst P e f)
 
--- ---- faults
+-- ---- errors
 
 gives_by : (e : TiffError) (o : Call) (s : State) (old new : Decoding) → o ≡ record { answer = Err e; next = s } → new ≡ record old { state = s } → GivesOutcome (Err e) o old new
 gives_by e o s old new h a = record {
@@ -155,7 +155,7 @@ gives_by e o s old new h a = record {
   at = a ∙ ap (λ (x : Call). record old { state = x.next }) (sym h);
 }
 
--- no read failed before one that is told
+-- before an error that is not of the device, no read failed
 pub unfailed : (e : TiffError) (before after : ℕ) → keeps_state e ≡ false → NoneSwallowed {X = Unit {0}} (Err e) before after → after ≡ before
 unfailed OutOfMemory before after k h = h
 unfailed (IoError Device) before after k h = absurd (cc)
@@ -169,7 +169,7 @@ unfailed LimitsExceeded before after k h = h
 unfailed IntSizeError before after k h = h
 unfailed (UsageError x) before after k h = h
 
--- one that is told
+-- an error that does not leave the decoder unchanged
 pub answered : (W F G : Type 0) (e : TiffError) (o : Call) (s : State) (old new : Decoding) → keeps_state e ≡ false → IsCause W F e G
     → (G → o ≡ record { answer = Err e; next = s }) → new ≡ record old { state = s } → Follows (λ x. x) o (Err e) old new
 answered W F G OutOfMemory o t old new k c g s = absurd (cc)
@@ -191,9 +191,9 @@ none_found e o s old new f h a =
     let P : TiffError → Type 0 = λ x. Follows (λ y. y) o (Err x) old new in
     subst P (sym f) (gives_by not_found o s old new h a)
 
--- ---- what is seen of a decoder
+-- ---- the view of a decoder
 
--- the file tells the same, and no read failed
+-- the bytes of the file are the same, and no read failed
 pub told_same : (d : Decoding) (told : SourceRecord) (failures : ℕ) → told ≡ source_of d → failures ≡ d.failures
     → record d { bytes = told.bytes; readable = told.readable; failures = failures } ≡ d
 told_same d told failures e f = λ i. record d { bytes = (e i).bytes; readable = (e i).readable; failures = f i }
@@ -215,7 +215,7 @@ shows_read r at d old mid new e k f =
     let P : Decoding → Type 0 = λ x. Follows (λ y. y) (show_outcome x (Ok d)) r x new in
     same_outcome r (show_outcome old (Ok d)) (show_directory old at) old new (sym (ap (show_outcome old) k)) (subst P e f)
 
--- a call that may want memory does so of a decoder that has a next page
+-- a call of a decoder with a next page may run out of memory
 open_wanting : (o : Call) (r : Result (Unit {0}) TiffError) (d new : Decoding) → d.state.more ≡ true → Follows (λ x. x) o r d new → FollowsBut (d.state.more ≡ true) (λ x. x) o r d new
 open_wanting o (Ok u) d new m h = h
 open_wanting o (Err OutOfMemory) d new m h = (m, h.1)
@@ -250,7 +250,7 @@ along_on kind kind' order order' bytes bytes' first walk pointer at more k o b w
 abbrev Along : Decoding → Walked → ℕ → Type 0
 Along d walk at = IsInChain d.kind d.order d.bytes d.first walk d.state.pointer at d.state.more
 
--- the offset behind the pointer, once it is entered
+-- the offset after the pointer, once it is entered
 pub offset_behind : (d : Decoding) (walk longer : Walked) (at k offset : ℕ) → Along d walk at → d.state.more ≡ true → k ≡ at + 1 → ChainBegins d.kind d.order d.bytes d.first longer
     → slice_get longer.offsets k ≡ Some offset → next_offset d.state.pointer (chain_of d).offsets ≡ Some offset
 offset_behind d walk longer at k offset a m e b h =
@@ -283,7 +283,7 @@ pub next_read : (r : Result (Unit {0}) TiffError) (d mid new : Decoding) (walk l
 next_read r d mid new walk longer at k offset directory a m e b h t s f =
     enters_read r (next_image d) offset directory d mid new s (behind d walk longer at k offset a m e b h) t f
 
--- an offset that isn't there
+-- an offset that the chain does not have
 pub past_end : (offsets : List ℕ) (k : ℕ) → slice_get offsets k ≡ None → length offsets ≤ k
 past_end [] k h = omega arith
 past_end (x ∷ xs) zero h = absurd (cc)
@@ -306,7 +306,7 @@ pub seek_known : (r : Result (Unit {0}) TiffError) (d mid new : Decoding) (k off
     → mid ≡ d → Follows (λ x. x) (enter mid offset) r mid new → Follows (λ x. x) (seek_to_image d k) r d new
 seek_known r d mid new k offset h e f = enters r (seek_to_image d k) offset d mid new e (sought_by d k (Some offset) h) f
 
--- a number that isn't there
+-- an index that the chain does not have
 pub none_of : (r : Option ℕ) → ((p : ℕ) → r ≡ Some p → ⊥) → r ≡ None
 none_of None h = refl
 none_of (Some p) h = absurd (h p refl)

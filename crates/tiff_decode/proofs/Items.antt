@@ -19,7 +19,7 @@ use Rattle.tiff_decode.specs.Items.{fields_left, item_of, items_left, NextItem}
 use Rattle.tiff_decode.specs.Machine.{Decoding}
 use Rattle.tiff_decode.specs.Step.{ItemIs}
 
--- a value that is refused makes an item that is refused
+-- a value with an error makes an item with this error
 pub item_refused : (given : Result Datum TiffError) (make : Datum → Result (Tag × Datum) TiffError) (before after : ℕ) (e : TiffError)
     → IsCause (IsWithinLimits given) (before < after) e (given ≡ Err e) → NoneSwallowed {X = Value} (Err e) before after → ItemIs (given >>= make) (Err e) before after
 item_refused given make before after OutOfMemory c l = l
@@ -34,7 +34,7 @@ item_refused given make before after LimitsExceeded c l = (ap (λ r. r >>= make)
 item_refused given make before after IntSizeError c l = (ap (λ r. r >>= make) c, l)
 item_refused given make before after (UsageError x) c l = (ap (λ r. r >>= make) c, l)
 
--- the first of the fields that are left, and those after it
+-- the first of the fields that are left, and the fields after it
 first_left : (last : Option ℕ) (es : List (ℕ × Field)) (e : ℕ × Field) (rest : List (ℕ × Field)) → T (is_sorted nat_cmp es)
     → fields_left last es ≡ e ∷ rest → fields_left (Some e.0) es ≡ rest
 first_left None es e rest h is =
@@ -45,7 +45,7 @@ split_first : (fs : List (ℕ × Field)) (e : ℕ × Field) → Some e ≡ slice
 split_first [] e is = absurd (none-some e (sym is))
 split_first (x ∷ fs) e is = let same : e ≡ x = ap (λ (o : Option (ℕ × Field)). unwrap_or o x) is in ap (λ (y : ℕ × Field). y ∷ fs) (sym same)
 
--- one item is given, and those after it are left
+-- the iterator returns one item, and the items after it are left
 pub one_given : (d : Decoding) (last : Option ℕ) (own : DirectoryRecord) (e : ℕ × Field) (item : Result (Tag × Value) TiffError) (before after : ℕ) → own ≡ d.state.directory
     → Some e ≡ slice_get (fields_left last (entries own.entries)) 0 → ItemIs (item_of d.kind d.order d.bytes d.state.limits e) item before after
     → NextItem (items_left d last) (Some item) (items_left d (Some e.0)) before after
@@ -63,7 +63,7 @@ no_first : (fs : List (ℕ × Field)) → None ≡ slice_get fs 0 → fs ≡ []
 no_first [] is = refl
 no_first (x ∷ fs) is = absurd (none-some x is)
 
--- at the end nothing is left
+-- at the end no item is left
 pub at_end : (d : Decoding) (last : Option ℕ) (own : DirectoryRecord) → own ≡ d.state.directory
     → None ≡ slice_get (fields_left last (entries own.entries)) 0 → items_left d last ≡ []
 at_end d last own same is =

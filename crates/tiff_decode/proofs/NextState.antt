@@ -1,4 +1,4 @@
--- What each step tells of its call, and where it leaves the decoder.
+-- The facts that each step shows about its call and about the state after it.
 use Rattle.std.proofs.Common.{◌≡◌, ◌+◌, ◌≤◌, ℕ, ◌⊎◌, inl, inr, List, [], ◌∷◌, Some, Result, Ok, Err, Vec, map, refl, ap, sym, ◌∙◌, subst, arith}
 use Rattle.std.specs.declared.alloc.Global.{Global}
 use Rattle.tiff_base.specs.declared.error.TiffError.{TiffError}
@@ -20,14 +20,15 @@ use Rattle.tiff_decode.specs.Step.{Fulfils, Step, ItemIs, ItemsAre, Items}
 use Rattle.tiff_decode.specs.Reader.{TagsRead}
 use Rattle.tiff_decode.specs.NextState.{IsNamedFault, view_of_result, view_of_item, AreNamed, IsNamedList, IsNamed, LeavesNextState, next_state}
 
--- So many failed reads are told, and where no escape is told, what is given, and the decoder is after it; else it stays.
+-- The step has at least `count` failed reads. Where `named` holds, `given` holds and the state is
+-- `after`; else the state is unchanged.
 pub record TellsOf (count : ℕ) (named given : Type 0) (after : State) (old new : Decoding) : Type 0 where
   pub file : new ≡ record old { failures = new.failures; state = new.state }
   pub failed : old.failures + count ≤ new.failures
   pub next : named → given × (new.state ≡ after)
   pub stays : (named → ⊥) → new.state ≡ old.state
 
--- a result tells its outcome
+-- a result shows its outcome
 abbrev pub IsTold : {X Y : Type 0} → (X → Y) → Outcome Y → Result X TiffError → Decoding → Decoding → Type 0
 IsTold view o r old new = TellsOf (device_count (fault_of r)) (IsNamedFault (fault_of r)) (view_of_result view r ≡ o.answer) o.next old new
 
@@ -49,7 +50,7 @@ here_file state old new p =
 
 -- ---- results
 
--- an answer that is given
+-- the result of the outcome
 told_so : (given : Type 0) (next : State) (old new : Decoding) → given → new ≡ record old { state = next } → TellsOf 0 (Unit {0}) given next old new
 told_so given next old new g p = record {
   file = here_file next old new p;
@@ -58,7 +59,7 @@ told_so given next old new g p = record {
   stays = λ no. absurd (no tt);
 }
 
--- want of memory
+-- out of memory
 told_wanting : (given : Type 0) (next : State) (old new : Decoding) → new ≡ record old { state = old.state } → TellsOf 0 ⊥ given next old new
 told_wanting given next old new p = record {
   file = here_file old.state old new p;
@@ -90,7 +91,7 @@ told_here wanting view o (Err OutOfMemory) old new (inl same) h =
 told_here wanting view o (Err OutOfMemory) old new (inr never) h = absurd (never h.0)
 told_here wanting view o r old new s h = told_so _ o.next old new (sym h.0) h.1
 
--- a read of tags, which moves nothing
+-- a read of tags, which leaves the state unchanged
 none_failed : (old new : Decoding) → new ≡ record old { failures = new.failures } → new.failures ≡ old.failures → new ≡ record old { state = old.state }
 none_failed old new p q = p ∙ ap (λ (n : ℕ). record old { failures = n }) q
 
@@ -103,7 +104,7 @@ told_of_tags wanting view o r old new h = told_so _ old.state old new (sym h.ans
 
 -- ---- promises
 
--- the answer that is promised
+-- the promised result
 abbrev pub answer_of : (p : Promise) → Result (AnswerOf p) TiffError
 answer_of (reads wanting o) = o.answer
 answer_of (knows o) = o.answer
@@ -112,12 +113,13 @@ answer_of (reads_tags wanting o) = o.answer
 answer_of (tells y) = Ok y
 answer_of (sets s) = Ok tt
 
--- what is seen is the answer
+-- the reply shows this result
 abbrev pub IsAnswer : {Y : Type 0} → Sight Y → Result Y TiffError → Type 0
 IsAnswer (sees view r) answer = view_of_result view r ≡ answer
 IsAnswer sees_nothing answer = ⊥
 
--- the count of failed reads that is told, and whether it is no escape; where nothing is seen, any
+-- the count of failed reads that a reply shows, and whether it is neither out of memory nor an
+-- error of the device; anything where the reply shows nothing
 abbrev count_in : {Y : Type 0} → Sight Y → ℕ → ℕ
 count_in (sees view r) count = device_count (fault_of r)
 count_in sees_nothing count = count
@@ -179,10 +181,10 @@ list_told given (Err e) old new h = record {
   stays = λ _. at_state old.state old new h.1;
 }
 
--- ---- each step is along its call
+-- ---- each step keeps the promise of its call
 
--- What a step tells. The clause of one reply is the last one again: by it the last is checked for each call with each reply, where
--- both tables compute.
+-- The facts that a step shows. The clause of one reply repeats the last clause. With it, the last
+-- clause is checked for each call with each reply, where both tables compute.
 pub called : (old : Decoding) (which : Call) (reply : Reply) (new : Decoding) → Step old which reply new
     → TellsOf (failures reply) (IsNamed reply) (IsAnswer (sight old which reply) (answer_of (promise old which))) (next_state old which) old new
 called old call.TagIter (reply.TagIter r) new h = list_told (outcome.tag_iter old) r old new h

@@ -1,4 +1,4 @@
--- Numbers that become another type one by one.
+-- The conversion of numbers to another type, one by one.
 use Rattle.std.proofs.Common.{ℕ, ◌+◌, ◌<◌, List, [], ◌∷◌, ◌++◌, length, take, drop, get_or, Result, Ok, Err, refl, ap, sym, ◌∙◌, subst}
 use Rattle.std.proofs.lemmas.List.{take_more, take-append-drop, drop_more}
 use Rattle.tiff_base.specs.declared.error.TiffError.{TiffError}
@@ -20,7 +20,7 @@ next_number gives ns xs i d x l h g =
     let P : List ℕ → Type 0 = λ ms. EachGives gives ms (xs ++ x ∷ []) in
     subst P (sym (take_more ns i d l)) (each_more gives (take i ns) xs (get_or ns i d) x h g)
 
--- the first that doesn't fit
+-- the first number that does not fit
 pub first_unfit : {X E : Type 0} (gives : ℕ → Result X E → Type 0) (tag : Tag) (ns : List ℕ) (xs : List X) (i : ℕ) (d : ℕ) (e : TiffError)
     → i < length ns → EachGives gives (take i ns) xs → IsNumber {X = X} gives tag (get_or ns i d) (Err e)
     → IsCause (Unit {0}) ⊥ e (FirstUnfit {X = X} gives tag ns e)

@@ -1,4 +1,4 @@
--- What opening a file answers, step by step.
+-- The steps of opening a file, and their results.
 use Rattle.std.specs.Prelude.{◌≡◌, ℕ, List, [], Option, None, Some, Result, Ok, Err, length}
 use Rattle.std.specs.List.{slice_get}
 use Rattle.std.proofs.Common.{zero, suc, ap, sym, ◌∙◌, refl, subst}
@@ -17,7 +17,7 @@ use Rattle.tiff_decode.specs.Machine.{Decoding}
 use Rattle.tiff_decode.specs.Outcome.{decoder_of, chain_from, first_directory, first_state, page_in, end_fault}
 use Rattle.tiff_decode.specs.DefaultLimits.{default_limits}
 
--- the first offset of a chain, or why there is none
+-- the first offset of a chain, or the error where there is none
 first_of : Chain → Result ℕ TiffError
 first_of c = ok_or_fault (slice_get c.offsets 0) (end_fault c.end)
 
@@ -33,17 +33,17 @@ unfolding first_of
 of_walk link zero first = of_onto first (enter_at link [] first) _
 of_walk link (suc steps) first = of_onto first (enter_at link [] first) _
 
--- the first offset is entered where its directory is read and isn't its own next one
+-- the first offset is entered where its directory is readable and does not link to itself
 first_is : (header : Header) (bytes : List ℕ)
     → first_of (chain_from header bytes) ≡ (enter_at (link_from header.kind header.order bytes) [] header.first >>= λ _. Ok header.first)
 unfolding chain first_of
 first_is header bytes = of_walk (link_from header.kind header.order bytes) (length bytes) header.first
 
--- the rest, once the first offset is known
+-- the steps after the first offset is known
 rest : Header → List ℕ → Result ℕ TiffError → Result (Header × ℕ × DirectoryRecord) TiffError
 rest header bytes r = r >>= λ offset. directory_at header.kind header.order bytes offset >>= λ directory. Ok (header, offset, directory)
 
--- with this header, of a chain whose first offset is entered or isn't
+-- the steps after the header, for a chain whose first offset is entered or is not
 with_header : (header : Header) (bytes : List ℕ) → header_at bytes ≡ Ok header
     → first_directory bytes
     ≡ rest header bytes (enter_at (link_from header.kind header.order bytes) [] header.first >>= λ _. Ok header.first)
@@ -66,7 +66,7 @@ begun_at header = record { offsets = []; next = Some header.first }
 same_offset : (header : Header) (offset : ℕ) → (begun_at header).next ≡ Some offset → offset ≡ header.first
 same_offset header offset h = cc
 
--- the first offset isn't entered, of bytes that tell the same
+-- the first offset is not entered, for a source whose bytes are unchanged
 pub unentered : (failed failed' : Type 0) (bytes told : List ℕ) (header : Header) (before after : Walked) (e : TiffError) → (failed → failed') → told ≡ bytes
     → header_at bytes ≡ Ok header → before ≡ begun_at header
     → IsCause (after ≡ before) (failed × (after ≡ before)) e (WalkSteps header.kind header.order told before (Err e) after)
@@ -83,7 +83,7 @@ unentered failed failed' bytes told header before after e f same h b c =
     ∙ ap (λ (x : Result (Option ℕ) TiffError). rest header bytes (x >>= λ _. Ok header.first)) at_first))
     c
 
--- it is entered
+-- the first offset is entered
 pub first_entered : (bytes told : List ℕ) (header : Header) (before after : Walked) (d : DirectoryRecord) → told ≡ bytes
     → header_at bytes ≡ Ok header → before ≡ begun_at header → WalkSteps header.kind header.order told before (Ok (Some d)) after
     → first_directory bytes ≡ Ok (header, header.first, d)
@@ -102,7 +102,7 @@ first_entered bytes told header before after d same h b s =
 
 -- ---- the first page
 
--- the decoder, once its first directory is known
+-- the decoder, after its first directory is known
 page_then : List ℕ → ℕ → Result (Header × ℕ × DirectoryRecord) TiffError → Result Decoding TiffError
 page_then bytes failures r =
     r >>= λ found. page_in found.0.kind found.0.order bytes default_limits found.2 >>= λ page.
@@ -116,13 +116,13 @@ page_then bytes failures r =
       state = first_state found.0.kind found.1 found.2 page;
     })
 
--- no first directory
+-- a file without a first directory
 pub begun_unread : (failed failed' : Type 0) (bytes : List ℕ) (failures : ℕ) (e : TiffError) → (failed → failed')
     → IsCause (Unit {0}) failed e (first_directory bytes ≡ Err e) → IsCause (Unit {0}) failed' e (decoder_of bytes failures ≡ Err e)
 unfolding decoder_of page_then
 begun_unread failed failed' bytes failures e f c = cause_along e (λ u. u) f (λ h. ap (page_then bytes failures) h) c
 
--- a first directory that is no page, where its tags were read with these bytes and limits
+-- a first directory that is no page, where the reads of its tags used these bytes and limits
 pub begun_unpaged : (wanting failed failed' : Type 0) (bytes told : List ℕ) (limits : Limits) (failures : ℕ) (header : Header) (offset : ℕ) (directory : DirectoryRecord) (e : TiffError)
     → (failed → failed')
     → told ≡ bytes → limits ≡ default_limits → first_directory bytes ≡ Ok (header, offset, directory)

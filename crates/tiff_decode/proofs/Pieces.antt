@@ -1,4 +1,4 @@
--- Numbers that bytes hold.
+-- The numbers in a list of bytes.
 use Rattle.std.proofs.Common.{◌≡◌, ℕ, zero, suc, ◌+◌, ◌*◌, ◌≤◌, List, [], ◌∷◌, ◌++◌, length, take, drop, get_or, refl, ◌∙◌, arith, length-drop}
 use Rattle.std.proofs.lemmas.List.{get_or-take, get_or-drop, length-take-le}
 use Rattle.std.proofs.lemmas.List.FromFn.{fill_by_all}
@@ -12,13 +12,13 @@ zero_in zero i = refl
 zero_in (suc n) zero = refl
 zero_in (suc n) (suc i) = zero_in n i
 
--- behind bytes stand zeros, as past their end
+-- a list of bytes followed by zeros has the same bytes as the list, which is zero past its end
 pub behind : (bytes zeros : List ℕ) (k : ℕ) → ((i : ℕ) → get_or zeros i 0 ≡ 0) → get_or (bytes ++ zeros) k 0 ≡ get_or bytes k 0
 behind [] zeros k none = none k
 behind (b ∷ bytes) zeros zero none = refl
 behind (b ∷ bytes) zeros (suc k) none = behind bytes zeros k none
 
--- number n of those that bytes hold
+-- the number at index n of a list of bytes
 abbrev pub number_in : ℕ → List ℕ → ℕ → ℕ
 number_in size bytes n = number LittleEndian (width_of size) (tabulate size (λ j. slice_index bytes (n * size + j)))
 

@@ -1,4 +1,4 @@
--- A required tag's value, and what is made of it.
+-- The value of a required tag, and its conversion.
 use Rattle.std.specs.Prelude.{◌≡◌, ℕ, List, Option, None, Some, Result, Ok, Err}
 use Rattle.std.proofs.Common.{refl, ap, ◌∙◌}
 use Rattle.tiff_base.specs.declared.error.TiffError.{TiffError}
@@ -15,7 +15,7 @@ use Rattle.tiff_ifd.specs.TagQueries.{find_unsigned_vec}
 use Rattle.tiff_page.proofs.Found.{number_found, required_found}
 use Rattle.tiff_ifd.specs.Look.{Look, if_found, find, ok_or_fault, require}
 
--- a number that is there is the number
+-- a value that is there is the required value
 there : {A : Type 0} (fault : TiffError) (x : Result A TiffError) → ((x >>= λ y. Ok (Some y)) >>= λ found. ok_or_fault found fault) ≡ x
 there fault (Ok y) = refl
 there fault (Err e) = refl
@@ -33,16 +33,16 @@ pub required_by : {A : Type 0} (into : Datum → Result A TiffError) (look : Loo
 unfolding require find
 required_by into look tag = by_value into (FormatError (RequiredTagNotFound tag)) (look.value tag)
 
--- a required value that isn't found isn't converted
+-- a required value that is not found is not converted
 pub unconverted : {A : Type 0} (wanting failed : Type 0) (into : Datum → Result A TiffError) (look : Look) (tag : Tag) (e : TiffError)
     → IsCause wanting failed e (require (λ d. Ok d) look tag ≡ Err e)
     → IsCause wanting failed e (require into look tag ≡ Err e)
 unconverted wanting failed into look tag e c =
     cause_along e (λ w. w) (λ f. f) (λ h. required_by into look tag ∙ ap (λ r. r >>= into) h) c
 
--- ---- where memory is wanted
+-- ---- where memory is allocated
 
--- a required value that was read is found
+-- a required value that the call reads is found
 pub value_found : (look : Look) (tag : Tag) (d : Datum) → require (λ d. Ok d) look tag ≡ Ok d → IsFoundWithin (look.value tag)
 value_found look tag d h = required_found (λ d. Ok d) look tag d h
 
@@ -51,7 +51,7 @@ found_before (Ok (Some x)) read y h = (x, refl)
 found_before (Ok None) read y h = absurd (cc)
 found_before (Err e) read y h = absurd (cc)
 
--- numbers that were found are of a tag that was
+-- numbers that the call finds belong to a tag that is found
 pub numbers_found : (limit : ℕ) (look : Look) (tag : Tag) (ns : List ℕ) → find_unsigned_vec limit look tag ≡ Ok (Some ns) → IsFoundWithin (look.value tag)
 unfolding find_unsigned_vec
 numbers_found limit look tag ns h =

@@ -11,7 +11,7 @@ use Rattle.tiff_decode.specs.Machine.{Decoding}
 use Rattle.tiff_decode.specs.Outcome.{tag_iter}
 use Rattle.tiff_decode.specs.Step.{ItemIs, ItemsAre}
 
--- some items of a page were given, and those behind the last tag number are left
+-- the decoder has returned some items of a page, and those after the last tag number are left
 pub record Taken (old now : Decoding) (last : Option ℕ) (made : List (Result (Tag × Value) TiffError)) : Type 0 where
   pub state : now ≡ record old { failures = now.failures }
   pub count : old.failures ≤ now.failures
@@ -23,11 +23,11 @@ pub begun : (d : Decoding) → Taken d d None []
 unfolding tag_iter tag_items
 begun d = record { state = refl; count = omega arith; given = []; is = refl; items = refl }
 
--- an item from a count of failed reads that is the same
+-- an item from an equal count of failed reads
 earlier : (g : Result (Tag × Datum) TiffError) (x : Result (Tag × Value) TiffError) (a b c : ℕ) → b ≡ a → ItemIs g x b c → ItemIs g x a c
 earlier g x a b c e h = (let P : ℕ → Type 0 = λ n. ItemIs g x n c in subst P e h)
 
--- one more item behind the others
+-- one more item after the others
 behind : (gs : List (Result (Tag × Datum) TiffError)) (xs : List (Result (Tag × Value) TiffError)) (g : Result (Tag × Datum) TiffError) (x : Result (Tag × Value) TiffError) (a b c : ℕ)
     → ItemsAre gs xs a b → ItemIs g x b c → ItemsAre (gs ++ g ∷ []) (xs ++ x ∷ []) a c
 behind [] [] g x a b c h i = (c, earlier g x a b c h i, refl)
@@ -35,11 +35,11 @@ behind [] (y ∷ xs) g x a b c h i = absurd h
 behind (f ∷ gs) [] g x a b c h i = absurd h
 behind (f ∷ gs) (y ∷ xs) g x a b c h i = (h.0, h.1, behind gs xs g x h.0 b c h.2 i)
 
--- the decoder's items are those that it had before
+-- the items of the decoder are the same as before
 same_left : (old now : Decoding) → now ≡ record old { failures = now.failures } → (last : Option ℕ) → items_left now last ≡ items_left old last
 same_left old now s last = ap (λ (d : Decoding). items_left d last) s
 
--- one more item is given
+-- the decoder returns one more item
 pub one_more : (old now new : Decoding) (last after : Option ℕ) (made more : List (Result (Tag × Value) TiffError)) (item : Result (Tag × Value) TiffError)
     → Taken old now last made → new ≡ record now { failures = new.failures } → now.failures ≤ new.failures
     → NextItem (items_left now last) (Some item) (items_left now after) now.failures new.failures → more ≡ made ++ item ∷ [] → Taken old new after more
@@ -54,7 +54,7 @@ one_more old now new last after made more item t s l n m = record {
       (behind t.given made n.0 item old.failures now.failures new.failures t.items n.2);
 }
 
--- at the end all items were given
+-- at the end the decoder has returned all items
 pub ended : (old now : Decoding) (last : Option ℕ) (made : List (Result (Tag × Value) TiffError))
     → Taken old now last made → items_left now last ≡ [] → ItemsAre (tag_iter old) made old.failures now.failures
 ended old now last made t e =

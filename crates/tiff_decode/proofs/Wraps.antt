@@ -1,4 +1,4 @@
--- A slice that is lent is made into a buffer: steps of the proof of `as_buffer` by hand.
+-- Steps of the proof of `as_buffer`: making a lent slice into a buffer.
 use mathlib.Core.Path.{◌≡◌, refl, sym}
 use mathlib.Core.List.{List, [], ◌∷◌}
 use Prim.Native.Nat.{ℕ}

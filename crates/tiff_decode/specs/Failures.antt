@@ -1,4 +1,4 @@
--- The fault that a reply tells (this project's).
+-- The error in a reply (this project's).
 use Rattle.std.specs.Prelude.{ℕ, ◌+◌, List, [], ◌∷◌, Option, None, Some, Result, Ok, Err, Vec}
 use Rattle.std.specs.declared.alloc.Global.{Global}
 use Rattle.tiff_base.specs.declared.error.TiffError.{TiffError}
@@ -13,7 +13,7 @@ abbrev pub fault_of : {X : Type 0} → Result X TiffError → Option TiffError
 fault_of (Ok x) = None
 fault_of (Err e) = Some e
 
--- the fault of a reply, if it is one
+-- the error in a reply, if it has one
 abbrev pub fault_in : Reply → Option TiffError
 fault_in reply.SetLimits = None
 fault_in (reply.Dimensions r) = fault_of r
@@ -75,7 +75,7 @@ fault_in (reply.FindEntry r) = None
 fault_in (reply.FindTagBuf r b) = fault_of r
 fault_in (reply.FindTagBytes r b) = fault_of r
 
--- 1 for a fault of the device
+-- 1 for an error of the device, else 0
 abbrev pub device_count : Option TiffError → ℕ
 device_count (Some (IoError Device)) = 1
 device_count fault = 0
@@ -88,7 +88,7 @@ abbrev pub failed_list : Result (Vec (Result (Tag × Value) TiffError) Global) T
 failed_list (Ok v) = failed_items v.items
 failed_list (Err e) = device_count (Some e)
 
--- how many faults of the device a reply tells
+-- the number of errors of the device in a reply
 abbrev pub failures : Reply → ℕ
 failures (reply.TagIter r) = failed_list r
 failures r = device_count (fault_in r)

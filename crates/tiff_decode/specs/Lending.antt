@@ -1,4 +1,4 @@
--- What becomes of a decoding result that lent its samples from one on (as in the Rust crate).
+-- A decoding result after it has lent its samples from an index on (as in the Rust crate).
 use Rattle.std.specs.Prelude.{ℕ, ℤ, List}
 use Rattle.std.specs.Borrow.{MutBor, Fml, RattleType, follows, Array, u8, u16, u32, u64, i8, i16, i32, i64}
 use Rattle.std.specs.Vec.{with_items_from}
@@ -17,7 +17,7 @@ use Rattle.tiff_decode.specs.declared.buffer.DecodingBuffer.{DecodingBuffer}
 use Rattle.tiff_decode.specs.declared.buffer.DecodingBuffer.TheVariants as buffer
 use Rattle.tiff_decode.specs.contracts.result.DecodingResult.{the_row}
 
--- the types of lists, and of floating numbers by their bits, as the logic has them
+-- the logic's types for lists, and for floating-point numbers by their bits
 abbrev pub vec_row : RattleType → RattleType
 vec_row T = vec.the_row T global.the_row ghosts
 
@@ -30,7 +30,7 @@ F32s = bits32.the_row
 abbrev pub F64s : RattleType
 F64s = bits64.the_row
 
--- a result with samples ws written over its own from n on, where it is of their number type
+-- a result with the samples ws in place of its own from n on, where its number type is that of ws
 abbrev pub with_u8 : DecodingResult → ℕ → List ℕ → DecodingResult
 with_u8 (result.U8 v) n ws = result.U8 (with_items_from v n ws)
 with_u8 r n ws = r
@@ -75,7 +75,8 @@ abbrev pub with_i64 : DecodingResult → ℕ → List ℤ → DecodingResult
 with_i64 (result.I64 v) n ws = result.I64 (with_items_from v n ws)
 with_i64 r n ws = r
 
--- Once the borrow ends, the result has the samples before n as they were, and then those that were written last.
+-- After the borrow ends, the result has its former samples before n, followed by those that were
+-- written last.
 abbrev pub lends_rest : MutBor DecodingResult → ℕ → DecodingBuffer → Fml
 lends_rest r n (buffer.U8 s) = follows the_row (Array u8 0) r.ghost_name s.ghost_name (with_u8 r.now n)
 lends_rest r n (buffer.U16 s) = follows the_row (Array u16 0) r.ghost_name s.ghost_name (with_u16 r.now n)

@@ -1,4 +1,4 @@
--- A decoder as a machine (this project's): where it stands, and what a call leaves of it.
+-- A decoder as a state machine (this project's): its state, and the state after a call.
 use Rattle.std.specs.Prelude.{◌≡◌, ℕ, ◌<◌, ◌≤◌, List, Option, Bool, true, false, Result, Ok, Err}
 use Rattle.tiff_base.specs.declared.error.TiffError.{TiffError}
 use Rattle.tiff_base.specs.declared.error.TiffError.TheVariants.{IoError, OutOfMemory}
@@ -13,8 +13,9 @@ use Rattle.tiff_base.specs.SourceAndSink.{SourceRecord}
 use Rattle.tiff_ifd.specs.declared.limits.Limits.{Limits}
 use Rattle.tiff_page.specs.Page.{PageRecord}
 
--- Where a decoder stands: the offset of the directory that was entered last, whether another follows it, the page that was
--- read last with its directory, the offset of the low-level reads, and the limits.
+-- The state of a decoder: the offset of the directory that it entered last, whether another
+-- directory follows it, the last page with its directory, the offset of the low-level reads, and
+-- the limits.
 pub record State : Type 0 where
   pub pointer : Option IfdPointer
   pub more : Bool
@@ -23,8 +24,8 @@ pub record State : Type 0 where
   pub offset : ℕ
   pub limits : Limits
 
--- A decoder: the bytes of its source and the stretches of them that this answers for, the file's kind, byte order and first
--- offset, how many reads failed so far, and where it stands.
+-- A decoder: the bytes of its source and the ranges of them that the source can read, the file's
+-- kind, byte order and first offset, the number of failed reads so far, and the state.
 pub record Decoding : Type 0 where
   pub bytes : List ℕ
   pub readable : Option (List (ℕ × ℕ))
@@ -34,7 +35,7 @@ pub record Decoding : Type 0 where
   pub failures : ℕ
   pub state : State
 
--- a decoder from what it is made of
+-- a decoder from its parts
 abbrev pub decoding : SourceRecord → FileKind → ByteOrder → ℕ → ℕ → Option IfdPointer → Bool → PageRecord → DirectoryRecord → ℕ → Limits → Decoding
 decoding source kind order first failures pointer more page directory offset limits = record {
   bytes = source.bytes;
@@ -46,73 +47,75 @@ decoding source kind order first failures pointer more page directory offset lim
   state = record { pointer = pointer; more = more; page = page; directory = directory; offset = offset; limits = limits };
 }
 
--- what its source tells
+-- the source of a decoder
 abbrev pub source_of : Decoding → SourceRecord
 source_of d = record { bytes = d.bytes; readable = d.readable }
 
--- What a call gives: its answer, and where the decoder stands after it. The answer is never want of memory or a fault of
--- the device.
+-- The result of a call, and the state of the decoder after it. The result is never out of memory or
+-- an error of the device.
 pub record Outcome (Y : Type 0) : Type 0 where
   pub answer : Result Y TiffError
   pub next : State
 
--- an answer that moves nothing
+-- a result that leaves the state unchanged
 abbrev pub stays : {Y : Type 0} → Decoding → Result Y TiffError → Outcome Y
 stays d answer = record { answer = answer; next = d.state }
 
--- The file is the same, no failure is forgotten, and the decoder stands here.
+-- The file is the same, the count of failed reads has not decreased, and the decoder has this
+-- state.
 pub record StandsAt (state : State) (old new : Decoding) : Type 0 where
   pub stands : new ≡ record old { failures = new.failures; state = state }
   pub failures : old.failures ≤ new.failures
 
--- The answer that the file gives, with the state that it leaves; no read failed.
+-- The call returns the result of the outcome and leaves its state; no read fails.
 pub record GivesOutcome {Y : Type 0} (result : Result Y TiffError) (outcome : Outcome Y) (old new : Decoding) : Type 0 where
   pub answer : outcome.answer ≡ result
   pub at : new ≡ record old { state = outcome.next }
 
--- A read failed, and the decoder stands where it stood.
+-- A read fails, and the state of the decoder is unchanged.
 pub record ReadFailed (old new : Decoding) : Type 0 where
   pub grew : old.failures < new.failures
   pub at : StandsAt old.state old new
 
--- the faults that leave a decoder where it stood: want of memory, and a fault of the device
+-- the errors that leave the state of a decoder unchanged: out of memory, and an error of the device
 abbrev pub keeps_state : TiffError → Bool
 keeps_state OutOfMemory = true
 keeps_state (IoError Device) = true
 keeps_state e = false
 
--- what a refused call leaves: want of memory, where that may be, and a fault of the device leave the decoder as it stood
+-- the decoder after an error: out of memory, where the call may allocate, and an error of the
+-- device leave its state unchanged; any other error is the one of the outcome
 abbrev pub Refused : {Y : Type 0} → Type 0 → TiffError → Outcome Y → Decoding → Decoding → Type 0
 Refused wanting OutOfMemory outcome old new = wanting × (new ≡ old)
 Refused wanting (IoError Device) outcome old new = ReadFailed old new
 Refused wanting e outcome old new = GivesOutcome (Err e) outcome old new
 
--- the result of a call that reads the source, seen by view, and the decoder before and after it
+-- the result of a call that reads the source, through a view, and the decoder before and after it
 abbrev pub FollowsBut : {X Y : Type 0} → Type 0 → (X → Y) → Outcome Y → Result X TiffError → Decoding → Decoding → Type 0
 FollowsBut wanting view outcome (Ok x) old new = GivesOutcome (Ok (view x)) outcome old new
 FollowsBut wanting view outcome (Err e) old new = Refused wanting e outcome old new
 
--- of a call that takes memory
+-- a call that reads the source and may run out of memory
 abbrev pub Follows : {X Y : Type 0} → (X → Y) → Outcome Y → Result X TiffError → Decoding → Decoding → Type 0
 Follows view outcome result old new = FollowsBut (Unit {0}) view outcome result old new
 
--- of one that takes none
+-- a call that reads the source and allocates no memory
 abbrev pub FollowsWithoutMemory : {X Y : Type 0} → (X → Y) → Outcome Y → Result X TiffError → Decoding → Decoding → Type 0
 FollowsWithoutMemory view outcome result old new = FollowsBut ⊥ view outcome result old new
 
--- of a call that reads nothing: no read fails
+-- a call that does not read the source, so that no read fails
 abbrev pub FollowsWithoutSourceBut : {X Y : Type 0} → Type 0 → (X → Y) → Outcome Y → Result X TiffError → Decoding → Decoding → Type 0
 FollowsWithoutSourceBut wanting view outcome result old new =
     AnswersBut wanting ⊥ view result outcome.answer × (new ≡ record old { state = outcome.next })
 
--- of one that takes none
+-- a call that does not read the source and allocates no memory
 abbrev pub FollowsWithoutEither : {X Y : Type 0} → (X → Y) → Outcome Y → Result X TiffError → Decoding → Decoding → Type 0
 FollowsWithoutEither view outcome result old new = FollowsWithoutSourceBut ⊥ view outcome result old new
 
--- of one that takes memory for a fault alone that carries a list
+-- a call that does not read the source, and allocates memory only for an error that contains a list
 abbrev pub FollowsOrFaults : {X Y : Type 0} → (X → Y) → Outcome Y → Result X TiffError → Decoding → Decoding → Type 0
 FollowsOrFaults view outcome result old new = FollowsWithoutSourceBut (IsListFault outcome.answer) view outcome result old new
 
--- a call that is never refused and moves nothing
+-- a call that never fails and leaves the state unchanged
 abbrev pub Tells : {Y : Type 0} → Y → Y → Decoding → Decoding → Type 0
 Tells given result old new = (result ≡ given) × (new ≡ old)

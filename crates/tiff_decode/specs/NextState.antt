@@ -1,4 +1,4 @@
--- What a step leaves, but for want of memory and faults of the device (this project's).
+-- The state after a step, except after out of memory and errors of the device (this project's).
 use Rattle.std.specs.Prelude.{◌≡◌, ◌+◌, ◌≤◌, List, [], ◌∷◌, Option, None, Some, Result, Ok, Err, Vec}
 use Rattle.std.specs.declared.alloc.Global.{Global}
 use Rattle.tiff_base.specs.declared.error.TiffError.{TiffError}
@@ -15,18 +15,18 @@ use Rattle.tiff_decode.specs.Machine.{State, Decoding}
 use Rattle.tiff_decode.specs.Promise.{promise, state_after}
 use Rattle.tiff_decode.specs.Failures.{fault_in, failures}
 
--- where each call leaves the decoder
+-- the state after each call
 abbrev pub next_state : Decoding → Call → State
 next_state d which = state_after d (promise d which)
 
--- a fault that is neither want of memory nor of the device
+-- no error, or an error that is neither out of memory nor of the device
 abbrev pub IsNamedFault : Option TiffError → Type 0
 IsNamedFault None = Unit {0}
 IsNamedFault (Some OutOfMemory) = ⊥
 IsNamedFault (Some (IoError Device)) = ⊥
 IsNamedFault (Some e) = Unit {0}
 
--- a result, as plain data
+-- a result as plain data
 abbrev pub view_of_result : {X Y : Type 0} → (X → Y) → Result X TiffError → Result Y TiffError
 view_of_result view (Ok x) = Ok (view x)
 view_of_result view (Err e) = Err e
@@ -34,7 +34,7 @@ view_of_result view (Err e) = Err e
 abbrev pub view_of_item : Result (Tag × Value) TiffError → Result (Tag × Datum) TiffError
 view_of_item item = view_of_result (λ x. (x.0, datum x.1)) item
 
--- none of these items, or of this list, is want of memory or a fault of the device
+-- no item of a list is out of memory or an error of the device
 abbrev pub AreNamed : List (Result (Tag × Value) TiffError) → Type 0
 AreNamed [] = Unit {0}
 AreNamed (Ok x ∷ xs) = AreNamed xs
@@ -44,13 +44,14 @@ abbrev pub IsNamedList : Result (Vec (Result (Tag × Value) TiffError) Global) T
 IsNamedList (Ok v) = AreNamed v.items
 IsNamedList (Err e) = IsNamedFault (Some e)
 
--- a reply that is none of the two escapes, and has none
+-- a reply that is neither out of memory nor an error of the device, and has no such item
 abbrev pub IsNamed : Reply → Type 0
 IsNamed (reply.TagIter r) = IsNamedList r
 IsNamed r = IsNamedFault (fault_in r)
 
--- One step: the file stays, and each fault of the device is a failed read; a named reply leaves the next state, an escape the
--- one before.
+-- One step. The file stays the same, and each error of the device is a failed read. A reply without
+-- out of memory and errors of the device leaves the next state; another reply leaves the former
+-- state.
 pub record LeavesNextState (old : Decoding) (which : Call) (reply : Reply) (new : Decoding) : Type 0 where
   pub file : new ≡ record old { failures = new.failures; state = new.state }
   pub failed : old.failures + failures reply ≤ new.failures

@@ -1,4 +1,5 @@
--- What each call of a decoder gives, and where it leaves the decoder (TIFF 6.0 section 2; as in the Rust crate).
+-- The result of each call of a decoder, and the state after it (TIFF 6.0 section 2; as in the Rust
+-- crate).
 use Rattle.std.specs.Prelude.{ℕ, ℤ, ◌+◌, ◌^◌, List, [], ◌∷◌, ◌++◌, Option, None, Some, IsSome, Bool, false, Result, Ok, Err, IsOk, if◌then◌else◌, ◌==◌, length, drop, is_some, option_map}
 use Rattle.std.specs.Int.{Width, w8, w16, w32, w64, byte_len, cast_signed}
 use Rattle.std.specs.List.{slice_get, last_or}
@@ -45,16 +46,16 @@ use Rattle.tiff_decode.specs.Machine.{State, Decoding, Outcome, stays}
 
 -- ---- entering pages
 
--- there is no such directory
+-- the error where there is no such directory
 abbrev pub not_found : TiffError
 not_found = FormatError ImageFileDirectoryNotFound
 
--- why a chain ends where it does
+-- the error that ends a chain
 abbrev pub end_fault : Option TiffError → TiffError
 end_fault None = not_found
 end_fault (Some e) = e
 
--- the chain of directories from a header on
+-- the chain of directories of a header
 abbrev pub chain_from : Header → List ℕ → Chain
 chain_from header bytes = chain header.kind header.order bytes header.first
 
@@ -65,13 +66,13 @@ chain_of d = chain d.kind d.order d.bytes d.first
 abbrev pub page_in : FileKind → ByteOrder → List ℕ → Limits → DirectoryRecord → Result PageRecord TiffError
 page_in kind order bytes limits directory = page_of (look_in kind order bytes limits directory.entries)
 
--- where the low-level reads begin: behind the header
+-- the offset where the low-level reads begin: after the header
 abbrev pub header_end : FileKind → ℕ
 header_end Classic = 8
 header_end Big = 16
 
--- the header, and the first directory of the chain with its offset; or the first fault: of the header, of the chain where no
--- directory is in it
+-- the header, and the first directory of the chain with its offset; or the first error, of the
+-- header or of a chain without directories
 unfoldable pub first_directory : List ℕ → Result (Header × ℕ × DirectoryRecord) TiffError
 first_directory bytes = do
   header ← header_at bytes
@@ -79,7 +80,8 @@ first_directory bytes = do
   directory ← directory_at header.kind header.order bytes offset
   Ok (header, offset, directory)
 
--- where a decoder begins: at the first directory and its page, behind the header, under the limits by default
+-- the first state of a decoder: at the first directory and its page, with the low-level reads after
+-- the header, and with the default limits
 abbrev pub first_state : FileKind → ℕ → DirectoryRecord → PageRecord → State
 first_state kind offset directory page = record {
   pointer = Some (record { 0 = offset });
@@ -90,7 +92,8 @@ first_state kind offset directory page = record {
   limits = default_limits;
 }
 
--- the decoder of a file all of whose bytes can be read, at its first page, where so many reads failed; or the first fault
+-- the decoder of a file of which all bytes are readable, at its first page, with this count of
+-- failed reads; or the first error
 unfoldable pub decoder_of : List ℕ → ℕ → Result Decoding TiffError
 decoder_of bytes failures = do
   found ← first_directory bytes
@@ -105,7 +108,8 @@ decoder_of bytes failures = do
     state = first_state found.0.kind found.1 found.2 page;
   })
 
--- the page of a directory that was entered, or its fault, which leaves the former page
+-- the state with the page of a directory; or the error of the page, which leaves the state
+-- unchanged
 abbrev pub with_page : State → DirectoryRecord → Result PageRecord TiffError → Outcome (Unit {0})
 with_page s directory (Ok page) = record { answer = Ok tt; next = record s { page = page; directory = directory } }
 with_page s directory (Err e) = record { answer = Err e; next = s }
@@ -116,22 +120,22 @@ entry_outcome d offset (Ok directory) =
     (page_in d.kind d.order d.bytes d.state.limits directory)
 entry_outcome d offset (Err e) = stays d (Err e)
 
--- To enter the directory at an offset of the chain: it is the pointer, openness is whether a next one follows it, and its page
--- is read under the limits.
+-- Enters the directory at an offset of the chain: the pointer becomes the offset, `more` says
+-- whether another directory follows it, and the page is read under the limits.
 unfoldable pub enter : Decoding → ℕ → Outcome (Unit {0})
 enter d offset = entry_outcome d offset (directory_at d.kind d.order d.bytes offset)
 
--- the offset behind this one
+-- the offset after this one in a list
 abbrev pub offset_after : ℕ → List ℕ → Option ℕ
 offset_after offset [] = None
 offset_after offset (p ∷ ps) = if p == offset then slice_get ps 0 else offset_after offset ps
 
--- the next offset of the chain behind a pointer
+-- the offset after a pointer in the chain
 abbrev pub next_offset : Option IfdPointer → List ℕ → Option ℕ
 next_offset None offsets = None
 next_offset (Some pointer) offsets = offset_after pointer.0 offsets
 
--- none is entered: why the chain ends, and that it does
+-- the outcome where no directory can be entered: the error that ends the chain, and `more` is false
 abbrev pub end_outcome : Decoding → Outcome (Unit {0})
 end_outcome d = record { answer = Err (end_fault (chain_of d).end); next = record d.state { more = false } }
 
@@ -139,7 +143,8 @@ abbrev pub next_outcome : Decoding → Option ℕ → Outcome (Unit {0})
 next_outcome d None = end_outcome d
 next_outcome d (Some offset) = enter d offset
 
--- the next page of the chain; at its end its fault, or that there is no such directory
+-- the next page of the chain; at the end of the chain the error that ends it, or
+-- `ImageFileDirectoryNotFound`
 unfoldable pub next_image : Decoding → Outcome (Unit {0})
 next_image d =
     if d.state.more then next_outcome d (next_offset d.state.pointer (chain_of d).offsets) else stays d (Err not_found)
@@ -148,7 +153,8 @@ next_image d =
 abbrev pub last_offset : Decoding → Option IfdPointer
 last_offset d = option_map (λ offset. record { 0 = offset }) (last_or None (chain_of d).offsets)
 
--- past the chain: an open decoder goes to its last directory and tells why it ends, another has no pointer
+-- a seek past the chain: where `more` is true, the decoder goes to the last directory and returns
+-- the error that ends the chain; else it has no pointer
 abbrev pub seek_past_end : Decoding → Outcome (Unit {0})
 seek_past_end d =
     if d.state.more
@@ -159,11 +165,11 @@ abbrev pub seek_outcome : Decoding → Option ℕ → Outcome (Unit {0})
 seek_outcome d None = seek_past_end d
 seek_outcome d (Some offset) = enter d offset
 
--- the page of this number in the chain, from wherever the decoder stands
+-- the page of an index in the chain, from any state
 unfoldable pub seek_to_image : Decoding → ℕ → Outcome (Unit {0})
 seek_to_image d k = seek_outcome d (slice_get (chain_of d).offsets k)
 
--- ---- what a decoder says of itself
+-- ---- what a decoder knows without a read
 
 unfoldable pub set_limits : Decoding → Limits → Outcome (Unit {0})
 set_limits d limits = record { answer = Ok tt; next = record d.state { limits = limits } }
@@ -183,16 +189,18 @@ more_images d = d.state.more
 abbrev pub byte_order : Decoding → ByteOrder
 byte_order d = d.order
 
--- the directory at any offset; pages are untouched
+-- the directory at any offset; the page stays the same
 unfoldable pub read_directory : Decoding → IfdPointer → Outcome DirectoryRecord
 read_directory d pointer = stays d (directory_at d.kind d.order d.bytes pointer.0)
 
--- the page and the tags of a directory take the place of those that the decoder had; a fault leaves all
+-- the page and the tags of a directory replace those of the decoder; an error leaves the state
+-- unchanged
 abbrev pub show_outcome : Decoding → Result DirectoryRecord TiffError → Outcome (Unit {0})
 show_outcome d (Ok directory) = with_page d.state directory (page_in d.kind d.order d.bytes d.state.limits directory)
 show_outcome d (Err e) = stays d (Err e)
 
--- to show the directory at any offset, of the chain or not; where the decoder stands in the chain stays
+-- shows the directory at any offset, inside or outside the chain; the position in the chain stays
+-- the same
 unfoldable pub show_directory : Decoding → IfdPointer → Outcome (Unit {0})
 show_directory d pointer = show_outcome d (directory_at d.kind d.order d.bytes pointer.0)
 
@@ -201,16 +209,16 @@ show_directory d pointer = show_outcome d (directory_at d.kind d.order d.bytes p
 unfoldable pub goto_offset : Decoding → ℕ → Outcome (Unit {0})
 goto_offset d offset = record { answer = Ok tt; next = record d.state { offset = offset } }
 
--- a read of so many bytes: the offset goes behind them, and a refused one leaves it
+-- a read of `len` bytes moves the offset past them; an error leaves the offset unchanged
 abbrev pub read_outcome : {Y : Type 0} → Decoding → ℕ → Result Y TiffError → Outcome Y
 read_outcome d len (Ok y) = record { answer = Ok y; next = record d.state { offset = d.state.offset + len } }
 read_outcome d len (Err e) = stays d (Err e)
 
--- the number at the offset, as this
+-- the number at the offset, through a view
 abbrev pub number_here : {Y : Type 0} → Decoding → Width → (ℕ → Y) → Outcome Y
 number_here d w view = read_outcome d (byte_len w) (number_at d.order w d.bytes d.state.offset >>= λ n. Ok (view n))
 
--- an offset of 4 or 8 bytes
+-- an offset of 4 bytes, or of 8 bytes in BigTIFF
 unfoldable pub read_ifd_offset : Decoding → Outcome ℕ
 read_ifd_offset d = number_here d (offset_width d.kind) (λ n. n)
 
@@ -235,18 +243,18 @@ read_long8 d = number_here d w64 (λ n. n)
 unfoldable pub read_slong8 : Decoding → Outcome ℤ
 read_slong8 d = number_here d w64 (cast_signed w64)
 
--- the bits of a floating number
+-- the bits of a floating-point number
 unfoldable pub read_float : Decoding → Outcome ℕ
 read_float d = number_here d w32 (λ n. n)
 
 unfoldable pub read_double : Decoding → Outcome ℕ
 read_double d = number_here d w64 (λ n. n)
 
--- a text of so many bytes, cut at its first zero, which has to be UTF-8
+-- a text of `len` bytes, which ends before its first zero and has to be UTF-8
 unfoldable pub read_string : Decoding → ℕ → Outcome (List ℕ)
 read_string d len = read_outcome d len (exactly_at d.bytes d.state.offset len >>= placed_text >>= into.into_string)
 
--- the bytes of an offset as they stand; one of 4 bytes is none of BigTIFF
+-- the bytes of a 4-byte offset as they are in the file; BigTIFF has no such offsets
 abbrev pub offset_bytes : FileKind → Decoding → Result (List ℕ) TiffError
 offset_bytes Classic d = exactly_at d.bytes d.state.offset 4
 offset_bytes Big d = Err (FormatError InconsistentSizesEncountered)
@@ -291,7 +299,7 @@ read_image d = stays d (image_of d.bytes d.order d.state.page d.state.limits)
 unfoldable pub read_image_to_buffer : Decoding → Outcome (BufferLayoutPreference × Decoded)
 read_image_to_buffer d = stays d (pixels.read_image_to_buffer d.bytes d.order d.state.page d.state.limits)
 
--- the slice, after the call
+-- the slice after the call
 unfoldable pub read_image_bytes : Decoding → List ℕ → Outcome (List ℕ)
 read_image_bytes d buf = stays d (pixels.read_image_bytes d.bytes d.order d.state.page d.state.limits buf)
 
@@ -317,12 +325,12 @@ page_fields d = d.state.directory.entries
 abbrev pub page_tags : Decoding → Look
 page_tags d = look_in d.kind d.order d.bytes d.state.limits (page_fields d)
 
--- the value of a tag, if there is the tag
+-- the value of a tag, if the directory has the tag
 unfoldable pub find_tag : Decoding → Tag → Outcome (Option Datum)
 find_tag d tag = stays d ((page_tags d).value tag)
 
--- Memory may be wanted for a tag's value, and for what it is converted to: where the tag is found within the limits and the
--- source.
+-- Whether the call may run out of memory for a tag's value and its conversion: only where it finds
+-- the tag within the limits and the source.
 abbrev pub WantsTag : Decoding → Tag → Type 0
 WantsTag d tag = IsFoundWithin ((page_tags d).value tag)
 
@@ -333,7 +341,7 @@ find_tag_unsigned d tag = stays d (find_unsigned (2 ^ 64) (page_tags d) tag)
 unfoldable pub find_tag_unsigned_vec : Decoding → Tag → Outcome (Option (List ℕ))
 find_tag_unsigned_vec d tag = stays d (find_unsigned_vec (2 ^ 64) (page_tags d) tag)
 
--- a required tag's value by a conversion
+-- the converted value of a required tag
 abbrev pub required_value : {Y : Type 0} → Decoding → (Datum → Result Y TiffError) → Tag → Outcome Y
 required_value d into tag = stays d (require into (page_tags d) tag)
 
@@ -376,37 +384,38 @@ get_tag_u8_vec d tag = required_value d into.into_u8_vec tag
 unfoldable pub get_tag_ascii_string : Decoding → Tag → Outcome (List ℕ)
 get_tag_ascii_string d tag = required_value d into.into_string tag
 
--- each tag with its value or its fault, in ascending number
+-- each tag with its value, or the error of the value, by ascending tag number
 unfoldable pub tag_iter : Decoding → List (Result (Tag × Datum) TiffError)
 tag_iter d = tag_items d.kind d.order d.bytes d.state.limits (page_fields d)
 
 abbrev pub find_entry : Decoding → Tag → Option Field
 find_entry d tag = get (page_fields d) (tag_number tag)
 
--- ---- values as they stand
+-- ---- raw bytes of values
 
--- a field with its bytes, where there is one; the buffer stays where there is none
+-- a field with its bytes, if there is a field; else the buffer stays the same
 abbrev pub field_in_buffer : Decoding → BufferRecord → Option Field → Result (Option Field × BufferRecord) TiffError
 field_in_buffer d buf None = Ok (None, buf)
 field_in_buffer d buf (Some f) = do
   found ← buffer_of d.kind d.order d.bytes d.state.limits f
   Ok (Some f, found)
 
--- a tag's field, and the buffer after the call
+-- the field of a tag, and the buffer after the call
 unfoldable pub find_tag_buf : Decoding → Tag → BufferRecord → Outcome (Option Field × BufferRecord)
 find_tag_buf d tag buf = stays d (field_in_buffer d buf (find_entry d tag))
 
--- memory may be wanted for a field's bytes where there is the field, and they are given
+-- whether the call may run out of memory for the bytes of a field: only where there is a field and
+-- the call succeeds
 abbrev pub WantsBytes : Decoding → Tag → BufferRecord → Type 0
 WantsBytes d tag buf = IsSome (find_entry d tag) × IsOk (find_tag_buf d tag buf).answer
 
--- the bytes of a field from one on, as many as fit
+-- the bytes of a field from an index on, as many as fit
 abbrev pub bytes_in_slice : Decoding → List ℕ → ℕ → Option Field → Result (Option ℕ × List ℕ) TiffError
 bytes_in_slice d buf at None = Ok (None, buf)
 bytes_in_slice d buf at (Some f) = do
   found ← part_of_field d.kind d.order d.bytes f (length buf) at
   Ok (Some (length found), found ++ drop (length found) buf)
 
--- how many bytes of a tag's value were copied, and the slice after the call
+-- the number of copied bytes of a tag's value, and the slice after the call
 unfoldable pub find_tag_bytes : Decoding → Tag → List ℕ → ℕ → Outcome (Option ℕ × List ℕ)
 find_tag_bytes d tag buf at = stays d (bytes_in_slice d buf at (find_entry d tag))

@@ -1,4 +1,5 @@
--- What each call of a decoder gives, and what may come in its place (this project's).
+-- The result that each call of a decoder promises, and the errors that may replace it (this
+-- project's).
 use Rattle.std.specs.Prelude.{◌≡◌, true, Result, Ok, replicate}
 use Rattle.tiff_base.specs.declared.error.TiffError.{TiffError}
 use Rattle.tiff_base.specs.declared.tags.«Type».TheVariants.{BYTE}
@@ -10,19 +11,22 @@ use Rattle.tiff_decode.specs.declared.script.Call.TheVariants as call
 use Rattle.tiff_decode.specs.Machine.{State, Decoding, Outcome, stays}
 use Rattle.tiff_decode.specs.Outcome as outcome
 
--- What a call gives, as plain data of type Y, and what may come in its place.
+-- The result that a call promises, as plain data of type Y, and the errors that may replace it.
 pub data Promise : Type 1 where
-  -- it reads the source, so a read may fail; and where this holds, it may want memory
+  -- the call reads the source, so a read may fail; it may run out of memory only where this
+  -- condition holds
   reads : {Y : Type 0} → Type 0 → Outcome Y → Promise
-  -- it reads nothing and takes no memory
+  -- the call reads nothing and allocates no memory
   knows : {Y : Type 0} → Outcome Y → Promise
-  -- it reads nothing and moves nothing; where this holds, it may want memory
+  -- the call reads nothing and leaves the state unchanged; it may run out of memory only where this
+  -- condition holds
   describes : {Y : Type 0} → Type 0 → Result Y TiffError → Promise
-  -- it reads tags, which moves nothing; a read may fail, and where this holds, it may want memory
+  -- the call reads tags and leaves the state unchanged; a read may fail, and the call may run out
+  -- of memory only where this condition holds
   reads_tags : {Y : Type 0} → Type 0 → Outcome Y → Promise
-  -- it is never refused and moves nothing
+  -- the call never fails and leaves the state unchanged
   tells : {Y : Type 0} → Y → Promise
-  -- it is never refused, and the decoder stands here after it
+  -- the call never fails, and leaves this state
   sets : State → Promise
 
 -- the type of the plain data
@@ -34,7 +38,7 @@ AnswerOf (reads_tags {Y} wanting o) = Y
 AnswerOf (tells {Y} y) = Y
 AnswerOf (sets s) = Unit {0}
 
--- where the decoder stands after it
+-- the state after a call with this promise
 abbrev pub state_after : Decoding → Promise → State
 state_after d (reads wanting o) = o.next
 state_after d (knows o) = o.next
@@ -43,7 +47,7 @@ state_after d (reads_tags wanting o) = d.state
 state_after d (tells y) = d.state
 state_after d (sets s) = s
 
--- Each call's promise. The items of tags may fail one by one besides.
+-- The promise of each call. Each item of a list of tags may also fail by itself.
 abbrev pub promise : Decoding → Call → Promise
 promise d (call.SetLimits limits) = sets (outcome.set_limits d limits).next
 promise d call.Dimensions = knows (outcome.dimensions d)

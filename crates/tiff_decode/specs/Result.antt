@@ -26,7 +26,7 @@ decoded_as (result.I16 v) = record { sample_type = type.I16; numbers = map (cast
 decoded_as (result.I32 v) = record { sample_type = type.I32; numbers = map (cast_unsigned w32) v.items }
 decoded_as (result.I64 v) = record { sample_type = type.I64; numbers = map (cast_unsigned w64) v.items }
 
--- a buffer in the same way
+-- a buffer as its number type and the bits of its numbers
 abbrev pub buffered_as : DecodingBuffer → Decoded
 buffered_as (buffer.U8 s) = record { sample_type = type.U8; numbers = s.now }
 buffered_as (buffer.U16 s) = record { sample_type = type.U16; numbers = s.now }
@@ -44,10 +44,10 @@ buffered_as (buffer.I64 s) = record { sample_type = type.I64; numbers = map (cas
 abbrev pub bytes_of : Decoded → List ℕ
 bytes_of samples = flat_map (le (size_of samples.sample_type)) samples.numbers
 
--- bytes with as many zeros behind them as fill up the last number of this size
+-- the bytes, followed by as many zeros as complete the last number of this size
 abbrev pub whole_numbers : ℕ → List ℕ → List ℕ
 whole_numbers size bytes = bytes ++ replicate ((size - length bytes % size) % size) 0
 
--- the numbers that bytes hold have those bytes, and the zeros
+-- the bytes of the numbers that are decoded from bytes are these bytes, completed with zeros
 abbrev pub BytesAgain : Type 0
 BytesAgain = (t : DecodingSampleType) (bytes : List ℕ) → AreOctets bytes → bytes_of (decoded_samples t bytes) ≡ whole_numbers (size_of t) bytes

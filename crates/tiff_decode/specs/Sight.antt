@@ -1,4 +1,4 @@
--- What a reply shows of its call, as plain data (this project's).
+-- The plain data that a reply shows of its call (this project's).
 use Rattle.std.specs.Prelude.{ℕ, List, Result, Ok, Vec, map, option_map, string_bytes}
 use Rattle.std.specs.declared.alloc.Global.{Global}
 use Rattle.tiff_base.specs.declared.error.TiffError.{TiffError}
@@ -14,7 +14,7 @@ use Rattle.tiff_decode.specs.NextState.{view_of_item}
 use Rattle.tiff_decode.specs.Promise.{AnswerOf, promise}
 use Rattle.tiff_decode.specs.Result.{decoded_as}
 
--- ---- what replies hold, as plain data
+-- ---- the contents of replies as plain data
 
 abbrev pub items_of : {X : Type 0} → Vec X Global → List X
 items_of v = v.items
@@ -27,12 +27,12 @@ bits_64 b = b.0
 
 -- ---- the table
 
--- A result with the view by which it is plain data of type Y; or none.
+-- A result with the view that makes it plain data of type Y; or nothing.
 pub data Sight (Y : Type 0) : Type 1 where
   sees : {X : Type 0} → (X → Y) → Result X TiffError → Sight Y
   sees_nothing : Sight Y
 
--- Of each call, what a reply shows. A reply of another call's name shows nothing.
+-- The data that a reply shows of a call. A reply with the name of another call shows nothing.
 abbrev pub sight : (d : Decoding) (which : Call) → Reply → Sight (AnswerOf (promise d which))
 sight d (call.SetLimits limits) reply.SetLimits = sees (λ x. x) (Ok tt)
 sight d call.Dimensions (reply.Dimensions r) = sees (λ x. x) r

@@ -25,26 +25,27 @@ use Rattle.tiff_decode.specs.Sight.{Sight, sees, sight}
 
 -- ---- the items of a page's tags
 
--- an item that is given, or want of memory or a failed read of its own
+-- an item, or out of memory or a failed read in its place
 abbrev pub ItemIs : Result (Tag × Datum) TiffError → Result (Tag × Value) TiffError → ℕ → ℕ → Type 0
 ItemIs given (Ok x) before after = (given ≡ Ok (x.0, datum x.1)) × (after ≡ before)
 ItemIs given (Err OutOfMemory) before after = after ≡ before
 ItemIs given (Err (IoError Device)) before after = before < after
 ItemIs given (Err e) before after = (given ≡ Err e) × (after ≡ before)
 
--- each item in turn
+-- each item of a list in order
 abbrev pub ItemsAre : List (Result (Tag × Datum) TiffError) → List (Result (Tag × Value) TiffError) → ℕ → ℕ → Type 0
 ItemsAre [] [] before after = after ≡ before
 ItemsAre [] (x ∷ xs) before after = ⊥
 ItemsAre (g ∷ gs) [] before after = ⊥
 ItemsAre (g ∷ gs) (x ∷ xs) before after = (between : ℕ) × ItemIs g x before between × ItemsAre gs xs between after
 
--- all items, or want of memory for their list
+-- all items, or out of memory for their list
 abbrev pub Items : List (Result (Tag × Datum) TiffError) → Result (Vec (Result (Tag × Value) TiffError) Global) TiffError → Decoding → Decoding → Type 0
 Items given (Ok v) old new = StandsAt old.state old new × ItemsAre given v.items old.failures new.failures
 Items given (Err e) old new = (e ≡ OutOfMemory) × StandsAt old.state old new
 
--- the buffer that a refused read of a tag's values leaves, for want of memory too; where there is no such tag it stays
+-- the buffer after a failed read of a tag's values, also after out of memory; without such a tag
+-- the buffer stays the same
 abbrev pub BufferLeft : ByteOrder → Option Field → BufferRecord → Result (Option Field) TiffError → BufferRecord → Type 0
 BufferLeft order None held r b = b ≡ held
 BufferLeft order (Some f) held (Ok x) b = Unit {0}
@@ -52,7 +53,8 @@ BufferLeft order (Some f) held (Err e) b = b ≡ refused_buffer order f held e
 
 -- ---- the step
 
--- The promise is kept: what is seen is what it gives, or want of memory or a failed read where these may be.
+-- A call keeps its promise: the reply shows the promised result, or out of memory or a failed read
+-- where these are allowed.
 abbrev pub Fulfils : (p : Promise) → Sight (AnswerOf p) → Decoding → Decoding → Type 0
 Fulfils (reads wanting o) (sees view r) old new = FollowsBut wanting view o r old new
 Fulfils (knows o) (sees view r) old new = FollowsWithoutEither view o r old new
@@ -62,8 +64,9 @@ Fulfils (tells y) (sees view (Ok x)) old new = Tells y (view x) old new
 Fulfils (sets s) (sees view (Ok x)) old new = new ≡ record old { state = s }
 Fulfils p s old new = ⊥
 
--- Each call with its reply keeps its promise. The items of tags do so one by one, and a buffer has to be left as it is said
--- above. A reply of another call's name is none.
+-- Each call and its reply keep the promise of the call. The items of tags keep it one by one, and
+-- `find_tag_buf` leaves the buffer as `BufferLeft` says. A reply with the name of another call is
+-- not allowed.
 abbrev pub Step : Decoding → Call → Reply → Decoding → Type 0
 Step old call.TagIter (reply.TagIter r) new = Items (outcome.tag_iter old) r old new
 Step old (call.FindTagBuf tag) (reply.FindTagBuf r b) new =

@@ -1,4 +1,4 @@
-//! Samples that are written in place.
+//! Buffers for samples that a caller writes in place.
 
 ghost use Rattle.std.specs.Prelude.{◌≡◌, ◌*◌, length, map, Ok};
 ghost use Rattle.std.specs.List.{flat_map};
@@ -12,7 +12,7 @@ use tiff_base::error::TiffResult;
 use tiff_base::tags::{Bits16, Bits32, Bits64};
 use tiff_page::numbers::Number;
 
-/// Samples that can be written in place, by their number type.
+/// Samples that a caller writes in place, by their number type.
 #[derive(Drop)]
 pub enum DecodingBuffer<'a> {
     U8(&'a mut [u8]),
@@ -28,7 +28,7 @@ pub enum DecodingBuffer<'a> {
     I64(&'a mut [i64]),
 }
 
-// The bytes of samples, the lowest of each first.
+// The bytes of samples, in little-endian order.
 #[tactic(auto, using(crate::proofs::SampleBytes::lowest_bytes))]
 fn bytes_of<T: Number<N>, const N: usize>(alloc: Global, samples: &[T]) -> TiffResult<Vec<u8>>
     ensures { AnswersWithoutSource (λ v. v.items) result (Ok (flat_map (le N) (map T.bits samples.now))) }
@@ -41,7 +41,7 @@ fn bytes_of<T: Number<N>, const N: usize>(alloc: Global, samples: &[T]) -> TiffR
 }
 
 impl DecodingBuffer<'_> {
-    /// How many bytes its samples have.
+    /// The number of bytes of the samples.
     pub fn byte_len(&self) -> usize
         ensures { result ≡ length (buffered_as self.now).numbers * size_of (buffered_as self.now).sample_type }
     {
@@ -60,7 +60,7 @@ impl DecodingBuffer<'_> {
         }
     }
 
-    /// A copy of its samples as bytes, the lowest of each first.
+    /// A copy of the samples as bytes, in little-endian order.
     pub fn as_bytes(&self, alloc: Global) -> TiffResult<Vec<u8>>
         ensures { AnswersWithoutSource (λ v. v.items) result (Ok (bytes_of (buffered_as self.now))) }
     {

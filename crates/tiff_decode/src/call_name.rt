@@ -5,7 +5,8 @@ use std::fmt;
 use std::fmt::{Debug, Formatter, Write};
 
 impl Call {
-    /// The name of the decoder's method that is called, or of that of its page's tags.
+    /// The name of the method of `Decoder`, or of the method on the tags of its page, that the call
+    /// calls.
     pub fn name(&self) -> &'static str {
         match self {
             Call::SetLimits(_) => "set_limits",
@@ -71,7 +72,7 @@ impl Call {
     }
 }
 
-/// The name of the call, without what it is given.
+/// Writes the name of the call without its arguments.
 impl Debug for Call {
     fn fmt<W: Write>(&self, f: &mut Formatter<W>) -> fmt::Result {
         f.write_str(self.name())

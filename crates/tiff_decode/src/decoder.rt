@@ -1,4 +1,4 @@
-//! Files are read.
+//! Reads TIFF files.
 
 ghost use Rattle.std.specs.Prelude.{◌≡◌, ◌<◌, ◌≤◌, ◌+◌, ◌++◌, ℕ, List, [], ◌∷◌, IfOk, IfErr, IfSome, IfNone, OnOk, OnErr, None, Some, Ok, true, false, if◌then◌else◌, is_some, option_map, length, Option, Bool};
 ghost use Rattle.std.specs.List.{last_or, slice_get};
@@ -34,7 +34,7 @@ use tiff_page::layout::color_of as page_color;
 use tiff_page::page::Page;
 use tiff_page::read_page::read_page;
 
-// Where the low-level reads begin: behind the header.
+// The offset where the low-level reads begin: after the header.
 fn header_end(kind: FileKind) -> u64
     ensures { result ≡ outcome.header_end kind }
 {
@@ -44,14 +44,14 @@ fn header_end(kind: FileKind) -> u64
     }
 }
 
-// Whether a directory links to another.
+// Whether a directory links to another one.
 pub(crate) fn links_on(directory: &Directory) -> bool
     ensures { result ≡ is_some directory.now.next }
 {
     directory.next().is_some()
 }
 
-// Whether a fault leaves the decoder where it stood.
+// Whether an error leaves the decoder unchanged.
 fn keeps_state(fault: &TiffError) -> bool
     ensures { result ≡ keeps_state fault.now }
 {
@@ -61,7 +61,8 @@ fn keeps_state(fault: &TiffError) -> bool
     )
 }
 
-// The header and the first directory, which begins the walk along the chain.
+// Reads the header and the first directory. The returned walk along the chain has entered that
+// directory.
 #[tactic(auto, using(crate::proofs::Opening::headless))]
 fn read_first_directory<R: Source>(
     alloc: Global,
@@ -82,7 +83,8 @@ fn read_first_directory<R: Source>(
     }
 }
 
-// The directory that a decoder entered last: its offset, how many of the chain are before it, and whether another follows it.
+// The position of a decoder in the chain: the offset of the directory that it entered last, the
+// number of directories before it, and whether another directory follows it.
 #[derive(Drop)]
 pub(crate) struct Standing {
     pointer: Option<IfdPointer>,
@@ -101,7 +103,7 @@ fn pointer_to(offset: Option<u64>) -> Option<IfdPointer>
 }
 
 impl Standing {
-    // At a directory that was read.
+    // The position at a directory that was read.
     fn at_directory(at: usize, offset: u64, directory: &Directory) -> Self
         ensures { result ≡ record { pointer = Some (record { 0 = offset }); at = at; more = is_some directory.now.next } }
     {
@@ -112,7 +114,8 @@ impl Standing {
         }
     }
 
-    // Past the chain, whose offsets are all entered: at its last offset, or nowhere where the decoder wasn't open.
+    // The position past the end of the chain, of which all offsets are entered. It is at the last
+    // offset where another directory followed the decoder's position before, else at no offset.
     #[tactic(auto, using(crate::proofs::ChainPosition::last_pointed, crate::proofs::ChainPosition::stands_last))]
     fn past(walk: &Walk, was_open: bool) -> Self
         ensures pointer { result.pointer ≡ (if was_open then option_map (λ offset. record { 0 = offset })
@@ -134,7 +137,7 @@ impl Standing {
         };
     }
 
-    // The number of the directory behind that of an open decoder.
+    // The index of the directory that follows the position, where one follows it.
     #[tactic(auto, using(crate::proofs::ChainPosition::within))]
     fn following(&self, walk: &Walk) -> usize
         requires stands { IsAt walk.now.offsets self.now.pointer self.now.at self.now.more }
@@ -147,7 +150,8 @@ impl Standing {
     }
 }
 
-// The page of a directory that takes the place of the former one; that stays where its page has a fault.
+// Makes a directory the decoder's directory and reads its page. Where the page has an error, the
+// former directory stays.
 fn replace_directory<R: Source>(
     alloc: Global,
     tags: &mut ValueReader<R>,
@@ -173,9 +177,9 @@ fn replace_directory<R: Source>(
     }
 }
 
-// Enters a directory that was read, the one of this number and offset of the chain: the decoder stands at it, and its page is
-// read. The page that it had stays where the new one has a fault, and so does all of it after want of memory or a fault of the
-// device.
+// Enters a directory that was read, of this index and offset in the chain: moves the decoder to it
+// and reads its page. Where the page has an error, the decoder keeps its former page. After out of
+// memory and after an error of the device the decoder is unchanged.
 fn enter_directory<R: Source>(
     alloc: Global,
     tags: &mut ValueReader<R>,
@@ -216,7 +220,7 @@ fn enter_directory<R: Source>(
     }
 }
 
-// Reads the directory of this number and offset of the chain, and enters it.
+// Reads the directory of this index and offset in the chain, and enters it.
 #[tactic(auto, unfolding(crate::specs::Outcome::enter))]
 fn enter_offset<R: Source>(
     alloc: Global,
@@ -245,7 +249,8 @@ fn enter_offset<R: Source>(
     enter_directory(alloc, tags, page, standing, at, offset, directory)
 }
 
-// Shows a directory that was read: its page and its fields take the place of the former ones, which stay where its page has a fault.
+// Shows a directory that was read: its page and its fields replace the former ones. Where the page
+// has an error, the former ones stay.
 fn show_read<R: Source>(
     alloc: Global,
     tags: &mut ValueReader<R>,
@@ -273,7 +278,7 @@ fn show_read<R: Source>(
     }
 }
 
-// Reads the directory at an offset, and shows it.
+// Reads the directory at an offset and shows it.
 #[tactic(auto, unfolding(crate::specs::Outcome::show_directory))]
 fn show_offset<R: Source>(
     alloc: Global,
@@ -298,7 +303,7 @@ fn show_offset<R: Source>(
     show_read(alloc, tags, page, directory)
 }
 
-// Enters the next offset of a walk: its directory, and the offset.
+// Enters the next offset of a walk. Returns the offset and its directory.
 fn enter_behind<R: Source>(
     alloc: Global,
     walk: &mut Walk,
@@ -370,7 +375,7 @@ impl<R: Source> Model for Decoder<R> {
     ghost invariant = { λ d. IsInChain d.tags.kind d.tags.order (R.told d.tags.source).bytes d.first d.walk d.standing.pointer d.standing.at d.standing.more };
 }
 
-/// What is known of the file and the page without a read of it.
+/// Shows what the decoder knows of the file and the page. Does not read the source.
 impl<R: Source> fmt::Debug for Decoder<R> {
     fn fmt<W: fmt::Write>(&self, f: &mut fmt::Formatter<W>) -> fmt::Result {
         f.debug_struct("Decoder")
@@ -385,8 +390,8 @@ impl<R: Source> fmt::Debug for Decoder<R> {
 }
 
 impl<R: Source> Decoder<R> {
-    /// Opens a file at its first page, under the limits by default. The first fault of the header, the directory or the
-    /// page is answered.
+    /// Opens a file at its first page, with the default limits. Returns the first error of the
+    /// header, the directory or the page.
     pub fn new(alloc: Global, source: R) -> TiffResult<Self>
         ensures answer { AnswersBut (Unit {0}) (FailsFrom R.told R.failures source)
             (λ (d : Decoding). record d { readable = None; failures = R.failures source }) result
@@ -423,7 +428,8 @@ impl<R: Source> Decoder<R> {
 }
 
 impl<R: Source> Decoder<R> {
-    /// The decoder under these limits, which hold for the calls to come; the page is kept as it was read.
+    /// Returns the decoder with these limits, which apply to later calls. The page stays as it was
+    /// read.
     #[tactic(auto, unfolding(crate::specs::Outcome::set_limits))]
     pub fn with_limits(self, limits: Limits) -> Self
         ensures { result ≡ record self { state = (outcome.set_limits self limits).next } }
@@ -433,7 +439,7 @@ impl<R: Source> Decoder<R> {
         decoder
     }
 
-    /// Sets the limits of the calls to come; the page is kept as it was read.
+    /// Sets the limits of later calls. The page stays as it was read.
     #[tactic(auto, unfolding(crate::specs::Outcome::set_limits))]
     pub fn set_limits(&mut self, limits: Limits)
         ensures { self.new ≡ record self.old { state = (outcome.set_limits self.old limits).next } }
@@ -441,7 +447,7 @@ impl<R: Source> Decoder<R> {
         self.tags.limits = limits;
     }
 
-    /// The width and the height of the page.
+    /// The width and the height of the page, in pixels.
     #[tactic(auto, unfolding(crate::specs::Outcome::dimensions))]
     pub fn dimensions(&mut self) -> TiffResult<(u32, u32)>
         ensures { FollowsWithoutEither (λ s. s) (outcome.dimensions self.old) result self.old self.new }
@@ -449,30 +455,32 @@ impl<R: Source> Decoder<R> {
         Ok((self.page.width, self.page.height))
     }
 
-    /// The color of the page. One that has no color: `InterpretationWithBits`.
+    /// The color type of the page. Returns `InterpretationWithBits` for a page that has none.
     #[tactic(auto, unfolding(crate::specs::Outcome::colortype))]
     pub fn colortype(&mut self) -> TiffResult<ColorType>
-        // No memory is taken where there is a color.
+        // The call allocates memory only for an error.
         ensures { FollowsOrFaults (λ c. c) (outcome.colortype self.old) result self.old self.new }
     {
         page_color(&self.page, self.alloc)
     }
 
-    /// The offset of the directory that was entered last; none after a seek past the chain by a decoder that wasn't open.
+    /// The offset of the directory that the decoder entered last. Returns `None` after a seek past
+    /// the end of the chain with `more_images` false.
     pub fn ifd_pointer(&mut self) -> Option<IfdPointer>
         ensures { Tells (outcome.ifd_pointer self.old) result self.old self.new }
     {
         self.standing.pointer
     }
 
-    /// Whether another directory follows that which was entered last.
+    /// Whether another directory follows the directory that the decoder entered last.
     pub fn more_images(&self) -> bool
         ensures { result ≡ self.now.state.more }
     {
         self.standing.more
     }
 
-    /// Tells a contract that each decoder stands in a chain of at least one directory, and does nothing.
+    /// States in its contract that the chain of each decoder has at least one directory. Does
+    /// nothing.
     #[tactic(auto, using(crate::proofs::ChainPosition::some_offsets))]
     pub fn has_pages(&self)
         ensures { 0 < length (outcome.chain_of self.now).offsets }
@@ -480,7 +488,7 @@ impl<R: Source> Decoder<R> {
         let _walk = &self.walk;
     }
 
-    /// The allocator that the decoder was given.
+    /// The allocator that the caller passed to the decoder.
     pub fn allocator(&self) -> Global {
         self.alloc
     }
@@ -501,10 +509,12 @@ impl<R: Source> Decoder<R> {
         &self.tags.source
     }
 
-    /// Enters the next directory of the file's chain and reads its page. `ImageFileDirectoryNotFound` where `more_images` is
-    /// false. Where the next directory is cut or its link leads back into the chain, that fault, and `more_images` is false
-    /// from then on; the rest stays. Where its page has a fault, that fault; the decoder is at the new directory and keeps
-    /// the page that it had. After `OutOfMemory` and `IoError(Device)` all is as it was; memory is taken only where
+    /// Enters the next directory of the file's chain and reads its page. Returns
+    /// `ImageFileDirectoryNotFound` where `more_images` is false. Where the source ends inside the
+    /// next directory, or its link leads back into the chain, returns that error; then
+    /// `more_images` is false and the rest is unchanged. Where the page has an error, returns that
+    /// error; then the decoder is at the next directory and keeps its former page. After
+    /// `OutOfMemory` and `IoError(Device)` the decoder is unchanged. Allocates memory only where
     /// `more_images` is true.
     #[tactic(auto, unfolding(crate::specs::Outcome::next_image))]
     pub fn next_image(&mut self) -> TiffResult<()>
@@ -541,12 +551,14 @@ impl<R: Source> Decoder<R> {
         }
     }
 
-    /// Enters the directory of this number, from 0, in the file's chain, wherever the decoder is, and reads its page; the
-    /// pages before it aren't read. Where the chain is shorter: of a decoder whose `more_images` is true the fault that ends
-    /// the chain, or `ImageFileDirectoryNotFound`, and it is at the chain's last directory; of another one
-    /// `ImageFileDirectoryNotFound`, and its `ifd_pointer` is `None`; `more_images` is false then. Where the page has a fault,
-    /// that fault; the decoder is at that directory and keeps the page that it had. After `OutOfMemory` and
-    /// `IoError(Device)` all is as it was.
+    /// Enters the directory of this index, from 0, in the file's chain, from any position, and
+    /// reads its page. Does not read the pages before it. Where the chain is shorter and
+    /// `more_images` is true, returns the error that ends the chain, or
+    /// `ImageFileDirectoryNotFound`, and the decoder is at the last directory of the chain. Where
+    /// the chain is shorter and `more_images` is false, returns `ImageFileDirectoryNotFound`, and
+    /// `ifd_pointer` is `None`. In both cases `more_images` is false afterwards. Where the page has
+    /// an error, returns that error; then the decoder is at the directory of the index and keeps
+    /// its former page. After `OutOfMemory` and `IoError(Device)` the decoder is unchanged.
     #[tactic(auto, unfolding(crate::specs::Outcome::seek_to_image))]
     pub fn seek_to_image(&mut self, ifd_index: usize) -> TiffResult<()>
         ensures follows { Follows (λ x. x) (outcome.seek_to_image self.old ifd_index) result self.old self.new }
@@ -577,8 +589,8 @@ impl<R: Source> Decoder<R> {
         }
     }
 
-    /// The directory at any offset, as it stands there; the page and the pointer are untouched. Too few bytes:
-    /// `IoError(UnexpectedEof)`.
+    /// Reads the directory at any offset, as it is in the file. The page and the pointer stay the
+    /// same. Returns `IoError(UnexpectedEof)` where the source has too few bytes.
     #[tactic(auto, unfolding(crate::specs::Outcome::read_directory))]
     pub fn read_directory(&mut self, pointer: IfdPointer) -> TiffResult<Directory>
         ensures follows { Follows (λ d. d) (outcome.read_directory self.old pointer) result self.old self.new }
@@ -588,9 +600,11 @@ impl<R: Source> Decoder<R> {
         read_directory(self.alloc, &mut self.tags.source, pointer.0, kind, order)
     }
 
-    /// Shows the directory at any offset, of the chain or not, as a SubIFD or a preview (this project's): the calls to come answer its
-    /// page, its tags and its pixels. Where the decoder stands in the chain stays, so that `next_image` goes on from there. Too few
-    /// bytes: `IoError(UnexpectedEof)`; then the first fault of its page. After an error all is as it was.
+    /// Shows the directory at any offset, inside or outside the chain, for example a SubIFD or a
+    /// preview (this project's). Later calls use its page, its tags and its pixels. The position in
+    /// the chain stays the same, and `next_image` continues from there. Returns
+    /// `IoError(UnexpectedEof)` where the source has too few bytes, else the first error of the
+    /// page. After an error the decoder is unchanged.
     #[tactic(auto, unfolding(crate::specs::Outcome::show_directory))]
     pub fn show_directory(&mut self, pointer: IfdPointer) -> TiffResult<()>
         ensures follows { Follows (λ x. x) (outcome.show_directory self.old pointer) result self.old self.new }

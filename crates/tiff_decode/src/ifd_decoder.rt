@@ -1,4 +1,4 @@
-//! The tags of a decoder's page, and of other directories.
+//! Reads the tags of a decoder's page, and of other directories.
 
 ghost use Rattle.std.specs.Prelude.{◌≡◌, ◌<◌, ◌≤◌, ◌^◌, None, Some, Ok, map, option_map, string_bytes};
 ghost use Rattle.tiff_base.specs.Answers.{AnswersWithoutMemory, NoneSwallowed};
@@ -21,7 +21,7 @@ use tiff_ifd::read_value::find_value;
 use tiff_ifd::value::Value;
 use tiff_value::buffer::ValueBuffer;
 
-/// Reads the tags of a directory: of a decoder's page, or of another one of its file.
+/// Reads the tags of a directory: of a decoder's page, or of another directory of its file.
 pub struct IfdDecoder<'a, R: Source> {
     alloc: Global,
     pub(crate) decoder: &'a mut Decoder<R>,
@@ -29,7 +29,7 @@ pub struct IfdDecoder<'a, R: Source> {
 }
 
 impl<R: Source> Drop for IfdDecoder<'_, R> {
-    // The decoder stands as the last call left it.
+    // Leaves the decoder as the last call left it.
     fn drop(self)
         ensures { self.exit.1.0.now ≡ self.entry.decoder.now }
     {
@@ -41,7 +41,7 @@ impl<R: Source> Drop for IfdDecoder<'_, R> {
     }
 }
 
-// The other directory, or else this one.
+// The other directory if there is one, else this one.
 pub(crate) fn chosen<'x>(own: &'x Directory, other: Option<&'x Directory>) -> &'x Directory
     ensures { result.now ≡ directory_or own.now (option_map (λ d. d.now) other.entry) }
 {
@@ -51,7 +51,7 @@ pub(crate) fn chosen<'x>(own: &'x Directory, other: Option<&'x Directory>) -> &'
     }
 }
 
-// A number as a type of number.
+// Converts a number to a number type.
 fn as_type<T: TryFrom<u64>>(n: u64, tag: Tag) -> TiffResult<T>
 where
     T::Error: Drop,
@@ -63,7 +63,7 @@ where
     }
 }
 
-// Numbers as a type of number.
+// Converts numbers to a number type.
 #[tactic(auto, using(crate::proofs::Numbers::next_number))]
 fn all_as<T: TryFrom<u64> + Drop>(alloc: Global, numbers: &[u64], tag: Tag) -> TiffResult<Vec<T>>
 where
@@ -111,7 +111,7 @@ impl<R: Source> Decoder<R> {
         }
     }
 
-    // The value of a tag of the page's directory, or of another one.
+    // Reads the value of a tag of the page's directory, or of another directory.
     #[tactic(auto, using(tiff_ifd::proofs::Within::look_within), unfolding(crate::specs::Outcome::find_tag, tiff_ifd::specs::Look::look_in))]
     fn value_in(&mut self, other: Option<&Directory>, tag: Tag) -> TiffResult<Option<Value>>
         ensures read { TagsRead (outcome.WantsTag (reader_of self.old (option_map (λ d. d.now) other.entry)) tag) (option_map datum)
@@ -132,14 +132,14 @@ impl<R: Source> Decoder<R> {
         )
     }
 
-    // The page's directory, or another one.
+    // The page's directory, or another directory.
     fn directory_of<'x>(&'x self, other: Option<&'x Directory>) -> &'x Directory
         ensures { result.now ≡ directory_or self.now.state.directory (option_map (λ d. d.now) other.entry) }
     {
         chosen(&self.tags.directory, other)
     }
 
-    // The field of a tag of the page's directory, or of another one.
+    // The field of a tag of the page's directory, or of another directory.
     #[tactic(auto, unfolding(crate::specs::Outcome::find_entry))]
     pub(crate) fn entry_in(&self, other: Option<&Directory>, tag: Tag) -> Option<Entry>
         ensures { result ≡ outcome.find_entry (reader_of self.now (option_map (λ d. d.now) other.entry)) tag }
@@ -150,7 +150,7 @@ impl<R: Source> Decoder<R> {
         }
     }
 
-    // A field and its bytes, of the page's directory or of another one.
+    // Reads a field and its bytes, of the page's directory or of another directory.
     #[tactic(auto, unfolding(crate::specs::Outcome::find_tag_buf))]
     pub(crate) fn buf_in(
         &mut self,
@@ -189,7 +189,7 @@ impl<R: Source> Decoder<R> {
         }
     }
 
-    // The bytes of a field from one on, of the page's directory or of another one.
+    // Reads the bytes of a field from an index on, of the page's directory or of another directory.
     #[tactic(auto, unfolding(crate::specs::Outcome::find_tag_bytes))]
     pub(crate) fn bytes_in(
         &mut self,
@@ -214,9 +214,11 @@ impl<R: Source> Decoder<R> {
         Ok(Some(n))
     }
 
-    /// The value of a tag of the page, if there is the tag. A list of more values than `decoding_buffer_size / 32`, a text of
-    /// more bytes than `decoding_buffer_size`, and values of 2^64 bytes or more: `LimitsExceeded`; values past the end of the
-    /// source: `IoError(UnexpectedEof)`; a text that isn't one: `InvalidTag`. No memory is taken where there is no such tag.
+    /// Reads the value of a tag of the page. Returns `None` if the page does not have the tag.
+    /// Returns `LimitsExceeded` for a list of more values than `decoding_buffer_size / 32`, for a
+    /// text of more bytes than `decoding_buffer_size`, and for values of 2^64 bytes or more.
+    /// Returns `IoError(UnexpectedEof)` for values past the end of the source, and `InvalidTag` for
+    /// bytes that are no text. Allocates no memory where the page does not have the tag.
     pub fn find_tag(&mut self, tag: Tag) -> TiffResult<Option<Value>>
         ensures read { TagsRead (outcome.WantsTag self.old tag) (option_map datum) (outcome.find_tag self.old tag) result self.old self.new }
         ensures none { outcome.find_entry self.old tag ≡ None → result ≡ Ok None }
@@ -225,7 +227,7 @@ impl<R: Source> Decoder<R> {
         self.value_in(None, tag)
     }
 
-    // The number of a tag of the page's directory, or of another one.
+    // Reads the number of a tag of the page's directory, or of another directory.
     #[tactic(auto, unfolding(crate::specs::Outcome::find_tag, crate::specs::Outcome::find_tag_unsigned, tiff_ifd::specs::TagQueries::find_unsigned, tiff_ifd::specs::Look::find))]
     pub(crate) fn number_in(
         &mut self,
@@ -243,7 +245,7 @@ impl<R: Source> Decoder<R> {
         }
     }
 
-    // The numbers of a tag of the page's directory, or of another one.
+    // Reads the numbers of a tag of the page's directory, or of another directory.
     #[tactic(auto, unfolding(crate::specs::Outcome::find_tag, crate::specs::Outcome::find_tag_unsigned_vec, tiff_ifd::specs::TagQueries::find_unsigned_vec, tiff_ifd::specs::Look::find))]
     pub(crate) fn numbers_in(
         &mut self,
@@ -266,7 +268,7 @@ impl<R: Source> Decoder<R> {
         }
     }
 
-    // The number of a required tag of the page's directory, or of another one.
+    // Reads the number of a required tag of the page's directory, or of another directory.
     #[tactic(auto, unfolding(crate::specs::Outcome::find_tag_unsigned, crate::specs::Outcome::get_tag_unsigned, tiff_ifd::specs::TagQueries::get_unsigned))]
     pub(crate) fn required_in(&mut self, other: Option<&Directory>, tag: Tag) -> TiffResult<u64>
         ensures read { TagsRead (outcome.WantsTag (reader_of self.old (option_map (λ d. d.now) other.entry)) tag)
@@ -280,8 +282,9 @@ impl<R: Source> Decoder<R> {
         }
     }
 
-    /// The number of a tag of the page as a `T`, if there is the tag. The faults are those of `find_tag` and of
-    /// `Value::into_u64`; a number that is no `T`: `InvalidTagValueType`.
+    /// Reads the number of a tag of the page as a `T`. Returns `None` if the page does not have the
+    /// tag. Returns the errors of `find_tag` and of `Value::into_u64`, and `InvalidTagValueType`
+    /// for a number that is no `T`.
     pub fn find_tag_unsigned<T: TryFrom<u64>>(&mut self, tag: Tag) -> TiffResult<Option<T>>
     where
         T::Error: Drop,
@@ -298,8 +301,9 @@ impl<R: Source> Decoder<R> {
         }
     }
 
-    /// The numbers of a tag of the page as a list of `T`, if there is the tag. The faults are those of `find_tag` and of
-    /// `Value::into_u64_vec`; a number that is no `T`: `InvalidTagValueType`.
+    /// Reads the numbers of a tag of the page as a list of `T`. Returns `None` if the page does not
+    /// have the tag. Returns the errors of `find_tag` and of `Value::into_u64_vec`, and
+    /// `InvalidTagValueType` for a number that is no `T`.
     #[tactic(auto, using(crate::proofs::Required::numbers_found), unfolding(crate::specs::Outcome::find_tag_unsigned_vec))]
     pub fn find_tag_unsigned_vec<T: TryFrom<u64> + Drop>(
         &mut self,
@@ -321,8 +325,8 @@ impl<R: Source> Decoder<R> {
         }
     }
 
-    /// The number of a required tag of the page as a `T`. No such tag: `RequiredTagNotFound`; then the faults of
-    /// `find_tag_unsigned`.
+    /// Reads the number of a required tag of the page as a `T`. Returns `RequiredTagNotFound` if
+    /// the page does not have the tag, else the errors of `find_tag_unsigned`.
     pub fn get_tag_unsigned<T: TryFrom<u64>>(&mut self, tag: Tag) -> TiffResult<T>
     where
         T::Error: Drop,
@@ -336,7 +340,8 @@ impl<R: Source> Decoder<R> {
         as_type(self.required_in(None, tag)?, tag)
     }
 
-    /// The value of a required tag of the page. No such tag: `RequiredTagNotFound`; then the faults of `find_tag`.
+    /// Reads the value of a required tag of the page. Returns `RequiredTagNotFound` if the page
+    /// does not have the tag, else the errors of `find_tag`.
     #[tactic(auto, unfolding(crate::specs::Outcome::get_tag, crate::specs::Outcome::find_tag, tiff_ifd::specs::Look::require, tiff_ifd::specs::Look::find))]
     pub fn get_tag(&mut self, tag: Tag) -> TiffResult<Value>
         ensures read { TagsRead (outcome.WantsTag self.old tag) datum (outcome.get_tag self.old tag) result self.old self.new }
@@ -348,7 +353,8 @@ impl<R: Source> Decoder<R> {
         }
     }
 
-    /// A required tag's number, below 2^32. No such tag: `RequiredTagNotFound`; then the faults of `find_tag` and of `Value::into_u32`.
+    /// Reads the number of a required tag, below 2^32. Returns `RequiredTagNotFound` if the
+    /// directory does not have the tag, else the errors of `find_tag` and of `Value::into_u32`.
     #[tactic(auto, using(crate::proofs::Required::unconverted, crate::proofs::Required::required_by, crate::proofs::Required::value_found), unfolding(crate::specs::Outcome::get_tag_u32, crate::specs::Outcome::get_tag))]
     pub fn get_tag_u32(&mut self, tag: Tag) -> TiffResult<u32>
         ensures read { TagsRead (outcome.WantsTag self.old tag) (λ n. n) (outcome.get_tag_u32 self.old tag) result self.old self.new }
@@ -357,7 +363,8 @@ impl<R: Source> Decoder<R> {
         self.get_tag(tag)?.into_u32()
     }
 
-    /// A required tag's number, below 2^64. No such tag: `RequiredTagNotFound`; then the faults of `find_tag` and of `Value::into_u64`.
+    /// Reads the number of a required tag, below 2^64. Returns `RequiredTagNotFound` if the
+    /// directory does not have the tag, else the errors of `find_tag` and of `Value::into_u64`.
     #[tactic(auto, using(crate::proofs::Required::unconverted, crate::proofs::Required::required_by, crate::proofs::Required::value_found), unfolding(crate::specs::Outcome::get_tag_u64, crate::specs::Outcome::get_tag))]
     pub fn get_tag_u64(&mut self, tag: Tag) -> TiffResult<u64>
         ensures read { TagsRead (outcome.WantsTag self.old tag) (λ n. n) (outcome.get_tag_u64 self.old tag) result self.old self.new }
@@ -366,7 +373,9 @@ impl<R: Source> Decoder<R> {
         self.get_tag(tag)?.into_u64()
     }
 
-    /// The bits of a required tag's floating number of 4 bytes. No such tag: `RequiredTagNotFound`; then the faults of `find_tag` and of `Value::into_f32`.
+    /// Reads the bits of the 32-bit floating-point number of a required tag. Returns
+    /// `RequiredTagNotFound` if the directory does not have the tag, else the errors of `find_tag`
+    /// and of `Value::into_f32`.
     #[tactic(auto, using(crate::proofs::Required::unconverted, crate::proofs::Required::required_by, crate::proofs::Required::value_found), unfolding(crate::specs::Outcome::get_tag_f32, crate::specs::Outcome::get_tag))]
     pub fn get_tag_f32(&mut self, tag: Tag) -> TiffResult<Bits32>
         ensures read { TagsRead (outcome.WantsTag self.old tag) (bits_32) (outcome.get_tag_f32 self.old tag) result self.old self.new }
@@ -375,7 +384,9 @@ impl<R: Source> Decoder<R> {
         self.get_tag(tag)?.into_f32()
     }
 
-    /// The bits of a required tag's floating number of 8 bytes. No such tag: `RequiredTagNotFound`; then the faults of `find_tag` and of `Value::into_f64`.
+    /// Reads the bits of the 64-bit floating-point number of a required tag. Returns
+    /// `RequiredTagNotFound` if the directory does not have the tag, else the errors of `find_tag`
+    /// and of `Value::into_f64`.
     #[tactic(auto, using(crate::proofs::Required::unconverted, crate::proofs::Required::required_by, crate::proofs::Required::value_found), unfolding(crate::specs::Outcome::get_tag_f64, crate::specs::Outcome::get_tag))]
     pub fn get_tag_f64(&mut self, tag: Tag) -> TiffResult<Bits64>
         ensures read { TagsRead (outcome.WantsTag self.old tag) (bits_64) (outcome.get_tag_f64 self.old tag) result self.old self.new }
@@ -384,7 +395,8 @@ impl<R: Source> Decoder<R> {
         self.get_tag(tag)?.into_f64()
     }
 
-    /// A required tag's numbers, below 2^32. No such tag: `RequiredTagNotFound`; then the faults of `find_tag` and of `Value::into_u32_vec`.
+    /// Reads the numbers of a required tag, below 2^32. Returns `RequiredTagNotFound` if the
+    /// directory does not have the tag, else the errors of `find_tag` and of `Value::into_u32_vec`.
     #[tactic(auto, using(crate::proofs::Required::unconverted, crate::proofs::Required::required_by, crate::proofs::Required::value_found), unfolding(crate::specs::Outcome::get_tag_u32_vec, crate::specs::Outcome::get_tag))]
     pub fn get_tag_u32_vec(&mut self, tag: Tag) -> TiffResult<Vec<u32>>
         ensures read { TagsRead (outcome.WantsTag self.old tag) (λ v. v.items) (outcome.get_tag_u32_vec self.old tag) result self.old self.new }
@@ -394,7 +406,8 @@ impl<R: Source> Decoder<R> {
         self.get_tag(tag)?.into_u32_vec(alloc)
     }
 
-    /// A required tag's numbers, below 2^16. No such tag: `RequiredTagNotFound`; then the faults of `find_tag` and of `Value::into_u16_vec`.
+    /// Reads the numbers of a required tag, below 2^16. Returns `RequiredTagNotFound` if the
+    /// directory does not have the tag, else the errors of `find_tag` and of `Value::into_u16_vec`.
     #[tactic(auto, using(crate::proofs::Required::unconverted, crate::proofs::Required::required_by, crate::proofs::Required::value_found), unfolding(crate::specs::Outcome::get_tag_u16_vec, crate::specs::Outcome::get_tag))]
     pub fn get_tag_u16_vec(&mut self, tag: Tag) -> TiffResult<Vec<u16>>
         ensures read { TagsRead (outcome.WantsTag self.old tag) (λ v. v.items) (outcome.get_tag_u16_vec self.old tag) result self.old self.new }
@@ -404,7 +417,8 @@ impl<R: Source> Decoder<R> {
         self.get_tag(tag)?.into_u16_vec(alloc)
     }
 
-    /// A required tag's numbers, below 2^64. No such tag: `RequiredTagNotFound`; then the faults of `find_tag` and of `Value::into_u64_vec`.
+    /// Reads the numbers of a required tag, below 2^64. Returns `RequiredTagNotFound` if the
+    /// directory does not have the tag, else the errors of `find_tag` and of `Value::into_u64_vec`.
     #[tactic(auto, using(crate::proofs::Required::unconverted, crate::proofs::Required::required_by, crate::proofs::Required::value_found), unfolding(crate::specs::Outcome::get_tag_u64_vec, crate::specs::Outcome::get_tag))]
     pub fn get_tag_u64_vec(&mut self, tag: Tag) -> TiffResult<Vec<u64>>
         ensures read { TagsRead (outcome.WantsTag self.old tag) (λ v. v.items) (outcome.get_tag_u64_vec self.old tag) result self.old self.new }
@@ -414,7 +428,9 @@ impl<R: Source> Decoder<R> {
         self.get_tag(tag)?.into_u64_vec(alloc)
     }
 
-    /// The bits of a required tag's floating numbers of 4 bytes. No such tag: `RequiredTagNotFound`; then the faults of `find_tag` and of `Value::into_f32_vec`.
+    /// Reads the bits of the 32-bit floating-point numbers of a required tag. Returns
+    /// `RequiredTagNotFound` if the directory does not have the tag, else the errors of `find_tag`
+    /// and of `Value::into_f32_vec`.
     #[tactic(auto, using(crate::proofs::Required::unconverted, crate::proofs::Required::required_by, crate::proofs::Required::value_found), unfolding(crate::specs::Outcome::get_tag_f32_vec, crate::specs::Outcome::get_tag))]
     pub fn get_tag_f32_vec(&mut self, tag: Tag) -> TiffResult<Vec<Bits32>>
         ensures read { TagsRead (outcome.WantsTag self.old tag) (λ v. map bits_32 v.items) (outcome.get_tag_f32_vec self.old tag) result self.old self.new }
@@ -424,7 +440,9 @@ impl<R: Source> Decoder<R> {
         self.get_tag(tag)?.into_f32_vec(alloc)
     }
 
-    /// The bits of a required tag's floating numbers of 8 bytes. No such tag: `RequiredTagNotFound`; then the faults of `find_tag` and of `Value::into_f64_vec`.
+    /// Reads the bits of the 64-bit floating-point numbers of a required tag. Returns
+    /// `RequiredTagNotFound` if the directory does not have the tag, else the errors of `find_tag`
+    /// and of `Value::into_f64_vec`.
     #[tactic(auto, using(crate::proofs::Required::unconverted, crate::proofs::Required::required_by, crate::proofs::Required::value_found), unfolding(crate::specs::Outcome::get_tag_f64_vec, crate::specs::Outcome::get_tag))]
     pub fn get_tag_f64_vec(&mut self, tag: Tag) -> TiffResult<Vec<Bits64>>
         ensures read { TagsRead (outcome.WantsTag self.old tag) (λ v. map bits_64 v.items) (outcome.get_tag_f64_vec self.old tag) result self.old self.new }
@@ -434,7 +452,8 @@ impl<R: Source> Decoder<R> {
         self.get_tag(tag)?.into_f64_vec(alloc)
     }
 
-    /// A required tag's bytes. No such tag: `RequiredTagNotFound`; then the faults of `find_tag` and of `Value::into_u8_vec`.
+    /// Reads the bytes of a required tag. Returns `RequiredTagNotFound` if the directory does not
+    /// have the tag, else the errors of `find_tag` and of `Value::into_u8_vec`.
     #[tactic(auto, using(crate::proofs::Required::unconverted, crate::proofs::Required::required_by, crate::proofs::Required::value_found), unfolding(crate::specs::Outcome::get_tag_u8_vec, crate::specs::Outcome::get_tag))]
     pub fn get_tag_u8_vec(&mut self, tag: Tag) -> TiffResult<Vec<u8>>
         ensures read { TagsRead (outcome.WantsTag self.old tag) (λ v. v.items) (outcome.get_tag_u8_vec self.old tag) result self.old self.new }
@@ -444,7 +463,8 @@ impl<R: Source> Decoder<R> {
         self.get_tag(tag)?.into_u8_vec(alloc)
     }
 
-    /// A required tag's text. No such tag: `RequiredTagNotFound`; then the faults of `find_tag` and of `Value::into_string`.
+    /// Reads the text of a required tag. Returns `RequiredTagNotFound` if the directory does not
+    /// have the tag, else the errors of `find_tag` and of `Value::into_string`.
     #[tactic(auto, using(crate::proofs::Required::unconverted, crate::proofs::Required::required_by, crate::proofs::Required::value_found), unfolding(crate::specs::Outcome::get_tag_ascii_string, crate::specs::Outcome::get_tag))]
     pub fn get_tag_ascii_string(&mut self, tag: Tag) -> TiffResult<String>
         ensures read { TagsRead (outcome.WantsTag self.old tag) (string_bytes) (outcome.get_tag_ascii_string self.old tag) result self.old self.new }
@@ -455,23 +475,26 @@ impl<R: Source> Decoder<R> {
 }
 
 impl<'a, R: Source> IfdDecoder<'a, R> {
-    /// The directory whose tags are read.
+    /// The directory whose tags the calls read.
     pub fn directory(&self) -> &Directory
         ensures { result.now ≡ directory_or self.now.decoder.now.state.directory (option_map (λ d. d.now) self.now.other) }
     {
         self.decoder.directory_of(self.other)
     }
 
-    /// The field of a tag, if there is the tag.
+    /// The field of a tag, if the directory has the tag.
     pub fn find_entry(&self, tag: Tag) -> Option<Entry>
         ensures { result ≡ outcome.find_entry (reading self.now) tag }
     {
         self.decoder.entry_in(self.other, tag)
     }
 
-    /// The field of a tag, if there is the tag, and its bytes as they stand, in the file's order. No such tag: the buffer stays.
-    /// Values of 2^64 bytes or more, and more bytes than `decoding_buffer_size`: `LimitsExceeded`, and the buffer stays; values
-    /// past the end of the source: `IoError(UnexpectedEof)`. After any other fault the buffer has the field's type and no values.
+    /// Returns the field of a tag, if the directory has the tag, and reads its bytes into the
+    /// buffer, in the file's byte order. Without such a tag the buffer stays the same. Returns
+    /// `LimitsExceeded` for values of 2^64 bytes or more, and for more bytes than
+    /// `decoding_buffer_size`; then the buffer stays the same. Returns `IoError(UnexpectedEof)` for
+    /// values past the end of the source. After any error other than `LimitsExceeded` the buffer
+    /// has the type of the field and no values.
     pub fn find_tag_buf(&mut self, tag: Tag, buf: &mut ValueBuffer) -> TiffResult<Option<Entry>>
         ensures read { ReadsTags (outcome.WantsBytes (reading self.old) tag buf.old) (λ e. (e, buf.new)) (outcome.find_tag_buf (reading self.old) tag buf.old) result self.old self.new }
         ensures left { BufferLeft self.old.decoder.now.order (outcome.find_entry (reading self.old) tag) buf.old result buf.new }
@@ -480,9 +503,11 @@ impl<'a, R: Source> IfdDecoder<'a, R> {
         self.decoder.buf_in(self.other, tag, buf)
     }
 
-    /// Copies the bytes of a tag's values from the byte `offset` on, as many as fit, and answers how many, if there is the tag; 0
-    /// where there is no such byte. Values of 2^64 bytes or more: `LimitsExceeded`; an offset of 2^64 or more:
-    /// `InconsistentSizesEncountered`; what is copied past the end of the source: `IoError(UnexpectedEof)`.
+    /// Copies the bytes of a tag's values from the byte `offset` on, as many as fit, and returns
+    /// their number. Returns `None` if the directory does not have the tag, and 0 where the values
+    /// have no such byte. Returns `LimitsExceeded` for values of 2^64 bytes or more,
+    /// `InconsistentSizesEncountered` for an offset in the file of 2^64 or more, and
+    /// `IoError(UnexpectedEof)` where it copies bytes past the end of the source.
     pub fn find_tag_bytes(
         &mut self,
         tag: Tag,
@@ -498,7 +523,8 @@ impl<'a, R: Source> IfdDecoder<'a, R> {
         self.decoder.bytes_in(self.other, tag, buf, offset)
     }
 
-    /// The value of a tag, if there is the tag. The faults are those of `Decoder::find_tag`.
+    /// Reads the value of a tag. Returns `None` if the directory does not have the tag. Returns the
+    /// errors of `Decoder::find_tag`.
     pub fn find_tag(&mut self, tag: Tag) -> TiffResult<Option<Value>>
         ensures read { ReadsTags (outcome.WantsTag (reading self.old) tag) (option_map datum) (outcome.find_tag (reading self.old) tag) result self.old self.new }
         ensures none { outcome.find_entry (reading self.old) tag ≡ None → result ≡ Ok None }
@@ -507,8 +533,9 @@ impl<'a, R: Source> IfdDecoder<'a, R> {
         self.decoder.value_in(self.other, tag)
     }
 
-    /// The number of a tag as a `T`, if there is the tag. The faults are those of `find_tag` and of
-    /// `Value::into_u64`; a number that is no `T`: `InvalidTagValueType`.
+    /// Reads the number of a tag as a `T`. Returns `None` if the directory does not have the tag.
+    /// Returns the errors of `find_tag` and of `Value::into_u64`, and `InvalidTagValueType` for a
+    /// number that is no `T`.
     pub fn find_tag_unsigned<T: TryFrom<u64>>(&mut self, tag: Tag) -> TiffResult<Option<T>>
     where
         T::Error: Drop,
@@ -524,8 +551,9 @@ impl<'a, R: Source> IfdDecoder<'a, R> {
         }
     }
 
-    /// The numbers of a tag as a list of `T`, if there is the tag. The faults are those of `find_tag` and of
-    /// `Value::into_u64_vec`; a number that is no `T`: `InvalidTagValueType`.
+    /// Reads the numbers of a tag as a list of `T`. Returns `None` if the directory does not have
+    /// the tag. Returns the errors of `find_tag` and of `Value::into_u64_vec`, and
+    /// `InvalidTagValueType` for a number that is no `T`.
     #[tactic(auto, using(crate::proofs::Required::numbers_found), unfolding(crate::specs::Outcome::find_tag_unsigned_vec))]
     pub fn find_tag_unsigned_vec<T: TryFrom<u64> + Drop>(
         &mut self,
@@ -546,8 +574,8 @@ impl<'a, R: Source> IfdDecoder<'a, R> {
         }
     }
 
-    /// The number of a required tag as a `T`. No such tag: `RequiredTagNotFound`; then the faults of
-    /// `find_tag_unsigned`.
+    /// Reads the number of a required tag as a `T`. Returns `RequiredTagNotFound` if the directory
+    /// does not have the tag, else the errors of `find_tag_unsigned`.
     pub fn get_tag_unsigned<T: TryFrom<u64>>(&mut self, tag: Tag) -> TiffResult<T>
     where
         T::Error: Drop,
@@ -560,7 +588,8 @@ impl<'a, R: Source> IfdDecoder<'a, R> {
         as_type(self.decoder.required_in(self.other, tag)?, tag)
     }
 
-    /// The value of a required tag. No such tag: `RequiredTagNotFound`; then the faults of `find_tag`.
+    /// Reads the value of a required tag. Returns `RequiredTagNotFound` if the directory does not
+    /// have the tag, else the errors of `find_tag`.
     #[tactic(auto, unfolding(crate::specs::Outcome::get_tag, crate::specs::Outcome::find_tag, tiff_ifd::specs::Look::require, tiff_ifd::specs::Look::find))]
     pub fn get_tag(&mut self, tag: Tag) -> TiffResult<Value>
         ensures read { ReadsTags (outcome.WantsTag (reading self.old) tag) datum (outcome.get_tag (reading self.old) tag) result self.old self.new }
@@ -572,7 +601,8 @@ impl<'a, R: Source> IfdDecoder<'a, R> {
         }
     }
 
-    /// A required tag's number, below 2^32. No such tag: `RequiredTagNotFound`; then the faults of `find_tag` and of `Value::into_u32`.
+    /// Reads the number of a required tag, below 2^32. Returns `RequiredTagNotFound` if the
+    /// directory does not have the tag, else the errors of `find_tag` and of `Value::into_u32`.
     #[tactic(auto, using(crate::proofs::Required::unconverted, crate::proofs::Required::required_by, crate::proofs::Required::value_found), unfolding(crate::specs::Outcome::get_tag_u32, crate::specs::Outcome::get_tag))]
     pub fn get_tag_u32(&mut self, tag: Tag) -> TiffResult<u32>
         ensures read { ReadsTags (outcome.WantsTag (reading self.old) tag) (λ n. n) (outcome.get_tag_u32 (reading self.old) tag) result self.old self.new }
@@ -581,7 +611,8 @@ impl<'a, R: Source> IfdDecoder<'a, R> {
         self.get_tag(tag)?.into_u32()
     }
 
-    /// A required tag's number, below 2^64. No such tag: `RequiredTagNotFound`; then the faults of `find_tag` and of `Value::into_u64`.
+    /// Reads the number of a required tag, below 2^64. Returns `RequiredTagNotFound` if the
+    /// directory does not have the tag, else the errors of `find_tag` and of `Value::into_u64`.
     #[tactic(auto, using(crate::proofs::Required::unconverted, crate::proofs::Required::required_by, crate::proofs::Required::value_found), unfolding(crate::specs::Outcome::get_tag_u64, crate::specs::Outcome::get_tag))]
     pub fn get_tag_u64(&mut self, tag: Tag) -> TiffResult<u64>
         ensures read { ReadsTags (outcome.WantsTag (reading self.old) tag) (λ n. n) (outcome.get_tag_u64 (reading self.old) tag) result self.old self.new }
@@ -590,7 +621,9 @@ impl<'a, R: Source> IfdDecoder<'a, R> {
         self.get_tag(tag)?.into_u64()
     }
 
-    /// The bits of a required tag's floating number of 4 bytes. No such tag: `RequiredTagNotFound`; then the faults of `find_tag` and of `Value::into_f32`.
+    /// Reads the bits of the 32-bit floating-point number of a required tag. Returns
+    /// `RequiredTagNotFound` if the directory does not have the tag, else the errors of `find_tag`
+    /// and of `Value::into_f32`.
     #[tactic(auto, using(crate::proofs::Required::unconverted, crate::proofs::Required::required_by, crate::proofs::Required::value_found), unfolding(crate::specs::Outcome::get_tag_f32, crate::specs::Outcome::get_tag))]
     pub fn get_tag_f32(&mut self, tag: Tag) -> TiffResult<Bits32>
         ensures read { ReadsTags (outcome.WantsTag (reading self.old) tag) bits_32 (outcome.get_tag_f32 (reading self.old) tag) result self.old self.new }
@@ -599,7 +632,9 @@ impl<'a, R: Source> IfdDecoder<'a, R> {
         self.get_tag(tag)?.into_f32()
     }
 
-    /// The bits of a required tag's floating number of 8 bytes. No such tag: `RequiredTagNotFound`; then the faults of `find_tag` and of `Value::into_f64`.
+    /// Reads the bits of the 64-bit floating-point number of a required tag. Returns
+    /// `RequiredTagNotFound` if the directory does not have the tag, else the errors of `find_tag`
+    /// and of `Value::into_f64`.
     #[tactic(auto, using(crate::proofs::Required::unconverted, crate::proofs::Required::required_by, crate::proofs::Required::value_found), unfolding(crate::specs::Outcome::get_tag_f64, crate::specs::Outcome::get_tag))]
     pub fn get_tag_f64(&mut self, tag: Tag) -> TiffResult<Bits64>
         ensures read { ReadsTags (outcome.WantsTag (reading self.old) tag) bits_64 (outcome.get_tag_f64 (reading self.old) tag) result self.old self.new }
@@ -608,7 +643,8 @@ impl<'a, R: Source> IfdDecoder<'a, R> {
         self.get_tag(tag)?.into_f64()
     }
 
-    /// A required tag's numbers, below 2^32. No such tag: `RequiredTagNotFound`; then the faults of `find_tag` and of `Value::into_u32_vec`.
+    /// Reads the numbers of a required tag, below 2^32. Returns `RequiredTagNotFound` if the
+    /// directory does not have the tag, else the errors of `find_tag` and of `Value::into_u32_vec`.
     #[tactic(auto, using(crate::proofs::Required::unconverted, crate::proofs::Required::required_by, crate::proofs::Required::value_found), unfolding(crate::specs::Outcome::get_tag_u32_vec, crate::specs::Outcome::get_tag))]
     pub fn get_tag_u32_vec(&mut self, tag: Tag) -> TiffResult<Vec<u32>>
         ensures read { ReadsTags (outcome.WantsTag (reading self.old) tag) (λ v. v.items) (outcome.get_tag_u32_vec (reading self.old) tag) result self.old self.new }
@@ -618,7 +654,8 @@ impl<'a, R: Source> IfdDecoder<'a, R> {
         self.get_tag(tag)?.into_u32_vec(alloc)
     }
 
-    /// A required tag's numbers, below 2^16. No such tag: `RequiredTagNotFound`; then the faults of `find_tag` and of `Value::into_u16_vec`.
+    /// Reads the numbers of a required tag, below 2^16. Returns `RequiredTagNotFound` if the
+    /// directory does not have the tag, else the errors of `find_tag` and of `Value::into_u16_vec`.
     #[tactic(auto, using(crate::proofs::Required::unconverted, crate::proofs::Required::required_by, crate::proofs::Required::value_found), unfolding(crate::specs::Outcome::get_tag_u16_vec, crate::specs::Outcome::get_tag))]
     pub fn get_tag_u16_vec(&mut self, tag: Tag) -> TiffResult<Vec<u16>>
         ensures read { ReadsTags (outcome.WantsTag (reading self.old) tag) (λ v. v.items) (outcome.get_tag_u16_vec (reading self.old) tag) result self.old self.new }
@@ -628,7 +665,8 @@ impl<'a, R: Source> IfdDecoder<'a, R> {
         self.get_tag(tag)?.into_u16_vec(alloc)
     }
 
-    /// A required tag's numbers, below 2^64. No such tag: `RequiredTagNotFound`; then the faults of `find_tag` and of `Value::into_u64_vec`.
+    /// Reads the numbers of a required tag, below 2^64. Returns `RequiredTagNotFound` if the
+    /// directory does not have the tag, else the errors of `find_tag` and of `Value::into_u64_vec`.
     #[tactic(auto, using(crate::proofs::Required::unconverted, crate::proofs::Required::required_by, crate::proofs::Required::value_found), unfolding(crate::specs::Outcome::get_tag_u64_vec, crate::specs::Outcome::get_tag))]
     pub fn get_tag_u64_vec(&mut self, tag: Tag) -> TiffResult<Vec<u64>>
         ensures read { ReadsTags (outcome.WantsTag (reading self.old) tag) (λ v. v.items) (outcome.get_tag_u64_vec (reading self.old) tag) result self.old self.new }
@@ -638,7 +676,9 @@ impl<'a, R: Source> IfdDecoder<'a, R> {
         self.get_tag(tag)?.into_u64_vec(alloc)
     }
 
-    /// The bits of a required tag's floating numbers of 4 bytes. No such tag: `RequiredTagNotFound`; then the faults of `find_tag` and of `Value::into_f32_vec`.
+    /// Reads the bits of the 32-bit floating-point numbers of a required tag. Returns
+    /// `RequiredTagNotFound` if the directory does not have the tag, else the errors of `find_tag`
+    /// and of `Value::into_f32_vec`.
     #[tactic(auto, using(crate::proofs::Required::unconverted, crate::proofs::Required::required_by, crate::proofs::Required::value_found), unfolding(crate::specs::Outcome::get_tag_f32_vec, crate::specs::Outcome::get_tag))]
     pub fn get_tag_f32_vec(&mut self, tag: Tag) -> TiffResult<Vec<Bits32>>
         ensures read { ReadsTags (outcome.WantsTag (reading self.old) tag) (λ v. map bits_32 v.items) (outcome.get_tag_f32_vec (reading self.old) tag) result self.old self.new }
@@ -648,7 +688,9 @@ impl<'a, R: Source> IfdDecoder<'a, R> {
         self.get_tag(tag)?.into_f32_vec(alloc)
     }
 
-    /// The bits of a required tag's floating numbers of 8 bytes. No such tag: `RequiredTagNotFound`; then the faults of `find_tag` and of `Value::into_f64_vec`.
+    /// Reads the bits of the 64-bit floating-point numbers of a required tag. Returns
+    /// `RequiredTagNotFound` if the directory does not have the tag, else the errors of `find_tag`
+    /// and of `Value::into_f64_vec`.
     #[tactic(auto, using(crate::proofs::Required::unconverted, crate::proofs::Required::required_by, crate::proofs::Required::value_found), unfolding(crate::specs::Outcome::get_tag_f64_vec, crate::specs::Outcome::get_tag))]
     pub fn get_tag_f64_vec(&mut self, tag: Tag) -> TiffResult<Vec<Bits64>>
         ensures read { ReadsTags (outcome.WantsTag (reading self.old) tag) (λ v. map bits_64 v.items) (outcome.get_tag_f64_vec (reading self.old) tag) result self.old self.new }
@@ -658,7 +700,8 @@ impl<'a, R: Source> IfdDecoder<'a, R> {
         self.get_tag(tag)?.into_f64_vec(alloc)
     }
 
-    /// A required tag's bytes. No such tag: `RequiredTagNotFound`; then the faults of `find_tag` and of `Value::into_u8_vec`.
+    /// Reads the bytes of a required tag. Returns `RequiredTagNotFound` if the directory does not
+    /// have the tag, else the errors of `find_tag` and of `Value::into_u8_vec`.
     #[tactic(auto, using(crate::proofs::Required::unconverted, crate::proofs::Required::required_by, crate::proofs::Required::value_found), unfolding(crate::specs::Outcome::get_tag_u8_vec, crate::specs::Outcome::get_tag))]
     pub fn get_tag_u8_vec(&mut self, tag: Tag) -> TiffResult<Vec<u8>>
         ensures read { ReadsTags (outcome.WantsTag (reading self.old) tag) (λ v. v.items) (outcome.get_tag_u8_vec (reading self.old) tag) result self.old self.new }
@@ -668,7 +711,8 @@ impl<'a, R: Source> IfdDecoder<'a, R> {
         self.get_tag(tag)?.into_u8_vec(alloc)
     }
 
-    /// A required tag's text. No such tag: `RequiredTagNotFound`; then the faults of `find_tag` and of `Value::into_string`.
+    /// Reads the text of a required tag. Returns `RequiredTagNotFound` if the directory does not
+    /// have the tag, else the errors of `find_tag` and of `Value::into_string`.
     #[tactic(auto, using(crate::proofs::Required::unconverted, crate::proofs::Required::required_by, crate::proofs::Required::value_found), unfolding(crate::specs::Outcome::get_tag_ascii_string, crate::specs::Outcome::get_tag))]
     pub fn get_tag_ascii_string(&mut self, tag: Tag) -> TiffResult<String>
         ensures read { ReadsTags (outcome.WantsTag (reading self.old) tag) string_bytes (outcome.get_tag_ascii_string (reading self.old) tag) result self.old self.new }

@@ -1,4 +1,4 @@
-//! Files are read: the decoder of pages.
+//! The decoder: reads the pages of TIFF files.
 #![tactic(auto)]
 
 pub mod buffer;

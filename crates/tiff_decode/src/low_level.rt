@@ -1,4 +1,4 @@
-//! Bytes and numbers are read at an offset of the file, as they stand there.
+//! Reads bytes and numbers at an offset of the file, as they are there.
 
 ghost use Rattle.std.specs.Prelude.{string_bytes};
 ghost use Rattle.std.specs.Int.{byte_len, w8};
@@ -21,7 +21,7 @@ use tiff_ifd::decode::read_link_at;
 use tiff_ifd::read_bytes::offset_len;
 use tiff_ifd::read_value::read_text_at;
 
-// The byte at an offset.
+// Reads the byte at an offset.
 #[tactic(auto, unfolding(tiff_base::specs::Number::number))]
 fn read_u8_at<R: Source>(source: &mut R, at: u64, order: ByteOrder) -> TiffResult<u8>
     ensures kept { IsKept R.told R.failures result source.old source.new }
@@ -37,10 +37,11 @@ fn read_u8_at<R: Source>(source: &mut R, at: u64, order: ByteOrder) -> TiffResul
     }
 }
 
-/// The low-level reads stand at an offset, at first behind the header. A read goes behind what it gives, and a refused one stays:
-/// where there are too few bytes, `IoError(UnexpectedEof)`.
+/// Low-level reads. The decoder has an offset for them, at first the end of the header. A read
+/// moves the offset past the bytes that it returns. Where the source has too few bytes, a read
+/// returns `IoError(UnexpectedEof)`. After an error the offset stays.
 impl<R: Source> Decoder<R> {
-    /// The next low-level read is from here on; any offset will do.
+    /// Moves the low-level reads to an offset. Accepts any offset.
     #[tactic(auto, unfolding(crate::specs::Outcome::goto_offset))]
     pub fn goto_offset(&mut self, offset: u32) -> TiffResult<()>
         ensures { FollowsWithoutEither (λ x. x) (outcome.goto_offset self.old offset) result self.old self.new }
@@ -49,7 +50,7 @@ impl<R: Source> Decoder<R> {
         Ok(())
     }
 
-    /// The next low-level read is from here on; any offset will do.
+    /// Moves the low-level reads to an offset. Accepts any offset.
     #[tactic(auto, unfolding(crate::specs::Outcome::goto_offset))]
     pub fn goto_offset_u64(&mut self, offset: u64) -> TiffResult<()>
         ensures { FollowsWithoutEither (λ x. x) (outcome.goto_offset self.old offset) result self.old self.new }
@@ -58,7 +59,7 @@ impl<R: Source> Decoder<R> {
         Ok(())
     }
 
-    /// The next number of 4 bytes, in BigTIFF of 8.
+    /// Reads the next offset: a number of 4 bytes, or of 8 bytes in BigTIFF.
     #[tactic(auto, unfolding(crate::specs::Outcome::read_ifd_offset))]
     pub fn read_ifd_offset(&mut self) -> TiffResult<u64>
         ensures follows { FollowsWithoutMemory (λ x. x) (outcome.read_ifd_offset self.old) result self.old self.new }
@@ -70,7 +71,7 @@ impl<R: Source> Decoder<R> {
         Ok(n)
     }
 
-    /// The next byte.
+    /// Reads the next byte.
     #[tactic(auto, unfolding(crate::specs::Outcome::read_byte))]
     pub fn read_byte(&mut self) -> TiffResult<u8>
         ensures follows { FollowsWithoutMemory (λ x. x) (outcome.read_byte self.old) result self.old self.new }
@@ -81,7 +82,7 @@ impl<R: Source> Decoder<R> {
         Ok(n)
     }
 
-    /// The next number of two bytes.
+    /// Reads the next two bytes as a number.
     #[tactic(auto, unfolding(crate::specs::Outcome::read_short))]
     pub fn read_short(&mut self) -> TiffResult<u16>
         ensures follows { FollowsWithoutMemory (λ x. x) (outcome.read_short self.old) result self.old self.new }
@@ -92,7 +93,7 @@ impl<R: Source> Decoder<R> {
         Ok(n)
     }
 
-    /// The next signed number of two bytes.
+    /// Reads the next two bytes as a signed number.
     #[tactic(auto, unfolding(crate::specs::Outcome::read_short, crate::specs::Outcome::read_sshort))]
     pub fn read_sshort(&mut self) -> TiffResult<i16>
         ensures follows { FollowsWithoutMemory (λ x. x) (outcome.read_sshort self.old) result self.old self.new }
@@ -101,7 +102,7 @@ impl<R: Source> Decoder<R> {
         Ok(self.read_short()?.cast_signed())
     }
 
-    /// The next number of four bytes.
+    /// Reads the next four bytes as a number.
     #[tactic(auto, unfolding(crate::specs::Outcome::read_long))]
     pub fn read_long(&mut self) -> TiffResult<u32>
         ensures follows { FollowsWithoutMemory (λ x. x) (outcome.read_long self.old) result self.old self.new }
@@ -112,7 +113,7 @@ impl<R: Source> Decoder<R> {
         Ok(n)
     }
 
-    /// The next signed number of four bytes.
+    /// Reads the next four bytes as a signed number.
     #[tactic(auto, unfolding(crate::specs::Outcome::read_long, crate::specs::Outcome::read_slong))]
     pub fn read_slong(&mut self) -> TiffResult<i32>
         ensures follows { FollowsWithoutMemory (λ x. x) (outcome.read_slong self.old) result self.old self.new }
@@ -121,7 +122,7 @@ impl<R: Source> Decoder<R> {
         Ok(self.read_long()?.cast_signed())
     }
 
-    /// The next number of eight bytes.
+    /// Reads the next eight bytes as a number.
     #[tactic(auto, unfolding(crate::specs::Outcome::read_long8))]
     pub fn read_long8(&mut self) -> TiffResult<u64>
         ensures follows { FollowsWithoutMemory (λ x. x) (outcome.read_long8 self.old) result self.old self.new }
@@ -132,7 +133,7 @@ impl<R: Source> Decoder<R> {
         Ok(n)
     }
 
-    /// The next signed number of eight bytes.
+    /// Reads the next eight bytes as a signed number.
     #[tactic(auto, unfolding(crate::specs::Outcome::read_long8, crate::specs::Outcome::read_slong8))]
     pub fn read_slong8(&mut self) -> TiffResult<i64>
         ensures follows { FollowsWithoutMemory (λ x. x) (outcome.read_slong8 self.old) result self.old self.new }
@@ -141,7 +142,7 @@ impl<R: Source> Decoder<R> {
         Ok(self.read_long8()?.cast_signed())
     }
 
-    /// The next floating number of four bytes.
+    /// Reads the next four bytes as a floating-point number.
     #[tactic(auto, unfolding(crate::specs::Outcome::read_long, crate::specs::Outcome::read_float))]
     pub fn read_float(&mut self) -> TiffResult<Bits32>
         ensures follows { FollowsWithoutMemory bits_32 (outcome.read_float self.old) result self.old self.new }
@@ -150,7 +151,7 @@ impl<R: Source> Decoder<R> {
         Ok(Bits32(self.read_long()?))
     }
 
-    /// The next floating number of eight bytes.
+    /// Reads the next eight bytes as a floating-point number.
     #[tactic(auto, unfolding(crate::specs::Outcome::read_long8, crate::specs::Outcome::read_double))]
     pub fn read_double(&mut self) -> TiffResult<Bits64>
         ensures follows { FollowsWithoutMemory bits_64 (outcome.read_double self.old) result self.old self.new }
@@ -159,8 +160,9 @@ impl<R: Source> Decoder<R> {
         Ok(Bits64(self.read_long8()?))
     }
 
-    /// The next `length` bytes as a text, which ends before its first zero. Not UTF-8: `InvalidTag`. Memory is taken where the
-    /// bytes are in the source.
+    /// Reads the next `length` bytes as a text, which ends before its first zero. Returns
+    /// `InvalidTag` for a text that is not UTF-8. Allocates memory only where the bytes are in the
+    /// source.
     #[tactic(auto, unfolding(crate::specs::Outcome::read_string))]
     pub fn read_string(&mut self, length: usize) -> TiffResult<String>
         ensures follows { let given = outcome.read_string self.old length in
@@ -172,7 +174,8 @@ impl<R: Source> Decoder<R> {
         Ok(text)
     }
 
-    /// The next four bytes as they stand. In BigTIFF: `InconsistentSizesEncountered`.
+    /// Reads the next four bytes as they are in the file. Returns `InconsistentSizesEncountered` in
+    /// a BigTIFF file.
     #[tactic(auto, unfolding(crate::specs::Outcome::read_offset))]
     pub fn read_offset(&mut self) -> TiffResult<[u8; 4]>
         ensures follows { FollowsWithoutMemory (λ x. x) (outcome.read_offset self.old) result self.old self.new }
@@ -188,7 +191,7 @@ impl<R: Source> Decoder<R> {
         Ok(bytes)
     }
 
-    /// The next eight bytes as they stand.
+    /// Reads the next eight bytes as they are in the file.
     #[tactic(auto, unfolding(crate::specs::Outcome::read_offset_u64))]
     pub fn read_offset_u64(&mut self) -> TiffResult<[u8; 8]>
         ensures follows { FollowsWithoutMemory (λ x. x) (outcome.read_offset_u64 self.old) result self.old self.new }

@@ -1,4 +1,4 @@
-//! Pixels of the page are read: whole images, chunks, and coding units.
+//! Reads pixels of the page: whole images, chunks, and coding units.
 
 ghost use Rattle.std.specs.Prelude.{length};
 ghost use Rattle.tiff_base.specs.Answers.{AsksOnly};
@@ -16,17 +16,22 @@ use tiff_base::io::Source;
 use tiff_page::layout::{BufferLayoutPreference, TiffCodingUnit};
 use tiff_page::pixels;
 
-/// These calls leave the decoder as it was, refused or not. The faults of all of them, the first that holds: those of the
-/// layout, as `image_buffer_layout` and `image_chunk_buffer_layout` tell them; those that the call names; those of the chunks
-/// that it reads, of the first chunk, and in it of the first plane, that has one. A chunk's: no data are listed for it,
-/// `InconsistentSizesEncountered`; a depth, predictor, method or inversion that isn't read, its `UnsupportedError`; more bytes
-/// in the file than `intermediate_buffer_size`, `LimitsExceeded`; too few data, `IoError(UnexpectedEof)`. Bytes of samples
-/// are little-endian, in rows of whole bytes. Memory is wanted for a fault that carries a list, or after the faults of the
-/// layout, of what the call names and of the first chunk's form; where a call hands out a list, after its limit was looked at,
-/// and the last byte that its first chunk needs at least was found in the source.
+/// These calls leave the decoder unchanged, also after an error. Each call returns the first of
+/// these errors: those of the layout, as `image_buffer_layout` and `image_chunk_buffer_layout` list
+/// them; those that the call lists; those of the chunks that it reads, in the order of the chunks,
+/// and within a chunk in the order of the planes. The errors of a chunk are:
+/// `InconsistentSizesEncountered` where the page lists no data for it; an `UnsupportedError` for a
+/// depth, predictor, compression method or inversion that the library does not read;
+/// `LimitsExceeded` for more bytes in the file than `intermediate_buffer_size`;
+/// `IoError(UnexpectedEof)` for too few data. Bytes of samples are little-endian, in rows of whole
+/// bytes. A call allocates memory only for an error that contains a list, or after the checks of
+/// the layout, of the call and of the form of the first chunk. A call that returns a list allocates
+/// it only after it checks the limit of the list, and finds in the source the last byte that the
+/// first chunk needs at least.
 impl<R: Source> Decoder<R> {
-    /// The samples of the page's image, row by row; of a planar page those of the first plane. Samples of no number type:
-    /// `UnsupportedSampleDepth` or `UnsupportedSampleFormat`; more than `decoding_buffer_size` bytes hold: `LimitsExceeded`.
+    /// Reads the samples of the page's image, row by row; on a planar page those of the first
+    /// plane. Returns `UnsupportedSampleDepth` or `UnsupportedSampleFormat` for samples of no
+    /// number type, and `LimitsExceeded` for more samples than `decoding_buffer_size` bytes hold.
     #[tactic(auto, unfolding(crate::specs::Outcome::read_image))]
     pub fn read_image(&mut self) -> TiffResult<DecodingResult>
         ensures follows { Follows decoded_as (outcome.read_image self.old) result self.old self.new }
@@ -39,10 +44,12 @@ impl<R: Source> Decoder<R> {
         Ok(DecodingResult::of(samples))
     }
 
-    /// Makes `samples` the samples of the image, its planes one behind the other; where the bytes of all planes are past
-    /// `decoding_buffer_size`, those of the first plane. The layout that is answered is of all planes. Samples of no number
-    /// type: `UnsupportedSampleDepth` or `UnsupportedSampleFormat`; more than `decoding_buffer_size` bytes hold:
-    /// `LimitsExceeded`. What a refusal leaves in `samples` isn't told.
+    /// Reads the samples of the image into `samples`, with its planes one after another. Where the
+    /// bytes of all planes exceed `decoding_buffer_size`, reads only those of the first plane. The
+    /// returned layout is that of all planes. Returns `UnsupportedSampleDepth` or
+    /// `UnsupportedSampleFormat` for samples of no number type, and `LimitsExceeded` for more
+    /// samples than `decoding_buffer_size` bytes hold. After an error the contents of `samples` are
+    /// unspecified.
     #[tactic(auto, unfolding(crate::specs::Outcome::read_image_to_buffer))]
     pub fn read_image_to_buffer(
         &mut self,
@@ -65,8 +72,9 @@ impl<R: Source> Decoder<R> {
         Ok(layout)
     }
 
-    /// Reads the image into a slice, as many of its planes as the slice takes whole; its other bytes stay. A slice shorter
-    /// than one plane: `InsufficientOutputBufferSize { needed, provided }`. What a refusal leaves in the slice isn't told.
+    /// Reads the image into a slice, as many whole planes as fit. The other bytes of the slice stay
+    /// the same. Returns `InsufficientOutputBufferSize { needed, provided }` for a slice shorter
+    /// than one plane. After an error the contents of the slice are unspecified.
     #[tactic(auto, unfolding(crate::specs::Outcome::read_image_bytes))]
     pub fn read_image_bytes(&mut self, buffer: &mut [u8]) -> TiffResult<()>
         ensures follows { Follows (λ _. buffer.new) (outcome.read_image_bytes self.old buffer.old) result self.old self.new }
@@ -78,8 +86,9 @@ impl<R: Source> Decoder<R> {
         pixels::read_image_bytes(alloc, source, order, &self.page, &self.tags.limits, buffer)
     }
 
-    /// The samples of a chunk as it is in the image, row by row, in one plane. Samples of no number type:
-    /// `UnsupportedSampleDepth` or `UnsupportedSampleFormat`; more than `decoding_buffer_size` bytes hold: `LimitsExceeded`.
+    /// Reads the samples of a chunk in one plane, cropped to the image, row by row. Returns
+    /// `UnsupportedSampleDepth` or `UnsupportedSampleFormat` for samples of no number type, and
+    /// `LimitsExceeded` for more samples than `decoding_buffer_size` bytes hold.
     #[tactic(auto, unfolding(crate::specs::Outcome::read_chunk))]
     pub fn read_chunk(&mut self, chunk_index: u32) -> TiffResult<DecodingResult>
         ensures follows { Follows decoded_as (outcome.read_chunk self.old chunk_index) result self.old self.new }
@@ -92,8 +101,9 @@ impl<R: Source> Decoder<R> {
         Ok(DecodingResult::of(samples))
     }
 
-    /// Reads a chunk as it is in the image into a slice, whose other bytes stay. A slice shorter than the chunk:
-    /// `InsufficientOutputBufferSize { needed, provided }`. What a refusal leaves in the slice isn't told.
+    /// Reads a chunk, cropped to the image, into a slice. The other bytes of the slice stay the
+    /// same. Returns `InsufficientOutputBufferSize { needed, provided }` for a slice shorter than
+    /// the chunk. After an error the contents of the slice are unspecified.
     #[tactic(auto, unfolding(crate::specs::Outcome::read_chunk_bytes))]
     pub fn read_chunk_bytes(&mut self, chunk_index: u32, buffer: &mut [u8]) -> TiffResult<()>
         ensures follows { Follows (λ _. buffer.new) (outcome.read_chunk_bytes self.old chunk_index buffer.old) result self.old self.new }
@@ -114,10 +124,12 @@ impl<R: Source> Decoder<R> {
         )
     }
 
-    /// Makes `buffer` the samples of a chunk, its rows `output_width` bytes apart, with zeros between them. Rows that are
-    /// longer: `InsufficientOutputRowStride { needed, requested }`; that many bytes for each stored row of a chunk, 2^64 or
-    /// more: `LimitsExceeded`; samples of no number type: `UnsupportedSampleDepth` or `UnsupportedSampleFormat`; more than
-    /// `decoding_buffer_size` bytes hold: `LimitsExceeded`. What a refusal leaves in `buffer` isn't told.
+    /// Reads the samples of a chunk into `buffer`, with rows `output_width` bytes apart and zeros
+    /// between them. Returns `InsufficientOutputRowStride { needed, requested }` for longer rows,
+    /// `LimitsExceeded` where `output_width` bytes for each stored row of a chunk are 2^64 or more,
+    /// `UnsupportedSampleDepth` or `UnsupportedSampleFormat` for samples of no number type, and
+    /// `LimitsExceeded` for more samples than `decoding_buffer_size` bytes hold. After an error the
+    /// contents of `buffer` are unspecified.
     #[tactic(auto, unfolding(crate::specs::Outcome::read_chunk_to_buffer))]
     pub fn read_chunk_to_buffer(
         &mut self,
@@ -146,10 +158,11 @@ impl<R: Source> Decoder<R> {
         Ok(())
     }
 
-    /// Reads the chunk of each plane of a coding unit into a slice, one behind the other, as many as the slice takes whole;
-    /// its other bytes stay. A unit that isn't below the chunks of a plane: `InvalidCodingUnit(unit, chunks)`; a slice
-    /// shorter than one plane's chunk: `InsufficientOutputBufferSize { needed, provided }`. What a refusal leaves in the slice
-    /// isn't told.
+    /// Reads the chunk of each plane of a coding unit into a slice, one after another, as many
+    /// whole chunks as fit. The other bytes of the slice stay the same. Returns
+    /// `InvalidCodingUnit(unit, chunks)` for a unit that is not below the number of chunks of a
+    /// plane, and `InsufficientOutputBufferSize { needed, provided }` for a slice shorter than the
+    /// chunk of one plane. After an error the contents of the slice are unspecified.
     #[tactic(auto, unfolding(crate::specs::Outcome::read_coding_unit_bytes))]
     pub fn read_coding_unit_bytes(
         &mut self,

@@ -9,7 +9,8 @@ use std::fmt::Debug;
 use tiff_base::error::{TiffError, TiffResult};
 use tiff_base::io::Source;
 
-/// The text of a refusal: that of its fault, and behind it the fault in the form of `Debug`.
+/// The text of an error reply: the message of the error, followed by the error in the form of
+/// `Debug`.
 pub fn refusal_text(alloc: Global, fault: &TiffError) -> Result<String, AllocError> {
     format!(in alloc; "refused: {fault} ({fault:?})")
 }
@@ -19,7 +20,7 @@ fn told<T: Debug>(alloc: Global, value: &T) -> Result<String, AllocError> {
     format!(in alloc; "{value:?}")
 }
 
-// A value, or the refusal.
+// The text of a value or of an error.
 fn answer<T: Debug>(alloc: Global, answered: &TiffResult<T>) -> Result<String, AllocError> {
     match answered {
         Ok(value) => told(alloc, value),
@@ -27,7 +28,7 @@ fn answer<T: Debug>(alloc: Global, answered: &TiffResult<T>) -> Result<String, A
     }
 }
 
-// A value or the refusal, and behind it what the call left.
+// The text of a value or of an error, followed by the buffer that the call left.
 fn answer_and_left<T: Debug, L: Debug>(
     alloc: Global,
     answered: &TiffResult<T>,
@@ -37,7 +38,8 @@ fn answer_and_left<T: Debug, L: Debug>(
     format!(in alloc; "{answer}, {left:?}")
 }
 
-/// The text of a reply: the value that the call gave, in the form of `Debug`, or its refusal, and behind it what the call left.
+/// The text of a reply: the value that the call returned, in the form of `Debug`, or its error,
+/// followed by the buffer that the call left, if it has one.
 pub fn text_of(alloc: Global, reply: &Reply) -> Result<String, AllocError> {
     match reply {
         Reply::SetLimits => told(alloc, &()),
@@ -102,8 +104,8 @@ pub fn text_of(alloc: Global, reply: &Reply) -> Result<String, AllocError> {
     }
 }
 
-/// Makes a call of a decoder, and gives the text of its reply. Where there is no memory for the text, the call is made all the
-/// same.
+/// Makes a call of a decoder and returns the text of its reply. Makes the call even where there is
+/// no memory for the text.
 pub fn reply_text<R: Source>(decoder: &mut Decoder<R>, call: &Call) -> Result<String, AllocError>
     ensures { Called decoder.old call.now decoder.new }
 {

@@ -38,7 +38,7 @@ pub enum DecodingResult {
     I64(Vec<i64>),
 }
 
-// The items of a list from one on.
+// The items of a list from an index on.
 fn rest<T>(list: &mut Vec<T>, start: usize) -> &mut [T]
     requires within { start ≤ length list.old.items }
     ensures* writes_back { sem 𝓛 (Lends (vec_row T.row) (Array T.row 0) list.entry result (with_items_from list.old start)) }
@@ -47,7 +47,7 @@ fn rest<T>(list: &mut Vec<T>, start: usize) -> &mut [T]
     list.slice_mut(start..)
 }
 
-// So many zeros of a number type.
+// A list of `len` zeros of a number type.
 #[tactic(auto, using(crate::proofs::Samples::zeros_mapped))]
 fn zeros(
     alloc: Global,
@@ -72,7 +72,7 @@ fn zeros(
 }
 
 impl DecodingResult {
-    /// Samples as they were read; their lists are moved.
+    /// Makes a result of samples that were read, without copying them.
     pub(crate) fn of(samples: Samples) -> Self
         ensures { decoded_as result ≡ samples_as samples }
     {
@@ -91,7 +91,7 @@ impl DecodingResult {
         }
     }
 
-    // What its memory is taken from.
+    // The allocator of the list.
     fn allocator(&self) -> Global {
         match self {
             DecodingResult::U8(samples) => *samples.allocator(),
@@ -108,9 +108,10 @@ impl DecodingResult {
         }
     }
 
-    /// Makes it zeros of a layout's number type for all the layout's bytes, in whole samples. A layout with no number type:
-    /// `UnknownInterpretation`; more samples than `decoding_buffer_size` bytes hold: `LimitsExceeded`. Memory is taken after
-    /// these. It stays as it was after a refusal, `OutOfMemory` too.
+    /// Makes the result zeros of a layout's number type, as many whole samples as cover all bytes
+    /// of the layout. Returns `UnknownInterpretation` for a layout without a number type, and
+    /// `LimitsExceeded` for more samples than `decoding_buffer_size` bytes hold. Allocates memory
+    /// only after these checks. After an error, `OutOfMemory` too, the result is unchanged.
     #[tactic(auto, unfolding(tiff_page::specs::Buffers::resized_samples))]
     pub fn resize_to(&mut self, layout: &BufferLayoutPreference, limits: &Limits) -> TiffResult<()>
         ensures resized { GivesSparingly (λ _. decoded_as self.new) result (resized_samples layout.now limits.now) }
@@ -129,7 +130,7 @@ impl DecodingResult {
         Ok(())
     }
 
-    /// Its number type (this project's).
+    /// The number type of the samples (this project's).
     pub fn sample_type(&self) -> DecodingSampleType
         ensures { result ≡ (decoded_as self.now).sample_type }
     {
@@ -148,7 +149,7 @@ impl DecodingResult {
         }
     }
 
-    // The same where it is going to be lent.
+    // The number type of the samples, of a result that the caller lends afterwards.
     fn sample_type_kept(&mut self) -> DecodingSampleType
         ensures sample_type { result ≡ (decoded_as self.old).sample_type }
         ensures kept { self.new ≡ self.old }
@@ -156,7 +157,9 @@ impl DecodingResult {
         self.sample_type()
     }
 
-    /// The samples of a result of unsigned numbers of 8 bits, as `as_buffer` lends them: a caller's proof knows what is written there (this project's).
+    /// The samples from `start` on of a result of 8-bit unsigned numbers, as `as_buffer` lends
+    /// them. The contract lets the caller prove what is in the result after the loan (this
+    /// project's).
     #[tactic(auto, using(crate::proofs::Samples::length_mapped, crate::proofs::Samples::rest_mapped))]
     pub fn u8_rest(&mut self, start: usize) -> &mut [u8]
         requires sample_type { type.U8 ≡ (decoded_as self.old).sample_type }
@@ -171,7 +174,9 @@ impl DecodingResult {
         }
     }
 
-    /// The samples of a result of unsigned numbers of 16 bits, as `as_buffer` lends them: a caller's proof knows what is written there (this project's).
+    /// The samples from `start` on of a result of 16-bit unsigned numbers, as `as_buffer` lends
+    /// them. The contract lets the caller prove what is in the result after the loan (this
+    /// project's).
     #[tactic(auto, using(crate::proofs::Samples::length_mapped, crate::proofs::Samples::rest_mapped))]
     pub fn u16_rest(&mut self, start: usize) -> &mut [u16]
         requires sample_type { type.U16 ≡ (decoded_as self.old).sample_type }
@@ -186,7 +191,9 @@ impl DecodingResult {
         }
     }
 
-    /// The samples of a result of unsigned numbers of 32 bits, as `as_buffer` lends them: a caller's proof knows what is written there (this project's).
+    /// The samples from `start` on of a result of 32-bit unsigned numbers, as `as_buffer` lends
+    /// them. The contract lets the caller prove what is in the result after the loan (this
+    /// project's).
     #[tactic(auto, using(crate::proofs::Samples::length_mapped, crate::proofs::Samples::rest_mapped))]
     pub fn u32_rest(&mut self, start: usize) -> &mut [u32]
         requires sample_type { type.U32 ≡ (decoded_as self.old).sample_type }
@@ -201,7 +208,9 @@ impl DecodingResult {
         }
     }
 
-    /// The samples of a result of unsigned numbers of 64 bits, as `as_buffer` lends them: a caller's proof knows what is written there (this project's).
+    /// The samples from `start` on of a result of 64-bit unsigned numbers, as `as_buffer` lends
+    /// them. The contract lets the caller prove what is in the result after the loan (this
+    /// project's).
     #[tactic(auto, using(crate::proofs::Samples::length_mapped, crate::proofs::Samples::rest_mapped))]
     pub fn u64_rest(&mut self, start: usize) -> &mut [u64]
         requires sample_type { type.U64 ≡ (decoded_as self.old).sample_type }
@@ -216,7 +225,9 @@ impl DecodingResult {
         }
     }
 
-    /// The samples of a result of floating numbers of 16 bits, as `as_buffer` lends them: a caller's proof knows what is written there (this project's).
+    /// The samples from `start` on of a result of 16-bit floating-point numbers, as `as_buffer`
+    /// lends them. The contract lets the caller prove what is in the result after the loan (this
+    /// project's).
     #[tactic(auto, using(crate::proofs::Samples::length_mapped, crate::proofs::Samples::rest_mapped))]
     pub fn f16_rest(&mut self, start: usize) -> &mut [Bits16]
         requires sample_type { type.F16 ≡ (decoded_as self.old).sample_type }
@@ -231,7 +242,9 @@ impl DecodingResult {
         }
     }
 
-    /// The samples of a result of floating numbers of 32 bits, as `as_buffer` lends them: a caller's proof knows what is written there (this project's).
+    /// The samples from `start` on of a result of 32-bit floating-point numbers, as `as_buffer`
+    /// lends them. The contract lets the caller prove what is in the result after the loan (this
+    /// project's).
     #[tactic(auto, using(crate::proofs::Samples::length_mapped, crate::proofs::Samples::rest_mapped))]
     pub fn f32_rest(&mut self, start: usize) -> &mut [Bits32]
         requires sample_type { type.F32 ≡ (decoded_as self.old).sample_type }
@@ -246,7 +259,9 @@ impl DecodingResult {
         }
     }
 
-    /// The samples of a result of floating numbers of 64 bits, as `as_buffer` lends them: a caller's proof knows what is written there (this project's).
+    /// The samples from `start` on of a result of 64-bit floating-point numbers, as `as_buffer`
+    /// lends them. The contract lets the caller prove what is in the result after the loan (this
+    /// project's).
     #[tactic(auto, using(crate::proofs::Samples::length_mapped, crate::proofs::Samples::rest_mapped))]
     pub fn f64_rest(&mut self, start: usize) -> &mut [Bits64]
         requires sample_type { type.F64 ≡ (decoded_as self.old).sample_type }
@@ -261,7 +276,8 @@ impl DecodingResult {
         }
     }
 
-    /// The samples of a result of signed numbers of 8 bits, as `as_buffer` lends them: a caller's proof knows what is written there (this project's).
+    /// The samples from `start` on of a result of 8-bit signed numbers, as `as_buffer` lends them.
+    /// The contract lets the caller prove what is in the result after the loan (this project's).
     #[tactic(auto, using(crate::proofs::Samples::length_mapped, crate::proofs::Samples::rest_mapped))]
     pub fn i8_rest(&mut self, start: usize) -> &mut [i8]
         requires sample_type { type.I8 ≡ (decoded_as self.old).sample_type }
@@ -276,7 +292,8 @@ impl DecodingResult {
         }
     }
 
-    /// The samples of a result of signed numbers of 16 bits, as `as_buffer` lends them: a caller's proof knows what is written there (this project's).
+    /// The samples from `start` on of a result of 16-bit signed numbers, as `as_buffer` lends them.
+    /// The contract lets the caller prove what is in the result after the loan (this project's).
     #[tactic(auto, using(crate::proofs::Samples::length_mapped, crate::proofs::Samples::rest_mapped))]
     pub fn i16_rest(&mut self, start: usize) -> &mut [i16]
         requires sample_type { type.I16 ≡ (decoded_as self.old).sample_type }
@@ -291,7 +308,8 @@ impl DecodingResult {
         }
     }
 
-    /// The samples of a result of signed numbers of 32 bits, as `as_buffer` lends them: a caller's proof knows what is written there (this project's).
+    /// The samples from `start` on of a result of 32-bit signed numbers, as `as_buffer` lends them.
+    /// The contract lets the caller prove what is in the result after the loan (this project's).
     #[tactic(auto, using(crate::proofs::Samples::length_mapped, crate::proofs::Samples::rest_mapped))]
     pub fn i32_rest(&mut self, start: usize) -> &mut [i32]
         requires sample_type { type.I32 ≡ (decoded_as self.old).sample_type }
@@ -306,7 +324,8 @@ impl DecodingResult {
         }
     }
 
-    /// The samples of a result of signed numbers of 64 bits, as `as_buffer` lends them: a caller's proof knows what is written there (this project's).
+    /// The samples from `start` on of a result of 64-bit signed numbers, as `as_buffer` lends them.
+    /// The contract lets the caller prove what is in the result after the loan (this project's).
     #[tactic(auto, using(crate::proofs::Samples::length_mapped, crate::proofs::Samples::rest_mapped))]
     pub fn i64_rest(&mut self, start: usize) -> &mut [i64]
         requires sample_type { type.I64 ≡ (decoded_as self.old).sample_type }
@@ -321,8 +340,9 @@ impl DecodingResult {
         }
     }
 
-    /// Its samples from one on, to be written in place; `start` is at most their number. Once they are written it has the samples
-    /// before them as they were, and then these.
+    /// The samples from an index on, for the caller to write in place. `start` is at most the
+    /// number of samples. After the loan the result has its former samples before `start`, followed
+    /// by the written ones.
     pub fn as_buffer(&mut self, start: usize) -> DecodingBuffer<'_>
         requires { start ≤ length (decoded_as self.old).numbers }
         ensures* writes_back { sem 𝓛 (lends_rest self.entry start result) }

@@ -27,8 +27,9 @@ use tiff_ifd::value::Value;
 use tiff_page::layout::{BufferLayoutPreference, TiffCodingUnit};
 use tiff_value::buffer::ValueBuffer;
 
-/// A call of a decoder, or of the tags of its page. A slice is given by its length and starts as zeros; a list of samples
-/// starts empty, and a buffer of values as an empty one of `Type::BYTE`. Calls with a number type are of `u64`.
+/// A call of a decoder, or of the tags of its page. A slice is defined by its length and starts as
+/// zeros. A list of samples starts empty, and a buffer of values starts as an empty one of
+/// `Type::BYTE`. Calls that take a number type use `u64`.
 #[derive(Drop)]
 pub enum Call {
     SetLimits(Limits),
@@ -92,7 +93,7 @@ pub enum Call {
     FindTagBytes { tag: Tag, len: usize, at: u64 },
 }
 
-/// What a call answered, and the slice, the list of samples or the buffer as the call left it.
+/// The result of a call, and the slice, the list of samples or the buffer as the call left it.
 #[derive(Drop)]
 pub enum Reply {
     SetLimits,
@@ -156,7 +157,7 @@ pub enum Reply {
     FindTagBytes(TiffResult<Option<usize>>, Vec<u8>),
 }
 
-// The same limits.
+// A copy of limits.
 fn same_limits(limits: &Limits) -> Limits
     ensures { result ≡ limits.now }
 {
@@ -167,7 +168,7 @@ fn same_limits(limits: &Limits) -> Limits
     same
 }
 
-// So many zeros.
+// A list of `len` zeros.
 fn zeros(alloc: Global, len: usize) -> TiffResult<Vec<u8>>
     ensures zeros { IfOk result (λ v. v.items ≡ replicate len 0) }
     ensures err { IfErr result (λ e. e ≡ OutOfMemory) }
@@ -175,7 +176,7 @@ fn zeros(alloc: Global, len: usize) -> TiffResult<Vec<u8>>
     Ok(vec![in alloc; 0u8; len]?)
 }
 
-// The image into an empty list of samples.
+// Reads the image into an empty list of samples.
 #[tactic(auto, using(crate::proofs::CallsMade::wanted_after))]
 fn image_samples<R: Source>(
     decoder: &mut Decoder<R>,
@@ -188,7 +189,7 @@ fn image_samples<R: Source>(
     (result, samples)
 }
 
-// A chunk into an empty list of samples.
+// Reads a chunk into an empty list of samples.
 #[tactic(auto, using(crate::proofs::CallsMade::wanted_after))]
 fn chunk_samples<R: Source>(
     decoder: &mut Decoder<R>,
@@ -203,7 +204,7 @@ fn chunk_samples<R: Source>(
     (result, samples)
 }
 
-// The image into a slice of zeros.
+// Reads the image into a slice of zeros.
 #[tactic(auto, using(crate::proofs::CallsMade::stands_here, crate::proofs::CallsMade::image_bytes))]
 fn image_bytes<R: Source>(decoder: &mut Decoder<R>, len: usize) -> (TiffResult<()>, Vec<u8>)
     ensures { Follows (λ _. items_of result.1) (outcome.read_image_bytes decoder.old (replicate len 0)) result.0 decoder.old decoder.new }
@@ -216,7 +217,7 @@ fn image_bytes<R: Source>(decoder: &mut Decoder<R>, len: usize) -> (TiffResult<(
     (result, bytes)
 }
 
-// A chunk into a slice of zeros.
+// Reads a chunk into a slice of zeros.
 #[tactic(auto, using(crate::proofs::CallsMade::stands_here, crate::proofs::CallsMade::chunk_bytes))]
 fn chunk_bytes<R: Source>(
     decoder: &mut Decoder<R>,
@@ -234,7 +235,7 @@ fn chunk_bytes<R: Source>(
     (result, bytes)
 }
 
-// A coding unit into a slice of zeros.
+// Reads a coding unit into a slice of zeros.
 #[tactic(auto, using(crate::proofs::CallsMade::stands_here, crate::proofs::CallsMade::unit_bytes))]
 fn unit_bytes<R: Source>(
     decoder: &mut Decoder<R>,
@@ -252,7 +253,7 @@ fn unit_bytes<R: Source>(
     (result, bytes)
 }
 
-// The values of a tag into an empty buffer.
+// Reads the values of a tag into an empty buffer.
 fn tag_buffer<R: Source>(
     decoder: &mut Decoder<R>,
     tag: Tag,
@@ -266,7 +267,7 @@ fn tag_buffer<R: Source>(
     (result, buffer)
 }
 
-// The bytes of a tag's values into a slice of zeros.
+// Reads the bytes of a tag's values into a slice of zeros.
 #[tactic(auto, using(crate::proofs::CallsMade::nothing_read, crate::proofs::CallsMade::tag_bytes))]
 fn tag_bytes<R: Source>(
     decoder: &mut Decoder<R>,
@@ -385,7 +386,7 @@ pub fn run_call<R: Source>(decoder: &mut Decoder<R>, call: &Call) -> Reply
     }
 }
 
-// Puts an item behind the others of a list that has room for it.
+// Appends an item to a list that has room for it.
 fn put<T: Drop>(items: &mut Vec<T>, item: T)
     requires { vec_len items.old < vec_capacity items.old }
     ensures items { items.new.items ≡ items.old.items ++ item ∷ [] }
@@ -397,8 +398,9 @@ fn put<T: Drop>(items: &mut Vec<T>, item: T)
     }
 }
 
-/// Makes calls of a decoder one after another, and puts the reply of each, a fault too, behind those in `replies`. Room for all
-/// replies is taken first; where that is refused, `OutOfMemory`: nothing is called, and `replies` holds what it held.
+/// Makes calls of a decoder one after another, and appends the reply of each to `replies`, also
+/// where it is an error. First reserves memory for all replies; where that fails, returns
+/// `OutOfMemory`, makes no call, and leaves `replies` unchanged.
 #[tactic(auto, using(crate::proofs::CallsMade::turn, crate::proofs::CallsMade::none_made))]
 pub fn run_calls<R: Source>(
     decoder: &mut Decoder<R>,

@@ -1,4 +1,4 @@
-//! The tags of a directory, one by one.
+//! Iterates over the tags of a directory.
 
 ghost use Rattle.std.specs.Prelude.{◌≡◌, ◌≤◌, ◌∷◌, ◌++◌, [], None, Ok, IfErr, OnOk, length, option_map, slice_get};
 ghost use Rattle.std.specs.FinMap.{entries};
@@ -21,7 +21,7 @@ use tiff_ifd::limits::Limits;
 use tiff_ifd::read_value::read_value;
 use tiff_ifd::value::Value;
 
-// The field after a tag number, or the first one, with its tag number.
+// The field after a tag number, or the first field, with its tag number.
 fn next_field(directory: &Directory, last: Option<u16>) -> Option<(u16, &Entry)>
     ensures { option_map (λ x. (x.0, x.1.now)) result ≡ slice_get (fields_left last (entries directory.now.entries)) 0 }
 {
@@ -34,7 +34,7 @@ fn next_field(directory: &Directory, last: Option<u16>) -> Option<(u16, &Entry)>
     }
 }
 
-// A tag with the value of its field.
+// Reads the value of a field, and returns it with the tag.
 #[tactic(auto, using(crate::proofs::Items::item_refused))]
 fn read_item<R: Source>(
     alloc: Global,
@@ -53,7 +53,7 @@ fn read_item<R: Source>(
     Ok((Tag::from_u16_exhaustive(number), value))
 }
 
-// Puts an item behind the others of a list.
+// Appends an item to a list.
 fn add<T: Drop>(items: &mut Vec<T>, item: T) -> TiffResult<()>
     ensures ok { OnOk result (items.new.items ≡ items.old.items ++ item ∷ []) }
     ensures err { IfErr result (λ e. e ≡ OutOfMemory) }
@@ -63,8 +63,9 @@ fn add<T: Drop>(items: &mut Vec<T>, item: T) -> TiffResult<()>
 }
 
 impl<R: Source> Decoder<R> {
-    // The next item of the tags of the page's directory, or of another one, after the field of a tag number, or the first one. The
-    // number moves on to that field, whether or not its value is refused.
+    // Reads the next item of the tags of the page's directory, or of another one: the field after
+    // the tag number `last`, or the first field. Sets `last` to the number of that field, also
+    // where its value has an error.
     pub(crate) fn next_item(
         &mut self,
         other: Option<&Directory>,
@@ -92,7 +93,8 @@ impl<R: Source> Decoder<R> {
         ))
     }
 
-    // All tags of the page with their values, each or its fault.
+    // Reads all tags of the page with their values. An item is a tag with its value, or the error
+    // of the value.
     #[tactic(auto, using(crate::proofs::TagList::begun, crate::proofs::TagList::ended))]
     pub(crate) fn all_tags(&mut self) -> TiffResult<Vec<TiffResult<(Tag, Value)>>>
         ensures { Items (outcome.tag_iter self.old) result self.old self.new }
@@ -105,7 +107,8 @@ impl<R: Source> Decoder<R> {
         Ok(items)
     }
 
-    /// The tags of the page with their values, by ascending number, each or its fault: `IfdDecoder::tag_iter`.
+    /// Iterates over the tags of the page with their values, by ascending number, as
+    /// `IfdDecoder::tag_iter`. An item is a tag with its value, or the error of the value.
     #[tactic(auto, unfolding(crate::specs::Outcome::tag_iter, tiff_ifd::specs::TagQueries::tag_items))]
     pub fn tag_iter(&mut self) -> TagIter<'_, R>
         ensures same_reference { result.reader.decoder.ghost_name ≡ self.entry.ghost_name }
@@ -118,9 +121,10 @@ impl<R: Source> Decoder<R> {
 }
 
 impl<'a, R: Source> IfdDecoder<'a, R> {
-    /// The tags with their values, by ascending number. An item whose value is refused is a fault of `find_tag`; it doesn't name
-    /// its tag, and the items after it still come. The iterator takes no memory of its own; an item takes a look-up and the read
-    /// of its value.
+    /// Iterates over the tags with their values, by ascending number. An item whose value cannot be
+    /// read is an error of `find_tag`; it does not name its tag, and later items still follow. The
+    /// iterator allocates no memory of its own. An item takes one look-up and the read of its
+    /// value.
     #[tactic(auto, unfolding(crate::specs::Outcome::tag_iter, tiff_ifd::specs::TagQueries::tag_items))]
     pub fn tag_iter(self) -> TagIter<'a, R>
         ensures same_reference { result.reader.decoder.ghost_name ≡ self.entry.decoder.ghost_name }
@@ -136,7 +140,8 @@ impl<'a, R: Source> IfdDecoder<'a, R> {
     }
 }
 
-/// The tags of a directory with their values, by ascending number: what `IfdDecoder::tag_iter` gives.
+/// The tags of a directory with their values, by ascending number: the iterator of
+/// `IfdDecoder::tag_iter`.
 #[derive(Drop)]
 pub struct TagIter<'a, R: Source> {
     reader: IfdDecoder<'a, R>,
@@ -146,7 +151,8 @@ pub struct TagIter<'a, R: Source> {
 impl<'a, R: Source> Iterator for TagIter<'a, R> {
     type Item = TiffResult<(Tag, Value)>;
 
-    // The same decoder is borrowed, the directory is the same, and the next item is given, if one is left.
+    // Keeps the decoder that it borrows and the directory, and returns the next item, if one is
+    // left.
     ghost next_gives = { λ s r t. IsBorrowed s.reader.decoder t.reader.decoder × (t.reader.other ≡ s.reader.other) × NextItem (tags_left s.reader.decoder s.reader.other s.last) r (tags_left t.reader.decoder t.reader.other t.last) s.reader.decoder.now.failures t.reader.decoder.now.failures };
 
     ghost remaining = { λ s. at_most (length (tags_left s.reader.decoder s.reader.other s.last)) };

@@ -1,4 +1,4 @@
--- Models that stand in one file agree on what is finished in both.
+-- Two models that describe the same file agree on each directory that both contain.
 use Rattle.std.proofs.Common.{zero, suc, ◌≡◌, ℕ, List, Option, Some, None, cond, refl, ap, sym, ◌∙◌, arith}
 use Rattle.std.proofs.lemmas.Bool.{ne_eqb}
 use Rattle.tiff_base.specs.declared.tags.FileKind.{FileKind}
@@ -9,7 +9,7 @@ use Rattle.tiff_encode.specs.Model.{In, FinishedDirectory, Model, header_link, o
 use Rattle.tiff_encode.specs.Laws.{ModelsAgree}
 use Rattle.tiff_encode.proofs.Slices.{ok_inj}
 
--- the target that a next directory is
+-- the target of the link to the next directory, or 0 if there is no next one
 abbrev target : Option ℕ → ℕ
 target None = 0
 target (Some offset) = offset
@@ -18,11 +18,11 @@ target_link : (t : ℕ) → target (link t) ≡ t
 target_link zero = refl
 target_link (suc t) = ap (λ b. target (cond b None (Some (suc t)))) (ne_eqb (suc t) 0 (λ e. omega arith))
 
--- what a model says of the directory at an offset
+-- the directory that a model records at an offset
 abbrev told_of : FileKind → Model → FinishedDirectory → DirectoryRecord
 told_of kind m d = record { entries = d.fields; next = link (m.links (own_link kind d)) }
 
--- it is the same by two models
+-- two models that describe the same file record the same directory
 same : (kind : FileKind) (m n : Model) (file : List ℕ) → Stands kind file m → Stands kind file n
     → (d e : FinishedDirectory) → In d m.directories → In e n.directories → d.offset ≡ e.offset
     → told_of kind m d ≡ told_of kind n e

@@ -1,4 +1,4 @@
--- Which calls only append, and that an end points no link but its parent's.
+-- Which calls only append, and that the end of a directory changes no link except its parent's.
 use Rattle.std.proofs.Common.{◌≡◌, ℕ, Bool, true, false, List, ◌∷◌, ◌++◌, length, Option, Some, None, Result, Ok, Err, refl, ap, sym, ◌∙◌, subst, append-nil}
 use Rattle.std.specs.FinMap.{FinMap, len}
 use Rattle.std.specs.Ordering.{nat_cmp}
@@ -55,7 +55,7 @@ image_calls_append = record {
 
 -- ---- ends
 
--- of a directory: by the cause that refuses it, its parent, and whether it is chained
+-- the end of a directory changes no link except its parent's, whether its checks refuse it or not
 finish_links : (cause : Option TiffError) (parent : Option ℕ) (chained : Bool) (fields : FinMap nat_cmp Field) (offsets : Offsets) (file : FileState)
     → offsets.pointer ≡ length file.bytes
     → LinksParent parent (by_cause cause (does (Listed fields ∷ links_to parent (length file.bytes)) >>= (λ _. chains chained offsets)) file) file
@@ -72,7 +72,7 @@ unfolding finish
 directory_links d file =
     finish_links (finish_cause file d) d.parent d.chained d.fields (offsets_of file.kind (length file.bytes) (len d.fields)) file refl
 
--- what appends, and then an end
+-- a call that only appends, followed by the end of a directory, changes no other link
 module _ {A : Type 0} (parent : Option ℕ) (rest : A → Writing Offsets) where
   joined_links : (r : Result A TiffError) (deeds : List Deed) (next file : FileState) → next ≡ file_with_bytes file (all_appended file.kind deeds)
       → ((x : A) → r ≡ Ok x → LinksParent parent (rest x next) next) → LinksParent parent (and_then r deeds next rest) file

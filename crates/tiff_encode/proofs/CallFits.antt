@@ -1,4 +1,4 @@
--- What a call does can be done to a file in which a model stands.
+-- The changes of a call fit a file that a model describes.
 use Rattle.std.proofs.Common.{◌≡◌, ℕ, ◌^◌, ◌<◌, ◌≤◌, Bool, true, false, cond, List, [], ◌∷◌, ◌++◌, length, take, Option, Some, None, Result, Ok, Err, refl, sym, ◌∙◌, inl, inr, subst, arith, lit≤}
 use Rattle.std.proofs.lemmas.Bool.{ltb-true, ltb-false, leb-false}
 use Rattle.std.proofs.lemmas.List.{take_at, take-take}
@@ -29,7 +29,7 @@ use Rattle.std.specs.FinMap.{len}
 
 -- ---- calls
 
--- what a call does behind another
+-- the changes of two calls in sequence
 going_on_fits : {A B : Type 0} (r : Result A TiffError) (deeds : List Deed) (next : FileState) (rest : A → Writing B)
     (kind : FileKind) (bytes : List ℕ) (m : Model) → DeedsFit kind bytes m deeds
     → ((x : A) → r ≡ Ok x → DeedsFit kind (bytes_after kind bytes deeds) (model_after kind bytes m deeds) (rest x next).deeds)
@@ -37,7 +37,7 @@ going_on_fits : {A B : Type 0} (r : Result A TiffError) (deeds : List Deed) (nex
 going_on_fits (Ok x) deeds next rest kind bytes m f g = fits_joined kind bytes m deeds (rest x next).deeds f (g x refl)
 going_on_fits (Err e) deeds next rest kind bytes m f g = f
 
--- it fits where the first does, and what follows fits behind it
+-- the changes of two calls in sequence fit if the changes of each call fit
 pub followed_fits : {A B : Type 0} (call : Writing A) (rest : A → Writing B) (file : FileState) (m : Model)
     → DeedsFit file.kind file.bytes m (call file).deeds
     → ((x : A) → (call file).answer ≡ Ok x
@@ -47,33 +47,33 @@ pub followed_fits : {A B : Type 0} (call : Writing A) (rest : A → Writing B) (
 followed_fits call rest file m f g =
     going_on_fits (call file).answer (call file).deeds (call file).next rest file.kind file.bytes m f g
 
--- a call that is refused does nothing
+-- a call that is refused makes no change
 pub caused_fits : {A : Type 0} (cause : Option TiffError) (call : Writing A) (file : FileState) (m : Model)
     → (cause ≡ None → DeedsFit file.kind file.bytes m (call file).deeds)
     → DeedsFit file.kind file.bytes m (by_cause cause call file).deeds
 caused_fits None call file m f = f refl
 caused_fits (Some e) call file m f = tt
 
--- ---- a value that is handed in
+-- ---- a value that a call writes
 
--- an offset that is not past the kind's
+-- an offset within the limit of the file kind fits the width of its offsets
 pub offset_fits : (kind : FileKind) (n : ℕ) → is_past kind n ≡ false → n < 2 ^ 64 → n < 256 ^ offset_len kind
 offset_fits Classic n h l = leb-false (2 ^ 32) n h
 offset_fits Big n h l = l
 
--- the offset in an entry is the one that was written
+-- the offset read from an entry is the written offset
 offset_read : (kind : FileKind) (f : Field) (n : ℕ) → n < 256 ^ offset_len kind
     → field_offset kind LittleEndian (record f { value = le 8 n }) ≡ n
 unfolding number
 offset_read Classic f n l = number-le w32 n (inr (inl refl)) l
 offset_read Big f n l = number-le w64 n (inr (inr refl)) l
 
--- a value field is no longer than eight bytes
+-- a value field has at most eight bytes
 offset_len_8 : (kind : FileKind) → offset_len kind ≤ 8
 offset_len_8 Classic = lit≤ tt
 offset_len_8 Big = lit≤ tt
 
--- the field of a value, by whether it is long
+-- the field of a value, by whether the value is too long for the entry
 abbrev field_by : Bool → ℕ → FieldData → Field
 field_by long offset value = record {
   field_type = value.field_type;
@@ -81,13 +81,13 @@ field_by long offset value = record {
   value = cond long (le 8 offset) (filled_field value.bytes);
 }
 
--- and what is done to hand it in
+-- the changes that write a value, by whether the value is too long for the entry
 abbrev deeds_by : Bool → ℕ → FieldData → List Deed
 deeds_by long offset value =
     let handed : Deed = Handed (record { field = field_by long offset value; bytes = value.bytes }) in
     cond long (Appended value.bytes ∷ handed ∷ []) (handed ∷ [])
 
--- it fits
+-- the changes that write a value fit
 handed_fits : (kind : FileKind) (bytes : List ℕ) (m : Model) (value : FieldData) (long : Bool) → is_long kind value ≡ long
     → IsWhole value → length value.bytes < 2 ^ 64 → (long ≡ true → length bytes < 256 ^ offset_len kind)
     → DeedsFit kind bytes m (deeds_by long (length bytes) value)
@@ -123,7 +123,7 @@ handed_fits kind bytes m value false t w s p =
     let P : ℕ → Type 0 = λ k. v ≡ take k (filled_field v) in
     (inl (record { short = omega (arith, w, below); bytes = subst P w (sym taken) }), tt)
 
--- the tests of a field
+-- if the tests of a field return no error and the second test holds, the third doesn't
 tests : (a b c : Bool) (e : TiffError) → cond a (Some e) (cond (b && c) (Some e) None) ≡ None → b ≡ true → c ≡ false
 tests true b c e h t = absurd cc
 tests false true true e h t = absurd cc
@@ -141,7 +141,7 @@ placed_fits file m value w h l s =
 
 -- ---- the end of a directory
 
--- a directory is listed, and its parent's link is pointed to it
+-- appending a directory and pointing its parent's link to it fits
 listed_fits : (kind : FileKind) (bytes : List ℕ) (m : Model) (d : OpenDirectory) (parent : Option ℕ) → AreListable kind d.fields
     → ((offset : ℕ) → parent ≡ Some offset → IsLink kind m offset) → length bytes < 256 ^ offset_len kind
     → DeedsFit kind bytes m (Listed d.fields ∷ links_to parent (length bytes))

@@ -1,4 +1,4 @@
--- What the calls of a directory end as.
+-- How the calls of a directory end.
 use Rattle.std.proofs.Common.{◌≡◌, ℕ, ◌*◌, ◌^◌, ◌<◌, ◌≤◌, suc, Bool, true, false, cond, List, [], ◌∷◌, length, take, Option, Some, None, Result, Ok, Err, refl, ap, sym, ◌∙◌, inl, inr, ◌⊎◌, subst, arith, lit≤, append-nil}
 use Rattle.std.proofs.lemmas.Bool.{lt-ltb, le-ltb, ltb-true, ltb-false}
 use Rattle.std.proofs.Math.Nat.{le-min, min-eq_left}
@@ -31,9 +31,10 @@ use Rattle.tiff_encode.specs.Calls.{placed_field, appends, write_entry, write_en
 use Rattle.tiff_encode.specs.Ends.{IsTold, IsCutOff, HasBegun, CallFails, Ends}
 use Rattle.tiff_encode.specs.Placing.{field_test, appended_for, Places}
 
--- ---- causes
+-- ---- errors that refuse a call
 
--- after a fault of the sink there is no other cause; before one there are the others
+-- After an error of the sink, `WriterFailed` refuses each call. Without one, the other checks
+-- decide.
 pub stopped_cause : (fault : Option SinkFault) (c : Option TiffError) → IsSome fault → unless_ended fault c ≡ Some (UsageError WriterFailed)
 stopped_cause None c s = absurd cc
 stopped_cause (Some f) c s = refl
@@ -43,27 +44,27 @@ fresh_cause fault c f = ap (λ x. unless_ended x c) f
 
 -- ---- ends
 
--- a beginning of what is appended
+-- a sink that fails while it appends writes a prefix of the appended bytes
 pub cut_off : (deeds : List Deed) (e : TiffError) (old new : FileState) → AppendIsCut (all_appended old.kind deeds) e old new
     → IsCutOff deeds e old new
 cut_off deeds e old new c =
     record { fresh = c.fresh; fault = c.fault; answer = c.answer; count = c.count; within = c.within; state = c.state }
 
 module _ {X Y : Type 0} (view : X → Y) where
-  -- a call that is refused
+  -- a call that is refused ends with the error that refuses it
   pub refused : (cause : Option TiffError) (call : Writing Y) (file : FileState) (e : TiffError) → cause ≡ Some e
       → Ends view (by_cause cause call file) (Err e) file file
   refused cause call file e c =
       let P : Option TiffError → Type 0 = λ k. Ends view (by_cause k call file) (Err e) file file in
       subst P (sym c) (inl (record { answer = refl; state = refl }))
 
-  -- one that is not
+  -- a call that is not refused ends as its body ends
   pub uncaused : (cause : Option TiffError) (call : Writing Y) (r : Result X TiffError) (old new : FileState) → cause ≡ None
       → Ends view (call old) r old new → Ends view (by_cause cause call old) r old new
   uncaused cause call r old new c h =
       let P : Option TiffError → Type 0 = λ k. Ends view (by_cause k call old) r old new in subst P (sym c) h
 
-  -- no memory, and nothing was done
+  -- a call that runs out of memory and changes nothing ends with that error
   pub wanting : (told : WriteOutcome Y) (e : TiffError) (file : FileState) → file.fault ≡ None → e ≡ OutOfMemory
       → HasBegun told.answer told.deeds → Ends view told (Err e) file file
   wanting told e file f q b = inr (inr (inr (record {
@@ -75,28 +76,28 @@ module _ {X Y : Type 0} (view : X → Y) where
     state = ap (λ bytes. record file { bytes = bytes }) (sym (append-nil file.bytes));
   })))
 
--- ---- a value that is handed in
+-- ---- a value that a call writes
 
--- what is told of it, by whether it is long
+-- the outcome of writing a value, by whether it is too long for the entry
 abbrev placed_by : Bool → FieldData → Writing Field
 placed_by long value file =
     let field : Field = record { field_type = value.field_type; count = value.count; value = cond long (le 8 (end_of file)) (filled_field value.bytes) } in
     let handed : Deed = Handed (record { field = field; bytes = value.bytes }) in
     (does (cond long (Appended value.bytes ∷ handed ∷ []) (handed ∷ [])) >>= (λ _. gives field)) file
 
--- and the field
+-- the field of a value, by whether it is too long for the entry
 abbrev field_by : Bool → ℕ → FieldData → Field
 field_by long end value =
     record { field_type = value.field_type; count = value.count; value = cond long (le 8 end) (filled_field value.bytes) }
 
--- it is done
+-- writing a value succeeds
 done_by : (long : Bool) (value : FieldData) (field : Field) (old new : FileState) → field ≡ field_by long (end_of old) value
     → new ≡ file_with_bytes old (cond long value.bytes []) → IsTold (placed_by long value old) (Ok field) new
 done_by true value field old new f n = record { answer = ap Ok (sym f); state = n }
 done_by false value field old new f n =
     record { answer = ap Ok (sym f); state = n ∙ ap (λ bytes. record old { bytes = bytes }) (append-nil old.bytes) }
 
--- or cut off
+-- the sink fails while it writes a value
 cut_by : (long : Bool) (value : FieldData) (e : TiffError) (old new : FileState) → AppendIsCut (cond long value.bytes []) e old new
     → IsCutOff (placed_by long value old).deeds e old new
 cut_by true value e old new c =
@@ -110,12 +111,12 @@ placed_ends value (Err e) old new p = inr (inl (cut_by (is_long old.kind value) 
 
 -- ---- a value that may be a text
 
--- a value that a field can be given
+-- a value that a field can have is valid data
 pub writable : (given : Result FieldData TiffError) → IsWritable given → (d : FieldData) × (given ≡ Ok d)
 writable (Ok d) w = (d, refl)
 writable (Err e) w = absurd w
 
--- the bytes of one are refused for memory alone
+-- making the bytes of a valid value fails only if the call runs out of memory
 pub wants : (given : Result FieldData TiffError) (e : TiffError) → IsWritable given → IsCause (IsWritable given) ⊥ e (given ≡ Err e) → e ≡ OutOfMemory
 wants (Err f) e w h = absurd w
 wants (Ok d) OutOfMemory w h = refl
@@ -130,7 +131,7 @@ wants (Ok d) LimitsExceeded w h = absurd cc
 wants (Ok d) IntSizeError w h = absurd cc
 wants (Ok d) (UsageError x) w h = absurd cc
 
--- a number of bytes that is cut to 64 bits is long where it was
+-- a value is too long for its entry if and only if its length, limited to 64 bits, is too long
 long_by : (long : Bool) (p n : ℕ) → nat_lt p n ≡ long → p ≤ 8 → nat_lt p (min n (2 ^ 64 - 1)) ≡ nat_lt p n
 long_by true p n e l =
     lt-ltb p (min n (2 ^ 64 - 1)) (le-min {k = suc p} (ltb-true p n e) (omega (arith, l))) ∙ sym e
@@ -145,7 +146,7 @@ offset_len_8 : (kind : FileKind) → offset_len kind ≤ 8
 offset_len_8 Classic = lit≤ tt
 offset_len_8 Big = lit≤ tt
 
--- the test is the cause
+-- the test of a field returns the error that refuses the call
 pub test_is : (file : FileState) (kind : FileKind) (type : «Type») (count : ℕ) (d : FieldData) (end n len : ℕ) → kind ≡ file.kind
     → IsValue type count (Ok d) → end ≡ end_of file → n ≡ count → len ≡ byte_count count type
     → field_test kind end n len ≡ field_cause file d
@@ -186,9 +187,9 @@ module _ {X : Type 0} (view : X → Field) where
       let P : Result FieldData TiffError → Type 0 = λ v. Ends view (write_entry v old) r old new in
       subst P (sym g) (uncaused view (write_tag_cause old (Ok d)) (λ f. (answers (Ok d) >>= placed_field) f) r old new (fresh_cause old.fault _ f ∙ c) h)
 
--- ---- bytes that are handed in
+-- ---- bytes that a call writes
 
--- the test of an order alone is its cause before any other
+-- the check of a byte order returns its error before any other check
 order_some : (o : ByteOrder) (e : TiffError) (rest : Option TiffError) → order_cause o None ≡ Some e → order_cause o rest ≡ Some e
 order_some LittleEndian e rest h = absurd cc
 order_some BigEndian e rest h = h
@@ -198,13 +199,13 @@ order_none LittleEndian rest h = refl
 order_none BigEndian rest h = absurd cc
 
 module _ {X Y : Type 0} (view : X → Y) where
-  -- a call by another cause that is the same
+  -- a call ends in the same way if an equal check refuses it
   pub recaused : (c k : Option TiffError) (call : Writing Y) (r : Result X TiffError) (old new : FileState) → c ≡ k
       → Ends view (by_cause k call old) r old new → Ends view (by_cause c call old) r old new
   recaused c k call r old new q h =
       let P : Option TiffError → Type 0 = λ x. Ends view (by_cause x call old) r old new in subst P (sym q) h
 
--- a value that fits into its entry
+-- a value that fits its entry is written there
 pub placed_short : (kind : FileKind) (old : FileState) (value : FieldData) (field : Field) → kind ≡ old.kind → length value.bytes ≤ offset_len kind
     → field ≡ record { field_type = value.field_type; count = value.count; value = filled_field value.bytes }
     → (field ≡ field_at old.kind (end_of old) value) × (old ≡ file_with_bytes old (appended_for old.kind value))
@@ -259,7 +260,7 @@ module _ {X : Type 0} (view : X → Field) where
       (fresh_cause old.fault _ f
       ∙ ap (λ b. cond (not b) (Some (UsageError (MismatchedEntryLength type (length bytes)))) (field_cause old (data_in type bytes))) q) h
 
--- ---- bytes that are appended alone
+-- ---- bytes that a call only appends
 
 pub appends_done : (bytes : List ℕ) (n : ℕ) (old new : FileState) → n ≡ end_of old → new ≡ file_with_bytes old bytes → IsTold (appends bytes old) (Ok n) new
 appends_done bytes n old new at h = record { answer = ap Ok (sym at); state = h }
@@ -317,7 +318,7 @@ module _ {X : Type 0} (view : X → ℕ) where
       recaused view (write_data_buf_cause old b) None (appends b.bytes) r old new
       (fresh_cause old.fault _ f ∙ o) h
 
--- ---- bytes as values of a type, by the size of one
+-- ---- bytes as values of a type, by the size of one value
 
 abbrev pub data_sized : «Type» → List ℕ → ℕ → FieldData
 data_sized type bytes size =

@@ -1,4 +1,4 @@
--- How the data of an image are written, and what they leave.
+-- How a call writes the data of an image, and what the file contains after the call.
 pub mod Calls
 pub mod Chunks
 pub mod Leaves

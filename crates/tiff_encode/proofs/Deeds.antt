@@ -1,4 +1,4 @@
--- What is done to a file in which a model stands leaves one in which a model stands.
+-- If a model describes a file, the changed model describes the file after the changes (`Deed`).
 use Rattle.std.proofs.Common.{◌≡◌, ℕ, ◌≤◌, List, [], ◌∷◌, ◌++◌, length, take, refl, sym, ◌∙◌, inl, inr, subst, arith, append_assoc, append-nil}
 use Rattle.std.proofs.lemmas.List.{length-take}
 use Rattle.tiff_base.specs.declared.tags.FileKind.{FileKind}
@@ -14,13 +14,13 @@ use Rattle.tiff_encode.proofs.Grown.{grown_by_region, grown_by_inline, grown_by_
 
 -- ---- one after another
 
--- the bytes after some, and more
+-- the bytes after two lists of changes in sequence
 pub bytes_joined : (kind : FileKind) (bytes : List ℕ) (deeds more : List Deed)
     → bytes_after kind bytes (deeds ++ more) ≡ bytes_after kind (bytes_after kind bytes deeds) more
 bytes_joined kind bytes [] more = refl
 bytes_joined kind bytes (deed ∷ deeds) more = bytes_joined kind (after_deed kind bytes deed) deeds more
 
--- the model
+-- the model after two lists of changes in sequence
 pub model_joined : (kind : FileKind) (bytes : List ℕ) (m : Model) (deeds more : List Deed)
     → model_after kind bytes m (deeds ++ more)
     ≡ model_after kind (bytes_after kind bytes deeds) (model_after kind bytes m deeds) more
@@ -28,7 +28,7 @@ model_joined kind bytes m [] more = refl
 model_joined kind bytes m (deed ∷ deeds) more =
     model_joined kind (after_deed kind bytes deed) (model_after_deed kind (length bytes) m deed) deeds more
 
--- they fit where each of both does
+-- two lists of changes in sequence fit if each of the two fits
 pub fits_joined : (kind : FileKind) (bytes : List ℕ) (m : Model) (deeds more : List Deed) → DeedsFit kind bytes m deeds
     → DeedsFit kind (bytes_after kind bytes deeds) (model_after kind bytes m deeds) more
     → DeedsFit kind bytes m (deeds ++ more)
@@ -36,7 +36,7 @@ fits_joined kind bytes m [] more f g = g
 fits_joined kind bytes m (deed ∷ deeds) more f g =
     (f.0, fits_joined kind (after_deed kind bytes deed) (model_after_deed kind (length bytes) m deed) deeds more f.1 g)
 
--- and then each of both does
+-- if two lists of changes in sequence fit, each of the two fits
 pub fits_parted : (kind : FileKind) (bytes : List ℕ) (m : Model) (deeds more : List Deed)
     → DeedsFit kind bytes m (deeds ++ more)
     → DeedsFit kind bytes m deeds × DeedsFit kind (bytes_after kind bytes deeds) (model_after kind bytes m deeds) more
@@ -49,7 +49,7 @@ pub deeds_join : DeedsJoin
 deeds_join kind bytes m deeds more =
     (bytes_joined kind bytes deeds more, (model_joined kind bytes m deeds more, fits_joined kind bytes m deeds more))
 
--- where none is a link, what they append is appended
+-- changes that point no link append their bytes to the file
 pub deeds_append : DeedsAppend
 deeds_append kind bytes [] a = sym (append-nil bytes)
 deeds_append kind bytes (Appended more ∷ deeds) a =
@@ -60,9 +60,9 @@ deeds_append kind bytes (Listed fields ∷ deeds) a =
     ∙ append_assoc bytes (directory_bytes kind fields) (all_appended kind deeds)
 deeds_append kind bytes (Linked offset target ∷ deeds) a = absurd a
 
--- ---- what stands
+-- ---- what the model describes
 
--- one deed
+-- after one change, the changed model describes the file
 pub deed_stands : (kind : FileKind) (bytes : List ℕ) (m : Model) (deed : Deed) → Stands kind bytes m
     → DeedFits kind m deed
     → Stands kind (after_deed kind bytes deed) (model_after_deed kind (length bytes) m deed)
@@ -78,7 +78,7 @@ deed_stands kind bytes m (Handed handed) h f =
 deed_stands kind bytes m (Listed fields) h f = grown_by_listing kind m bytes fields f h
 deed_stands kind bytes m (Linked offset target) h f = kept_by_patching kind m bytes offset target f.0 f.1 h
 
--- some deeds
+-- after several changes, the changed model describes the file
 pub deeds_stand : DeedsStand
 deeds_stand kind bytes m [] h f = h
 deeds_stand kind bytes m (deed ∷ deeds) h f =
@@ -87,14 +87,14 @@ deeds_stand kind bytes m (deed ∷ deeds) h f =
 
 -- ---- what is kept
 
--- one deed takes nothing away
+-- one change removes nothing from the model
 deed_grows : (kind : FileKind) (n : ℕ) (m : Model) (deed : Deed) → Grows m (model_after_deed kind n m deed)
 deed_grows kind n m (Appended more) = record { directories = λ d i. i; handed = λ h i. i; regions = λ r i. inr i }
 deed_grows kind n m (Handed handed) = record { directories = λ d i. i; handed = λ h i. inr i; regions = λ r i. i }
 deed_grows kind n m (Listed fields) = record { directories = λ d i. inr i; handed = λ h i. i; regions = λ r i. i }
 deed_grows kind n m (Linked offset target) = record { directories = λ d i. i; handed = λ h i. i; regions = λ r i. i }
 
--- nor do some
+-- several changes remove nothing from the model
 pub deeds_grow : DeedsGrow
 deeds_grow kind bytes m [] = record { directories = λ d i. i; handed = λ h i. i; regions = λ r i. i }
 deeds_grow kind bytes m (deed ∷ deeds) =
@@ -106,17 +106,17 @@ deeds_grow kind bytes m (deed ∷ deeds) =
       regions = λ r i. rest.regions r (first.regions r i);
     }
 
--- a link is a link of each model that has grown
+-- a link of a model is a link of each model that grows from it
 pub link_kept : (kind : FileKind) (m n : Model) (q : ℕ) → Grows m n → IsLink kind m q → IsLink kind n q
 link_kept kind m n q g l = elim l [ inl x ↦ inl x | inr y ↦ inr (y.0, (g.directories y.0 y.1.0, y.1.1)) ]
 
--- ---- what broke off
+-- ---- partial writes
 
--- a beginning of what they append
+-- after a partial append, the model still describes the file
 pub deeds_begun : DeedsBegun
 deeds_begun kind bytes m deeds count h = kept_by_appending kind m bytes (take count (all_appended kind deeds)) h
 
--- all but a link, which broke off
+-- after a partial write of the last link, the model with a changed link describes the file
 pub deeds_torn : DeedsTorn
 deeds_torn kind bytes m before offset target count a h f =
     let over : List ℕ = take count (le (offset_len kind) target) in

@@ -1,4 +1,5 @@
--- A step of a directory leads from a standing of the file that it finds to one of the file that it leaves.
+-- A step of a directory leads from each `Standing` of the file before it to a `Standing` of the
+-- file after it.
 use Rattle.std.proofs.Common.{◌≡◌, List, Result, Ok, Err, refl, sym, subst, append-nil}
 use Rattle.tiff_base.specs.declared.error.TiffError.{TiffError}
 use Rattle.tiff_base.specs.declared.tags.Tag.{Tag}
@@ -22,19 +23,19 @@ use Rattle.tiff_encode.proofs.Moving.{Seen, moves_so}
 
 -- ---- which calls append
 
--- `write_entry_buf`
+-- `write_entry_buf` appends
 pub entry_buf_adds : (b : BufferRecord) (file : FileState) → Adds (write_entry_buf b file) file
 unfolding write_entry_buf
 entry_buf_adds b file = caused_adds (write_buf_cause file b) (placed_field (buffer_data b)) file (placed_adds (buffer_data b) file)
 
--- `write_tag_buf`
+-- `write_tag_buf` appends
 pub tag_buf_adds : (d : OpenDirectory) (t : Tag) (b : BufferRecord) (file : FileState) → Adds (write_tag_buf d t b file) file
 unfolding write_tag_buf
 tag_buf_adds d t b file =
     bind_adds (write_entry_buf b) (λ field. gives (with_field d t field)) file (entry_buf_adds b file)
     (λ field _. answers_adding (Ok (with_field d t field)) (write_entry_buf b file).next)
 
--- `write_data`
+-- `write_data` appends
 pub data_adds : (value : Result FieldData TiffError) (file : FileState) → Adds (write_data value file) file
 unfolding write_data
 data_adds (Ok value) file =
@@ -44,15 +45,15 @@ data_adds (Err e) file =
     caused_adds (write_data_cause file (Err e)) (answers (Err e) >>= (λ (known : FieldData). appends known.bytes)) file
     (refusal_adds e file)
 
--- `write_data_buf`
+-- `write_data_buf` appends
 pub data_buf_adds : (b : BufferRecord) (file : FileState) → Adds (write_data_buf b file) file
 unfolding write_data_buf
 data_buf_adds b file = caused_adds (write_data_buf_cause file b) (appends b.bytes) file (appends_adds b.bytes file)
 
--- ---- a tag that has the field which was handed in
+-- ---- a tag that has the field of a written value
 
 module _ (d : OpenDirectory) (t : Tag) (field : Field) (old new : FileState) (m : Model) where
-  -- what was done for the field stands
+  -- what a call writes for the field is in the file
   given_kept : (r : Result Field TiffError) (deeds : List Deed) (next : FileState) → r ≡ Ok field
       → Stands old.kind new.bytes (model_after old.kind old.bytes m deeds)
       → Stands old.kind new.bytes (model_after old.kind old.bytes m (and_then r deeds next (λ f. gives (with_field d t f))).deeds)
@@ -62,7 +63,7 @@ module _ (d : OpenDirectory) (t : Tag) (field : Field) (old new : FileState) (m 
       let Q : List Deed → Type 0 = λ ds. Stands old.kind new.bytes (model_after old.kind old.bytes m ds) in
       subst P (sym h) (subst Q (sym (append-nil deeds)) s)
 
-  -- `write_tag`
+  -- `write_tag`: the directory has the field
   pub tag_kept : (value : Result FieldData TiffError) → IsTold (write_entry value old) (Ok field) new
       → Stands old.kind new.bytes (model_after old.kind old.bytes m (write_entry value old).deeds)
       → Stands old.kind new.bytes (model_after old.kind old.bytes m (write_tag d t value old).deeds)
@@ -70,7 +71,7 @@ module _ (d : OpenDirectory) (t : Tag) (field : Field) (old new : FileState) (m 
   tag_kept value h s =
       let told : WriteOutcome Field = write_entry value old in given_kept told.answer told.deeds told.next h.answer s
 
-  -- `write_tag_buf`
+  -- `write_tag_buf`: the directory has the field
   pub tag_buf_kept : (b : BufferRecord) → IsTold (write_entry_buf b old) (Ok field) new
       → Stands old.kind new.bytes (model_after old.kind old.bytes m (write_entry_buf b old).deeds)
       → Stands old.kind new.bytes (model_after old.kind old.bytes m (write_tag_buf d t b old).deeds)
@@ -78,28 +79,28 @@ module _ (d : OpenDirectory) (t : Tag) (field : Field) (old new : FileState) (m 
   tag_buf_kept b h s =
       let told : WriteOutcome Field = write_entry_buf b old in given_kept told.answer told.deeds told.next h.answer s
 
--- ---- what a step makes of its call
+-- ---- from a call to a step
 
 moves_as : (P Q : Standing → Standing → Type 0) (old new : FileState) → ((s t : Standing) → P s t → Q s t) → Moves P old new
     → Moves Q old new
 moves_as P Q old new f g known s q k = let x = g known s q k in (x.0, (x.1.0, (f s x.0 x.1.1.0, x.1.1.1)))
 
--- what a call that was done leaves
+-- what a call leaves if it succeeds
 abbrev Kept : {A : Type 0} → WriteOutcome A → FileState → FileState → Type 0
 Kept told old new = (m : Model) → Stands old.kind old.bytes m → Stands old.kind new.bytes (model_after old.kind old.bytes m told.deeds)
 
--- and one that was not
+-- what a call leaves if it fails
 abbrev Stood : FileState → FileState → Type 0
 Stood old new = (m : Model) → Stands old.kind old.bytes m → Stands old.kind new.bytes m
 
 module _ (d e : OpenDirectory) (old new : FileState) where
-  -- the step that was handed in
+  -- equal steps lead to the same results
   pub stepped_by : (r : Result StepReply TiffError) (x y : DirectoryStep) → x ≡ y
       → Moves (λ s t. DirectoryStepped s d y r t e) old new → Moves (λ s t. DirectoryStepped s d x r t e) old new
   stepped_by r x y q h =
       let P : DirectoryStep → Type 0 = λ z. Moves (λ s t. DirectoryStepped s d z r t e) old new in subst P (sym q) h
 
-  -- the directory is another then
+  -- a step whose call returns a directory changes the directory
   pub changed : (call : Writing OpenDirectory) → Adds (call old) old → IsTold (call old) (Ok e) new → Kept (call old) old new
       → Moves (λ s t. Changes call d (Ok reply.Nothing) s t e) old new
   changed call a h l =
@@ -113,7 +114,7 @@ module _ (d e : OpenDirectory) (old new : FileState) where
       let Q : Standing → Standing → Type 0 = λ s t. Changes call d (Err fault) s t e in
       moves_as P Q old new (λ s t p. (q, p)) (moves_so view call (Err fault) old new (adding (call old) old a) h l)
 
-  -- it stays, and something is answered
+  -- a step whose call returns a value keeps the directory
   pub replied : {A : Type 0} (view : A → StepReply) (call : Writing A) (x : A) → Adds (call old) old → IsTold (call old) (Ok x) new
       → Kept (call old) old new → e ≡ d → Moves (λ s t. Replies view call d (Ok (view x)) s t e) old new
   replied {A = A} view call x a h l q =

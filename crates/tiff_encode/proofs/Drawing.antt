@@ -1,4 +1,4 @@
--- The chunks of an image that is open.
+-- The chunks of an open image.
 use Rattle.std.proofs.Common.{◌≡◌, ℕ, ◌-◌, ◌*◌, ◌/◌, ◌%◌, ◌<◌, ◌≤◌, min, refl, ap, sym, ◌∙◌, arith}
 use Rattle.std.proofs.Math.Nat.{div-eq_of_lt-le}
 use Rattle.tiff_base.specs.declared.color.ChunkType.TheVariants.{Strip}
@@ -7,11 +7,11 @@ use Rattle.tiff_page.specs.Page.{PageRecord}
 use Rattle.tiff_page.specs.Rect.{rect, chunks_of_plane}
 use Rattle.tiff_encode.specs.Chunks.{chunk_rows}
 
--- one part covers no more than its size
+-- a part covers no more than its size
 pub one_part : (n size : ℕ) → 0 < n → n ≤ size → parts n size ≡ 1
 one_part n size p h = div-eq_of_lt-le size (omega arith) (omega arith)
 
--- the rows of a strip, by how many strips of its plane are above it
+-- the rows of a strip, by the number of strips above it in its plane
 pub strip_rows : (p : PageRecord) (k h d c s m : ℕ) → p.chunk_type ≡ Strip → p.chunk_width ≡ p.width → 0 < p.width
     → h ≡ p.chunk_height → d ≡ p.height → c ≡ chunks_of_plane p → s ≡ d - k % c * h → m ≡ min h s → m ≡ chunk_rows p k
 unfolding rect

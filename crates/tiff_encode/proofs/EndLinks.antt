@@ -1,4 +1,5 @@
--- Where a directory or an image has ended, its own link is a link of the model, as the chain's last link is where it was one.
+-- After a directory or an image ends, its own link is a link of the model. The last link of the
+-- chain stays a link of the model.
 use Rattle.std.proofs.Common.{◌≡◌, ℕ, inl, inr, Bool, true, false, List, [], ◌∷◌, ◌++◌, Option, Some, None, Result, Ok, Err, refl, ap, sym, ◌∙◌, subst}
 use Rattle.std.specs.FinMap.{len}
 use Rattle.tiff_base.specs.declared.error.TiffError.{TiffError}
@@ -21,15 +22,15 @@ use Rattle.tiff_encode.proofs.Open.Tags.{tags_adding}
 use Rattle.tiff_encode.proofs.Data.Calls.{adding_done, behind_model}
 use Rattle.tiff_encode.proofs.Data.Chunks.{chunks_adding}
 
--- What is told of an end: of a directory that ended the own link is one, and the chain's last link is one where it was; a
--- refusal leaves the chain.
+-- After a directory ends, its own link is a link of the model, and so is the last link of the chain
+-- if it is a link before. A call that is refused keeps the chain.
 pub record EndLinks (told : WriteOutcome Offsets) (file : FileState) (m : Model) : Type 0 where
   pub own : (offsets : Offsets) → told.answer ≡ Ok offsets → IsLink file.kind (model_by file m told) offsets.link
   pub chain : (offsets : Offsets) → told.answer ≡ Ok offsets → IsLink file.kind m file.chain
       → IsLink file.kind (model_by file m told) told.next.chain
   pub refused : (e : TiffError) → told.answer ≡ Err e → told.next.chain ≡ file.chain
 
--- a call that may have a cause to be refused
+-- the links after a call that its checks may refuse
 caused_links : (cause : Option TiffError) (call : Writing Offsets) (file : FileState) (m : Model) → EndLinks (call file) file m
     → EndLinks (by_cause cause call file) file m
 caused_links None call file m l = l
@@ -39,7 +40,7 @@ caused_links (Some e) call file m l = record {
   refused = λ f h. refl;
 }
 
--- what goes on with an end
+-- the links after two calls, the second of which ends a directory
 module _ {A : Type 0} (rest : A → Writing Offsets) (file : FileState) (m : Model) where
   joined_links : (r : Result A TiffError) (deeds : List Deed) (next : FileState)
       → (let first : WriteOutcome A = record { answer = r; deeds = deeds; next = next } in IsAdding first file)
@@ -74,7 +75,7 @@ bind_links : {A : Type 0} (call : Writing A) (rest : A → Writing Offsets) (fil
     → EndLinks ((call >>= rest) file) file m
 bind_links call rest file m a l = joined_links rest file m (call file).answer (call file).deeds (call file).next a l
 
--- the chain's last link is that of a directory that is chained, or the one that it was
+-- the last link of the chain is that of a chained directory, or it stays the same
 chain_among : (chained : Bool) (file : FileState) (offsets : Offsets) (P : ℕ → Type 0) → P offsets.link → P file.chain
     → P (chain_after file chained offsets).chain
 chain_among true file offsets P own kept = own

@@ -1,4 +1,4 @@
--- What the end of a directory does, and what it answers.
+-- What the end of a directory does, and what it returns.
 use Rattle.std.proofs.Common.{◌≡◌, ℕ, ◌*◌, ◌+◌, ◌-◌, ◌<◌, ◌≤◌, Bool, true, false, cond, List, [], ◌∷◌, ◌++◌, length, take, Option, Some, None, Result, Ok, Err, refl, ap, sym, ◌∙◌, inl, inr, subst, arith, append_assoc, append-nil, length-append, length-take-le}
 use Rattle.std.proofs.lemmas.Bool.{ltb-false}
 use Rattle.std.specs.Prelude.{◌||◌, ◌⊎◌, nat_lt, IsSome}
@@ -26,7 +26,7 @@ use Rattle.tiff_encode.specs.Placing.{parent_test, end_test}
 use Rattle.tiff_encode.proofs.Calling.{stopped_cause, fresh_cause, refused, uncaused, wanting, cut_off}
 use Rattle.tiff_encode.proofs.Slices.{length-le}
 
--- ---- how long a directory is
+-- ---- the length of a directory
 
 length-entry : (kind : FileKind) (e : ℕ × Field) → length e.1.value ≡ 8 → length (entry_bytes kind e) ≡ entry_len kind
 length-entry Classic e w =
@@ -42,7 +42,7 @@ length-entries kind (e ∷ es) w =
     let b = length-entries kind es (λ x i. w x (inr i)) in
     omega (arith, a, b, length-append (entry_bytes kind e) (flat_map (entry_bytes kind) es))
 
--- its link is the last of it
+-- the link of a directory is its last part
 pub length-listed : (kind : FileKind) (offset : ℕ) (fields : FinMap nat_cmp Field) → AreEntries fields
     → offset + length (directory_bytes kind fields) ≡ link_offset kind offset (len fields) + offset_len kind
 unfolding directory_bytes
@@ -62,7 +62,7 @@ length-listed kind offset fields w =
       x,
     )
 
--- and of the file that it is appended to
+-- the own link of a directory ends the file that the directory is appended to
 pub own_link_is : (old new : FileState) (fields : FinMap nat_cmp Field) (width at : ℕ) → AreEntries fields
     → new ≡ file_with_bytes old (directory_bytes old.kind fields) → at ≡ end_of new → width ≡ offset_len old.kind
     → at - width ≡ link_offset old.kind (end_of old) (len fields)
@@ -81,14 +81,14 @@ own_link_within old new fields link kind w s l k =
     let g : length new.bytes ≡ length old.bytes + length D = ap (λ m. length m.bytes) s ∙ length-append old.bytes D in
     omega (arith, x, g, l, ap offset_len k)
 
--- ---- causes
+-- ---- errors that refuse the end of a directory
 
--- a parent's link is tested in the same way
+-- the test of a parent's link returns the error of its check
 parent_tested : (file : FileState) (parent : Option ℕ) → parent_cause file parent ≡ parent_test file.kind (end_of file) parent
 parent_tested file None = refl
 parent_tested file (Some offset) = refl
 
--- the test of a directory's end is its cause, where no write failed before
+-- without an earlier failed write, the test of a directory's end returns the error that refuses it
 pub end_cause : (file : FileState) (d : OpenDirectory) (kind : FileKind) (end : ℕ) → file.fault ≡ None → kind ≡ file.kind
     → end ≡ end_of file → end_test kind end d ≡ finish_cause file d
 unfolding finish_cause end_test
@@ -97,13 +97,13 @@ end_cause file d kind end f k a =
     || (list_any (λ entry. is_past file.kind entry.1.count) (entries d.fields) || is_past file.kind (end_of file))) (Some IntSizeError) rest in
     (λ i. end_test (k i) (a i) d) ∙ ap c (sym (parent_tested file d.parent)) ∙ sym (fresh_cause file.fault _ f)
 
--- after a fault of the sink the cause is that
+-- after an error of the sink, `WriterFailed` refuses the end of a directory
 pub end_stopped : (file : FileState) (d : OpenDirectory) (e : TiffError) → IsSome file.fault → e ≡ UsageError WriterFailed
     → finish_cause file d ≡ Some e
 unfolding finish_cause
 end_stopped file d e s q = stopped_cause file.fault _ s ∙ ap Some (sym q)
 
--- a test that refused nothing
+-- if the tests return no error, the first test isn't met and the others return none
 passed : (b : Bool) (e : TiffError) (cause : Option TiffError) → cond b (Some e) cause ≡ None → (b ≡ false) × (cause ≡ None)
 passed true e cause h = absurd cc
 passed false e cause h = (refl, h)
@@ -117,7 +117,7 @@ end_within file d f h offset p =
     let b = passed (nat_lt (end_of file) (offset + offset_len file.kind)) _ None (sym (ap (parent_cause file) p) ∙ rest) in
     ltb-false (end_of file) (offset + offset_len file.kind) b.0
 
--- also after more was appended
+-- the parent's link stays within a file that grows
 pub within_grown : (old mid : FileState) (d : OpenDirectory) (kind : FileKind) (more : List ℕ) (parent : Option ℕ) → old.kind ≡ kind
     → old.fault ≡ None → finish_cause old d ≡ None → mid ≡ file_with_bytes old more → parent ≡ d.parent
     → (offset : ℕ) → parent ≡ Some offset → offset + offset_len kind ≤ length mid.bytes
@@ -128,7 +128,7 @@ within_grown old mid d kind more parent k f h s q offset p =
 
 -- ---- links
 
--- the chain goes on
+-- the file after the end of a directory, by whether the directory is chained
 chain_is : (file : FileState) (chained : Bool) (offsets : Offsets)
     → cond chained (record file { chain = offsets.link }) file ≡ chain_after file chained offsets
 chain_is file true offsets = refl
@@ -136,14 +136,14 @@ chain_is file false offsets = refl
 
 -- ---- ends
 
--- what a directory's end does appends the directory
+-- the end of a directory appends the directory
 appended_is : (kind : FileKind) (fields : FinMap nat_cmp Field) (parent : Option ℕ) (target : ℕ)
     → all_appended kind ((Listed fields ∷ links_to parent target) ++ []) ≡ directory_bytes kind fields
 appended_is kind fields None target = append-nil (directory_bytes kind fields)
 appended_is kind fields (Some offset) target = append-nil (directory_bytes kind fields)
 
 module _ {X : Type 0} (view : X → Offsets) (d : OpenDirectory) (old : FileState) where
-  -- what is told where nothing refuses it
+  -- the offsets that the end of a directory returns if nothing refuses it
   abbrev offsets : Offsets
   offsets = offsets_of old.kind (end_of old) (len d.fields)
 
@@ -173,7 +173,7 @@ module _ {X : Type 0} (view : X → Offsets) (d : OpenDirectory) (old : FileStat
       → Ends view (finish d old) (Err e) old old
   end_wanting e c f q = uncaused_end (Err e) old c (wanting view (call old) e old f q tt)
 
-  -- the directory was not listed
+  -- the end fails before it appends the whole directory
   pub end_unlisted : (e : TiffError) (new : FileState) → finish_cause old d ≡ None → old.fault ≡ None
       → AppendIsCut (directory_bytes old.kind d.fields) e old new ⊎ ((e ≡ OutOfMemory) × (new ≡ old))
       → Ends view (finish d old) (Err e) old new
@@ -182,7 +182,7 @@ module _ {X : Type 0} (view : X → Offsets) (d : OpenDirectory) (old : FileStat
     | inr w ↦ subst (λ n. Ends view (finish d old) (Err e) old n) (sym w.1) (end_wanting e c f w.0)
   ]
 
-  -- it was, and its parent's link was torn
+  -- the end appends the directory, and the sink fails at its parent's link
   pub end_torn : (e : TiffError) (mid new : FileState) (target : ℕ) (parent : Option ℕ) → finish_cause old d ≡ None → old.fault ≡ None
       → target ≡ end_of old → mid ≡ file_with_bytes old (directory_bytes old.kind d.fields) → parent ≡ d.parent
       → (offset : ℕ) × ((parent ≡ Some offset) × IsTorn [] offset target e mid new)
@@ -213,7 +213,7 @@ module _ {X : Type 0} (view : X → Offsets) (d : OpenDirectory) (old : FileStat
       } in
       uncaused_end (Err e) new c (inr (inr (inl torn)))
 
-  -- all was done
+  -- the end of a directory succeeds
   pub end_done : (x : X) (mid linked new : FileState) (target link : ℕ) (parent : Option ℕ) (chained : Bool) → finish_cause old d ≡ None → target ≡ end_of old
       → mid ≡ file_with_bytes old (directory_bytes old.kind d.fields)
       → linked ≡ record mid { bytes = bytes_after mid.kind mid.bytes (links_to parent target) }

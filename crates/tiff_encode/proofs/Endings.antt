@@ -26,13 +26,13 @@ use Rattle.tiff_encode.specs.FileBytes.{offset_len}
 use Rattle.tiff_encode.proofs.Joining.{Adds, tag_adds, bind_told, bind_ends, bind_fails}
 use Rattle.tiff_encode.proofs.Tagging.{tags_are_fields, fields_adds, fields_end, fields_fail}
 
--- offsets are written as their numbers
+-- offsets are written as numbers
 offsets_are : (kind : FileKind) (ns : List ℕ) → data_of (offset_values kind ns) ≡ data_by (offset_type kind) (le (offset_len kind)) ns
 unfolding data_of
 offsets_are Classic ns = refl
 offsets_are Big ns = refl
 
--- the bytes of offsets, behind others
+-- the bytes of offsets, appended to other bytes
 pub offsets_pushed : {A : Type 0} (k kind : FileKind) (ns old new : List ℕ) (r : Result A TiffError) → kind ≡ k
     → MatchResult r (λ _. new ≡ old ++ flat_map (le (offset_len kind)) ns) (λ e. e ≡ OutOfMemory) → Pushes (Ok (data_of (offset_values k ns))) old new r
 offsets_pushed k kind ns old new (Ok u) q b =
@@ -42,14 +42,14 @@ offsets_pushed k kind ns old new (Err e) q b = b
 -- ---- two tags
 
 module _ (d : OpenDirectory) (t : Tag) (v : FieldData) where
-  -- the first fails, and so do all
+  -- if the first tag fails, all tags fail
   pub first_fails : (rest : List (Tag × FieldData)) (e : TiffError) (old new : FileState) → CallFails (write_tag d t (Ok v) old) e old new
       → CallFails (write_fields d ((t, v) ∷ rest) old) e old new
   first_fails rest e old new h =
       let others : OpenDirectory → Writing OpenDirectory = λ next. write_fields next rest in
       bind_fails (write_tag d t (Ok v)) others e old new (tag_adds d t (Ok v) old) h
 
-  -- the first is written, and the second fails
+  -- if the first tag is written and the second fails, all tags fail
   pub second_fails : (next : OpenDirectory) (u : Tag) (w : FieldData) (e : TiffError) (old mid new : FileState)
       → IsTold (write_tag d t (Ok v) old) (Ok next) mid → CallFails (write_tag next u (Ok w) mid) e mid new
       → CallFails (write_fields d ((t, v) ∷ (u, w) ∷ []) old) e old new
@@ -60,7 +60,7 @@ module _ (d : OpenDirectory) (t : Tag) (v : FieldData) where
       bind_ends view (write_tag d t (Ok v)) others next (Err e) old mid new (tag_adds d t (Ok v) old) h
       (bind_fails (write_tag next u (Ok w)) last e mid new (tag_adds next u (Ok w) mid) f)
 
-  -- both are written
+  -- both tags are written
   pub second_told : (next after : OpenDirectory) (u : Tag) (w : FieldData) (old mid new : FileState)
       → IsTold (write_tag d t (Ok v) old) (Ok next) mid → IsTold (write_tag next u (Ok w) mid) (Ok after) new
       → IsTold (write_fields d ((t, v) ∷ (u, w) ∷ []) old) (Ok after) new
@@ -70,17 +70,17 @@ module _ (d : OpenDirectory) (t : Tag) (v : FieldData) where
       bind_told (write_tag d t (Ok v)) others next (Ok after) old mid new h
       (bind_told (write_tag next u (Ok w)) last after (Ok after) mid new new f (record { answer = refl; state = refl }))
 
--- ---- what the samples are
+-- ---- the tags of the samples
 
 -- a tag as a field
 abbrev told_as : Tag × Scalars → Tag × FieldData
 told_as v = (v.0, data_of v.1)
 
--- what the bits are given
+-- the data of the tag with the bits of the samples
 abbrev bits_data : List ℕ → ℕ → FieldData
 bits_data bits extra = data_of (u16s (extended_by_first bits extra))
 
--- the bits are not written
+-- writing the bits fails
 pub bits_unwritten : (d : OpenDirectory) (bits said : List ℕ) (extra : ℕ) (e : TiffError) (old new : FileState) → said ≡ extended_by_first bits extra
     → CallFails (write_tag d tag.BitsPerSample (Ok (data_of (u16s said))) old) e old new
     → CallFails (write_fields d (fields_of (bits_tags bits extra)) old) e old new
@@ -88,7 +88,7 @@ bits_unwritten d bits said extra e old new q h =
     first_fails d tag.BitsPerSample (bits_data bits extra) (fields_of (count_tags bits extra)) e old new
     (subst (λ xs. CallFails (write_tag d tag.BitsPerSample (Ok (data_of (u16s xs))) old) e old new) q h)
 
--- they are, and their number is not
+-- the bits are written, and writing the number of samples fails
 pub count_unwritten : (d next : OpenDirectory) (bits said : List ℕ) (extra : ℕ) (e : TiffError) (old mid new : FileState)
     → said ≡ extended_by_first bits extra → (extra ≡ 0 → ⊥)
     → IsTold (write_tag d tag.BitsPerSample (Ok (data_of (u16s said))) old) (Ok next) mid
@@ -102,14 +102,14 @@ count_unwritten d next bits said extra e old mid new q some h f =
     (subst (λ xs. IsTold (write_tag d tag.BitsPerSample (Ok (data_of (u16s xs))) old) (Ok next) mid) q h) f)
 
 module _ (d : OpenDirectory) (bits : List ℕ) (kinds : List SampleFormat) (extra : ℕ) where
-  -- the bits and the count, then the formats
+  -- the tag with the sample formats, and the tags before it
   abbrev formats_tag : Tag × Scalars
   formats_tag = (tag.SampleFormat, formats (extended_by_first kinds extra))
 
   samples_split : fields_of (bits_tags bits extra) ++ told_as formats_tag ∷ [] ≡ fields_of (samples_tags bits kinds extra)
   samples_split = sym (map-append told_as (bits_tags bits extra) (formats_tag ∷ []))
 
-  -- the first of them fail
+  -- writing the first tags fails
   pub bits_fail : (e : TiffError) (old new : FileState) → CallFails (write_fields d (fields_of (bits_tags bits extra)) old) e old new
       → CallFails (write_fields d (fields_of (samples_tags bits kinds extra)) old) e old new
   bits_fail e old new h =
@@ -117,7 +117,7 @@ module _ (d : OpenDirectory) (bits : List ℕ) (kinds : List SampleFormat) (extr
       (fields_fail d (tag.BitsPerSample, bits_data bits extra)
       (fields_of (count_tags bits extra)) (told_as formats_tag ∷ []) e old new h)
 
-  -- the last one fails
+  -- writing the sample formats fails
   pub formats_fail : (said : List SampleFormat) (next : OpenDirectory) (e : TiffError) (old mid new : FileState) → said ≡ extended_by_first kinds extra
       → IsTold (write_fields d (fields_of (bits_tags bits extra)) old) (Ok next) mid
       → CallFails (write_tag next tag.SampleFormat (Ok (data_of (formats said))) mid) e mid new
@@ -131,7 +131,7 @@ module _ (d : OpenDirectory) (bits : List ℕ) (kinds : List SampleFormat) (extr
 
 -- ---- the lists of the chunks
 
--- their tags, by how the image is cut
+-- the tags of the chunk lists, by the chunk type
 lists_split : (type : ChunkType) (a b : Scalars)
     → ((list_tags_of type).0, data_of a) ∷ ((list_tags_of type).1, data_of b) ∷ [] ≡ fields_of (chunk_tags type a b)
 lists_split Strip a b = refl
@@ -149,14 +149,14 @@ module _ (kind : FileKind) (type : ChunkType) (chunks : List Chunk) (tags : Tag 
       ap (λ ts. (ts.0, at_offsets) ∷ (ts.1, stored_there) ∷ []) q
       ∙ lists_split type (offset_values kind (map (number_of_part Offset) chunks)) (offset_values kind (map (number_of_part Stored) chunks))
 
-  -- the first list fails
+  -- writing the first list fails
   pub offsets_fail : (d : OpenDirectory) (e : TiffError) (old new : FileState) → CallFails (write_tag d tags.0 (Ok at_offsets) old) e old new
       → CallFails (write_fields d (fields_of (list_tags kind type chunks)) old) e old new
   offsets_fail d e old new h =
       subst (λ vs. CallFails (write_fields d vs old) e old new) lists_are
       (first_fails d tags.0 at_offsets ((tags.1, stored_there) ∷ []) e old new h)
 
-  -- the second one fails
+  -- writing the second list fails
   pub counts_fail : (d next : OpenDirectory) (e : TiffError) (old mid new : FileState)
       → IsTold (write_tag d tags.0 (Ok at_offsets) old) (Ok next) mid → CallFails (write_tag next tags.1 (Ok stored_there) mid) e mid new
       → CallFails (write_fields d (fields_of (list_tags kind type chunks)) old) e old new
@@ -164,7 +164,7 @@ module _ (kind : FileKind) (type : ChunkType) (chunks : List Chunk) (tags : Tag 
       subst (λ vs. CallFails (write_fields d vs old) e old new) lists_are
       (second_fails d tags.0 at_offsets next tags.1 stored_there e old mid new h f)
 
-  -- both are written
+  -- both lists are written
   pub lists_told : (d next after : OpenDirectory) (old mid new : FileState)
       → IsTold (write_tag d tags.0 (Ok at_offsets) old) (Ok next) mid → IsTold (write_tag next tags.1 (Ok stored_there) mid) (Ok after) new
       → IsTold (write_fields d (fields_of (list_tags kind type chunks)) old) (Ok after) new
@@ -175,7 +175,7 @@ module _ (kind : FileKind) (type : ChunkType) (chunks : List Chunk) (tags : Tag 
 -- ---- all last tags
 
 module _ (kind : FileKind) (i : OpenImage) where
-  -- what the samples are, and the lists
+  -- the tags of the samples, and the lists of the chunks
   abbrev first_part : List (Tag × Scalars)
   first_part = samples_tags i.color.bits i.color.formats (length i.extra)
 
@@ -189,14 +189,14 @@ module _ (kind : FileKind) (i : OpenImage) where
       ∙ ap (λ vs. fields_of vs) (append_assoc (bits_tags i.color.bits (length i.extra))
       ((tag.SampleFormat, formats (extended_by_first i.color.formats (length i.extra))) ∷ []) last_part)
 
-  -- of what a call is given
+  -- the parameters of a call, equal to those of the image
   module _ (d : OpenDirectory) (bits : List ℕ) (kinds : List SampleFormat) (extra : ℕ) (at : d ≡ i.directory) (b : bits ≡ i.color.bits)
       (f : kinds ≡ i.color.formats) (x : extra ≡ length i.extra) where
     first_given : (old : FileState)
         → write_fields d (fields_of (samples_tags bits kinds extra)) old ≡ write_fields i.directory (fields_of first_part) old
     first_given old j = write_fields (at j) (fields_of (samples_tags (b j) (f j) (x j))) old
 
-    -- what the samples are is not written
+    -- writing the tags of the samples fails
     pub samples_unwritten : (e : TiffError) (old new : FileState)
         → CallFails (write_fields d (fields_of (samples_tags bits kinds extra)) old) e old new
         → CallFails (write_fields i.directory (fields_of (last_tags kind i)) old) e old new
@@ -207,7 +207,7 @@ module _ (kind : FileKind) (i : OpenImage) where
         (fields_fail i.directory (tag.BitsPerSample, bits_data i.color.bits (length i.extra)) (fields_of others) (fields_of last_part) e old new
         (subst (λ told. CallFails told e old new) (first_given old) h))
 
-    -- it is, and the lists end
+    -- the tags of the samples are written, and then the lists
     pub last_set : {X : Type 0} (view : X → OpenDirectory) (next : OpenDirectory) (k : FileKind) (type : ChunkType) (chunks : List Chunk)
         (r : Result X TiffError) (old mid new : FileState) → kind ≡ k → type ≡ i.form.chunk_type → chunks ≡ i.chunks
         → IsTold (write_fields d (fields_of (samples_tags bits kinds extra)) old) (Ok next) mid
@@ -235,7 +235,7 @@ module _ (i : OpenImage) (old : FileState) where
       subst (λ told. Adds told old) (sym (tags_are_fields i.directory tags_last old))
       (fields_adds i.directory (tag.BitsPerSample, bits_data i.color.bits (length i.extra)) (fields_of others) old)
 
-  -- its last tags fail
+  -- `finish` fails at the last tags
   pub image_unfinished : (e : TiffError) (new : FileState) → CallFails (write_fields i.directory (fields_of tags_last) old) e old new
       → CallFails (finish_image i old) e old new
   unfolding finish_image
@@ -243,7 +243,7 @@ module _ (i : OpenImage) (old : FileState) where
       bind_fails (write_tags i.directory tags_last) finish e old new last_add
       (subst (λ told. CallFails told e old new) (sym (tags_are_fields i.directory tags_last old)) h)
 
-  -- they are written, and its directory ends
+  -- `finish` writes the last tags and ends the directory
   pub image_ends : {X : Type 0} (view : X → Offsets) (last given : OpenDirectory) (r : Result X TiffError) (mid new : FileState)
       → IsTold (write_fields i.directory (fields_of tags_last) old) (Ok last) mid → given ≡ last → Ends view (finish given mid) r mid new
       → Ends view (finish_image i old) r old new

@@ -1,4 +1,4 @@
--- Entries and maps of fields that were written are the ones that are read.
+-- Entries and maps of fields are read back as written.
 use Rattle.std.proofs.Common.{suc, ◌≡◌, ℕ, ◌+◌, ◌*◌, ◌^◌, ◌<◌, List, [], ◌∷◌, ◌++◌, length, take, reverse, Bool, true, false, cond, Option, Some, None, T, ◌&&◌, refl, ap, sym, ◌∙◌, inl, inr, arith, append_assoc, length-append}
 use Rattle.std.proofs.lemmas.List.{take_at, take_all, length-take-le, reverse-append}
 use Rattle.std.specs.Int.{w16}
@@ -24,20 +24,20 @@ use Rattle.tiff_encode.specs.FileBytes.{offset_len, entry_bytes}
 use Rattle.tiff_encode.specs.Model.{In}
 use Rattle.tiff_encode.proofs.Slices.{exact_mid, is_exact, length-le, number-le, is_offset_width}
 
--- ---- the map of a list in order
+-- ---- the map of a sorted list
 
--- the parts of a test of two
+-- if a conjunction holds, both tests hold
 and_parts : (a b : Bool) → T (a && b) → T a × T b
 and_parts true b h = (tt, h)
 and_parts false b h = absurd h
 
--- a key that is less is found in its order
+-- an order that tests as less is `Less`
 less_than : (o : Ordering) → T (is_lt o) → o ≡ Less
 less_than Less h = refl
 less_than Equal h = absurd h
 less_than Greater h = absurd h
 
--- a key below all others is none of them
+-- a key below all others is not found
 find_below : {X : Type 0} (q : ℕ) (es : List (ℕ × X)) → T (below_all nat_cmp q es) → find nat_cmp q es ≡ None
 find_below q [] h = refl
 find_below q (e ∷ es) h =
@@ -52,7 +52,7 @@ put_first k v (e ∷ es) h =
     let p = and_parts _ _ h in
     ap (λ o. by_order o ((k, v) ∷ e ∷ es) ((e.0, v) ∷ es) (e ∷ put nat_cmp k v es)) (less_than (nat_cmp k e.0) p.0)
 
--- a list of no length is empty
+-- a list of length 0 is empty
 none_long : {A : Type 0} (es : List A) → length es ≡ 0 → es ≡ []
 none_long [] e = refl
 none_long (x ∷ es) e = absurd (omega arith)
@@ -62,7 +62,7 @@ entries-empty : {X : Type 0} → entries (empty {X = X} {R = nat_cmp}) ≡ []
 entries-empty {X} = none_long (entries (empty {X = X} {R = nat_cmp}))
     (sym (len-entries (empty {X = X} {R = nat_cmp})) ∙ len-empty nat_cmp X)
 
--- the map of a list in order has the list's entries
+-- the map of a sorted list has the list's entries
 pub entries_of : {X : Type 0} (es : List (ℕ × X)) → T (is_sorted nat_cmp es)
     → entries (from_entries {R = nat_cmp} es) ≡ es
 entries_of [] h = entries-empty
@@ -72,7 +72,7 @@ entries_of (e ∷ es) h =
     ∙ ap (put nat_cmp e.0 e.1) (entries_of es p.1)
     ∙ put_first e.0 e.1 es p.0
 
--- so does the map of the reversed list
+-- the map of a reversed sorted list has the list's entries
 entries_of_reverse : {X : Type 0} (es : List (ℕ × X)) → T (is_sorted nat_cmp es)
     → entries (from_entries {R = nat_cmp} (reverse es)) ≡ es
 entries_of_reverse [] h = entries-empty
@@ -89,7 +89,7 @@ entries_of_reverse {X} (e ∷ es) h =
     ∙ ap (put nat_cmp e.0 e.1) back
     ∙ put_first e.0 e.1 es p.0
 
--- the last of each of a map's entries are the map
+-- the map of the last entries of each key, made from a map's entries, is the map
 pub last_of_entries : (fields : FinMap nat_cmp Field) → last_of_each (entries fields) ≡ fields
 unfolding last_of_each
 last_of_entries fields =
@@ -98,14 +98,14 @@ last_of_entries fields =
 
 -- ---- entries
 
--- a field that stands in an entry as it is
+-- a field that an entry contains as it is
 pub record IsWritable (kind : FileKind) (tag : ℕ) (f : Field) : Type 0 where
   pub tag_fits : tag < 2 ^ 16
   pub count : f.count < 256 ^ offset_len kind
   pub whole : length f.value ≡ 8
   pub filled : (kind ≡ Classic) → f.value ≡ take 4 f.value ++ (0 ∷ 0 ∷ 0 ∷ 0 ∷ [])
 
--- the number of a type that is written is the type's
+-- a type read from its written number is the type
 type_read : (t : «Type») → type_of (number LittleEndian w16 (le 2 (type_number t))) ≡ Some t
 unfolding type_of number
 type_read BYTE = refl
@@ -125,7 +125,7 @@ type_read LONG8 = refl
 type_read SLONG8 = refl
 type_read IFD8 = refl
 
--- a value field that is written is the one that is read
+-- a value field is read back as written
 value_read : (kind : FileKind) (e : ℕ × Field) → IsWritable kind e.0 e.1
     → value_of kind (entry_bytes kind e) ≡ e.1.value
 value_read Classic e w =
@@ -138,7 +138,7 @@ value_read Big e w =
     let l = w.whole in
     take_all 8 (take 8 v) (omega (arith, length-take-le 8 v (omega arith))) ∙ take_all 8 v (omega arith)
 
--- an entry that is written is the one that is read
+-- an entry is read back as written
 pub entry_read : (kind : FileKind) (e : ℕ × Field) → IsWritable kind e.0 e.1
     → entry_of kind LittleEndian (entry_bytes kind e) ≡ Some e
 unfolding entry_of
@@ -155,7 +155,7 @@ entry_read kind e w =
     ap (option_map F) (type_read f.field_type)
     ∙ (λ i. Some (tag i, record { field_type = f.field_type; count = count i; value = value i }))
 
--- how long an entry is
+-- the length of an entry
 pub length-entry : (kind : FileKind) (e : ℕ × Field) → IsWritable kind e.0 e.1
     → length (entry_bytes kind e) ≡ entry_len kind
 length-entry Classic e w =
@@ -169,11 +169,11 @@ length-entry Big e w =
     let t : length (take 8 v) ≡ 8 = length-take-le 8 v (omega arith) in
     omega (arith, t)
 
--- entries that can be written, all of them
+-- all entries of a list can be written
 abbrev pub AllWritable : FileKind → List (ℕ × Field) → Type 0
 AllWritable kind es = (e : ℕ × Field) → In e es → IsWritable kind e.0 e.1
 
--- how long they are together
+-- the total length of some entries
 pub length-entries : (kind : FileKind) (es : List (ℕ × Field)) → AllWritable kind es
     → length (flat_map (entry_bytes kind) es) ≡ entry_len kind * length es
 length-entries kind [] w = omega arith
@@ -182,11 +182,11 @@ length-entries kind (e ∷ es) w =
     let b = length-entries kind es (λ x i. w x (inr i)) in
     omega (arith, length-append (entry_bytes kind e) (flat_map (entry_bytes kind) es), a, b)
 
--- the entry read from the i-th offset on
+-- the entry read at index i from an offset
 nth_entry : FileKind → ℕ → List ℕ → ℕ → Option (ℕ × Field)
 nth_entry kind first file i = entry_of kind LittleEndian (bytes_at file (first + entry_len kind * i) (entry_len kind))
 
--- the entries that are written are the ones that are read, from the a-th offset on
+-- the entries from index a on are read back as written
 entries_back : (kind : FileKind) (es : List (ℕ × Field)) (before rest : List ℕ) (first a : ℕ) → AllWritable kind es
     → length before ≡ first + entry_len kind * a
     → filter_map (nth_entry kind first (before ++ (flat_map (entry_bytes kind) es ++ rest)))
@@ -215,7 +215,7 @@ entries_back kind (x ∷ es) before rest first a w l =
     ∙ ap (λ (l : List (ℕ × Field)). x ∷ l)
     (entries_back kind es (before ++ X) rest first (a + 1) (λ y i. w y (inr i)) more)
 
--- the entries that are written are the ones that are read
+-- all entries are read back as written
 pub entries_read : (kind : FileKind) (es : List (ℕ × Field)) (before rest : List ℕ) (first : ℕ) → AllWritable kind es
     → length before ≡ first
     → entries_from kind LittleEndian (before ++ (flat_map (entry_bytes kind) es ++ rest)) first (length es) ≡ es

@@ -1,4 +1,4 @@
--- What stands in a file grows by bytes, fields and directories.
+-- The model of a file grows by bytes, fields and directories.
 use Rattle.std.proofs.Common.{◌≡◌, ◌≢◌, ℕ, ◌+◌, ◌*◌, ◌^◌, ◌<◌, ◌≤◌, ◌⊎◌, List, [], ◌++◌, length, take, Bool, true, false, cond, eqb, leb, Result, Ok, Err, refl, ap, sym, ◌∙◌, inl, inr, subst, arith, lit<, append_assoc, append-nil, length-append}
 use Rattle.std.proofs.lemmas.Bool.{eq-eqb, ne_eqb, le-leb, lt-leb, cases_Bool, leb-true, leb-false}
 use Rattle.std.specs.List.{flat_map}
@@ -26,7 +26,7 @@ use Rattle.tiff_encode.proofs.Standing.{len_standing, bytes_standing, standing_w
 
 -- ---- bytes
 
--- bytes that are appended stand as a region
+-- appended bytes are a region of the model
 pub grown_by_region : GrownByRegion
 grown_by_region kind m file more h =
     let g = kept_by_appending kind m file more h in
@@ -88,7 +88,7 @@ grown_by_region kind m file more h =
 
 -- ---- fields
 
--- a field with its bytes is added, which are read and apart from all links
+-- the model grows by a field whose bytes are readable and overlap no link
 grown_by_handed : (kind : FileKind) (m : Model) (file : List ℕ) (new : HandedField)
     → field_bytes kind LittleEndian file new.field ≡ Ok new.bytes
     → ((q : ℕ) → IsLink kind m q
@@ -140,7 +140,7 @@ inline_bytes kind file f l b =
     let z : Result (List ℕ) TiffError = Err LimitsExceeded in
     ap (λ t. cond t (cond (leb n (offset_len kind)) x y) z) (le-leb _ _ b) ∙ ap (λ t. cond t x y) (le-leb _ _ l)
 
--- the bytes of a field that stands at an offset
+-- the bytes of a field that has its value at an offset
 placed_bytes : (kind : FileKind) (file : List ℕ) (f : Field) → offset_len kind < field_len f → field_len f < 2 ^ 64
     → field_bytes kind LittleEndian file f ≡ exactly_at file (field_offset kind LittleEndian f) (field_len f)
 unfolding field_bytes
@@ -156,14 +156,14 @@ offset_short : (kind : FileKind) → offset_len kind < 2 ^ 64
 offset_short Classic = lit< tt
 offset_short Big = lit< tt
 
--- a field whose bytes fit its entry is handed in
+-- the model grows by a field whose bytes fit its entry
 pub grown_by_inline : GrownByInline
 grown_by_inline kind m file f l h =
     let s = offset_short kind in
     grown_by_handed kind m file (record { field = f; bytes = take (field_len f) f.value })
     (inline_bytes kind file f l (omega (arith, s))) (λ q i. inl l) h
 
--- a field whose bytes are a region is handed in
+-- the model grows by a field whose bytes are a region
 pub grown_by_placed : GrownByPlaced
 grown_by_placed kind m file f r i p n l b h =
     let e : exactly_at file (field_offset kind LittleEndian f) (field_len f) ≡ Ok r.bytes =
@@ -177,14 +177,14 @@ grown_by_placed kind m file f r i p n l b h =
 
 -- ---- directories
 
--- the last of two tests' answers
+-- if the second test doesn't hold and the result is a success, it is the last result
 last_answer : {A : Type 0} (a b : Bool) (x y : Result A TiffError) (e : TiffError) (z : A) → b ≡ false
     → cond a (cond b x y) (Err e) ≡ Ok z → y ≡ Ok z
 last_answer true true x y e z f h = absurd cc
 last_answer true false x y e z f h = h
 last_answer false b x y e z f h = absurd cc
 
--- a field that stands at an offset lies in the file
+-- the bytes of a field with its value at an offset are within the file
 placed_within : (kind : FileKind) (file : List ℕ) (f : Field) (b : List ℕ) → offset_len kind < field_len f
     → field_bytes kind LittleEndian file f ≡ Ok b
     → field_offset kind LittleEndian f + field_len f ≤ length file
@@ -197,7 +197,7 @@ placed_within kind file f b l e =
     let w = (is_exact file (field_offset kind LittleEndian f) n b o).0 in
     omega (arith, w)
 
--- a link has some bytes
+-- a link has at least one byte
 wide : (kind : FileKind) → 0 < offset_len kind
 wide Classic = lit< tt
 wide Big = lit< tt
@@ -206,7 +206,7 @@ wide Big = lit< tt
 module _ (kind : FileKind) (m : Model) (file : List ℕ) (fields : FinMap nat_cmp Field)
     (w : AllWritable kind (entries fields))
     (b : len fields < 256 ^ count_len kind) (h : Stands kind file m) where
-  -- the new directory, the offset of its link, and the file with it
+  -- the appended directory, the offset of its link, and the file with it
   abbrev fresh : FinishedDirectory
   fresh = record { offset = length file; fields = fields }
 
@@ -216,11 +216,11 @@ module _ (kind : FileKind) (m : Model) (file : List ℕ) (fields : FinMap nat_cm
   abbrev grown_file : List ℕ
   grown_file = file ++ directory_bytes kind fields
 
-  -- how long its entries are
+  -- the length of its entries
   length-body : length (flat_map (entry_bytes kind) (entries fields)) ≡ entry_len kind * len fields
   length-body = length-entries kind (entries fields) w ∙ ap (λ (n : ℕ). entry_len kind * n) (sym (len-entries fields))
 
-  -- its count is read
+  -- the count of the appended directory is readable
   count_at : number_at LittleEndian (count_width kind) grown_file (length file) ≡ Ok (len fields)
   unfolding directory_bytes
   count_at =
@@ -228,7 +228,7 @@ module _ (kind : FileKind) (m : Model) (file : List ℕ) (fields : FinMap nat_cm
       let Z : List ℕ = le (offset_len kind) 0 in
       number_mid (count_width kind) file (B ++ Z) (length file) (len fields) (is_count_width kind) refl b
 
-  -- its fields are read
+  -- the fields of the appended directory are readable
   fields_at : last_of_each (entries_from kind LittleEndian grown_file (first_entry kind (length file)) (len fields))
       ≡ fields
   unfolding directory_bytes
@@ -247,7 +247,7 @@ module _ (kind : FileKind) (m : Model) (file : List ℕ) (fields : FinMap nat_cm
       ∙ ap last_of_each (entries_read kind es (file ++ C) Z first w l)
       ∙ last_of_entries fields
 
-  -- its link is read
+  -- the link of the appended directory is readable
   own_at : number_at LittleEndian (offset_width kind) grown_file own ≡ Ok 0
   unfolding directory_bytes
   own_at =
@@ -264,7 +264,7 @@ module _ (kind : FileKind) (m : Model) (file : List ℕ) (fields : FinMap nat_cm
       ap (λ (f : List ℕ). number_at LittleEndian (offset_width kind) f own) g
       ∙ number_mid (offset_width kind) ((file ++ C) ++ B) [] own 0 (is_offset_width kind) l (zero_fits kind)
 
-  -- its link is the last of the file
+  -- the link of the appended directory is the end of the file
   length-grown : length grown_file ≡ own + offset_len kind
   unfolding directory_bytes
   length-grown =
@@ -283,26 +283,26 @@ module _ (kind : FileKind) (m : Model) (file : List ℕ) (fields : FinMap nat_cm
         x,
       )
 
-  -- so it lies in the file
+  -- the appended directory lies in the file
   fresh_within : length file + whole_len kind fresh ≤ length grown_file
   fresh_within = let x = length-grown in omega (arith, x)
 
-  -- each former link lies in the former file
+  -- each earlier link lies in the earlier file
   old_within : (p : ℕ) → IsLink kind m p → p + offset_len kind ≤ length file
   old_within p l = (h.apart p l).within
 
-  -- and is not the new one
+  -- each earlier link differs from the link of the appended directory
   not_own : (p : ℕ) → p + offset_len kind ≤ length file → p ≢ own
   not_own p f s = let x = wide kind in omega arith
 
-  -- the links are the former ones and the new one
+  -- the links are the earlier ones and the link of the appended directory
   links_of : (p : ℕ) → IsLink kind (with_directory kind m fresh) p → (IsLink kind m p) ⊎ (p ≡ own)
   links_of p l = elim l [
     | inl s ↦ inl (inl s)
     | inr y ↦ elim y.1.0 [ inl t ↦ inr (y.1.1 ∙ ap (λ d. own_link kind d) t) | inr j ↦ inl (inr (y.0, (j, y.1.1))) ]
   ]
 
-  -- a former link overlaps nothing new
+  -- an earlier link overlaps no appended part
   old_apart : (q : ℕ) → IsLink kind m q → IsApart kind grown_file m q
       → IsApart kind grown_file (with_directory kind m fresh) q
   old_apart q k a =
@@ -323,7 +323,7 @@ module _ (kind : FileKind) (m : Model) (file : List ℕ) (fields : FinMap nat_cm
         ];
       }
 
-  -- the new link overlaps nothing
+  -- the link of the appended directory overlaps nothing
   own_apart : IsApart kind grown_file (with_directory kind m fresh) own
   own_apart = record {
     header = (let x = old_within (header_link kind) (inl refl) in omega (arith, x));
@@ -354,7 +354,7 @@ module _ (kind : FileKind) (m : Model) (file : List ℕ) (fields : FinMap nat_cm
     | inr j ↦ g.directories_within d j
   ]
 
-  -- no two overlap
+  -- no two directories overlap
   all_apart : (d e : FinishedDirectory) → In d (with_directory kind m fresh).directories
       → In e (with_directory kind m fresh).directories
       → (d ≡ e) ⊎ BytesAreApart d.offset (whole_len kind d) e.offset (whole_len kind e)
@@ -373,7 +373,7 @@ module _ (kind : FileKind) (m : Model) (file : List ℕ) (fields : FinMap nat_cm
     ]
   ]
 
-  -- nor does one overlap a region
+  -- no directory overlaps a region
   all_apart_of_regions : (d : FinishedDirectory) (r : ByteRegion) → In d (with_directory kind m fresh).directories
       → In r m.regions
       → BytesAreApart d.offset (whole_len kind d) r.offset (length r.bytes)
@@ -384,7 +384,7 @@ module _ (kind : FileKind) (m : Model) (file : List ℕ) (fields : FinMap nat_cm
     | inr a ↦ h.regions_apart d r a j
   ]
 
-  -- so the directory stands
+  -- the model with the appended directory describes the file
   pub directory_stands : Stands kind grown_file (with_directory kind m fresh)
   directory_stands =
       let g = kept_by_appending kind m file (directory_bytes kind fields) h in
@@ -426,7 +426,7 @@ module _ (kind : FileKind) (m : Model) (file : List ℕ) (fields : FinMap nat_cm
         ];
       }
 
--- a directory that is appended stands, with no next one
+-- an appended directory without a next one is part of the model
 pub grown_by_listing : GrownByListing
 grown_by_listing kind m file fields a h =
     let stood : FinMap nat_cmp Field = standing_fields kind fields in
@@ -436,7 +436,7 @@ grown_by_listing kind m file fields a h =
     subst P (sym (bytes_standing kind fields a.each))
     (directory_stands kind m file stood (standing_writable kind fields a.each) few h)
 
--- a directory that is appended and linked to stands
+-- a directory that a call appends and links to is part of the model
 pub finished : FinishStep
 finished kind m file fields parent a l i h =
     let d : FinishedDirectory = record { offset = length file; fields = standing_fields kind fields } in

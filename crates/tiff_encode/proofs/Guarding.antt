@@ -1,4 +1,4 @@
--- What the calls of an open directory end as, and what they leave.
+-- How the calls of an open directory end, and what they leave in the file.
 use Rattle.std.proofs.Common.{◌≡◌, ℕ, ◌+◌, ◌^◌, ◌<◌, ◌≤◌, ◌⊎◌, Bool, true, false, cond, List, [], ◌∷◌, ◌++◌, length, take, Option, Some, None, Result, Ok, Err, refl, ap, sym, ◌∙◌, inl, inr, subst, arith, lit≤, append-nil}
 use Rattle.std.proofs.Math.Seq.{take-length}
 use Rattle.std.proofs.lemmas.Bool.{ltb-false}
@@ -59,7 +59,7 @@ opens_fails d e old new h =
           (subst (λ xs. AppendIsCut xs e old new) (sym (append-nil (padding (end_of old)))) c))))
     ]
 
--- `image_directory`
+-- `image_directory` succeeds
 pub begun_told : (old new : FileState) (fields : FinMap nat_cmp Field) (chain : ℕ)
     → (old.fault ≡ None) × (new ≡ file_with_bytes old (padding (end_of old))) → fields ≡ empty → chain ≡ new.chain
     → IsTold (image_directory old) (Ok (record { fields = fields; parent = Some chain; chained = true })) new
@@ -75,7 +75,7 @@ pub begun_fails : (e : TiffError) (old new : FileState) → AppendIsStopped e ol
 unfolding image_directory
 begun_fails e old new h = opens_fails (new_directory (Some old.chain) true) e old new h
 
--- `extra_directory`
+-- `extra_directory` succeeds
 pub extra_told : (old new : FileState) (fields : FinMap nat_cmp Field)
     → (old.fault ≡ None) × (new ≡ file_with_bytes old (padding (end_of old))) → fields ≡ empty
     → IsTold (extra_directory old) (Ok (record { fields = fields; parent = None; chained = false })) new
@@ -89,7 +89,7 @@ pub extra_fails : (e : TiffError) (old new : FileState) → AppendIsStopped e ol
 unfolding extra_directory
 extra_fails e old new h = opens_fails (new_directory None false) e old new h
 
--- ---- a call, and an answer made of its own
+-- ---- a call, and a result made of its value
 
 module _ {A B : Type 0} (g : A → B) where
   abbrev viewed : Result A TiffError → List Deed → FileState → WriteOutcome B
@@ -100,7 +100,7 @@ module _ {A B : Type 0} (g : A → B) where
   viewed_told r deeds next x new h s =
       subst (λ q. IsTold (viewed q deeds next) (Ok (g x)) new) (sym h) (record { answer = refl; state = s })
 
-  -- the same fault of another call
+  -- the same error as the result of another call
   abbrev other_fault : Result A TiffError → Result B TiffError
   other_fault (Ok x) = Ok (g x)
   other_fault (Err e) = Err e
@@ -164,9 +164,9 @@ module _ {A B : Type 0} (g : A → B) where
         state = s ∙ n ∙ ap (file_with_bytes old) (same ∙ sym (take-length all));
       }))))
 
--- ---- a value is handed in
+-- ---- a call writes a value
 
--- What a call is told to append is all that it does to the file.
+-- The appended bytes are all that the call changes in the file.
 record IsGrowing {A : Type 0} (told : WriteOutcome A) (file : FileState) : Type 0 where
   pub next : told.next ≡ file_with_bytes file (all_appended file.kind told.deeds)
 
@@ -175,7 +175,7 @@ caused_growing : {A : Type 0} (cause : Option TiffError) (call : Writing A) (fil
 caused_growing None call file g = g
 caused_growing (Some e) call file g = record { next = ap (λ bytes. record file { bytes = bytes }) (sym (append-nil file.bytes)) }
 
--- some deeds that only append
+-- the changes that write a value only append
 handed_growing : (long : Bool) (bytes : List ℕ) (h : HandedField) (field : Field) (file : FileState)
     → IsGrowing ((does (cond long (Appended bytes ∷ Handed h ∷ []) (Handed h ∷ [])) >>= (λ _. gives field)) file) file
 handed_growing true bytes h field file = record { next = ap (file_with_bytes file) (sym (append-nil bytes)) }
@@ -187,13 +187,13 @@ placed_growing value file =
     let field : Field = field_at file.kind (end_of file) value in
     handed_growing (is_long file.kind value) value.bytes (record { field = field; bytes = value.bytes }) field file
 
--- a call that was not refused had no cause
+-- nothing refuses a call that succeeds
 pub uncaused_by : {A : Type 0} (cause : Option TiffError) (call : Writing A) (file : FileState) (x : A)
     → (by_cause cause call file).answer ≡ Ok x → cause ≡ None
 uncaused_by None call file x h = refl
 uncaused_by (Some e) call file x h = absurd (ok_err (sym h))
 
--- and no fault before it
+-- no sink error precedes a call that nothing refuses
 pub fresh_by : (fault : Option SinkFault) (cause : Option TiffError) → unless_ended fault cause ≡ None → fault ≡ None
 fresh_by None cause h = refl
 fresh_by (Some f) cause h = absurd cc
@@ -212,7 +212,7 @@ unfolding write_entry write_tag_cause
 entry_fresh value file field h =
     fresh_by file.fault _ (uncaused_by (write_tag_cause file value) (λ f. (answers value >>= placed_field) f) file field h)
 
--- `write_tag`
+-- `write_tag` succeeds
 pub tag_told : (d : OpenDirectory) (t : Tag) (value : Result FieldData TiffError) (field : Field) (old new : FileState)
     → IsTold (write_entry value old) (Ok field) new → IsTold (write_tag d t value old) (Ok (with_field d t field)) new
 unfolding write_tag
@@ -235,7 +235,7 @@ tag_short d t value field e old new h q =
     viewed_short (with_field d t) told.answer told.deeds told.next field e old new h.answer h.state
     (entry_fresh value old field h.answer) (entry_growing value old).next q
 
--- `write_entry_buf`, `write_entry_bytes`
+-- `write_entry_buf`, `write_entry_bytes`: the calls only append
 placed_call_growing : (cause : Option TiffError) (value : FieldData) (file : FileState)
     → IsGrowing (by_cause cause (placed_field value) file) file
 placed_call_growing cause value file = caused_growing cause (placed_field value) file (placed_growing value file)
@@ -258,7 +258,7 @@ unfolding write_entry_bytes write_entry_bytes_cause
 bytes_fresh type bytes file field h =
     fresh_by file.fault _ (uncaused_by (write_entry_bytes_cause file type bytes) (placed_field (data_in type bytes)) file field h)
 
--- `write_tag_buf`
+-- `write_tag_buf` succeeds
 pub tag_buf_told : (d : OpenDirectory) (t : Tag) (b : BufferRecord) (field : Field) (old new : FileState)
     → IsTold (write_entry_buf b old) (Ok field) new → IsTold (write_tag_buf d t b old) (Ok (with_field d t field)) new
 unfolding write_tag_buf
@@ -281,9 +281,9 @@ tag_buf_short d t b field e old new h q =
     viewed_short (with_field d t) told.answer told.deeds told.next field e old new h.answer h.state
     (buf_fresh b old field h.answer) (buf_growing b old).next q
 
--- ---- what stood in the file
+-- ---- the earlier content of the file
 
--- an appending call that fails leaves it
+-- a call that appends and fails keeps the earlier content of the file
 pub failed_leaves : {Y : Type 0} (told : WriteOutcome Y) (e : TiffError) (old new : FileState) (m : Model) → IsPlain 0 told old
     → CallFails told e old new → Stands old.kind old.bytes m → Stands old.kind new.bytes m
 failed_leaves told e old new m p h s =
@@ -298,11 +298,11 @@ failed_leaves told e old new m p h s =
       ]
     ]
 
--- A file whose end is a number of 64 bits, unless a write failed.
+-- The end of the file is a 64-bit number, unless a write failed.
 abbrev EndFits : FileState → Type 0
 EndFits file = file.fault ≡ None → end_of file < 2 ^ 64
 
--- what is appended to a file, and what was there, is as short
+-- if the end of a file after an append is a 64-bit number, the end before it is one
 module _ {A : Type 0} (told : WriteOutcome A) (old new : FileState) (g : IsGrowing told old) (s : new ≡ told.next) (f : old.fault ≡ None)
     (fits : EndFits new) where
   grown_short : end_of old + length (all_appended old.kind told.deeds) < 2 ^ 64
@@ -316,12 +316,12 @@ module _ {A : Type 0} (told : WriteOutcome A) (old new : FileState) (g : IsGrowi
   old_short : end_of old < 2 ^ 64
   old_short = let h = grown_short in omega (arith, h)
 
--- a value field is no longer than eight bytes
+-- a value field has at most eight bytes
 offset_len_8 : (kind : FileKind) → offset_len kind ≤ 8
 offset_len_8 Classic = lit≤ tt
 offset_len_8 Big = lit≤ tt
 
--- so are the bytes of a value that is handed in
+-- the number of bytes of a written value is a 64-bit number
 value_short : (kind : FileKind) (long : Bool) (bytes : List ℕ) (h : HandedField) → nat_lt (offset_len kind) (length bytes) ≡ long
     → length (all_appended kind (cond long (Appended bytes ∷ Handed h ∷ []) (Handed h ∷ []) ++ [])) < 2 ^ 64
     → length bytes < 2 ^ 64
@@ -331,7 +331,7 @@ value_short kind false bytes h t l =
     let eight = offset_len_8 kind in
     omega (arith, below, eight)
 
--- a value that was handed in
+-- a value that a call writes is valid data
 entry_given : (value : Result FieldData TiffError) (type : «Type») (count : ℕ) (field : Field) (old new : FileState)
     → IsValue type count value → EndFits new → IsTold (write_entry value old) (Ok field) new → IsGiven value × (end_of old < 2 ^ 64)
 unfolding write_entry
@@ -354,7 +354,7 @@ entry_given (Ok d) type count field old new v fits h =
       old_short told old new (entry_growing (Ok d) old) h.state fresh fits,
     )
 
--- `write_entry`
+-- what `write_entry` leaves
 pub entry_left : (value : Result FieldData TiffError) (type : «Type») (count : ℕ) (field : Field) (old new : FileState) (m : Model)
     → IsValue type count value → EndFits new → IsTold (write_entry value old) (Ok field) new → Stands old.kind old.bytes m
     → Stands old.kind new.bytes (model_after old.kind old.bytes m (write_entry value old).deeds)
@@ -362,7 +362,7 @@ entry_left value type count field old new m v fits h s =
     let x = entry_given value type count field old new v fits h in
     let view : Field → Field = λ f. f in entry_leaves view (Ok field) old new m value x.0 x.1 s h
 
--- `write_tag`
+-- what `write_tag` leaves
 pub tag_left : (d : OpenDirectory) (t : Tag) (value : Result FieldData TiffError) (type : «Type») (count : ℕ) (field : Field)
     (old new : FileState) (m : Model)
     → IsValue type count value → EndFits new → IsTold (write_entry value old) (Ok field) new → Stands old.kind old.bytes m
@@ -372,7 +372,7 @@ tag_left d t value type count field old new m v fits h s =
     let view : OpenDirectory → OpenDirectory = λ f. f in
     tag_leaves view (Ok (with_field d t field)) old new m d t value x.0 x.1 s (tag_told d t value field old new h)
 
--- `write_entry_buf`
+-- what `write_entry_buf` leaves
 pub entry_buf_left : (b : BufferRecord) (field : Field) (old new : FileState) (m : Model) → length b.bytes < 2 ^ 64 → EndFits new
     → IsTold (write_entry_buf b old) (Ok field) new → Stands old.kind old.bytes m
     → Stands old.kind new.bytes (model_after old.kind old.bytes m (write_entry_buf b old).deeds)
@@ -380,7 +380,7 @@ entry_buf_left b field old new m n fits h s =
     let short = old_short (write_entry_buf b old) old new (buf_growing b old) h.state (buf_fresh b old field h.answer) fits in
     let view : Field → Field = λ f. f in entry_buf_leaves view (Ok field) old new m b n short s h
 
--- `write_tag_buf`
+-- what `write_tag_buf` leaves
 pub tag_buf_left : (d : OpenDirectory) (t : Tag) (b : BufferRecord) (field : Field) (old new : FileState) (m : Model)
     → length b.bytes < 2 ^ 64 → EndFits new
     → IsTold (write_entry_buf b old) (Ok field) new → Stands old.kind old.bytes m
@@ -390,7 +390,7 @@ tag_buf_left d t b field old new m n fits h s =
     let view : OpenDirectory → OpenDirectory = λ f. f in
     tag_buf_leaves view (Ok (with_field d t field)) old new m d t b n short s (tag_buf_told d t b field old new h)
 
--- `write_entry_bytes`
+-- what `write_entry_bytes` leaves
 pub entry_bytes_left : (type : «Type») (bytes : List ℕ) (field : Field) (old new : FileState) (m : Model) → length bytes < 2 ^ 64
     → EndFits new → IsTold (write_entry_bytes type bytes old) (Ok field) new → Stands old.kind old.bytes m
     → Stands old.kind new.bytes (model_after old.kind old.bytes m (write_entry_bytes type bytes old).deeds)
@@ -400,7 +400,7 @@ entry_bytes_left type bytes field old new m n fits h s =
     (bytes_fresh type bytes old field h.answer) fits in
     let view : Field → Field = λ f. f in entry_bytes_leaves view (Ok field) old new m type bytes n short s h
 
--- ---- a directory that was opened
+-- ---- a directory after its opening
 
 pub begun_left : (old new : FileState) (d : OpenDirectory) (m : Model) → IsTold (image_directory old) (Ok d) new
     → Stands old.kind old.bytes m → Stands old.kind new.bytes (model_after old.kind old.bytes m (image_directory old).deeds)
@@ -419,13 +419,13 @@ finish_fresh d file offsets h =
     let call : Writing Offsets = does deeds >>= (λ _. chains d.chained (offsets_of file.kind (end_of file) (len d.fields))) in
     fresh_by file.fault _ (uncaused_by (finish_cause file d) call file offsets h)
 
--- a fault is not none
+-- a sink error differs from no error
 no_fault : {fault : SinkFault} → let a : Option SinkFault = Some fault in a ≡ None → ⊥
 no_fault h = cc
 
 module _ (old new : FileState) (m : Model) (d : OpenDirectory) (a : AreEntries d.fields) (n : len d.fields < 2 ^ 64) (fits : EndFits old)
     (s : Stands old.kind old.bytes m) (p : (offset : ℕ) → d.parent ≡ Some offset → IsLink old.kind m offset) where
-  -- after a fault of the sink it is refused
+  -- what the end of a directory leaves, by whether the sink fails before it
   ended_left : {X : Type 0} (view : X → Offsets) (fault : Option SinkFault) (r : Result X TiffError) → old.fault ≡ fault
       → Ends view (finish d old) r old new → LeavesLinked (finish d old) r old new m
   ended_left view None r f h = finish_leaves view r old new m d a n p (fits f) s h
@@ -443,7 +443,7 @@ module _ (old new : FileState) (m : Model) (d : OpenDirectory) (a : AreEntries d
       → LeavesLinked (finish d old) r old new m
   finish_left view r h = ended_left view old.fault r refl h
 
--- ---- fields that are taken over
+-- ---- fields copied from another directory
 
 pub extended_none : (d : OpenDirectory) → d ≡ extend_from d []
 unfolding extend_from
@@ -458,7 +458,7 @@ extended_more old now done tag field h =
     let having : FinMap nat_cmp Field → OpenDirectory = λ fields. record old { fields = fields } in
     ap more h ∙ sym (ap having (fold-append set old.fields done ((tag, field) ∷ [])))
 
--- those up to one
+-- the fields copied before a failure are the first ones of all fields
 pub some_taken : (old now : OpenDirectory) (done rest given : List (ℕ × Field)) → done ++ rest ≡ given → now ≡ extend_from old done
     → (count : ℕ) × (now ≡ extend_from old (take count given))
 some_taken old now done rest given e h =

@@ -1,4 +1,4 @@
--- A header that was written stands.
+-- After a header is written, its model describes the file.
 use Rattle.std.proofs.Common.{◌≡◌, ℕ, ◌^◌, ◌<◌, List, [], ◌++◌, length, Ok, refl, ap, sym, ◌∙◌, inl, inr, arith, lit<, append-nil, length-append}
 use Rattle.tiff_base.specs.declared.tags.FileKind.{FileKind}
 use Rattle.tiff_base.specs.declared.tags.FileKind.TheVariants.{Classic, Big}
@@ -15,11 +15,11 @@ pub zero_fits : (kind : FileKind) → 0 < 256 ^ offset_len kind
 zero_fits Classic = lit< tt
 zero_fits Big = lit< tt
 
--- a header has no link but its own
+-- a header has no link except its own
 pub only_link : (kind : FileKind) (q : ℕ) → IsLink kind (header_model kind) q → q ≡ header_link kind
 only_link kind q l = elim l [ inl e ↦ e | inr y ↦ absurd y.1.0 ]
 
--- a header that was written stands
+-- the model of a header describes the file after the header is written
 pub header_stands : HeaderStands
 header_stands kind =
     let k : ℕ = offset_len kind in

@@ -19,14 +19,14 @@ put_behind file at xs ys h =
     ∙ append_assoc file xs ys
     ∙ sym (put_end file (xs ++ ys) at (omega (arith, h)))
 
--- a second piece right behind the first, wherever that is
+-- a second piece right behind the first, at each offset
 put_on : (file : List ℕ) (at : ℕ) (xs ys : List ℕ) → put (put file at xs) (at + length xs) ys ≡ put file at (xs ++ ys)
 put_on file at xs ys = elim (cases_Bool (leb at (length file))) [
   | inl t ↦ put-put file at xs ys (leb-true _ _ t)
   | inr f ↦ put_behind file at xs ys (leb-false _ _ f)
 ]
 
--- a header went out
+-- the header is written
 pub header_written : (kind : FileKind) (old mid new : Written) → mid ≡ writer_after old (header_mark kind)
     → new ≡ writer_after_counted mid (le (offset_len kind) 0) → new ≡ record (writer_after old (header_bytes kind)) { last = offset_len kind }
 header_written kind old mid new s t =
@@ -36,7 +36,7 @@ header_written kind old mid new s t =
     let l : length zeros ≡ offset_len kind = length-le 0 (offset_len kind) 0 in
     t ∙ ap (λ m. writer_after_counted m zeros) s ∙ λ i. record old { bytes = put_on old.bytes old.at mark zeros i; at = at i; last = l i }
 
--- its first piece did not
+-- writing the first piece of the header fails
 pub mark_fails : (kind : FileKind) (old new : Written) (e : TiffError) → IsStopped e old new ⊎ IsCut (header_mark kind) e old new
     → IsStopped e old new ⊎ IsCut (header_bytes kind) e old new
 mark_fails kind old new e h = elim h [
@@ -56,7 +56,7 @@ mark_fails kind old new e h = elim h [
   })
 ]
 
--- its link did not
+-- writing the link of the header fails
 pub link_fails : (kind : FileKind) (old mid new : Written) (e : TiffError) → old.fault ≡ None
     → mid ≡ writer_after old (header_mark kind) → IsStopped e mid new ⊎ IsCut (le (offset_len kind) 0) e mid new
     → IsStopped e old new ⊎ IsCut (header_bytes kind) e old new

@@ -37,7 +37,7 @@ first_of i head chroma tail all h c t a =
     ∙ ap (λ x. fields_of (meaning_tags i) ++ x) (sym (map-append tell (chroma_tags i.color.interpretation) (layout_tags i)))
     ∙ sym (map-append tell (meaning_tags i) (chroma_tags i.color.interpretation ++ layout_tags i))
 
--- where nothing refuses an image
+-- the checks of an image return the error that refuses `new_image`
 pub begins_uncaused : (file : FileState) (color : ColorTypeRecord) (kind : FileKind) (end : ℕ) (predictor : Predictor)
     (formats : List SampleFormat) (width height : ℕ) (cause : Option TiffError) → file.fault ≡ None → kind ≡ file.kind → end ≡ end_of file
     → predictor ≡ file.predictor → formats ≡ color.formats → image_cause kind end predictor formats width height ≡ cause
@@ -58,7 +58,7 @@ some_by : (n : ℕ) → (n == 0) ≡ false → 0 < n
 some_by zero h = absurd cc
 some_by (suc n) h = omega arith
 
--- it has sides
+-- an image that nothing refuses has sides
 pub sides_by : (kind : FileKind) (end : ℕ) (predictor : Predictor) (formats : List SampleFormat) (width height : ℕ)
     → image_cause kind end predictor formats width height ≡ None → (0 < width) × (0 < height)
 unfolding image_cause
@@ -69,7 +69,7 @@ sides_by kind end predictor formats width height c =
 -- ---- `new_image`
 
 module _ (color : ColorTypeRecord) (size width height : ℕ) (old : FileState) where
-  -- its directory before a tag, and what follows where nothing refuses it
+  -- the directory before the tags, and the calls after the checks
   abbrev blank : OpenDirectory
   blank = new_directory (Some old.chain) true
 
@@ -95,7 +95,7 @@ module _ (color : ColorTypeRecord) (size width height : ℕ) (old : FileState) w
   unfolding new_image
   image_refused e c = refused (λ i. i) (new_image_cause old color width height) begun_image old e c
 
-  -- its tags do something
+  -- writing the tags makes a change unless it is refused
   tags_add : (d : OpenDirectory) (file : FileState) → Adds (write_tags d (tags_in d) file) file
   unfolding first_tags
   tags_add d file =
@@ -111,18 +111,18 @@ module _ (color : ColorTypeRecord) (size width height : ℕ) (old : FileState) w
       let d : OpenDirectory → OpenDirectory = λ d. d in
       uncaused d (begin_cause old) opens (Err e) old old (fresh_cause old.fault None f) (wanting d (opens old) e old f q tt)
 
-  -- there was no memory for its tags
+  -- `new_image` runs out of memory for its tags
   pub image_short : (e : TiffError) → new_image_cause old color width height ≡ None → old.fault ≡ None → e ≡ OutOfMemory
       → Ends (λ i. i) (new_image color size width height old) (Err e) old old
   image_short e c f q = uncaused_image (Err e) old c (bind_fails image_directory tagged e old old (begin_adds old) (directory_short e f q))
 
-  -- zeros were not appended
+  -- `new_image` fails to append the zeros before its directory
   pub image_unpadded : (e : TiffError) (new : FileState) → new_image_cause old color width height ≡ None
       → AppendIsStopped e old new ⊎ AppendIsCut (padding (end_of old)) e old new → Ends (λ i. i) (new_image color size width height old) (Err e) old new
   image_unpadded e new c h =
       uncaused_image (Err e) new c (bind_fails image_directory tagged e old new (begin_adds old) (begun_fails e old new h))
 
-  -- they were, and then
+  -- `new_image` appends the zeros and continues with the tags
   image_padded : (r : Result OpenImage TiffError) (mid new : FileState) → new_image_cause old color width height ≡ None
       → old.fault ≡ None → mid ≡ file_with_bytes old (padding (end_of old)) → Ends (λ i. i) (tagged blank mid) r mid new
       → Ends (λ i. i) (new_image color size width height old) r old new
@@ -130,7 +130,7 @@ module _ (color : ColorTypeRecord) (size width height : ℕ) (old : FileState) w
       let told : IsTold (image_directory old) (Ok blank) mid = begun_told old mid empty old.chain (f, s) refl (sym (ap (λ n. n.chain) s)) in
       uncaused_image r new c (bind_ends (λ i. i) image_directory tagged blank r old mid new (begin_adds old) told h)
 
-  -- the tags failed
+  -- `new_image` fails at the tags
   pub image_untagged : (values : List (Tag × FieldData)) (e : TiffError) (mid new : FileState) → new_image_cause old color width height ≡ None
       → old.fault ≡ None → mid ≡ file_with_bytes old (padding (end_of old)) → values ≡ fields_of (tags_in blank)
       → CallFails (write_fields blank values mid) e mid new → Ends (λ i. i) (new_image color size width height old) (Err e) old new
@@ -139,7 +139,7 @@ module _ (color : ColorTypeRecord) (size width height : ℕ) (old : FileState) w
       (bind_fails (write_tags blank (tags_in blank)) ends_with e mid new (tags_add blank mid)
       (subst (λ told. CallFails told e mid new) (ap (λ xs. write_fields blank xs mid) v ∙ sym (tags_are_fields blank (tags_in blank) mid)) h))
 
-  -- all was done
+  -- `new_image` succeeds
   pub image_begun : (values : List (Tag × FieldData)) (last : OpenDirectory) (i : OpenImage) (mid new : FileState)
       → new_image_cause old color width height ≡ None → old.fault ≡ None → mid ≡ file_with_bytes old (padding (end_of old))
       → values ≡ fields_of (tags_in blank) → IsTold (write_fields blank values mid) (Ok last) new

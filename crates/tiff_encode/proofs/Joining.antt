@@ -1,4 +1,4 @@
--- How two calls, one after another, end as one.
+-- How two calls in sequence end as one call.
 use Rattle.std.proofs.Common.{◌≡◌, ℕ, ◌+◌, ◌≤◌, Bool, true, false, cond, List, [], ◌∷◌, ◌++◌, length, take, Option, Some, None, Result, Ok, Err, refl, ap, sym, ◌∙◌, inl, inr, subst, arith, append_assoc, append-nil}
 use Rattle.std.proofs.Math.Seq.{take-append-add}
 use Rattle.std.proofs.lemmas.List.{length-append, take-append-le}
@@ -25,18 +25,19 @@ use Rattle.tiff_encode.proofs.Leaving.{ok_err}
 
 -- ---- calls that append
 
--- something is done where the call is not refused
+-- a call that is not refused makes at least one change
 abbrev pub HasDeeds : {A : Type 0} → Result A TiffError → List Deed → Type 0
 HasDeeds (Ok x) [] = ⊥
 HasDeeds (Ok x) (deed ∷ deeds) = Unit {0}
 HasDeeds (Err e) deeds = Unit {0}
 
--- What a call is told to append is all that it does to the file; it may do nothing.
+-- The appended bytes are all that a call changes in the file. The call may change nothing.
 pub record IsAdding {A : Type 0} (told : WriteOutcome A) (file : FileState) : Type 0 where
   pub next : told.next ≡ file_with_bytes file (all_appended file.kind told.deeds)
   pub appending : AreAppending told.deeds
 
--- The same, and it does something unless it is refused.
+-- The appended bytes are all that a call changes in the file. The call makes a change unless it is
+-- refused.
 pub record Adds {A : Type 0} (told : WriteOutcome A) (file : FileState) : Type 0 where
   pub next : told.next ≡ file_with_bytes file (all_appended file.kind told.deeds)
   pub appending : AreAppending told.deeds
@@ -45,9 +46,9 @@ pub record Adds {A : Type 0} (told : WriteOutcome A) (file : FileState) : Type 0
 pub adding : {A : Type 0} (told : WriteOutcome A) (file : FileState) → Adds told file → IsAdding told file
 adding told file a = record { next = a.next; appending = a.appending }
 
--- ---- deeds, and more after them
+-- ---- changes, and more changes after them
 
--- what both append
+-- the bytes that two lists of changes append
 pub appended_joined : (kind : FileKind) (deeds more : List Deed)
     → all_appended kind (deeds ++ more) ≡ all_appended kind deeds ++ all_appended kind more
 appended_joined kind [] more = refl
@@ -59,19 +60,19 @@ appended_joined kind (Listed fields ∷ deeds) more =
     ∙ sym (append_assoc (directory_bytes kind fields) (all_appended kind deeds) (all_appended kind more))
 appended_joined kind (Linked offset target ∷ deeds) more = appended_joined kind deeds more
 
--- a file that both were appended to
+-- a file with the bytes of two lists of changes
 pub appended_both : (kind : FileKind) (bytes : List ℕ) (deeds more : List Deed)
     → (bytes ++ all_appended kind deeds) ++ all_appended kind more ≡ bytes ++ all_appended kind (deeds ++ more)
 appended_both kind bytes deeds more =
     append_assoc bytes (all_appended kind deeds) (all_appended kind more) ∙ ap (λ ys. bytes ++ ys) (sym (appended_joined kind deeds more))
 
--- how much both append
+-- the number of bytes that two lists of changes append
 pub appended_len : (kind : FileKind) (deeds more : List Deed)
     → length (all_appended kind (deeds ++ more)) ≡ length (all_appended kind deeds) + length (all_appended kind more)
 appended_len kind deeds more =
     ap (λ xs. length xs) (appended_joined kind deeds more) ∙ length-append (all_appended kind deeds) (all_appended kind more)
 
--- the first, and a beginning of the others
+-- the bytes of the first changes and a prefix of the bytes of the others
 pub begun_both : (kind : FileKind) (bytes : List ℕ) (deeds more : List Deed) (count : ℕ)
     → (bytes ++ all_appended kind deeds) ++ take count (all_appended kind more)
     ≡ bytes ++ take (length (all_appended kind deeds) + count) (all_appended kind (deeds ++ more))
@@ -80,14 +81,14 @@ begun_both kind bytes deeds more count =
     ∙ ap (λ ys. bytes ++ ys) (sym (take-append-add (all_appended kind deeds) (all_appended kind more) count)
     ∙ ap (take (length (all_appended kind deeds) + count)) (sym (appended_joined kind deeds more)))
 
--- a beginning of the first is one of both
+-- a prefix of the bytes of the first changes is a prefix of the bytes of all changes
 begun_first : (kind : FileKind) (deeds more : List Deed) (count : ℕ) → count ≤ length (all_appended kind deeds)
     → take count (all_appended kind deeds) ≡ take count (all_appended kind (deeds ++ more))
 begun_first kind deeds more count l =
     sym (take-append-le count (all_appended kind deeds) (all_appended kind more) l)
     ∙ ap (take count) (sym (appended_joined kind deeds more))
 
--- none of them is a link
+-- if two lists of changes only append, none of all changes points a link
 pub appending_joined : (deeds more : List Deed) → AreAppending deeds → AreAppending more → AreAppending (deeds ++ more)
 appending_joined [] more a b = b
 appending_joined (Appended xs ∷ deeds) more a b = appending_joined deeds more a b
@@ -95,7 +96,7 @@ appending_joined (Handed handed ∷ deeds) more a b = appending_joined deeds mor
 appending_joined (Listed fields ∷ deeds) more a b = appending_joined deeds more a b
 appending_joined (Linked offset target ∷ deeds) more a b = absurd a
 
--- a link last is none of those that only append
+-- changes that only append have no link as their last change
 pub ends_torn : (before : List Deed) (offset target : ℕ) → AreAppending (before ++ Linked offset target ∷ []) → ⊥
 ends_torn [] offset target a = a
 ends_torn (Appended xs ∷ before) offset target a = ends_torn before offset target a
@@ -103,14 +104,14 @@ ends_torn (Handed handed ∷ before) offset target a = ends_torn before offset t
 ends_torn (Listed fields ∷ before) offset target a = ends_torn before offset target a
 ends_torn (Linked p t ∷ before) offset target a = a
 
--- some are some with more after them
+-- two calls have begun if the first one makes a change
 more_begun : {A B : Type 0} (x : A) (r : Result B TiffError) (deeds more : List Deed)
     → (let done : Result A TiffError = Ok x in HasDeeds done deeds) → HasBegun r (deeds ++ more)
 more_begun x (Ok y) deeds more h = tt
 more_begun x (Err e) [] more h = absurd h
 more_begun x (Err e) (deed ∷ deeds) more h = tt
 
--- and so with some before them
+-- a call that has begun has also begun with other changes before it
 begun_behind : {A : Type 0} (r : Result A TiffError) (deeds more : List Deed) → HasBegun r more → HasBegun r (deeds ++ more)
 begun_behind (Ok x) deeds more h = tt
 begun_behind (Err e) [] more h = h
@@ -125,7 +126,8 @@ more_deeds x (Err e) deeds more h = tt
 -- ---- one call after another
 
 module _ {X B : Type 0} (view : X → B) where
-  -- The second call ended in the file that the first had left: both end so.
+  -- If the second call ends in the file that the first call leaves, both calls in sequence end in
+  -- the same way.
   behind_ends : (deeds : List Deed) (told : WriteOutcome B) (r : Result X TiffError) (old new : FileState)
       → Ends view told r (file_with_bytes old (all_appended old.kind deeds)) new → Ends view (after_deeds deeds told) r old new
   behind_ends deeds told (Ok x) old new h = record { answer = h.answer; state = h.state }
@@ -169,16 +171,16 @@ module _ {X B : Type 0} (view : X → B) where
       ]
 
 module _ {A B : Type 0} (rest : A → Writing B) where
-  -- what was told of the first
+  -- the outcome of the first call
   abbrev first_told : Result A TiffError → List Deed → FileState → WriteOutcome A
   first_told r deeds next = record { answer = r; deeds = deeds; next = next }
 
-  -- a fault of the first as one of both
+  -- an error of the first call as the error of both calls
   abbrev fault_or : TiffError → Result A TiffError → Result B TiffError
   fault_or e (Ok x) = Err e
   fault_or e (Err f) = Err f
 
-  -- The first fails, and so do both.
+  -- If the first call fails, both calls in sequence fail.
   first_fails : (r : Result A TiffError) (deeds : List Deed) (next : FileState) (e : TiffError) (old new : FileState)
       → AreAppending deeds → HasDeeds r deeds → CallFails (first_told r deeds next) e old new → CallFails (and_then r deeds next rest) e old new
   first_fails (Err f) deeds next e old new a d h =
@@ -227,7 +229,7 @@ module _ {A B : Type 0} (rest : A → Writing B) where
         ]
       ]
 
-  -- The second is told on from where the first left the file.
+  -- If the first call succeeds, both calls have the outcome of the second call.
   after_told : (r : Result A TiffError) (deeds : List Deed) (next : FileState) (x : A) (mid new : FileState) (s : Result B TiffError)
       → r ≡ Ok x → mid ≡ next → IsTold (rest x mid) s new → IsTold (and_then r deeds next rest) s new
   after_told r deeds next x mid new s a m h =
@@ -235,7 +237,7 @@ module _ {A B : Type 0} (rest : A → Writing B) where
       let done : IsTold (after_deeds deeds (rest x next)) s new = record { answer = t.answer; state = t.state } in
       subst (λ q. IsTold (and_then q deeds next rest) s new) (sym a) done
 
-  -- and ends so
+  -- both calls end as the second call ends
   after_ends : {X : Type 0} (view : X → B) (r : Result A TiffError) (deeds : List Deed) (next : FileState) (x : A) (old mid new : FileState)
       (s : Result X TiffError) → next ≡ file_with_bytes old (all_appended old.kind deeds) → r ≡ Ok x → mid ≡ next → Ends view (rest x mid) s mid new
       → Ends view (and_then r deeds next rest) s old new
@@ -246,7 +248,7 @@ module _ {A B : Type 0} (rest : A → Writing B) where
       let P : Result A TiffError → Type 0 = λ q. Ends view (and_then q deeds next rest) s old new in
       subst P (sym a) (behind_ends view deeds (rest x next) s old new at_grown)
 
-  -- Both append.
+  -- Two calls that only append are together a call that only appends.
   joined_adding : (r : Result A TiffError) (deeds : List Deed) (next : FileState) (old : FileState) → IsAdding (first_told r deeds next) old
       → ((x : A) → r ≡ Ok x → IsAdding (rest x next) next) → IsAdding (and_then r deeds next rest) old
   joined_adding (Err e) deeds next old a b = record { next = a.next; appending = a.appending }
@@ -263,38 +265,38 @@ module _ {A B : Type 0} (rest : A → Writing B) where
   joined_some (Err e) deeds next d = tt
   joined_some (Ok x) deeds next d = let second : WriteOutcome B = rest x next in more_deeds x second.answer deeds second.deeds d
 
--- The first call is done, and the second is told to answer so: both are.
+-- If the first call succeeds and the second call has an outcome, both calls have that outcome.
 pub bind_told : {A B : Type 0} (call : Writing A) (rest : A → Writing B) (x : A) (r : Result B TiffError) (old mid new : FileState)
     → IsTold (call old) (Ok x) mid → IsTold (rest x mid) r new → IsTold ((call >>= rest) old) r new
 bind_told call rest x r old mid new h t =
     after_told rest (call old).answer (call old).deeds (call old).next x mid new r h.answer h.state t
 
--- The first call is done, and the second ends: both end so.
+-- If the first call succeeds, both calls end as the second call ends.
 pub bind_ends : {X A B : Type 0} (view : X → B) (call : Writing A) (rest : A → Writing B) (x : A) (r : Result X TiffError)
     (old mid new : FileState) → Adds (call old) old → IsTold (call old) (Ok x) mid → Ends view (rest x mid) r mid new
     → Ends view ((call >>= rest) old) r old new
 bind_ends view call rest x r old mid new a h e =
     after_ends rest view (call old).answer (call old).deeds (call old).next x old mid new r a.next h.answer h.state e
 
--- The same of a first call that may do nothing.
+-- If the first call succeeds and may change nothing, both calls end as the second call ends.
 pub bind_ends_adding : {X A B : Type 0} (view : X → B) (call : Writing A) (rest : A → Writing B) (x : A) (r : Result X TiffError)
     (old mid new : FileState) → IsAdding (call old) old → IsTold (call old) (Ok x) mid → Ends view (rest x mid) r mid new
     → Ends view ((call >>= rest) old) r old new
 bind_ends_adding view call rest x r old mid new a h e =
     after_ends rest view (call old).answer (call old).deeds (call old).next x old mid new r a.next h.answer h.state e
 
--- The first call fails, and so do both.
+-- If the first call fails, both calls fail.
 pub bind_fails : {A B : Type 0} (call : Writing A) (rest : A → Writing B) (e : TiffError) (old new : FileState) → Adds (call old) old
     → CallFails (call old) e old new → CallFails ((call >>= rest) old) e old new
 bind_fails call rest e old new a h =
     first_fails rest (call old).answer (call old).deeds (call old).next e old new a.appending a.some h
 
--- Both append.
+-- Two calls that only append are together a call that only appends.
 pub bind_adding : {A B : Type 0} (call : Writing A) (rest : A → Writing B) (old : FileState) → IsAdding (call old) old
     → ((x : A) → (call old).answer ≡ Ok x → IsAdding (rest x (call old).next) (call old).next) → IsAdding ((call >>= rest) old) old
 bind_adding call rest old a b = joined_adding rest (call old).answer (call old).deeds (call old).next old a b
 
--- and do something where the first does
+-- two calls make a change if the first call makes one
 pub bind_adds : {A B : Type 0} (call : Writing A) (rest : A → Writing B) (old : FileState) → Adds (call old) old
     → ((x : A) → (call old).answer ≡ Ok x → IsAdding (rest x (call old).next) (call old).next) → Adds ((call >>= rest) old) old
 bind_adds call rest old a b =
@@ -305,24 +307,24 @@ bind_adds call rest old a b =
       some = joined_some rest (call old).answer (call old).deeds (call old).next a.some;
     }
 
--- ---- which calls append
+-- ---- calls that append
 
--- an answer does nothing
+-- a call that only returns a result makes no change
 pub answers_adding : {A : Type 0} (r : Result A TiffError) (file : FileState) → IsAdding (answers r file) file
 answers_adding r file = record { next = ap (λ bytes. record file { bytes = bytes }) (sym (append-nil file.bytes)); appending = tt }
 
--- nor does a refusal
+-- a call that is refused makes no change
 pub refusal_adds : {A : Type 0} (e : TiffError) (file : FileState) → let told : WriteOutcome A = answers (Err e) file in Adds told file
 refusal_adds e file =
     record { next = ap (λ bytes. record file { bytes = bytes }) (sym (append-nil file.bytes)); appending = tt; some = tt }
 
--- a call that may have a cause to be refused
+-- a call that its checks may refuse appends
 pub caused_adds : {A : Type 0} (cause : Option TiffError) (call : Writing A) (file : FileState) → Adds (call file) file
     → Adds (by_cause cause call file) file
 caused_adds None call file a = a
 caused_adds (Some e) call file a = refusal_adds e file
 
--- some deeds
+-- changes that only append
 pub does_adds : (deed : Deed) (deeds : List Deed) (file : FileState) → AreAppending (deed ∷ deeds) → Adds (does (deed ∷ deeds) file) file
 does_adds deed deeds file a = record {
   next = ap (λ bytes. record file { bytes = bytes }) (deeds_append file.kind file.bytes (deed ∷ deeds) a);
@@ -330,14 +332,14 @@ does_adds deed deeds file a = record {
   some = tt;
 }
 
--- and an answer
+-- changes that only append, followed by a returned value
 done_adds : {A : Type 0} (x : A) (deed : Deed) (deeds : List Deed) (file : FileState) → AreAppending (deed ∷ deeds)
     → Adds ((does (deed ∷ deeds) >>= (λ _. gives x)) file) file
 done_adds x deed deeds file a =
     let answer : Unit {0} → Writing _ = λ _. gives x in
     bind_adds (does (deed ∷ deeds)) answer file (does_adds deed deeds file a) (λ _ _. answers_adding (Ok x) (does (deed ∷ deeds) file).next)
 
--- a directory is opened
+-- opening a directory only appends
 opens_adds : (cause : Option TiffError) (d : OpenDirectory) (file : FileState) → Adds (by_cause cause (pad >>= (λ _. gives d)) file) file
 opens_adds cause d file =
     caused_adds cause (pad >>= (λ _. gives d)) file (done_adds d (Appended (padding (end_of file))) [] file tt)
@@ -350,11 +352,11 @@ pub extra_adds : (file : FileState) → Adds (extra_directory file) file
 unfolding extra_directory
 extra_adds file = opens_adds (begin_cause file) (new_directory None false) file
 
--- bytes are appended
+-- appending bytes only appends
 pub appends_adds : (bytes : List ℕ) (file : FileState) → Adds (appends bytes file) file
 appends_adds bytes file = done_adds (end_of file) (Appended bytes) [] file tt
 
--- a value is handed in, by whether it is long
+-- writing a value only appends, by whether the value is too long for the entry
 handed_adds : (long : Bool) (bytes : List ℕ) (h : HandedField) (field : Field) (file : FileState)
     → Adds ((does (cond long (Appended bytes ∷ Handed h ∷ []) (Handed h ∷ [])) >>= (λ _. gives field)) file) file
 handed_adds true bytes h field file = done_adds field (Appended bytes) (Handed h ∷ []) file tt
@@ -365,7 +367,7 @@ placed_adds value file =
     let field : Field = field_at file.kind (end_of file) value in
     handed_adds (is_long file.kind value) value.bytes (record { field = field; bytes = value.bytes }) field file
 
--- `write_entry`
+-- `write_entry` only appends
 pub entry_adds : (value : Result FieldData TiffError) (file : FileState) → Adds (write_entry value file) file
 unfolding write_entry
 entry_adds (Ok value) file =
@@ -373,14 +375,14 @@ entry_adds (Ok value) file =
 entry_adds (Err e) file =
     caused_adds (write_tag_cause file (Err e)) (answers (Err e) >>= placed_field) file (refusal_adds e file)
 
--- `write_entry_bytes`
+-- `write_entry_bytes` only appends
 pub entry_bytes_adds : (type : «Type») (bytes : List ℕ) (file : FileState) → Adds (write_entry_bytes type bytes file) file
 unfolding write_entry_bytes
 entry_bytes_adds type bytes file =
     let value : FieldData = data_in type bytes in
     caused_adds (write_entry_bytes_cause file type bytes) (placed_field value) file (placed_adds value file)
 
--- `write_tag`
+-- `write_tag` only appends
 pub tag_adds : (d : OpenDirectory) (t : Tag) (value : Result FieldData TiffError) (file : FileState) → Adds (write_tag d t value file) file
 unfolding write_tag
 tag_adds d t value file =

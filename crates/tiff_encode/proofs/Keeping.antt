@@ -1,4 +1,4 @@
--- What a call that only appends leaves in a file in which a model stood.
+-- What a call that only appends leaves in a file that a model describes.
 use Rattle.std.proofs.Common.{◌≡◌, ℕ, List, ◌++◌, length, Result, Ok, Err, refl, ap, sym, ◌∙◌, inl, inr, subst}
 use Rattle.std.proofs.Math.Seq.{take-length}
 use Rattle.tiff_base.specs.declared.error.TiffError.{TiffError}
@@ -13,11 +13,12 @@ use Rattle.tiff_encode.proofs.Joining.{IsAdding, ends_torn}
 use Rattle.tiff_encode.proofs.Leaving.{begun_leaves}
 
 module _ {Y : Type 0} (told : WriteOutcome Y) (old new : FileState) (a : IsAdding told old) where
-  -- all that it appends
+  -- the appended bytes are all that the call changes in the file
   told_bytes : new ≡ told.next → new.bytes ≡ old.bytes ++ all_appended old.kind told.deeds
   told_bytes h = ap (λ f. f.bytes) (h ∙ a.next)
 
--- Where its answer is not a fault, its deeds fit: what it did stands; else what stood stands.
+-- If a call succeeds and its changes fit, the changed model describes the file. If a call fails,
+-- the earlier model still describes the file.
 pub left_so : {X Y : Type 0} (view : X → Y) (told : WriteOutcome Y) (r : Result X TiffError) (old new : FileState) (m : Model)
     → IsAdding told old → ((x : X) → r ≡ Ok x → DeedsFit old.kind old.bytes m told.deeds) → Stands old.kind old.bytes m
     → Ends view told r old new → Leaves told r old new m

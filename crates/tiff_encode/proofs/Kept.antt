@@ -1,4 +1,4 @@
--- What stands in a file stays as the file is appended to, and as one link is patched.
+-- What a model describes stays in the file if bytes are appended or one link is patched.
 use Rattle.std.proofs.Common.{zero, suc, ◌≡◌, ℕ, ◌+◌, ◌*◌, ◌<◌, ◌≤◌, ◌⊎◌, List, ◌++◌, length, take, drop, Bool, true, false, cond, eqb, leb, Option, Some, None, Result, Ok, Err, refl, ap, sym, ◌∙◌, inl, inr, arith, length-append}
 use Rattle.std.proofs.lemmas.Bool.{false≢true, cases_eq, eq-eqb, ne_eqb, le-leb}
 use Rattle.std.proofs.Math.Nat.{mul-le-mul_left}
@@ -21,14 +21,14 @@ use Rattle.tiff_encode.specs.Model.{In, FinishedDirectory, Model, header_link, o
 use Rattle.tiff_encode.specs.Laws.{KeptByAppending, KeptByPatching, KeptByTearing}
 use Rattle.tiff_encode.proofs.Slices.{ok_bind, ok_inj, exact, is_exact, exact_append, length_put, exact_put_before, exact_put_behind, exact_put_here, length-le, number-le, is_offset_width, number_kept}
 
--- the bytes of the file between two offsets stand in another too
+-- another file contains the same bytes between two offsets
 pub Keeps : List ℕ → List ℕ → ℕ → ℕ → Type 0
 Keeps file new from to = (p n : ℕ) (s : List ℕ) → from ≤ p → p + n ≤ to → exactly_at file p n ≡ Ok s
     → exactly_at new p n ≡ Ok s
 
 -- ---- entries
 
--- what two functions give is the same where they agree
+-- two functions that agree give the same list
 pub filter_map_same : {A : Type 0} (f g : ℕ → Option A) (a n : ℕ) → ((i : ℕ) → a ≤ i → i < a + n → f i ≡ g i)
     → filter_map f (range_with_len a n) ≡ filter_map g (range_with_len a n)
 filter_map_same f g a zero h = refl
@@ -40,7 +40,7 @@ filter_map_same f g a (suc n) h =
 pub piece_within : (e i n : ℕ) → i < n → e * i + e ≤ e * n
 piece_within e i n h = let l : i + 1 ≤ n = omega arith in omega (arith, mul-le-mul_left e l)
 
--- bytes that stand in both files are the same
+-- bytes that both files contain are the same
 pub same_bytes : (file new : List ℕ) (from to p n : ℕ) → Keeps file new from to → from ≤ p → p + n ≤ to
     → to ≤ length file → bytes_at file p n ≡ bytes_at new p n
 unfolding Keeps
@@ -48,7 +48,7 @@ same_bytes file new from to p n f l u b =
     let s : List ℕ = bytes_at file p n in
     sym (is_exact new p n s (f p n s l u (exact file p n s (omega arith) refl))).1
 
--- the entries stay
+-- the entries stay the same
 entries_kept : (kind : FileKind) (file new : List ℕ) (first count : ℕ)
     → Keeps file new first (first + entry_len kind * count)
     → first + entry_len kind * count ≤ length file
@@ -66,12 +66,12 @@ entries_kept kind file new first count f b =
 
 -- ---- directories
 
--- the offset that a link names, where 0 is none
+-- the offset of a link, where 0 is none
 linked : Option ℕ → ℕ
 linked None = 0
 linked (Some offset) = offset
 
--- the offset that a link of a number names is that number
+-- a link made of a number has that number as its offset
 linked_link : (a : ℕ) → linked (link a) ≡ a
 unfolding linked
 linked_link a = elim (cases_eq a 0) as (λ _. linked (link a) ≡ a) [
@@ -79,11 +79,11 @@ linked_link a = elim (cases_eq a 0) as (λ _. linked (link a) ≡ a) [
   | inr d ↦ rw (ne_eqb a 0 d) refl
 ]
 
--- two links that are the same name the same offset
+-- equal links have equal offsets
 link_inj : (a b : ℕ) → link a ≡ link b → a ≡ b
 link_inj a b e = sym (linked_link a) ∙ ap linked e ∙ linked_link b
 
--- a directory's answer once its count is known
+-- the directory that is read once its count is known
 counted : FileKind → List ℕ → ℕ → ℕ → Result DirectoryRecord TiffError
 counted kind file p count =
     number_at LittleEndian (offset_width kind) file (link_offset kind p count)
@@ -92,7 +92,7 @@ counted kind file p count =
       next = link next;
     })
 
--- the parts of a directory that stands
+-- the parts of a directory that a file contains
 pub directory_parts : (kind : FileKind) (file : List ℕ) (p n : ℕ) (fields : FinMap nat_cmp Field) (t : ℕ)
     → number_at LittleEndian (count_width kind) file p ≡ Ok n
     → directory_at kind LittleEndian file p ≡ Ok (record { entries = fields; next = link t })
@@ -113,7 +113,7 @@ directory_parts kind file p n fields t c e =
     let x : i.0 ≡ t = link_inj i.0 t (ap (λ (d : DirectoryRecord). d.next) same) in
     (ap (λ (d : DirectoryRecord). d.entries) same, i.1.0 ∙ ap (λ y. Ok y) x)
 
--- a directory of its parts
+-- a directory that its parts define
 pub directory_from : (kind : FileKind) (file : List ℕ) (p n : ℕ) (fields : FinMap nat_cmp Field) (t : ℕ)
     → number_at LittleEndian (count_width kind) file p ≡ Ok n
     → last_of_each (entries_from kind LittleEndian file (first_entry kind p) n) ≡ fields
@@ -131,7 +131,7 @@ directory_from kind file p n fields t c e l =
     ∙ ap (λ (m : FinMap nat_cmp Field). let d : DirectoryRecord = record { entries = m; next = link t } in
     let r : Result DirectoryRecord TiffError = Ok d in r) e
 
--- a directory whose bytes stay has its entries still
+-- a directory whose bytes stay the same keeps its entries
 body_kept : (kind : FileKind) (file new : List ℕ) (p n : ℕ) (fields : FinMap nat_cmp Field)
     → Keeps file new p (p + (count_len kind + entry_len kind * n))
     → p + (count_len kind + entry_len kind * n) ≤ length file
@@ -143,9 +143,9 @@ body_kept kind file new p n fields f b e =
     let g : Keeps file new first (first + entry_len kind * n) = λ a k s l u. f a k s (omega arith) (omega arith) in
     ap last_of_each (sym (entries_kept kind file new first n g (omega arith))) ∙ e
 
--- ---- handed fields
+-- ---- written fields
 
--- a value that two tests choose stays, where it is not the last or the last stays
+-- a value that two tests choose stays, if it is not the last or the last stays
 tests_kept : {A : Type 0} (a b : Bool) (x y new : Result A TiffError) (e : TiffError) (z : A)
     → cond a (cond b x y) (Err e) ≡ Ok z
     → (b ≡ true) ⊎ (y ≡ Ok z → new ≡ Ok z) → cond a (cond b x new) (Err e) ≡ Ok z
@@ -153,7 +153,7 @@ tests_kept true true x y new e z h k = h
 tests_kept true false x y new e z h k = elim k as (λ _. new ≡ Ok z) [ inl t ↦ absurd (false≢true t) | inr f ↦ f h ]
 tests_kept false b x y new e z h k = absurd cc
 
--- a field's bytes stay: they stand in its entry, or where they stand stays
+-- the bytes of a field stay the same, in its entry or at its offset
 handed_kept : (kind : FileKind) (file new : List ℕ) (f : Field) (b : List ℕ)
     → field_bytes kind LittleEndian file f ≡ Ok b
     → (field_len f ≤ offset_len kind) ⊎ (exactly_at file (field_offset kind LittleEndian f) (field_len f) ≡ Ok b
@@ -170,7 +170,7 @@ handed_kept kind file new f b e c =
 
 -- ---- appending
 
--- the number in a directory's own link, and the room of the directory
+-- the entries of a directory in the file, and the number in its own link
 pub own_parts : (kind : FileKind) (m : Model) (file : List ℕ) (d : FinishedDirectory) → In d m.directories
     → Stands kind file m
     → (last_of_each (entries_from kind LittleEndian file (first_entry kind d.offset) (len d.fields)) ≡ d.fields)
@@ -179,13 +179,13 @@ own_parts kind m file d i h =
     directory_parts kind file d.offset (len d.fields) d.fields (m.links (own_link kind d)) (h.counts d i)
     (h.directories d i)
 
--- a finished directory lies in the file, and its link behind it
+-- a finished directory and its link lie in the file
 pub directory_within : (kind : FileKind) (m : Model) (file : List ℕ) (d : FinishedDirectory) → In d m.directories
     → Stands kind file m
     → d.offset + body_len kind d + offset_len kind ≤ length file
 directory_within kind m file d i h = let w = (h.apart (own_link kind d) (inr (d, (i, refl)))).within in omega (arith, w)
 
--- what stands in a file stands in each longer one
+-- what a file contains is in each longer file
 pub kept_by_appending : KeptByAppending
 unfolding Keeps
 kept_by_appending kind m file more h =
@@ -225,7 +225,7 @@ kept_by_appending kind m file more h =
 
 -- ---- patching
 
--- bytes are written over a link field at q, which then holds t
+-- bytes are written over a link field at q, which then contains t
 module _ (kind : FileKind) (file : List ℕ) (q : ℕ) (over : List ℕ) (t : ℕ) (room : q + offset_len kind ≤ length file)
     (short : length over ≤ offset_len kind)
     (here : number_at LittleEndian (offset_width kind) (put file q over) q ≡ Ok t) where
@@ -233,7 +233,7 @@ module _ (kind : FileKind) (file : List ℕ) (q : ℕ) (over : List ℕ) (t : �
   patched : List ℕ
   patched = put file q over
 
-  -- what lies apart from the link field is still read
+  -- bytes apart from the link field stay readable
   clear_kept : (p n : ℕ) (s : List ℕ) → IsClear kind q p n → exactly_at file p n ≡ Ok s → exactly_at patched p n ≡ Ok s
   unfolding patched
   clear_kept p n s c e =
@@ -242,7 +242,7 @@ module _ (kind : FileKind) (file : List ℕ) (q : ℕ) (over : List ℕ) (t : �
         | inr b ↦ exact_put_behind file q over p n s (omega arith) (omega (arith, b)) e
       ]
 
-  -- a link is read: the patched one holds t, and each other what it held
+  -- each link is readable: the patched one contains t, each other its earlier number
   link_kept : (p x : ℕ) → (p ≡ q) ⊎ IsClear kind q p (offset_len kind)
       → number_at LittleEndian (offset_width kind) file p ≡ Ok x
       → number_at LittleEndian (offset_width kind) patched p ≡ Ok (cond (eqb p q) t x)
@@ -255,16 +255,16 @@ module _ (kind : FileKind) (file : List ℕ) (q : ℕ) (over : List ℕ) (t : �
     ])
   ]
 
-  -- a stretch apart from the link field stays
+  -- bytes apart from the link field stay the same
   body_keeps : (p n : ℕ) → IsClear kind q p n → Keeps file patched p (p + n)
   unfolding Keeps
   body_keeps p n c a k s l u e = clear_kept a k s (elim c [ inl b ↦ inl (omega arith) | inr b ↦ inr (omega arith) ]) e
 
-  -- the front of a stretch that lies apart does too
+  -- a prefix of bytes that are apart from the link field is apart from it
   front_clear : (p n k : ℕ) → k ≤ n → IsClear kind q p n → IsClear kind q p k
   front_clear p n k l c = elim c [ inl b ↦ inl (omega arith) | inr b ↦ inr b ]
 
-  -- all stands, with the one link changed
+  -- the model with the changed link describes the patched file
   relinked_stands : (m : Model) → IsApart kind file m q → Stands kind file m → Stands kind patched (with_link kind m q t)
   unfolding patched
   relinked_stands m a h = record {
@@ -311,7 +311,7 @@ module _ (kind : FileKind) (file : List ℕ) (q : ℕ) (over : List ℕ) (t : �
         };
   }
 
--- what stands in a file stands, with one link changed, after that link was patched
+-- after a link is patched, the model with that link changed describes the file
 pub kept_by_patching : KeptByPatching
 unfolding patched
 kept_by_patching kind m file q t l b h =
@@ -327,7 +327,7 @@ kept_by_patching kind m file q t l b h =
     (ok_bind (exactly_at (put file q over) q k) F over t e
     (ap (λ x. Ok x) (number-le (offset_width kind) t (is_offset_width kind) b))) m a h
 
--- what stands in a file stands, with one link changed, after a patch of that link that broke off
+-- after a sink failure while a link is patched, the model with that link changed describes the file
 pub kept_by_tearing : KeptByTearing
 unfolding patched
 kept_by_tearing kind m file q over l s h =

@@ -1,4 +1,4 @@
--- What a header that was written leaves.
+-- What the file contains after a header is written.
 use Rattle.std.proofs.Common.{◌≡◌, ℕ, ◌+◌, ◌-◌, List, [], length, ap, sym, subst, ◌∙◌, arith, length-append, inl}
 use Rattle.tiff_base.specs.declared.tags.FileKind.{FileKind}
 use Rattle.tiff_base.specs.Number.{le}
@@ -10,7 +10,7 @@ use Rattle.tiff_encode.proofs.Slices.{length-le}
 use Rattle.tiff_encode.proofs.Header.{header_stands}
 use Rattle.tiff_value.proofs.Put.{put_end}
 
--- a header that was written on an empty sink stands
+-- the model of a header describes the file of a header that is written to an empty sink
 pub leaves_header : (kind : FileKind) (told : List ℕ) (failures at width : ℕ) (first last : Written) → first ≡ new_writer told failures
     → last ≡ record (writer_after first (header_bytes kind)) { last = offset_len kind } → at ≡ last.at → width ≡ offset_len kind → told ≡ []
     → LeavesHeader kind last.bytes (at - width)

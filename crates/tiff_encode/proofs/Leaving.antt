@@ -1,4 +1,4 @@
--- What each call of a directory leaves in a file in which a model stood.
+-- What each call of a directory leaves in a file that a model describes.
 use Rattle.std.proofs.Common.{◌≡◌, ℕ, suc, ◌+◌, ◌*◌, ◌^◌, ◌<◌, ◌≤◌, ◌⊎◌, Bool, true, false, cond, List, [], ◌∷◌, ◌++◌, length, take, Option, Some, None, Result, Ok, Err, refl, ap, sym, ◌∙◌, inl, inr, subst, arith}
 use Rattle.std.proofs.Math.Nat.{div-add-mod'}
 use Rattle.std.proofs.lemmas.Bool.{leb-false, ltb-false}
@@ -32,9 +32,9 @@ use Rattle.tiff_encode.specs.Leaves.{LeavesTorn, Leaves, LeavesLinked, IsGiven}
 use Rattle.tiff_encode.proofs.Deeds.{bytes_joined, deeds_stand, deeds_begun, deeds_torn}
 use Rattle.tiff_encode.proofs.CallFits.{followed_fits, caused_fits, placed_fits, finish_fits}
 
--- ---- links among deeds
+-- ---- links among the changes of a call
 
--- how many deeds are links
+-- the number of changes that point a link
 abbrev pub link_count : List Deed → ℕ
 link_count [] = 0
 link_count (Appended more ∷ deeds) = link_count deeds
@@ -49,7 +49,7 @@ count_joined (Handed x ∷ deeds) more = count_joined deeds more
 count_joined (Listed x ∷ deeds) more = count_joined deeds more
 count_joined (Linked offset target ∷ deeds) more = let e = count_joined deeds more in omega (arith, e)
 
--- with none they only append
+-- changes that point no link only append
 pub appending : (deeds : List Deed) → link_count deeds ≡ 0 → AreAppending deeds
 appending [] h = tt
 appending (Appended x ∷ deeds) h = appending deeds h
@@ -57,41 +57,42 @@ appending (Handed x ∷ deeds) h = appending deeds h
 appending (Listed x ∷ deeds) h = appending deeds h
 appending (Linked offset target ∷ deeds) h = absurd (omega (arith, h))
 
--- those with a link last have one more than those before it
+-- changes with a link last have one link more than the changes before it
 pub count_last : (deeds before : List Deed) (offset target : ℕ) → deeds ≡ before ++ Linked offset target ∷ []
     → link_count deeds ≡ link_count before + 1
 count_last deeds before offset target h =
     ap (λ ds. link_count ds) h ∙ count_joined before (Linked offset target ∷ [])
 
--- ---- calls that are plain
+-- ---- plain calls
 
--- What a call is told to do is done to the bytes alone; a refusal does nothing; and so many deeds at most are links.
+-- A call makes its changes to the bytes only. A call that is refused changes nothing. At most the
+-- given number of changes point a link.
 pub record IsPlain {A : Type 0} (most : ℕ) (told : WriteOutcome A) (file : FileState) : Type 0 where
   pub kind : told.next.kind ≡ file.kind
   pub bytes : told.next.bytes ≡ bytes_after file.kind file.bytes told.deeds
   pub refused : (e : TiffError) → told.answer ≡ Err e → told.deeds ≡ []
   pub links : link_count told.deeds ≤ most
 
--- a refusal
+-- a call that is refused is plain
 refusal_plain : {A : Type 0} (most : ℕ) (e : TiffError) (file : FileState)
     → let told : WriteOutcome A = answers (Err e) file in IsPlain most told file
 refusal_plain most e file = record { kind = refl; bytes = refl; refused = λ _ _. refl; links = omega arith }
 
--- a call that may have a cause to be refused
+-- a call that its checks may refuse is plain
 caused_plain : {A : Type 0} (most : ℕ) (cause : Option TiffError) (call : Writing A) (file : FileState)
     → IsPlain most (call file) file → IsPlain most (by_cause cause call file) file
 caused_plain most None call file p = p
 caused_plain most (Some e) call file p = refusal_plain most e file
 
--- an answer is no fault
+-- a success is no error
 pub ok_err : {A : Type 0} {x : A} {e : TiffError} → let a : Result A TiffError = Ok x in let b : Result A TiffError = Err e in a ≡ b → ⊥
 ok_err h = cc
 
--- and some cause is not none
+-- an error that refuses a call differs from no error
 some_none : {e : TiffError} → let a : Option TiffError = Some e in a ≡ None → ⊥
 some_none h = cc
 
--- some deeds, and an answer
+-- changes followed by a returned value are plain
 done_plain : {A : Type 0} (most : ℕ) (x : A) (deeds : List Deed) (file : FileState) → link_count deeds ≤ most
     → IsPlain most ((does deeds >>= (λ _. gives x)) file) file
 done_plain most x deeds file l = record {
@@ -101,7 +102,7 @@ done_plain most x deeds file l = record {
   links = omega (arith, count_joined deeds [], l);
 }
 
--- what is told, and an answer made of its own
+-- a plain call with a result made of its value is plain
 viewed_plain : {A B : Type 0} (most : ℕ) (r : Result A TiffError) (deeds : List Deed) (next : FileState) (g : A → B)
     (file : FileState) → (let told : WriteOutcome A = record { answer = r; deeds = deeds; next = next } in IsPlain most told file)
     → IsPlain most (and_then r deeds next (λ x. gives (g x))) file
@@ -120,7 +121,7 @@ given_plain most call g file p = viewed_plain most (call file).answer (call file
 
 -- ---- what a plain call leaves
 
--- a refusal leaves what it found
+-- a call that is refused leaves the file as it is
 pub refused_leaves : {Y : Type 0} (most : ℕ) (told : WriteOutcome Y) (e : TiffError) (old new : FileState) (m : Model)
     → IsPlain most told old → Stands old.kind old.bytes m → IsTold told (Err e) new → Stands old.kind new.bytes m
 refused_leaves most told e old new m p s t =
@@ -128,7 +129,7 @@ refused_leaves most told e old new m p s t =
     ap (λ f. f.bytes) t.state ∙ p.bytes ∙ ap (bytes_after old.kind old.bytes) (p.refused e t.answer) in
     subst (λ b. Stands old.kind b m) (sym same) s
 
--- an answer leaves what was done
+-- after a success, the model with the changes describes the file
 told_leaves : {Y : Type 0} (most : ℕ) (told : WriteOutcome Y) (y : Y) (old new : FileState) (m : Model) → IsPlain most told old
     → DeedsFit old.kind old.bytes m told.deeds → Stands old.kind old.bytes m → IsTold told (Ok y) new
     → Stands old.kind new.bytes (model_after old.kind old.bytes m told.deeds)
@@ -137,13 +138,13 @@ told_leaves most told y old new m p f s t =
     subst (λ b. Stands old.kind b (model_after old.kind old.bytes m told.deeds)) (sym same)
     (deeds_stand old.kind old.bytes m told.deeds s f)
 
--- a beginning of what is appended leaves what stood
+-- after a partial append, the earlier model still describes the file
 pub begun_leaves : (deeds : List Deed) (count : ℕ) (old : FileState) (bytes : List ℕ) (m : Model)
     → bytes ≡ old.bytes ++ take count (all_appended old.kind deeds) → Stands old.kind old.bytes m → Stands old.kind bytes m
 begun_leaves deeds count old bytes m h s =
     subst (λ b. Stands old.kind b m) (sym h) (deeds_begun old.kind old.bytes m deeds count s)
 
--- a link that broke off leaves some number in its field
+-- a link that the sink fails to write in full has some number in its field
 pub torn_leaves : {Y : Type 0} (told : WriteOutcome Y) (e : TiffError) (old new : FileState) (m : Model) → IsPlain 1 told old
     → DeedsFit old.kind old.bytes m told.deeds → Stands old.kind old.bytes m → IsTornOff told.deeds e old new
     → LeavesTorn told e old new m
@@ -160,7 +161,7 @@ torn_leaves told e old new m p f s t =
           (sym (ap (λ f. f.bytes) t.state)) x.1;
     }
 
--- a call that may patch a link last
+-- a call that may patch a link as its last change
 linked_leaves : {X Y : Type 0} (view : X → Y) (told : WriteOutcome Y) (r : Result X TiffError) (old new : FileState) (m : Model)
     → IsPlain 1 told old → DeedsFit old.kind old.bytes m told.deeds → Stands old.kind old.bytes m
     → Ends view told r old new → LeavesLinked told r old new m
@@ -177,7 +178,7 @@ linked_leaves view told (Err fault) old new m p f s e =
       ]
     ]
 
--- a call that patches none
+-- a call that patches no link
 plain_leaves : {X Y : Type 0} (view : X → Y) (told : WriteOutcome Y) (r : Result X TiffError) (old new : FileState) (m : Model)
     → IsPlain 0 told old → DeedsFit old.kind old.bytes m told.deeds → Stands old.kind old.bytes m
     → Ends view told r old new → Leaves told r old new m
@@ -196,7 +197,7 @@ plain_leaves view told (Err fault) old new m p f s e =
 
 -- ---- a directory is opened
 
--- zeros are appended, and a directory is answered
+-- the call appends zeros and returns a directory
 abbrev opens : OpenDirectory → Writing OpenDirectory
 opens d = pad >>= (λ _. gives d)
 
@@ -205,7 +206,7 @@ opens_plain : (cause : Option TiffError) (d : OpenDirectory) (file : FileState)
 opens_plain cause d file =
     caused_plain 0 cause (opens d) file (done_plain 0 d (Appended (padding (end_of file)) ∷ []) file (omega arith))
 
--- unless there is a cause
+-- the call opens a directory unless its checks refuse it
 opens_leaves : {X : Type 0} (cause : Option TiffError) (d : OpenDirectory) (view : X → OpenDirectory)
     (r : Result X TiffError) (old new : FileState) (m : Model) → Stands old.kind old.bytes m
     → Ends view (by_cause cause (opens d) old) r old new → Leaves (by_cause cause (opens d) old) r old new m
@@ -230,37 +231,37 @@ unfolding extra_directory
 extra_leaves view r old new m s e =
     opens_leaves (begin_cause old) (new_directory None false) view r old new m s e
 
--- ---- a value is handed in
+-- ---- writing a value
 
--- what no earlier fault refuses is refused for its own cause
+-- if nothing refuses a call, its own checks return no error
 pub unended : (fault : Option SinkFault) (cause : Option TiffError) → unless_ended fault cause ≡ None → cause ≡ None
 unended None cause h = h
 unended (Some fault) cause h = absurd (some_none h)
 
--- bytes have an order that can be handed in
+-- if nothing refuses bytes of a byte order, the other checks return no error
 in_order : (order : ByteOrder) (cause : Option TiffError) → order_cause order cause ≡ None → cause ≡ None
 in_order LittleEndian cause h = h
 in_order BigEndian cause h = absurd (some_none h)
 
--- a test that refused nothing
+-- if the tests return no error, the first test isn't met and the others return none
 pub passed : (b : Bool) (e : TiffError) (cause : Option TiffError) → cond b (Some e) cause ≡ None → (b ≡ false) × (cause ≡ None)
 passed true e cause h = absurd (some_none h)
 passed false e cause h = (refl, h)
 
--- the values in some bytes take no more than they
+-- the whole values in some bytes are no longer than the bytes
 values_within : (n size : ℕ) → n / size * size ≤ n
 values_within n size = omega (arith, div-add-mod' n size)
 
--- they are whole
+-- the data in some bytes are whole values
 pub data_whole : (type : «Type») (bytes : List ℕ) → IsWhole (data_in type bytes)
 data_whole type bytes =
     length-take-le (length bytes / type_size type * type_size type) bytes (values_within (length bytes) (type_size type))
 
--- and no more than the bytes
+-- the data in some bytes have no more bytes than these
 data_short : (type : «Type») (bytes : List ℕ) → length bytes < 2 ^ 64 → length (data_in type bytes).bytes < 2 ^ 64
 data_short type bytes l = omega (arith, l, data_whole type bytes, values_within (length bytes) (type_size type))
 
--- none of it is a link
+-- none of the changes that write a value points a link
 handed_links : (long : Bool) (bytes : List ℕ) (h : HandedField)
     → link_count (cond long (Appended bytes ∷ Handed h ∷ []) (Handed h ∷ [])) ≤ 0
 handed_links true bytes h = omega arith
@@ -273,7 +274,7 @@ placed_plain value file =
     done_plain 0 field (cond (is_long file.kind value) (Appended value.bytes ∷ Handed h ∷ []) (Handed h ∷ [])) file
     (handed_links (is_long file.kind value) value.bytes h)
 
--- `write_entry`
+-- `write_entry` is plain
 pub entry_plain : (value : Result FieldData TiffError) (file : FileState) → IsPlain 0 (write_entry value file) file
 unfolding write_entry
 entry_plain (Ok value) file =
@@ -296,7 +297,7 @@ pub entry_leaves : {X : Type 0} (view : X → Field) (r : Result X TiffError) (o
 entry_leaves view r old new m value g l s e =
     plain_leaves view (write_entry value old) r old new m (entry_plain value old) (entry_fits value old m g l) s e
 
--- `write_entry_buf`
+-- `write_entry_buf` is plain
 pub buf_plain : (b : BufferRecord) (file : FileState) → IsPlain 0 (write_entry_buf b file) file
 unfolding write_entry_buf
 buf_plain b file =
@@ -316,7 +317,7 @@ pub entry_buf_leaves : {X : Type 0} (view : X → Field) (r : Result X TiffError
 entry_buf_leaves view r old new m b n l s e =
     plain_leaves view (write_entry_buf b old) r old new m (buf_plain b old) (buf_fits b old m n l) s e
 
--- `write_entry_bytes`
+-- `write_entry_bytes` is plain
 pub bytes_plain : (type : «Type») (bytes : List ℕ) (file : FileState) → IsPlain 0 (write_entry_bytes type bytes file) file
 unfolding write_entry_bytes
 bytes_plain type bytes file =
@@ -374,7 +375,7 @@ tag_buf_leaves view r old new m d t b n l s e =
 pub appends_plain : (bytes : List ℕ) (file : FileState) → IsPlain 0 (appends bytes file) file
 appends_plain bytes file = done_plain 0 (end_of file) (Appended bytes ∷ []) file (omega arith)
 
--- `write_data`
+-- `write_data` is plain
 pub data_plain : (value : Result FieldData TiffError) (file : FileState) → IsPlain 0 (write_data value file) file
 unfolding write_data
 data_plain (Ok value) file =
@@ -399,7 +400,7 @@ pub data_leaves : {X : Type 0} (view : X → ℕ) (r : Result X TiffError) (old 
 data_leaves view r old new m value s e =
     plain_leaves view (write_data value old) r old new m (data_plain value old) (data_fits value old m) s e
 
--- `write_data_buf`
+-- `write_data_buf` is plain
 pub data_buf_plain : (b : BufferRecord) (file : FileState) → IsPlain 0 (write_data_buf b file) file
 unfolding write_data_buf
 data_buf_plain b file =
@@ -417,7 +418,7 @@ data_buf_leaves view r old new m b s e =
 
 -- ---- the end of a directory
 
--- what is past for none is past for no one of them
+-- if no entry of a list exceeds the kind's limit, each entry is within it
 none_past : (kind : FileKind) (es : List (ℕ × Field)) → list_any (λ entry. is_past kind entry.1.count) es ≡ false
     → (e : ℕ × Field) → In e es → is_past kind e.1.count ≡ false
 none_past kind [] h e i = absurd i
@@ -428,17 +429,17 @@ none_past kind (x ∷ xs) h e i =
       | inr j ↦ none_past kind xs both.1 e j
     ]
 
--- a count that is not past the kind's
+-- a count within the kind's limit fits its width
 count_fits : (kind : FileKind) (n : ℕ) → is_past kind n ≡ false → n < 2 ^ 64 → n < 256 ^ offset_len kind
 count_fits Classic n h l = leb-false (2 ^ 32) n h
 count_fits Big n h l = l
 
--- no more entries than a directory can count
+-- a directory has no more entries than it can count
 few_fit : (kind : FileKind) (n : ℕ) → is_past_count kind n ≡ false → n < 2 ^ 64 → n < 256 ^ count_len kind
 few_fit Classic n h l = omega (arith, ltb-false 65535 n h)
 few_fit Big n h l = l
 
--- the entries of a directory whose end is not refused can be listed
+-- if nothing refuses the end of a directory, its entries can be written
 pub listable : (file : FileState) (d : OpenDirectory) → AreEntries d.fields → len d.fields < 2 ^ 64
     → finish_cause file d ≡ None → AreListable file.kind d.fields
 unfolding finish_cause
@@ -457,7 +458,7 @@ listable file d a l h =
       few = few_fit file.kind (len d.fields) few.0 l;
     }
 
--- the chain goes on in the same file
+-- a directory that continues the chain keeps the kind of the file
 chain_kind : (chained : Bool) (offsets : Offsets) (file : FileState) → (chain_after file chained offsets).kind ≡ file.kind
 chain_kind true offsets file = refl
 chain_kind false offsets file = refl
@@ -477,12 +478,12 @@ chained_plain most chained offsets deeds file l =
       links = omega (arith, count_joined deeds [], l);
     }
 
--- a parent has one link
+-- a directory has at most one link in its parent
 parent_links : (parent : Option ℕ) (offset : ℕ) → link_count (links_to parent offset) ≤ 1
 parent_links None offset = omega arith
 parent_links (Some parent) offset = omega arith
 
--- `finish`
+-- `finish` is plain
 pub finish_plain : (d : OpenDirectory) (file : FileState) → IsPlain 1 (finish d file) file
 unfolding finish
 finish_plain d file =

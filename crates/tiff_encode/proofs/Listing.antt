@@ -1,4 +1,4 @@
--- The parts of a directory, cut to the widths of a kind.
+-- The parts of a directory, cut to the widths of a file kind.
 use Rattle.std.proofs.Common.{◌≡◌, ℕ, zero, suc, ◌≤◌, List, [], ◌∷◌, ◌++◌, length, take, drop, refl, ap, sym, arith}
 use Rattle.std.proofs.lemmas.List.{take-replicate}
 use Rattle.std.specs.Prelude.{replicate}
@@ -21,13 +21,13 @@ le_zero kind = le_offset kind 0
 
 -- ---- value fields
 
--- bytes that are filled up by zeros, cut to n
+-- bytes padded with zeros and cut to n
 filled_by : (n m : ℕ) (xs : List ℕ) → length xs ≤ n → n ≤ m
     → xs ++ drop (length xs) (replicate n 0) ≡ take n (xs ++ replicate m 0)
 filled_by n m [] l h = sym (take-replicate n m 0 h)
 filled_by (suc n) m (x ∷ xs) l h = ap (λ ys. x ∷ ys) (filled_by n m xs (omega (arith, l)) (omega (arith, h)))
 filled_by zero m (x ∷ xs) l h = absurd (omega (arith, l))
 
--- a value field of 8 zeros, with bytes over its first
+-- a value field of eight zeros with bytes over its first zeros
 pub filled_whole : (xs : List ℕ) → length xs ≤ 8 → xs ++ drop (length xs) (replicate 8 0) ≡ filled_field xs
 filled_whole xs l = filled_by 8 8 xs l (omega arith)

@@ -1,4 +1,4 @@
--- A call leads from a standing of the file that it finds to one of the file that it leaves.
+-- A call leads from each `Standing` of the file before it to a `Standing` of the file after it.
 use Rattle.std.proofs.Common.{◌≡◌, Bool, Result, Ok, Err, refl, ap, sym, ◌∙◌, inl, inr, subst}
 use Rattle.tiff_base.specs.declared.error.TiffError.{TiffError}
 use Rattle.tiff_encode.specs.Model.{Model, Stands, Grows}
@@ -12,7 +12,7 @@ use Rattle.tiff_encode.specs.Stepping.{StandsIfKnown, Moves}
 use Rattle.tiff_encode.proofs.Deeds.{deeds_grow}
 use Rattle.tiff_encode.proofs.Joining.{IsAdding, ends_torn}
 
--- all that a model has it has
+-- a model grows from itself
 pub grows_here : (m : Model) → Grows m m
 grows_here m = record { directories = λ d i. i; handed = λ h i. i; regions = λ r i. i }
 
@@ -23,12 +23,12 @@ grows_on m n o g h = record {
   regions = λ r i. h.regions r (g.regions r i);
 }
 
--- what is told of a call is done, or it fails
+-- a call succeeds as specified, or it fails
 abbrev pub Seen : {X Y : Type 0} → (X → Y) → WriteOutcome Y → Result X TiffError → Standing → Standing → Type 0
 Seen view told (Ok x) s t = IsDone told (Ok (view x)) s t
 Seen view told (Err e) s t = Refuses told e s t
 
--- a standing of a file that such a call left
+-- a `Standing` of the file that a call leaves
 abbrev pub Led : (Standing → Type 0) → Bool → Standing → FileState → Type 0
 Led P known s new = (t : Standing) × ((t.file ≡ new) × (P t × (StandsIfKnown known t × Grows s.model t.model)))
 
@@ -37,13 +37,13 @@ module _ {X Y : Type 0} (view : X → Y) (told : WriteOutcome Y) (s : Standing) 
   abbrev here : Standing
   here = record { file = new; model = s.model }
 
-  -- where what stood stands still, in a file of its kind
+  -- where each model that describes the file before also describes the file after the call
   stays_known : (P : Standing → Type 0) → new.kind ≡ s.file.kind
       → ((m : Model) → Stands s.file.kind s.file.bytes m → Stands s.file.kind new.bytes m) → P here → Led P known s new
   stays_known P same l p =
       (here, (refl, (p, ((λ q. subst (λ kind. Stands kind new.bytes s.model) (sym same) (l s.model (k q))), grows_here s.model))))
 
-  -- A call that only appends: what is told of it is done, or it fails.
+  -- A call that only appends succeeds as specified, or it fails.
   pub seen : (r : Result X TiffError) → Ends view told r s.file new
       → ((m : Model) → Stands s.file.kind s.file.bytes m → Leaves told r s.file new m) → Led (Seen view told r s) known s new
   seen (Ok x) e l =
@@ -72,7 +72,7 @@ module _ {X Y : Type 0} (view : X → Y) (told : WriteOutcome Y) (s : Standing) 
         ]
       ]
 
--- the same from each standing of the file
+-- a call that only appends leads on from each `Standing` of the file
 pub moves_so : {X Y : Type 0} (view : X → Y) (call : Writing Y) (r : Result X TiffError) (old new : FileState)
     → IsAdding (call old) old → Ends view (call old) r old new
     → ((m : Model) → Stands old.kind old.bytes m → Leaves (call old) r old new m)

@@ -1,4 +1,4 @@
--- Where the resolutions of an image stand.
+-- Where the resolutions of an image are in the file.
 use Rattle.std.proofs.Common.{◌≡◌, ℕ, ◌+◌, ◌-◌, ◌%◌, ap}
 use Rattle.std.proofs.lemmas.List.{length-replicate}
 use Rattle.tiff_encode.specs.FileBytes.{resolutions_offset}

@@ -1,4 +1,4 @@
--- An image that is open.
+-- An open image.
 pub mod Held
 pub mod Tags
 pub mod Kept

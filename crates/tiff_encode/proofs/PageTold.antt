@@ -1,4 +1,4 @@
--- The page that the tags of an image tell.
+-- The page that the tags of an image define.
 pub mod Values
 pub mod Colors
 pub mod Checks

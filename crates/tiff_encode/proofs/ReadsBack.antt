@@ -1,4 +1,4 @@
--- What was written is read back.
+-- The decoder reads back what the encoder writes.
 pub mod Numbers
 pub mod Page
 pub mod Entries

@@ -1,4 +1,4 @@
--- A job is run.
+-- How the encoder runs a job.
 pub mod Ends
 pub mod Images
 pub mod Kept

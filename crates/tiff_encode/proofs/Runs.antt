@@ -1,4 +1,4 @@
--- What calls do is a function of what they find.
+-- The changes of a call are a function of the file that it finds.
 use Rattle.std.proofs.Common.{◌≡◌, ℕ, ◌^◌, ◌<◌, Bool, true, false, cond, List, Option, Some, None, Result, Ok, Err, refl, ap, sym, ◌∙◌, subst, arith}
 use Rattle.std.proofs.lemmas.Bool.{ne_eqb, lt-leb}
 use Rattle.std.specs.Prelude.{◌||◌, ◌==◌, nat_le}
@@ -35,20 +35,20 @@ one_stored i samples stored other p a b =
     let y : other ≡ unpacked_chunk i samples = subst (λ m. P m other) p b in
     x ∙ sym y
 
--- a fault is no answer, and some cause is not none
+-- an error is no success, and an error that refuses a call differs from no error
 err_ok : {A : Type 0} {e : TiffError} {x : A} → let a : Result A TiffError = Err e in let b : Result A TiffError = Ok x in a ≡ b → ⊥
 err_ok h = cc
 
 some_none : {e : TiffError} → let a : Option TiffError = Some e in a ≡ None → ⊥
 some_none h = cc
 
--- a call that answers had no cause
+-- nothing refuses a call that succeeds
 pub uncaused : {A : Type 0} (c : Option TiffError) (call : Writing A) (file : FileState) (x : A) → (by_cause c call file).answer ≡ Ok x
     → (c ≡ None) × ((call file).answer ≡ Ok x)
 uncaused None call file x h = (refl, h)
 uncaused (Some e) call file x h = absurd (err_ok h)
 
--- the last of the tests of a directory's end
+-- if nothing refuses the end of a directory, the last of its tests isn't met
 last_test : (o : Option SinkFault) (a b c : Bool) (e : TiffError) (rest : Option TiffError)
     → unless_ended o (cond (a || (b || c)) (Some e) rest) ≡ None → c ≡ false
 last_test (Some f) a b c e rest h = absurd (some_none h)
@@ -61,7 +61,7 @@ pub near : (file : FileState) (d : OpenDirectory) → finish_cause file d ≡ No
 unfolding finish_cause
 near file d h = last_test file.fault _ _ _ _ _ h
 
--- the tests of an offset
+-- an offset that passes the tests is accepted
 tests : (kind : FileKind) (p n : ℕ) → is_past kind p ≡ false → 0 < p → link_offset kind p n < 2 ^ 64 → offset_cause kind p n ≡ None
 unfolding offset_cause
 tests kind p n a z l =

@@ -1,4 +1,4 @@
--- The numbers of samples, and the method by which they are packed.
+-- The numbers of samples, and their compression method.
 use Rattle.std.proofs.Common.{◌≡◌, ℕ, zero, suc, ◌^◌, ◌<◌, ◌⊎◌, List, [], ◌∷◌, map, inl, inr, arith, lit<}
 use Rattle.std.proofs.Math.Nat.{mod-lt}
 use Rattle.tiff_base.specs.declared.tags.CompressionMethod.TheVariants as method
@@ -8,18 +8,18 @@ use Rattle.tiff_encode.specs.declared.encoder.settings.Compression.TheVariants.{
 use Rattle.tiff_encode.specs.Machine.{FileState, compression_method}
 use Rattle.tiff_encode.specs.ImageData.{AreNumbers}
 
--- a number of so many bytes is below as many as they can tell
+-- a number of bytes has at least one value
 some_bytes : (size : ℕ) → 0 < 256 ^ size
 some_bytes zero = lit< tt
 some_bytes (suc n) = let l = some_bytes n in omega (arith, l)
 
--- the numbers of samples are of their bytes
+-- the numbers of samples fit their number of bytes
 pub are_numbers : {A : Type 0} (size : ℕ) (bits : A → ℕ) (xs : List A) → AreNumbers size (map (sample_number size bits) xs)
 are_numbers size bits [] n = some_bytes size
 are_numbers size bits (x ∷ xs) zero = mod-lt (bits x) (some_bytes size)
 are_numbers size bits (x ∷ xs) (suc n) = are_numbers size bits xs n
 
--- images are packed by one of two methods
+-- images have one of two compression methods
 pub some_method : (file : FileState) (c : Compression) → file.method ≡ compression_method c
     → (file.method ≡ method.None) ⊎ (file.method ≡ method.PackBits)
 some_method file Uncompressed h = inl h

@@ -1,4 +1,4 @@
--- How the calls end that set what an open image is, and how it is cut.
+-- How calls end that set the tags and the layout of an open image.
 use Rattle.std.proofs.Common.{◌≡◌, ℕ, ◌+◌, cond, List, [], ◌∷◌, ◌++◌, length, Option, Some, None, Ok, Err, refl, ap, sym, ◌∙◌, subst, reverse}
 use Rattle.std.proofs.lemmas.List.{reverse-append}
 use Rattle.std.specs.FinMap.{FinMap, empty, insert, entries, from_entries}
@@ -35,9 +35,9 @@ use Rattle.tiff_encode.proofs.Leaving.{passed, unended}
 use Rattle.tiff_encode.proofs.Joining.{Adds, bind_told, bind_fails, tag_adds}
 use Rattle.tiff_encode.proofs.Tagging.{tags_are_fields, fields_adds}
 
--- ---- causes
+-- ---- errors that refuse a call
 
--- a fraction can be a field, by the test
+-- the test of a fraction returns the error that refuses it as a field
 pub rational_test : (file : FileState) (kind : FileKind) (end : ℕ) → kind ≡ file.kind → end ≡ end_of file
     → field_test kind end 1 8 ≡ field_cause file (data_of (rationals ((1, 1) ∷ [])))
 unfolding field_test data_of
@@ -48,9 +48,9 @@ pub extras_value : (es : List ExtraSamples) → IsValue SHORT (length es) (Ok (d
 unfolding data_of
 extras_value es = (refl, refl, each_whole 2 (λ e. le 2 (extra_number e)) (λ e. refl) es)
 
--- ---- a directory is copied
+-- ---- copying a directory
 
--- entries put into a map, the last first
+-- the entries of a list put into a map, the last entry first
 abbrev onto : FinMap nat_cmp Field → List (ℕ × Field) → FinMap nat_cmp Field
 onto m [] = m
 onto m (e ∷ es) = insert (onto m es) e.0 e.1
@@ -68,7 +68,7 @@ in_turn m [] = refl
 in_turn m (e ∷ es) =
     in_turn (insert m e.0 e.1) es ∙ sym (onto_last m (reverse es) e) ∙ ap (onto m) (sym (reverse-append (e ∷ []) es))
 
--- all fields of a directory are put into one that has none
+-- all fields of a directory are put into an empty one
 pub copied : (d now next : OpenDirectory) (none : FinMap nat_cmp Field) → d ≡ now → none ≡ empty
     → next ≡ extend_from (record d { fields = none }) (entries d.fields) → next ≡ now
 unfolding extend_from last_of_each
@@ -78,28 +78,28 @@ copied d now next none s n h =
     (in_turn empty (entries d.fields) ∙ onto_empty (reverse (entries d.fields)) ∙ last_of_entries d.fields)
     ∙ s
 
--- ---- a setting, unless there is a cause
+-- ---- a setting, unless the checks refuse it
 
 module _ (cause : Option TiffError) (call : OpenDirectory → Writing OpenDirectory) (g : OpenDirectory → OpenImage) (d : OpenDirectory) (old : FileState) where
-  -- the directory is written to, and an image has it
+  -- the call writes to the directory, and the image has that directory
   abbrev set_in : Writing OpenImage
   set_in = call d >>= (λ x. gives (g x))
 
   abbrev view : OpenImage → OpenImage
   view i = i
 
-  -- it is refused
+  -- the setting is refused
   pub set_refused : (e : TiffError) → cause ≡ Some e → CallFails (by_cause cause set_in old) e old old
   set_refused e c = refused view cause set_in old e c
 
-  -- its tags fail
+  -- the setting fails at its tags
   pub set_fails : (e : TiffError) (b : OpenDirectory) (new : FileState) → cause ≡ None → b ≡ d → Adds (call d old) old
       → CallFails (call b old) e old new → CallFails (by_cause cause set_in old) e old new
   set_fails e b new c s a h =
       uncaused view cause set_in (Err e) old new c
       (bind_fails (call d) (λ x. gives (g x)) e old new a (subst (λ x. CallFails (call x old) e old new) s h))
 
-  -- it is done
+  -- the setting succeeds
   pub set_so : (b next : OpenDirectory) (i : OpenImage) (new : FileState) → cause ≡ None → b ≡ d → IsTold (call b old) (Ok next) new
       → i ≡ g next → IsTold (by_cause cause set_in old) (Ok i) new
   set_so b next i new c s h q =
@@ -116,7 +116,7 @@ module _ (t : Tag) (value : Scalars) where
   pub one_adds : (d : OpenDirectory) (file : FileState) → Adds (one_tag d file) file
   one_adds d file = tag_adds d t (Ok (data_of value)) file
 
-  -- there is no memory for it
+  -- writing one tag fails if the call runs out of memory
   pub one_short : (d : OpenDirectory) (e : TiffError) (file : FileState) → file.fault ≡ None → field_cause file (data_of value) ≡ None
       → e ≡ OutOfMemory → CallFails (one_tag d file) e file file
   one_short d e file f c q =
@@ -124,7 +124,7 @@ module _ (t : Tag) (value : Scalars) where
       tag_fails d t (Ok (data_of value)) e file file
       (entry_uncaused same (Ok (data_of value)) (data_of value) (Err e) file file f refl c (wanting same (placed_field (data_of value) file) e file f q tt))
 
-  -- one of several
+  -- writing a list of one tag fails if writing the tag fails
   pub tags_of_one : (d : OpenDirectory) (e : TiffError) (old new : FileState) → CallFails (one_tag d old) e old new
       → CallFails (write_tags d ((t, value) ∷ []) old) e old new
   tags_of_one d e old new h = bind_fails (one_tag d) (λ next. gives next) e old new (one_adds d old) h
@@ -156,9 +156,9 @@ module _ (values : List (Tag × FieldData)) (tags : List (Tag × Scalars)) (same
   stops_so d b next e old new s h =
       subst (λ vs. StopsInPart d vs e old new next) same (subst (λ x. StopsInPart x values e old new next) s h)
 
--- ---- no memory before anything is done
+-- ---- out of memory before the first change
 
--- one number of 4 bytes can be a field anywhere
+-- one number of 4 bytes can be a field in each file
 by_kind : (kind : FileKind) (end : ℕ) → field_test kind end 1 4 ≡ None
 unfolding field_test
 by_kind Classic end = refl
@@ -184,7 +184,7 @@ pub extra_short : (file : FileState) (i : OpenImage) (extra : List ExtraSamples)
 extra_short file i extra e c q =
     let p = extra_parts file i extra c in one_short tag.ExtraSamples (extras extra) i.directory e file p.0 p.1 q
 
--- the sides of a tile
+-- the tags of the sides of a tile
 abbrev pub side_tags : ℕ → ℕ → List (Tag × Scalars)
 side_tags width length = (tag.TileWidth, u32s (width ∷ [])) ∷ (tag.TileLength, u32s (length ∷ [])) ∷ []
 

@@ -1,4 +1,4 @@
--- Bytes that are read from a file which was appended to, or over a part of which others were written.
+-- Bytes that are read from a file after an append, or after a patch of a part of it.
 use Rattle.std.proofs.Common.{zero, suc, ◌≡◌, ℕ, ◌+◌, ◌-◌, ◌^◌, ◌<◌, ◌≤◌, ◌⊎◌, List, ◌++◌, length, take, drop, Bool, true, false, cond, Result, Ok, Err, refl, ap, sym, ◌∙◌, inl, inr, subst, arith, append_assoc, length-append, length-drop}
 use Rattle.std.proofs.lemmas.List.{drop-drop, take_at, drop_at, take_all, take-append-le, drop-append-le, length-take-le, drop-take, take-take}
 use Rattle.std.proofs.lemmas.Bool.{leb-true, le-leb}
@@ -14,36 +14,36 @@ use Rattle.tiff_base.specs.SourceAndSink.{exactly_at, put}
 use Rattle.tiff_base.specs.Number.{number, number_at, le}
 use Rattle.tiff_base.specs.Directory.{count_width, offset_width}
 
--- ---- answers
+-- ---- results
 
--- two steps that are no fault
+-- two steps that succeed
 pub ok_bind : {A B : Type 0} (r : Result A TiffError) (f : A → Result B TiffError) (x : A) (y : B) → r ≡ Ok x
     → f x ≡ Ok y → (r >>= f) ≡ Ok y
 ok_bind r f x y e h = ap (λ z. z >>= f) e ∙ h
 
--- equal answers have equal values
+-- equal results have equal values
 pub ok_inj : {A : Type 0} (x y : A) → let a : Result A TiffError = Ok x in let b : Result A TiffError = Ok y in a ≡ b
     → x ≡ y
 ok_inj x y e = cc
 
--- a test that chooses an answer and no fault holds
+-- a test that chooses between a value and an error holds if the choice succeeds
 opened : (b : Bool) (x s : List ℕ) (e : TiffError) → cond b (Ok x) (Err e) ≡ Ok s → (b ≡ true) × (x ≡ s)
 opened true x s e h = (refl, cc)
 opened false x s e h = absurd cc
 
 -- ---- exact reads
 
--- bytes that stand in the file are read
+-- bytes that the file contains are read
 pub exact : (file : List ℕ) (p n : ℕ) (s : List ℕ) → n ≤ length file - p → take n (drop p file) ≡ s
     → exactly_at file p n ≡ Ok s
 exact file p n s h e = rw (le-leb _ _ h) (ap (λ x. Ok x) e)
 
--- bytes that are read stand in the file
+-- bytes that are read are in the file
 pub is_exact : (file : List ℕ) (p n : ℕ) (s : List ℕ) → exactly_at file p n ≡ Ok s
     → (n ≤ length file - p) × (take n (drop p file) ≡ s)
 is_exact file p n s e = let o = opened _ _ s _ e in (leb-true _ _ o.0, o.1)
 
--- what is read of a file is read of each longer file
+-- bytes that are read from a file are read from each longer file
 pub exact_append : (file more : List ℕ) (p n : ℕ) (s : List ℕ) → exactly_at file p n ≡ Ok s
     → exactly_at (file ++ more) p n ≡ Ok s
 exact_append file more p zero s e = let o = is_exact file p zero s e in exact (file ++ more) p zero s (omega arith) o.1
@@ -54,7 +54,7 @@ exact_append file more p (suc n) s e =
     ∙ take-append-le (suc n) (drop p file) more (omega (arith, length-drop p file, o.0))
     ∙ o.1)
 
--- a patch leaves the length of the file
+-- a patch keeps the length of the file
 pub length_put : (file : List ℕ) (q : ℕ) (over : List ℕ) → q + length over ≤ length file
     → length (put file q over) ≡ length file
 length_put file q over h =
@@ -68,7 +68,7 @@ length_put file q over h =
       t,
     )
 
--- what is read before a patch stays
+-- bytes before a patch stay
 pub exact_put_before : (file : List ℕ) (q : ℕ) (over : List ℕ) (p n : ℕ) (s : List ℕ) → q + length over ≤ length file
     → p + n ≤ q
     → exactly_at file p n ≡ Ok s → exactly_at (put file q over) p n ≡ Ok s
@@ -83,7 +83,7 @@ exact_put_before file q over p n s h b e =
     ∙ drop-take p n file
     ∙ o.1)
 
--- what is read behind a patch stays
+-- bytes behind a patch stay
 pub exact_put_behind : (file : List ℕ) (q : ℕ) (over : List ℕ) (p n : ℕ) (s : List ℕ) → q + length over ≤ length file
     → q + length over ≤ p
     → exactly_at file p n ≡ Ok s → exactly_at (put file q over) p n ≡ Ok s
@@ -103,7 +103,7 @@ exact_put_behind file q over p n s h b e =
     ∙ drop-drop (p - m) m file ∙ ap (λ i. drop i file) z in
     exact (put file q over) p n s (omega (arith, l, o.0)) (ap (λ d. take n d) c ∙ o.1)
 
--- what was written over is read
+-- the patched bytes are read
 pub exact_put_here : (file : List ℕ) (q : ℕ) (over : List ℕ) → q + length over ≤ length file
     → exactly_at (put file q over) q (length over) ≡ Ok over
 exact_put_here file q over h =
@@ -112,13 +112,13 @@ exact_put_here file q over h =
     (ap (λ d. take (length over) d) (drop_at (take q file) (over ++ drop (q + length over) file) q t)
     ∙ take_at over (drop (q + length over) file) (length over) refl)
 
--- a piece between two others is read
+-- bytes between two others are read
 pub exact_mid : (a s b : List ℕ) (p n : ℕ) → length a ≡ p → length s ≡ n → exactly_at (a ++ (s ++ b)) p n ≡ Ok s
 exact_mid a s b p n e h =
     exact (a ++ (s ++ b)) p n s (omega (arith, length-append a (s ++ b), length-append s b))
     (ap (λ d. take n d) (drop_at a (s ++ b) p e) ∙ take_at s b n h)
 
--- the last piece is read
+-- the last bytes are read
 pub exact_end : (file more : List ℕ) → exactly_at (file ++ more) (length file) (length more) ≡ Ok more
 exact_end file more =
     exact (file ++ more) (length file) (length more) more (omega (arith, length-append file more))
@@ -126,12 +126,12 @@ exact_end file more =
 
 -- ---- numbers
 
--- the lowest bytes of a number are as many as were asked for
+-- the list of a number's k lowest bytes has length k
 pub length-le : (i k n : ℕ) → length (bytes_low_first i k n) ≡ k
 length-le i zero n = refl
 length-le i (suc k) n = ap (λ j. suc j) (length-le (suc i) k n)
 
--- a number that is written is the one that is read: of a width
+-- a number of a width is read back as written
 pub number-le : (w : Width) (n : ℕ) → (w ≡ w16) ⊎ ((w ≡ w32) ⊎ (w ≡ w64)) → n < 256 ^ byte_len w
     → number LittleEndian w (le (byte_len w) n) ≡ n
 unfolding number
@@ -145,19 +145,19 @@ number-le w n c =
       ]
     ]
 
--- the width of offsets is one of those that numbers have
+-- the width of offsets is a width of numbers
 pub is_offset_width : (kind : FileKind)
     → (offset_width kind ≡ w16) ⊎ ((offset_width kind ≡ w32) ⊎ (offset_width kind ≡ w64))
 is_offset_width Classic = inr (inl refl)
 is_offset_width Big = inr (inr refl)
 
--- likewise those of counts of entries
+-- the width of entry counts is a width of numbers
 pub is_count_width : (kind : FileKind)
     → (count_width kind ≡ w16) ⊎ ((count_width kind ≡ w32) ⊎ (count_width kind ≡ w64))
 is_count_width Classic = inl refl
 is_count_width Big = inr (inr refl)
 
--- a number stays where the bytes there do
+-- a number stays if its bytes stay
 pub number_kept : (file new : List ℕ) (w : Width) (p x : ℕ)
     → ((s : List ℕ) → exactly_at file p (byte_len w) ≡ Ok s → exactly_at new p (byte_len w) ≡ Ok s)
     → number_at LittleEndian w file p ≡ Ok x → number_at LittleEndian w new p ≡ Ok x
@@ -166,7 +166,7 @@ number_kept file new w p x f e =
     let i = bind_ok (exactly_at file p (byte_len w)) F x e in
     ok_bind (exactly_at new p (byte_len w)) F i.0 x (f i.0 i.1.0) i.1.1
 
--- a number that was written between two pieces is read
+-- a number written between two pieces is read
 pub number_mid : (w : Width) (a b : List ℕ) (p x : ℕ) → (w ≡ w16) ⊎ ((w ≡ w32) ⊎ (w ≡ w64)) → length a ≡ p
     → x < 256 ^ byte_len w
     → number_at LittleEndian w (a ++ (le (byte_len w) x ++ b)) p ≡ Ok x

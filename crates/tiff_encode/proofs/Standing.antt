@@ -1,4 +1,4 @@
--- The fields of a directory as they stand in its entries.
+-- The fields of a directory as its entries contain them.
 use Rattle.std.proofs.Common.{◌≡◌, ℕ, List, [], ◌∷◌, ◌++◌, length, take, T, ◌&&◌, refl, ap, sym, ◌∙◌, inl, inr, subst, arith, length-append}
 use Rattle.std.proofs.lemmas.List.{take_at, length-take-le, length-map}
 use Rattle.std.specs.Prelude.{map}
@@ -17,36 +17,36 @@ use Rattle.tiff_encode.specs.Deeds.{standing_field, standing_fields}
 use Rattle.tiff_encode.specs.Laws.{IsListable}
 use Rattle.tiff_encode.proofs.Entries.{IsWritable, AllWritable, entries_of}
 
--- an entry as it stands
+-- an entry as the file contains it
 abbrev pub standing_entry : FileKind → ℕ × Field → ℕ × Field
 standing_entry kind e = (e.0, standing_field kind e.1)
 
--- entries that can be listed
+-- entries that can be written
 abbrev pub AllListable : FileKind → List (ℕ × Field) → Type 0
 AllListable kind es = (e : ℕ × Field) → In e es → IsListable kind e.0 e.1
 
 -- ---- the map
 
--- a key is below the same entries as they stand
+-- a key is below the same entries in the file
 below_map : (kind : FileKind) (q : ℕ) (es : List (ℕ × Field))
     → below_all nat_cmp q (map (standing_entry kind) es) ≡ below_all nat_cmp q es
 below_map kind q [] = refl
 below_map kind q (e ∷ es) = ap (λ b. is_lt (nat_cmp q e.0) && b) (below_map kind q es)
 
--- which are in the same order
+-- the entries in the file have the same order
 sorted_map : (kind : FileKind) (es : List (ℕ × Field))
     → is_sorted nat_cmp (map (standing_entry kind) es) ≡ is_sorted nat_cmp es
 sorted_map kind [] = refl
 sorted_map kind (e ∷ es) = λ i. below_map kind e.0 es i && sorted_map kind es i
 
--- the entries of the fields as they stand
+-- the entries of the fields in the file
 pub entries_standing : (kind : FileKind) (fields : FinMap nat_cmp Field)
     → entries (standing_fields kind fields) ≡ map (standing_entry kind) (entries fields)
 entries_standing kind fields =
     entries_of (map (standing_entry kind) (entries fields))
     (subst T (sym (sorted_map kind (entries fields))) (entries_sorted fields))
 
--- they are as many
+-- the file contains as many entries as the directory has
 pub len_standing : (kind : FileKind) (fields : FinMap nat_cmp Field) → len (standing_fields kind fields) ≡ len fields
 len_standing kind fields =
     len-entries (standing_fields kind fields) ∙ ap length (entries_standing kind fields)
@@ -54,11 +54,11 @@ len_standing kind fields =
 
 -- ---- bytes
 
--- four bytes, of eight
+-- the first four of eight bytes
 four : (v : List ℕ) → length v ≡ 8 → length (take 4 v) ≡ 4
 four v l = length-take-le 4 v (omega (arith, l))
 
--- an entry has the same bytes as it stands
+-- an entry has the same bytes as in the file
 entry_standing : (kind : FileKind) (e : ℕ × Field) → IsListable kind e.0 e.1
     → entry_bytes kind (standing_entry kind e) ≡ entry_bytes kind e
 entry_standing Classic e w =
@@ -67,13 +67,13 @@ entry_standing Classic e w =
     ap (λ (v : List ℕ). le 2 e.0 ++ (le 2 (type_number e.1.field_type) ++ (le (offset_len Classic) e.1.count ++ v))) t
 entry_standing Big e w = refl
 
--- so have all entries
+-- all entries have the same bytes as in the file
 all_standing : (kind : FileKind) (es : List (ℕ × Field)) → AllListable kind es
     → flat_map (entry_bytes kind) (map (standing_entry kind) es) ≡ flat_map (entry_bytes kind) es
 all_standing kind [] w = refl
 all_standing kind (e ∷ es) w = λ i. entry_standing kind e (w e (inl refl)) i ++ all_standing kind es (λ x j. w x (inr j)) i
 
--- and the directory
+-- a directory has the same bytes as in the file
 pub bytes_standing : (kind : FileKind) (fields : FinMap nat_cmp Field) → AllListable kind (entries fields)
     → directory_bytes kind fields ≡ directory_bytes kind (standing_fields kind fields)
 unfolding directory_bytes
@@ -82,13 +82,13 @@ bytes_standing kind fields w =
     ap (flat_map (entry_bytes kind)) (entries_standing kind fields) ∙ all_standing kind (entries fields) w in
     sym (λ i. le (count_len kind) (len_standing kind fields i) ++ (body i ++ le (offset_len kind) 0))
 
--- ---- what can be written
+-- ---- fields that can be written
 
--- the kinds differ
+-- the file kinds differ
 big_classic : let a : FileKind = Big in a ≡ Classic → ⊥
 big_classic s = cc
 
--- a field as it stands can be written as it is
+-- a field from its entry can be written as it is
 field_standing : (kind : FileKind) (e : ℕ × Field) → IsListable kind e.0 e.1
     → IsWritable kind e.0 (standing_field kind e.1)
 field_standing Classic e w =
@@ -104,7 +104,7 @@ field_standing Classic e w =
 field_standing Big e w =
     record { tag_fits = w.tag_fits; count = w.count; whole = w.whole; filled = λ s. absurd (big_classic s) }
 
--- of the entries as they stand each is one
+-- each entry from the file can be written
 map_writable : (kind : FileKind) (es : List (ℕ × Field)) → AllListable kind es
     → AllWritable kind (map (standing_entry kind) es)
 map_writable kind [] w x i = absurd i
@@ -114,7 +114,7 @@ map_writable kind (e ∷ es) w x i = elim i [
   | inr j ↦ map_writable kind es (λ y k. w y (inr k)) x j
 ]
 
--- the fields as they stand can be written
+-- the fields from the file can be written
 pub standing_writable : (kind : FileKind) (fields : FinMap nat_cmp Field) → AllListable kind (entries fields)
     → AllWritable kind (entries (standing_fields kind fields))
 standing_writable kind fields w =

@@ -1,4 +1,4 @@
--- Steps one after another: one more goes behind those that were made.
+-- Steps in sequence: one more step goes behind the steps that are done.
 use Rattle.std.proofs.Common.{◌≡◌, ℕ, ◌+◌, ◌<◌, List, [], ◌∷◌, ◌++◌, length, take, get_or, Result, refl, ap, sym, ◌∙◌, subst}
 use Rattle.tiff_base.specs.declared.error.TiffError.{TiffError}
 use Rattle.tiff_encode.specs.declared.encoder.script.StepReply.{StepReply}
@@ -12,11 +12,11 @@ module _ {S A : Type 0} (Stepped : Standing → S → A → Result StepReply Tif
   abbrev All : Standing → S → List A → List (Result StepReply TiffError) → Standing → S → Type 0
   All = AllStepped Stepped
 
-  -- before the first
+  -- no step is done
   pub all_none : (old : Standing) (s : S) → All old s [] [] old s
   all_none old s = (refl, refl)
 
-  -- one more, behind those that were made
+  -- one more step, behind the steps that are done
   pub all_more : (old mid new : Standing) (s next t : S) (steps : List A) (step : A) (rs : List (Result StepReply TiffError))
       (r : Result StepReply TiffError) → All old s steps rs mid next → Stepped mid next step r new t
       → All old s (steps ++ step ∷ []) (rs ++ r ∷ []) new t
@@ -29,7 +29,7 @@ module _ {S A : Type 0} (Stepped : Standing → S → A → Result StepReply Tif
   all_more old mid new s next t (x ∷ steps) step (y ∷ rs) r h one =
       (h.0, (h.1.0, (h.1.1.0, all_more h.0 mid new h.1.0 next t steps step rs r h.1.1.1 one)))
 
-  -- the step at an index, behind the ones before it
+  -- the step at an index, behind the steps before it
   pub all_next : (old mid new : Standing) (s next t : S) (steps : List A) (step : A) (n : ℕ) (rs : List (Result StepReply TiffError))
       (r : Result StepReply TiffError) → n < length steps → step ≡ get_or steps n step → All old s (take n steps) rs mid next
       → Stepped mid next step r new t → All old s (take (n + 1) steps) (rs ++ r ∷ []) new t
@@ -39,7 +39,7 @@ module _ {S A : Type 0} (Stepped : Standing → S → A → Result StepReply Tif
       let P : List A → Type 0 = λ xs. All old s xs (rs ++ r ∷ []) new t in
       subst P (sym more) (all_more old mid new s next t (take n steps) step rs r h one)
 
--- one call, and another in the file that it left
+-- one call, and another call in the file that the first one leaves
 pub moves_joined : (P Q R : Standing → Standing → Type 0) (old mid new : FileState)
     → ((s m t : Standing) → P s m → Q m t → R s t) → Moves P old mid → Moves Q mid new → Moves R old new
 moves_joined P Q R old mid new j f g known s q k =

@@ -1,4 +1,4 @@
--- A chunk is written.
+-- How a call writes a chunk.
 use Rattle.std.proofs.Common.{◌≡◌, ℕ, ◌-◌, ◌*◌, ◌%◌, ◌^◌, ◌<◌, min, Bool, true, false, cond, List, length, get_or, Option, Some, None, Result, Ok, Err, refl, ap, sym, ◌∙◌, subst, inl, inr, arith, append-nil}
 use Rattle.std.proofs.lemmas.Bool.{eqb-true}
 use Rattle.std.proofs.lemmas.List.FromFn.{fill_by_all, length-map-range_with_len}
@@ -39,9 +39,9 @@ unfolding next_chunk_sample_count
 whole_rows i n row h l r =
     ap (λ x. n % x) r ∙ rows_by (is_left i) (chunk_rows (image_page i) (length i.chunks)) (row_samples (image_page i)) n h l
 
--- ---- a chunk that is stored as given bytes
+-- ---- a chunk stored as given bytes
 
--- a call that is refused is told so
+-- a refused call has an outcome with its error
 refused_told : {A : Type 0} (cause : Option TiffError) (call : Writing A) (file : FileState) (e : TiffError) → cause ≡ Some e
     → IsTold (by_cause cause call file) (Err e) file
 refused_told cause call file e c =
@@ -52,7 +52,7 @@ module _ (old : FileState) (i : OpenImage) (n : ℕ) (stored : List ℕ) where
   abbrev Appended : Result (Unit {0}) TiffError → FileState → OpenImage → Type 0
   Appended r new next = AppendsChunk (write_chunk i n stored old) i r old new next
 
-  -- what is told of the call, by its cause
+  -- the outcome of the call, by the error that refuses it
   abbrev told_by : Option TiffError → WriteOutcome OpenImage
   told_by cause = by_cause cause (appends_chunk i stored) old
 
@@ -65,20 +65,20 @@ module _ (old : FileState) (i : OpenImage) (n : ℕ) (stored : List ℕ) where
   by_none m r new next l c h =
       subst (λ cause. AppendedBy cause r new next) (sym c ∙ ap (write_chunk_cause old i n) l) h
 
-  -- it is refused
+  -- the call is refused
   pub append_refused : (m : ℕ) (e : TiffError) → m ≡ length stored → write_chunk_cause old i n m ≡ Some e → Appended (Err e) old i
   unfolding write_chunk
   append_refused m e l c =
       (refl, inl (refused_told (write_chunk_cause old i n (length stored)) (appends_chunk i stored) old e (ap (write_chunk_cause old i n) (sym l) ∙ c)))
 
-  -- there was no memory
+  -- the call runs out of memory
   pub append_wanting : (m : ℕ) (next : OpenImage) → m ≡ length stored → write_chunk_cause old i n m ≡ None → next ≡ i
       → Appended (Err OutOfMemory) old next
   append_wanting m next l c q =
       by_none m (Err OutOfMemory) old next l c
       (q, inr (inr (refl, refl)))
 
-  -- the sink failed
+  -- the sink fails
   pub append_cut : (m : ℕ) (e : TiffError) (new : FileState) (next : OpenImage) → m ≡ length stored → old.fault ≡ None
       → write_chunk_cause old i n m ≡ None → AppendIsStopped e old new ⊎ AppendIsCut stored e old new → next ≡ i → Appended (Err e) new next
   append_cut m e new next l f c h q =
@@ -90,14 +90,14 @@ module _ (old : FileState) (i : OpenImage) (n : ℕ) (stored : List ℕ) where
         ])),
       )
 
-  -- it is stored
+  -- the chunk is stored
   pub append_done : (m offset : ℕ) (new : FileState) (next : OpenImage) → m ≡ length stored → write_chunk_cause old i n m ≡ None
       → offset ≡ end_of old → new ≡ file_with_bytes old stored → next ≡ with_chunk i offset (length stored) → Appended (Ok tt) new next
   append_done m offset new next l c at g q =
       by_none m (Ok tt) new next l c
       (record { answer = ap Ok (ap (λ p. with_chunk i p (length stored)) (sym at) ∙ sym q); state = g })
 
--- ---- samples that are packed first
+-- ---- samples that are compressed first
 
 counted_by : (fault : Option SinkFault) (far left same other : Bool)
     → unless_ended fault (cond far (Some IntSizeError) (cond (not left || not same) (Some (IoError InvalidData)) (cond other (Some IntSizeError) None))) ≡ None
@@ -108,17 +108,17 @@ counted_by None false false same other h = absurd cc
 counted_by None true left same other h = absurd cc
 counted_by (Some f) far left same other h = absurd cc
 
--- a chunk that isn't refused has as many samples as are wanted
+-- a chunk that nothing refuses has the expected number of samples
 pub chunk_counted : (old : FileState) (i : OpenImage) (n stored : ℕ) → write_chunk_cause old i n stored ≡ None → n ≡ next_chunk_sample_count i
 unfolding write_chunk_cause
 chunk_counted old i n stored h =
     eqb-true n (next_chunk_sample_count i)
     (counted_by old.fault (is_past_chunks i) (is_left i) (n == next_chunk_sample_count i) (is_past old.kind (end_of old) || is_past old.kind stored) h)
 
--- ---- samples whose bytes are made on their way
+-- ---- samples whose bytes are made on the fly
 
 module _ (i : OpenImage) (ns : List ℕ) (size : ℕ) (sized : i.size ≡ size) where
-  -- how many bytes they have
+  -- the number of bytes of the samples
   pub unpacked_len : (n : ℕ) → n ≡ length ns * size → n ≡ length (unpacked_chunk i ns)
   unfolding unpacked_chunk differences
   unpacked_len n h =
@@ -127,21 +127,21 @@ module _ (i : OpenImage) (ns : List ℕ) (size : ℕ) (sized : i.size ≡ size) 
       h ∙ ap (λ k. length ns * k) (sym sized) ∙ ap (λ k. k * i.size) (sym many)
       ∙ sym (length_written i.size (differences i.predictor (256 ^ i.size) (row_samples p) (stored_samples p) ns))
 
-  -- which they are
+  -- the bytes of the samples are those of the chunk
   pub unpacked_is : (predictor : Predictor) (row stride : ℕ) → i.predictor ≡ predictor → row ≡ row_samples (image_page i) → stride ≡ stored_samples (image_page i)
       → flat_map (le size) (differences predictor (256 ^ size) row stride ns) ≡ unpacked_chunk i ns
   unfolding unpacked_chunk
   unpacked_is predictor row stride is wide deep =
       λ j. flat_map (le (sym sized j)) (differences (sym is j) (256 ^ sym sized j) (wide j) (deep j) ns)
 
--- bytes that aren't packed are stored as they are
+-- uncompressed bytes are stored as they are
 pub plain_stored : (i : OpenImage) (bytes : List ℕ) → i.method ≡ method.None → IsStored i.method bytes bytes
 plain_stored i bytes packed = subst (λ m. IsStored m bytes bytes) (sym packed) refl
 
 -- ---- samples that are stored
 
 module _ (old : FileState) (i : OpenImage) (samples : List ℕ) (new : FileState) (next : OpenImage) where
-  -- a chunk of samples is stored as bytes that may stand for them
+  -- a chunk of samples is stored as bytes that encode them
   pub chunk_stored : (count : ℕ) (stored : List ℕ) (r : Result (Unit {0}) TiffError) → count ≡ length samples
       → IsStored i.method stored (unpacked_chunk i samples) → AppendsChunk (write_chunk i count stored old) i r old new next
       → StoresChunk write_chunk i samples r old new next
@@ -159,21 +159,21 @@ module _ (old : FileState) (i : OpenImage) (samples : List ℕ) (new : FileState
         ],
       )
 
-  -- so it is where nothing refuses it
+  -- a chunk of samples is stored if nothing refuses it
   pub chunk_written : (n : ℕ) (r : Result (Unit {0}) TiffError) → write_chunk_cause old i n 0 ≡ None → StoresChunk write_chunk i samples r old new next
       → WritesStoredChunk write_chunk (write_chunk_cause old i n 0) i samples r old new next
   chunk_written n r uncaused h = subst (λ cause. WritesStoredChunk write_chunk cause i samples r old new next) (sym uncaused) h
 
--- ---- samples that are stored as they lie
+-- ---- samples that are stored as they are in memory
 
--- without a predictor numbers are left as they are
+-- without a predictor, numbers stay the same
 left_plain : (m l s : ℕ) (ns : List ℕ) → differences predictor.None m l s ns ≡ ns
 unfolding differences
 left_plain m l s ns = sym (fill_by_all (λ k. get_or ns k 0) ns (length ns) 0 refl (λ k h. refl))
 
 module _ {V : Type 0} (bytes : V → List ℕ) (i : OpenImage) (samples : List ℕ) (size : ℕ) (packed : i.method ≡ method.None)
     (differs : i.predictor ≡ predictor.None) (sized : i.size ≡ size) where
-  -- their bytes are those of the chunk
+  -- the bytes of the samples are those of the chunk
   lent : (xs : List ℕ) → xs ≡ flat_map (le size) samples → IsStored i.method xs (unpacked_chunk i samples)
   unfolding unpacked_chunk
   lent xs h =
@@ -184,7 +184,7 @@ module _ {V : Type 0} (bytes : V → List ℕ) (i : OpenImage) (samples : List �
       ∙ ap (λ n. flat_map (le n) samples) sized in
       subst (λ m. IsStored m xs (unpacked_chunk i samples)) (sym packed) (h ∙ sym plain)
 
-  -- and are lent, where there are some
+  -- borrowed bytes, if there are some, are those of the chunk
   pub lent_some : (o : Option V) → IfSome o (λ b. bytes b ≡ flat_map (le size) samples)
       → IfSome o (λ b. IsStored i.method (bytes b) (unpacked_chunk i samples))
   lent_some None h = h

@@ -1,4 +1,4 @@
--- Fields that are written one after another.
+-- How calls write fields in sequence.
 use Rattle.std.proofs.Common.{◌≡◌, ℕ, ◌+◌, ◌*◌, ◌<◌, ◌≤◌, Bool, cond, List, [], ◌∷◌, ◌++◌, length, take, drop, get_or, Result, Some, Ok, Err, refl, ap, sym, ◌∙◌, subst, arith, append_assoc, append-nil}
 use Rattle.std.proofs.Math.Nat.{div-add-mod'}
 use Rattle.std.proofs.Math.Seq.{take-length, take-append_seam}
@@ -26,16 +26,16 @@ use Rattle.tiff_encode.specs.Tagging.{write_fields, StopsInPart, fields_of}
 use Rattle.tiff_encode.proofs.Listing.{filled_whole}
 use Rattle.tiff_encode.proofs.Joining.{IsAdding, Adds, adding, answers_adding, tag_adds, bind_told, bind_ends_adding, bind_fails, bind_adding, bind_adds}
 
--- ---- calls that are alike
+-- ---- equal calls
 
--- what goes on alike ends alike
+-- two calls in sequence have the same outcome if their second calls have the same outcome
 pub going_alike : {A B : Type 0} (r : Result A TiffError) (deeds : List Deed) (next : FileState) (rest other : A → Writing B)
     → ((x : A) (file : FileState) → rest x file ≡ other x file) → and_then r deeds next rest ≡ and_then r deeds next other
 going_alike (Ok x) deeds next rest other h = ap (after_deeds deeds) (h x next)
 going_alike (Err e) deeds next rest other h = refl
 
 module _ {A B : Type 0} (deeds : List Deed) (rest : A → Writing B) where
-  -- the deeds of two calls before a third
+  -- the changes of two calls before a third call are those of both in sequence
   behind_on : (r : Result A TiffError) (more : List Deed) (next : FileState)
       → after_deeds deeds (and_then r more next rest) ≡ and_then r (deeds ++ more) next rest
   behind_on (Err e) more next = refl
@@ -43,7 +43,7 @@ module _ {A B : Type 0} (deeds : List Deed) (rest : A → Writing B) where
       let third : WriteOutcome B = rest x next in
       ap (λ ds. record { answer = third.answer; deeds = ds; next = third.next }) (sym (append_assoc deeds more third.deeds))
 
--- three calls
+-- three calls in sequence have the same outcome in each grouping
 pub going_further : {A B C : Type 0} (r : Result A TiffError) (deeds : List Deed) (next : FileState) (second : A → Writing B)
     (third : B → Writing C)
     → and_then r deeds next (λ x. second x >>= third)
@@ -62,7 +62,7 @@ tags_are_fields d (value ∷ values) file =
     going_alike first.answer first.deeds first.next (λ next. write_tags next values) (λ next. write_fields next (fields_of values))
     (λ next now. tags_are_fields next values now)
 
--- some fields, and others after them
+-- some fields, followed by other fields
 pub fields_joined : (d : OpenDirectory) (xs ys : List (Tag × FieldData)) (file : FileState)
     → write_fields d (xs ++ ys) file ≡ (write_fields d xs >>= (λ next. write_fields next ys)) file
 fields_joined d [] ys file = refl
@@ -73,7 +73,7 @@ fields_joined d (x ∷ xs) ys file =
     (λ next now. fields_joined next xs ys now)
     ∙ going_further first.answer first.deeds first.next (λ next. write_fields next xs) rest
 
--- they append
+-- writing fields only appends
 pub fields_adding : (d : OpenDirectory) (values : List (Tag × FieldData)) (file : FileState) → IsAdding (write_fields d values file) file
 fields_adding d [] file = answers_adding (Ok d) file
 fields_adding d (value ∷ values) file =
@@ -82,7 +82,7 @@ fields_adding d (value ∷ values) file =
     (adding (call file) file (tag_adds d value.0 (Ok value.1) file))
     (λ next _. fields_adding next values (call file).next)
 
--- and one at least does something, unless it is refused
+-- writing at least one field makes a change unless it is refused
 pub fields_adds : (d : OpenDirectory) (value : Tag × FieldData) (values : List (Tag × FieldData)) (file : FileState)
     → Adds (write_fields d (value ∷ values) file) file
 fields_adds d value values file =
@@ -90,7 +90,7 @@ fields_adds d value values file =
     bind_adds call (λ next. write_fields next values) file (tag_adds d value.0 (Ok value.1) file)
     (λ next _. fields_adding next values (call file).next)
 
--- Some were written, and the others end: all end so.
+-- The first fields are written, and all fields end as the others end.
 pub fields_end : {X : Type 0} (view : X → OpenDirectory) (d next : OpenDirectory) (xs ys : List (Tag × FieldData)) (r : Result X TiffError)
     (old mid new : FileState) → IsTold (write_fields d xs old) (Ok next) mid → Ends view (write_fields next ys mid) r mid new
     → Ends view (write_fields d (xs ++ ys) old) r old new
@@ -107,7 +107,7 @@ fields_told d next xs ys r old mid new h e =
     subst (λ told. IsTold told r new) (sym (fields_joined d xs ys old))
     (bind_told (write_fields d xs) rest next r old mid new h e)
 
--- Some fail, one at least, and so do all.
+-- The first fields, at least one, fail, and all fields fail.
 pub fields_fail : (d : OpenDirectory) (x : Tag × FieldData) (xs ys : List (Tag × FieldData)) (e : TiffError) (old new : FileState)
     → CallFails (write_fields d (x ∷ xs) old) e old new → CallFails (write_fields d ((x ∷ xs) ++ ys) old) e old new
 fields_fail d x xs ys e old new h =
@@ -115,9 +115,9 @@ fields_fail d x xs ys e old new h =
     subst (λ told. CallFails told e old new) (sym (fields_joined d (x ∷ xs) ys old))
     (bind_fails (write_fields d (x ∷ xs)) rest e old new (fields_adds d x xs old) h)
 
--- ---- one field more
+-- ---- one more field
 
--- it is written
+-- one more field is written
 pub one_more : (d now next : OpenDirectory) (done : List (Tag × FieldData)) (value : Tag × FieldData) (old mid new : FileState)
     → IsTold (write_fields d done old) (Ok now) mid → IsTold (write_tag now value.0 (Ok value.1) mid) (Ok next) new
     → IsTold (write_fields d (done ++ value ∷ []) old) (Ok next) new
@@ -126,7 +126,7 @@ one_more d now next done value old mid new h t =
     fields_told d now done (value ∷ []) (Ok next) old mid new h
     (bind_told (write_tag now value.0 (Ok value.1)) last next (Ok next) mid new new t (record { answer = refl; state = refl }))
 
--- or fails: the first ones were written
+-- one more field fails after the first fields are written
 pub one_fails : (d now : OpenDirectory) (done rest all : List (Tag × FieldData)) (value : Tag × FieldData) (e : TiffError)
     (old mid new : FileState) → done ++ value ∷ rest ≡ all → IsTold (write_fields d done old) (Ok now) mid
     → CallFails (write_tag now value.0 (Ok value.1) mid) e mid new → CallFails (write_fields d all old) e old new
@@ -137,9 +137,9 @@ one_fails d now done rest all value e old mid new q h f =
     (fields_end view d now done (value ∷ rest) (Err e) old mid new h
     (bind_fails (write_tag now value.0 (Ok value.1)) others e mid new (tag_adds now value.0 (Ok value.1) mid) f))
 
--- ---- the field at an offset
+-- ---- the field at an index
 
--- one more of the first
+-- the field after the first ones is set
 pub next_set : (d now next : OpenDirectory) (values : List (Tag × FieldData)) (value : Tag × FieldData) (n : ℕ) (old mid new : FileState)
     → n < length values → value ≡ get_or values n value → IsTold (write_fields d (take n values) old) (Ok now) mid
     → IsTold (write_tag now value.0 (Ok value.1) mid) (Ok next) new → IsTold (write_fields d (take (n + 1) values) old) (Ok next) new
@@ -148,7 +148,7 @@ next_set d now next values value n old mid new l v h t =
     take_more values n value l ∙ ap (λ x. take n values ++ x ∷ []) (sym v) in
     subst (λ vs. IsTold (write_fields d vs old) (Ok next) new) (sym more) (one_more d now next (take n values) value old mid new h t)
 
--- or it fails
+-- the field after the first ones fails
 pub next_fails : (d now : OpenDirectory) (values : List (Tag × FieldData)) (value : Tag × FieldData) (n : ℕ) (e : TiffError)
     (old mid new : FileState) → n < length values → value ≡ get_or values n value → IsTold (write_fields d (take n values) old) (Ok now) mid
     → CallFails (write_tag now value.0 (Ok value.1) mid) e mid new → CallFails (write_fields d values old) e old new
@@ -160,7 +160,7 @@ next_fails d now values value n e old mid new l v h f =
     sym (append_assoc (take n values) (value ∷ []) rest) ∙ ap (λ xs. xs ++ rest) (sym more) ∙ take-append-drop (n + 1) values in
     one_fails d now (take n values) rest values value e old mid new whole h f
 
--- so the first ones are set, and the others fail
+-- the first fields are set, and the others fail
 pub next_stops : (d now next : OpenDirectory) (values : List (Tag × FieldData)) (value : Tag × FieldData) (n : ℕ) (e : TiffError)
     (old mid new : FileState) → n < length values → value ≡ get_or values n value → IsTold (write_fields d (take n values) old) (Ok now) mid
     → CallFails (write_tag now value.0 (Ok value.1) mid) e mid new → next ≡ now → StopsInPart d values e old new next
@@ -184,7 +184,7 @@ next_stops d now next values value n e old mid new l v h f s =
 abbrev pub whole_data : «Type» → List ℕ → FieldData
 whole_data type bytes = record { field_type = type; count = length bytes / type_size type; bytes = bytes }
 
--- as they are handed in
+-- whole values as a call writes them
 whole_in : (type : «Type») (bytes : List ℕ) → length bytes % type_size type ≡ 0 → data_in type bytes ≡ whole_data type bytes
 whole_in type bytes w =
     let n : ℕ = length bytes / type_size type * type_size type in
@@ -192,7 +192,7 @@ whole_in type bytes w =
     ap (λ xs. record { field_type = type; count = length bytes / type_size type; bytes = xs })
     (ap (λ k. take k bytes) all ∙ take-length bytes)
 
--- they are handed in as any value is
+-- a call writes whole values in the same way as any other value
 pub whole_entry : (type : «Type») (bytes : List ℕ) (file : FileState) → length bytes % type_size type ≡ 0
     → write_entry_bytes type bytes file ≡ write_entry (Ok (whole_data type bytes)) file
 unfolding write_entry_bytes write_entry write_entry_bytes_cause write_tag_cause
@@ -202,7 +202,7 @@ whole_entry type bytes file w =
     (placed_field d) file in
     λ i. by (eq-eqb (length bytes % type_size type) 0 w i) (whole_in type bytes w i)
 
--- bytes that were filled up, cut again
+-- padded bytes, cut to their length, are the bytes
 pub filled_back : (xs : List ℕ) → length xs ≤ 8 → take (length xs) (filled_field xs) ≡ xs
 filled_back xs l =
     ap (take (length xs)) (sym (filled_whole xs l)) ∙ take-append_seam xs (drop (length xs) (replicate 8 0))
@@ -210,17 +210,17 @@ filled_back xs l =
 -- ---- numbers
 
 module _ (v : Tag × FieldData) (tag : Tag) (bytes : List ℕ) where
-  -- one of 4 bytes
+  -- one number of 4 bytes
   pub long_is : (n : ℕ) → v ≡ (tag, whole_data LONG bytes) → bytes ≡ le 4 n → v ≡ (tag, data_of (u32s (n ∷ [])))
   unfolding data_of
   long_is n h b = h ∙ ap (λ xs. (tag, whole_data LONG xs)) b
 
-  -- one of 2 bytes
+  -- one number of 2 bytes
   pub short_is : (n : ℕ) → v ≡ (tag, whole_data SHORT bytes) → bytes ≡ le 2 n → v ≡ (tag, data_of (u16s (n ∷ [])))
   unfolding data_of
   short_is n h b = h ∙ ap (λ xs. (tag, whole_data SHORT xs)) b
 
-  -- two of them
+  -- two numbers of 2 bytes
   pub shorts_are : (m n : ℕ) → v ≡ (tag, whole_data SHORT bytes) → bytes ≡ le 2 m ++ le 2 n → v ≡ (tag, data_of (u16s (m ∷ n ∷ [])))
   unfolding data_of
   shorts_are m n h b = h ∙ ap (λ xs. (tag, whole_data SHORT xs)) b
@@ -231,13 +231,13 @@ module _ (v : Tag × FieldData) (tag : Tag) (bytes : List ℕ) where
   unfolding data_of
   rational_is m n h b = h ∙ ap (λ xs. (tag, whole_data RATIONAL xs)) b
 
--- ---- a value that is kept in eight bytes
+-- ---- a value in an array of eight bytes
 
 module _ (v : Tag × FieldData) (tag : Tag) (type : «Type») (len : ℕ) (bytes : List ℕ) where
   abbrev kept : Tag × FieldData
   kept = (tag, record { field_type = type; count = len / type_size type; bytes = take len bytes })
 
-  -- it is handed in as any value is
+  -- a call writes the value in the array in the same way as any other value
   kept_entry : (file : FileState) → len ≤ 8 → length bytes ≡ 8 → len % type_size type ≡ 0 → kept ≡ v
       → write_entry_bytes type (take len bytes) file ≡ write_entry (Ok v.1) file
   kept_entry file l w m h =
@@ -256,7 +256,7 @@ module _ (v : Tag × FieldData) (tag : Tag) (type : «Type») (len : ℕ) (bytes
 
 -- ---- two parts of an array
 
--- the first stands, and the second is put behind it
+-- the first part is in the array, and the second is put behind it
 put_behind : (k : ℕ) (a b zeros x y : List ℕ) → length x ≡ k → drop k zeros ≡ [] → x ≡ a → y ≡ b
     → put_mid k k (x ++ zeros) y ≡ a ++ b
 put_behind k a b zeros x y l z p q =

@@ -1,4 +1,5 @@
--- The laws by which a call leaves what stood: all calls but the ends only append, and an end points its parent's link besides.
+-- The laws of what a call changes: all calls except the ends only append, and an end also changes
+-- the parent's link.
 use Rattle.std.specs.Prelude.{◌≡◌, ℕ, List, ◌++◌, Option, Some, None, Result, Ok, Err}
 use Rattle.tiff_base.specs.declared.error.TiffError.{TiffError}
 use Rattle.tiff_base.specs.declared.tags.ExtraSamples.{ExtraSamples}
@@ -16,11 +17,13 @@ use Rattle.tiff_encode.specs.Deeds.{all_appended}
 use Rattle.tiff_encode.specs.Machine.{FileState, OpenDirectory, OpenImage, WriteOutcome, Writing}
 use Rattle.tiff_encode.specs.Calls.{Offsets, image_directory, extra_directory, write_entry, write_entry_buf, write_entry_bytes, write_tag, write_tag_buf, write_data, write_data_buf, finish, new_image, extra_samples, set_rows_per_strip, tiles, planar, resolution, x_resolution, y_resolution, resolution_unit, write_strip, write_chunk, finish_image, write_image_data, write_image}
 
--- A call only appends: the file after it is the one before it with bytes behind, whatever the call answers.
+-- A call only appends: the file after the call is the file before it with bytes at the end, also if
+-- the call returns an error.
 abbrev pub OnlyAppends : {A : Type 0} → Writing A → Type 0
 OnlyAppends call = (file : FileState) → (call file).next ≡ record file { bytes = file.bytes ++ all_appended file.kind (call file).deeds }
 
--- Each call of an encoder that opens a directory, and each of an open directory but its end, only appends.
+-- The calls of an encoder that begin a directory, and the calls of an open directory except its
+-- end, only append.
 pub record DirectoryCallsAppend : Type 0 where
   pub begun : OnlyAppends image_directory
   pub begun_extra : OnlyAppends extra_directory
@@ -32,7 +35,7 @@ pub record DirectoryCallsAppend : Type 0 where
   pub loose_value : (value : Result FieldData TiffError) → OnlyAppends (write_data value)
   pub loose_buf : (b : BufferRecord) → OnlyAppends (write_data_buf b)
 
--- So does each that opens an image, and each of an open image but its end.
+-- The calls that begin an image, and the calls of an open image except its end, only append.
 pub record ImageCallsAppend : Type 0 where
   pub begun : (color : ColorTypeRecord) (size width height : ℕ) → OnlyAppends (new_image color size width height)
   pub extra : (i : OpenImage) (extra : List ExtraSamples) → OnlyAppends (extra_samples i extra)
@@ -46,23 +49,25 @@ pub record ImageCallsAppend : Type 0 where
   pub strip : (i : OpenImage) (count : ℕ) (stored : List ℕ) → OnlyAppends (write_strip i count stored)
   pub chunk : (i : OpenImage) (count : ℕ) (stored : List ℕ) → OnlyAppends (write_chunk i count stored)
 
--- the bytes with the parent's link pointed to an offset, where there is a parent
+-- the bytes with an offset written into the parent's link, if there is a parent
 abbrev pub with_parent_link : FileKind → Option ℕ → ℕ → List ℕ → List ℕ
 with_parent_link kind None target bytes = bytes
 with_parent_link kind (Some parent) target bytes = put bytes parent (le (offset_len kind) target)
 
--- the bytes that an end leaves of these: refused, the same; answered, the parent's link is pointed to where the directory begins
+-- the bytes after an end: the same if the end returns an error; otherwise with the offset of the
+-- directory written into the parent's link
 abbrev pub linked_by : Result Offsets TiffError → FileKind → Option ℕ → List ℕ → List ℕ
 linked_by (Err e) kind parent bytes = bytes
 linked_by (Ok offsets) kind parent bytes = with_parent_link kind parent offsets.pointer bytes
 
--- An end appends, and points no link but its parent's.
+-- An end appends, and changes no link except its parent's.
 abbrev pub LinksParent : Option ℕ → WriteOutcome Offsets → FileState → Type 0
 LinksParent parent told file =
     told.next.bytes ≡ linked_by told.answer file.kind parent (file.bytes ++ all_appended file.kind told.deeds)
 
--- So does each end: of a directory, of an image, with all its samples, and of one that is written whole, whose parent is the
--- chain's last directory.
+-- Each end appends, and changes no link except its parent's: the end of a directory, the end of an
+-- image, `write_data` of an image, and `write_image`, whose parent is the last link of the IFD
+-- chain.
 pub record EndsLinkParent : Type 0 where
   pub directory : (d : OpenDirectory) (file : FileState) → LinksParent d.parent (finish d file) file
   pub image : (i : OpenImage) (file : FileState) → LinksParent i.directory.parent (finish_image i file) file

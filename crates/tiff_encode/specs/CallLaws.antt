@@ -1,4 +1,4 @@
--- The laws by which what a call does can be done to a file in which a model stands.
+-- The laws that the writes of a call are valid for a file that contains a model.
 use Rattle.std.specs.Prelude.{◌≡◌, ℕ, ◌^◌, ◌<◌, List, length, Some, None, Ok}
 use Rattle.tiff_base.specs.declared.tags.ExtraSamples.{ExtraSamples}
 use Rattle.tiff_base.specs.declared.tags.ResolutionUnit.{ResolutionUnit}
@@ -11,12 +11,12 @@ use Rattle.tiff_encode.specs.Machine.{FileState, OpenDirectory, OpenImage, Writi
 use Rattle.tiff_encode.specs.Causes.{end_of, field_cause}
 use Rattle.tiff_encode.specs.Calls.{Offsets, placed_field, finish, new_image, extra_samples, set_rows_per_strip, tiles, planar, resolution, x_resolution, y_resolution, resolution_unit, write_strip, write_chunk, finish_image}
 
--- a value that is handed in, and not refused
+-- the writes of a value for a field are valid, if the call isn't refused
 abbrev pub PlacedFits : Type 0
 PlacedFits = (file : FileState) (m : Model) (value : FieldData) → IsWhole value → field_cause file value ≡ None
     → end_of file < 2 ^ 64 → length value.bytes < 2 ^ 64 → DeedsFit file.kind file.bytes m (placed_field value file).deeds
 
--- the end of a directory, whose parent is a link
+-- the writes that end a directory are valid, if its parent is a link of the model
 abbrev pub FinishFits : Type 0
 FinishFits = (file : FileState) (m : Model) (d : OpenDirectory) → AreListable file.kind d.fields
     → ((offset : ℕ) → d.parent ≡ Some offset → IsLink file.kind m offset)
@@ -24,13 +24,14 @@ FinishFits = (file : FileState) (m : Model) (d : OpenDirectory) → AreListable 
 
 -- ---- images
 
--- what a call of an image did, where it was answered, and that the fields of its directory are entries still
+-- a call of an image that returns an image makes valid writes, and the fields of the image's
+-- directory are still valid entries
 abbrev pub CallFits : (OpenImage → Writing OpenImage) → Type 0
 CallFits call = (file : FileState) (m : Model) (i next : OpenImage) → AreEntries i.directory.fields
     → (call i file).answer ≡ Ok next → end_of (call i file).next < 2 ^ 64
     → DeedsFit file.kind file.bytes m (call i file).deeds × AreEntries next.directory.fields
 
--- a new image
+-- the writes of `new_image` are valid
 abbrev pub NewImageFits : Type 0
 NewImageFits = (file : FileState) (m : Model) (color : ColorTypeRecord) (size width height : ℕ) (i : OpenImage)
     → (new_image color size width height file).answer ≡ Ok i → end_of (new_image color size width height file).next < 2 ^ 64
@@ -50,11 +51,11 @@ ResolutionsFit =
     × (((value : ℕ × ℕ) → CallFits (λ i. y_resolution i value))
     × ((u : ResolutionUnit) → CallFits (λ i. resolution_unit i u))))
 
--- a chunk of so many samples, stored as these bytes
+-- the writes of a chunk with a given number of samples, stored as given bytes, are valid
 abbrev pub ChunksFit : Type 0
 ChunksFit = (count : ℕ) (stored : List ℕ) → CallFits (λ i. write_strip i count stored) × CallFits (λ i. write_chunk i count stored)
 
--- the end of an image, whose parent is a link
+-- the writes that end an image are valid, if its parent is a link of the model
 abbrev pub FinishImageFits : Type 0
 FinishImageFits = (file : FileState) (m : Model) (i : OpenImage) (offsets : Offsets) → AreEntries i.directory.fields
     → (finish_image i file).answer ≡ Ok offsets → end_of (finish_image i file).next < 2 ^ 64

@@ -1,4 +1,5 @@
--- Why a call of the writer is refused: for each call its causes, the first that holds (this project's order).
+-- The errors that refuse a call of the encoder: for each call the first one that applies (this
+-- project's order).
 use Rattle.std.specs.Prelude.{ℕ, ◌+◌, ◌*◌, ◌%◌, ◌^◌, ◌&&◌, ◌||◌, ◌==◌, Bool, true, false, not, List, [], ◌∷◌, length, nat_lt, nat_le, Option, Some, None, Result, Ok, Err, if◌then◌else◌}
 use Rattle.std.specs.FinMap.{len, entries}
 use Rattle.std.specs.List.{list_any}
@@ -31,7 +32,7 @@ use Rattle.tiff_encode.specs.Value.{data_in, buffer_data, is_long}
 use Rattle.tiff_encode.specs.Machine.{FileState, OpenDirectory, OpenImage}
 use Rattle.tiff_encode.specs.Chunks.{all_samples, image_page, is_tile, is_begun, is_left, is_in_order, next_chunk_sample_count}
 
--- the causes of a call that writes: before all others an earlier write that failed
+-- the errors of a call that writes: the error of an earlier failed write comes first
 abbrev pub unless_ended : Option SinkFault → Option TiffError → Option TiffError
 unless_ended None cause = cause
 unless_ended (Some fault) cause = Some (UsageError WriterFailed)
@@ -39,75 +40,77 @@ unless_ended (Some fault) cause = Some (UsageError WriterFailed)
 abbrev pub unless_failed : FileState → Option TiffError → Option TiffError
 unless_failed file cause = unless_ended file.fault cause
 
--- a number that no offset, count or length of a kind of file can be: none is too large for a BigTIFF file
+-- whether a number exceeds the offsets, counts and lengths of a kind of file; no number does so for
+-- BigTIFF
 abbrev pub is_past : FileKind → ℕ → Bool
 is_past Classic n = is_too_far n
 is_past Big n = false
 
--- more entries than a directory can count
+-- whether there are more entries than a directory can count
 abbrev pub is_past_count : FileKind → ℕ → Bool
 is_past_count Classic n = nat_lt 65535 n
 is_past_count Big n = false
 
--- the end of a file, where the next bytes are appended
+-- the end of the file, where the next bytes are appended
 abbrev pub end_of : FileState → ℕ
 end_of file = length file.bytes
 
--- `image_directory`, `extra_directory`
+-- the error of `image_directory` and `extra_directory`, if any
 unfoldable pub begin_cause : FileState → Option TiffError
 begin_cause file = unless_failed file None
 
 -- ---- fields
 
--- a field: its count; its offset, where it stands at one
+-- the error of a field: its count, or the offset of its bytes if they don't fit into the entry
 abbrev pub field_cause : FileState → FieldData → Option TiffError
 field_cause file value =
     if is_past file.kind value.count then Some IntSizeError
     else if is_long file.kind value && is_past file.kind (end_of file) then Some IntSizeError
     else None
 
--- a value that may be a text which can't be written
+-- the error of a value; a text can have an error that says that it can't be written
 abbrev pub data_cause : Result FieldData TiffError → (FieldData → Option TiffError) → Option TiffError
 data_cause (Ok value) rest = rest value
 data_cause (Err e) rest = Some e
 
--- bytes that are handed in have to be little-endian
+-- bytes from the caller have to be little-endian
 abbrev pub order_cause : ByteOrder → Option TiffError → Option TiffError
 order_cause LittleEndian rest = rest
 order_cause BigEndian rest = Some (UsageError ByteOrderMismatch)
 
--- `write_tag`, `write_entry`
+-- the error of `write_tag` and `write_entry`, if any
 unfoldable pub write_tag_cause : FileState → Result FieldData TiffError → Option TiffError
 write_tag_cause file value = unless_failed file (data_cause value (field_cause file))
 
--- `write_tag_buf`, `write_entry_buf`
+-- the error of `write_tag_buf` and `write_entry_buf`, if any
 unfoldable pub write_buf_cause : FileState → BufferRecord → Option TiffError
 write_buf_cause file b = unless_failed file (order_cause b.order (field_cause file (buffer_data b)))
 
--- `write_entry_bytes`
+-- the error of `write_entry_bytes`, if any
 unfoldable pub write_entry_bytes_cause : FileState → «Type» → List ℕ → Option TiffError
 write_entry_bytes_cause file type bytes =
     unless_failed file
     (if not (length bytes % type_size type == 0) then Some (UsageError (MismatchedEntryLength type (length bytes)))
     else field_cause file (data_in type bytes))
 
--- `write_data` of a directory
+-- the error of `write_data` of a directory, if any
 unfoldable pub write_data_cause : FileState → Result FieldData TiffError → Option TiffError
 write_data_cause file value = unless_failed file (data_cause value (λ _. None))
 
--- `write_data_buf`
+-- the error of `write_data_buf`, if any
 unfoldable pub write_data_buf_cause : FileState → BufferRecord → Option TiffError
 write_data_buf_cause file b = unless_failed file (order_cause b.order None)
 
 -- ---- the end of a directory
 
--- the parent's link lies within what was written before
+-- the error of a parent's link that isn't within the file
 abbrev pub parent_cause : FileState → Option ℕ → Option TiffError
 parent_cause file None = None
 parent_cause file (Some offset) =
     if nat_lt (end_of file) (offset + offset_len file.kind) then Some (UsageError ParentNotWritten) else None
 
--- `finish`, `finish_with_offsets`, `discard`: the number of entries, a count of one, the directory's offset; the parent
+-- the error of `finish`, `finish_with_offsets` and `discard`, if any, in the order: the number of
+-- entries, the count of a field, the offset of the directory, the parent's link
 unfoldable pub finish_cause : FileState → OpenDirectory → Option TiffError
 finish_cause file d =
     unless_failed file
@@ -116,7 +119,8 @@ finish_cause file d =
     then Some IntSizeError
     else parent_cause file d.parent)
 
--- `DirectoryOffset::new`, of a directory of so many entries: this alone needs no file
+-- the error of `DirectoryOffset::new`, of a directory with a given number of entries; it doesn't
+-- depend on a file
 unfoldable pub offset_cause : FileKind → ℕ → ℕ → Option TiffError
 offset_cause kind pointer count =
     if is_past kind pointer then Some IntSizeError
@@ -125,32 +129,34 @@ offset_cause kind pointer count =
 
 -- ---- images
 
--- whether differences of the bits of these samples say nothing
+-- whether differences of samples of these formats, taken as integers, have no meaning
 abbrev pub is_not_whole : List SampleFormat → Bool
 is_not_whole [] = false
 is_not_whole (IEEEFP ∷ formats) = true
 is_not_whole (Void ∷ formats) = true
 is_not_whole (format ∷ formats) = false
 
--- a predictor that isn't for samples of these formats, which are all alike
+-- the error of a predictor that can't be used for samples of these formats; all formats of an image
+-- are the same
 abbrev pub predictor_cause : Predictor → List SampleFormat → Option TiffError → Option TiffError
 predictor_cause predictor.None formats rest = rest
 predictor_cause predictor.Horizontal formats rest = if is_not_whole formats then Some (UsageError PredictorIncompatible) else rest
 predictor_cause predictor.FloatingPoint formats rest = Some (UsageError PredictorUnavailable)
 
--- an image of these sides, at the end of a file of this length: the sides; the predictor; a resolution's offset, which no
--- BigTIFF file needs
+-- the error of an image of a width and a height at the end of a file of a length, in the order: the
+-- width and the height, the predictor, the offset of a resolution; in BigTIFF a resolution needs no
+-- offset
 unfoldable pub image_cause : FileKind → ℕ → Predictor → List SampleFormat → ℕ → ℕ → Option TiffError
 image_cause kind end predictor formats width height =
     if width == 0 || height == 0 then Some (FormatError (InvalidDimensions width height))
     else predictor_cause predictor formats (if is_past kind (resolutions_offset end + 8) then Some IntSizeError else None)
 
--- `new_image`
+-- the error of `new_image`, if any
 unfoldable pub new_image_cause : FileState → ColorTypeRecord → ℕ → ℕ → Option TiffError
 new_image_cause file color width height =
     unless_failed file (image_cause file.kind (end_of file) file.predictor color.formats width height)
 
--- `extra_samples`
+-- the error of `extra_samples`, if any
 unfoldable pub extra_samples_cause : FileState → OpenImage → List ExtraSamples → Option TiffError
 extra_samples_cause file i extra =
     unless_failed file
@@ -158,16 +164,16 @@ extra_samples_cause file i extra =
     else if nat_lt 65535 (length i.color.bits + length extra) then Some IntSizeError
     else field_cause file (data_of (extras extra)))
 
--- `rows_per_strip`: tiles have none
+-- the error of `rows_per_strip`, if any; it refuses an image of tiles
 unfoldable pub rows_per_strip_cause : FileState → OpenImage → ℕ → Option TiffError
 rows_per_strip_cause file i rows =
     unless_failed file (if rows == 0 || (is_begun i || is_tile i.form.chunk_type) then Some (IoError InvalidInput) else None)
 
--- a side of a tile is a multiple of 16
+-- whether a number can't be the width or the length of a tile, which is a multiple of 16 and not 0
 abbrev pub is_no_side : ℕ → Bool
 is_no_side n = n == 0 || not (n % 16 == 0)
 
--- `tiles`
+-- the error of `tiles`, if any
 unfoldable pub tiles_cause : FileState → OpenImage → ℕ → ℕ → Option TiffError
 tiles_cause file i width length =
     unless_failed file
@@ -175,27 +181,29 @@ tiles_cause file i width length =
     else if is_no_side width || is_no_side length then Some (IoError InvalidInput)
     else None)
 
--- `planar`
+-- the error of `planar`, if any
 unfoldable pub planar_cause : FileState → OpenImage → Option TiffError
 planar_cause file i = unless_failed file (if is_begun i then Some (UsageError ReconfiguredAfterImageWrite) else None)
 
--- `resolution`: the offset of either of its two, before one is written
+-- the error of `resolution`, if any: the offsets of both resolutions are checked before one is
+-- written
 unfoldable pub resolution_cause : FileState → Option TiffError
 resolution_cause file = unless_failed file (if is_past file.kind (end_of file + 8) then Some IntSizeError else None)
 
--- `x_resolution`, `y_resolution`: any rational number takes as many bytes
+-- the error of `x_resolution` and `y_resolution`, if any; each rational number has the same number
+-- of bytes
 unfoldable pub one_resolution_cause : FileState → Option TiffError
 one_resolution_cause file = unless_failed file (field_cause file (data_of (rationals ((1, 1) ∷ []))))
 
--- `resolution_unit`
+-- the error of `resolution_unit`, if any
 unfoldable pub resolution_unit_cause : FileState → Option TiffError
 resolution_unit_cause file = unless_failed file None
 
--- more chunks than a page can have
+-- whether an image has more chunks than a page can have
 abbrev pub is_past_chunks : OpenImage → Bool
 is_past_chunks i = nat_le (2 ^ 32) (all_chunks (image_page i))
 
--- a chunk of so many samples, which are so many bytes as they are stored
+-- the error of a chunk of a given number of samples, which is stored as a given number of bytes
 abbrev pub chunk_cause : FileState → OpenImage → ℕ → ℕ → Option TiffError
 chunk_cause file i count stored =
     if is_past_chunks i then Some IntSizeError
@@ -203,22 +211,22 @@ chunk_cause file i count stored =
     else if is_past file.kind (end_of file) || is_past file.kind stored then Some IntSizeError
     else None
 
--- `write_chunk`
+-- the error of `write_chunk`, if any
 unfoldable pub write_chunk_cause : FileState → OpenImage → ℕ → ℕ → Option TiffError
 write_chunk_cause file i count stored = unless_failed file (chunk_cause file i count stored)
 
--- `write_strip`: a tile is none
+-- the error of `write_strip`, if any; it refuses an image of tiles
 unfoldable pub write_strip_cause : FileState → OpenImage → ℕ → ℕ → Option TiffError
 write_strip_cause file i count stored =
     unless_failed file
     (if is_tile i.form.chunk_type then Some (UsageError (InvalidChunkType Strip Tile)) else chunk_cause file i count stored)
 
--- the samples of an image
+-- the number of samples of an image
 abbrev pub image_samples : OpenImage → ℕ
 image_samples i = i.width * i.height * all_samples i
 
--- `write_data` of an image, of so many samples, before its chunks and its end: behind chunks that were written it goes on
--- where the samples follow each other
+-- the error of `write_data` of an image, of a given number of samples, before a chunk is written;
+-- an image that has chunks can continue only if the samples of its chunks are in row order
 unfoldable pub write_image_data_cause : FileState → OpenImage → ℕ → Option TiffError
 write_image_data_cause file i count =
     unless_failed file

@@ -13,16 +13,16 @@ use Rattle.tiff_page.specs.Rect.{rect, chunk_of_pixel}
 use Rattle.tiff_page.specs.Pixels.{tabulate, planar_or, stored_samples}
 use Rattle.tiff_encode.specs.Machine.{ChunkLayout, OpenImage}
 
--- all samples of a pixel
+-- the number of samples of a pixel, with the extra samples
 abbrev pub all_samples : OpenImage → ℕ
 all_samples i = length i.color.bits + length i.extra
 
--- YCbCr is written without subsampling; a page of another color has what is there by default
+-- YCbCr is written without subsampling; a page of another color has the default
 abbrev pub subsampling_of : PhotometricInterpretation → ℕ × ℕ
 subsampling_of YCbCr = (1, 1)
 subsampling_of _ = (2, 2)
 
--- the page that an image is to be, in the reader's words
+-- the page that the reader finds for an image
 abbrev pub image_page : OpenImage → PageRecord
 image_page i = record {
   width = i.width;
@@ -51,45 +51,48 @@ abbrev pub is_planar : PlanarConfiguration → Bool
 is_planar Planar = true
 is_planar Chunky = false
 
--- the rows of a chunk: of a strip those that the image has there, of a tile all
+-- the number of rows of a chunk: a strip has the rows that the image has there, a tile has all its
+-- rows
 abbrev pub chunk_rows : PageRecord → ℕ → ℕ
 chunk_rows p k = if is_tile p.chunk_type then p.chunk_height else (rect p k).height
 
--- the samples of a row of a chunk, and of all its rows
+-- the number of samples of a row of a chunk, and of all its rows
 abbrev pub row_samples : PageRecord → ℕ
 row_samples p = p.chunk_width * stored_samples p
 
 abbrev pub chunk_samples : PageRecord → ℕ → ℕ
 chunk_samples p k = chunk_rows p k * row_samples p
 
--- whether a chunk was written
+-- whether a chunk is in the file
 abbrev pub is_begun : OpenImage → Bool
 is_begun i = nat_lt 0 (length i.chunks)
 
--- whether a chunk is left, and how many are
+-- whether a chunk is left to write, and how many are left
 abbrev pub is_left : OpenImage → Bool
 is_left i = nat_lt (length i.chunks) (all_chunks (image_page i))
 
 abbrev pub chunks_left : OpenImage → ℕ
 chunks_left i = all_chunks (image_page i) - length i.chunks
 
--- `next_chunk_sample_count`: the samples of the chunk that is written next, or the largest number that the call can
--- answer; 0 behind the last chunk
+-- `next_chunk_sample_count`: the number of samples of the next chunk, at most the largest number
+-- that the call can return; 0 after the last chunk
 unfoldable pub next_chunk_sample_count : OpenImage → ℕ
 next_chunk_sample_count i =
     if is_left i then min (chunk_samples (image_page i) (length i.chunks)) (2 ^ 64 - 1) else 0
 
--- `next_strip_sample_count`: the same of a strip; a tile is none
+-- `next_strip_sample_count`: the number of samples of the next strip, at most the largest number
+-- that the call can return; 0 after the last strip and for an image of tiles
 unfoldable pub next_strip_sample_count : OpenImage → ℕ
 next_strip_sample_count i = if is_tile i.form.chunk_type then 0 else next_chunk_sample_count i
 
--- ---- what the chunks are handed
+-- ---- the samples of the chunks
 
--- whether the samples of the chunks, one chunk after another, are those of the image in its order
+-- whether the samples of the chunks, one chunk after another, are those of the image in row order
 abbrev pub is_in_order : ChunkLayout → Bool
 is_in_order form = not (is_tile form.chunk_type) && not (is_planar form.planar)
 
--- of all samples of an image, row by row and pixel by pixel, those of a chunk; 0 for those that lie beyond the image
+-- the samples of a chunk out of all samples of an image, which are row by row and pixel by pixel; 0
+-- for a sample beyond the image
 unfoldable pub cut_out : PageRecord → List ℕ → ℕ → List ℕ
 cut_out p samples k =
     let r = rect p k in
@@ -101,7 +104,8 @@ cut_out p samples k =
     then slice_index samples (((r.y + row) * p.width + (r.x + column)) * p.samples + sample)
     else 0)
 
--- what `write_data` hands to the chunk that follows k others: samples in their order, or what is cut out of the image
+-- the samples that `write_data` passes to the chunk after k others: the next samples in row order,
+-- or the samples cut out of the image
 abbrev pub part : OpenImage → List ℕ → ℕ → List ℕ
 part i samples k =
     let p = image_page i in
@@ -110,11 +114,11 @@ part i samples k =
     then take (chunk_samples p chunk) (drop (k * (p.chunk_height * row_samples p)) samples)
     else cut_out p samples chunk
 
--- the same of each chunk that is left
+-- the samples that `write_data` passes to each chunk that is left
 unfoldable pub parts_left : OpenImage → List ℕ → List (List ℕ)
 parts_left i samples = tabulate (chunks_left i) (part i samples)
 
--- a sample of a pixel of a page whose chunks were handed these samples
+-- a sample of a pixel of a page whose chunks have these samples
 unfoldable pub sample_in : PageRecord → List (List ℕ) → ℕ → ℕ → ℕ → ℕ
 sample_in p chunks x y sample =
     slice_index (get_or chunks (chunk_of_pixel p (planar_or p.planar sample 0) x y) [])

@@ -1,4 +1,5 @@
--- How the sink fails while an encoder writes its header, appends bytes or patches a link.
+-- The ways in which the sink fails while an encoder writes its header, appends bytes or overwrites
+-- a link.
 use Rattle.std.specs.Prelude.{◌≡◌, ℕ, ◌+◌, ◌^◌, ◌<◌, Bool, List, ◌++◌, length, take, Option, Some, None, IsSome, nat_le}
 use Rattle.tiff_base.specs.declared.error.TiffError.{TiffError}
 use Rattle.tiff_base.specs.declared.error.TiffError.TheVariants.{UsageError}
@@ -10,7 +11,8 @@ use Rattle.tiff_base.specs.SourceAndSink.{put, sink_error}
 use Rattle.tiff_encode.specs.Machine.{FileState}
 use Rattle.tiff_encode.specs.FileBytes.{offset_len, header_bytes}
 
--- The sink failed while the header was written: it was left with a beginning of it, one more failure, and its fault.
+-- The sink failed while the header was written: it has the first bytes of the header, one more
+-- failure, and the cause of that failure.
 pub record HeaderFails {S : Type 0} (kind : FileKind) (told : S → List ℕ) (failures : S → ℕ) (fault : S → Option SinkFault)
     (sink : S) (e : TiffError) : Type 0 where
   pub last : S
@@ -22,17 +24,18 @@ pub record HeaderFails {S : Type 0} (kind : FileKind) (told : S → List ℕ) (f
   pub tells : fault last ≡ Some cause
   pub answer : e ≡ sink_error cause
 
--- an offset or a length that a classic file can't hold
+-- whether a number is an offset or a length that a classic file can't hold
 abbrev pub is_too_far : ℕ → Bool
 is_too_far n = nat_le (2 ^ 32) n
 
--- An earlier write failed: nothing is done.
+-- An earlier write failed: the call does nothing.
 pub record AppendIsStopped (e : TiffError) (old new : FileState) : Type 0 where
   pub fault : e ≡ UsageError WriterFailed
   pub failed : IsSome old.fault
   pub same : new ≡ old
 
--- The sink failed while this was appended: a beginning of it stands, and nothing is written after it.
+-- The sink failed while these bytes were appended: the file has the first of these bytes, and
+-- nothing is written after them.
 pub record AppendIsCut (appended : List ℕ) (e : TiffError) (old new : FileState) : Type 0 where
   pub fresh : old.fault ≡ None
   pub fault : SinkFault
@@ -45,7 +48,8 @@ pub record AppendIsCut (appended : List ℕ) (e : TiffError) (old new : FileStat
     fault = Some fault;
   }
 
--- All was appended, and the sink failed while the link at an offset was written: it holds a beginning of the new bytes.
+-- All bytes were appended, and the sink failed while the link at an offset was written: the link
+-- has the first of the new bytes.
 pub record IsTorn (appended : List ℕ) (parent directory : ℕ) (e : TiffError) (old new : FileState) : Type 0 where
   pub fresh : old.fault ≡ None
   pub fault : SinkFault

@@ -1,4 +1,5 @@
--- How a call of the writer ends: as it is told, or with a failed sink or want of memory (this project's).
+-- How a call of the encoder ends: as specified, or with a failed sink, or out of memory (this
+-- project's).
 use Rattle.std.specs.Prelude.{◌≡◌, ℕ, ◌+◌, ◌<◌, ◌≤◌, ◌⊎◌, List, [], ◌∷◌, ◌++◌, length, take, Some, None, Result, Ok, Err}
 use Rattle.tiff_base.specs.declared.error.TiffError.{TiffError}
 use Rattle.tiff_base.specs.declared.error.TiffError.TheVariants.{OutOfMemory}
@@ -9,13 +10,13 @@ use Rattle.tiff_encode.specs.FileBytes.{offset_len}
 use Rattle.tiff_encode.specs.Deeds.{Deed, Linked, all_appended}
 use Rattle.tiff_encode.specs.Machine.{FileState, WriteOutcome}
 
--- The call answers what is told, which may be its refusal, and the file is as told.
+-- The result of the call, which can be an error, and the file after it are as specified.
 pub record IsTold {A : Type 0} (told : WriteOutcome A) (r : Result A TiffError) (new : FileState) : Type 0 where
   pub answer : told.answer ≡ r
   pub state : new ≡ told.next
 
--- The sink failed while the call appended: a beginning of what it appends stands, nothing followed, and the encoder is
--- marked by the fault that the sink told.
+-- The sink failed while the call appended: the file has the first of the bytes that the call
+-- appends, nothing is written after them, and the encoder keeps the error of the sink.
 pub record IsCutOff (deeds : List Deed) (e : TiffError) (old new : FileState) : Type 0 where
   pub fresh : old.fault ≡ None
   pub fault : SinkFault
@@ -29,7 +30,8 @@ pub record IsCutOff (deeds : List Deed) (e : TiffError) (old new : FileState) : 
         fault = Some fault;
       }
 
--- All was appended, and the sink failed while the last deed, a link, was written: it holds a beginning of the new bytes.
+-- All bytes were appended, and the sink failed while the last write, a link, was made: the link has
+-- the first of the new bytes.
 pub record IsTornOff (deeds : List Deed) (e : TiffError) (old new : FileState) : Type 0 where
   pub fresh : old.fault ≡ None
   pub fault : SinkFault
@@ -47,14 +49,15 @@ pub record IsTornOff (deeds : List Deed) (e : TiffError) (old new : FileState) :
         fault = Some fault;
       }
 
--- Some deeds were done before a fault was told, or there was none: a cause that is met before the first deed is told
--- before memory is taken.
+-- The call returns no error, or it made some writes before the error: an error that applies before
+-- the first write is returned before memory is allocated.
 abbrev pub HasBegun : {A : Type 0} → Result A TiffError → List Deed → Type 0
 HasBegun (Err e) [] = ⊥
 HasBegun (Err e) (deed ∷ deeds) = Unit {0}
 HasBegun (Ok x) deeds = Unit {0}
 
--- The encoder itself found no memory: a beginning of what the call appends stands, unused.
+-- The encoder itself is out of memory: the file has the first of the bytes that the call appends,
+-- unused.
 pub record IsShortOfMemory {A : Type 0} (told : WriteOutcome A) (e : TiffError) (old new : FileState) : Type 0 where
   pub fresh : old.fault ≡ None
   pub fault : e ≡ OutOfMemory
@@ -63,23 +66,25 @@ pub record IsShortOfMemory {A : Type 0} (told : WriteOutcome A) (e : TiffError) 
   pub within : count ≤ length (all_appended old.kind told.deeds)
   pub state : new ≡ record old { bytes = old.bytes ++ take count (all_appended old.kind told.deeds) }
 
--- Why a call answers a fault: as it is told; or the sink failed; or there was no memory.
+-- Why a call returns an error: as specified; or the sink failed; or the encoder is out of memory.
 abbrev pub CallFails : {A : Type 0} → WriteOutcome A → TiffError → FileState → FileState → Type 0
 CallFails told e old new =
     IsTold told (Err e) new
     ⊎ (IsCutOff told.deeds e old new ⊎ (IsTornOff told.deeds e old new ⊎ IsShortOfMemory told e old new))
 
--- A call's result, seen by view, and the file before and after it.
+-- The result of a call, as `view` maps it, and the file before and after the call.
 abbrev pub Ends : {X Y : Type 0} → (X → Y) → WriteOutcome Y → Result X TiffError → FileState → FileState → Type 0
 Ends view told (Ok x) old new = IsTold told (Ok (view x)) new
 Ends view told (Err e) old new = CallFails told e old new
 
--- The same where it is a fault.
+-- A call that returns an error, and the file before and after it; nothing is stated of a call that
+-- succeeds.
 abbrev pub EndsRefused : {X Y : Type 0} → WriteOutcome Y → Result X TiffError → FileState → FileState → Type 0
 EndsRefused told (Ok x) old new = Unit {0}
 EndsRefused told (Err e) old new = CallFails told e old new
 
--- The same where the answer is not told on.
+-- A call, and the file before and after it, where the caller drops the result of a call that
+-- succeeds.
 abbrev pub EndsSilently : {X Y : Type 0} → WriteOutcome Y → Result X TiffError → FileState → FileState → Type 0
 EndsSilently {Y = Y} told (Ok x) old new = (y : Y) × IsTold told (Ok y) new
 EndsSilently told (Err e) old new = CallFails told e old new

@@ -1,4 +1,4 @@
--- A directory that is open takes over the fields of another.
+-- An open directory takes the fields of another directory.
 use Rattle.std.specs.Prelude.{◌≡◌, ℕ, List, take, Result, MatchResult}
 use Rattle.tiff_base.specs.declared.error.TiffError.{TiffError}
 use Rattle.tiff_base.specs.declared.error.TiffError.TheVariants.{OutOfMemory}
@@ -7,7 +7,8 @@ use Rattle.tiff_encode.specs.Machine.{OpenDirectory}
 use Rattle.tiff_encode.specs.Calls.{extend_from}
 
 module _ {A : Type 0} where
-  -- It has them all, in place of its own for their tags; or there was no memory, and it has those up to one.
+  -- The directory has all given fields, which replace its own fields of the same tags; or memory is
+  -- out, and it has the fields before the one that failed.
   abbrev pub Extends : List (ℕ × Field) → OpenDirectory → OpenDirectory → Result A TiffError → Type 0
   Extends given old new r =
       MatchResult r

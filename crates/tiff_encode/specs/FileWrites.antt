@@ -11,7 +11,8 @@ use Rattle.tiff_encode.specs.declared.encoder.settings.Compression.{Compression}
 use Rattle.tiff_encode.specs.Machine.{FileState, compression_method}
 use Rattle.tiff_encode.specs.Encoder.{AppendIsStopped, AppendIsCut, IsTorn}
 
--- the file of an encoder of a kind, by its writer, the offset of the chain's last link, and what images are written by
+-- the file of an encoder, from its kind, its writer, the offset of the last link of the IFD chain,
+-- and the settings of images
 abbrev pub file_of : FileKind → Written → ℕ → Predictor → Compression → FileState
 file_of kind w chain predictor compression = record {
   kind = kind;
@@ -23,22 +24,23 @@ file_of kind w chain predictor compression = record {
   method = compression_method compression;
 }
 
--- Until a write fails, the writer stands at the end; the chain's last link lies within the bytes.
+-- The writer is at the end of the file if no write failed, and the last link of the IFD chain is
+-- within the bytes of the file.
 pub record StandsAtEnd (kind : FileKind) (w : Written) (chain : ℕ) : Type 0 where
   pub at_end : w.fault ≡ None → w.at ≡ length w.bytes
   pub linked : chain + offset_len kind ≤ length w.bytes
 
--- the file after bytes were appended
+-- the file with bytes appended
 abbrev pub file_with_bytes : FileState → List ℕ → FileState
 file_with_bytes file xs = record file { bytes = file.bytes ++ xs }
 
 module _ {A : Type 0} where
-  -- the bytes were appended; or an earlier write failed; or the sink failed
+  -- bytes are appended; or an earlier write failed; or the sink fails
   abbrev pub AppendsToFile : List ℕ → FileState → FileState → Result A TiffError → Type 0
   AppendsToFile xs old new r =
       MatchResult r (λ _. (old.fault ≡ None) × (new ≡ file_with_bytes old xs)) (λ e. AppendIsStopped e old new ⊎ AppendIsCut xs e old new)
 
-  -- the link at an offset points to a directory; or an earlier write failed; or the sink failed
+  -- the link at an offset points to a directory; or an earlier write failed; or the sink fails
   abbrev pub PointsLink : ℕ → ℕ → FileState → FileState → Result A TiffError → Type 0
   PointsLink parent directory old new r =
       MatchResult r

@@ -1,5 +1,5 @@
--- What the fields of a directory were given, and when they and the chunks that were written are those of an image (this
--- project's).
+-- The values of the fields of a directory, and when these values and the chunks in the file are
+-- those of an image (this project's).
 use Rattle.std.specs.Prelude.{◌≡◌, ℕ, ◌^◌, ◌<◌, ◌⊎◌, ◌==◌, Bool, true, false, List, [], ◌∷◌, length, map, get_or, slice_index, Option, Some, None, Ok}
 use Rattle.std.specs.FinMap.{FinMap, get}
 use Rattle.std.specs.List.{list_any}
@@ -41,7 +41,7 @@ use Rattle.tiff_encode.specs.Calls.{extended_by_first}
 use Rattle.tiff_encode.specs.Stored.{unpacked_chunk}
 use Rattle.tiff_encode.specs.Shows.{Image, Shows, page_at}
 
--- the tags that a page is read by
+-- the tags that describe a page
 abbrev pub page_tag_numbers : List ℕ
 page_tag_numbers = map tag_number (tag.ImageWidth ∷ tag.ImageLength ∷ tag.BitsPerSample ∷ tag.Compression
     ∷ tag.PhotometricInterpretation ∷ tag.StripOffsets ∷ tag.SamplesPerPixel ∷ tag.RowsPerStrip
@@ -51,46 +51,47 @@ page_tag_numbers = map tag_number (tag.ImageWidth ∷ tag.ImageLength ∷ tag.Bi
 abbrev pub is_page_tag : ℕ → Bool
 is_page_tag n = list_any (λ m. m == n) page_tag_numbers
 
--- ---- what was handed in for tags
+-- ---- the values of tags
 
--- the values that were handed in for each tag, by its number
+-- the values that the caller passed for each tag, by its number
 abbrev pub Given : Type 0
 Given = ℕ → Option Scalars
 
--- A field has the type and the number of some values, whose bytes were handed in for it.
+-- A field has the type and the count of some values, and the model has their bytes for the field.
 pub record HasValues (m : Model) (f : Field) (values : Scalars) : Type 0 where
   pub field_type : f.field_type ≡ (data_of values).field_type
   pub count : f.count ≡ (data_of values).count
   pub whole : length f.value ≡ 8
   pub handed : In (record { field = f; bytes = (data_of values).bytes }) m.handed
 
--- a tag has a field with its values, or neither
+-- a tag has a field with the values passed for it, or it has neither field nor values
 abbrev pub HoldsAt : Model → Option Field → Option Scalars → Type 0
 HoldsAt m (Some f) (Some values) = HasValues m f values
 HoldsAt m None None = Unit {0}
 HoldsAt m _ _ = ⊥
 
--- the fields of a directory hold these values at the tags that a page is read by
+-- the fields of a directory have these values at the tags that describe a page
 abbrev pub HoldsValues : Model → FinMap nat_cmp Field → Given → Type 0
 HoldsValues m fields given = (t : ℕ) → is_page_tag t ≡ true → HoldsAt m (get fields t) (given t)
 
--- ---- what an image says of itself
+-- ---- the tags of an image
 
--- samples of YCbCr are not subsampled
+-- YCbCr samples are written without subsampling
 abbrev pub chroma_given : PhotometricInterpretation → Option Scalars
 chroma_given YCbCr = Some (u16s (1 ∷ 1 ∷ []))
 chroma_given _ = None
 
--- that each chunk has the samples of one plane is said, that it has all is not
+-- a planar image has the tag `PlanarConfiguration`, a chunky image doesn't
 abbrev pub planar_given : PlanarConfiguration → Option Scalars
 planar_given Planar = Some (planars (Planar ∷ []))
 planar_given Chunky = None
 
--- extra samples; where there are none, an empty list or nothing
+-- the tag of the extra samples has their list; if there are none, it has an empty list or is absent
 abbrev pub ExtraGiven : List ExtraSamples → Option Scalars → Type 0
 ExtraGiven extra given = (given ≡ Some (extras extra)) ⊎ ((extra ≡ []) × (given ≡ None))
 
--- the rows of a strip, where the strips stand and how many bytes each has there; no tiles
+-- the tags of the rows of a strip, the offsets of the strips and their byte counts; no tags of
+-- tiles
 pub record TellsStrips (kind : FileKind) (i : OpenImage) (given : Given) : Type 0 where
   pub rows : given (tag_number tag.RowsPerStrip) ≡ Some (u32s (i.form.chunk_height ∷ []))
   pub offsets : given (tag_number tag.StripOffsets) ≡ Some (offset_values kind (map (λ chunk. chunk.offset) i.chunks))
@@ -98,7 +99,8 @@ pub record TellsStrips (kind : FileKind) (i : OpenImage) (given : Given) : Type 
   pub no_offsets : given (tag_number tag.TileOffsets) ≡ None
   pub no_byte_counts : given (tag_number tag.TileByteCounts) ≡ None
 
--- the sides of a tile, where the tiles stand and how many bytes each has there; no strips
+-- the tags of the width and the length of a tile, the offsets of the tiles and their byte counts;
+-- no tags of strips
 pub record TellsTiles (kind : FileKind) (i : OpenImage) (given : Given) : Type 0 where
   pub width : given (tag_number tag.TileWidth) ≡ Some (u32s (i.form.chunk_width ∷ []))
   pub height : given (tag_number tag.TileLength) ≡ Some (u32s (i.form.chunk_height ∷ []))
@@ -111,7 +113,7 @@ abbrev pub TellsChunks : ChunkType → FileKind → OpenImage → Given → Type
 TellsChunks Strip kind i given = TellsStrips kind i given
 TellsChunks Tile kind i given = TellsTiles kind i given
 
--- The values of the tags of a page are those that an image says of itself.
+-- The values of the tags that describe a page are those of an image.
 pub record TellsImage (kind : FileKind) (i : OpenImage) (given : Given) : Type 0 where
   pub width : given (tag_number tag.ImageWidth) ≡ Some (u32s (i.width ∷ []))
   pub height : given (tag_number tag.ImageLength) ≡ Some (u32s (i.height ∷ []))
@@ -128,9 +130,10 @@ pub record TellsImage (kind : FileKind) (i : OpenImage) (given : Given) : Type 0
 
 -- ---- an image with all its chunks
 
--- An image as an encoder of a file of a kind makes one, all of whose chunks were written: of a named color type; with
--- sides; with fewer samples a pixel than 2^16; packed and differenced in a way that is written; and its chunks' offsets
--- and lengths are numbers that the kind can hold.
+-- An image that an encoder of a kind of file can make, with all its chunks in the file: it has a
+-- named color type; its width and height aren't 0; it has fewer than 2^16 samples per pixel; its
+-- compression and its predictor are supported; and the offsets and byte counts of its chunks fit
+-- the kind of file.
 pub record IsWholeImage (kind : FileKind) (i : OpenImage) : Type 0 where
   pub name : ColorTypeName
   pub color : i.color ≡ color_type name
@@ -151,36 +154,38 @@ pub record IsWholeImage (kind : FileKind) (i : OpenImage) : Type 0 where
 abbrev pub samples_of_chunk : List (List ℕ) → ℕ → List ℕ
 samples_of_chunk samples k = get_or samples k []
 
--- Each chunk of an image was handed as many samples as it has, each a number of the bytes of a sample.
+-- Each chunk of an image has its number of samples, and each sample is a number of the bytes of a
+-- sample.
 pub record AreHanded (i : OpenImage) (samples : List (List ℕ)) : Type 0 where
   pub lengths : (k : ℕ) → k < all_chunks (image_page i) → length (samples_of_chunk samples k) ≡ chunk_samples (image_page i) k
   pub small : (k n : ℕ) → get_or (samples_of_chunk samples k) n 0 < 256 ^ i.size
 
--- these bytes stand for the samples of a chunk
+-- these bytes store the samples of a chunk
 abbrev pub StandsFor : OpenImage → List (List ℕ) → ℕ → List ℕ → Type 0
 StandsFor i samples k stored =
     (length stored ≡ slice_index (image_page i).byte_counts k)
     × IsStored i.method stored (unpacked_chunk i (samples_of_chunk samples k))
 
--- the file has bytes that stand for the samples of each chunk
+-- the file has bytes that store the samples of each chunk
 abbrev pub HasChunks : List ℕ → OpenImage → List (List ℕ) → Type 0
 HasChunks file i samples =
     (k : ℕ) → k < all_chunks (image_page i)
     → (stored : List ℕ) × ((exactly_at file (slice_index (image_page i).offsets k) (length stored) ≡ Ok stored) × StandsFor i samples k stored)
 
--- they are regions of the model
+-- the model has a region that stores the samples of each chunk
 abbrev pub RegionsHaveChunks : Model → OpenImage → List (List ℕ) → Type 0
 RegionsHaveChunks m i samples =
     (k : ℕ) → k < all_chunks (image_page i)
     → (stored : List ℕ) × (In (record { offset = slice_index (image_page i).offsets k; bytes = stored }) m.regions × StandsFor i samples k stored)
 
--- an image of these samples
+-- an image with these samples
 abbrev pub image_with : OpenImage → List (List ℕ) → Image
 image_with i samples = record { page = image_page i; sample_at = sample_in (image_page i) samples }
 
 -- ---- the laws
 
--- The page has a color, none of its chunks has too few data, and each sample that its color shows is this one.
+-- The page has a color, no chunk of it has too few data, and each sample that its color shows is
+-- the given one.
 pub record ShowsSamples (file : List ℕ) (page : PageRecord) (sample_at : ℕ → ℕ → ℕ → ℕ) : Type 0 where
   pub color : ColorType
   pub is_color : color_of page ≡ Ok color
@@ -188,20 +193,20 @@ pub record ShowsSamples (file : List ℕ) (page : PageRecord) (sample_at : ℕ �
   pub shows : (x y sample : ℕ) → x < page.width → y < page.height → sample < num_samples color
       → shown_sample file LittleEndian page x y sample ≡ sample_at x y sample
 
--- a directory that holds what an image says of itself is the image's page
+-- a directory with the values that describe an image is the page of that image
 abbrev pub PageTold : Type 0
 PageTold = (kind : FileKind) (file : List ℕ) (m : Model) (d : FinishedDirectory) (fields : FinMap nat_cmp Field) (given : Given) (i : OpenImage)
     → Stands kind file m → In d m.directories → d.fields ≡ standing_fields kind fields → HoldsValues m fields given
     → IsWholeImage kind i → TellsImage kind i given
     → page_at kind file d.offset unlimited ≡ Ok (image_page i)
 
--- chunks that stand for samples show them
+-- chunks that store samples show these samples
 abbrev pub ChunksShow : Type 0
 ChunksShow = (kind : FileKind) (file : List ℕ) (i : OpenImage) (samples : List (List ℕ))
     → IsWholeImage kind i → AreHanded i samples → HasChunks file i samples
     → ShowsSamples file (image_page i) (sample_in (image_page i) samples)
 
--- what stands and holds an image shows it
+-- a file that contains a model with an image shows that image
 abbrev pub ImagesShow : Type 0
 ImagesShow = (kind : FileKind) (file : List ℕ) (m : Model) (d : FinishedDirectory) (fields : FinMap nat_cmp Field) (given : Given) (i : OpenImage) (samples : List (List ℕ))
     → Stands kind file m → In d m.directories → d.fields ≡ standing_fields kind fields → HoldsValues m fields given

@@ -1,4 +1,4 @@
--- What steps of an image reply, family by family (this project's).
+-- The replies to the steps of an image (this project's).
 use Rattle.std.specs.Prelude.{◌≡◌, ℕ, true, List, Result, Ok, Err}
 use Rattle.tiff_base.specs.declared.error.TiffError.{TiffError}
 use Rattle.tiff_base.specs.declared.tags.ResolutionUnit.{ResolutionUnit}
@@ -9,12 +9,12 @@ use Rattle.tiff_encode.specs.JobValues.{cut_to}
 use Rattle.tiff_encode.specs.Jobs as jobs
 use Rattle.tiff_encode.specs.Stepping.{DrawMoves}
 
--- what a call that answers nothing replies
+-- the reply to a call that returns `()`
 abbrev pub reply_to : Result (Unit {0}) TiffError → Result StepReply TiffError
 reply_to (Ok x) = Ok reply.Nothing
 reply_to (Err e) = Err e
 
--- `write_strip` and `write_chunk` of the lowest bits of numbers
+-- `write_strip` and `write_chunk` of samples, each of which is the lowest bits of a number
 abbrev pub StripDraws : OpenImage → List ℕ → Result StepReply TiffError → FileState → FileState → OpenImage → Type 0
 StripDraws i numbers r =
     DrawMoves i (λ s before t after. jobs.StripStepIfFound before (cut_to before.image.size numbers) r s t after) true

@@ -1,4 +1,4 @@
--- What is held of an image that a job ends (this project's).
+-- What the model records of an image that a job ends (this project's).
 use Rattle.std.specs.Prelude.{◌≡◌, ℕ, ◌++◌, List, Option, Some}
 use Rattle.tiff_encode.specs.Machine.{OpenImage}
 use Rattle.tiff_encode.specs.Calls.{Offsets}
@@ -8,7 +8,8 @@ use Rattle.tiff_encode.specs.Open.{HoldsOpen}
 use Rattle.tiff_encode.specs.Jobs.{Standing}
 use Rattle.tiff_encode.specs.Stepping.{IsHeld}
 
--- an image that was held while it was open, with the samples that its chunks had and those that the rest of them get
+-- the model records an image that ended, if it recorded the open image: with the samples of its
+-- chunks and those that the other chunks get
 abbrev pub DataHeld : OpenImage → List ℕ → Standing → Standing → Option Offsets → Type 0
 DataHeld i samples s t offset =
     (before all : List (List ℕ)) (o : Offsets) → HoldsOpen s.file.kind s.model i before → offset ≡ Some o

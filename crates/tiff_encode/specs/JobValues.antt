@@ -1,4 +1,4 @@
--- What the values of a job are (this project's).
+-- The values of a job (this project's).
 use Rattle.std.specs.Prelude.{ℕ, ◌^◌, ◌%◌, List, map, string_bytes, Result, Ok}
 use Rattle.tiff_base.specs.declared.error.TiffError.{TiffError}
 use Rattle.tiff_value.specs.Buffer.{BufferRecord}
@@ -8,7 +8,7 @@ use Rattle.tiff_encode.specs.declared.encoder.script.JobValue.{JobValue}
 use Rattle.tiff_encode.specs.declared.encoder.script.JobValue.TheVariants as v
 use Rattle.tiff_encode.specs.declared.encoder.script.JobBuffer.{JobBuffer}
 
--- a value that is handed in, or why it can't be written
+-- the data of a value, or the error that says why it can't be written
 abbrev pub value_data : JobValue → Result FieldData TiffError
 value_data (v.U8 l) = Ok (data_of (data_.u8s l.items))
 value_data (v.I8 l) = Ok (data_of (data_.i8s l.items))
@@ -36,6 +36,6 @@ value_data (v.Text text) = text_data (string_bytes text)
 abbrev pub buffer_in : JobBuffer → BufferRecord
 buffer_in b = record { order = b.order; data_type = b.data_type; bytes = b.bytes.items }
 
--- samples, cut to numbers of so many bytes
+-- samples, each cut to a number of `size` bytes
 abbrev pub cut_to : ℕ → List ℕ → List ℕ
 cut_to size samples = map (λ n. n % 256 ^ size) samples

@@ -1,4 +1,5 @@
--- Lists of jobs: what each step of each job replies, and what stands after it (this project's).
+-- Lists of jobs: the reply to each step of each job, and what the file contains after it (this
+-- project's).
 use Rattle.std.specs.Prelude.{◌≡◌, ℕ, ◌<◌, ◌⊎◌, ◌&&◌, Bool, true, false, not, List, [], ◌∷◌, ◌++◌, length, take, drop, slice_get, if◌then◌else◌, Option, Some, None, Result, Ok, Err}
 use Rattle.std.specs.FinMap.{entries}
 use Rattle.std.specs.List.{list_any}
@@ -45,63 +46,64 @@ use Rattle.tiff_value.specs.Packed.{IsStored}
 pub use Rattle.tiff_encode.specs.Held.{page_tag_numbers, is_page_tag, image_with}
 use Rattle.tiff_encode.specs.JobValues.{value_data, buffer_in, cut_to}
 
--- a file, and the model of what was written into it
+-- a file, and the model of what it contains
 pub record Standing : Type 0 where
   pub file : FileState
   pub model : Model
 
--- The call answers what is told; what it did stands.
+-- The call has the specified result, and the model has all its writes.
 pub record IsDone {A : Type 0} (told : WriteOutcome A) (r : Result A TiffError) (old new : Standing) : Type 0 where
   pub ended : IsTold told r new.file
   pub model : new.model ≡ model_after old.file.kind old.file.bytes old.model told.deeds
 
--- The sink failed while a link was patched: its field holds some number, and all that was done before stands, the new
--- directory with link 0 too.
+-- The sink failed while a link was overwritten: the link has some number, and the model has all
+-- writes before it, also the directory, with link 0.
 pub record IsTornAway {A : Type 0} (told : WriteOutcome A) (e : TiffError) (old new : Standing) : Type 0 where
   pub torn : IsTornOff told.deeds e old.file new.file
   pub holds : ℕ
   pub model : new.model ≡ with_link old.file.kind (model_after old.file.kind old.file.bytes old.model torn.before) torn.offset holds
 
--- The sink failed while the call appended: what stood stands.
+-- The sink failed while the call appended: the model doesn't change.
 abbrev pub IsCutShort : {A : Type 0} → WriteOutcome A → TiffError → Standing → Standing → Type 0
 IsCutShort told e old new = (new.model ≡ old.model) × IsCutOff told.deeds e old.file new.file
 
--- There was no memory: what stood stands.
+-- The encoder is out of memory: the model doesn't change.
 abbrev pub IsWithoutMemory : {A : Type 0} → WriteOutcome A → TiffError → Standing → Standing → Type 0
 IsWithoutMemory told e old new = (new.model ≡ old.model) × IsShortOfMemory told e old.file new.file
 
--- The call is refused, as it is told: what stood stands.
+-- The call returns the specified error: the model doesn't change.
 abbrev pub IsRefused : {A : Type 0} → WriteOutcome A → TiffError → Standing → Standing → Type 0
 IsRefused told e old new = (new.model ≡ old.model) × IsTold told (Err e) new.file
 
--- The call answers a fault: its cause; or the sink's, or want of memory.
+-- The call returns an error: the specified one, or that of the sink, or `OutOfMemory`.
 abbrev pub Refuses : {A : Type 0} → WriteOutcome A → TiffError → Standing → Standing → Type 0
 Refuses told e old new =
     IsRefused told e old new
     ⊎ (IsTornAway told e old new ⊎ (IsCutShort told e old new ⊎ IsWithoutMemory told e old new))
 
--- What is open stays as it was: so it does in each call that is lent it and refused.
+-- The open directory or image doesn't change, as after each call that borrows it and returns an
+-- error.
 abbrev pub Stays : {S : Type 0} → S → S → Type 0
 Stays s t = t ≡ s
 
--- There was no memory, and nothing was done.
+-- There is no memory, and the call does nothing.
 abbrev pub IsNotCalled : TiffError → Standing → Standing → Type 0
 IsNotCalled e old new = (e ≡ OutOfMemory) × (new ≡ old)
 
--- ---- steps: of what is open before them and after them
+-- ---- steps: the open directory or image before and after a step
 
--- a call that gives what is open then, and replies nothing
+-- a call that returns the changed directory or image; the reply is `Nothing`
 abbrev pub Changes : {S : Type 0} → Writing S → S → Result StepReply TiffError → Standing → Standing → S → Type 0
 Changes call s (Ok reply.Nothing) old new t = IsDone (call old.file) (Ok t) old new
 Changes call s (Ok _) old new t = ⊥
 Changes call s (Err e) old new t = Stays s t × Refuses (call old.file) e old new
 
--- a call that leaves what is open, and replies what it answers
+-- a call that doesn't change the open directory or image; the reply is the result of the call
 abbrev pub Replies : {S A : Type 0} → (A → StepReply) → Writing A → S → Result StepReply TiffError → Standing → Standing → S → Type 0
 Replies {A = A} view call s (Ok r) old new t = Stays s t × ((x : A) × ((r ≡ view x) × IsDone (call old.file) (Ok x) old new))
 Replies view call s (Err e) old new t = Stays s t × Refuses (call old.file) e old new
 
--- fields that are given to a directory: after want of memory the first ones of them
+-- fields that a directory takes from another one; after `OutOfMemory` it has the first of them
 abbrev pub ExtendStep : List (ℕ × Field) → OpenDirectory → Result StepReply TiffError → Standing → Standing → OpenDirectory → Type 0
 ExtendStep fields d (Ok reply.Nothing) old new e = (e ≡ calls.extend_from d fields) × (new ≡ old)
 ExtendStep fields d (Ok _) old new e = ⊥
@@ -118,16 +120,17 @@ DirectoryStepped old d (step.WriteEntryBuf b) r new e = Replies reply.Written (c
 DirectoryStepped old d (step.WriteEntryBytes type bytes) r new e = Replies reply.Written (calls.write_entry_bytes type bytes.items) d r old new e
 DirectoryStepped old d (step.ExtendFrom given) r new e = ExtendStep (entries given.entries) d r old new e
 
--- an open image, and the samples that each of its chunks was handed: no encoder keeps them
+-- an open image, and the samples that each of its chunks got; an encoder doesn't keep these samples
 pub record Drawn : Type 0 where
   pub image : OpenImage
   pub samples : List (List ℕ)
 
--- a call that gives what is open then, of an image: its chunks and their samples stay
+-- a call that returns the changed image, with the same chunks and samples
 abbrev pub DrawStep : (OpenImage → Writing OpenImage) → Drawn → Result StepReply TiffError → Standing → Standing → Drawn → Type 0
 DrawStep call i r old new t = (t.samples ≡ i.samples) × Changes (call i.image) i.image r old new t.image
 
--- `resolution` was refused for memory, or by the sink, between its three tags: the first ones of them stand
+-- `resolution` ended between its three tags because memory was out or the sink failed: the first of
+-- the tags are set
 abbrev pub ResolvesInPart : OpenImage → List (Tag × Scalars) → TiffError → Standing → Standing → OpenImage → Type 0
 ResolvesInPart i values e old new t =
     (resolution_cause old.file ≡ None) × ((k : ℕ) × ((k < length values) × ((mid : Standing)
@@ -140,10 +143,10 @@ Resolves i u value (Ok r) old new t = Changes (calls.resolution i u value) i (Ok
 Resolves i u value (Err e) old new t =
     Changes (calls.resolution i u value) i (Err e) old new t ⊎ ResolvesInPart i (calls.resolution_tags u value) e old new t
 
--- `write_strip` or `write_chunk`, of so many samples that are stored as some bytes
+-- `write_strip` or `write_chunk`, of a given number of samples that are stored as some bytes
 module _ (call : OpenImage → ℕ → List ℕ → Writing OpenImage) where
-  -- A chunk that may be written is: it is stored as some bytes that it may be stored as, or the sink fails; or there is no
-  -- memory for them, and nothing is done.
+  -- A chunk for which no error applies is stored as bytes that store its samples, or the sink
+  -- fails; or there is no memory, and the call does nothing.
   abbrev pub StoreStep : OpenImage → List ℕ → Result StepReply TiffError → Standing → Standing → OpenImage → Type 0
   StoreStep i samples (Ok reply.Nothing) old new t =
       (stored : List ℕ) × (IsStored i.method stored (unpacked_chunk i samples)
@@ -155,7 +158,7 @@ module _ (call : OpenImage → ℕ → List ℕ → Writing OpenImage) where
       × (IsRefused (call i (length samples) stored old.file) e old new
       ⊎ IsCutShort (call i (length samples) stored old.file) e old new))))
 
-  -- it is refused for a cause that no packing changes, or stored
+  -- the call returns an error that doesn't depend on the compressed bytes, or the chunk is stored
   abbrev pub StoresBy : Option TiffError → OpenImage → List ℕ → Result StepReply TiffError → Standing → Standing → OpenImage → Type 0
   StoresBy (Some cause) i samples r old new t = (r ≡ Err cause) × (Stays i t × (new ≡ old))
   StoresBy None i samples r old new t = StoreStep i samples r old new t
@@ -166,16 +169,16 @@ StripStep i samples r old new t = StoresBy calls.write_strip (write_strip_cause 
 abbrev pub ChunkStep : OpenImage → List ℕ → Result StepReply TiffError → Standing → Standing → OpenImage → Type 0
 ChunkStep i samples r old new t = StoresBy calls.write_chunk (write_chunk_cause old.file i (length samples) 0) i samples r old new t
 
--- the samples of a chunk that was written are kept in mind
+-- the samples of all chunks after a step; those of a chunk are added if the step wrote it
 abbrev pub samples_after : Result StepReply TiffError → Drawn → List ℕ → List (List ℕ)
 samples_after (Ok r) i samples = i.samples ++ samples ∷ []
 samples_after (Err e) i samples = i.samples
 
--- there was no memory for the samples, and the chunk isn't written
+-- there is no memory for the samples, and the chunk isn't written
 abbrev pub IsUnfound : Result StepReply TiffError → OpenImage → Standing → Standing → OpenImage → Type 0
 IsUnfound r i old new t = (r ≡ Err OutOfMemory) × (Stays i t × (new ≡ old))
 
--- a strip or a chunk, where memory for its samples is found
+-- a strip or a chunk is written, if there is memory for its samples
 abbrev pub StripStepIfFound : Drawn → List ℕ → Result StepReply TiffError → Standing → Standing → Drawn → Type 0
 StripStepIfFound i samples r old new t =
     (t.samples ≡ samples_after r i samples) × (StripStep i.image samples r old new t.image ⊎ IsUnfound r i.image old new t.image)
@@ -204,7 +207,7 @@ ImageStepped old i (istep.XResolution value) r new t = DrawStep (λ image. calls
 ImageStepped old i (istep.YResolution value) r new t = DrawStep (λ image. calls.y_resolution image (value.n, value.d)) i r old new t
 ImageStepped old i (istep.RowsPerStrip rows) r new t = DrawStep (λ image. calls.set_rows_per_strip image rows) i r old new t
 
--- each step has its reply, from where the one before it left what is open
+-- each step has its reply, and begins in the state in which the step before it ends
 module _ {S A : Type 0} (Stepped : Standing → S → A → Result StepReply TiffError → Standing → S → Type 0) where
   abbrev pub AllStepped : Standing → S → List A → List (Result StepReply TiffError) → Standing → S → Type 0
   AllStepped old s [] [] new t = (new ≡ old) × (t ≡ s)
@@ -213,7 +216,7 @@ module _ {S A : Type 0} (Stepped : Standing → S → A → Result StepReply Tif
   AllStepped old s (step ∷ steps) (r ∷ rs) new t =
       (mid : Standing) × ((next : S) × (Stepped old s step r mid next × AllStepped mid next steps rs new t))
 
--- ---- ends: the offset of a directory that is finished then
+-- ---- ends: the offsets of the directory that an end finishes
 
 -- `finish_with_offsets`
 abbrev pub FinishesWith : WriteOutcome Offsets → Result EndReply TiffError → Standing → Standing → Option Offsets → Type 0
@@ -222,7 +225,7 @@ FinishesWith told (Ok (last.Offsets pointer link)) old new offset =
 FinishesWith told (Ok last.Nothing) old new offset = ⊥
 FinishesWith told (Err e) old new offset = Refuses told e old new × (offset ≡ None)
 
--- `finish` and `discard`, which answer nothing
+-- `finish` and `discard`, which return `()`
 abbrev pub FinishesSilently : WriteOutcome Offsets → Result EndReply TiffError → Standing → Standing → Option Offsets → Type 0
 FinishesSilently told (Ok last.Nothing) old new offset = (offsets : Offsets) × (IsDone told (Ok offsets) old new × (offset ≡ Some offsets))
 FinishesSilently told (Ok _) old new offset = ⊥
@@ -232,13 +235,14 @@ abbrev pub DirectoryEnds : Standing → OpenDirectory → DirectoryEnd → Resul
 DirectoryEnds old d end.Finish r new offset = FinishesWith (calls.finish d old.file) r old new offset
 DirectoryEnds old d end.Discard r new offset = FinishesSilently (calls.finish d old.file) r old new offset
 
--- The chunks that are left are all stored, and then the image ends.
+-- All chunks that are left are stored, and then the image ends.
 abbrev pub EndsWhole : OpenImage → List ℕ → Result EndReply TiffError → Standing → Standing → Option Offsets → Type 0
 EndsWhole i samples r old new offset =
     (stored : List (List ℕ)) × (AreStored i (parts_left i samples) stored × ((length stored ≡ length (parts_left i samples))
     × FinishesSilently (calls.write_image_data i samples stored old.file) r old new offset))
 
--- Some chunks are stored: the last of them is refused, or the sink fails; or there is no memory for the next one.
+-- Some chunks are stored, and then: the last of them is refused, or the sink fails, or there is no
+-- memory for the next one.
 abbrev pub EndsWithin : OpenImage → List ℕ → Result EndReply TiffError → Standing → Standing → Type 0
 EndsWithin i samples (Ok r) old new = ⊥
 EndsWithin i samples (Err e) old new =
@@ -247,7 +251,7 @@ EndsWithin i samples (Err e) old new =
     (IsRefused told e old new
     ⊎ (IsCutShort told e old new ⊎ ((length stored < length (parts_left i samples)) × IsWithoutMemory told e old new)))))
 
--- `write_data`: it is refused for its own cause, or its chunks are written
+-- `write_data`: it returns an error that applies before a chunk is written, or it writes chunks
 abbrev pub JobWritesDataBy : Option TiffError → OpenImage → List ℕ → Result EndReply TiffError → Standing → Standing → Option Offsets → Type 0
 JobWritesDataBy (Some cause) i samples r old new offset = (r ≡ Err cause) × ((new ≡ old) × (offset ≡ None))
 JobWritesDataBy None i samples r old new offset =
@@ -256,7 +260,7 @@ JobWritesDataBy None i samples r old new offset =
 abbrev pub WritesData : OpenImage → List ℕ → Result EndReply TiffError → Standing → Standing → Option Offsets → Type 0
 WritesData i samples r old new offset = JobWritesDataBy (write_image_data_cause old.file i (length samples)) i samples r old new offset
 
--- the same, where memory for the samples is found
+-- `write_data`, if there is memory for the samples; otherwise `OutOfMemory`
 abbrev pub WritesDataIfFound : OpenImage → List ℕ → Result EndReply TiffError → Standing → Standing → Option Offsets → Type 0
 WritesDataIfFound i samples r old new offset =
     WritesData i samples r old new offset ⊎ ((r ≡ Err OutOfMemory) × ((new ≡ old) × (offset ≡ None)))
@@ -268,20 +272,20 @@ ImageEnds old i iend.Discard r new offset = FinishesSilently (calls.finish_image
 
 -- ---- jobs
 
--- an image that was finished with every chunk, at an offset, which shows it: no tag that a page is read by was handed to
--- its directory
+-- an image that is finished with all its chunks, at an offset, where the file shows it; the job
+-- passed no tag that describes a page to its directory
 pub record FinishedImage : Type 0 where
   pub offset : ℕ
   pub image : Image
 
--- a run of jobs: the file, what was written into it, for each job so far the offsets that its end answered, and the
--- images that it shows
+-- a run of jobs: the file, the model of what it contains, for each job so far the offsets that its
+-- end returned, and the images that the file shows
 pub record Run : Type 0 where
   pub standing : Standing
   pub offsets : List (Option Offsets)
   pub images : List FinishedImage
 
--- a run that begins on a sink that held these bytes, and of which so many writes failed
+-- a run that begins on a sink that has these bytes and a number of failed writes
 abbrev pub new_run : FileKind → List ℕ → ℕ → Run
 new_run kind told failures = record {
   standing = record { file = begun_file kind told failures; model = header_model kind };
@@ -289,16 +293,16 @@ new_run kind told failures = record {
   images = [];
 }
 
--- the offsets that an end answers
+-- the offsets that an end returns
 abbrev pub offsets_in : Result EndReply TiffError → Option Offsets
 offsets_in (Ok (last.Offsets pointer link)) = Some (record { pointer = pointer; link = link })
 offsets_in _ = None
 
--- the run after one more job
+-- the run after another job
 abbrev pub run_after_job : Run → Standing → Result EndReply TiffError → List FinishedImage → Run
 run_after_job run standing r images = record { standing = standing; offsets = run.offsets ++ offsets_in r ∷ []; images = images ++ run.images }
 
--- the link of the directory of an earlier job, where that answered offsets
+-- the offsets of the directory of an earlier job and of its link, if the reply to that job has them
 abbrev pub parent_of : Option (Option Offsets) → Result (Option Offsets) TiffError
 parent_of (Some (Some offsets)) = Ok (Some offsets)
 parent_of _ = Err (UsageError ParentNotWritten)
@@ -307,16 +311,16 @@ abbrev pub named_parent : List (Option Offsets) → Option ℕ → Result (Optio
 named_parent offsets None = Ok None
 named_parent offsets (Some job) = parent_of (slice_get offsets job)
 
--- the directory with this parent, if one was named
+-- the directory with a parent, if the job names one
 abbrev pub with_parent : Option Offsets → OpenDirectory → OpenDirectory
 with_parent None d = d
 with_parent (Some offsets) d = calls.set_parent d offsets
 
--- a job that a fault ends before its steps
+-- a job that returns an error before its steps
 abbrev pub IsRefusedAtOnce : TiffError → JobReply → Type 0
 IsRefusedAtOnce e r = (r.steps.items ≡ []) × (r.last ≡ Err e)
 
--- a setting
+-- a job that sets the predictor or the compression
 abbrev pub IsSet : (FileState → FileState) → Run → JobReply → Run → Type 0
 IsSet set old r new =
     (r.steps.items ≡ []) × ((r.last ≡ Ok last.Nothing)
@@ -326,12 +330,12 @@ abbrev pub open_directory : Bool → Writing OpenDirectory
 open_directory true = calls.image_directory
 open_directory false = calls.extra_directory
 
--- a directory or an image that isn't begun
+-- a job whose directory or image isn't begun
 abbrev pub JobIsNotBegun : {A : Type 0} → WriteOutcome A → Run → JobReply → Run → Type 0
 JobIsNotBegun told old r new =
     (e : TiffError) × ((s : Standing) × (IsRefusedAtOnce e r × (Refuses told e old.standing s × (new ≡ run_after_job old s r.last []))))
 
--- A directory is begun; its steps are called; it ends.
+-- A directory is begun, its steps are run, and it ends.
 pub record DirectoryRuns (told : WriteOutcome OpenDirectory) (parent : Option Offsets) (j : DirectoryJob) (r : JobReply) (old new : Run) : Type 0 where
   pub first : OpenDirectory
   pub after_begin : Standing
@@ -353,8 +357,9 @@ abbrev pub DirectoryRanBy : Run → Result (Option Offsets) TiffError → Direct
 DirectoryRanBy old (Ok parent) j r new = DirectoryRan old parent j r new
 DirectoryRanBy old (Err e) j r new = IsRefusedAtOnce e r × (new ≡ run_after_job old old.standing r.last [])
 
--- Whether a step handed no such tag to its image's directory: it hands none, or it was refused; of fields that a
--- directory is extended with the first ones are in after a refusal.
+-- Whether a step passed no tag that describes a page to the directory of its image: the step passes
+-- none, or it returned an error. `ExtendFrom` counts also after an error, because the first of its
+-- fields are set then.
 abbrev pub is_apart : ImageStep → Result StepReply TiffError → Bool
 is_apart (istep.Directory (step.ExtendFrom given)) r = not (list_any (λ entry. is_page_tag entry.0) (entries given.entries))
 is_apart (istep.Directory (step.WriteTag t value)) (Ok r) = not (is_page_tag (tag_number t))
@@ -365,12 +370,14 @@ abbrev pub are_apart : List ImageStep → List (Result StepReply TiffError) → 
 are_apart (step ∷ steps) (r ∷ rs) = is_apart step r && are_apart steps rs
 are_apart _ _ = true
 
--- the samples of all chunks of an image, where each chunk is written at its end: `write_data` writes those that are left
+-- the samples of all chunks of an image, if each chunk is in the file when the image ends;
+-- `write_data` writes those that are left
 abbrev pub ended_samples : Drawn → ImageEnd → Option (List (List ℕ))
 ended_samples i (iend.WriteData samples) = Some (i.samples ++ parts_left i.image (cut_to i.image.size samples.items))
 ended_samples i _ = if is_left i.image then None else Some i.samples
 
--- the images that an end adds: one that is finished with every chunk, and whose page tags are its own
+-- the images that an end adds: the image, if it is finished with all its chunks and the steps
+-- passed no tag that describes a page
 abbrev pub images_at : Option Offsets → Option (List (List ℕ)) → OpenImage → List FinishedImage
 images_at (Some offsets) (Some samples) i = record { offset = offsets.pointer; image = image_with i samples } ∷ []
 images_at _ _ i = []
@@ -378,7 +385,7 @@ images_at _ _ i = []
 abbrev pub job_images : List ImageStep → List (Result StepReply TiffError) → ImageEnd → Drawn → Option Offsets → List FinishedImage
 job_images steps replies e i offset = if are_apart steps replies then images_at offset (ended_samples i e) i.image else []
 
--- An image is begun; its steps are called; it ends.
+-- An image is begun, its steps are run, and it ends.
 pub record ImageRuns (told : WriteOutcome OpenImage) (j : ImageJob) (r : JobReply) (old new : Run) : Type 0 where
   pub first : OpenImage
   pub after_begin : Standing
@@ -403,26 +410,27 @@ JobRan old (job.Compression c) r new = IsSet (calls.with_compression c) old r ne
 JobRan old (job.Directory j) r new = DirectoryRanBy old (named_parent old.offsets j.parent) j r new
 JobRan old (job.Image j) r new = ImageRan old j r new
 
--- each job has its reply, from where the one before it left the run
+-- each job has its reply, and begins in the state in which the job before it ends
 abbrev pub JobsRun : Run → List Job → List JobReply → Run → Type 0
 JobsRun old [] [] new = new ≡ old
 JobsRun old [] (r ∷ rs) new = ⊥
 JobsRun old (j ∷ js) [] new = ⊥
 JobsRun old (j ∷ js) (r ∷ rs) new = (mid : Run) × (JobRan old j r mid × JobsRun mid js rs new)
 
--- what was written stands in the file
+-- the file contains the model of the run
 abbrev pub RunStands : Run → Type 0
 RunStands run = Stands run.standing.file.kind run.standing.file.bytes run.standing.model
 
--- and each image that was finished with every strip is shown
+-- the file shows each image that is finished with all its chunks
 abbrev pub RunShows : Run → Type 0
 RunShows run = (f : FinishedImage) → In f run.images → Shows run.standing.file.kind run.standing.file.bytes f.offset f.image
 
--- ---- the writer's half of what this library claims
+-- ---- what the library claims of the encoder
 
--- What stands behind a list of jobs, on a sink that held these bytes: their replies are those of a run; the sink has the
--- bytes and the failures of the run; and where it held nothing, all that was written stands in the file, and each image
--- that was finished with every chunk is shown, whether or not the sink failed on the way.
+-- The result of a list of jobs on a sink that has the bytes `told`. The replies are those of a run.
+-- The sink has the bytes and the number of failures of the run. If the sink is empty at the start,
+-- the file contains all that was written, and shows each image that is finished with all its
+-- chunks, also if the sink fails in between.
 pub record LeavesJobs (kind : FileKind) (jobs : List Job) (replies : List JobReply) (told : List ℕ) (failures : ℕ)
     (bytes : List ℕ) (after : ℕ) : Type 0 where
   pub run : Run
@@ -432,13 +440,15 @@ pub record LeavesJobs (kind : FileKind) (jobs : List Job) (replies : List JobRep
   pub stands : told ≡ [] → RunStands run
   pub shows : told ≡ [] → RunShows run
 
--- a sink, by the bytes that it took, how many of its writes failed, and what the last one answered where it failed
+-- a sink, with its bytes, its number of failed writes, and the error of its last write if that
+-- failed
 module _ {W : Type 0} (told : W → List ℕ) (failures : W → ℕ) (fault : W → Option SinkFault) where
-  -- No job was called: there was no room for the replies; or the sink failed while the header was written.
+  -- No job is run: there is no memory for the replies, or the sink fails while the header is
+  -- written.
   abbrev pub RefusesJobs : FileKind → W → TiffError → Type 0
   RefusesJobs kind sink e = (e ≡ OutOfMemory) ⊎ HeaderFails kind told failures fault sink e
 
-  -- `run_jobs`: the sink that is handed over, and the replies before and after
+  -- `run_jobs`: the sink, and the replies before and after the call
   abbrev pub RunsJobs : FileKind → List Job → W → List JobReply → List JobReply → Result W TiffError → Type 0
   RunsJobs kind jobs sink earlier all (Ok last) =
       (replies : List JobReply) × ((all ≡ earlier ++ replies)

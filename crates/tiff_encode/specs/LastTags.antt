@@ -20,34 +20,34 @@ use Rattle.tiff_encode.specs.Machine.{Chunk}
 use Rattle.tiff_encode.specs.Value.{offset_values}
 use Rattle.tiff_encode.specs.Calls.{extended_by_first, chunk_tags}
 
--- the first of a list so many times, if it has one
+-- `count` copies of the first item of a list; none of an empty list
 abbrev pub more_of : {A : Type 0} → List A → ℕ → List A
 more_of [] count = []
 more_of (x ∷ xs) count = replicate count x
 
--- how many samples a pixel has, where some are extra
+-- the tag of the number of samples of a pixel, if some are extra samples
 abbrev pub count_tags : List ℕ → ℕ → List (Tag × Scalars)
 count_tags bits extra = if extra == 0 then [] else (tag.SamplesPerPixel, u16s ((length bits + extra) ∷ [])) ∷ []
 
--- the bits of each sample, and their number
+-- the tags of the bits of each sample and of the number of samples
 abbrev pub bits_tags : List ℕ → ℕ → List (Tag × Scalars)
 bits_tags bits extra = (tag.BitsPerSample, u16s (extended_by_first bits extra)) ∷ count_tags bits extra
 
--- the same, and the format of each sample
+-- the tags of the bits of each sample, of the number of samples and of the format of each sample
 abbrev pub samples_tags : List ℕ → List SampleFormat → ℕ → List (Tag × Scalars)
 samples_tags bits kinds extra = bits_tags bits extra ++ (tag.SampleFormat, formats (extended_by_first kinds extra)) ∷ []
 
--- a number of a chunk
+-- the offset of a chunk, or its number of bytes in the file
 abbrev pub number_of_part : Part → Chunk → ℕ
 number_of_part Offset chunk = chunk.offset
 number_of_part Stored chunk = chunk.stored
 
--- the tags of the lists of chunks
+-- the tags of the offsets and of the byte counts of the chunks
 abbrev pub list_tags_of : ChunkType → Tag × Tag
 list_tags_of Strip = (tag.StripOffsets, tag.StripByteCounts)
 list_tags_of Tile = (tag.TileOffsets, tag.TileByteCounts)
 
--- where the chunks stand, and how many bytes each has there
+-- the tags of the offsets and of the byte counts of the chunks, with their values
 abbrev pub list_tags : FileKind → ChunkType → List Chunk → List (Tag × Scalars)
 list_tags kind type chunks =
     chunk_tags type (offset_values kind (map (λ chunk. chunk.offset) chunks)) (offset_values kind (map (λ chunk. chunk.stored) chunks))

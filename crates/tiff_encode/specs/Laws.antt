@@ -1,4 +1,5 @@
--- The laws by which what stands in a file is kept, and grows, as the file is appended to and links are patched.
+-- The laws by which a file keeps what it contains and contains more as bytes are appended and links
+-- are overwritten.
 use Rattle.std.specs.Prelude.{◌≡◌, ℕ, ◌^◌, ◌<◌, ◌≤◌, ◌⊎◌, List, [], ◌∷◌, ◌++◌, length, take, Ok}
 use Rattle.std.specs.FinMap.{FinMap, len, entries}
 use Rattle.std.specs.Ordering.{nat_cmp}
@@ -13,18 +14,18 @@ use Rattle.tiff_encode.specs.FileBytes.{offset_len, count_len, header_bytes, dir
 use Rattle.tiff_encode.specs.Deeds.{Deed, Appended, Handed, Listed, Linked, after_deed, bytes_after, all_appended, standing_fields, model_after_deed, model_after}
 use Rattle.tiff_encode.specs.Model.{In, FinishedDirectory, HandedField, ByteRegion, Model, header_link, own_link, IsLink, Stands, header_model, with_link, with_directory, with_region, with_handed, Grows}
 
--- a field that can be an entry
+-- a field that can be written as an entry
 pub record IsListable (kind : FileKind) (tag : ℕ) (f : Field) : Type 0 where
   pub tag_fits : tag < 2 ^ 16
   pub count : f.count < 256 ^ offset_len kind
   pub whole : length f.value ≡ 8
 
--- fields that can be a directory
+-- fields that can be written as a directory
 pub record AreListable (kind : FileKind) (fields : FinMap nat_cmp Field) : Type 0 where
   pub each : (e : ℕ × Field) → In e (entries fields) → IsListable kind e.0 e.1
   pub few : len fields < 256 ^ count_len kind
 
--- the header that was written stands
+-- a file with only a header contains the model of a header
 abbrev pub HeaderStands : Type 0
 HeaderStands = (kind : FileKind) → Stands kind (header_bytes kind) (header_model kind)
 
@@ -35,7 +36,8 @@ abbrev pub KeptByPatching : Type 0
 KeptByPatching = (kind : FileKind) (m : Model) (file : List ℕ) (q t : ℕ) → IsLink kind m q → t < 256 ^ offset_len kind → Stands kind file m
     → Stands kind (put file q (le (offset_len kind) t)) (with_link kind m q t)
 
--- a patch that broke off: the link field holds some number, and all else stands
+-- a write of a link that fails partway: the link has some number, and the file contains everything
+-- else
 abbrev pub KeptByTearing : Type 0
 KeptByTearing = (kind : FileKind) (m : Model) (file : List ℕ) (q : ℕ) (over : List ℕ) → IsLink kind m q → length over ≤ offset_len kind → Stands kind file m
     → (t : ℕ) × Stands kind (put file q over) (with_link kind m q t)
@@ -44,7 +46,7 @@ abbrev pub GrownByRegion : Type 0
 GrownByRegion = (kind : FileKind) (m : Model) (file more : List ℕ) → Stands kind file m
     → Stands kind (file ++ more) (with_region m (record { offset = length file; bytes = more }))
 
--- a field whose bytes stand in its entry
+-- a field whose bytes are in its entry
 abbrev pub GrownByInline : Type 0
 GrownByInline = (kind : FileKind) (m : Model) (file : List ℕ) (f : Field) → field_len f ≤ offset_len kind → Stands kind file m
     → Stands kind file (with_handed m (record { field = f; bytes = take (field_len f) f.value }))
@@ -55,26 +57,27 @@ GrownByPlaced = (kind : FileKind) (m : Model) (file : List ℕ) (f : Field) (r :
     → field_offset kind LittleEndian f ≡ r.offset → field_len f ≡ length r.bytes → offset_len kind < field_len f → field_len f < 2 ^ 64
     → Stands kind file m → Stands kind file (with_handed m (record { field = f; bytes = r.bytes }))
 
--- a directory is appended, and its fields stand as entries
+-- a directory is appended, and has its fields as entries
 abbrev pub GrownByListing : Type 0
 GrownByListing = (kind : FileKind) (m : Model) (file : List ℕ) (fields : FinMap nat_cmp Field) → AreListable kind fields → Stands kind file m
     → Stands kind (file ++ directory_bytes kind fields) (with_directory kind m (record { offset = length file; fields = standing_fields kind fields }))
 
--- the step of `finish`: the directory is appended with link 0, then its parent's link is patched
+-- the step of `finish`: the directory is appended with link 0, then its parent's link is
+-- overwritten
 abbrev pub FinishStep : Type 0
 FinishStep = (kind : FileKind) (m : Model) (file : List ℕ) (fields : FinMap nat_cmp Field) (parent : ℕ) → AreListable kind fields
     → length file < 256 ^ offset_len kind → IsLink kind m parent → Stands kind file m
     → Stands kind (put (file ++ directory_bytes kind fields) parent (le (offset_len kind) (length file)))
     (with_link kind (with_directory kind m (record { offset = length file; fields = standing_fields kind fields })) parent (length file))
 
--- ---- deeds
+-- ---- writes (`Deed`)
 
--- bytes that are handed in for a field, which stand in its entry
+-- the bytes of a field, which are in its entry
 pub record InEntry (kind : FileKind) (h : HandedField) : Type 0 where
   pub short : field_len h.field ≤ offset_len kind
   pub bytes : h.bytes ≡ take (field_len h.field) h.field.value
 
--- or are a region, at the offset that its value field holds
+-- the bytes of a field, which are a region, at the offset in its value field
 pub record AtRegion (kind : FileKind) (h : HandedField) (r : ByteRegion) : Type 0 where
   pub offset : field_offset kind LittleEndian h.field ≡ r.offset
   pub whole : field_len h.field ≡ length r.bytes
@@ -82,34 +85,35 @@ pub record AtRegion (kind : FileKind) (h : HandedField) (r : ByteRegion) : Type 
   pub short : field_len h.field < 2 ^ 64
   pub bytes : h.bytes ≡ r.bytes
 
--- a deed that can be done to a file in which a model stands
+-- a write that is valid for a file that contains a model
 abbrev pub DeedFits : FileKind → Model → Deed → Type 0
 DeedFits kind m (Appended more) = Unit {0}
 DeedFits kind m (Handed handed) = InEntry kind handed ⊎ ((r : ByteRegion) × (In r m.regions × AtRegion kind handed r))
 DeedFits kind m (Listed fields) = AreListable kind fields
 DeedFits kind m (Linked offset target) = IsLink kind m offset × (target < 256 ^ offset_len kind)
 
--- and some, in their order
+-- several writes that are valid one after another
 abbrev pub DeedsFit : FileKind → List ℕ → Model → List Deed → Type 0
 DeedsFit kind bytes m [] = Unit {0}
 DeedsFit kind bytes m (deed ∷ deeds) =
     DeedFits kind m deed × DeedsFit kind (after_deed kind bytes deed) (model_after_deed kind (length bytes) m deed) deeds
 
--- what is done to a file in which a model stands leaves one in which the model after it stands
+-- valid writes to a file that contains a model result in a file that contains the model after these
+-- writes
 abbrev pub DeedsStand : Type 0
 DeedsStand = (kind : FileKind) (bytes : List ℕ) (m : Model) (deeds : List Deed) → Stands kind bytes m → DeedsFit kind bytes m deeds
     → Stands kind (bytes_after kind bytes deeds) (model_after kind bytes m deeds)
 
--- which has all that the model before them has
+-- the model after some writes has everything that the model before them has
 abbrev pub DeedsGrow : Type 0
 DeedsGrow = (kind : FileKind) (bytes : List ℕ) (m : Model) (deeds : List Deed) → Grows m (model_after kind bytes m deeds)
 
--- a beginning of what they append: what stood stands
+-- the first of the bytes that some writes append are appended: the file still contains the model
 abbrev pub DeedsBegun : Type 0
 DeedsBegun = (kind : FileKind) (bytes : List ℕ) (m : Model) (deeds : List Deed) (count : ℕ) → Stands kind bytes m
     → Stands kind (bytes ++ take count (all_appended kind deeds)) m
 
--- deeds of which none is a link
+-- writes of which none writes a link
 abbrev pub AreAppending : List Deed → Type 0
 AreAppending [] = Unit {0}
 AreAppending (Appended more ∷ deeds) = AreAppending deeds
@@ -117,15 +121,15 @@ AreAppending (Handed handed ∷ deeds) = AreAppending deeds
 AreAppending (Listed fields ∷ deeds) = AreAppending deeds
 AreAppending (Linked offset target ∷ deeds) = ⊥
 
--- all but the last was done, and the last, a link, broke off: its field holds some number, and all else stands, a new
--- directory too
+-- all writes but the last are made, and the last, of a link, fails partway: the link has some
+-- number, and the file contains everything else, also a directory that was appended
 abbrev pub DeedsTorn : Type 0
 DeedsTorn = (kind : FileKind) (bytes : List ℕ) (m : Model) (before : List Deed) (offset target count : ℕ) → AreAppending before
     → Stands kind bytes m → DeedsFit kind bytes m (before ++ Linked offset target ∷ [])
     → (t : ℕ) × Stands kind (put (bytes ++ all_appended kind before) offset (take count (le (offset_len kind) target)))
     (with_link kind (model_after kind bytes m before) offset t)
 
--- some deeds, and more after them
+-- some writes, and more writes after them
 abbrev pub DeedsJoin : Type 0
 DeedsJoin = (kind : FileKind) (bytes : List ℕ) (m : Model) (deeds more : List Deed)
     → (bytes_after kind bytes (deeds ++ more) ≡ bytes_after kind (bytes_after kind bytes deeds) more)
@@ -133,22 +137,23 @@ DeedsJoin = (kind : FileKind) (bytes : List ℕ) (m : Model) (deeds more : List 
     × (DeedsFit kind bytes m deeds → DeedsFit kind (bytes_after kind bytes deeds) (model_after kind bytes m deeds) more
     → DeedsFit kind bytes m (deeds ++ more)))
 
--- where none is a link, what they append is appended
+-- writes of which none writes a link append their bytes and do nothing else
 abbrev pub DeedsAppend : Type 0
 DeedsAppend = (kind : FileKind) (bytes : List ℕ) (deeds : List Deed) → AreAppending deeds
     → bytes_after kind bytes deeds ≡ bytes ++ all_appended kind deeds
 
 -- ---- the first directory
 
--- the header of a file in which a model stands tells its kind, that it is little-endian, and where its link points to
+-- the header of a file that contains a model has the kind of the file, the byte order
+-- little-endian, and the offset of the first directory
 abbrev pub FirstTold : Type 0
 FirstTold = (kind : FileKind) (file : List ℕ) (m : Model) (offset : ℕ) → Stands kind file m → m.links (header_link kind) ≡ offset → 0 < offset
     → header_at file ≡ Ok (record { order = LittleEndian; kind = kind; first = offset })
 
 -- ---- two models
 
--- two models that stand in one file agree on the header's link, and on the fields and the link of each offset at which
--- both have a finished directory
+-- two models that one file contains agree on the header's link, and on the fields and the link of
+-- each directory that both have at one offset
 abbrev pub ModelsAgree : Type 0
 ModelsAgree = (kind : FileKind) (m n : Model) (file : List ℕ) → Stands kind file m → Stands kind file n
     → (m.links (header_link kind) ≡ n.links (header_link kind))

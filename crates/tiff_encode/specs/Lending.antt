@@ -1,4 +1,4 @@
--- What an encoder ends as where it begins no directory, or no image.
+-- The state of an encoder after a call that should begin a directory or an image returns an error.
 use Rattle.std.specs.Prelude.{ℕ, Result}
 use Rattle.std.specs.Borrow.{Fml, RattleType, MutBor, RestsIfErr}
 use Rattle.tiff_base.specs.declared.error.TiffError.{TiffError}

@@ -1,4 +1,4 @@
--- What stands in a file that was written (this project's), and when it does.
+-- The model of what the encoder wrote into a file, and when a file contains it (this project's).
 use Rattle.std.specs.Prelude.{◌≡◌, ℕ, ◌+◌, ◌*◌, ◌≤◌, ◌⊎◌, ◌==◌, List, [], ◌∷◌, length, if◌then◌else◌, Ok}
 use Rattle.std.specs.FinMap.{FinMap, len}
 use Rattle.std.specs.Ordering.{nat_cmp}
@@ -12,7 +12,7 @@ use Rattle.tiff_base.specs.Directory.{count_width, offset_width, entry_len, link
 use Rattle.tiff_base.specs.FieldBytes.{field_len, field_offset, field_bytes}
 use Rattle.tiff_encode.specs.FileBytes.{offset_len, count_len, header_mark}
 
--- bytes at p, n of them, and bytes at q, l of them, have none in common
+-- the n bytes at p and the l bytes at q don't overlap
 abbrev pub BytesAreApart : ℕ → ℕ → ℕ → ℕ → Type 0
 BytesAreApart p n q l = (p + n ≤ q) ⊎ (q + l ≤ p)
 
@@ -21,7 +21,7 @@ pub record FinishedDirectory : Type 0 where
   pub offset : ℕ
   pub fields : FinMap nat_cmp Field
 
--- a field, with the bytes that were handed in for it
+-- a field, with the bytes that the caller passed for it
 pub record HandedField : Type 0 where
   pub field : Field
   pub bytes : List ℕ
@@ -31,7 +31,7 @@ pub record ByteRegion : Type 0 where
   pub offset : ℕ
   pub bytes : List ℕ
 
--- what was written into a file; `links` is the target of the link at each offset
+-- the model of what a file contains; `links` has the target of the link at each offset
 pub record Model : Type 0 where
   pub directories : List FinishedDirectory
   pub handed : List HandedField
@@ -39,30 +39,30 @@ pub record Model : Type 0 where
   pub links : ℕ → ℕ
 
 module _ (kind : FileKind) where
-  -- where the header's link and a directory's own stand
+  -- the offset of the header's link, and of the link of a directory
   abbrev pub header_link : ℕ
   header_link = length (header_mark kind)
 
   abbrev pub own_link : FinishedDirectory → ℕ
   own_link d = link_offset kind d.offset (len d.fields)
 
-  -- the offset of a link field: the header's, or that of a finished directory
+  -- the offset of a link: the header's link, or the link of a finished directory
   abbrev pub IsLink : Model → ℕ → Type 0
   IsLink m q = (q ≡ header_link) ⊎ ((d : FinishedDirectory) × (In d m.directories × (q ≡ own_link d)))
 
-  -- the link field at q lies apart from the n bytes at p
+  -- the link at q doesn't overlap the n bytes at p
   abbrev pub IsClear : ℕ → ℕ → ℕ → Type 0
   IsClear q p n = BytesAreApart p n q (offset_len kind)
 
-  -- the bytes of a directory before its link
+  -- the number of bytes of a directory without its link
   abbrev pub body_len : FinishedDirectory → ℕ
   body_len d = count_len kind + entry_len kind * len d.fields
 
-  -- the bytes of a directory, its link among them
+  -- the number of bytes of a directory with its link
   abbrev pub whole_len : FinishedDirectory → ℕ
   whole_len d = body_len d + offset_len kind
 
-  -- the link field at q lies within the file and overlaps nothing else that stands there
+  -- the link at q is within the file and overlaps nothing else that the model has
   pub record IsApart (file : List ℕ) (m : Model) (q : ℕ) : Type 0 where
     pub header : header_link ≤ q
     pub within : q + offset_len kind ≤ length file
@@ -71,9 +71,10 @@ module _ (kind : FileKind) where
     pub regions : (r : ByteRegion) → In r m.regions → IsClear q r.offset (length r.bytes)
     pub links : (p : ℕ) → IsLink m p → (p ≡ q) ⊎ IsClear q p (offset_len kind)
 
-  -- The model stands in the file: the header, with the target of its link; each finished directory, whose entries are
-  -- its fields, each once, and whose link has its target; each field that was handed in, with its bytes; each region.
-  -- Directories and regions lie within the file, and no two of them overlap; no link field overlaps anything else.
+  -- The file contains the model: the header, whose link has its target; each finished directory,
+  -- whose entries are its fields, each once, and whose link has its target; each field, with the
+  -- bytes that the caller passed for it; each region. Directories and regions are within the file,
+  -- and no two of them overlap. No link overlaps anything else.
   pub record Stands (file : List ℕ) (m : Model) : Type 0 where
     pub header : exactly_at file 0 header_link ≡ Ok (header_mark kind)
     pub first : number_at LittleEndian (offset_width kind) file header_link ≡ Ok (m.links header_link)
@@ -92,27 +93,27 @@ module _ (kind : FileKind) where
         → BytesAreApart d.offset (whole_len d) r.offset (length r.bytes)
     pub apart : (q : ℕ) → IsLink m q → IsApart file m q
 
-  -- the model of a header alone, whose link is 0
+  -- the model of a header alone, with link 0
   abbrev pub header_model : Model
   header_model = record { directories = []; handed = []; regions = []; links = λ p. 0 }
 
-  -- the model with the link at q pointing to t
+  -- the model with target t of the link at q
   abbrev pub with_link : Model → ℕ → ℕ → Model
   with_link m q t = record m { links = λ p. if p == q then t else m.links p }
 
-  -- the model with one more finished directory, whose link is 0
+  -- the model with another finished directory, with link 0
   abbrev pub with_directory : Model → FinishedDirectory → Model
   with_directory m d = record m { directories = d ∷ m.directories; links = λ p. if p == own_link d then 0 else m.links p }
 
--- the model with bytes that were appended
+-- the model with another region of appended bytes
 abbrev pub with_region : Model → ByteRegion → Model
 with_region m r = record m { regions = r ∷ m.regions }
 
--- the model with a field and the bytes handed in for it
+-- the model with another field and the bytes that the caller passed for it
 abbrev pub with_handed : Model → HandedField → Model
 with_handed m h = record m { handed = h ∷ m.handed }
 
--- n has all that m has
+-- n has everything that m has
 pub record Grows (m n : Model) : Type 0 where
   pub directories : (d : FinishedDirectory) → In d m.directories → In d n.directories
   pub handed : (h : HandedField) → In h m.handed → In h n.handed

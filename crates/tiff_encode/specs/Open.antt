@@ -1,5 +1,5 @@
--- An image that is open in a file in which a model stands, and the laws by which its calls keep it, and its end shows it
--- (this project's).
+-- An open image in a file that contains a model, and the laws that its calls keep it in the model
+-- and that its end shows it (this project's).
 use Rattle.std.specs.Prelude.{◌≡◌, ℕ, ◌^◌, ◌-◌, ◌<◌, ◌≤◌, ◌⊎◌, false, List, [], ◌∷◌, ◌++◌, length, get_or, slice_index, Some, None, Result, Ok}
 use Rattle.std.specs.List.{list_any}
 use Rattle.std.specs.FinMap.{FinMap}
@@ -35,17 +35,18 @@ use Rattle.tiff_encode.specs.Stored.{unpacked_chunk}
 use Rattle.tiff_encode.specs.Shows.{Shows}
 use Rattle.tiff_encode.specs.Held.{is_page_tag, Given, HoldsValues, chroma_given, planar_given, ExtraGiven, samples_of_chunk, StandsFor, TellsImage, IsWholeImage, AreHanded, RegionsHaveChunks, image_with}
 
--- ---- what an open image has
+-- ---- the properties of an open image
 
--- how it is cut
+-- the tags of the layout of the chunks
 abbrev pub TellsForm : ChunkType → OpenImage → Given → Type 0
 TellsForm Strip i given = given (tag_number tag.RowsPerStrip) ≡ Some (u32s (i.form.chunk_height ∷ []))
 TellsForm Tile i given =
     (given (tag_number tag.TileWidth) ≡ Some (u32s (i.form.chunk_width ∷ [])))
     × (given (tag_number tag.TileLength) ≡ Some (u32s (i.form.chunk_height ∷ [])))
 
--- The values of the tags of a page are those that an image says of itself before its end: all but the bits and the
--- formats of its samples, and where its chunks stand. Extra samples are not counted yet.
+-- The values of the tags that describe a page are those of an image before its end. They say
+-- nothing of the bits and the formats of its samples, and have no offsets and byte counts of
+-- chunks. The number of samples doesn't include extra samples yet.
 pub record TellsOpen (i : OpenImage) (given : Given) : Type 0 where
   pub width : given (tag_number tag.ImageWidth) ≡ Some (u32s (i.width ∷ []))
   pub height : given (tag_number tag.ImageLength) ≡ Some (u32s (i.height ∷ []))
@@ -62,7 +63,8 @@ pub record TellsOpen (i : OpenImage) (given : Given) : Type 0 where
   pub no_tiles : given (tag_number tag.TileOffsets) ≡ None
   pub no_tile_counts : given (tag_number tag.TileByteCounts) ≡ None
 
--- The sides, the samples, the packing and the cut of an image are such as an encoder makes.
+-- An encoder can make an image with this width and height, these samples, this compression and this
+-- layout of chunks.
 pub record IsOpen (i : OpenImage) : Type 0 where
   pub name : ColorTypeName
   pub color : i.color ≡ color_type name
@@ -74,8 +76,8 @@ pub record IsOpen (i : OpenImage) : Type 0 where
   pub predicted_by : (i.predictor ≡ predictor.None) ⊎ (i.predictor ≡ predictor.Horizontal)
   pub form : IsForm i.width i.form
 
--- The chunks of an image so far were handed these samples: as many as each has, numbers of the bytes of a sample; and
--- regions of the model stand for them.
+-- The chunks of an image so far have these samples: each chunk has its number of samples, each
+-- sample is a number of the bytes of a sample, and the model has regions that store them.
 pub record HoldsChunks (kind : FileKind) (m : Model) (i : OpenImage) (samples : List (List ℕ)) : Type 0 where
   pub as_many : length samples ≡ length i.chunks
   pub within : length i.chunks ≤ all_chunks (image_page i)
@@ -86,7 +88,7 @@ pub record HoldsChunks (kind : FileKind) (m : Model) (i : OpenImage) (samples : 
       → (stored : List ℕ) × (In (record { offset = slice_index (image_page i).offsets k; bytes = stored }) m.regions × StandsFor i samples k stored)
   pub fit : (c : Chunk) → In c i.chunks → (c.offset < 256 ^ offset_len kind) × (c.stored < 256 ^ offset_len kind)
 
--- The model holds an image that is open, whose chunks so far were handed these samples.
+-- The model records an open image whose chunks so far have these samples.
 pub record HoldsOpen (kind : FileKind) (m : Model) (i : OpenImage) (samples : List (List ℕ)) : Type 0 where
   pub given : Given
   pub holds : HoldsValues m i.directory.fields given
@@ -94,9 +96,9 @@ pub record HoldsOpen (kind : FileKind) (m : Model) (i : OpenImage) (samples : Li
   pub open_so : IsOpen i
   pub chunks : HoldsChunks kind m i samples
 
--- The model holds an image that has ended with every chunk: a directory that it lists at an offset has the values of the
--- tags of a page, which are those that the image says of itself; its chunks were handed these samples, and regions of the
--- model stand for them.
+-- The model records an image that ended with all its chunks: it has a directory at an offset with
+-- the values of the tags that describe a page, which are those of the image; the chunks have these
+-- samples, and the model has regions that store them.
 pub record HoldsEnded (kind : FileKind) (m : Model) (i : OpenImage) (samples : List (List ℕ)) (offset : ℕ) : Type 0 where
   pub fields : FinMap nat_cmp Field
   pub given : Given
@@ -109,23 +111,23 @@ pub record HoldsEnded (kind : FileKind) (m : Model) (i : OpenImage) (samples : L
 
 -- ---- the laws
 
--- the model after what a call did
+-- the model after a call
 abbrev pub model_by : {A : Type 0} → FileState → Model → WriteOutcome A → Model
 model_by file m told = model_after file.kind file.bytes m told.deeds
 
--- a new image is held
+-- the model after `new_image` records the image
 abbrev pub BeginsOpen : Type 0
 BeginsOpen = (file : FileState) (m : Model) (name : ColorTypeName) (width height : ℕ) (i : OpenImage)
     → width < 2 ^ 32 → height < 2 ^ 32 → (file.method ≡ method.None) ⊎ (file.method ≡ method.PackBits)
     → (calls.new_image (color_type name) (inner_size name) width height file).answer ≡ Ok i
     → HoldsOpen file.kind (model_by file m (calls.new_image (color_type name) (inner_size name) width height file)) i []
 
--- what holds it still holds it when more is written
+-- a model that records an open image still records it after more is written
 abbrev pub GrownOpen : Type 0
 GrownOpen = (kind : FileKind) (m n : Model) (i : OpenImage) (samples : List (List ℕ))
     → HoldsOpen kind m i samples → Grows m n → HoldsOpen kind n i samples
 
--- a call of an image that is answered keeps it held
+-- after a call of an image that succeeds, the model still records the image
 abbrev pub KeepsOpen : (OpenImage → Writing OpenImage) → Type 0
 KeepsOpen call = (file : FileState) (m : Model) (i next : OpenImage) (samples : List (List ℕ))
     → HoldsOpen file.kind m i samples → (call i file).answer ≡ Ok next
@@ -145,7 +147,7 @@ ResolutionsKeepOpen =
     × (((value : ℕ × ℕ) → KeepsOpen (λ i. calls.y_resolution i value))
     × ((u : ResolutionUnit) → KeepsOpen (λ i. calls.resolution_unit i u))))
 
--- a tag that a page isn't read by
+-- the model still records an image after its directory gets a tag that doesn't describe a page
 abbrev pub TagsKeepOpen : Type 0
 TagsKeepOpen = (file : FileState) (m : Model) (i : OpenImage) (samples : List (List ℕ)) (t : Tag) (d : OpenDirectory)
     → HoldsOpen file.kind m i samples → is_page_tag (tag_number t) ≡ false
@@ -154,13 +156,14 @@ TagsKeepOpen = (file : FileState) (m : Model) (i : OpenImage) (samples : List (L
     × ((b : BufferRecord) → (calls.write_tag_buf i.directory t b file).answer ≡ Ok d
     → HoldsOpen file.kind (model_by file m (calls.write_tag_buf i.directory t b file)) (calls.with_directory_of i d) samples))
 
--- fields of such tags
+-- the model still records an image after its directory gets fields of tags that don't describe a
+-- page
 abbrev pub FieldsKeepOpen : Type 0
 FieldsKeepOpen = (kind : FileKind) (m : Model) (i : OpenImage) (samples : List (List ℕ)) (fields : List (ℕ × Field))
     → HoldsOpen kind m i samples → list_any (λ entry. is_page_tag entry.0) fields ≡ false
     → HoldsOpen kind m (calls.with_directory_of i (calls.extend_from i.directory fields)) samples
 
--- a chunk that is written is held too, with its samples
+-- after a chunk is written, the model records the image with the samples of that chunk
 abbrev pub ChunksKeepOpen : Type 0
 ChunksKeepOpen = (file : FileState) (m : Model) (i next : OpenImage) (samples : List (List ℕ)) (numbers stored : List ℕ)
     → HoldsOpen file.kind m i samples → ((n : ℕ) → get_or numbers n 0 < 256 ^ i.size) → length numbers < 2 ^ 64 - 1
@@ -170,24 +173,24 @@ ChunksKeepOpen = (file : FileState) (m : Model) (i next : OpenImage) (samples : 
     × ((calls.write_strip i (length numbers) stored file).answer ≡ Ok next
     → HoldsOpen file.kind (model_by file m (calls.write_strip i (length numbers) stored file)) next (samples ++ numbers ∷ [])))
 
--- an image that ends with every chunk is held as one that has ended
+-- the model records an image that ends with all its chunks as an ended image
 abbrev pub EndsHeld : Type 0
 EndsHeld = (file : FileState) (m : Model) (i : OpenImage) (samples : List (List ℕ)) (offsets : Offsets)
     → HoldsOpen file.kind m i samples → is_left i ≡ false
     → (calls.finish_image i file).answer ≡ Ok offsets
     → HoldsEnded file.kind (model_by file m (calls.finish_image i file)) i samples offsets.pointer
 
--- what holds it still holds it when more is written
+-- a model that records an ended image still records it after more is written
 abbrev pub GrownEnded : Type 0
 GrownEnded = (kind : FileKind) (m n : Model) (i : OpenImage) (samples : List (List ℕ)) (offset : ℕ)
     → Grows m n → HoldsEnded kind m i samples offset → HoldsEnded kind n i samples offset
 
--- where it stands in a file, the file shows the image
+-- a file that contains a model shows each ended image that the model records
 abbrev pub EndedShown : Type 0
 EndedShown = (kind : FileKind) (file : List ℕ) (m : Model) (i : OpenImage) (samples : List (List ℕ)) (offset : ℕ)
     → Stands kind file m → HoldsEnded kind m i samples offset → Shows kind file offset (image_with i samples)
 
--- so an image that ends with every chunk is shown
+-- the file shows an image that the model records and that ends with all its chunks
 abbrev pub EndsShown : Type 0
 EndsShown = (file : FileState) (m : Model) (i : OpenImage) (samples : List (List ℕ)) (offsets : Offsets)
     → HoldsOpen file.kind m i samples → is_left i ≡ false

@@ -14,7 +14,8 @@ use Rattle.tiff_encode.specs.Calls as calls
 use Rattle.tiff_encode.specs.Ends.{IsTold, IsCutOff}
 use Rattle.tiff_encode.specs.Stored.{unpacked_chunk}
 
--- what is handed to the next chunk, where k were written of these samples: those that follow, or what is cut out
+-- the samples of the next chunk, after k chunks of these samples were written: the next ones in row
+-- order, or those cut out of the image
 abbrev pub next_slice : {A : Type 0} → OpenImage → List A → ℕ → List A
 next_slice i samples k =
     let p = image_page i in take (chunk_samples p (length i.chunks)) (drop (k * (p.chunk_height * row_samples p)) samples)
@@ -23,8 +24,8 @@ abbrev pub next_part : OpenImage → List ℕ → ℕ → List ℕ
 next_part i samples k =
     if is_in_order i.form then next_slice i samples k else cut_out (image_page i) samples (length i.chunks)
 
--- a part of an image is written as its next chunk; or it is refused, or the sink fails; or there was no memory, and
--- nothing was done
+-- a part of an image is written as its next chunk; or it is refused, or the sink fails; or there is
+-- no memory, and nothing is done
 abbrev pub WritesPart : {A : Type 0} → OpenImage → List ℕ → Result A TiffError → FileState → FileState → OpenImage → Type 0
 WritesPart i part (Ok x) old new next =
     (stored : List ℕ) × (IsStored i.method stored (unpacked_chunk i part) × IsTold (calls.write_chunk i (length part) stored old) (Ok next) new)
@@ -34,24 +35,25 @@ WritesPart i part (Err e) old new next =
     × (IsTold (calls.write_chunk i (length part) stored old) (Err e) new
     ⊎ IsCutOff (calls.write_chunk i (length part) stored old).deeds e old new)))
 
--- the part of an image that a chunk has, as a rectangle
+-- the part of an image that a chunk contains, as a rectangle
 abbrev pub rect_of : Patch → RectRecord
 rect_of p = record { plane = p.plane; x = p.x; y = p.y; width = p.width; height = p.height }
 
--- It lies within the image, and is not wider than a chunk; its plane is one of the page's.
+-- The rectangle is within the image and not wider than a chunk, and its plane is a plane of the
+-- page.
 pub record IsPatch (p : PageRecord) (r : RectRecord) : Type 0 where
   pub columns : r.x + r.width ≤ p.width
   pub rows : r.y + r.height ≤ p.height
   pub narrow : r.width ≤ p.chunk_width
   pub plane : p.planar ≡ Planar → r.plane < p.samples
 
--- sample n of a row of a chunk, where it is in a rectangle of the image
+-- sample n of a row of a chunk, if it is in a rectangle of the image
 abbrev pub pixel_sample : PageRecord → List ℕ → RectRecord → ℕ → ℕ → ℕ
 pixel_sample p samples r row n =
     slice_index samples
     (((r.y + row) * p.width + (r.x + n / stored_samples p)) * p.samples + planar_or p.planar r.plane (n % stored_samples p))
 
--- the same, and 0 beyond the rectangle
+-- sample n of a row of a chunk: that of the image in a rectangle, and 0 beyond the rectangle
 abbrev pub row_sample : PageRecord → List ℕ → RectRecord → ℕ → ℕ → ℕ
 row_sample p samples r row n =
     if nat_lt row r.height && nat_lt (n / stored_samples p) r.width then pixel_sample p samples r row n else 0

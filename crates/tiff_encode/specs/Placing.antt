@@ -1,4 +1,4 @@
--- The steps by which a value is handed in, and a directory ends.
+-- The steps by which a value is written for a field, and a directory ends.
 use Rattle.std.specs.Prelude.{◌≡◌, ℕ, ◌+◌, ◌⊎◌, ◌&&◌, ◌||◌, List, [], Option, Some, None, Result, MatchResult, if◌then◌else◌, nat_lt}
 use Rattle.std.specs.FinMap.{len, entries}
 use Rattle.std.specs.List.{list_any}
@@ -18,23 +18,24 @@ use Rattle.tiff_encode.specs.Value.{is_long, field_at}
 use Rattle.tiff_encode.specs.Deeds.{bytes_after}
 use Rattle.tiff_encode.specs.Calls.{links_to}
 
--- the causes of a field of so many values, which are so many bytes, at the end of a file of this length
+-- the error of a field of a number of values and a number of bytes, at the end of a file of a
+-- length
 unfoldable pub field_test : FileKind → ℕ → ℕ → ℕ → Option TiffError
 field_test kind end count len =
     if is_past kind count then Some IntSizeError
     else if nat_lt (offset_len kind) len && is_past kind end then Some IntSizeError
     else None
 
--- what a value appends that is handed in for a field
+-- the bytes that are appended for the value of a field
 abbrev pub appended_for : FileKind → FieldData → List ℕ
 appended_for kind value = if is_long kind value then value.bytes else []
 
 module _ {A : Type 0} where
-  -- a test that is passed, or refuses
+  -- a check that passes or returns its error
   abbrev pub Checks : Option TiffError → Result A TiffError → Type 0
   Checks cause r = MatchResult r (λ _. cause ≡ None) (λ e. cause ≡ Some e)
 
--- a value was handed in for a field; or the sink failed
+-- a value is written for a field; or the sink fails
 abbrev pub Places : FieldData → FileState → FileState → Result Field TiffError → Type 0
 Places value old new r =
     MatchResult r
@@ -43,12 +44,12 @@ Places value old new r =
 
 -- ---- the end of a directory
 
--- the parent's link lies within a file of this length
+-- the error of a parent's link that isn't within a file of a length
 abbrev pub parent_test : FileKind → ℕ → Option ℕ → Option TiffError
 parent_test kind end None = None
 parent_test kind end (Some offset) = if nat_lt end (offset + offset_len kind) then Some (UsageError ParentNotWritten) else None
 
--- its causes, at the end of a file of this length
+-- the error of the end of a directory, at the end of a file of a length
 unfoldable pub end_test : FileKind → ℕ → OpenDirectory → Option TiffError
 end_test kind end d =
     if is_past_count kind (len d.fields)
@@ -56,14 +57,15 @@ end_test kind end d =
     then Some IntSizeError
     else parent_test kind end d.parent
 
--- a directory was appended, and where its own link stands is answered; or the sink failed; or there was no memory
+-- a directory is appended, and the result is the offset of its own link; or the sink fails; or
+-- memory is out
 abbrev pub Lists : OpenDirectory → FileState → FileState → Result ℕ TiffError → Type 0
 Lists d old new r =
     MatchResult r
     (λ link. (link ≡ link_offset old.kind (end_of old) (len d.fields)) × (new ≡ file_with_bytes old (directory_bytes old.kind d.fields)))
     (λ e. AppendIsCut (directory_bytes old.kind d.fields) e old new ⊎ ((e ≡ OutOfMemory) × (new ≡ old)))
 
--- the parent's link points to a directory, where there is a parent; or the sink failed
+-- the parent's link points to a directory, if there is a parent; or the sink fails
 abbrev pub LinksFrom : {A : Type 0} → Option ℕ → ℕ → FileState → FileState → Result A TiffError → Type 0
 LinksFrom parent directory old new r =
     MatchResult r

@@ -1,4 +1,4 @@
--- A page that shows an image is read as the samples that were handed in (this project's).
+-- The reader returns the samples of a page that shows an image (this project's).
 use Rattle.std.specs.Prelude.{◌≡◌, ℕ, ◌*◌, ◌/◌, ◌%◌, ◌^◌, ◌<◌, ◌≤◌, true, List, [], length, slice_index, Ok}
 use Rattle.tiff_base.specs.declared.color.ColorType.{ColorType}
 use Rattle.tiff_base.specs.declared.tags.ByteOrder.TheVariants.{LittleEndian}
@@ -24,27 +24,27 @@ use Rattle.tiff_encode.specs.Open.{IsOpen}
 use Rattle.tiff_encode.specs.Shows.{Image, Shows}
 use Rattle.tiff_encode.specs.ImageData.{AreNumbers, LeavesImage, image_of_samples}
 
--- the samples of an image in its order, as far as a plane shows them: pixel by pixel those of a color, of a planar page
--- those of the first plane
+-- the samples of an image in row order that the first plane of a page shows: of a chunky page all
+-- samples that the color has, pixel by pixel, of a planar page those of the first plane
 abbrev pub samples_shown : Image → PageRecord → ColorType → List ℕ
 samples_shown i p color =
     let s = samples_in_chunk p.planar color in
     tabulate (p.height * p.width * s) (λ n. i.sample_at (n / s % p.width) (n / s / p.width) (n % s))
 
--- where a plane shows all samples of a pixel, those of an image that was handed in whole are in the order in which they
--- were handed in
+-- if a plane shows all samples of a pixel, the samples of an image that was passed as one list are
+-- in the order of that list
 abbrev pub ShownInOrder : Type 0
 ShownInOrder = (i : OpenImage) (samples : List ℕ) (p : PageRecord) (color : ColorType) → p.width ≡ i.width → samples_in_chunk p.planar color ≡ all_samples i
     → length samples ≡ p.height * p.width * all_samples i → samples_shown (image_of_samples i samples) p color ≡ samples
 
--- Each sample of an image has so many bytes, and is a number of these.
+-- Each sample of an image has `size` bytes, and is a number of these bytes.
 pub record HasSamplesOf (i : Image) (size : ℕ) : Type 0 where
   pub is_size : IsSize size
   pub depth : i.page.depth ≡ 8 * size
   pub small : (x y sample : ℕ) → i.sample_at x y sample < 256 ^ size
 
--- A page whose samples are of whole bytes is of a form that this version reads: its color, its predictor, how it is
--- packed, what it inverts, and its chroma.
+-- The reader supports a page whose samples are whole bytes: its color, its predictor, its
+-- compression, its inversion of samples, and its chroma subsampling.
 pub record IsReadable (p : PageRecord) (color : ColorType) : Type 0 where
   pub plain : is_supported_color color ≡ true
   pub predictor : predictor_fault p color ≡ Ok tt
@@ -52,30 +52,31 @@ pub record IsReadable (p : PageRecord) (color : ColorType) : Type 0 where
   pub upright : inversion_fault p color ≡ Ok tt
   pub chroma : whole_chroma p color ≡ Ok color
 
--- Limits let an image pass: the bytes of a chunk's rows across the image and those of all planes are fewer than 2^64, those
--- of the image that is read are no more than the buffer for the image may have, and those of each of its chunks as it is
--- stored no more than the buffer for a chunk may have.
+-- The limits permit an image: the number of bytes of the rows of a chunk, across the whole image,
+-- and that of all planes are less than 2^64; the number of bytes of the image that is read is at
+-- most the limit of the decoding buffer; the number of bytes of each chunk of its first plane in
+-- the file is at most the limit of the intermediate buffer.
 pub record LetsPass (limits : Limits) (p : PageRecord) (color : ColorType) : Type 0 where
   pub rows : row_bytes p color p.width * p.chunk_height < 2 ^ 64
   pub whole : row_bytes p color p.width * p.height * planes p.planar color < 2 ^ 64
   pub image : row_bytes p color p.width * p.height ≤ limits.decoding_buffer_size
   pub chunks : (k : ℕ) → k < chunks_of_plane p → slice_index p.byte_counts k ≤ limits.intermediate_buffer_size
 
--- whatever is read of a page that shows an image are its samples
+-- the samples that the reader returns for a page that shows an image are those of the image
 abbrev pub ReadsShown : Type 0
 ReadsShown = (kind : FileKind) (file : List ℕ) (offset : ℕ) (i : Image) (size : ℕ) (limits : Limits) (d : Decoded) → (s : Shows kind file offset i)
     → HasSamplesOf i size → image_of file LittleEndian s.page limits ≡ Ok d
     → (d.numbers ≡ samples_shown i s.page s.color) × (sample_type_of s.page ≡ Ok d.sample_type)
 
--- a page that shows an image is read, where it is of a form that is read and the limits let it pass, and its samples are
--- the answer
+-- the reader reads a page that shows an image, if it supports the page and the limits permit it,
+-- and returns the samples of the image
 abbrev pub ReadsBack : Type 0
 ReadsBack = (kind : FileKind) (file : List ℕ) (offset : ℕ) (i : Image) (size : ℕ) (limits : Limits) (type : DecodingSampleType) → (s : Shows kind file offset i)
     → HasSamplesOf i size → sample_type_of s.page ≡ Ok type → IsReadable s.page s.color → LetsPass limits s.page s.color
     → image_of file LittleEndian s.page limits ≡ Ok (record { sample_type = type; numbers = samples_shown i s.page s.color })
 
--- so is each page of an image such as an encoder makes that shows these samples, of the bytes of its color type, where the
--- limits let it pass
+-- the reader reads each page of an image that an encoder can make, if the page shows samples of the
+-- bytes of the color type and the limits permit it, and returns these samples
 abbrev pub WrittenReadsBack : Type 0
 WrittenReadsBack = (kind : FileKind) (file : List ℕ) (offset : ℕ) (i : OpenImage) (sample_at : ℕ → ℕ → ℕ → ℕ) (limits : Limits)
     → IsOpen i → ((x y sample : ℕ) → sample_at x y sample < 256 ^ i.size)
@@ -84,20 +85,22 @@ WrittenReadsBack = (kind : FileKind) (file : List ℕ) (offset : ℕ) (i : OpenI
     × (image_of file LittleEndian s.page limits
     ≡ Ok (record { sample_type = type; numbers = samples_shown (record { page = image_page i; sample_at = sample_at }) s.page s.color })))
 
--- a chunky page of an image such as an encoder makes, without extra samples, shows all samples of a pixel
+-- a chunky page of an image that an encoder can make, without extra samples, shows all samples of a
+-- pixel
 abbrev pub AllShown : Type 0
 AllShown = (i : OpenImage) (p : PageRecord) (color : ColorType) → IsOpen i → i.extra ≡ [] → i.form.planar ≡ Chunky
     → p ≡ record (image_page i) { offsets = p.offsets; byte_counts = p.byte_counts } → color_of p ≡ Ok color
     → samples_in_chunk p.planar color ≡ all_samples i
 
--- A chunky page that shows an image such as an encoder makes, without extra samples and handed in whole, is read as it was
--- handed in: whatever is read of it are these samples, in their order.
+-- For a chunky page that shows an image that an encoder can make, without extra samples and passed
+-- as one list, the reader returns nothing but the samples of that list, in their order.
 abbrev pub ShownIsRead : Type 0
 ShownIsRead = (kind : FileKind) (file : List ℕ) (offset : ℕ) (i : OpenImage) (samples : List ℕ) (limits : Limits) (d : Decoded)
     → (s : Shows kind file offset (image_of_samples i samples)) → IsOpen i → i.extra ≡ [] → i.form.planar ≡ Chunky → AreNumbers i.size samples
     → length samples ≡ i.height * i.width * all_samples i → image_of file LittleEndian s.page limits ≡ Ok d → d.numbers ≡ samples
 
--- So is what `write_image` wrote, of a named color type and of as many samples as the image has.
+-- For a page that `write_image` wrote, of a named color type and as many samples as the image has,
+-- the reader returns nothing but the samples that were passed, in their order.
 abbrev pub WrittenIsRead : Type 0
 WrittenIsRead = (color : ColorTypeRecord) (size width height : ℕ) (samples : List ℕ) (old new : FileState) (m : Model)
     (l : LeavesImage color size width height samples old new m) (name : ColorTypeName) (offset : ℕ) (limits : Limits) (d : Decoded)

@@ -15,7 +15,7 @@ use Rattle.tiff_encode.specs.Open.{HoldsOpen}
 use Rattle.tiff_encode.specs.Jobs.{Standing, Drawn, Run, FinishedImage, DirectoryStepped, ImageStepped, AllStepped, DirectoryEnds, ImageEnds, DirectoryRan, ImageRan, JobsRun, named_parent, job_images, offsets_in}
 use Rattle.tiff_encode.specs.Stepping.{StandsIfKnown, HasLink, IsHeld, IsSound, offsets_answered}
 
--- how many steps a job has
+-- the number of steps of a job
 abbrev pub step_count : Job → ℕ
 step_count (job.Directory j) = length j.steps.items
 step_count (job.Image j) = length j.steps.items
@@ -23,24 +23,24 @@ step_count _ = 0
 
 -- ---- parents
 
--- the link of a parent, if one was named
+-- the offset of the link of a parent, if the job names one
 abbrev pub link_in : Option Offsets → Option ℕ
 link_in None = None
 link_in (Some offsets) = Some offsets.link
 
--- a directory with it
+-- a directory with a parent's link, if there is one
 abbrev pub linked_from : Option ℕ → OpenDirectory → OpenDirectory
 linked_from None d = d
 linked_from (Some link) d = record d { parent = Some link }
 
--- the link of the directory of an earlier job
+-- the offset of the link of the directory of an earlier job, or the error if there is none
 abbrev pub NamesLink : List (Option Offsets) → Option ℕ → Result (Option ℕ) TiffError → Type 0
 NamesLink offsets parent (Ok link) = (o : Option Offsets) × ((named_parent offsets parent ≡ Ok o) × (link ≡ link_in o))
 NamesLink offsets parent (Err e) = named_parent offsets parent ≡ Err e
 
--- ---- what is open
+-- ---- open directories and images
 
--- A directory that is open is led through its steps to its end.
+-- The steps of an open directory are run, and it ends.
 pub record DirectoryGoes (first : OpenDirectory) (j : DirectoryJob) (r : JobReply) (known : Bool) (s : Standing) (new : FileState) : Type 0 where
   pub final : OpenDirectory
   pub after_steps : Standing
@@ -54,12 +54,14 @@ pub record DirectoryGoes (first : OpenDirectory) (j : DirectoryJob) (r : JobRepl
   pub own : (o : Offsets) → offset ≡ Some o → IsLink after_end.file.kind after_end.model o.link
   pub chain : IsLink s.file.kind s.model s.file.chain → IsLink after_end.file.kind after_end.model after_end.file.chain
 
--- so it is from each standing in which its parent's link is one
+-- the steps of an open directory are run, and it ends, from each standing in which its parent's
+-- link is a link of the model
 abbrev pub DirectoryGoesOn : OpenDirectory → DirectoryJob → JobReply → FileState → FileState → Type 0
 DirectoryGoesOn first j r old new =
     (known : Bool) (s : Standing) → s.file ≡ old → StandsIfKnown known s → HasLink known s first.parent → DirectoryGoes first j r known s new
 
--- An image that is open is led through its steps to its end; where it is finished with every chunk, it is held.
+-- The steps of an open image are run, and it ends. If it is finished with all its chunks, the model
+-- records it.
 pub record ImageGoes (first : OpenImage) (j : ImageJob) (r : JobReply) (known : Bool) (s : Standing) (new : FileState) : Type 0 where
   pub final : Drawn
   pub after_steps : Standing
@@ -80,7 +82,8 @@ ImageGoesOn first j r old new =
 
 -- ---- jobs
 
--- From each run so far that is sound, a job leads to one that is, with the offsets that it answers; the file is of one kind.
+-- From each sound run so far, a job leads to a sound run with the offsets that its end returns, if
+-- the kind of the file is the same.
 abbrev pub RunsOn : (Run → Run → Type 0) → JobReply → FileState → FileState → Type 0
 RunsOn Ran r old new =
     new.kind ≡ old.kind → (known : Bool) (run : Run) → run.standing.file ≡ old → IsSound known run
@@ -90,7 +93,8 @@ RunsOn Ran r old new =
 abbrev pub ImageRunsOn : ImageJob → JobReply → FileState → FileState → Type 0
 ImageRunsOn j r = RunsOn (λ run after. ImageRan run j r after) r
 
--- the same of a directory, whose parent's link is one
+-- from each sound run so far, a directory job whose parent's link is a link of the model leads to a
+-- sound run with the offsets that its end returns
 abbrev pub DirectoryRunsOn : Option ℕ → DirectoryJob → JobReply → FileState → FileState → Type 0
 DirectoryRunsOn link j r old new =
     new.kind ≡ old.kind → (known : Bool) (run : Run) (parent : Option Offsets) → run.standing.file ≡ old → IsSound known run
@@ -100,7 +104,7 @@ DirectoryRunsOn link j r old new =
 
 -- ---- lists of jobs
 
--- Jobs one after another, whose replies are put behind those that were there.
+-- Jobs are run one after another, and their replies are appended to the earlier ones.
 abbrev pub JobsMove : List Job → List JobReply → List JobReply → FileState → FileState → Type 0
 JobsMove jobs earlier all old new =
     (replies : List JobReply) × ((all ≡ earlier ++ replies)
@@ -108,11 +112,11 @@ JobsMove jobs earlier all old new =
     → (after : Run) × ((after.standing.file ≡ new) × (JobsRun run jobs replies after
     × (IsSound known after × (after.offsets ≡ offsets_answered replies))))))
 
--- an empty list with room for so many items
+-- an empty list with room for `count` items
 abbrev pub IsEmptyWithRoom : {A : Type 0} → ℕ → Vec A Global → Type 0
 IsEmptyWithRoom count list = (list.items ≡ []) × (count ≤ vec_capacity list)
 
--- such lists for the replies of the steps of jobs, that of the last job first
+-- empty lists with room for the replies to the steps of each job, that of the last job first
 abbrev pub AreRooms : {A : Type 0} → List Job → List (Vec A Global) → Type 0
 AreRooms {A = A} jobs rooms =
     (k : ℕ) (j : Job) (room : Vec A Global) → slice_get rooms k ≡ Some room → slice_get jobs (length jobs - (k + 1)) ≡ Some j

@@ -1,4 +1,5 @@
--- What a written file shows: an image that was handed in (this project's), by the reader's definitions.
+-- What a written file shows: an image from the caller (this project's), by the definitions of the
+-- reader.
 use Rattle.std.specs.Prelude.{◌≡◌, ℕ, ◌+◌, ◌*◌, ◌<◌, false, List, [], slice_index, Result, Ok}
 use Rattle.tiff_base.specs.declared.color.ChunkType.TheVariants.{Strip}
 use Rattle.tiff_base.specs.declared.color.ColorType.{ColorType}
@@ -26,21 +27,21 @@ use Rattle.tiff_page.specs.Pixels.{is_short, shown_sample}
 use Rattle.tiff_encode.specs.FileBytes.{rows_per_strip}
 use Rattle.tiff_encode.specs.Model.{IsLink, Stands, header_model}
 
--- an image that was handed in: the page that it is to be, wherever its chunks stand; and the sample, as bits, that was
--- handed in for a column, a row and a number of the pixel's samples
+-- an image from the caller: its page, for any offsets and byte counts of its chunks; and its
+-- sample, as bits, for a column, a row and a number of a sample of the pixel
 pub record Image : Type 0 where
   pub page : PageRecord
   pub sample_at : ℕ → ℕ → ℕ → ℕ
 
--- the page that the directory at an offset of a little-endian file tells
+-- the page of the directory at an offset of a little-endian file
 abbrev pub page_at : FileKind → List ℕ → ℕ → Limits → Result PageRecord TiffError
 page_at kind file offset limits = do
   directory ← directory_at kind LittleEndian file offset
   page_of (look_in kind LittleEndian file limits directory.entries)
 
--- The directory at an offset is a page that shows the image: without limits it is the image's page, but for where its
--- chunks stand; it has a color; none of its chunks has too few data; and each sample that its color shows is the one
--- that was handed in.
+-- The directory at an offset is a page that shows the image: without limits it is the image's page,
+-- except for the offsets and byte counts of its chunks; it has a color; none of its chunks has too
+-- few data; and each sample that its color shows is that of the image.
 pub record Shows (kind : FileKind) (file : List ℕ) (offset : ℕ) (i : Image) : Type 0 where
   pub page : PageRecord
   pub is_page : page_at kind file offset unlimited ≡ Ok page
@@ -53,7 +54,7 @@ pub record Shows (kind : FileKind) (file : List ℕ) (offset : ℕ) (i : Image) 
 
 -- ---- gray samples of 8 bits
 
--- the page of such samples, wherever its strips stand
+-- the page of 8-bit gray samples, without the offsets and byte counts of its strips
 abbrev pub gray_page : ℕ → ℕ → PageRecord
 gray_page width height = record {
   width = width;
@@ -74,16 +75,17 @@ gray_page width height = record {
   byte_counts = [];
 }
 
--- their image
+-- an image of 8-bit gray samples
 abbrev pub gray_image : ℕ → ℕ → List ℕ → Image
 gray_image width height samples = record {
   page = gray_page width height;
   sample_at = λ x y sample. slice_index samples (y * width + x);
 }
 
--- ---- what the writer's calls leave
+-- ---- what the file contains after the calls of the encoder
 
--- A header that was written on an empty sink: it stands, and the chain's last link is its own.
+-- A header is written on an empty sink: the file contains it, and its link is the last link of the
+-- IFD chain.
 pub record LeavesHeader (kind : FileKind) (bytes : List ℕ) (chain : ℕ) : Type 0 where
   pub stands : Stands kind bytes (header_model kind)
   pub link : IsLink kind (header_model kind) chain
@@ -94,6 +96,7 @@ pub record ShowsFirst (kind : FileKind) (file : List ℕ) (i : Image) : Type 0 w
   pub first : header_at file ≡ Ok (record { order = LittleEndian; kind = kind; first = offset })
   pub shows : Shows kind file offset i
 
--- It is a page of gray samples of 8 bits.
+-- The first directory of a classic little-endian file is a page that shows an image of 8-bit gray
+-- samples.
 abbrev pub ShowsGray : List ℕ → ℕ → ℕ → List ℕ → Type 0
 ShowsGray file width height samples = ShowsFirst Classic file (gray_image width height samples)

@@ -1,5 +1,5 @@
--- What the calls of a list of jobs have in common: from a standing of a file they lead to one of the file that they leave
--- (this project's).
+-- What all calls of a list of jobs have in common: each leads from a standing of the file before it
+-- to a standing of the file after it (this project's).
 use Rattle.std.specs.Prelude.{◌≡◌, ℕ, Bool, true, List, ◌∷◌, [], ◌++◌, map, Option, Some, Result}
 use Rattle.tiff_base.specs.declared.error.TiffError.{TiffError}
 use Rattle.tiff_encode.specs.declared.encoder.script.ImageEnd.{ImageEnd}
@@ -15,16 +15,17 @@ use Rattle.tiff_encode.specs.Open.{HoldsOpen, HoldsEnded}
 use Rattle.tiff_encode.specs.Shows.{Shows}
 use Rattle.tiff_encode.specs.Jobs.{Standing, Drawn, Run, FinishedImage, ImageStepped, AllStepped, JobRan, is_apart, are_apart, ended_samples, offsets_in}
 
--- where it is known to, the model stands
+-- the file contains the model, if `known`
 abbrev pub StandsIfKnown : Bool → Standing → Type 0
 StandsIfKnown known s = known ≡ true → Stands s.file.kind s.file.bytes s.model
 
--- where it is known to, the link of a parent is one
+-- the link of a parent is a link of the model, if `known`
 abbrev pub HasLink : Bool → Standing → Option ℕ → Type 0
 HasLink known s parent = known ≡ true → (offset : ℕ) → parent ≡ Some offset → IsLink s.file.kind s.model offset
 
--- A call leads from each standing of the file that it finds to one of the file that it leaves: what was known to stand
--- stands, and all that was there is there.
+-- A call leads from each standing of the file before it to a standing of the file after it: if the
+-- file contains the model before the call, it contains the model after the call, which has
+-- everything that the model before it has.
 abbrev pub Moves : (Standing → Standing → Type 0) → FileState → FileState → Type 0
 Moves Moved old new =
     (known : Bool) (s : Standing) → s.file ≡ old → StandsIfKnown known s
@@ -32,7 +33,8 @@ Moves Moved old new =
 
 -- ---- images
 
--- the same of a call of an image: with the samples that its chunks were handed before and after, by which it is held
+-- a call of an image leads from a standing to a standing, with the samples of the chunks before and
+-- after it; the model still records the image if no tag that describes a page was passed
 abbrev pub DrawMoves : OpenImage → (Standing → Drawn → Standing → Drawn → Type 0) → Bool → FileState → FileState → OpenImage → Type 0
 DrawMoves i Drew apart old new j =
     (known : Bool) (s : Standing) (before : List (List ℕ)) → s.file ≡ old → StandsIfKnown known s
@@ -41,18 +43,19 @@ DrawMoves i Drew apart old new j =
     × (StandsIfKnown known t × (Grows s.model t.model
     × (apart ≡ true → HoldsOpen s.file.kind s.model i before → HoldsOpen s.file.kind t.model j after))))))
 
--- one step
+-- one step of an image
 abbrev pub StepDraws : OpenImage → ImageStep → Result StepReply TiffError → FileState → FileState → OpenImage → Type 0
 StepDraws i step r = DrawMoves i (λ s before t after. ImageStepped s before step r t after) (is_apart step r)
 
--- all steps
+-- all steps of an image
 abbrev pub StepsDraw : OpenImage → List ImageStep → List (Result StepReply TiffError) → FileState → FileState → OpenImage → Type 0
 StepsDraw i steps rs = DrawMoves i (λ s before t after. AllStepped ImageStepped s before steps rs t after) (are_apart steps rs)
 
 -- ---- ends
 
--- An end leads to a standing and to the offset of the directory that it finished, whose own link is one then, as the chain's
--- last link is where it was one.
+-- An end leads to a standing and to the offsets of the directory that it finishes. The link of that
+-- directory is a link of the model, and so is the last link of the IFD chain, if it was one before
+-- the end.
 abbrev pub EndMoves : (Standing → Standing → Option Offsets → Type 0) → Option ℕ → FileState → FileState
     → (Standing → Standing → Option Offsets → Type 0) → Type 0
 EndMoves Ended parent old new Held =
@@ -62,14 +65,15 @@ EndMoves Ended parent old new Held =
     × ((IsLink s.file.kind s.model s.file.chain → IsLink t.file.kind t.model t.file.chain)
     × Held s t offset)))))))
 
--- what is held of an image that was finished, and shown of it where it stands
+-- what the model records of a finished image, and that a file that shows the recorded image shows
+-- the finished one
 pub record IsHeld (s : Standing) (f : FinishedImage) : Type 0 where
   pub image : OpenImage
   pub samples : List (List ℕ)
   pub held : HoldsEnded s.file.kind s.model image samples f.offset
   pub shown : (file : List ℕ) → Shows s.file.kind file f.offset (image_with image samples) → Shows s.file.kind file f.offset f.image
 
--- an image that was held while it was open, and ended with every chunk, is held
+-- the model records an image that ended with all its chunks, if it recorded the open image
 abbrev pub ImageHeld : OpenImage → ImageEnd → Standing → Standing → Option Offsets → Type 0
 ImageHeld i end s t offset =
     (before samples : List (List ℕ)) (o : Offsets) → HoldsOpen s.file.kind s.model i before → offset ≡ Some o
@@ -78,19 +82,20 @@ ImageHeld i end s t offset =
 
 -- ---- jobs
 
--- What is so of a run at each time: its model stands, where it is known to; the chain's last link is one then, and so is that of
--- each directory whose offsets were answered; each image that was finished with every chunk is held.
+-- What holds of a run after each job: the file contains the model, if `known`; then the last link
+-- of the IFD chain is a link of the model; the link of each directory whose offsets were returned
+-- is a link of the model; and the model records each image that is finished with all its chunks.
 pub record IsSound (known : Bool) (run : Run) : Type 0 where
   pub stands : StandsIfKnown known run.standing
   pub chain : HasLink known run.standing (Some run.standing.file.chain)
   pub offsets : (o : Offsets) → In (Some o) run.offsets → IsLink run.standing.file.kind run.standing.model o.link
   pub images : (f : FinishedImage) → In f run.images → IsHeld run.standing f
 
--- the offsets that jobs answered
+-- the offsets that the ends of jobs returned
 abbrev pub offsets_answered : List JobReply → List (Option Offsets)
 offsets_answered replies = map (λ reply. offsets_in reply.last) replies
 
--- a job is run, behind those that had these replies
+-- a job is run after the jobs that have these replies
 abbrev pub JobMoves : Job → List JobReply → JobReply → FileState → FileState → Type 0
 JobMoves job earlier reply old new =
     (known : Bool) (run : Run) → run.standing.file ≡ old → run.offsets ≡ offsets_answered earlier → IsSound known run

@@ -1,4 +1,4 @@
-//! Files are written.
+//! Writes TIFF files.
 
 mod chunk_rooms;
 pub mod data_laws;
@@ -58,8 +58,8 @@ use tiff_value::encoder::chunk::write_chunk;
 use tiff_value::encoder::differences::Sample;
 use tiff_value::encoder::writer::TiffWriter;
 
-/// Writes a file: a header, directories and pages. After a fault of the sink each call that writes answers
-/// `UsageError(WriterFailed)`.
+/// Writes a TIFF file: a header, directories and images. After a write to the sink fails, each
+/// later call that writes returns `UsageError(WriterFailed)`.
 #[derive(Drop)]
 pub struct TiffEncoder<W: Sink, K: TiffKind = TiffKindStandard> {
     alloc: Global,
@@ -82,14 +82,14 @@ impl<W: Sink, K: TiffKind> Model for TiffEncoder<W, K> {
 }
 
 impl<W: Sink> TiffEncoder<W, TiffKindStandard> {
-    /// Writes the header of a classic file (TIFF 6.0) at the sink's end, with no directory yet. A fault of the sink:
-    /// `IoError(Device)` or `OutOfMemory`.
+    /// Appends the header of a classic file (TIFF 6.0) to the sink. The header links to no
+    /// directory. Errors: the error of the sink, `IoError(Device)` or `OutOfMemory`.
     pub fn new(alloc: Global, sink: W) -> TiffResult<Self>
         ensures answer { MatchResult result
             (λ e. e ≡ begun_file Classic (W.told sink) (W.failures sink))
             (λ e. HeaderFails Classic W.told W.failures W.fault sink e) }
 
-        // On an empty sink the header stands.
+        // If the sink is empty, the file contains the header.
         ensures leaves { W.told sink ≡ [] → IfOk result (λ e. LeavesHeader Classic e.bytes e.chain) }
     {
         TiffEncoder::new_generic(alloc, sink)
@@ -97,7 +97,8 @@ impl<W: Sink> TiffEncoder<W, TiffKindStandard> {
 }
 
 impl<W: Sink> TiffEncoder<W, TiffKindBig> {
-    /// The same, of a BigTIFF file.
+    /// Appends the header of a BigTIFF file to the sink. The header links to no directory. Errors:
+    /// the error of the sink, `IoError(Device)` or `OutOfMemory`.
     pub fn new_big(alloc: Global, sink: W) -> TiffResult<Self>
         ensures answer { MatchResult result
             (λ e. e ≡ begun_file Big (W.told sink) (W.failures sink))
@@ -109,7 +110,8 @@ impl<W: Sink> TiffEncoder<W, TiffKindBig> {
 }
 
 impl<W: Sink, K: TiffKind> TiffEncoder<W, K> {
-    /// The same, of a file of either kind.
+    /// Appends the header of a file of the kind `K` to the sink. The header links to no directory.
+    /// Errors: the error of the sink, `IoError(Device)` or `OutOfMemory`.
     pub fn new_generic(alloc: Global, sink: W) -> TiffResult<Self>
         ensures answer { MatchResult result
             (λ e. e ≡ begun_file K.kind (W.told sink) (W.failures sink))
@@ -120,7 +122,7 @@ impl<W: Sink, K: TiffKind> TiffEncoder<W, K> {
         match K::write_header(&mut writer) {
             Ok(()) => {}
             Err(fault) => {
-                // What the sink was left as.
+                // `_last` is the sink as the failed write left it.
                 let _last = writer.into_inner();
                 return Err(fault);
             }
@@ -137,7 +139,7 @@ impl<W: Sink, K: TiffKind> TiffEncoder<W, K> {
     }
 }
 
-// How many bytes an offset has in a file of a kind.
+// Returns the number of bytes of an offset in a file of the kind `K`.
 fn offset_size<K: TiffKind>() -> u64
     ensures { result ≡ offset_len K.kind }
 {
@@ -148,7 +150,8 @@ fn offset_size<K: TiffKind>() -> u64
 }
 
 impl<W: Sink, K: TiffKind> TiffEncoder<W, K> {
-    /// From here on new images are predicted so, which their page says.
+    /// Sets the predictor of the images that begin after this call. Each such image writes it in
+    /// its `Predictor` tag.
     pub fn with_predictor(mut self, predictor: Predictor) -> Self
         ensures { result ≡ calls.with_predictor predictor self }
     {
@@ -156,7 +159,8 @@ impl<W: Sink, K: TiffKind> TiffEncoder<W, K> {
         self
     }
 
-    /// From here on the chunks of new images are packed so, which their page says.
+    /// Sets the compression of the chunks of the images that begin after this call. Each such image
+    /// writes it in its `Compression` tag.
     pub fn with_compression(mut self, compression: Compression) -> Self
         ensures { result ≡ calls.with_compression compression self }
     {
@@ -164,7 +168,7 @@ impl<W: Sink, K: TiffKind> TiffEncoder<W, K> {
         self
     }
 
-    /// The sink.
+    /// Returns the sink.
     pub fn into_inner(self) -> W
         ensures bytes { W.told result ≡ self.bytes }
         ensures failures { W.failures result ≡ self.failures }
@@ -181,14 +185,15 @@ impl<W: Sink, K: TiffKind> TiffEncoder<W, K> {
         writer.into_inner()
     }
 
-    // Bytes at the end.
+    // Appends bytes to the file.
     fn append(&mut self, bytes: &[u8]) -> TiffResult<()>
         ensures { AppendsToFile bytes.now self.old self.new result }
     {
         self.writer.write_plain(bytes)
     }
 
-    // Rows of samples at the end, as differences where these are predicted, without a list of their bytes.
+    // Appends rows of samples to the file, as differences if `predictor` says so. No list of their
+    // bytes is allocated.
     fn append_rows<T: Sample>(
         &mut self,
         samples: &[T],
@@ -203,14 +208,14 @@ impl<W: Sink, K: TiffKind> TiffEncoder<W, K> {
         write_chunk(&mut self.writer, samples, predictor, row, stride)
     }
 
-    // Zeros up to a multiple of 4.
+    // Appends zeros up to the next multiple of 4 bytes.
     fn pad(&mut self) -> TiffResult<()>
         ensures { AppendsToFile (padding (length self.old.bytes)) self.old self.new result }
     {
         self.writer.pad_word_boundary()
     }
 
-    // Points the link at an offset to a directory.
+    // Writes the offset `directory` into the link at the offset `parent`.
     fn link(&mut self, parent: u64, directory: u64) -> TiffResult<()>
         requires within { parent + offset_len K.kind ≤ length self.old.bytes }
         requires near { is_past K.kind directory ≡ false }

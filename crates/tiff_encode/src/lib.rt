@@ -1,4 +1,4 @@
-//! Files are written: directories, images, and what stands in the file afterwards.
+//! Writes TIFF files: directories and images, and what a file contains afterwards.
 #![tactic(auto)]
 
 pub mod encoder;

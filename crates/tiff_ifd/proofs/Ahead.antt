@@ -92,7 +92,7 @@ front_more packed old mid before_part part used done more n k a m d e l b =
           ∙ drop-drop n done old;
     }
 
--- the same, as a call shows the parts that it was given
+-- blocks in a row, with the parts in the form that a call has them
 pub front_step : (packed old mid part : List ℕ) (used done more n : ℕ) → UnpacksFront packed old used done mid → length mid ≡ length old
     → length part ≡ length (take (length mid - done) (drop done mid))
     → UnpacksFront (take (length packed - used) (drop used packed)) (take (length mid - done) (drop done mid)) more n part

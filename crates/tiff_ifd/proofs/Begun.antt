@@ -1,4 +1,4 @@
--- Where a link meets a walk, and what was entered is a beginning of the chain.
+-- Where a link leads back into a walk, and why the entered offsets are a beginning of the chain.
 use Rattle.std.proofs.Common.{◌≡◌, ◌+◌, ℕ, zero, suc, ◌<◌, List, [], ◌∷◌, ◌++◌, length, reverse, Option, None, Some, Bool, true, false, ◌||◌, cond, Result, Ok, Err, refl, ap, sym, ◌∙◌, subst, arith, nat_eq, append_assoc}
 use Rattle.std.proofs.lemmas.List.{append-nil, length-append, reverse-append}
 use Rattle.std.proofs.lemmas.List.Sorted.{IsPermutation-reverse, list_any-IsPermutation}
@@ -24,7 +24,7 @@ abbrev IsSomeNumber : Option ℕ → Type 0
 IsSomeNumber (Some n) = Unit {0}
 IsSomeNumber None = ⊥
 
--- ---- where a link meets the walk
+-- ---- a link that leads back into the walk
 
 any_turned : (test : ℕ → Bool) (xs : List ℕ) → list_any test (reverse xs) ≡ list_any test xs
 any_turned test xs = sym (list_any-IsPermutation test xs (reverse xs) (IsPermutation-reverse xs))
@@ -33,11 +33,11 @@ or_not : (b c : Bool) → b ≡ false → c ≡ (b || c)
 or_not false c h = refl
 or_not true c h = absurd (subst IsFalseBit (sym h) tt)
 
--- the next offset is itself
+-- a link that leads to the next offset itself
 pub is_itself : (offset link : ℕ) (met : List ℕ) → link ≡ offset → true ≡ list_any (nat_eq link) (offset ∷ met)
 is_itself offset link met h = sym (subst (λ (k : ℕ). list_any (nat_eq k) (offset ∷ met) ≡ true) (sym h) (here offset met))
 
--- another offset is one of those that were entered
+-- a link that leads to an entered offset
 pub is_among : (offset link : ℕ) (offsets : List ℕ) (b : Bool) → (link ≡ offset → ⊥) → b ≡ list_any (nat_eq link) offsets → b ≡ list_any (nat_eq link) (offset ∷ reverse offsets)
 is_among offset link offsets b apart h =
     h ∙ sym (any_turned (nat_eq link) offsets) ∙ or_not (nat_eq link offset) (list_any (nat_eq link) (reverse offsets)) (grind (arith, nat_tests, apart))
@@ -62,7 +62,7 @@ pub none_begun : (kind : FileKind) (order : ByteOrder) (bytes : List ℕ) (first
 none_begun kind order bytes first = record { linked = refl; rest = (chain kind order bytes first).offsets; offsets = refl; goes_on = the_chain kind order bytes first }
 
 module _ (kind : FileKind) (order : ByteOrder) (bytes : List ℕ) where
-  -- why an offset isn't entered, or that it is
+  -- an offset is entered, or an error says why not
   told : (met : List ℕ) (offset : ℕ) (r : Result DirectoryRecord TiffError) → directory_at kind order bytes offset ≡ r
       → enter_at (link_from kind order bytes) met offset ≡ (r >>= (λ d. Ok d.next) >>= unless_met (offset ∷ met))
   told met offset r h = ap (λ (x : Result DirectoryRecord TiffError). x >>= (λ d. Ok d.next) >>= unless_met (offset ∷ met)) h
@@ -90,7 +90,7 @@ module _ (kind : FileKind) (order : ByteOrder) (bytes : List ℕ) where
       let P : Option ℕ → Type 0 = λ a. IsChain (link_from kind order bytes) (offset ∷ met) a rest end in
       (rest, ap (λ (x : ℕ). x ∷ rest) c.0, subst P same c.3)
 
-  -- of a chain whose next offset isn't entered nothing is left
+  -- a chain whose next offset is not entered has no more offsets
   rest_cut : (met : List ℕ) (offset : ℕ) (e : TiffError) (rest : List ℕ) (end : Option TiffError) → enter_at (link_from kind order bytes) met offset ≡ Err e
       → IsChain (link_from kind order bytes) met (Some offset) rest end → (rest ≡ []) × (end ≡ Some e)
   rest_cut met offset e [] end h c = (refl, c.2 ∙ ap Some (same_err (enter_at (link_from kind order bytes) met offset) c.0 e c.1 h))
@@ -145,7 +145,7 @@ module _ (kind : FileKind) (order : ByteOrder) (bytes : List ℕ) where
         let r = rest_cut (reverse walk.offsets) h.offset e b.rest (chain kind order bytes first).end h.refused (subst P h.next b.goes_on) in
         ends_by walk b.rest (Some e) b.offsets r.0 r.1
 
--- ---- what a step shows of the chain
+-- ---- the facts that a step shows about the chain
 
 pub begins_entered : (kind : FileKind) (order : ByteOrder) (bytes : List ℕ) (first : ℕ) (before after : Walked) (offset : ℕ) (d : DirectoryRecord) (next : Option ℕ)
     → before.next ≡ Some offset → directory_at kind order bytes offset ≡ Ok d → next ≡ d.next → unless_met (offset ∷ reverse before.offsets) next ≡ Ok next
@@ -155,7 +155,7 @@ begins_entered kind order bytes first before after offset d next n h e m w b =
     let Q : Option ℕ → Type 0 = λ x. after ≡ record { offsets = before.offsets ++ offset ∷ []; next = x } in
     begins_on kind order bytes first before after d (one_entered kind order bytes before after offset d n h (subst P e m) (subst Q e w)) b
 
--- what is begun of a file is begun of the same bytes
+-- a beginning of a file's chain is one for the same bytes
 pub begun_same : {seen bytes : List ℕ} (kind : FileKind) (order : ByteOrder) (first : ℕ) (before after : Walked) → seen ≡ bytes → ChainBegins kind order bytes first before
     → (ChainBegins kind order seen first before → ChainBegins kind order seen first after) → ChainBegins kind order bytes first after
 begun_same kind order first before after same b on =
@@ -200,7 +200,7 @@ one_longer kind order bytes before after None f h = absurd (subst IsFalseBit f t
 one_longer kind order bytes before after (Some d) f h =
     ap (λ (w : Walked). length w.offsets) h.walked ∙ length-append before.offsets (h.offset ∷ [])
 
--- an offset that is within is one
+-- an offset of the walk is an offset of the chain
 pub is_there : (P : Type 0) (offsets : List ℕ) (index : ℕ) (r : Option ℕ) → r ≡ slice_get offsets index → index < length offsets → IfNone r P
 is_there P offsets index (Some p) e h = tt
 is_there P offsets index None e h = absurd (subst IsSomeNumber (sym (slice_get-get_or offsets index 0 h) ∙ sym e) tt)

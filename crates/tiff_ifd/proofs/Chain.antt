@@ -53,7 +53,7 @@ same_ok r x y a b = ap (ok_or x) (sym a ∙ b)
 pub same_err : (r : Link) (x y : TiffError) → r ≡ Err x → r ≡ Err y → x ≡ y
 same_err r x y a b = ap (err_or x) (sym a ∙ b)
 
--- there is one at most
+-- a file has at most one chain
 one_of : (link : ℕ → Link) (met : List ℕ) (next : Option ℕ) (ps qs : List ℕ) (e f : Option TiffError)
     → IsChain link met next ps e → IsChain link met next qs f → (ps ≡ qs) × (e ≡ f)
 one_of link met None [] [] e f c d = (refl, c ∙ sym d)
@@ -79,7 +79,7 @@ offsets_entered link met next [] e c = tt
 offsets_entered link met None (p ∷ ps) e c = absurd c
 offsets_entered link met (Some n) (p ∷ ps) e c = (c.0, c.1, c.2, offsets_entered link (n ∷ met) c.1 ps e c.3)
 
--- what is entered is a beginning of the chain
+-- a list of entered offsets is a beginning of the chain
 begins : (link : ℕ → Link) (met : List ℕ) (next : Option ℕ) (ps qs : List ℕ) (e : Option TiffError)
     → IsChain link met next ps e → AreEntered link met next qs → (rest : List ℕ) × (ps ≡ qs ++ rest)
 begins link met next ps [] e c d = (ps, refl)
@@ -92,7 +92,7 @@ begins link met (Some n) (p ∷ ps) (q ∷ qs) e c d =
     let head : p ≡ q = c.0 ∙ sym d.0 in
     (rest.0, ap (λ (x : ℕ). x ∷ ps) head ∙ ap (λ (xs : List ℕ). q ∷ xs) rest.1)
 
--- a link that is followed is none of the offsets before
+-- a link that is followed differs from all offsets before it
 free_by : (b : Bool) (met : List ℕ) (n q : ℕ) → list_any (nat_eq n) met ≡ b
     → cond b (Err (FormatError CycleInOffsets)) (Ok (Some n)) ≡ Ok (Some q) → list_any (nat_eq q) met ≡ false
 free_by true met n q h e = absurd (subst IsOkLink (sym e) tt)
@@ -106,7 +106,7 @@ free met (Err e) q h = absurd (subst IsOkLink (sym h) tt)
 free met (Ok None) q h = absurd (subst IsSomeLink (sym (ap (ok_or None) h)) tt)
 free met (Ok (Some n)) q h = free_by (list_any (nat_eq n) met) met n q refl h
 
--- a directory that is entered was read
+-- the directory of an entered offset is read
 was_read : (met : List ℕ) (r : Link) (after : Option ℕ) → (r >>= unless_met met) ≡ Ok after → (next : Option ℕ) × (r ≡ Ok next)
 was_read met (Ok n) after h = (n, refl)
 was_read met (Err e) after h = absurd (subst IsOkLink (sym h) tt)
@@ -115,12 +115,12 @@ abbrev pub IsFalseBit : Bool → Type 0
 IsFalseBit true = ⊥
 IsFalseBit false = Unit {0}
 
--- no offset of the list is this one
+-- the list does not contain this offset
 apart : (p : ℕ) (met : List ℕ) → list_any (nat_eq p) met ≡ false → AllByRecursion (λ y. nat_eq p y ≡ false) met
 apart p [] h = tt
 apart p (q ∷ met) h = (let n = neither (nat_eq p q) (list_any (nat_eq p) met) h in (n.0, apart p met n.1))
 
--- an offset to enter is none of the offsets before
+-- an offset to enter differs from all offsets before it
 abbrev IsNew : List ℕ → Option ℕ → Type 0
 IsNew met None = Unit {0}
 IsNew met (Some p) = list_any (nat_eq p) met ≡ false
@@ -145,7 +145,7 @@ is_new : (met : List ℕ) (r : Link) (after : Option ℕ) → (r >>= unless_met 
 is_new met r None h = tt
 is_new met r (Some q) h = free met r q h
 
--- what is known of the offsets that were entered
+-- the facts about the entered offsets
 pub record Known (len : ℕ) (met : List ℕ) : Type 0 where
   pub distinct : IsDistinct nat_eq met
   pub below : AreBelow len met
@@ -156,7 +156,7 @@ known_more len p met l n k = record {
   below = below_more len p met l k.below;
 }
 
--- with no steps left each offset has been met
+-- once as many offsets are entered as the file has bytes, no offset of the file is left
 pub full : (len p : ℕ) (met : List ℕ) → p < len → list_any (nat_eq p) met ≡ false → Known len met → len ≤ length met → ⊥
 full len p met l n k f =
     let more = known_more len p met l n k in
@@ -231,7 +231,7 @@ longest kind order bytes first =
 
 -- ---- the offsets of a chain differ
 
--- offsets that are entered after these others are none of them
+-- offsets that are entered after other ones differ from these
 abbrev AreNoneOf : List ℕ → List ℕ → Type 0
 AreNoneOf met offsets = AllByRecursion (λ q. list_any (nat_eq q) met ≡ false) offsets
 
@@ -246,7 +246,7 @@ apart_by : (p : ℕ) (met offsets : List ℕ) → AreNoneOf (p ∷ met) offsets 
 apart_by p met [] h = tt
 apart_by p met (q ∷ offsets) h = (flip p q (neither (nat_eq q p) (list_any (nat_eq q) met) h.0).0, apart_by p met offsets h.1)
 
--- what is known of the offsets that are entered after these others
+-- the facts about offsets that are entered after other ones
 record Entered (len : ℕ) (met offsets : List ℕ) : Type 0 where
   new : AreNoneOf met offsets
   known : Known len offsets

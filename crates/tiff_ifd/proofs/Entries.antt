@@ -21,7 +21,7 @@ pub no_entries : (kind : FileKind) (order : ByteOrder) (bytes : List ℕ) (first
 unfolding entries_from
 no_entries kind order bytes first = refl
 
--- what is read at an offset, seen by f
+-- the bytes that a read at an offset returns, through the function f
 pub read_there : {A : Type 0} (bytes : List ℕ) (at len : ℕ) (f : List ℕ → A) (x : A) → (exactly_at bytes at len >>= λ found. Ok (f found)) ≡ Ok x → f (bytes_at bytes at len) ≡ x
 read_there bytes at len f x =
     elim (leb len (length bytes - at)) as (λ b. (cond b (Ok (bytes_at bytes at len)) (Err (IoError UnexpectedEof)) >>= λ found. Ok (f found)) ≡ Ok x → f (bytes_at bytes at len) ≡ x) [
@@ -29,7 +29,7 @@ read_there bytes at len f x =
       | false ↦ λ e. cc
     ]
 
--- nothing is read from the end on
+-- a read from the end on returns no bytes
 pub number_past : (order : ByteOrder) (w : Width) (bytes : List ℕ) (at : ℕ) → 0 < byte_len w → length bytes ≤ at → number_at order w bytes at ≡ Err (IoError UnexpectedEof)
 number_past order w bytes at some past =
     ap (λ (b : Bool). cond b (Ok (bytes_at bytes at (byte_len w))) (Err (IoError UnexpectedEof)) >>= λ found. Ok (number order w found)) (lt-leb (byte_len w) (length bytes - at) (omega arith))

@@ -15,7 +15,7 @@ no_link_and_link x t a b = subst IsFound (sym a ∙ b) tt
 
 -- ---- offsets on the way differ
 
--- to an offset that has no link there is one way
+-- at most one way leads to an offset that has no link
 same_length : (links : Links) (from : ℕ) → get links from ≡ None → (p : ℕ) (xs ys : List ℕ) → Goes links p xs from → Goes links p ys from → length xs ≡ length ys
 same_length links from free p [] [] a b = refl
 same_length links from free p [] (y ∷ ys) a b =
@@ -39,7 +39,7 @@ kept_by true links from to free all h p x xs less g e =
 kept_by false links from to free all h p x xs less g e =
     get-remove nat_cmp_total links to p ∙ ap (λ (b : Bool). cond b None (get links p)) e
 
--- the way goes on without the link of an offset before
+-- the way stays the same without the link of an earlier offset
 kept : (links : Links) (from to : ℕ) → get links from ≡ None → (all : List ℕ) → Goes links to all from
     → (p : ℕ) (xs : List ℕ) → length xs < length all → Goes links p xs from → Goes (remove links to) p xs from
 kept links from to free all h p [] less g = g
@@ -57,7 +57,7 @@ some_entry : (q : ℕ) (es : List (ℕ × Option ℕ)) (x : Option ℕ) → find
 some_entry q [] x h = absurd (subst IsFound (sym h) tt)
 some_entry q (e ∷ es) x h = omega arith
 
--- a link less
+-- the map with one link less
 one_less : (links : Links) (to : ℕ) (x : Option ℕ) → get links to ≡ Some x → len (remove links to) + 1 ≡ len links
 one_less links to x h =
     let some : 0 < length (entries links) = some_entry to (entries links) x (sym (get-entries links to) ∙ h) in
@@ -65,7 +65,7 @@ one_less links to x h =
     len-remove nat_cmp_total links to ∙ ap (λ (y : Found). cond (is_some y) (len links - 1) (len links)) h in
     omega (arith, some, less, len-entries links)
 
--- the way to an offset that has no link is no longer than there are links
+-- a way to an offset that has no link has at most as many steps as there are links
 pub no_longer : (links : Links) (from : ℕ) → get links from ≡ None → (to : ℕ) (others : List ℕ) → Goes links to others from → length others ≤ len links
 no_longer links from free to [] h = omega arith
 no_longer links from free to (n ∷ others) h =
@@ -75,7 +75,7 @@ no_longer links from free to (n ∷ others) h =
 
 -- ---- the walk
 
--- so many links were followed from one offset to another
+-- so many accepted links lead from one offset to another
 pub record Gone (links : Links) (from to offset steps : ℕ) : Type 0 where
   pub there : (others : List ℕ) → Goes links offset others from → (all : List ℕ) × Goes links to all from
   pub back : (others : List ℕ) → Goes links to others from → (rest : List ℕ) × (length others ≡ steps + length rest) × Goes links offset rest from
@@ -98,7 +98,7 @@ gone_on links from to offset next steps apart g w = record {
   back = λ others h. (let r = w.back others h in on_by links from to offset next steps apart g others r.0 r.1 r.2);
 }
 
--- the offset is met
+-- the search meets the offset
 pub met : (links : Links) (from to offset steps : ℕ) → offset ≡ from → Gone links from to offset steps → Closes links from (Some to)
 met links from to offset steps e w = w.there [] e
 
@@ -106,7 +106,7 @@ stuck : (links : Links) (from offset : ℕ) → (offset ≡ from → ⊥) → (I
 stuck links from offset apart none [] h = apart h
 stuck links from offset apart none (n ∷ rest) h = none (subst IsLinked (sym h.0) tt)
 
--- the way ends before
+-- the way ends before the offset
 pub ended : (links : Links) (from to offset steps : ℕ) → (offset ≡ from → ⊥) → (IsLinked (get links offset) → ⊥)
     → Gone links from to offset steps → Closes links from (Some to) → ⊥
 ended links from to offset steps apart none w c = (let r = w.back c.0 c.1 in stuck links from offset apart none r.0 r.2)
@@ -115,7 +115,7 @@ longer : (links : Links) (from offset : ℕ) → (offset ≡ from → ⊥) → (
 longer links from offset apart [] h = absurd (apart h)
 longer links from offset apart (n ∷ rest) h = omega arith
 
--- so many steps weren't enough, so no number is
+-- where so many steps are not enough, no number of steps is
 pub too_far : (links : Links) (from to offset steps : ℕ) → get links from ≡ None → (offset ≡ from → ⊥) → len links ≤ steps
     → Gone links from to offset steps → Closes links from (Some to) → ⊥
 too_far links from to offset steps free apart all w c =

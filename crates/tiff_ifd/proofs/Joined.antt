@@ -16,13 +16,13 @@ map_same : {A : Type 0} (xs : List A) → map (λ (x : A). x) xs ≡ xs
 map_same [] = refl
 map_same (x ∷ xs) = ap (λ ys. x ∷ ys) (map_same xs)
 
--- a list that is seen as it is
+-- the identity on each item leaves a list as it is
 pub as_they_are : {A : Type 0} (r : Result (Vec A Global) TiffError) (given : Result (List A) TiffError)
     → AnswersWithoutSource (λ v. map (λ (x : A). x) v.items) r given → AnswersWithoutSource (λ v. v.items) r given
 as_they_are (Ok v) given h = h ∙ ap (λ xs. Ok xs) (map_same v.items)
 as_they_are (Err e) given h = h
 
--- what is appended to a list leaves its front
+-- the front of a list stays when items are appended
 pub front_appended : {A : Type 0} (new old xs : List A) → new ≡ old ++ xs → take (length old) new ≡ old
 front_appended new old xs e = ap (take (length old)) e ∙ take-append_seam old xs
 

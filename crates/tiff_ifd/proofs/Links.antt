@@ -1,4 +1,4 @@
--- Each link that is handed in has one answer.
+-- Each link that is offered has exactly one result.
 use Rattle.std.proofs.Common.{◌≡◌, ◌⊎◌, inl, inr, ℕ, zero, suc, ◌+◌, ◌<◌, ◌≤◌, List, [], ◌∷◌, length, Option, None, Some, Bool, true, false, cond, Result, Ok, Err, refl, ap, sym, ◌∙◌, subst, arith, nat_eq, ◌||◌}
 use Rattle.std.specs.List.{list_any}
 use Rattle.std.proofs.Common.{Ordering, Less, Equal, Greater}
@@ -31,7 +31,7 @@ abbrev pub some_or : ℕ → Option ℕ → ℕ
 some_or d (Some x) = x
 some_or d None = d
 
--- ---- one answer at most
+-- ---- at most one result
 
 both : (x : Found) (t : Option ℕ) → x ≡ Some t → x ≡ None → ⊥
 both x t a b = subst IsFound (sym a ∙ b) tt
@@ -58,7 +58,7 @@ one_answer links from to (Ok true) (Err e) after last c d = absurd (new_not_refu
 one_answer links from to (Err e) (Ok true) after last c d = absurd (new_not_refused links from (link_target to) d.0 c.1)
 one_answer links from to (Err e) (Err f) after last c d = (ap Err (c.0 ∙ sym d.0), c.2 ∙ sym d.2)
 
--- ---- an answer
+-- ---- at least one result
 
 -- each offset that has a link is below this number
 abbrev most : List (ℕ × Option ℕ) → ℕ
@@ -128,7 +128,8 @@ same_option (Some n) None = inr (λ e. subst IsSome e tt)
 same_option (Some n) (Some m) = by_numbers (nat_eq n m) n m refl
 
 module _ (links : Links) (from : ℕ) where
-  -- offsets that were walked over, none of which is the one asked for, and each of which links to the next one if at all
+  -- the offsets passed so far: none is the target of the search, and the link of each, if it has
+  -- one, leads to one of them or to `offset`
   record Walked (met : List ℕ) (offset : ℕ) : Type 0 where
     apart : (q : ℕ) → In q met → q ≡ from → ⊥
     on : (q next : ℕ) → In q met → get links q ≡ Some (Some next) → In next (offset ∷ met)
@@ -140,7 +141,7 @@ module _ (links : Links) (from : ℕ) where
   stuck offset x e none apart [] h = apart h
   stuck offset x e none apart (next ∷ others) h = none (subst IsLinked (sym h.0 ∙ e) tt)
 
-  -- a link from one of these offsets that stays among them
+  -- the link of each of these offsets, if it has one, leads to one of them
   abbrev Stays : List ℕ → Type 0
   Stays met = (q next : ℕ) → In q met → get links q ≡ Some (Some next) → In next met
 
@@ -158,7 +159,7 @@ module _ (links : Links) (from : ℕ) where
   apart_more : (met : List ℕ) (offset : ℕ) → Walked met offset → (offset ≡ from → ⊥) → (q : ℕ) → In q (offset ∷ met) → q ≡ from → ⊥
   apart_more met offset w a q i = apart_by met offset q w a (either (nat_eq q offset) (list_any (nat_eq q) met) i)
 
-  -- where these offsets and this one lead to, given where this one does
+  -- where these offsets and this one lead, if it is known where this one leads
   leads_by : (met : List ℕ) (offset next : ℕ) (all : List ℕ) → Walked met offset → get links offset ≡ Some (Some next)
       → In next all → ((q : ℕ) → In q (offset ∷ met) → In q all)
       → (q n : ℕ) → (nat_eq q offset ≡ true) ⊎ In q met → get links q ≡ Some (Some n) → In n all
@@ -194,7 +195,7 @@ module _ (links : Links) (from : ℕ) where
   by_member true met offset next h w a g rest = turn_back met offset next w a g h
   by_member false met offset next h w a g rest = go_on offset next a g (rest h)
 
-  -- what is decided of the next offset decides of this one
+  -- a decision for the next offset is also a decision for this one
   abbrev Rest : List ℕ → ℕ → Type 0
   Rest met offset = (next : ℕ) → (offset ≡ from → ⊥) → get links offset ≡ Some (Some next) → list_any (nat_eq next) (offset ∷ met) ≡ false → Decided next
 
@@ -234,7 +235,7 @@ module _ (links : Links) (from : ℕ) where
       decided_of to (decide (most (entries links)) [] to (omega arith) (none_known (most (entries links))) refl
       (record { apart = λ q h. absurd (subst IsFalseBit h tt); on = λ q next h. absurd (subst IsFalseBit h tt) }))
 
-  -- one of the answers
+  -- one of the results
   abbrev Answered : Option ℕ → Type 0
   Answered to = (answer : Result Bool TiffError) × (after : Links) × Inserts links from to answer after
 

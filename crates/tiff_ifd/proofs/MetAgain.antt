@@ -1,4 +1,4 @@
--- A tree of the first of some offsets.
+-- A tree of the first offsets of a sequence.
 use Rattle.std.proofs.Common.{◌≡◌, ℕ, ◌+◌, ◌<◌, ◌≤◌, List, [], ◌∷◌, ◌++◌, length, get_or, max, Bool, true, false, ◌||◌, cond, refl, ap, sym, ◌∙◌, subst, arith, nat_eq}
 use Rattle.std.proofs.Math.Nat.{le-max_left, le-max_right}
 use Rattle.std.proofs.lemmas.Bool.Decides.{nat_tests}

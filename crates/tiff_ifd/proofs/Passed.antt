@@ -1,4 +1,4 @@
--- A directory on the way is known by its count and its link.
+-- The count and the link of a directory on the way are enough to pass it.
 use Rattle.std.proofs.Common.{◌≡◌, ℕ, ◌+◌, ◌^◌, ◌<◌, ◌≤◌, List, [], ◌∷◌, ◌++◌, length, reverse, Option, None, Some, Bool, true, false, Result, Ok, Err, refl, ap, sym, ◌∙◌, subst, arith}
 use Rattle.std.specs.List.{slice_get}
 use Rattle.std.proofs.lemmas.Option.{slice_get_past}
@@ -32,7 +32,7 @@ link_of_directory kind order bytes at =
     along (number_at order (count_width kind) bytes at) _ _ (λ count.
     along (number_at order (offset_width kind) bytes (link_offset kind at count)) _ _ (λ next. refl))
 
--- a link past each offset of 64 bits is past the end
+-- a link at an offset of 2^64 or more is past the end of the source
 pub link_past : (kind : FileKind) (order : ByteOrder) (bytes : List ℕ) (at count : ℕ) → length bytes < 2 ^ 64 → 2 ^ 64 ≤ link_offset kind at count
     → number_at order (offset_width kind) bytes (link_offset kind at count) ≡ Err (IoError UnexpectedEof)
 link_past kind order bytes at count short past = number_past order (offset_width kind) bytes (link_offset kind at count) (some_bytes kind) (omega (arith, short, past))
@@ -73,7 +73,7 @@ module _ (kind : FileKind) (order : ByteOrder) (bytes : List ℕ) where
   isnt_read : (at : ℕ) (fault : TiffError) → link_of kind order bytes at ≡ Err fault → directory_at kind order bytes at ≡ Err fault
   isnt_read at fault h = unread_by kind order bytes at fault (directory_at kind order bytes at) refl (sym (link_of_directory kind order bytes at) ∙ h)
 
-  -- ---- a step over it
+  -- ---- a step that passes a directory
 
   pub unlinked : (before : Walked) (offset : ℕ) (e : TiffError) → before.next ≡ Some offset → link_of kind order bytes offset ≡ Err e → NextIsRefused kind order bytes before e
   unlinked before offset e n h = unread kind order bytes before offset e n (isnt_read offset e h)
@@ -113,7 +113,7 @@ module _ (kind : FileKind) (order : ByteOrder) (bytes : List ℕ) where
       let r = is_read offset next h in
       cut_unentered kind order bytes failed walk offset r.0 next e n r.1 r.2 c
 
--- ---- what a step over shows
+-- ---- the facts that such a step shows
 
 -- one more offset
 pub grown_over : (kind : FileKind) (order : ByteOrder) (bytes old : List ℕ) (before after : Walked) (passed : Bool) → passed ≡ true
@@ -126,7 +126,8 @@ pub longer_over : (kind : FileKind) (order : ByteOrder) (bytes : List ℕ) (befo
 longer_over kind order bytes before after false p h = absurd (subst IsFalseBit p tt)
 longer_over kind order bytes before after true p h = one_longer kind order bytes before after (Some h.0) refl h.1
 
--- the count and the link that a step over the next offset asks for are among those of the whole way
+-- the bytes that a step needs for the count and the link of the next directory are among those of
+-- the whole way
 pub way_asked : (kind : FileKind) (order : ByteOrder) (s t : SourceRecord) (first index : ℕ) (walk : Walked) (e : TiffError) → t ≡ s
     → ChainBegins kind order s.bytes first walk → length walk.offsets ≤ index
     → (NextLinkReadable t kind order walk → IsNotDevice e) → WayReadable s kind order first index → IsNotDevice e
@@ -140,14 +141,14 @@ none_over kind order bytes before after true index p h l = absurd (subst IsFalse
 none_over kind order bytes before after false index p h l =
     sym (subst (λ (w : Walked). slice_get w.offsets index ≡ None) (sym h.1) (slice_get_past before.offsets index l))
 
--- and a chain that ends has no more either
+-- where the chain ends, the walk has no more offsets
 pub none_further : (kind : FileKind) (order : ByteOrder) (bytes seen : List ℕ) (first : ℕ) (walk : Walked) (end : Option TiffError) (index : ℕ) → seen ≡ bytes
     → ChainEnds kind order seen first walk end → length walk.offsets ≤ index → slice_get (chain kind order bytes first).offsets index ≡ None
 none_further kind order bytes seen first walk end index same h l =
     subst (λ (bs : List ℕ). slice_get (chain kind order bs first).offsets index ≡ None) same
     (ap (λ (c : Chain). slice_get c.offsets index) h ∙ slice_get_past walk.offsets index l)
 
--- a step that is refused leaves the walk as it was
+-- a step that fails leaves the walk unchanged
 pub refused_same : (kind : FileKind) (order : ByteOrder) (bytes : List ℕ) (failed : Type 0) (before after : Walked) (e : TiffError)
     → IsCause (after ≡ before) (failed × (after ≡ before)) e (WalkSteps kind order bytes before (Err e) after) → after ≡ before
 refused_same kind order bytes failed before after OutOfMemory h = h
@@ -162,7 +163,7 @@ refused_same kind order bytes failed before after LimitsExceeded h = h.1
 refused_same kind order bytes failed before after IntSizeError h = h.1
 refused_same kind order bytes failed before after (UsageError x) h = h.1
 
--- a fault on the way is where the chain ends
+-- an error on the way is the end of the chain
 pub way_cut : {failed failed' : Type 0} (kind : FileKind) (order : ByteOrder) (bytes seen : List ℕ) (start walk left : Walked) (index : ℕ) (e : TiffError)
     → seen ≡ bytes → ((first : ℕ) → ChainBegins kind order bytes first start → ChainBegins kind order bytes first walk) → length walk.offsets ≤ index → left ≡ walk
     → (failed → failed') → IsCause (Unit {0}) failed e ((first : ℕ) → ChainBegins kind order seen first walk → ChainEnds kind order seen first walk (Some e))

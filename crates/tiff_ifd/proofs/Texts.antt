@@ -1,4 +1,4 @@
--- A text in ASCII is UTF-8, also without the zeros at its ends.
+-- An ASCII text is UTF-8, also without the zeros at its ends.
 use Rattle.std.proofs.Common.{◌≡◌, ◌<◌, ℕ, Bool, true, false, List, ◌&&◌, refl, arith, length, ◌-◌}
 use Rattle.std.specs.Prelude.{slice_index, if◌then◌else◌, Ok, Err}
 use Rattle.std.specs.Str.{IsAscii, is_utf8}

@@ -35,7 +35,7 @@ byte_there s v at =
     (λ (f : leb 1 (length s - at) ≡ false). rw f (λ h. cc))
     (cases_Bool (leb 1 (length s - at)))
 
--- a byte of a source that tells the same
+-- a byte of a source whose bytes are unchanged
 pub same_byte : (s t : List ℕ) (at byte : ℕ) → t ≡ s → (at < length t) × (byte ≡ get_or t at 0) → (at < length s) × (byte ≡ get_or s at 0)
 same_byte s t at byte e h = subst (λ (l : List ℕ). (at < length l) × (byte ≡ get_or l at 0)) e h
 
@@ -98,7 +98,7 @@ run_begun s at len n value a b e h v =
 pub header_missing : (s : List ℕ) (at len : ℕ) → 0 < len → length s ≤ at → unpacked_at s at len ≡ nothing_left Broken
 header_missing s at len a b = rw (packed_nil s at len (inr b), lt-ltb (length s - at) len (omega (arith, a, b))) (runs_nil true)
 
--- a header of a run stands last, in the source or of the packed bytes
+-- the header of a run is the last byte, of the source or of the packed bytes
 pub value_missing : (s : List ℕ) (at len n : ℕ) → 0 < len → at < length s → n ≡ get_or s at 0 → 128 < n → (len - 1 ≡ 0) ⊎ (length s ≤ at + 1)
     → unpacked_at s at len ≡ nothing_left Broken
 value_missing s at len n a b e h m =
@@ -107,7 +107,7 @@ value_missing s at len n a b e h m =
 pub all_read : (s : List ℕ) (at len : ℕ) → len ≡ 0 → unpacked_at s at len ≡ nothing_left Plain
 all_read s at len a = rw (packed_nil s at len (inl a), le-ltb (length s - at) len (omega (arith, a))) (runs_nil false)
 
--- why the next block isn't found
+-- the error where there is no next block
 pub header_cause : (failed failed' : Type 0) (s t : List ℕ) (at len : ℕ) (left : Unpacked) (e : TiffError) → t ≡ s → (failed → failed') → left ≡ unpacked_at s at len → 0 < len
     → IsCause ⊥ failed e ((e ≡ IoError UnexpectedEof) × (length t ≤ at)) → IsCause ⊥ failed' e (IsBroken left 1 e)
 header_cause failed failed' s t at len left e b f l a h = cause_along e (λ w. w) f
@@ -209,7 +209,7 @@ run_gives s old part offset value count n e a b o p =
 
 -- ---- reads in a row
 
--- what a buffer's front holds after a read into the part from done on
+-- the front of a buffer after a read into its part from `done` on
 pub read_behind : (buf part : List ℕ) (done k n : ℕ) → done ≤ length buf → n ≤ length part → take (done + n) (put_mid done k buf part) ≡ take done buf ++ take n part
 read_behind buf part done k n h g =
     let l : length (take done buf) ≡ done = length-take-le done buf h in
@@ -222,7 +222,7 @@ more_read first mid last buf part old done k n h l e r =
     e ∙ ap (with_front (take done buf)) r.next ∙ before_before (take done buf) (take n part) last
     ∙ ap (λ (xs : List ℕ). with_front xs last) (sym (read_behind buf part done k n h (omega (arith, r.in_buffer, l))))
 
--- the same of a source that tells the same before and after
+-- the front of a buffer, for a source whose bytes are unchanged
 pub more_read_at : (s t u : List ℕ) (first mid last : PackedPosition) (buf part old : List ℕ) (done k n : ℕ) → t ≡ s → u ≡ s → done ≤ length buf → length part ≡ length old
     → left_at s first ≡ with_front (take done buf) (left_at s mid) → GivesNext (left_at t mid) old n part (left_at u last)
     → left_at s first ≡ with_front (take (done + n) (put_mid done k buf part)) (left_at s last)
@@ -235,7 +235,7 @@ pub room_behind : (buf part old : List ℕ) (done k n : ℕ) → done ≤ length
 room_behind buf part old done k n h l g =
     omega (arith, length-append (take done buf) (part ++ post_of done k buf), length-append part (post_of done k buf), length-take-le done buf h, h, l, g)
 
--- at an end there are fewer bytes than the buffer has room for
+-- at an end, fewer bytes are left than the buffer has room for
 pub short_by : (first left : Unpacked) (end : End) (buf : List ℕ) (done : ℕ) → done < length buf → first ≡ with_front (take done buf) left → left ≡ nothing_left end → length first.out < length buf
 short_by first left end buf done h e f =
     let l : length first.out ≡ length (take done buf ++ left.out) = ap (λ (u : Unpacked). length u.out) e in

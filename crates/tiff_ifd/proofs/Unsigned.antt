@@ -1,4 +1,4 @@
--- Unsigned numbers are converted as they are.
+-- The conversion of unsigned numbers does not change them.
 use Rattle.std.proofs.Common.{◌≡◌, ◌∙◌, inl, inr, ℕ, zero, suc, ◌+◌, ◌*◌, ◌<◌, ◌≤◌, get_or, List, [], ◌∷◌, length, map, Bool, Result, Ok, Err, true, false, ◌==◌, refl, ap, sym, arith}
 use Rattle.std.proofs.lemmas.Bool.{ne_eqb}
 use Rattle.std.proofs.lemmas.List.{ext_get_or, take_all}
@@ -26,7 +26,7 @@ use Rattle.tiff_ifd.specs.Into.{each_item, into_u64, into_u64_vec}
 use Rattle.tiff_ifd.specs.Item.{items, list_item}
 use Rattle.tiff_ifd.specs.Unsigned.{IsUnsigned, numbers_from, placed_numbers, unsigned_width}
 
--- values that are a number each
+-- values that are one number each
 each_mapped : (f : ℕ → Datum) (g : ℕ → ℕ) → ((i : ℕ) → into_u64 (f i) ≡ Ok (g i)) → (xs : List ℕ) → each_item into_u64 (datum_list_of (map f xs)) ≡ Ok (map g xs)
 each_mapped f g h [] = refl
 each_mapped f g h (x ∷ xs) = rw (h x, each_mapped f g h xs) refl
@@ -46,7 +46,7 @@ longs_8 order n bs = each_mapped _ _ (λ i. refl) (range_with_len 0 n)
 several : (n : ℕ) → (suc (suc n) == 1) ≡ false
 several n = ne_eqb (suc (suc n)) 1 (λ e. omega (arith, e))
 
--- one number stands alone
+-- a single number
 one_short : (order : ByteOrder) (bs : List ℕ) → length bs ≡ 2 → (number order w16 bs ∷ []) ≡ items (number order w16) 2 1 bs
 one_short order bs l = ap (λ (xs : List ℕ). number order w16 xs ∷ []) (sym (take_all 2 bs (omega (arith, l))))
 
@@ -56,7 +56,7 @@ one_long order bs l = ap (λ (xs : List ℕ). number order w32 xs ∷ []) (sym (
 one_long_8 : (order : ByteOrder) (bs : List ℕ) → length bs ≡ 8 → (number order w64 bs ∷ []) ≡ items (number order w64) 8 1 bs
 one_long_8 order bs l = ap (λ (xs : List ℕ). number order w64 xs ∷ []) (sym (take_all 8 bs (omega (arith, l))))
 
--- numbers of each of the types, as they are placed
+-- numbers of each of the types, in values outside the entry
 placed_shorts : (order : ByteOrder) (n : ℕ) (bs : List ℕ) → length bs ≡ n * 2
     → (value_from false t.SHORT order n bs >>= into_u64_vec) ≡ Ok (items (number order w16) 2 n bs)
 placed_shorts order zero bs l = refl
@@ -75,7 +75,7 @@ placed_longs_8 order zero bs l = refl
 placed_longs_8 order (suc zero) bs l = ap Ok (one_long_8 order bs (omega (arith, l)))
 placed_longs_8 order (suc (suc n)) bs l = rw (several n) (longs_8 order (suc (suc n)) bs)
 
--- unsigned numbers that stand elsewhere
+-- unsigned numbers in values outside the entry
 pub unsigned_value : (type : «Type») (order : ByteOrder) (n : ℕ) (bs : List ℕ) → IsUnsigned type → length bs ≡ n * type_size type
     → (value_from false type order n bs >>= into_u64_vec) ≡ Ok (items (number order (unsigned_width type)) (type_size type) n bs)
 unsigned_value t.SHORT order n bs h l = placed_shorts order n bs l
@@ -85,7 +85,7 @@ unsigned_value type order n bs (inl e) l = absurd (cc)
 unsigned_value type order n bs (inr (inl e)) l = absurd (cc)
 unsigned_value type order n bs (inr (inr e)) l = absurd (cc)
 
--- bytes that are allowed, read and converted, in one step or in two
+-- one step, or two steps, to check the limits, read the bytes and convert them
 converted : {B : Type 0} (b : Bool) (found : Result (List ℕ) TiffError) (e : TiffError) (f : List ℕ → Result Datum TiffError) (g : Datum → Result B TiffError)
     → ((if b then (found >>= f) else Err e) >>= g) ≡ (if b then (found >>= λ x. f x >>= g) else Err e)
 converted true (Ok x) e f g = refl
@@ -109,19 +109,19 @@ items_at read width n k bs h =
     let e : width * k ≡ k * width = omega arith in
     get_or-map-range_with_len (λ i. read (bytes_at bs (width * i) width)) 0 n k k 0 h (omega arith) ∙ ap (λ (m : ℕ). read (bytes_at bs m width)) e
 
--- numbers that are read one by one are all of them
+-- the numbers, read one by one, are the numbers of all bytes
 pub each_read : (read : List ℕ → ℕ) (width n : ℕ) (bs numbers : List ℕ) → length numbers ≡ n
     → ((k : ℕ) → k < length numbers → get_or numbers k 0 ≡ read (bytes_at bs (k * width) width)) → numbers ≡ items read width n bs
 each_read read width n bs numbers l e =
     ext_get_or 0 numbers (items read width n bs) (l ∙ sym (length-items read width n bs)) (λ k h. e k h ∙ sym (items_at read width n k bs (omega (arith, h, l))))
 
--- and so the numbers of the value
+-- the numbers, read one by one, are the numbers of the value
 pub each_given : (type : «Type») (order : ByteOrder) (n : ℕ) (bs numbers : List ℕ) → IsUnsigned type → length bs ≡ n * type_size type → length numbers ≡ n
     → ((k : ℕ) → k < length numbers → get_or numbers k 0 ≡ number order (unsigned_width type) (bytes_at bs (k * type_size type) (type_size type)))
     → numbers_from type order n bs ≡ Ok numbers
 each_given type order n bs numbers h l m e =
     unsigned_value type order n bs h l ∙ ap Ok (sym (each_read (number order (unsigned_width type)) (type_size type) n bs numbers m e))
 
--- which are no fault
+-- the numbers are no error
 pub unsigned_ok : (type : «Type») (order : ByteOrder) (n : ℕ) (bs : List ℕ) → IsUnsigned type → length bs ≡ n * type_size type → IsOk (numbers_from type order n bs)
 unsigned_ok type order n bs h l = ap (λ (r : Result (List ℕ) TiffError). is_ok r) (unsigned_value type order n bs h l)

@@ -1,4 +1,4 @@
--- Values that no limit refuses, and whose bytes are there.
+-- Values within all limits, whose bytes are in the source.
 use Rattle.std.proofs.Common.{◌≡◌, ℕ, List, ◌∷◌, Bool, true, false, Option, None, Some, Result, Ok, Err, refl}
 use Rattle.std.specs.Prelude.{IsOk, if◌then◌else◌}
 use Rattle.tiff_base.specs.declared.error.TiffError.{TiffError}
@@ -22,7 +22,7 @@ text_within : {Y : Type 0} (b : Bool) (y : Y) → IsWithinLimits (if b then Ok y
 text_within true y = tt
 text_within false y = tt
 
--- what bytes that were read are refused as is no limit
+-- an error of bytes that were read is not `LimitsExceeded`
 pub value_within : (inline : Bool) (type : «Type») (order : ByteOrder) (count : ℕ) (bytes : List ℕ) → IsWithinLimits (value_from inline type order count bytes)
 value_within true t.ASCII order count bytes = text_within _ _
 value_within false t.ASCII order count bytes = text_within _ _
@@ -42,7 +42,7 @@ value_within inline t.LONG8 order count bytes = tt
 value_within inline t.SLONG8 order count bytes = tt
 value_within inline t.IFD8 order count bytes = tt
 
--- bytes that are there are refused as no limit
+-- an error of bytes that are in the source is not `LimitsExceeded`
 pub read_within : (inline : Bool) (type : «Type») (order : ByteOrder) (count : ℕ) (found : Result (List ℕ) TiffError)
     → IsOk found → IsWithinLimits (found >>= λ bytes. value_from inline type order count bytes)
 read_within inline type order count (Ok bytes) h = value_within inline type order count bytes
@@ -52,14 +52,14 @@ text_string_within : (b : Bool) (text : List ℕ) → IsWithinLimits ((if b then
 text_string_within true text = tt
 text_string_within false text = tt
 
--- the same of a text alone
+-- an error of a text whose bytes are in the source is not `LimitsExceeded`
 pub text_read_within : (found : Result (List ℕ) TiffError) → IsOk found → IsWithinLimits (found >>= placed_text >>= into_string)
 text_read_within (Ok bytes) h = text_string_within _ _
 text_read_within (Err e) h = absurd (cc)
 
--- ---- where memory is wanted
+-- ---- where memory is allocated
 
--- a value that is looked for, and there
+-- a value that the look-up finds
 pub found_wanted : (inline : Bool) (given : Result Datum TiffError) → WantsValue inline given → WantsValue inline (given >>= λ d. Ok (Some d))
 found_wanted true (Ok d) h = h
 found_wanted true (Err e) h = h
@@ -79,7 +79,7 @@ there_within : (given : Result Datum TiffError) → IsWithinLimits given → IsF
 there_within (Ok d) h = tt
 there_within (Err e) h = h
 
--- what is looked for is found within the limits and the source
+-- a value that the look-up finds is within the limits and the source
 pub look_within : (kind : FileKind) (value : Field → Result Datum TiffError) (field : Option Field) → WantsFound kind field (if_found value field)
     → IsFoundWithin (if_found value field)
 look_within kind value None h = absurd h
@@ -102,22 +102,22 @@ each_within (more d ds) =
     bound_within (into_u64 d) (λ x. each_item into_u64 ds >>= λ xs. Ok (x ∷ xs)) (number_within d)
     (λ x. bound_within (each_item into_u64 ds) (λ xs. Ok (x ∷ xs)) (each_within ds) (λ xs. tt))
 
--- what the numbers of a value are refused as is no limit
+-- an error of the numbers of a value is not `LimitsExceeded`
 pub numbers_within : (d : Datum) → IsWithinLimits (into_u64_vec d)
 numbers_within (list ds) = each_within ds
 numbers_within _ = tt
 
--- and so of a value that is read
+-- an error of the numbers of a value that is read is not `LimitsExceeded`
 pub field_numbers_within : (inline : Bool) (given : Result Datum TiffError) → WantsValue inline given → IsWithinLimits (given >>= into_u64_vec)
 field_numbers_within inline given h = bound_within given into_u64_vec (wanted_within inline given h) numbers_within
 
--- the numbers of bytes that are there
+-- the numbers of bytes that are in the source
 pub placed_within : (type : «Type») (order : ByteOrder) (count : ℕ) (found : Result (List ℕ) TiffError) → IsOk found
     → IsWithinLimits (found >>= λ bytes. numbers_from type order count bytes)
 placed_within type order count (Ok bytes) h = bound_within (value_from false type order count bytes) into_u64_vec (value_within false type order count bytes) numbers_within
 placed_within type order count (Err e) h = absurd (cc)
 
--- numbers that are looked for, of a value that is found
+-- the numbers of a value that the look-up finds
 pub numbers_found : (given : Result Datum TiffError) → IsWithinLimits (given >>= into_u64_vec) → IsFoundWithin (given >>= λ d. Ok (Some d))
 numbers_found (Ok d) h = tt
 numbers_found (Err e) h = h

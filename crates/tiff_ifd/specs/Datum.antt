@@ -1,4 +1,4 @@
--- What a `Value` is, to a contract: the items of a list are values too.
+-- A `Value` as contracts see it; the items of a list are values too.
 use Rattle.std.specs.Prelude.{ℕ, ℤ, List, [], ◌∷◌}
 
 mutual

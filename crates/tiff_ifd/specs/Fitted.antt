@@ -9,7 +9,7 @@ use Rattle.tiff_base.specs.Answers.{◌>>=◌}
 abbrev pub fit : Tag → ℕ → ℕ → Result ℕ TiffError
 fit tag limit n = if nat_lt n limit then Ok n else Err (FormatError (InvalidTagValueType tag))
 
--- the numbers of a tag, or the fault of the first that isn't below the limit
+-- the numbers of a tag, or the error of the first number that is not below the limit
 abbrev pub fitted_numbers : Tag → ℕ → List ℕ → Result (List ℕ) TiffError
 fitted_numbers tag limit [] = Ok []
 fitted_numbers tag limit (n ∷ ns) = do

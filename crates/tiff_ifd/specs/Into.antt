@@ -1,4 +1,4 @@
--- What the conversions of a value accept, and what they give (as in the Rust crate).
+-- The conversions of a value: the kinds that each accepts, and the results (as in the Rust crate).
 use Rattle.std.specs.Prelude.{ℕ, ◌^◌, ℤ, pos, negsuc, List, [], ◌∷◌, ◌++◌, if◌then◌else◌, nat_lt, Result, Ok, Err}
 use Rattle.std.specs.Str.{chars}
 use Rattle.tiff_base.specs.declared.error.TiffError.{TiffError}
@@ -7,7 +7,7 @@ use Rattle.tiff_base.specs.declared.error.TiffFormatError.TheVariants.{InvalidTy
 use Rattle.tiff_base.specs.Answers.{◌>>=◌}
 use Rattle.tiff_ifd.specs.Datum.{Datum, DatumList, none, more, list, byte, short, signed_byte, signed_short, signed, signed_big, unsigned, unsigned_big, float, double, ifd, ifd_big, ascii, rational, rational_big, srational, srational_big}
 
--- the conversion does not accept this kind of value
+-- the error of a conversion that does not accept the kind of value
 abbrev pub wrong_type : {A : Type 0} → Result A TiffError
 wrong_type = Err (FormatError InvalidTypeForTag)
 
@@ -15,7 +15,7 @@ wrong_type = Err (FormatError InvalidTypeForTag)
 abbrev pub below_limit : ℕ → ℕ → Result ℕ TiffError
 below_limit limit n = if nat_lt n limit then Ok n else Err IntSizeError
 
--- a signed number that has to be at least -half, and below half
+-- a signed number that has to be at least -half and below half
 abbrev pub in_signed_range : ℕ → ℤ → Result ℤ TiffError
 in_signed_range half (pos n) = if nat_lt n half then Ok (pos n) else Err IntSizeError
 in_signed_range half (negsuc n) = if nat_lt n half then Ok (negsuc n) else Err IntSizeError
@@ -74,7 +74,7 @@ into_i64 (signed n) = Ok n
 into_i64 (signed_big n) = Ok n
 into_i64 _ = wrong_type
 
--- the bits of a floating number
+-- the bits of a floating-point number
 abbrev pub into_f32 : Datum → Result ℕ TiffError
 into_f32 (float n) = Ok n
 into_f32 _ = wrong_type
@@ -95,17 +95,18 @@ abbrev pub into_string : Datum → Result (List ℕ) TiffError
 into_string (ascii text) = Ok text
 into_string _ = wrong_type
 
--- what a list gives: what its items give in order, or the fault of the first that fails
+-- the results of the items of a list in order, or the error of the first item that fails
 abbrev pub each_item : {A : Type 0} → (Datum → Result A TiffError) → DatumList → Result (List A) TiffError
 each_item into none = Ok []
 each_item into (more f fs) = into f >>= λ x. each_item into fs >>= λ xs. Ok (x ∷ xs)
 
--- the same, where an item gives a list
+-- the joined results of the items of a list, where each item gives a list, or the error of the
+-- first item that fails
 abbrev pub each_joined : {A : Type 0} → (Datum → Result (List A) TiffError) → DatumList → Result (List A) TiffError
 each_joined into none = Ok []
 each_joined into (more f fs) = into f >>= λ xs. each_joined into fs >>= λ ys. Ok (xs ++ ys)
 
--- some numbers behind others
+-- the old numbers, followed by the converted ones
 abbrev pub append_numbers : {A : Type 0} → List A → Result (List A) TiffError → Result (List A) TiffError
 append_numbers old found = found >>= λ xs. Ok (old ++ xs)
 
@@ -113,7 +114,7 @@ append_numbers old found = found >>= λ xs. Ok (old ++ xs)
 abbrev pub single_number : {A : Type 0} → Result A TiffError → Result (List A) TiffError
 single_number found = found >>= λ x. Ok (x ∷ [])
 
--- two numbers, the first of which is tested first
+-- two numbers, the first of which is checked first
 abbrev pub both_numbers : {A : Type 0} → Result A TiffError → Result A TiffError → Result (List A) TiffError
 both_numbers first second = first >>= λ x. second >>= λ y. Ok (x ∷ y ∷ [])
 
@@ -128,7 +129,7 @@ into_u16_vec (byte n) = Ok (n ∷ [])
 into_u16_vec (short n) = Ok (n ∷ [])
 into_u16_vec _ = wrong_type
 
--- a rational gives two numbers, a text those of its characters
+-- a rational gives two numbers, a text gives its characters
 abbrev pub into_u32_vec : Datum → Result (List ℕ) TiffError
 into_u32_vec (list items) = each_item into_u32 items
 into_u32_vec (rational n d) = Ok (n ∷ d ∷ [])
@@ -136,7 +137,7 @@ into_u32_vec (rational_big n d) = both_numbers (below_limit (2 ^ 32) n) (below_l
 into_u32_vec (ascii text) = Ok (chars text)
 into_u32_vec f = single_number (into_u32 f)
 
--- the same of larger numbers
+-- a rational gives two numbers, a text gives its characters; the numbers may have 64 bits
 abbrev pub into_u64_vec : Datum → Result (List ℕ) TiffError
 into_u64_vec (list items) = each_item into_u64 items
 into_u64_vec (rational n d) = Ok (n ∷ d ∷ [])
@@ -154,7 +155,7 @@ abbrev pub into_i32_vec : Datum → Result (List ℤ) TiffError
 into_i32_vec (list items) = each_joined i32s_of items
 into_i32_vec f = i32s_of f
 
--- the same of larger numbers
+-- a signed rational gives two numbers, which may have 64 bits
 abbrev pub i64s_of : Datum → Result (List ℤ) TiffError
 i64s_of (srational n d) = Ok (n ∷ d ∷ [])
 i64s_of (srational_big n d) = Ok (n ∷ d ∷ [])

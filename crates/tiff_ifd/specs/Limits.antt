@@ -1,4 +1,4 @@
--- No limit.
+-- The limits that allow everything.
 use Rattle.tiff_ifd.specs.declared.limits.Limits.{Limits}
 
 abbrev pub unlimited : Limits

@@ -1,4 +1,4 @@
--- The tags of a directory, looked up by tag.
+-- Looks up the tags of a directory.
 use Rattle.std.specs.Prelude.{ℕ, ◌<◌, Bool, List, Option, Some, None, Result, Ok, Err, unwrap_or}
 use Rattle.std.specs.FinMap.{FinMap, get, contains_key}
 use Rattle.std.specs.Ordering.{nat_cmp}
@@ -18,13 +18,13 @@ use Rattle.tiff_ifd.specs.Datum.{Datum}
 use Rattle.tiff_ifd.specs.FieldValue.{field_value}
 use Rattle.tiff_ifd.specs.Stretches.{TagReadable}
 
--- which tags there are, and the value of each
+-- the tags that a directory has, and the value of each
 pub record Look : Type 0 where
   pub has : Tag → Bool
   pub value : Tag → Result (Option Datum) TiffError
 
--- what tags tell: the look-up, and the source, the kind and the byte order of the file, the directory and the limits that it
--- is of
+-- what is known of a directory's tags: the look-up, the source, the kind and the byte order of the
+-- file, the directory, and the limits
 pub record DirectoryTags : Type 0 where
   pub look : Look
   pub source : SourceRecord
@@ -33,22 +33,22 @@ pub record DirectoryTags : Type 0 where
   pub directory : DirectoryRecord
   pub limits : Limits
 
--- A source answers for the values of a tag of its directory, if the directory has it.
+-- The source can read the values of a tag, if its directory has the tag.
 abbrev pub ValueReadable : DirectoryTags → Tag → Type 0
 ValueReadable tags tag = TagReadable tags.source tags.kind tags.order tags.directory tag
 
--- Of the bytes that aren't the directory's, those of the values of a tag alone are asked for.
+-- Outside the directory, the call reads only the values of the tag.
 abbrev pub AsksForTag : {X : Type 0} → DirectoryTags → Tag → Result X TiffError → Type 0
 AsksForTag tags tag result = AsksOnly (ValueReadable tags tag) result
 
--- what is found, read or converted or tested
+-- the result of a further step on a value, where there is one
 abbrev pub if_found : {A B : Type 0} → (A → Result B TiffError) → Option A → Result (Option B) TiffError
 if_found read None = Ok None
 if_found read (Some x) = do
   y ← read x
   Ok (Some y)
 
--- the look-up in a directory's fields, whose values are read in this way
+-- the look-up in the fields of a directory, with this function to read values
 abbrev pub look_up_in : (Field → Result Datum TiffError) → FinMap nat_cmp Field → Look
 look_up_in value fields = record {
   has = λ tag. contains_key fields (tag_number tag);
@@ -59,30 +59,31 @@ look_up_in value fields = record {
 unfoldable pub look_in : FileKind → ByteOrder → List ℕ → Limits → FinMap nat_cmp Field → Look
 look_in kind order bytes limits fields = look_up_in (field_value kind order bytes limits) fields
 
--- a tag's value by a conversion, if there is the tag
+-- the converted value of a tag, if the directory has the tag
 unfoldable pub find : {A : Type 0} → (Datum → Result A TiffError) → Look → Tag → Result (Option A) TiffError
 find into look tag = do
   found ← look.value tag
   if_found into found
 
--- the same, or another where there is no such tag
+-- the converted value of a tag, or `otherwise` where the directory does not have the tag
 abbrev pub find_or : {A : Type 0} → (Datum → Result A TiffError) → Look → Tag → A → Result A TiffError
 find_or into look tag otherwise = do
   found ← find into look tag
   Ok (unwrap_or found otherwise)
 
--- a value that has to be there, else the fault
+-- a required value, or the error where it is missing
 abbrev pub ok_or_fault : {A : Type 0} → Option A → TiffError → Result A TiffError
 ok_or_fault None fault = Err fault
 ok_or_fault (Some x) fault = Ok x
 
--- a required tag's value by a conversion
+-- the converted value of a required tag
 unfoldable pub require : {A : Type 0} → (Datum → Result A TiffError) → Look → Tag → Result A TiffError
 require into look tag = do
   found ← find into look tag
   ok_or_fault found (FormatError (RequiredTagNotFound tag))
 
--- The answer of a call that looks a tag up and converts its value, but for a device, and for want of memory where the tag is
--- found within the limits and the source.
+-- The result of a call that looks up a tag and converts its value. The call may also fail because
+-- of the source device, or run out of memory where the tag is found within the limits and the
+-- source.
 abbrev pub AnswersFound : {X Y : Type 0} → (X → Y) → Result X TiffError → Result Y TiffError → Look → Tag → ℕ → ℕ → Type 0
 AnswersFound view result given look tag before after = AnswersBut (IsFoundWithin (look.value tag)) (before < after) view result given

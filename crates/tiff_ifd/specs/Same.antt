@@ -1,4 +1,4 @@
--- When two values are the same: the same kind, and equal parts.
+-- Equality of two values: the same kind, and equal parts.
 use Rattle.std.specs.Prelude.{◌≡◌, ℕ, List, [], ◌∷◌, Bool, true, false, ◌&&◌, ◌==◌}
 use Rattle.std.specs.Ordering.{int_eq}
 use Rattle.std.specs.Cmp.Lexicographic.{pointwise}
@@ -7,7 +7,8 @@ use Rattle.std.specs.Cmp.{IsPartialEquivalence, partial_equiv_from_equiv, decide
 use Rattle.std.proofs.Common.{ap, refl}
 use Rattle.tiff_ifd.specs.Datum.{Datum, DatumList, none, more, byte, short, signed_byte, signed_short, signed, signed_big, unsigned, unsigned_big, float, double, list, rational, rational_big, srational, srational_big, ascii, ifd, ifd_big}
 
--- the same kind and equal parts, at any depth; other kinds differ
+-- two values are equal where their kinds are the same and their parts are equal, at any depth;
+-- values of different kinds differ
 abbrev mutual
   pub same : Datum → Datum → Bool
   same (byte m) (byte n) = m == n
@@ -35,7 +36,7 @@ abbrev mutual
   all_same (more f fs) (more g gs) = same f g && all_same fs gs
   all_same _ _ = false
 
--- what a test decides, a test of more parts decides
+-- a test that decides a statement also decides an equivalent statement
 along : {P Q : Type 0} (b : Bool) → Decides b P → (P → Q) → (Q → P) → Decides b Q
 along b d f g = (λ h. f (d.0 h), λ q. d.1 (g q))
 
@@ -50,7 +51,7 @@ text_Decides [] (y ∷ ys) = (λ h. cc, λ e. cc)
 text_Decides (x ∷ xs) [] = (λ h. cc, λ e. cc)
 text_Decides (x ∷ xs) (y ∷ ys) = both (x == y) (pointwise ◌==◌ xs ys) (unsigned_Decides x y) (text_Decides xs ys) (λ p q. cc) (λ e. cc) (λ e. cc)
 
--- they are the same exactly where they are equal
+-- `same` is true exactly where the two values are equal
 mutual
   pub same_Decides : (f g : Datum) → Decides (same f g) (f ≡ g)
   same_Decides (byte m) (byte n) = along (m == n) (unsigned_Decides m n) (ap byte) (λ e. cc)

@@ -1,4 +1,4 @@
--- A reader of numbers, and what it reads (TIFF 6.0 section 2).
+-- A reader of numbers, and the numbers that it reads (TIFF 6.0 section 2).
 use Rattle.std.specs.Prelude.{◌≡◌, ℕ, ◌+◌, ◌≤◌, List, Result, Ok, Err}
 use Rattle.std.specs.Int.{Width, byte_len}
 use Rattle.tiff_base.specs.declared.error.TiffError.{TiffError}
@@ -8,26 +8,27 @@ use Rattle.tiff_base.specs.declared.tags.Bits64.{Bits64}
 use Rattle.tiff_base.specs.Answers.{AnswersWithoutMemory, NoneSwallowed, ◌>>=◌}
 use Rattle.tiff_base.specs.Number.{number_at}
 
--- the bytes of its source, how many reads of it failed so far, the byte order, and the offset of the next number
+-- the bytes of the source, the number of failed reads so far, the byte order, and the offset of the
+-- next number
 pub record Reading : Type 0 where
   pub bytes : List ℕ
   pub failures : ℕ
   pub order : ByteOrder
   pub offset : ℕ
 
--- the offset after a read of so many bytes; a refused one leaves it
+-- the offset after a read of `len` bytes; an error leaves the offset as it is
 abbrev pub offset_behind : {X : Type 0} → Result X TiffError → ℕ → ℕ → ℕ
 offset_behind (Ok x) len offset = offset + len
 offset_behind (Err e) len offset = offset
 
--- The number of this width at the offset was read, and answered as this.
+-- The call reads the number of this width at the offset, and returns it as `as_number` converts it.
 pub record NumberRead {X : Type 0} (w : Width) (as_number : ℕ → X) (result : Result X TiffError) (old new : Reading) : Type 0 where
   pub answer : AnswersWithoutMemory (λ x. x) result (number_at old.order w old.bytes old.offset >>= λ n. Ok (as_number n)) old.failures new.failures
   pub stands : new ≡ record old { failures = new.failures; offset = offset_behind result (byte_len w) old.offset }
   pub failures : old.failures ≤ new.failures
   pub swallowed : NoneSwallowed result old.failures new.failures
 
--- the floating number of these bits
+-- the floating-point number with these bits
 abbrev pub of_bits_32 : ℕ → Bits32
 of_bits_32 n = record { 0 = n }
 

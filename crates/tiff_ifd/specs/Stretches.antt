@@ -1,4 +1,5 @@
--- Which bytes a source is asked for by reads of a header, of directories and of values (TIFF 6.0 section 2; BigTIFF).
+-- The bytes of a source that reads of a header, of directories and of values need (TIFF 6.0 section
+-- 2; BigTIFF).
 use Rattle.std.specs.Int.{byte_len, w16}
 use Rattle.std.specs.FinMap.{get}
 use Rattle.std.specs.Prelude.{◌≡◌, ℕ, ◌+◌, ◌*◌, ◌<◌, ◌==◌, List, Some, Result, Ok, Err, if◌then◌else◌}
@@ -15,35 +16,35 @@ use Rattle.tiff_base.specs.Number.{number_at}
 use Rattle.tiff_base.specs.SourceAndSink.{AreReadable, SourceRecord}
 use Rattle.tiff_base.specs.Tags.{tag_number}
 
--- how many bytes are read of a header of this version: 16 of BigTIFF's, whose version is 43, else 8
+-- the number of header bytes that a read needs: 16 for the version 43, which is BigTIFF, else 8
 abbrev pub header_len_of : Result ℕ TiffError → ℕ
 header_len_of (Ok version) = if version == 43 then 16 else 8
 header_len_of (Err e) = 8
 
--- those of the header of a file
+-- the number of bytes of a file's header that a read needs
 abbrev pub header_len : List ℕ → ℕ
 header_len bytes = header_len_of (order_at bytes >>= (λ order. number_at order w16 bytes 2))
 
--- A source answers for the bytes of the header.
+-- The source can read the bytes of the header.
 abbrev pub HeaderReadable : SourceRecord → Type 0
 HeaderReadable source = AreReadable source 0 (header_len source.bytes)
 
--- It answers for the count of entries of the directory at an offset, and for its link.
+-- The source can read the entry count and the link of the directory at an offset.
 pub record LinkReadable (source : SourceRecord) (kind : FileKind) (order : ByteOrder) (at : ℕ) : Type 0 where
   pub count : AreReadable source at (byte_len (count_width kind))
   pub link : (n : ℕ) → number_at order (count_width kind) source.bytes at ≡ Ok n
       → AreReadable source (link_offset kind at n) (byte_len (offset_width kind))
 
--- It answers for the whole directory at an offset: its count, so many entries, and its link.
+-- The source can read the whole directory at an offset: its count, its entries and its link.
 pub record DirectoryReadable (source : SourceRecord) (kind : FileKind) (order : ByteOrder) (at : ℕ) : Type 0 where
   pub count : AreReadable source at (byte_len (count_width kind))
   pub entries : (n : ℕ) → number_at order (count_width kind) source.bytes at ≡ Ok n
       → AreReadable source (at + byte_len (count_width kind)) (entry_len kind * n + byte_len (offset_width kind))
 
--- It answers for the values of a field where these don't stand in the entry.
+-- The source can read the values of a field where they are outside the entry.
 pub record FieldReadable (source : SourceRecord) (kind : FileKind) (order : ByteOrder) (f : Field) : Type 0 where
   pub placed : byte_len (offset_width kind) < field_len f → AreReadable source (field_offset kind order f) (field_len f)
 
--- It answers for those of a tag of a directory, if the directory has it.
+-- The source can read the values of a tag, if the directory has the tag.
 pub record TagReadable (source : SourceRecord) (kind : FileKind) (order : ByteOrder) (directory : DirectoryRecord) (tag : Tag) : Type 0 where
   pub field : (f : Field) → get directory.entries (tag_number tag) ≡ Some f → FieldReadable source kind order f

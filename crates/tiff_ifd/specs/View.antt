@@ -1,11 +1,11 @@
--- A `Value` as a datum.
+-- A `Value` as a `Datum`.
 use Rattle.std.specs.Prelude.{List, map, string_bytes}
 use Rattle.tiff_ifd.specs.declared.value.Value.{Value, fold-Value}
 use Rattle.tiff_ifd.specs.declared.value.Value.TheOpen.{Value-F}
 use Rattle.tiff_ifd.specs.Datum as f
 use Rattle.tiff_ifd.specs.Datum.{Datum, datum_list_of}
 
--- one level of a value, where each item of a list is a datum already
+-- one level of a value, where each item of a list is already a `Datum`
 abbrev pub datum_step : Value-F Datum → Datum
 datum_step (Value-F.Byte n) = f.byte n
 datum_step (Value-F.Short n) = f.short n

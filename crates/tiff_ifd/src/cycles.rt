@@ -1,4 +1,4 @@
-//! Links between directories are accepted one by one, so that they never close a cycle.
+//! Accepts links between directories one by one, so that they never close a cycle.
 
 ghost use Rattle.std.specs.Prelude.{◌≡◌, IfOk, IfErr, OnOk, OnErr, MatchBool, true, Ok, Err, None, Some, option_map};
 ghost use Rattle.tiff_base.specs.declared.error.TiffError.TheVariants as tiff;
@@ -13,7 +13,8 @@ use std::marker::Model;
 use tiff_base::error::{TiffError, TiffFormatError, TiffResult};
 use tiff_base::tags::IfdPointer;
 
-/// The links between directories that were accepted: each offset has at most one, and they close no cycle.
+/// The accepted links between directories. Each offset has at most one link, and the links close no
+/// cycle.
 #[derive(Debug, Drop)]
 pub struct IfdCycles {
     links: BTreeMap<u64, Option<u64>>,
@@ -32,7 +33,7 @@ impl Model for IfdCycles {
     ghost view = { λ c. map.from_entries c.links.entries };
 }
 
-// What a link leads to: the offset 0 is none.
+// The target of a link. The offset 0 is no target.
 fn target(to: Option<IfdPointer>) -> Option<u64>
     ensures { result ≡ link_target (option_map (λ p. p.0) to) }
 {
@@ -43,7 +44,7 @@ fn target(to: Option<IfdPointer>) -> Option<u64>
 }
 
 impl IfdCycles {
-    /// No link is accepted.
+    /// A set without accepted links.
     pub fn new(alloc: Global) -> Self
         ensures { result ≡ map.empty }
     {
@@ -60,7 +61,7 @@ impl IfdCycles {
         self.links.get(&offset).copied()
     }
 
-    // How many links are accepted.
+    // The number of accepted links.
     #[tactic(auto, using(tiff_base::proofs::Maps::len_of_tree))]
     fn len(&self) -> usize
         ensures { result ≡ map.len self.now }
@@ -78,7 +79,8 @@ impl IfdCycles {
         Ok(())
     }
 
-    // Whether accepted links go from an offset to another one, which has none. So many steps as there are links are enough.
+    // Whether accepted links lead from an offset to another offset, which has no link. As many
+    // steps as there are links are enough.
     #[tactic(auto, using(crate::proofs::Followed::still_here, crate::proofs::Followed::gone_on, crate::proofs::Followed::met, crate::proofs::Followed::ended, crate::proofs::Followed::too_far))]
     fn goes(&self, to: u64, from: u64) -> bool
         requires { map.get self.now from ≡ None }
@@ -97,7 +99,7 @@ impl IfdCycles {
         offset == from
     }
 
-    // Accepts the link of an offset that has none, unless it closes a cycle.
+    // Accepts the link of an offset without a link, unless the link closes a cycle.
     fn insert_new(&mut self, from: u64, to: Option<u64>) -> TiffResult<bool>
         requires { map.get self.old from ≡ None }
         ensures ok { IfOk result (λ new. (new ≡ true) × IsNew self.old from to × (self.new ≡ map.insert self.old from to)) }
@@ -113,9 +115,11 @@ impl IfdCycles {
         Ok(true)
     }
 
-    /// Hands in the link of the directory at `from`; the offset 0 is none. True where it is accepted now, false where it was
-    /// accepted before. `FormatError(CycleInOffsets)` where `from` has another accepted link, or where accepted links go
-    /// from `to` to `from`: it isn't accepted then. `OutOfMemory` only where it would be accepted; it isn't then.
+    /// Accepts the link of the directory at `from`; the offset 0 means no link. Returns true where
+    /// the call accepts the link, and false where the link is already accepted. Returns
+    /// `FormatError(CycleInOffsets)` where `from` has another accepted link, or where accepted
+    /// links lead from `to` to `from`. Returns `OutOfMemory` only for a link that it would
+    /// otherwise accept. After an error the accepted links are unchanged.
     pub fn insert_next(&mut self, from: IfdPointer, to: Option<IfdPointer>) -> TiffResult<bool>
         ensures ok { IfOk result (λ new. Inserts self.old from.0 (option_map (λ p. p.0) to) (Ok new) self.new) }
         ensures err { IfErr result (λ e. IsCause (IsNew self.old from.0 (link_target (option_map (λ p. p.0) to)) × (self.new ≡ self.old)) ⊥ e

@@ -1,4 +1,4 @@
-//! Directories are read.
+//! Reads directories.
 
 ghost use Rattle.std.specs.Prelude.{◌≡◌, ◌+◌, ◌*◌, ◌≤◌, ◌<◌, ◌++◌, ◌^◌, [], length, IfOk, IfErr, IfNone, OnOk};
 ghost use Rattle.std.specs.Option.{IfSome};
@@ -22,7 +22,7 @@ use tiff_base::read::{
 };
 use tiff_base::tags::{ByteOrder, FileKind, Type};
 
-// How many bytes the number of entries takes.
+// The width of a directory's entry count, in bytes.
 fn count_len(kind: FileKind) -> u64
     ensures { result ≡ byte_len (count_width kind) }
 {
@@ -32,7 +32,7 @@ fn count_len(kind: FileKind) -> u64
     }
 }
 
-// How many bytes an entry has.
+// The size of an entry, in bytes.
 fn entry_len(kind: FileKind) -> usize
     ensures { result ≡ entry_len kind }
 {
@@ -55,7 +55,7 @@ fn value_of(kind: FileKind, entry: &[u8]) -> [u8; 8]
     value
 }
 
-// The tag number and the field of an entry, where its type is known.
+// The tag number and the field of an entry. Returns `None` for an unknown type.
 #[tactic(auto, unfolding(tiff_base::specs::Directory::entry_of))]
 fn entry_of(kind: FileKind, order: ByteOrder, entry: &[u8]) -> Option<(u16, Entry)>
     requires { entry_len kind ≤ length entry.now }
@@ -70,7 +70,7 @@ fn entry_of(kind: FileKind, order: ByteOrder, entry: &[u8]) -> Option<(u16, Entr
     Some((u16_in(order, entry, 0), field))
 }
 
-// The entry at an offset, where its type is known.
+// Reads the entry at an offset. Returns `None` for an unknown type.
 fn read_entry_at<R: Source>(
     source: &mut R,
     at: u64,
@@ -87,7 +87,7 @@ fn read_entry_at<R: Source>(
     Ok(entry_of(kind, order, entry))
 }
 
-// How many entries a directory has.
+// Reads the number of entries of the directory at an offset.
 fn read_count_at<R: Source>(
     source: &mut R,
     at: u64,
@@ -104,7 +104,8 @@ fn read_count_at<R: Source>(
     }
 }
 
-/// Reads an offset of 4 or 8 bytes, as a directory holds it. Fewer bytes there: `IoError(UnexpectedEof)`.
+/// Reads an offset as a directory contains it: 4 bytes, or 8 in BigTIFF. Returns
+/// `IoError(UnexpectedEof)` where the source has fewer bytes.
 pub fn read_link_at<R: Source>(
     source: &mut R,
     at: u64,
@@ -121,7 +122,7 @@ pub fn read_link_at<R: Source>(
     }
 }
 
-// Adds an entry, where there is one.
+// Appends an entry if there is one.
 fn add(entries: &mut Vec<(u16, Entry)>, entry: Option<(u16, Entry)>) -> Result<(), AllocError>
     ensures { OnOk result (entries.new.items ≡ entries.old.items ++ cons_option entry []) }
 {
@@ -131,8 +132,8 @@ fn add(entries: &mut Vec<(u16, Entry)>, entry: Option<(u16, Entry)>) -> Result<(
     Ok(())
 }
 
-// The fields of the first `count` entries from an offset on in the order of the file, each with its tag number, and the offset
-// after them.
+// Reads `count` entries from an offset on. Returns the fields in file order, each with its tag
+// number, and the offset after the entries.
 #[tactic(auto, using(crate::proofs::Entries::no_entries, crate::proofs::Entries::read_there, crate::proofs::Entries::entries_more))]
 fn read_entries<R: Source>(
     alloc: Global,
@@ -159,8 +160,8 @@ fn read_entries<R: Source>(
     Ok((entries, offset))
 }
 
-/// Reads the directory at an offset: the last entry of each tag, entries of unknown type left out. Cut anywhere, it is
-/// `IoError(UnexpectedEof)`.
+/// Reads the directory at an offset. Keeps the last entry of each tag and leaves out entries of
+/// unknown type. Returns `IoError(UnexpectedEof)` where the source ends inside the directory.
 #[tactic(auto, using(crate::proofs::Entries::directory_cut), unfolding(tiff_base::specs::Directory::directory_at))]
 pub fn read_directory<R: Source>(
     alloc: Global,
@@ -182,7 +183,8 @@ pub fn read_directory<R: Source>(
     Ok(directory)
 }
 
-// Where the link of a directory with so many entries stands, unless that is past each offset of 64 bits.
+// The offset of the link of a directory with `count` entries. Returns `None` where the offset is
+// 2^64 or more.
 fn link_offset(kind: FileKind, at: u64, count: u64) -> Option<u64>
     ensures there { IfSome result (λ offset. offset ≡ link_offset kind at count) }
     ensures past { IfNone result (2 ^ 64 ≤ link_offset kind at count) }
@@ -192,8 +194,9 @@ fn link_offset(kind: FileKind, at: u64, count: u64) -> Option<u64>
     first.checked_add(entries)
 }
 
-/// Reads the link of the directory at an offset: of the directory its count and its link alone. `None` is a link of 0. Where
-/// the directory is cut, `IoError(UnexpectedEof)`.
+/// Reads the link of the directory at an offset. Reads only the count and the link of the
+/// directory. Returns `None` for a link of 0, and `IoError(UnexpectedEof)` where the source ends
+/// before the count or the link is complete.
 #[tactic(auto, using(crate::proofs::Passed::link_past))]
 pub fn read_link_of<R: Source>(
     source: &mut R,

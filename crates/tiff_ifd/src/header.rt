@@ -1,4 +1,4 @@
-//! The header of a file.
+//! Reads the header of a file.
 
 ghost use Rattle.tiff_base.specs.Answers.{AnswersWithoutMemory, AsksOnly, IsKept};
 ghost use Rattle.tiff_base.specs.Header.{header_at, order_at};
@@ -10,12 +10,12 @@ use tiff_base::io::{IoKind, Source};
 use tiff_base::read::{read_u16_at, read_u32_at, read_u64_at};
 use tiff_base::tags::{ByteOrder, FileKind};
 
-/// What a header says.
+/// The contents of a file header.
 #[derive(Clone, Copy, Debug, PartialEq, Eq)]
 pub struct FileHeader {
     pub order: ByteOrder,
     pub kind: FileKind,
-    /// The offset of the first directory.
+    /// The offset of the first directory, in bytes from the start of the file.
     pub first: u64,
 }
 
@@ -38,8 +38,11 @@ fn read_order<R: Source>(source: &mut R) -> TiffResult<ByteOrder>
     }
 }
 
-/// Reads the header. No `II` or `MM`, or in BigTIFF not 8 and 0: `TiffSignatureNotFound`; neither 42 nor 43:
-/// `TiffSignatureInvalid`; a number cut: `IoError(UnexpectedEof)`; the first offset 0: `ImageFileDirectoryNotFound`.
+/// Reads the header at the start of the file. Returns `TiffSignatureNotFound` where the file does
+/// not begin with `II` or `MM`, or where the offset size and the reserved field of a BigTIFF header
+/// are not 8 and 0. Returns `TiffSignatureInvalid` where the version is neither 42 nor 43. Returns
+/// `IoError(UnexpectedEof)` where the source ends inside a later number, and
+/// `ImageFileDirectoryNotFound` where the first offset is 0.
 #[tactic(auto, unfolding(tiff_base::specs::Header::header_at))]
 pub fn read_header<R: Source>(source: &mut R) -> TiffResult<FileHeader>
     ensures kept { IsKept R.told R.failures result source.old source.new }

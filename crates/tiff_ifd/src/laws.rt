@@ -1,39 +1,40 @@
-//! The laws of chains and of accepted links, each the contract of a function with no work.
+//! The laws of chains and of accepted links. Each law is the contract of a function that does
+//! nothing.
 
 ghost use Rattle.tiff_ifd.specs.Chain.{IsLinkOfDirectory, IsTheChain, IsOneChain, IsLongestChain, IsChainApart};
 ghost use Rattle.tiff_ifd.specs.Links.{IsAnswered, IsOneAnswer};
 
-/// A directory's link, and whether it is readable, are told by its count and its link alone.
+/// The count and the link of a directory decide its link, and whether the directory is readable.
 pub fn link_of_directory()
     ensures { IsLinkOfDirectory }
 {}
 
-/// There is a chain from each first offset of each file, and `chain` is it.
+/// Each first offset of each file has a chain, and `chain` is that chain.
 pub fn the_chain()
     ensures { IsTheChain }
 {}
 
-/// There is one chain at most.
+/// A file has at most one chain from an offset.
 pub fn one_chain()
     ensures { IsOneChain }
 {}
 
-/// The chain is the longest list of offsets that are entered one after another.
+/// The chain is the longest list of offsets that can be entered one after another.
 pub fn longest_chain()
     ensures { IsLongestChain }
 {}
 
-/// The offsets of a chain differ, and lie within the file.
+/// The offsets of a chain differ, and each is below the number of bytes of the file.
 pub fn apart_chain()
     ensures { IsChainApart }
 {}
 
-/// Each link that is handed in has an answer, whatever links are accepted.
+/// Each link has a result when it is offered, whatever links are accepted.
 pub fn some_answer()
     ensures { IsAnswered }
 {}
 
-/// It has one at most, with one set of links after it.
+/// Each link that is offered has at most one result, and one set of accepted links after it.
 pub fn one_answer()
     ensures { IsOneAnswer }
 {}

@@ -1,4 +1,4 @@
-//! What a file's header, directories and tags say.
+//! The header, the directories and the tags of a TIFF file.
 #![tactic(auto)]
 
 pub mod cycles;

@@ -1,17 +1,18 @@
-//! How much a decoder may take in memory.
+//! Limits on the memory that a decoder allocates.
 
 ghost use Rattle.std.specs.Prelude.{◌≡◌};
 ghost use Rattle.tiff_ifd.specs.Limits.{unlimited};
 
-/// How many bytes a decoder may take (as in the Rust crate).
+/// Limits on the number of bytes that a decoder allocates (as in the Rust crate).
 #[derive(Clone, Debug, Drop)]
 #[non_exhaustive]
 pub struct Limits {
-    /// The bytes of what a call answers: of an image or a chunk, of a text, and 32 for each value of a list.
+    /// The maximum number of bytes that a call returns: of an image, a chunk or a text. Each value
+    /// of a list counts as 32 bytes.
     pub decoding_buffer_size: usize,
-    /// Kept for the Rust crate's name; never read.
+    /// A field of the Rust crate. This library never reads it.
     pub ifd_value_size: usize,
-    /// The bytes of a chunk as the file has them.
+    /// The maximum number of bytes of a chunk in the file.
     pub intermediate_buffer_size: usize,
 }
 
@@ -31,7 +32,7 @@ impl Limits {
 impl Default for Limits {
     ghost is_default = { λ l. l ≡ record { decoding_buffer_size = 268435456; ifd_value_size = 1048576; intermediate_buffer_size = 134217728 } };
 
-    /// 256 MiB, 1 MiB and 128 MiB.
+    /// The default limits: 256 MiB, 1 MiB and 128 MiB.
     fn default() -> Self {
         Limits {
             decoding_buffer_size: 256 * 1024 * 1024,

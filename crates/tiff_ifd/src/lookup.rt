@@ -1,4 +1,4 @@
-//! The tags of a directory, looked up and converted.
+//! Looks up the tags of a directory and converts their values.
 
 ghost use Rattle.std.specs.Prelude.{◌≡◌, ℕ, ◌≤◌, ◌^◌, option_map};
 ghost use Rattle.tiff_base.specs.Answers.{IsKept};
@@ -11,34 +11,36 @@ use std::alloc::Global;
 use tiff_base::error::{TiffFormatError, TiffResult};
 use tiff_base::tags::Tag;
 
-/// The tags of a directory, whose values are read.
+/// The tags of a directory, and their values.
 pub trait Tags {
     ghost use Rattle.tiff_ifd.specs.Look.{DirectoryTags};
 
-    /// Which tags there are, and the value of each, of which file.
+    /// The tags that the directory has, the value of each, and the file that they are from.
     ghost told: { Self → DirectoryTags };
 
-    /// How many reads failed so far.
+    /// The number of failed reads so far.
     ghost failures: { Self → ℕ };
 
-    /// Whether there is a tag.
+    /// Whether the directory has a tag.
     fn contains(&self, tag: Tag) -> bool
         ensures { result ≡ (told self.now).look.has tag };
 
-    /// The value of a tag. Memory is taken where there is the tag, within the limits and the source.
+    /// Reads the value of a tag. Returns `None` if the directory does not have the tag. Allocates
+    /// memory only for a tag that the directory has, within the limits and the source.
     fn find(&mut self, alloc: Global, tag: Tag) -> TiffResult<Option<Value>>
         ensures kept { IsKept told failures result self.old self.new }
         ensures answer { AnswersFound (λ v. option_map datum v) result ((told self.old).look.value tag) (told self.old).look tag (failures self.old) (failures self.new) }
         ensures asked { AsksForTag (told self.old) tag result };
 
-    /// A tag's numbers, as `Value::into_u64_vec` gives them, if there is the tag.
+    /// Reads the numbers of a tag, converted as by `Value::into_u64_vec`. Returns `None` if the
+    /// directory does not have the tag.
     fn find_u64_vec(&mut self, alloc: Global, tag: Tag) -> TiffResult<Option<Vec<u64>>>
         ensures kept { IsKept told failures result self.old self.new }
         ensures answer { AnswersFound (λ o. option_map (λ v. v.items) o) result (find into.into_u64_vec (told self.old).look tag) (told self.old).look tag (failures self.old) (failures self.new) }
         ensures asked { AsksForTag (told self.old) tag result };
 }
 
-/// A tag's number below 2^16, if there is the tag.
+/// Reads the number of a tag, below 2^16. Returns `None` if the directory does not have the tag.
 #[tactic(auto, unfolding(crate::specs::Look::find))]
 pub fn find_u16<T: Tags>(tags: &mut T, alloc: Global, tag: Tag) -> TiffResult<Option<u16>>
     ensures kept { IsKept T.told T.failures result tags.old tags.new }
@@ -51,7 +53,7 @@ pub fn find_u16<T: Tags>(tags: &mut T, alloc: Global, tag: Tag) -> TiffResult<Op
     }
 }
 
-/// A tag's number below 2^32, if there is the tag.
+/// Reads the number of a tag, below 2^32. Returns `None` if the directory does not have the tag.
 #[tactic(auto, unfolding(crate::specs::Look::find))]
 pub fn find_u32<T: Tags>(tags: &mut T, alloc: Global, tag: Tag) -> TiffResult<Option<u32>>
     ensures kept { IsKept T.told T.failures result tags.old tags.new }
@@ -64,7 +66,7 @@ pub fn find_u32<T: Tags>(tags: &mut T, alloc: Global, tag: Tag) -> TiffResult<Op
     }
 }
 
-/// A tag's numbers below 2^16, if there is the tag.
+/// Reads the numbers of a tag, below 2^16. Returns `None` if the directory does not have the tag.
 #[tactic(auto, unfolding(crate::specs::Look::find))]
 pub fn find_u16_vec<T: Tags>(tags: &mut T, alloc: Global, tag: Tag) -> TiffResult<Option<Vec<u16>>>
     ensures kept { IsKept T.told T.failures result tags.old tags.new }
@@ -77,7 +79,8 @@ pub fn find_u16_vec<T: Tags>(tags: &mut T, alloc: Global, tag: Tag) -> TiffResul
     }
 }
 
-/// A required tag's number below 2^32. No such tag: `RequiredTagNotFound`.
+/// Reads the number of a required tag, below 2^32. Returns `RequiredTagNotFound` if the directory
+/// does not have the tag.
 #[tactic(auto, unfolding(crate::specs::Look::require))]
 pub fn require_u32<T: Tags>(tags: &mut T, alloc: Global, tag: Tag) -> TiffResult<u32>
     ensures kept { IsKept T.told T.failures result tags.old tags.new }
@@ -90,7 +93,8 @@ pub fn require_u32<T: Tags>(tags: &mut T, alloc: Global, tag: Tag) -> TiffResult
     }
 }
 
-/// A required tag's numbers. No such tag: `RequiredTagNotFound`.
+/// Reads the numbers of a required tag. Returns `RequiredTagNotFound` if the directory does not
+/// have the tag.
 #[tactic(auto, unfolding(crate::specs::Look::require))]
 pub fn require_u64_vec<T: Tags>(tags: &mut T, alloc: Global, tag: Tag) -> TiffResult<Vec<u64>>
     ensures kept { IsKept T.told T.failures result tags.old tags.new }

@@ -1,4 +1,4 @@
-//! Offsets that are met one after another, and whether one is met again.
+//! A sequence of offsets, and whether it contains a given offset.
 
 ghost use Rattle.std.specs.Prelude.{◌≡◌, ◌++◌, ◌∷◌, [], ◌+◌, ◌-◌, ◌<◌, length, IfOk, OnOk, OnErr, nat_eq};
 ghost use Rattle.std.specs.List.{list_any, slice_get};
@@ -8,7 +8,7 @@ use std::alloc::{AllocError, Global};
 use std::collections::BTreeSet;
 use std::marker::Model;
 
-// A tree of the first `count` of some offsets.
+// A tree of the first `count` offsets of a sequence.
 #[derive(Debug, Drop)]
 struct Filed {
     tree: BTreeSet<u64>,
@@ -16,7 +16,7 @@ struct Filed {
 }
 
 impl Filed {
-    // Files one more offset.
+    // Inserts one more offset into the tree.
     fn add(&mut self, offsets: &[u64]) -> Result<(), AllocError>
         requires files { HasFirst offsets.now self.old.tree.keys self.old.count }
         requires more { self.old.count < length offsets.now }
@@ -28,7 +28,7 @@ impl Filed {
         Ok(())
     }
 
-    // Files the offsets that aren't filed yet.
+    // Inserts the offsets that are not in the tree yet.
     fn add_all(&mut self, offsets: &[u64]) -> Result<(), AllocError>
         requires { HasFirst offsets.now self.old.tree.keys self.old.count }
         ensures files { HasFirst offsets.now self.new.tree.keys self.new.count }
@@ -41,12 +41,13 @@ impl Filed {
     }
 }
 
-/// Offsets in the order in which they were met. Whether an offset is one of them takes one comparison where it lies above each, as in a file whose
-/// directories follow one another; else it takes a search in a tree, into which the offsets are put only then.
+/// Offsets in the order in which they were added. To look up an offset above all of them takes one
+/// comparison, as in a file whose directories follow one another. To look up another offset takes a
+/// search in a tree, and only that search inserts the offsets into the tree.
 #[derive(Debug, Drop)]
 pub struct Offsets {
     met: Vec<u64>,
-    // None of them lies above it.
+    // The highest offset, or a number above all of them.
     highest: u64,
     filed: Filed,
 }
@@ -63,7 +64,7 @@ impl Model for Offsets {
 }
 
 impl Offsets {
-    /// None was met yet.
+    /// An empty sequence of offsets.
     #[tactic(auto, using(crate::proofs::MetAgain::none_met))]
     pub fn new(alloc: Global) -> Self
         ensures { result ≡ [] }
@@ -78,28 +79,28 @@ impl Offsets {
         }
     }
 
-    /// How many were met.
+    /// The number of offsets.
     pub fn len(&self) -> usize
         ensures { result ≡ length self.now }
     {
         self.met.len()
     }
 
-    /// The one that was met after `index` others.
+    /// The offset at an index, from 0.
     pub fn get(&self, index: usize) -> Option<u64>
         ensures { result ≡ slice_get self.now index }
     {
         self.met.get(index).copied()
     }
 
-    /// The one that was met last.
+    /// The offset that was added last.
     pub fn last(&self) -> Option<u64>
         ensures { result ≡ slice_get self.now (length self.now - 1) }
     {
         self.met.last().copied()
     }
 
-    /// One more offset is met.
+    /// Appends an offset.
     #[tactic(auto, using(crate::proofs::MetAgain::one_more))]
     pub fn push(&mut self, offset: u64) -> Result<(), AllocError>
         ensures ok { OnOk result (self.new ≡ self.old ++ offset ∷ []) }
@@ -110,7 +111,7 @@ impl Offsets {
         Ok(())
     }
 
-    /// Whether an offset is one of them. Its only error is want of memory for the tree.
+    /// Whether the sequence contains an offset. The only error is out of memory for the tree.
     #[tactic(auto, using(crate::proofs::MetAgain::in_tree))]
     pub fn contains(&mut self, offset: u64) -> Result<bool, AllocError>
         ensures found { IfOk result (λ found. found ≡ list_any (nat_eq offset) self.old) }

@@ -1,4 +1,4 @@
-//! A packed list is unpacked, in pieces of any size.
+//! Unpacks PackBits data in pieces of any size.
 
 ghost use Rattle.std.specs.Prelude.{◌≡◌, ℕ, ◌+◌, ◌<◌, ◌≤◌, List, length, Ok, OnOk, IfOk, IfErr, IfSome, IfNone};
 ghost use Rattle.tiff_base.specs.Answers.{AsksOnly, IsCause, IsKept, NoneSwallowed};
@@ -12,18 +12,19 @@ use tiff_base::error::{TiffError, TiffResult};
 use tiff_base::io::{IoKind, Source};
 use tiff_base::read::read_exact_at;
 
-// How many packed bytes are read ahead at once: more than a block has.
+// The number of packed bytes that one read reads ahead. A block has fewer bytes.
 const AHEAD: usize = 256;
 
-// What is left of a block: so many bytes as they stand, or one byte so many times.
+// The rest of a block: a number of literal bytes, or one byte and how often it repeats.
 #[derive(Clone, Copy, Debug)]
 enum Block {
     Literal(usize),
     Run(u8, usize),
 }
 
-/// An offset in packed bytes: what is left of a block, and where how many packed bytes follow. It is a [`PackBitsReader`] without
-/// its source, which each call of it is lent, the same each time.
+/// A position in packed bytes: the rest of a block, and the offset and the number of the packed
+/// bytes behind it. A [`PackBitsReader`] is a position with its source. Each call on a position
+/// takes the source as an argument, and the caller passes the same source each time.
 #[derive(Clone, Copy, Debug)]
 pub struct PackedPosition {
     block: Block,
@@ -32,7 +33,7 @@ pub struct PackedPosition {
 }
 
 impl Block {
-    // How many bytes of it are left.
+    // The number of bytes left of the block.
     fn count(self) -> usize
         ensures { result ≡ count_of self }
     {
@@ -42,7 +43,7 @@ impl Block {
     }
 }
 
-// The byte at an offset.
+// Reads the byte at an offset.
 #[tactic(auto, using(crate::proofs::Unpacking::byte_there, crate::proofs::Unpacking::byte_missing))]
 fn read_byte<R: Source>(source: &mut R, at: u64) -> TiffResult<u8>
     ensures kept { IsKept R.told R.failures result source.old source.new }
@@ -54,7 +55,7 @@ fn read_byte<R: Source>(source: &mut R, at: u64) -> TiffResult<u8>
     Ok(byte[0])
 }
 
-// The next block of packed bytes. Headers that stand for nothing are passed.
+// Finds the next block of packed bytes. Skips headers of 128, which encode no bytes.
 fn next_block<R: Source>(source: &mut R, at: u64, len: u64) -> TiffResult<Option<PackedPosition>>
     ensures kept { IsKept R.told R.failures result source.old source.new }
     ensures block { Finds (R.told source.old).bytes (unpacked_at (R.told source.old).bytes at len) (R.failures source.old < R.failures source.new) result }
@@ -86,7 +87,8 @@ fn next_block<R: Source>(source: &mut R, at: u64, len: u64) -> TiffResult<Option
     Ok(None)
 }
 
-// The block of the next byte: that of the offset, or the next one where none of it is left.
+// The block of the next byte: the block of the position, or the next block where none of it is
+// left.
 #[tactic(auto, using(crate::proofs::Unpacking::used_up))]
 fn begun_block<R: Source>(
     source: &mut R,
@@ -103,7 +105,8 @@ fn begun_block<R: Source>(
     next_block(source, offset.at, offset.len)
 }
 
-// Bytes of a literal: as many as the source gives, none only where they end.
+// Reads bytes of a literal, as many as the source returns. Reads none only where the source or the
+// packed bytes end.
 fn read_literal<R: Source>(
     source: &mut R,
     offset: PackedPosition,
@@ -130,7 +133,7 @@ fn read_literal<R: Source>(
     ))
 }
 
-// Bytes of a run.
+// Writes bytes of a run.
 fn repeat(
     offset: PackedPosition,
     value: u8,
@@ -155,7 +158,7 @@ fn repeat(
     )
 }
 
-// Bytes of a block of which some are left.
+// Reads bytes of a block that has some left.
 fn read_block<R: Source>(
     source: &mut R,
     offset: PackedPosition,
@@ -174,8 +177,9 @@ fn read_block<R: Source>(
     }
 }
 
-// Unpacks the first block of packed bytes to the front of a buffer, and answers how many bytes it took and how many it gave:
-// `None` where the block isn't whole in the one, or has no room in the other.
+// Unpacks the first block of packed bytes to the front of a buffer. Returns the number of packed
+// bytes that it used and the number of bytes that it wrote. Returns `None` where the packed bytes
+// do not contain the whole block, or the buffer has no room for it.
 #[tactic(auto, using(crate::proofs::Ahead::front_literal, crate::proofs::Ahead::front_nothing))]
 fn unpack_block(packed: &[u8], buf: &mut [u8]) -> Option<(usize, usize)>
     requires { 1 < length packed.now }
@@ -202,7 +206,8 @@ fn unpack_block(packed: &[u8], buf: &mut [u8]) -> Option<(usize, usize)>
     Some((2, n))
 }
 
-// Unpacks blocks of packed bytes to the front of a buffer, as many as `unpack_block` does one after another.
+// Unpacks blocks of packed bytes to the front of a buffer, as many as `unpack_block` unpacks one
+// after another.
 #[tactic(auto, using(crate::proofs::Ahead::front_none))]
 fn unpack_blocks(packed: &[u8], buf: &mut [u8]) -> (usize, usize)
     ensures { UnpacksFront packed.now buf.old result.0 result.1 buf.new }
@@ -222,7 +227,8 @@ fn unpack_blocks(packed: &[u8], buf: &mut [u8]) -> (usize, usize)
 }
 
 impl PackedPosition {
-    /// Before the `length` packed bytes from `at` on; a source may end before them.
+    /// A position before the `length` packed bytes from `at` on. The source may end before the last
+    /// of them.
     pub fn new(at: u64, length: u64) -> Self
         ensures rest { (bytes : List ℕ) → left_at bytes result ≡ unpacked_at bytes at length }
         ensures stretch { (result.at ≡ at) × (result.len ≡ length) }
@@ -234,7 +240,7 @@ impl PackedPosition {
         }
     }
 
-    /// What [`PackBitsReader::read`] reads, from a source that is lent.
+    /// Reads as [`PackBitsReader::read`] does, from a source that the caller lends.
     pub fn read<R: Source>(&mut self, source: &mut R, buf: &mut [u8]) -> TiffResult<usize>
         ensures empty { length buf.old ≡ 0 → (result ≡ Ok 0) × ((self.new ≡ self.old) × (source.new ≡ source.old)) }
         ensures kept { IsKept R.told R.failures result source.old source.new }
@@ -253,7 +259,8 @@ impl PackedPosition {
         Ok(n)
     }
 
-    // Reads as `read` does, but all blocks at once that are whole in some packed bytes that are read ahead.
+    // Reads as `read` does, but reads packed bytes ahead and unpacks all whole blocks of them at
+    // once.
     fn read_blocks<R: Source>(&mut self, source: &mut R, buf: &mut [u8]) -> TiffResult<usize>
         ensures kept { IsKept R.told R.failures result source.old source.new }
         ensures piece { PieceReads result (unpacking R.told R.failures source.old self.old) (unpacking R.told R.failures source.new self.new) buf.old buf.new }
@@ -276,7 +283,7 @@ impl PackedPosition {
         Ok(n)
     }
 
-    // Fills the buffer with the next bytes; after a fault some of them may have been passed.
+    // Fills the buffer with the next bytes. After an error the position may be past some of them.
     #[tactic(auto, using(crate::proofs::Unpacking::short_by, crate::proofs::Unpacking::short_cause))]
     fn fill<R: Source>(&mut self, source: &mut R, buf: &mut [u8]) -> TiffResult<()>
         ensures kept { IsKept R.told R.failures result source.old source.new }
@@ -296,7 +303,7 @@ impl PackedPosition {
         Ok(())
     }
 
-    /// What [`PackBitsReader::read_exact`] reads, from a source that is lent.
+    /// Reads as [`PackBitsReader::read_exact`] does, from a source that the caller lends.
     pub fn read_exact<R: Source>(&mut self, source: &mut R, buf: &mut [u8]) -> TiffResult<()>
         ensures kept { IsKept R.told R.failures result source.old source.new }
         ensures filled { Fills result (unpacking R.told R.failures source.old self.old) (unpacking R.told R.failures source.new self.new) buf.new }
@@ -310,7 +317,8 @@ impl PackedPosition {
     }
 }
 
-/// Unpacks PackBits data of a source (TIFF 6.0 section 9), in pieces of any size and without memory of its own.
+/// Unpacks PackBits data of a source (TIFF 6.0 section 9) in pieces of any size. Allocates no
+/// memory.
 #[derive(Debug, Drop)]
 pub struct PackBitsReader<R: Source> {
     source: R,
@@ -326,7 +334,8 @@ impl<R: Source> Model for PackBitsReader<R> {
 }
 
 impl<R: Source> PackBitsReader<R> {
-    /// Reads the `length` packed bytes from `at` on; the source may end before them.
+    /// A reader of the `length` packed bytes from `at` on. The source may end before the last of
+    /// them.
     pub fn new(source: R, at: u64, length: u64) -> Self
         ensures { result ≡ record { bytes = (R.told source).bytes; failures = R.failures source; rest = unpacked_at (R.told source).bytes at length } }
     {
@@ -336,10 +345,12 @@ impl<R: Source> PackBitsReader<R> {
         }
     }
 
-    /// Reads the next bytes to the front of the buffer, and answers how many: at least one while there are any, but none
-    /// for an empty buffer. What stands behind them in the buffer stays. Behind the last byte: 0, or `IoError(UnexpectedEof)`
-    /// where the source ends before the packed bytes do, or a header has no byte behind it; so again at each further
-    /// read. After a refused read the reader gives the same bytes next.
+    /// Reads the next bytes to the front of the buffer and returns their number: at least one while
+    /// bytes are left, but 0 for an empty buffer. The rest of the buffer stays as it is. After the
+    /// last byte it returns 0, or `IoError(UnexpectedEof)` where the source ends before the packed
+    /// bytes do or no byte follows the header of a run; each later read returns the same. Where the
+    /// source or the packed bytes end inside a literal, it returns 0. After an error the next read
+    /// returns the same bytes.
     pub fn read(&mut self, buf: &mut [u8]) -> TiffResult<usize>
         ensures empty { length buf.old ≡ 0 → (result ≡ Ok 0) × (self.new ≡ self.old) }
         ensures bytes { self.new.bytes ≡ self.old.bytes }
@@ -350,8 +361,8 @@ impl<R: Source> PackBitsReader<R> {
         self.offset.read(&mut self.source, buf)
     }
 
-    /// Fills the buffer with the next bytes. Fewer are left, however the packed bytes end: `IoError(UnexpectedEof)`. After a
-    /// refused read the reader gives the same bytes next.
+    /// Fills the buffer with the next bytes. Returns `IoError(UnexpectedEof)` where fewer bytes are
+    /// left, however the packed bytes end. After an error the next read returns the same bytes.
     pub fn read_exact(&mut self, buf: &mut [u8]) -> TiffResult<()>
         ensures bytes { self.new.bytes ≡ self.old.bytes }
         ensures failures { self.old.failures ≤ self.new.failures }

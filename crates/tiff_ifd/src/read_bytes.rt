@@ -1,4 +1,4 @@
-//! The bytes of fields are read.
+//! Reads the bytes of fields.
 
 ghost use Rattle.std.specs.Prelude.{◌≡◌, ◌≤◌, IfOk, length, take, drop};
 ghost use Rattle.std.specs.Int.{byte_len};
@@ -17,7 +17,7 @@ use tiff_base::io::Source;
 use tiff_base::read::{read_bytes_at, read_exact_at, u32_from, u64_from};
 use tiff_base::tags::{ByteOrder, FileKind};
 
-/// How many bytes an offset has, and the value field of an entry.
+/// The size of an offset and of the value field of an entry, in bytes.
 pub fn offset_len(kind: FileKind) -> u64
     ensures { result ≡ byte_len (offset_width kind) }
 {
@@ -27,7 +27,7 @@ pub fn offset_len(kind: FileKind) -> u64
     }
 }
 
-// The offset that a value field holds.
+// The offset in a value field.
 #[tactic(auto, unfolding(tiff_base::specs::Number::number))]
 pub(crate) fn offset_in(kind: FileKind, order: ByteOrder, value: [u8; 8]) -> u64
     ensures { result ≡ number order (offset_width kind) value }
@@ -40,8 +40,9 @@ pub(crate) fn offset_in(kind: FileKind, order: ByteOrder, value: [u8; 8]) -> u64
     }
 }
 
-/// Reads the bytes of a field, in the file's order. 2^64 bytes or more, or more than the limit: `LimitsExceeded`; bytes
-/// past the end: `IoError(UnexpectedEof)`. Memory is taken after these.
+/// Reads the bytes of a field, in the file's byte order. Returns `LimitsExceeded` for 2^64 bytes or
+/// more, and for more bytes than `decoding_buffer_size`. Returns `IoError(UnexpectedEof)` for bytes
+/// past the end of the source. Allocates memory only after these checks.
 #[tactic(auto, unfolding(crate::specs::TagQueries::buffer_of, tiff_base::specs::FieldBytes::field_bytes))]
 pub fn read_field_bytes<R: Source>(
     alloc: Global,
@@ -72,9 +73,10 @@ pub fn read_field_bytes<R: Source>(
     read_bytes_at(alloc, source, offset_in(kind, order, value), len as usize)
 }
 
-/// Copies the bytes of a field from `at` on, as many as fit, and answers how many; 0 where `at` isn't below their number.
-/// 2^64 bytes or more: `LimitsExceeded`; an offset of 2^64 or more: `InconsistentSizesEncountered`; what is copied past the
-/// end: `IoError(UnexpectedEof)`.
+/// Copies the bytes of a field from the byte `at` on, as many as fit, and returns their number.
+/// Returns 0 where `at` is not below the number of bytes of the field. Returns `LimitsExceeded` for
+/// a field of 2^64 bytes or more, `InconsistentSizesEncountered` for an offset of 2^64 or more, and
+/// `IoError(UnexpectedEof)` where it copies bytes past the end of the source.
 #[tactic(auto, unfolding(crate::specs::TagQueries::part_of_field))]
 pub fn read_part<R: Source>(
     source: &mut R,

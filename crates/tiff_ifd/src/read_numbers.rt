@@ -1,4 +1,4 @@
-//! The numbers of a field are read, without a `Value` for each.
+//! Reads the numbers of a field without making a `Value` of each.
 
 ghost use Rattle.std.specs.Prelude.{◌≡◌, ◌*◌, ◌<◌, true, None, Ok, length, slice_index, EachIndex, option_map};
 ghost use Rattle.std.specs.FinMap.{get};
@@ -33,7 +33,7 @@ fn is_unsigned(field_type: Type) -> bool
     matches!(field_type, Type::SHORT | Type::LONG | Type::LONG8)
 }
 
-// The number that some bytes of such a type are.
+// The number in the bytes of one value of type SHORT, LONG or LONG8.
 fn unsigned_of(field_type: Type, order: ByteOrder, bytes: &[u8]) -> u64
     requires numbers { IsUnsigned field_type }
     requires whole { length bytes.now ≡ type_size field_type }
@@ -47,8 +47,8 @@ fn unsigned_of(field_type: Type, order: ByteOrder, bytes: &[u8]) -> u64
     }
 }
 
-// Makes numbers those of such a type that some bytes are, one after the other. Where the type and the order are constants, the
-// loop is compiled for these.
+// Decodes consecutive values of type SHORT, LONG or LONG8 into `numbers`. Where the type and the
+// byte order are constants, the compiler specializes the loop for them.
 #[inline(always)]
 #[tactic(auto, using(crate::proofs::Unsigned::unit_within))]
 fn fill_numbers(field_type: Type, order: ByteOrder, bytes: &[u8], numbers: &mut [u64])
@@ -63,7 +63,8 @@ fn fill_numbers(field_type: Type, order: ByteOrder, bytes: &[u8], numbers: &mut 
     }
 }
 
-// The same, by constants for the types that offsets mostly have.
+// Decodes consecutive values of type SHORT, LONG or LONG8 into `numbers`. Calls `fill_numbers` with
+// constants for the types that most offsets have.
 fn fill_by_type(field_type: Type, order: ByteOrder, bytes: &[u8], numbers: &mut [u64])
     requires numbers { IsUnsigned field_type }
     requires whole { length bytes.now ≡ length numbers.old * type_size field_type }
@@ -86,7 +87,7 @@ fn fill_by_type(field_type: Type, order: ByteOrder, bytes: &[u8], numbers: &mut 
     }
 }
 
-// So many numbers of such a type, one after the other.
+// Decodes `count` consecutive values of type SHORT, LONG or LONG8.
 #[tactic(auto, using(crate::proofs::Unsigned::unsigned_ok))]
 fn unsigned_from(
     alloc: Global,
@@ -104,7 +105,7 @@ fn unsigned_from(
     Ok(all)
 }
 
-// Reads the numbers of a field of such a type that stand elsewhere.
+// Reads the numbers of a SHORT, LONG or LONG8 field whose values are outside the entry.
 #[tactic(auto, using(crate::proofs::Within::placed_within), unfolding(tiff_base::specs::FieldBytes::field_bytes))]
 fn read_placed<R: Source>(
     alloc: Global,
@@ -131,8 +132,9 @@ fn read_placed<R: Source>(
     unsigned_from(alloc, field_type, order, count, &bytes)
 }
 
-/// Reads the numbers of a field, as `Value::into_u64_vec` gives them of its value, with the faults of `read_value` and of
-/// that. Memory is taken within the limits and the source alone.
+/// Reads the numbers of a field, converted as by `Value::into_u64_vec`. Returns the errors of
+/// `read_value` and of `Value::into_u64_vec`. Allocates memory only within the limits and the
+/// source.
 #[tactic(auto, using(crate::proofs::Unsigned::placed_converted, crate::proofs::Within::field_numbers_within, crate::proofs::Within::numbers_within), unfolding(crate::specs::FieldValue::field_value))]
 pub fn read_numbers<R: Source>(
     alloc: Global,
@@ -156,7 +158,7 @@ pub fn read_numbers<R: Source>(
     read_value(alloc, source, kind, order, limits, entry)?.into_u64_vec(alloc)
 }
 
-/// Reads the numbers of a tag, if the directory has it.
+/// Reads the numbers of a tag. Returns `None` if the directory does not have the tag.
 #[tactic(auto, using(crate::proofs::Within::numbers_found), unfolding(crate::specs::Look::look_in, crate::specs::Look::find))]
 pub fn find_numbers<R: Source>(
     alloc: Global,

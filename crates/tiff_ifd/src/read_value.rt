@@ -1,4 +1,4 @@
-//! The values of fields are read.
+//! Reads the values of fields.
 
 ghost use Rattle.std.specs.Prelude.{◌≡◌, ◌≤◌, ◌<◌, ◌*◌, ◌-◌, Ok, Err, None, if◌then◌else◌, ◌&&◌, length, slice_index, option_map, string_bytes};
 ghost use Rattle.std.specs.Int.{w8, w16, w32, w64};
@@ -31,7 +31,7 @@ use tiff_base::io::Source;
 use tiff_base::read::{read_bytes_at, u16_from, u32_from, u64_from};
 use tiff_base::tags::{Bits32, Bits64, ByteOrder, FileKind, Tag, Type};
 
-// The number that one byte is, in either order.
+// The number in one byte, the same in both byte orders.
 #[tactic(auto, unfolding(tiff_base::specs::Number::number))]
 fn u8_of(order: ByteOrder, bytes: &[u8]) -> u8
     requires { length bytes.now ≡ 1 }
@@ -43,7 +43,7 @@ fn u8_of(order: ByteOrder, bytes: &[u8]) -> u8
     }
 }
 
-// The number that two bytes are.
+// The number in two bytes.
 pub(crate) fn u16_of(order: ByteOrder, bytes: &[u8]) -> u16
     requires { length bytes.now ≡ 2 }
     ensures { result ≡ number order w16 bytes.now }
@@ -51,7 +51,7 @@ pub(crate) fn u16_of(order: ByteOrder, bytes: &[u8]) -> u16
     u16_from(order, [bytes[0], bytes[1]])
 }
 
-// The number that four bytes are.
+// The number in four bytes.
 pub(crate) fn u32_of(order: ByteOrder, bytes: &[u8]) -> u32
     requires { length bytes.now ≡ 4 }
     ensures { result ≡ number order w32 bytes.now }
@@ -59,7 +59,7 @@ pub(crate) fn u32_of(order: ByteOrder, bytes: &[u8]) -> u32
     u32_from(order, [bytes[0], bytes[1], bytes[2], bytes[3]])
 }
 
-// The number that eight bytes are.
+// The number in eight bytes.
 pub(crate) fn u64_of(order: ByteOrder, bytes: &[u8]) -> u64
     requires { length bytes.now ≡ 8 }
     ensures { result ≡ number order w64 bytes.now }
@@ -72,7 +72,7 @@ pub(crate) fn u64_of(order: ByteOrder, bytes: &[u8]) -> u64
     )
 }
 
-// The value that some bytes of a type are.
+// Decodes one value of a type from its bytes.
 fn item_from(field_type: Type, order: ByteOrder, bytes: &[u8]) -> Value
     requires { length bytes.now ≡ type_size field_type }
     ensures { datum result ≡ spec.item field_type order bytes.now }
@@ -99,7 +99,7 @@ fn item_from(field_type: Type, order: ByteOrder, bytes: &[u8]) -> Value
     }
 }
 
-// One of several values that stand in the entry itself: bytes are wider numbers.
+// Decodes one of several values in the entry itself. BYTE and SBYTE values become 32-bit numbers.
 fn inline_item(field_type: Type, order: ByteOrder, bytes: &[u8]) -> Value
     requires { length bytes.now ≡ type_size field_type }
     ensures { datum result ≡ spec.inline_item field_type order bytes.now }
@@ -111,7 +111,7 @@ fn inline_item(field_type: Type, order: ByteOrder, bytes: &[u8]) -> Value
     }
 }
 
-// One of several values.
+// Decodes one of several values, in the entry itself or elsewhere in the file.
 fn list_item(inline: bool, field_type: Type, order: ByteOrder, bytes: &[u8]) -> Value
     requires { length bytes.now ≡ type_size field_type }
     ensures { datum result ≡ spec.list_item inline field_type order bytes.now }
@@ -123,7 +123,7 @@ fn list_item(inline: bool, field_type: Type, order: ByteOrder, bytes: &[u8]) -> 
     }
 }
 
-// So many values, one after the other.
+// Decodes `count` consecutive values.
 fn list_from(
     alloc: Global,
     inline: bool,
@@ -148,7 +148,7 @@ fn list_from(
     Ok(all)
 }
 
-// Numbers: one stands alone, several are a list.
+// Decodes numbers: one number gives a single value, several numbers give a list.
 fn numbers_from(
     alloc: Global,
     inline: bool,
@@ -167,7 +167,7 @@ fn numbers_from(
     }
 }
 
-// A text that is UTF-8.
+// Makes a text from UTF-8 bytes. Other bytes give `InvalidTag`.
 #[tactic(auto, using(crate::proofs::Texts::utf8))]
 fn text_from(alloc: Global, bytes: &[u8]) -> TiffResult<Value>
     ensures { GivesSparingly datum result (if is_utf8 bytes.now then Ok (f.ascii bytes.now) else Err (tiff.FormatError format.InvalidTag)) }
@@ -178,7 +178,7 @@ fn text_from(alloc: Global, bytes: &[u8]) -> TiffResult<Value>
     }
 }
 
-// The offset of the first zero, or the length.
+// The index of the first zero byte, or the number of bytes where there is none.
 fn first_zero(bytes: &[u8]) -> usize
     ensures value { result ≡ position_or_len value.is_zero bytes.now }
     ensures bound { result ≤ length bytes.now }
@@ -190,7 +190,7 @@ fn first_zero(bytes: &[u8]) -> usize
     n
 }
 
-// A text elsewhere: cut at the first zero.
+// Decodes a text outside the entry: the bytes before the first zero.
 fn placed_text(alloc: Global, bytes: &[u8]) -> TiffResult<Value>
     ensures { GivesSparingly datum result (value.placed_text bytes.now) }
 {
@@ -203,7 +203,7 @@ fn is_ascii(bytes: &[u8]) -> bool
     bytes.iter().all(|b| *b < 128)
 }
 
-// Whether bytes are ASCII that ends in a zero.
+// Whether all bytes are ASCII and the last one is zero.
 fn is_inline_text(bytes: &[u8]) -> bool
     requires { 0 < length bytes.now }
     ensures { result ≡ (list_all value.is_ascii_byte bytes.now && value.is_zero (slice_index bytes.now (length bytes.now - 1))) }
@@ -211,7 +211,7 @@ fn is_inline_text(bytes: &[u8]) -> bool
     is_ascii(bytes) && bytes[bytes.len() - 1] == 0
 }
 
-// How many zeros are in front.
+// The number of zero bytes at the start.
 fn zeros_in_front(bytes: &[u8]) -> usize
     ensures value { result ≡ prefix_len value.is_zero bytes.now }
     ensures bound { result ≤ length bytes.now }
@@ -223,7 +223,7 @@ fn zeros_in_front(bytes: &[u8]) -> usize
     n
 }
 
-// The length without the zeros at the end.
+// The number of bytes without the zeros at the end.
 fn len_before_zeros(bytes: &[u8]) -> usize
     ensures value { result ≡ length bytes.now - suffix_len value.is_zero bytes.now }
     ensures bound { result ≤ length bytes.now }
@@ -242,7 +242,7 @@ fn without_zeros(bytes: &[u8]) -> &[u8]
     &rest[..len_before_zeros(rest)]
 }
 
-// A text in the entry itself.
+// Decodes a text in the entry itself.
 fn inline_text(alloc: Global, bytes: &[u8]) -> TiffResult<Value>
     requires { 0 < length bytes.now }
     ensures { GivesSparingly datum result (value.inline_text bytes.now) }
@@ -253,7 +253,7 @@ fn inline_text(alloc: Global, bytes: &[u8]) -> TiffResult<Value>
     text_from(alloc, without_zeros(bytes))
 }
 
-// The value of all bytes of a field.
+// Decodes the value of a field from all its bytes.
 fn value_from(
     alloc: Global,
     inline: bool,
@@ -273,8 +273,9 @@ fn value_from(
     }
 }
 
-/// Reads a text of so many bytes, up to its first zero. Fewer bytes there: `IoError(UnexpectedEof)`, told before memory is
-/// taken; not UTF-8: `InvalidTag`.
+/// Reads a text of `len` bytes at an offset, up to its first zero. Returns `IoError(UnexpectedEof)`
+/// where the source has fewer bytes, before it allocates memory. Returns `InvalidTag` for a text
+/// that is not UTF-8.
 #[tactic(auto, using(crate::proofs::Within::text_read_within))]
 pub fn read_text_at<R: Source>(
     alloc: Global,
@@ -290,7 +291,7 @@ pub fn read_text_at<R: Source>(
     placed_text(alloc, &bytes)?.into_string()
 }
 
-// Whether so many values may be read from elsewhere.
+// Whether the limits allow `count` values outside the entry.
 pub(crate) fn is_allowed(limits: &Limits, field_type: Type, count: u64) -> bool
     ensures { result ≡ value.is_allowed limits.now field_type count }
 {
@@ -301,9 +302,11 @@ pub(crate) fn is_allowed(limits: &Limits, field_type: Type, count: u64) -> bool
     }
 }
 
-/// Reads the value of a field. 2^64 bytes or more, or elsewhere more values than the limits allow: `LimitsExceeded`;
-/// bytes past the end: `IoError(UnexpectedEof)`; a text that doesn't end in its entry, or isn't one: `InvalidTag`. Memory is
-/// taken within the limits and the source alone, and for a value in its entry only where it is no fault.
+/// Reads the value of a field. Returns `LimitsExceeded` for 2^64 bytes or more, and for values
+/// outside the entry that are more than the limits allow. Returns `IoError(UnexpectedEof)` for
+/// bytes past the end of the source. Returns `InvalidTag` for a text in the entry that does not end
+/// there, and for bytes that are no text. Allocates memory only for values within the limits and
+/// within the source, and for a value in the entry only where it is valid.
 #[tactic(auto, using(crate::proofs::Within::value_within, crate::proofs::Within::read_within), unfolding(crate::specs::FieldValue::field_value, tiff_base::specs::FieldBytes::field_bytes))]
 pub fn read_value<R: Source>(
     alloc: Global,
@@ -345,7 +348,7 @@ pub fn read_value<R: Source>(
     value_from(alloc, false, field_type, order, count, &bytes)
 }
 
-/// Reads the value of a tag, if the directory has it.
+/// Reads the value of a tag. Returns `None` if the directory does not have the tag.
 #[tactic(auto, using(crate::proofs::Within::found_wanted), unfolding(crate::specs::Look::look_in))]
 pub fn find_value<R: Source>(
     alloc: Global,

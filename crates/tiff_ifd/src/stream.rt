@@ -1,4 +1,4 @@
-//! Numbers are read, one after the other; and packed bytes.
+//! Reads consecutive numbers, and packed bytes.
 
 ghost use Rattle.std.specs.Prelude.{◌≡◌, Ok};
 ghost use Rattle.std.specs.Int.{w16, w32, w64, cast_signed};
@@ -12,7 +12,7 @@ use tiff_base::io::Source;
 use tiff_base::read::{read_u16_at, read_u32_at, read_u64_at};
 use tiff_base::tags::{Bits32, Bits64, ByteOrder};
 
-/// Reads numbers of one byte order, one after the other.
+/// Reads consecutive numbers in one byte order.
 #[derive(Drop)]
 pub struct EndianReader<R: Source> {
     source: R,
@@ -33,7 +33,7 @@ impl<R: Source> Model for EndianReader<R> {
     } };
 }
 
-/// Its byte order and where it is; nothing is asked of the source.
+/// Shows the byte order and the offset. Does not read the source.
 impl<R: Source> fmt::Debug for EndianReader<R> {
     fn fmt<W: fmt::Write>(&self, f: &mut fmt::Formatter<W>) -> fmt::Result {
         f.debug_struct("EndianReader")
@@ -44,7 +44,7 @@ impl<R: Source> fmt::Debug for EndianReader<R> {
 }
 
 impl<R: Source> EndianReader<R> {
-    /// Reads from the source's start on.
+    /// A reader at the start of the source.
     pub fn new(source: R, byte_order: ByteOrder) -> Self
         ensures { result ≡ record { bytes = (R.told source).bytes; failures = R.failures source; order = byte_order; offset = 0 } }
     {
@@ -63,7 +63,7 @@ impl<R: Source> EndianReader<R> {
         &self.source
     }
 
-    /// The next number is read from here on; any offset will do.
+    /// Moves to an offset, where the next read begins. Accepts any offset.
     pub fn goto_offset(&mut self, offset: u64) -> TiffResult<()>
         ensures answer { result ≡ Ok tt }
         ensures state { self.new ≡ record self.old { offset = offset } }
@@ -72,8 +72,8 @@ impl<R: Source> EndianReader<R> {
         Ok(())
     }
 
-    /// The next two bytes as a number. Fewer bytes there: `IoError(UnexpectedEof)`, as of each of these reads; a refused
-    /// one stays at its offset.
+    /// Reads the next two bytes as a number. This and each other read returns
+    /// `IoError(UnexpectedEof)` where the source has fewer bytes. After an error the offset stays.
     pub fn read_u16(&mut self) -> TiffResult<u16>
         ensures { NumberRead w16 (λ n. n) result self.old self.new }
     {
@@ -82,14 +82,14 @@ impl<R: Source> EndianReader<R> {
         Ok(n)
     }
 
-    /// The next two bytes as a signed number.
+    /// Reads the next two bytes as a signed number.
     pub fn read_i16(&mut self) -> TiffResult<i16>
         ensures { NumberRead w16 (cast_signed w16) result self.old self.new }
     {
         Ok(self.read_u16()?.cast_signed())
     }
 
-    /// The next four bytes as a number.
+    /// Reads the next four bytes as a number.
     pub fn read_u32(&mut self) -> TiffResult<u32>
         ensures { NumberRead w32 (λ n. n) result self.old self.new }
     {
@@ -98,14 +98,14 @@ impl<R: Source> EndianReader<R> {
         Ok(n)
     }
 
-    /// The next four bytes as a signed number.
+    /// Reads the next four bytes as a signed number.
     pub fn read_i32(&mut self) -> TiffResult<i32>
         ensures { NumberRead w32 (cast_signed w32) result self.old self.new }
     {
         Ok(self.read_u32()?.cast_signed())
     }
 
-    /// The next eight bytes as a number.
+    /// Reads the next eight bytes as a number.
     pub fn read_u64(&mut self) -> TiffResult<u64>
         ensures { NumberRead w64 (λ n. n) result self.old self.new }
     {
@@ -114,21 +114,21 @@ impl<R: Source> EndianReader<R> {
         Ok(n)
     }
 
-    /// The next eight bytes as a signed number.
+    /// Reads the next eight bytes as a signed number.
     pub fn read_i64(&mut self) -> TiffResult<i64>
         ensures { NumberRead w64 (cast_signed w64) result self.old self.new }
     {
         Ok(self.read_u64()?.cast_signed())
     }
 
-    /// The next four bytes as a floating number.
+    /// Reads the next four bytes as a floating-point number.
     pub fn read_f32(&mut self) -> TiffResult<Bits32>
         ensures { NumberRead w32 of_bits_32 result self.old self.new }
     {
         Ok(Bits32(self.read_u32()?))
     }
 
-    /// The next eight bytes as a floating number.
+    /// Reads the next eight bytes as a floating-point number.
     pub fn read_f64(&mut self) -> TiffResult<Bits64>
         ensures { NumberRead w64 of_bits_64 result self.old self.new }
     {

@@ -37,7 +37,7 @@ pub enum Value {
 }
 
 impl Value {
-    /// A byte. Another kind of value: `InvalidTypeForTag`.
+    /// Returns a byte. Another kind of value gives `InvalidTypeForTag`.
     pub fn into_u8(self) -> TiffResult<u8>
         ensures { Gives (λ n. n) result (spec.into_u8 (datum self)) }
     {
@@ -47,7 +47,7 @@ impl Value {
         }
     }
 
-    /// A signed byte. Another kind of value: `InvalidTypeForTag`.
+    /// Returns a signed byte. Another kind of value gives `InvalidTypeForTag`.
     pub fn into_i8(self) -> TiffResult<i8>
         ensures { Gives (λ n. n) result (spec.into_i8 (datum self)) }
     {
@@ -57,7 +57,8 @@ impl Value {
         }
     }
 
-    /// A signed number of 16 bits. Another kind of value: `InvalidTypeForTag`; one that doesn't fit: `IntSizeError`.
+    /// Returns a signed number of 16 bits. Another kind of value gives `InvalidTypeForTag`, and a
+    /// number that does not fit gives `IntSizeError`.
     pub fn into_i16(self) -> TiffResult<i16>
         ensures { Gives (λ n. n) result (spec.into_i16 (datum self)) }
     {
@@ -70,7 +71,8 @@ impl Value {
         }
     }
 
-    /// A signed number of 32 bits. Another kind of value: `InvalidTypeForTag`; one that doesn't fit: `IntSizeError`.
+    /// Returns a signed number of 32 bits. Another kind of value gives `InvalidTypeForTag`, and a
+    /// number that does not fit gives `IntSizeError`.
     pub fn into_i32(self) -> TiffResult<i32>
         ensures { Gives (λ n. n) result (spec.into_i32 (datum self)) }
     {
@@ -83,7 +85,7 @@ impl Value {
         }
     }
 
-    /// A signed number. Another kind of value: `InvalidTypeForTag`.
+    /// Returns a signed number. Another kind of value gives `InvalidTypeForTag`.
     pub fn into_i64(self) -> TiffResult<i64>
         ensures { Gives (λ n. n) result (spec.into_i64 (datum self)) }
     {
@@ -96,7 +98,8 @@ impl Value {
         }
     }
 
-    /// The bits of a floating number of 32 bits. Another kind of value: `InvalidTypeForTag`.
+    /// Returns the bits of a 32-bit floating-point number. Another kind of value gives
+    /// `InvalidTypeForTag`.
     pub fn into_f32(self) -> TiffResult<Bits32>
         ensures { Gives (λ x. x.0) result (spec.into_f32 (datum self)) }
     {
@@ -106,7 +109,8 @@ impl Value {
         }
     }
 
-    /// The bits of a floating number of 64 bits. Another kind of value: `InvalidTypeForTag`.
+    /// Returns the bits of a 64-bit floating-point number. Another kind of value gives
+    /// `InvalidTypeForTag`.
     pub fn into_f64(self) -> TiffResult<Bits64>
         ensures { Gives (λ x. x.0) result (spec.into_f64 (datum self)) }
     {
@@ -116,7 +120,7 @@ impl Value {
         }
     }
 
-    /// The offset of a directory. Another kind of value: `InvalidTypeForTag`.
+    /// Returns the offset of a directory. Another kind of value gives `InvalidTypeForTag`.
     pub fn into_ifd_pointer(self) -> TiffResult<IfdPointer>
         ensures { Gives (λ x. x.0) result (spec.into_ifd_pointer (datum self)) }
     {
@@ -128,7 +132,7 @@ impl Value {
         }
     }
 
-    /// A text. Another kind of value: `InvalidTypeForTag`.
+    /// Returns a text. Another kind of value gives `InvalidTypeForTag`.
     pub fn into_string(self) -> TiffResult<String>
         ensures { Gives string_bytes result (spec.into_string (datum self)) }
     {
@@ -138,7 +142,8 @@ impl Value {
         }
     }
 
-    /// A number below 2^16. Another kind of value: `InvalidTypeForTag`; a larger one: `IntSizeError`.
+    /// Returns a number below 2^16. Another kind of value gives `InvalidTypeForTag`, and a larger
+    /// number gives `IntSizeError`.
     pub fn into_u16(self) -> TiffResult<u16>
         ensures { Gives (λ n. n) result (spec.into_u16 (datum self)) }
     {
@@ -151,7 +156,8 @@ impl Value {
         }
     }
 
-    /// A number below 2^32. Another kind of value: `InvalidTypeForTag`; a larger one: `IntSizeError`.
+    /// Returns a number below 2^32. Another kind of value gives `InvalidTypeForTag`, and a larger
+    /// number gives `IntSizeError`.
     pub fn into_u32(self) -> TiffResult<u32>
         ensures { Gives (λ n. n) result (spec.into_u32 (datum self)) }
     {
@@ -166,7 +172,7 @@ impl Value {
         }
     }
 
-    /// A number. Another kind of value: `InvalidTypeForTag`.
+    /// Returns a number. Another kind of value gives `InvalidTypeForTag`.
     pub fn into_u64(self) -> TiffResult<u64>
         ensures { Gives (λ n. n) result (spec.into_u64 (datum self)) }
     {
@@ -181,7 +187,8 @@ impl Value {
         }
     }
 
-    /// Bytes, of a list or of one byte. The first item that fails gives the fault.
+    /// Returns the bytes of a list, or one byte as a list. Returns the error of the first item that
+    /// fails.
     #[tactic(auto, using(crate::proofs::Joined::as_they_are))]
     pub fn into_u8_vec(self, alloc: Global) -> TiffResult<Vec<u8>>
         ensures { AnswersWithoutSource (λ v. v.items) result (spec.into_u8_vec (datum self)) }
@@ -193,8 +200,9 @@ impl Value {
         }
     }
 
-    /// Numbers below 2^32, of a list, of one number, of a rational or of a text's characters. The first item that fails
-    /// gives the fault; a number that doesn't fit: `IntSizeError`.
+    /// Returns numbers below 2^32: those of a list, one number, the two of a rational, or the
+    /// characters of a text. Returns the error of the first item that fails; a number that does not
+    /// fit gives `IntSizeError`.
     #[tactic(auto, using(crate::proofs::Joined::as_they_are))]
     pub fn into_u32_vec(self, alloc: Global) -> TiffResult<Vec<u32>>
         ensures { AnswersWithoutSource (λ v. v.items) result (spec.into_u32_vec (datum self)) }
@@ -208,7 +216,8 @@ impl Value {
         }
     }
 
-    /// The bits of floating numbers of 32 bits, of a list or of one value. The first item that fails gives the fault.
+    /// Returns the bits of 32-bit floating-point numbers, of a list or of one value. Returns the
+    /// error of the first item that fails.
     pub fn into_f32_vec(self, alloc: Global) -> TiffResult<Vec<Bits32>>
         ensures { AnswersWithoutSource (λ v. map (λ n. n.0) v.items) result (spec.into_f32_vec (datum self)) }
     {
@@ -218,7 +227,8 @@ impl Value {
         }
     }
 
-    /// The bits of floating numbers of 64 bits, of a list or of one value. The first item that fails gives the fault.
+    /// Returns the bits of 64-bit floating-point numbers, of a list or of one value. Returns the
+    /// error of the first item that fails.
     pub fn into_f64_vec(self, alloc: Global) -> TiffResult<Vec<Bits64>>
         ensures { AnswersWithoutSource (λ v. map (λ n. n.0) v.items) result (spec.into_f64_vec (datum self)) }
     {
@@ -228,7 +238,8 @@ impl Value {
         }
     }
 
-    /// The offsets of directories, of a list or of one value. The first item that fails gives the fault.
+    /// Returns the offsets of directories, of a list or of one value. Returns the error of the
+    /// first item that fails.
     pub fn into_ifd_vec(self, alloc: Global) -> TiffResult<Vec<IfdPointer>>
         ensures { AnswersWithoutSource (λ v. map (λ n. n.0) v.items) result (spec.into_ifd_vec (datum self)) }
     {
@@ -238,8 +249,9 @@ impl Value {
         }
     }
 
-    /// Signed numbers of 32 bits, of a list or of one value; a signed rational gives two. The first item that fails gives the
-    /// fault; a number that doesn't fit: `IntSizeError`.
+    /// Returns signed numbers of 32 bits, of a list or of one value. A signed rational gives two
+    /// numbers. Returns the error of the first item that fails; a number that does not fit gives
+    /// `IntSizeError`.
     pub fn into_i32_vec(self, alloc: Global) -> TiffResult<Vec<i32>>
         ensures { AnswersWithoutSource (λ v. v.items) result (spec.into_i32_vec (datum self)) }
     {
@@ -249,7 +261,8 @@ impl Value {
         }
     }
 
-    /// Signed numbers, of a list or of one value; a signed rational gives two. The first item that fails gives the fault.
+    /// Returns signed numbers, of a list or of one value. A signed rational gives two numbers.
+    /// Returns the error of the first item that fails.
     pub fn into_i64_vec(self, alloc: Global) -> TiffResult<Vec<i64>>
         ensures { AnswersWithoutSource (λ v. v.items) result (spec.into_i64_vec (datum self)) }
     {
@@ -259,7 +272,8 @@ impl Value {
         }
     }
 
-    /// Numbers below 2^16, of a list or of one number. The first item that fails gives the fault.
+    /// Returns numbers below 2^16, of a list or of one number. Returns the error of the first item
+    /// that fails.
     #[tactic(auto, using(crate::proofs::Joined::as_they_are))]
     pub fn into_u16_vec(self, alloc: Global) -> TiffResult<Vec<u16>>
         ensures { AnswersWithoutSource (λ v. v.items) result (spec.into_u16_vec (datum self)) }
@@ -272,8 +286,8 @@ impl Value {
         }
     }
 
-    /// Numbers, of a list, of one number, of a rational or of a text's characters. The first item that fails gives the
-    /// fault.
+    /// Returns numbers: those of a list, one number, the two of a rational, or the characters of a
+    /// text. Returns the error of the first item that fails.
     #[tactic(auto, using(crate::proofs::Joined::as_they_are))]
     pub fn into_u64_vec(self, alloc: Global) -> TiffResult<Vec<u64>>
         ensures { AnswersWithoutSource (λ v. v.items) result (spec.into_u64_vec (datum self)) }
@@ -405,13 +419,13 @@ fn copy_list(list: &Vec<Value>) -> Result<Vec<Value>, AllocError>
     Ok(items)
 }
 
-/// A number that a single value gives.
+/// A number type that a single value converts to.
 pub trait FromValue: Sized {
     ghost use Rattle.std.specs.Prelude.{Result, ℕ};
     ghost use Rattle.tiff_base.specs.declared.error.TiffError.{TiffError};
     ghost use Rattle.tiff_ifd.specs.Datum.{Datum};
 
-    // What each value gives, and the number of what is given.
+    // The result of converting a value, and the number that an item of the type represents.
     ghost into: { Datum → Result ℕ TiffError };
 
     ghost number: { Self → ℕ };
@@ -460,7 +474,7 @@ impl FromValue for u64 {
     }
 }
 
-// A number that has to be below 2^32.
+// Converts a number that has to be below 2^32.
 fn narrow(n: u64) -> TiffResult<u32>
     ensures { Gives (λ n. n) result (spec.below_limit (2 ^ 32) n) }
 {
@@ -517,16 +531,16 @@ impl FromValue for IfdPointer {
     }
 }
 
-/// The numbers that a single value gives, one or two.
+/// A number type of which a single value contains one or two numbers.
 pub trait AppendValue: Sized {
     ghost use Rattle.std.specs.Prelude.{◌≡◌, Result, List, length, take};
     ghost use Rattle.tiff_base.specs.declared.error.TiffError.{TiffError};
     ghost use Rattle.tiff_ifd.specs.Datum.{Datum};
 
-    // What each value gives.
+    // The numbers that a value converts to.
     ghost numbers: { Datum → Result (List Self) TiffError };
 
-    // After an error too, `out` begins with what it held.
+    // Appends the numbers of a value. After an error too, `out` begins with its former items.
     fn append_value(value: Value, out: &mut Vec<Self>) -> TiffResult<()>
         ensures answer { AnswersWithoutSource (λ _. out.new.items) result (spec.append_numbers out.old.items (numbers (datum value))) }
         ensures front { take (length out.old.items) out.new.items ≡ out.old.items };
@@ -558,7 +572,7 @@ impl AppendValue for i64 {
     }
 }
 
-// A signed number that has to fit into 32 bits.
+// Converts a signed number that has to fit into 32 bits.
 fn narrow_signed(n: i64) -> TiffResult<i32>
     ensures { Gives (λ n. n) result (spec.in_signed_range (2 ^ 31) n) }
 {

@@ -1,4 +1,4 @@
-//! The tags of a file's directory, of all types.
+//! Reads the tags of a directory, whatever their types.
 
 ghost use Rattle.std.specs.Prelude.{◌≡◌, option_map};
 ghost use Rattle.tiff_base.specs.Answers.{IsKept};
@@ -16,7 +16,7 @@ use tiff_base::error::TiffResult;
 use tiff_base::io::Source;
 use tiff_base::tags::{ByteOrder, FileKind, Tag};
 
-/// A source, with a directory of it whose tags are read, whatever their type.
+/// A source and one of its directories. Reads the tags of the directory, whatever their types.
 #[derive(Drop)]
 pub struct ValueReader<R: Source> {
     pub source: R,

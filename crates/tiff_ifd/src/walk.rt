@@ -1,4 +1,4 @@
-//! A file's directories are entered one after another.
+//! Enters the directories of a file one after another.
 
 ghost use Rattle.std.specs.Prelude.{◌≡◌, ◌==◌, ◌<◌, ◌≤◌, ◌+◌, ◌-◌, ◌++◌, ◌∷◌, ℕ, List, [], reverse, length, IfOk, IfErr, IfNone, OnErr, MatchOption, nat_eq, Ok, Err, None, Some, false, option_map};
 ghost use Rattle.std.specs.List.{list_any, slice_get};
@@ -17,7 +17,7 @@ use tiff_base::error::{TiffError, TiffFormatError, TiffResult};
 use tiff_base::io::Source;
 use tiff_base::tags::{ByteOrder, FileKind};
 
-/// The offsets of a file's directories, as far as they were entered, and the link behind the last of them.
+/// The offsets of the directories that were entered so far, and the link of the last one.
 #[derive(Debug, Drop)]
 pub struct Walk {
     offsets: Offsets,
@@ -32,7 +32,7 @@ impl Model for Walk {
     ghost view = { λ w. record { offsets = w.offsets; next = w.next } };
 }
 
-// The offset that a directory's link leads to.
+// The offset that the link of a directory leads to.
 fn behind(directory: &Directory) -> Option<u64>
     ensures { result ≡ directory.now.next }
 {
@@ -40,7 +40,7 @@ fn behind(directory: &Directory) -> Option<u64>
 }
 
 impl Walk {
-    /// No offset was entered yet; `first` is the next one.
+    /// A walk that has entered no offset. `first` is the next offset.
     #[tactic(auto, using(crate::proofs::Begun::none_begun))]
     pub fn new(alloc: Global, first: u64) -> Self
         ensures walked { result ≡ record { offsets = []; next = Some first } }
@@ -52,21 +52,21 @@ impl Walk {
         }
     }
 
-    /// How many offsets were entered.
+    /// The number of entered offsets.
     pub fn len(&self) -> usize
         ensures { result ≡ length self.now.offsets }
     {
         self.offsets.len()
     }
 
-    /// Whether no offset was entered.
+    /// Whether the walk has entered no offset.
     pub fn is_empty(&self) -> bool
         ensures { result ≡ (length self.now.offsets == 0) }
     {
         self.len() == 0
     }
 
-    /// The offset that was entered after `index` others.
+    /// The entered offset at an index, from 0.
     pub fn get(&self, index: usize) -> Option<u64>
         ensures { result ≡ slice_get self.now.offsets index }
     {
@@ -87,7 +87,7 @@ impl Walk {
         self.next
     }
 
-    // Whether a link is one of the offsets up to and with this one, the next.
+    // Whether a link leads to the next offset or to an entered one.
     #[tactic(auto, using(crate::proofs::Begun::is_itself, crate::proofs::Begun::is_among))]
     fn meets(&mut self, offset: u64, link: u64) -> Result<bool, AllocError>
         ensures met { IfOk result (λ met. met ≡ list_any (nat_eq link) (offset ∷ reverse self.old.offsets)) }
@@ -99,7 +99,8 @@ impl Walk {
         self.offsets.contains(link)
     }
 
-    // Adds the next offset with its link, unless that is one of the offsets up to and with it.
+    // Adds the next offset with its link. Returns `FormatError(CycleInOffsets)` where the link
+    // leads to this offset or to an entered one.
     #[tactic(auto, using(crate::proofs::Begun::unmet, crate::proofs::Begun::none_met, crate::proofs::Begun::met))]
     fn add(&mut self, offset: u64, next: Option<u64>) -> TiffResult<()>
         ensures unmet { IfOk result (λ _. unless_met (offset ∷ reverse self.old.offsets) next ≡ Ok next) }
@@ -117,9 +118,10 @@ impl Walk {
         Ok(())
     }
 
-    /// Enters the next offset: its directory, or `None` where there is no next offset. Where the offset isn't entered, the walk
-    /// is as it was: `IoError(UnexpectedEof)` where the directory is cut, `FormatError(CycleInOffsets)` where its link is one
-    /// of the offsets up to and with it; or `OutOfMemory`, or `IoError(Device)`.
+    /// Enters the next offset and returns its directory. Returns `None` where there is no next
+    /// offset. Returns `IoError(UnexpectedEof)` where the source ends inside the directory, and
+    /// `FormatError(CycleInOffsets)` where its link leads to this offset or to an entered one. Also
+    /// returns `OutOfMemory` and `IoError(Device)`. After an error the walk is unchanged.
     #[tactic(auto, using(crate::proofs::Begun::unread, crate::proofs::Begun::unentered, crate::proofs::Begun::one_entered, crate::proofs::Begun::ends_none, crate::proofs::Begun::begins_entered, crate::proofs::Begun::cut_unread, crate::proofs::Begun::cut_unentered))]
     pub fn enter_next<R: Source>(
         &mut self,
@@ -147,8 +149,9 @@ impl Walk {
         Ok(Some(directory))
     }
 
-    // Goes over the next offset, of whose directory it reads the count and the link alone: true, or false where there is no next
-    // offset. Where the offset isn't entered, the walk is as it was, with the fault that `enter_next` answers.
+    // Enters the next offset, but reads only the count and the link of its directory. Returns true,
+    // or false where there is no next offset. Returns the errors of `enter_next`; after an error
+    // the walk is unchanged.
     #[tactic(auto, using(crate::proofs::Passed::unlinked, crate::proofs::Passed::unpassed, crate::proofs::Passed::one_passed, crate::proofs::Begun::ends_none, crate::proofs::Passed::begins_passed, crate::proofs::Passed::cut_unlinked, crate::proofs::Passed::cut_unpassed))]
     fn pass_next<R: Source>(
         &mut self,
@@ -175,9 +178,10 @@ impl Walk {
         Ok(true)
     }
 
-    /// The offset that comes after `index` others in the file's chain: goes along the chain as far as it must, and reads
-    /// nothing for an offset that was entered before. `None` where the chain ends before it; where a directory on the way, or
-    /// its own, isn't entered, the fault that `enter_next` answers. The offsets that were entered on the way stay so.
+    /// The offset at an index, from 0, in the file's chain. Enters the offsets up to it that were
+    /// not entered before, and reads nothing for an offset that was. Returns `None` where the chain
+    /// ends before the index. Returns the error of `enter_next` where the directory at the index,
+    /// or one before it, cannot be entered. The offsets that the call entered stay entered.
     pub fn offset_of<R: Source>(
         &mut self,
         source: &mut R,

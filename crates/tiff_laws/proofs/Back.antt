@@ -15,7 +15,7 @@ use Rattle.tiff_page.specs.Pixels.{tabulate, width_of, numbers_in}
 use Rattle.tiff_decode.specs.Result.{whole_numbers, BytesAgain}
 use Rattle.tiff_decode.proofs.Pieces.{zero_in, behind, number_in, whole}
 
--- a number's bytes are those that it was made of
+-- the bytes of a number are the bytes that it was made of
 abbrev Returns : ℕ → Type 0
 Returns size = (piece : List ℕ) → length piece ≡ size → AreOctets piece → le size (number LittleEndian (width_of size) piece) ≡ piece
 
@@ -56,7 +56,7 @@ number_back size returns bytes octets n h =
     ap (λ (p : List ℕ). le size (number LittleEndian (width_of size) p)) (sym (whole size bytes n h))
     ∙ returns piece (length-take-le size (drop (n * size) bytes) (omega (arith, length-drop (n * size) bytes))) (octets_in size bytes n octets)
 
--- whole numbers give their bytes back
+-- whole numbers have the bytes that they were made of
 each_back : (size : ℕ) → Returns size → (bytes : List ℕ) → AreOctets bytes → (n : ℕ) → n * size ≤ length bytes
     → flat_map (le size) (tabulate n (number_in size bytes)) ≡ take (n * size) bytes
 each_back size returns bytes octets zero h = let e : 0 ≡ 0 * size = omega arith in ap (λ (k : ℕ). take k bytes) e
@@ -72,7 +72,7 @@ each_back size returns bytes octets (suc n) h =
     ∙ take_next (n * size) size bytes
     ∙ ap (λ (k : ℕ). take k bytes) len
 
--- as do numbers of which the last was filled up
+-- numbers of which the last was filled up have the bytes that they were made of
 filled_back : (size : ℕ) → Returns size → (bytes : List ℕ) → AreOctets bytes
     → length bytes + (size - length bytes % size) % size ≡ div_ceil (length bytes) size * size
     → flat_map (le size) (numbers_in size bytes) ≡ whole_numbers size bytes

@@ -14,7 +14,7 @@ use Rattle.tiff_laws.proofs.Whole as whole
 use Rattle.tiff_page.proofs.Planes.{aligned_rows}
 use Rattle.tiff_laws.proofs.Covered.{parts_some}
 
--- so many bytes of a plane below others
+-- a byte of a plane is below the end of the planes
 pub below_planes : (n planes size rest : ℕ) → n < planes → rest < size → n * size + rest < planes * size
 below_planes n planes size rest l r =
     let a : (n + 1) * size ≤ planes * size = mul-le-mul_right size (omega (arith, l)) in

@@ -1,4 +1,4 @@
--- Each byte of an image's planes is of a chunk.
+-- Each byte of an image's planes belongs to a chunk.
 use Rattle.std.proofs.Common.{◌≡◌, ℕ, ◌+◌, ◌-◌, ◌*◌, ◌/◌, ◌%◌, ◌<◌, ◌≤◌, ap, sym, subst, ◌∙◌, ⊎_elim, arith}
 use Rattle.std.proofs.lemmas.Nat.{mod_below, div-add-mod'}
 use Rattle.std.proofs.Math.Nat.{mul_assoc, mul_comm, mul-le-mul_right, div-mul-le_self, lt-div-mul-add, one-le-mul, le-div_iff_mul-le, div-lt_iff_lt-mul}
@@ -15,7 +15,7 @@ use Rattle.tiff_laws.proofs.Whole.{some_chunk, plane_of}
 pub parts_some : (w n : ℕ) → 0 < n → 0 < w → 0 < parts w n
 parts_some w n p q = (le-div_iff_mul-le {k = n} {x = 1} {y = w + n - 1} p).1 (omega (arith, p, q))
 
--- a pixel's bits begin a byte: where it is in columns that begin with one
+-- a byte begins in the bits of a pixel: where it is in columns that begin at a whole byte
 pub in_columns : (k u x x0 w : ℕ) → x0 ≤ x → x < x0 + w → x * u ≤ 8 * k → 8 * k < x * u + u → x0 * u ≡ x0 * u / 8 * 8
     → (x0 * u / 8 ≤ k) × (k - x0 * u / 8 < (w * u + 7) / 8)
 in_columns k u x x0 w a b c d e =
@@ -25,7 +25,7 @@ in_columns k u x x0 w a b c d e =
     let i : (x0 + w) * u ≡ x0 * u + w * u = omega arith in
     (omega (arith, f, c, e), omega (arith, g, h, i, d, e, f, c))
 
--- so many chunks before it, each of whole bytes
+-- several chunks of whole bytes have whole bytes
 pub whole_before : (col cw u : ℕ) → cw * u ≡ cw * u / 8 * 8 → col * cw * u ≡ col * cw * u / 8 * 8
 whole_before col cw u e =
     let a : col * cw * u ≡ col * (cw * u) = mul_assoc col cw u in
@@ -69,7 +69,7 @@ module _ (one_chunk : OneChunk) (p : PageRecord) (l : LayoutRecord) (sides : Has
   y_below : y < p.height
   y_below = plane_of rest p.height l.row_bytes in_plane
 
-  -- its bit is of the row
+  -- the bit is in the row
   bit_below : 8 * k < p.width * bits
   bit_below = omega (arith, mod_below rest l.row_bytes some_row, is.rows, bits_of p.width)
 

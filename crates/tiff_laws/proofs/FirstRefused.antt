@@ -1,4 +1,4 @@
--- An image is refused with the fault of the first chunk that is refused.
+-- An image is refused with the error of the first chunk that is refused.
 use Rattle.std.proofs.Common.{◌≡◌, ℕ, ◌+◌, ◌*◌, ◌<◌, ◌≤◌, List, length, Ok, Err, refl, ap, sym, ◌∙◌, arith}
 use Rattle.std.specs.Prelude.{Result, replicate}
 use Rattle.std.proofs.lemmas.List.{length-replicate}
@@ -32,7 +32,7 @@ module _ (file : List ℕ) (order : ByteOrder) (p : PageRecord) (limits : Limits
   abbrev none_or : Result (Unit {0}) TiffError
   none_or = part_fault file order p limits l.color (part l)
 
-  -- with a layout and room it answers the part's fault, or bytes
+  -- with a layout and room, the result is the error of the part, or bytes
   answer_is : answer ≡ (none_or >>= (λ _. Ok (bytes_with_region file order p l.color (part l).region (part l).stride (part l).planes buf)))
   unfolding fill_buffer
   answer_is = let a : room_fault (length buf) l.plane_stride ≡ Ok tt = has_room (length buf) l.plane_stride room in rw (whole, a) refl
@@ -53,7 +53,7 @@ module _ (within_image : ChunksWithin) (d : Decoding) (sides : HasSides d.state.
   abbrev into : ℕ → LayoutRecord → Part
   into i layout = chunk_part page i 1 layout.row_bytes
 
-  -- a chunk with a fault is refused
+  -- a chunk with an error is refused
   pub chunk_refused : (i : ℕ) (e : TiffError) → fault i ≡ Err e → IsChunkRefused d l e i
   unfolding outcome.read_chunk_bytes pixels.read_chunk_bytes
   chunk_refused i e h part room =
@@ -67,7 +67,7 @@ module _ (within_image : ChunksWithin) (d : Decoding) (sides : HasSides d.state.
   has_part : (i : ℕ) → chunk_byte_count page l i ≤ length (some_part i)
   has_part i = omega (arith, length-replicate {A = ℕ} (chunk_byte_count page l i) 0)
 
-  -- and has one where it is refused
+  -- a chunk that is refused has an error
   pub fault_is : (i : ℕ) (e : TiffError) → IsChunkRefused d l e i → fault i ≡ Err e
   unfolding outcome.read_chunk_bytes pixels.read_chunk_bytes
   fault_is i e h =

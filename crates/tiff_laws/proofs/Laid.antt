@@ -1,4 +1,4 @@
--- What a layout of a part of a page says, and what a read of pixels was when it gave bytes.
+-- Facts of a layout of a part of a page, and of a read of pixels that returned bytes.
 use Rattle.std.proofs.Common.{◌≡◌, ℕ, ◌*◌, ◌^◌, ◌<◌, ◌≤◌, Bool, true, false, List, length, Ok, Err, refl, sym, subst, ⊎_elim}
 use Rattle.std.specs.Prelude.{Result, nat_lt}
 use Rattle.std.proofs.lemmas.Bool.{cases_Bool, ltb-true, ltb-false}
@@ -40,7 +40,7 @@ room_ok provided needed h = ltb-false provided needed (fail_if_ok (nat_lt provid
 
 -- ---- layouts
 
--- a layout of so many columns and rows
+-- a layout of a width and a height
 pub record IsLaid (p : PageRecord) (width height : ℕ) (l : LayoutRecord) : Type 0 where
   pub color : color_of p ≡ Ok l.color
   pub rows : l.row_bytes ≡ row_bytes p l.color width
@@ -77,7 +77,7 @@ laid p width height l h =
       chroma = (e.0, e.1.0);
     })
 
--- of so many planes
+-- the layout of several planes
 pub planes_laid : (p : PageRecord) (width height : ℕ) (l : LayoutRecord) → planes_layout p width height ≡ Ok l
     → (layout_of p width height ≡ Ok l) × (l.plane_stride * planes p.planar l.color < 2 ^ 64)
 unfolding planes_layout
@@ -91,7 +91,7 @@ planes_laid p width height l h =
 -- ---- reads
 
 module _ (file : List ℕ) (order : ByteOrder) (p : PageRecord) (limits : Limits) where
-  -- what a read of pixels was when it gave these bytes
+  -- facts of a read of pixels that returned these bytes
   pub record IsFilled (color : ColorType) (part : Part) (buf new : List ℕ) : Type 0 where
     pub none : part_fault file order p limits color part ≡ Ok tt
     pub bytes : new ≡ bytes_with_region file order p color part.region part.stride part.planes buf

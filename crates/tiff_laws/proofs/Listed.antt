@@ -42,11 +42,11 @@ module _ {A : Type 0} (item : ℕ → A) (start : Decoding) where
         ∙ ap (map item) (sym (take_next offsets (suc l.number) a.offset a.is_offset));
   }
 
-  -- As many were listed as were passed.
+  -- As many pages were listed as were passed.
   pub listed_count : (d : Decoding) (items : List A) (l : ListedAlong item start d items) → length items ≡ suc l.number
   listed_count d items l = ap length l.listed ∙ length-map (take (suc l.number) offsets) item ∙ take_long offsets l.number l.along.offset l.along.is_offset
 
-  -- Fewer are left.
+  -- Fewer pages are left.
   pub listed_fewer : (old new : Decoding) (before items : List A) → ListedAlong item start old before → ListedAlong item start new items → (x : A) → items ≡ before ++ x ∷ []
       → length offsets - length items < length offsets - length before
   listed_fewer old new before items l m x e =
@@ -55,7 +55,7 @@ module _ {A : Type 0} (item : ℕ → A) (start : Decoding) where
       let within = slice_get_within offsets m.number m.along.offset m.along.is_offset in
       omega arith
 
-  -- All are listed.
+  -- All pages are listed.
   pub listed_all : (d : Decoding) (items : List A) (l : ListedAlong item start d items) (end : Option TiffError) → EndsBehind start l.number end → items ≡ map item offsets
   listed_all d items l end e =
       l.listed ∙ ap (λ (n : ℕ). map item (take n offsets)) (sym e.last) ∙ ap (map item) (take-length offsets)

@@ -25,7 +25,7 @@ none_found true false x v h = refl
 none_found true true x v (inl h) = cc
 none_found true true x v (inr h) = cc
 
--- past the planes there is no byte of the region
+-- after the planes there is no byte of the region
 pub none_at : (file : List ℕ) (order : ByteOrder) (p : PageRecord) (color : ColorType) (region : Region) (stride planes at v : ℕ)
     → (planes ≤ at / (stride * region.height)) ⊎ (row_bytes p color region.width ≤ at % stride)
     → unwrap_or (byte_at file order p color region stride planes at) v ≡ v
@@ -39,7 +39,7 @@ none_at file order p color region stride planes at v h =
     (λ (b : row_bytes p color region.width ≤ at % stride). inr (le-ltb (at % stride) (row_bytes p color region.width) b))
     h)
 
--- which is so where a position is past them
+-- a position after the planes is past them, or past its row
 pub past : (s h planes at row : ℕ) → 0 < h → s ≡ row → planes * (s * h) ≤ at → (planes ≤ at / (s * h)) ⊎ (row ≤ at % s)
 past s h planes at row some e l =
     ⊎_elim
@@ -115,7 +115,7 @@ module _ (placed_each : PlacedEach) (plane_of_chunks : PlaneOfChunks) (planes_co
         (λ (above : planes_used page l (length buf) * l.plane_stride ≤ at). is.stays at above here ∙ sym (past_is at above here))
         (cases_lt at (planes_used page l (length buf) * l.plane_stride)))
 
-    -- and the image is made of them
+    -- the image is made of the chunks
     pub is_made : EachUsed page l (length buf) (IsChunkRead d l) → IsMadeOfChunks d l buf image
     is_made each = record {
       long = length_is;
@@ -128,7 +128,7 @@ module _ (placed_each : PlacedEach) (plane_of_chunks : PlaneOfChunks) (planes_co
     }
 
   module _ (read_where_chunks : ReadWhereChunks) where
-    -- each chunk of an image that is read is
+    -- each chunk of an image that is read is read
     each_read : (d : Decoding) (l : LayoutRecord) (buf image : List ℕ) → HasSides d.state.page → HasRoom d.state.page l (length buf)
         → (outcome.read_image_bytes d buf).answer ≡ Ok image → EachUsed d.state.page l (length buf) (IsChunkRead d l)
     each_read d l buf image sides room read =

@@ -17,7 +17,7 @@ use Rattle.tiff_ifd.proofs.Begun.{offset_begun}
 use Rattle.tiff_laws.specs.Costs as spec
 use Rattle.tiff_laws.specs.Costs.{AreAllReadable, stretch_bytes}
 
--- ---- stretches one behind the other
+-- ---- stretches one after another
 
 bytes_of_both : (xs ys : List (ℕ × ℕ)) → stretch_bytes (xs ++ ys) ≡ stretch_bytes xs + stretch_bytes ys
 bytes_of_both [] ys = omega arith
@@ -78,7 +78,7 @@ module _ (kind : FileKind) (order : ByteOrder) (bytes : List ℕ) (first : ℕ) 
   few_of_link (Ok None) = omega arith
   few_of_link (Err e) = omega arith
 
-  -- behind the directory that was entered last, or before the first
+  -- after the directory that was entered last, or before the first
   abbrev behind : Option ℕ → List (ℕ × ℕ)
   behind before = of_link (link_behind kind order bytes first before)
 

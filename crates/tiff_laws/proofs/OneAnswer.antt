@@ -1,4 +1,4 @@
--- Each call has one answer.
+-- Each call has one result.
 use Rattle.std.proofs.Common.{Result, sym, ◌∙◌}
 use Rattle.tiff_base.specs.declared.error.TiffError.{TiffError}
 use Rattle.tiff_decode.specs.declared.script.Call.{Call}
@@ -11,7 +11,7 @@ use Rattle.tiff_decode.specs.Step.{Step}
 use Rattle.tiff_decode.proofs.NextState.{answer_of, IsAnswer, called}
 use Rattle.tiff_laws.specs.OneAnswer.{SameSight, SameAnswer}
 
--- what shows the same answer is the same
+-- two results with the same view are the same
 same_sight : {Y : Type 0} (s t : Sight Y) (answer : Result Y TiffError) → IsAnswer s answer → IsAnswer t answer → SameSight s t
 same_sight (sees view r) (sees other o) answer p q = p ∙ sym q
 same_sight (sees view r) sees_nothing answer p q = absurd q

@@ -22,12 +22,12 @@ use Rattle.tiff_laws.specs.Samples.{numbers_by, image_read, planes_let, HasNumbe
 use Rattle.tiff_laws.proofs.Laid.{good, ok_is}
 use Rattle.tiff_laws.proofs.Samples.{all_or_one, used_of, some_plane, all_some}
 
--- the fault of a step is that of what is made of its value
+-- the error of a step is the error of the steps after it
 bad_after : {A B : Type 0} (r : Result A TiffError) (f : A → B) (e : TiffError) → (r >>= (λ x. good (f x))) ≡ Err e → r ≡ Err e
 bad_after (Ok x) f e h = cc
 bad_after (Err g) f e h = cc
 
--- the numbers of so many bytes, which are those of some planes
+-- the numbers of the bytes of some planes
 module _ (some_bytes : SomeBytes) (d : Decoding) (l : LayoutRecord) (type : DecodingSampleType) (sides : HasSides d.state.page) (has : HasSamples d.state.page) (len used : ℕ) (is : HasNumbers d l type len) (bytes : len ≡ l.plane_stride * used) (some : 0 < used) (few : used ≤ planes d.state.page.planar l.color) where
   abbrev zeros : List ℕ
   zeros = replicate len 0
@@ -38,7 +38,8 @@ module _ (some_bytes : SomeBytes) (d : Decoding) (l : LayoutRecord) (type : Deco
   long : length zeros ≡ l.plane_stride * used
   long = length-replicate {A = ℕ} len 0 ∙ bytes
 
-  -- with a type, and within the limit, they are those of the bytes that are read
+  -- the numbers are those of the bytes that are read, if there is a type and they are within the
+  -- limit
   numbers_of : numbers ≡ (image_read d zeros >>= (λ bytes. good (decoded_samples type bytes)))
   numbers_of =
       ap (λ (r : Result DecodingSampleType TiffError). r >>= (λ type. limit_fault d.state.limits (size_of type) len >>= (λ _. image_read d zeros >>= (λ bytes. good (decoded_samples type bytes))))) is.typed

@@ -42,7 +42,7 @@ pub all_or_one : (b : Bool) (all : ℕ) → 0 < all → (0 < (if b then all else
 all_or_one true all h = (h, omega arith)
 all_or_one false all h = (omega arith, omega (arith, h))
 
--- so many planes are taken by a slice of their bytes
+-- a slice of the bytes of a number of planes holds these planes whole
 pub used_of : (all used size : ℕ) → used ≤ all → 0 < size → min all (size * used / size) ≡ used
 used_of all used size l some =
     let a : size * used ≡ used * size + 0 = omega (arith, mul_comm size used) in
@@ -50,7 +50,7 @@ used_of all used size l some =
     omega (arith, b, l)
 
 module _ (file : List ℕ) (order : ByteOrder) (p : PageRecord) (limits : Limits) (width height : ℕ) (part : LayoutRecord → Part) (buf : List ℕ) (l : LayoutRecord) (whole : planes_layout p width height ≡ Ok l) (room : l.plane_stride ≤ length buf) where
-  -- with a layout and room a slice is filled
+  -- with a layout and room, a slice is filled
   pub fills_part : (planes_layout p width height >>= (λ l. room_fault (length buf) l.plane_stride >>= (λ _. fill_buffer file order p limits l.color (part l) buf)))
       ≡ fill_buffer file order p limits l.color (part l) buf
   fills_part = let a : room_fault (length buf) l.plane_stride ≡ Ok tt = has_room (length buf) l.plane_stride room in rw (whole, a) refl
@@ -104,7 +104,7 @@ module _ (some_bytes : SomeBytes) (d : Decoding) (sides : HasSides d.state.page)
       subst (λ (z : ℕ). samples d.bytes d.order p d.state.limits l.color (image_part p 1 l.row_bytes) z ≡ numbers_by d (image_read d) z) e
       (numbers_are 1 (omega arith) (omega (arith, all_some)))
 
-  -- the planes that the limit lets through
+  -- the planes within the limit
   pub let_numbers : samples d.bytes d.order p d.state.limits l.color (image_part p (planes_let d l) l.row_bytes) (l.plane_stride * planes_let d l)
       ≡ numbers_by d (image_read d) (l.plane_stride * planes_let d l)
   let_numbers =

@@ -1,4 +1,4 @@
--- A page that the tags tell has sides and samples.
+-- A page that the tags define has sides and samples.
 use Rattle.std.proofs.Common.{◌≡◌, ℕ, zero, suc, ◌^◌, ◌<◌, Bool, true, false, List, [], ◌∷◌, length, Option, Some, None, Ok, Err, refl, ap, ◌∙◌, subst, arith}
 use Rattle.std.specs.Prelude.{Result, if◌then◌else◌, ◌==◌, ◌&&◌, ◌||◌, not}
 use Rattle.std.specs.List.{list_all}
@@ -21,7 +21,7 @@ use Rattle.tiff_page.specs.Laws.{HasSides}
 use Rattle.tiff_laws.specs.Sides.{HasSamples, PageHasMethod, PageHasSides}
 use Rattle.tiff_laws.proofs.Laid.{good, ok_is}
 
--- ---- what a choice gave
+-- ---- the result of a choice
 
 some_of : (n : ℕ) → (n == 0) ≡ false → 0 < n
 some_of zero h = cc
@@ -44,7 +44,7 @@ and_right : (a b : Bool) → (a && b) ≡ true → b ≡ true
 and_right true b h = h
 and_right false b h = cc
 
--- ---- what the checks gave
+-- ---- the results of the checks
 
 module _ (look : Look) where
   size_some : (s : ℕ × ℕ) → size_in look ≡ Ok s → (0 < s.0) × (0 < s.1)
@@ -135,7 +135,7 @@ module _ (look : Look) where
 
 -- ---- the page
 
--- a step of a chain that gave something, and what was given behind it
+-- a step of a chain that returned something, and the result of the steps after it
 step : {A : Type 0} {G : Type 0} (r : Result A TiffError) → ((e : TiffError) → r ≡ Err e → G) → ((x : A) → r ≡ Ok x → G) → G
 step (Ok x) on_err on_ok = on_ok x refl
 step (Err e) on_err on_ok = on_err e refl

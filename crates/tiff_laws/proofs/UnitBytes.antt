@@ -26,13 +26,13 @@ use Rattle.tiff_laws.proofs.Made.{none_at, past}
 use Rattle.tiff_laws.proofs.Bytes.{below_planes}
 use Rattle.tiff_laws.proofs.UnitChunks.{is_laid, into, same_width, same_height, chunk_laid, unit_gives}
 
--- so many parts of a length
+-- whole parts of a length lie within it
 whole_in : (len size n : ℕ) → n ≤ len / size → n * size ≤ len
 whole_in len size n h =
     let a : n * size ≤ len / size * size = mul-le-mul_right size h in
     omega (arith, a, div-mul-le_self len size)
 
--- where byte k of plane n of several is, whose lines are s bytes and of which each has h
+-- where byte k of plane n is, if lines have s bytes and planes h lines
 module _ (n h s k : ℕ) (below : k < s * h) where
   some_line : 0 < s
   some_line = some_chunk k h s (omega (arith, below, mul_comm s h))
@@ -107,7 +107,7 @@ module _ (chunks_within : ChunksWithin) (placed_each : PlacedEach) (unit_of_chun
       ∙ none_at d.bytes d.order p l.color region s used at (slice_index buf at)
       (past s h used at (row_bytes p l.color (rect p unit).width) (chunks_within p unit sides).some_row is.rows over)
 
-  -- the planes that are taken lie in the slice
+  -- the planes that the slice holds lie in the slice
   in_slice : (n k : ℕ) → n < used → k < s * h → n * (s * h) + k < length buf
   in_slice n k nl kl =
       let u : used ≤ length buf / l.plane_stride = omega arith in
@@ -199,7 +199,7 @@ module _ (chunks_within : ChunksWithin) (placed_each : PlacedEach) (unit_of_chun
         (λ (above : used * l.plane_stride ≤ at). is_made.stays at above here ∙ sym (stays at above here))
         (cases_lt at (used * l.plane_stride)))
 
-  -- and the unit is made of them
+  -- the unit is made of the chunks
   pub is_made : ((plane : ℕ) → plane < used → IsChunkRead d l (unit_chunk p unit plane)) → IsMadeOfUnit d l unit buf image
   is_made each = record {
     long = as_long;

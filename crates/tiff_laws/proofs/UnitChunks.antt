@@ -1,4 +1,4 @@
--- The chunks of a coding unit: their layout, their faults, and where they are read.
+-- The chunks of a coding unit: their layout, their errors, and when they are read.
 use Rattle.std.proofs.Common.{◌≡◌, ℕ, ◌+◌, ◌*◌, ◌/◌, ◌%◌, ◌<◌, ◌≤◌, true, false, min, List, length, Ok, Err, refl, ap, sym, ◌∙◌, ⊎_elim, arith}
 use Rattle.std.specs.Prelude.{◌-◌, Result, nat_lt, replicate}
 use Rattle.std.specs.Result.{IsOk}
@@ -39,7 +39,7 @@ unit_listed p unit u h =
 pub unit_passes : (p : PageRecord) (unit : ℕ) → unit < chunks_of_plane p → unit_fault p unit ≡ Ok tt
 unit_passes p unit l = let t : nat_lt unit (chunks_of_plane p) ≡ true = lt-ltb unit (chunks_of_plane p) l in rw t refl
 
--- a refusal is of what comes first, or bytes are answered
+-- the result is the error of the first step, if it has one, or bytes
 pub first_is_ok : (r : Result (Unit {0}) TiffError) (x : List ℕ) → r ≡ Ok tt → (r >>= (λ _. Ok x)) ≡ Ok x
 first_is_ok r x h = rw h refl
 
@@ -81,14 +81,14 @@ module _ (d : Decoding) (l : LayoutRecord) (unit : ℕ) (whole : planes_layout d
     pub stride_is : l.plane_stride ≡ chunk_byte_count page l i
     stride_is = is_laid.stride ∙ (λ t. row_bytes page l.color (sym same_width t) * sym same_height t)
 
-    -- a chunk without a fault is read
+    -- a chunk without an error is read
     pub chunk_read : fault i ≡ Ok tt → IsChunkRead d l i
     unfolding outcome.read_chunk_bytes pixels.read_chunk_bytes
     chunk_read none part room =
         read_into d.bytes d.order page d.state.limits (rect page i).width (rect page i).height (into i) part l chunk_laid (omega (arith, stride_is, room))
         (one_fault d.bytes d.order page d.state.limits l.color i l.row_bytes ∙ none)
 
-    -- and has none where it is read
+    -- a chunk that is read has no error
     pub chunk_none : (part : List ℕ) → IsOk (outcome.read_chunk_bytes d i part).answer → fault i ≡ Ok tt
     unfolding outcome.read_chunk_bytes pixels.read_chunk_bytes
     chunk_none part ok =
@@ -99,7 +99,7 @@ module _ (d : Decoding) (l : LayoutRecord) (unit : ℕ) (whole : planes_layout d
         ∙ sym (one_fault d.bytes d.order page d.state.limits a.0.color i a.0.row_bytes)
         ∙ a.1.filled.none
 
-    -- one with a fault is refused
+    -- a chunk with an error is refused
     pub chunk_refused : (e : TiffError) → fault i ≡ Err e → IsChunkRefused d l e i
     unfolding outcome.read_chunk_bytes pixels.read_chunk_bytes
     chunk_refused e h part room =
@@ -112,7 +112,7 @@ module _ (d : Decoding) (l : LayoutRecord) (unit : ℕ) (whole : planes_layout d
     has_part : chunk_byte_count page l i ≤ length some_part
     has_part = omega (arith, length-replicate {A = ℕ} (chunk_byte_count page l i) 0)
 
-    -- and has one where it is refused
+    -- a chunk that is refused has an error
     pub fault_is : (e : TiffError) → IsChunkRefused d l e i → fault i ≡ Err e
     unfolding outcome.read_chunk_bytes pixels.read_chunk_bytes
     fault_is e h =
@@ -123,7 +123,7 @@ module _ (d : Decoding) (l : LayoutRecord) (unit : ℕ) (whole : planes_layout d
     pub none_is : IsChunkRead d l i → fault i ≡ Ok tt
     none_is h = chunk_none some_part (h some_part has_part)
 
-  -- ---- the faults of the unit
+  -- ---- the errors of the unit
 
   abbrev pub of_plane : ℕ → Result (Unit {0}) TiffError
   of_plane plane = fault (unit_chunk page unit plane)
@@ -143,7 +143,7 @@ module _ (d : Decoding) (l : LayoutRecord) (unit : ℕ) (whole : planes_layout d
     abbrev pub bytes : List ℕ
     bytes = bytes_with_region d.bytes d.order page l.color (unit_part used l.row_bytes).region l.row_bytes used buf
 
-    -- what is answered of a unit that has room
+    -- the result of a unit that has room
     pub answer_is : (outcome.read_coding_unit_bytes d unit buf).answer ≡ (each_below of_plane used >>= (λ _. Ok bytes))
     unfolding outcome.read_coding_unit_bytes pixels.read_coding_unit_bytes fill_buffer
     answer_is =
@@ -173,7 +173,7 @@ module _ (d : Decoding) (l : LayoutRecord) (unit : ℕ) (whole : planes_layout d
           ∙ first_is_err (each_below of_plane used) bytes e
           ((first_fault of_plane used e).1 plane is.used (record { found = fault_is plane e is.refused; none = λ n nl. none_is n (is.before n nl) }))
 
--- what a read of a unit was when it gave bytes
+-- facts of a read of a unit that returned bytes
 pub record IsUnitRead (d : Decoding) (unit : ℕ) (buf new : List ℕ) (l : LayoutRecord) : Type 0 where
   pub has : HasUnitRoom d.state.page l unit (length buf)
   pub filled : IsFilled d.bytes d.order d.state.page d.state.limits l.color (chunk_part d.state.page unit (planes_used d.state.page l (length buf)) l.row_bytes) buf new

@@ -53,7 +53,7 @@ fail_if_cyclic false m after h = cc
 linked : (link : ℕ → Link) (met : List ℕ) (n m : ℕ) (after : Option ℕ) → link n ≡ Ok (Some m) → enter_at link met n ≡ Ok after → after ≡ Some m
 linked link met n m after l h = fail_if_cyclic (list_any (nat_eq m) (n ∷ met)) m after (sym (ap (λ (r : Link). r >>= unless_met (n ∷ met)) l) ∙ h)
 
--- a chain stops, and by no fault, at an offset that links to none
+-- a chain stops, without an error, at an offset that links to none
 chain_stops : (link : ℕ → Link) (met : List ℕ) (next : Option ℕ) (ps : List ℕ) (end : Option TiffError) (i offset : ℕ)
     → IsChain link met next ps end → slice_get ps i ≡ Some offset → link offset ≡ Ok None → (length ps ≡ suc i) × (end ≡ None)
 chain_stops link met next [] end i offset h s l = absurd (cc)
@@ -66,7 +66,7 @@ chain_stops link met (Some n) (p ∷ ps) end (suc i) offset h s l =
     let rest = chain_stops link (n ∷ met) h.1 ps end i offset h.3 s l in
     (ap suc rest.0, rest.1)
 
--- a chain ends by a fault where its last offset links on
+-- a chain ends by an error if its last offset links on
 chain_faults : (link : ℕ → Link) (met : List ℕ) (next : Option ℕ) (ps : List ℕ) (end : Option TiffError) (i offset m : ℕ)
     → IsChain link met next ps end → slice_get ps i ≡ Some offset → slice_get ps (suc i) ≡ None → link offset ≡ Ok (Some m) → (e : TiffError) × (end ≡ Some e)
 chain_faults link met next [] end i offset m h s t l = absurd (cc)
@@ -130,7 +130,7 @@ each_at P [] i p a h = absurd (cc)
 each_at P (q ∷ ps) zero p a h = (let e : q ≡ p = cc in subst P e a.0)
 each_at P (q ∷ ps) (suc i) p a h = each_at P ps i p a.1 h
 
--- the offset behind one that stands once
+-- the offset after one that is in the chain once
 after_is : (ps : List ℕ) (i p : ℕ) → IsDistinct nat_eq ps → slice_get ps i ≡ Some p → offset_after p ps ≡ slice_get ps (suc i)
 after_is [] i p d h = absurd (cc)
 after_is (q ∷ ps) zero p d h =
@@ -143,7 +143,7 @@ after_is (q ∷ ps) (suc i) p d h =
 unequal : (q p : ℕ) → nat_eq q p ≡ false → q ≡ p → ⊥
 unequal q p h e = grind (arith, nat_tests)
 
--- it has one number
+-- an offset has one number
 one_number : (ps : List ℕ) (i j p : ℕ) → IsDistinct nat_eq ps → slice_get ps i ≡ Some p → slice_get ps j ≡ Some p → i ≡ j
 one_number [] i j p d h k = absurd (cc)
 one_number (q ∷ ps) zero zero p d h k = refl
@@ -186,7 +186,7 @@ same_on a b c s same e l = record {
 
 -- ---- a directory is entered
 
--- A directory was entered: where the decoder stands, and what its page is answered.
+-- A directory was entered: where the decoder is, and the result for its page.
 record Entered (start : Decoding) (offset : ℕ) (directory : DirectoryRecord) (answer : Answer) (new : Decoding) : Type 0 where
   same : SameFile start new
   pointer : new.state.pointer ≡ Some (record { 0 = offset })
@@ -235,7 +235,7 @@ page_answer : (s t : State) (directory : DirectoryRecord) (r : Result PageRecord
 page_answer s t directory (Ok page) = refl
 page_answer s t directory (Err e) = refl
 
--- it came to the offset of a number
+-- the decoder came to the offset of a number
 came_to : (start old new : Decoding) (number offset : ℕ) (answer : Answer) → SameFile start old → slice_get (chain_of start).offsets number ≡ Some offset
     → GivesOutcome answer (enter old offset) old new → Arrives start number answer new
 came_to start old new number offset answer same is_offset g =
@@ -358,7 +358,7 @@ begins_with : (link : ℕ → Link) (met : List ℕ) (first offset : ℕ) (ps : 
 begins_with link met first offset [] end h s = absurd (cc)
 begins_with link met first offset (p ∷ ps) end h s = (let e : p ≡ offset = cc in sym e ∙ h.0)
 
--- it is at the first page, as a seek to that is
+-- the decoder is at the first page, as after a seek to it
 opened_at : (file : List ℕ) (failures : ℕ) (header : Header) (offset : ℕ) (directory : DirectoryRecord) (page : PageRecord)
     → header_at file ≡ Ok header → slice_get (chain_from header file).offsets 0 ≡ Some offset
     → directory_at header.kind header.order file offset ≡ Ok directory → page_in header.kind header.order file default_limits directory ≡ Ok page

@@ -1,4 +1,4 @@
--- An image is read exactly where its chunks are.
+-- An image is read exactly if its chunks are.
 use Rattle.std.proofs.Common.{◌≡◌, ℕ, ◌+◌, ◌-◌, ◌*◌, ◌/◌, ◌%◌, ◌^◌, ◌<◌, ◌≤◌, true, false, List, length, Ok, Err, refl, ap, sym, ◌∙◌, arith}
 use Rattle.std.specs.Prelude.{Result, nat_lt}
 use Rattle.std.specs.Result.{is_ok, IsOk}
@@ -32,7 +32,7 @@ use Rattle.tiff_laws.proofs.Laid.{IsLaid, laid, planes_laid, read_gives, ok_is}
 pub wide_is : (n : ℕ) → n < 2 ^ 64 → wide n ≡ Ok n
 wide_is n h = let t : nat_lt n (2 ^ 64) ≡ true = lt-ltb n (2 ^ 64) h in rw t refl
 
--- what is no wider than a chunk is of one chunk
+-- a length of at most one chunk takes at most one chunk
 pub one_part : (w n : ℕ) → 0 < n → w ≤ n → parts w n ≤ 1
 one_part w n p h =
     let a : (w + n - 1) / n < 2 = div_below (w + n - 1) n 2 p (omega (arith, h, p)) in
@@ -61,7 +61,7 @@ module _ (p : PageRecord) (l : LayoutRecord) (sides : HasSides p) (whole : plane
   plane_less : chunk_byte_count p l i ≤ row_bytes p l.color p.width * p.height
   plane_less = mul-le-mul row_less (omega (arith, inside.rows))
 
-  -- the layout that it has
+  -- the layout of the chunk
   pub chunk_laid : planes_layout p (rect p i).width (rect p i).height ≡ Ok chunk_layout
   unfolding planes_layout layout_of
   chunk_laid =
@@ -74,7 +74,7 @@ module _ (p : PageRecord) (l : LayoutRecord) (sides : HasSides p) (whole : plane
       let all : wide (chunk_byte_count p l i * n) ≡ Ok (chunk_byte_count p l i * n) = wide_is (chunk_byte_count p l i * n) (omega (arith, b, (planes_laid p p.width p.height l whole).1)) in
       rw (is_laid.color, tall, few, alone, is_laid.chroma.1, all) refl
 
--- ---- faults of chunks
+-- ---- errors of chunks
 
 pub ok_or : (r : Result (List ℕ) TiffError) → IsOk r → (x : List ℕ) × (r ≡ Ok x)
 ok_or (Ok x) h = (x, refl)
@@ -90,13 +90,13 @@ module _ (file : List ℕ) (order : ByteOrder) (p : PageRecord) (limits : Limits
   abbrev pub fault_of : ColorType → ℕ → Result (Unit {0}) TiffError
   fault_of color i = chunk_fault p limits (is_short file order p color) color i
 
-  -- a part without a fault is read
+  -- a part without an error is read
   pub fills : (color : ColorType) (part : Part) (buf : List ℕ) → part_fault file order p limits color part ≡ Ok tt
       → fill_buffer file order p limits color part buf ≡ Ok (bytes_with_region file order p color part.region part.stride part.planes buf)
   unfolding fill_buffer
   fills color part buf none = rw none refl
 
-  -- as is a slice with room for it
+  -- a slice with room for the part is read
   pub read_into : (width height : ℕ) (part : LayoutRecord → Part) (buf : List ℕ) (l : LayoutRecord) → planes_layout p width height ≡ Ok l
       → l.plane_stride ≤ length buf → part_fault file order p limits l.color (part l) ≡ Ok tt
       → IsOk (planes_layout p width height >>= (λ l. room_fault (length buf) l.plane_stride >>= (λ _. fill_buffer file order p limits l.color (part l) buf)))
@@ -105,7 +105,7 @@ module _ (file : List ℕ) (order : ByteOrder) (p : PageRecord) (limits : Limits
       let b : fill_buffer file order p limits l.color (part l) buf ≡ Ok (bytes_with_region file order p l.color (part l).region (part l).stride (part l).planes buf) = fills l.color (part l) buf none in
       rw (whole, a, b) refl
 
-  -- the only chunk of its part
+  -- the chunk is the only one of its part
   pub one_fault : (color : ColorType) (i s : ℕ) → part_fault file order p limits color (chunk_part p i 1 s) ≡ fault_of color i
   one_fault color i s = let e : 0 * chunks_of_plane p + (i + 0) ≡ i = omega arith in ap (fault_of color) e
 
@@ -113,7 +113,7 @@ module _ (file : List ℕ) (order : ByteOrder) (p : PageRecord) (limits : Limits
     abbrev pub of_column : ℕ → Result (Unit {0}) TiffError
     of_column j = each_below (λ plane. fault_of color (plane * chunks_of_plane p + (0 + j))) used
 
-    -- an image without a fault has no chunk with one
+    -- an image without an error has no chunk with an error
     pub none_has : part_fault file order p limits color (image_part p used s) ≡ Ok tt
         → (i : ℕ) → i < used * chunks_of_plane p → fault_of color i ≡ Ok tt
     none_has none i l =
@@ -145,7 +145,7 @@ module _ (within_image : ChunksWithin) (no_fault : NoFault) where
     abbrev fault : ℕ → Result (Unit {0}) TiffError
     fault i = fault_of d.bytes d.order p d.state.limits l.color i
 
-    -- a chunk without a fault is read
+    -- a chunk without an error is read
     pub chunk_read : (i : ℕ) → fault i ≡ Ok tt → IsChunkRead d l i
     unfolding outcome.read_chunk_bytes pixels.read_chunk_bytes
     chunk_read i none part room =
@@ -153,7 +153,7 @@ module _ (within_image : ChunksWithin) (no_fault : NoFault) where
         (chunk_layout p l sides whole i (within_image p i sides)) (chunk_laid p l sides whole i (within_image p i sides)) room
         (one_fault d.bytes d.order p d.state.limits l.color i (chunk_row p l i) ∙ none)
 
-    -- and has none where it is read
+    -- a chunk that is read has no error
     pub chunk_none : (i : ℕ) (part : List ℕ) → IsOk (outcome.read_chunk_bytes d i part).answer → fault i ≡ Ok tt
     unfolding outcome.read_chunk_bytes pixels.read_chunk_bytes
     chunk_none i part ok =

@@ -47,7 +47,7 @@ module _ (n h y s t : ℕ) (yl : y < h) (tl : t < s) where
   pub column_at : ((n * h + y) * s + t) % s ≡ t
   column_at = mod-mul-add (n * h + y) s t tl
 
-  -- a slice that has the plane has it
+  -- a slice that contains the plane contains the byte
   pub in_slice : (used len : ℕ) → n < min used (len / (s * h)) → (n * h + y) * s + t < len
   in_slice used len l =
       let a : (n + 1) * (s * h) ≤ len / (s * h) * (s * h) = mul-le-mul_right (s * h) (omega (arith, l)) in
@@ -55,7 +55,7 @@ module _ (n h y s t : ℕ) (yl : y < h) (tl : t < s) where
       let c : (n + 1) * (s * h) ≡ n * (s * h) + s * h = omega arith in
       omega (arith, a, b, c, split, within)
 
--- so many bits in whole bytes, and behind them others
+-- a multiple of bits in whole bytes, and other bits after them
 pub bits_within : (x w d s width : ℕ) → x + w ≤ width → x * d * s / 8 + (w * d * s + 7) / 8 ≤ (width * d * s + 7) / 8
 bits_within x w d s width h =
     let a : (x + w) * d ≤ width * d = mul-le-mul_right d h in
@@ -78,7 +78,7 @@ module _ (file : List ℕ) (order : ByteOrder) (p : PageRecord) (color : ColorTy
 
 -- ---- the depth of what was read
 
--- a chunk that has no fault is of a depth that is read
+-- a chunk that has no error has a supported depth
 pub depth_read : (p : PageRecord) (limits : Limits) (short : ℕ → Bool) (color : ColorType) (i : ℕ) → chunk_fault p limits short color i ≡ Ok tt
     → depth_fault p color ≡ Ok tt
 unfolding form_fault
@@ -94,7 +94,7 @@ depth_read p limits short color i h =
     let b = bind_ok listed (λ _. deep) a.0 a.1.0 in
     (bind_ok (depth_fault p color) (λ _. rest) a.0 b.1.1).1.0
 
--- a chunk below so many planes' is of one of them
+-- a chunk below all chunks of the planes belongs to one of them
 pub some_chunk : (i n c : ℕ) → i < n * c → 0 < c
 some_chunk i n c l =
     ⊎_elim (λ (some : 0 < c). some)

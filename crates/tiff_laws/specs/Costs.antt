@@ -1,4 +1,5 @@
--- How many bytes a decoder asks its source for on the way along a chain of directories (this project's).
+-- How many bytes a decoder asks its source for on the way along a chain of directories (this
+-- project's).
 use Rattle.std.specs.Prelude.{◌≡◌, ℕ, ◌+◌, ◌*◌, ◌≤◌, List, [], ◌∷◌}
 use Rattle.tiff_base.specs.declared.tags.ByteOrder.{ByteOrder}
 use Rattle.tiff_base.specs.declared.tags.FileKind.{FileKind}
@@ -10,13 +11,13 @@ abbrev pub stretch_bytes : List (ℕ × ℕ) → ℕ
 stretch_bytes [] = 0
 stretch_bytes (s ∷ stretches) = s.1 + stretch_bytes stretches
 
--- a source answers for each of these stretches
+-- a source can read each of these stretches
 abbrev pub AreAllReadable : SourceRecord → List (ℕ × ℕ) → Type 0
 AreAllReadable source [] = Unit {0}
 AreAllReadable source (s ∷ stretches) = AreReadable source s.0 s.1 × AreAllReadable source stretches
 
--- The way to the directory of a number takes at most 16 bytes of each directory up to it, whatever the file's bytes: a source that answers for
--- these stretches of so many bytes answers for the way.
+-- The way to a directory of the chain needs at most 16 bytes of each directory up to it, whatever
+-- the bytes of the file: a source that can read these stretches can read the way.
 abbrev pub WayCosts : Type 0
 WayCosts = (kind : FileKind) (order : ByteOrder) (bytes : List ℕ) (first index : ℕ)
     → (stretches : List (ℕ × ℕ)) × ((stretch_bytes stretches ≤ 16 * (index + 1))

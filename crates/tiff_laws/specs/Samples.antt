@@ -16,8 +16,8 @@ use Rattle.tiff_decode.specs.Outcome as outcome
 use Rattle.tiff_laws.specs.Sides.{HasSamples}
 use Rattle.tiff_laws.specs.Whole.{IsFirstRefused, IsMadeOfChunks}
 
--- the numbers of bytes that are read into so many zeros; before the fault of the read comes that of the page's number type,
--- and then the limit's
+-- the numbers of bytes that are read into `len` zeros; the errors of the page's number type come
+-- first, then those of the limit, then those of the read
 abbrev pub numbers_by : Decoding → (List ℕ → Result (List ℕ) TiffError) → ℕ → Result Decoded TiffError
 numbers_by d read len = do
   type ← sample_type_of d.state.page
@@ -32,30 +32,31 @@ image_read d buf = (outcome.read_image_bytes d buf).answer
 abbrev pub chunk_read : Decoding → ℕ → List ℕ → Result (List ℕ) TiffError
 chunk_read d i buf = (outcome.read_chunk_bytes d i buf).answer
 
--- an image by the bytes of one plane
+-- the samples of an image, from the bytes of one plane
 abbrev pub image_by_bytes : Decoding → Result Decoded TiffError
 image_by_bytes d = do
   layout ← planes_layout d.state.page d.state.page.width d.state.page.height
   numbers_by d (image_read d) layout.plane_stride
 
--- the planes that a limit lets through: all, or the first
+-- the planes within the limit: all, or the first
 abbrev pub planes_let : Decoding → LayoutRecord → ℕ
 planes_let d layout = planes_within d.state.page d.state.limits layout
 
--- an image by the bytes of these planes, with the layout of all
+-- the samples of an image, from the bytes of the planes within the limit, with the layout of all
+-- planes
 abbrev pub buffer_by_bytes : Decoding → Result (BufferLayoutPreference × Decoded) TiffError
 buffer_by_bytes d = do
   layout ← planes_layout d.state.page d.state.page.width d.state.page.height
   numbers ← numbers_by d (image_read d) (layout.plane_stride * planes_let d layout)
   Ok (all_planes d.state.page layout, numbers)
 
--- a chunk by its bytes
+-- the samples of a chunk, from its bytes
 abbrev pub chunk_by_bytes : Decoding → ℕ → Result Decoded TiffError
 chunk_by_bytes d i = do
   layout ← planes_layout d.state.page (rect d.state.page i).width (rect d.state.page i).height
   numbers_by d (chunk_read d i) layout.plane_stride
 
--- the calls that answer samples answer these, or the first fault
+-- the calls that return samples return the samples from these bytes, or the first error
 abbrev pub ImageByBytes : Type 0
 ImageByBytes = (d : Decoding) → HasSides d.state.page → HasSamples d.state.page → (outcome.read_image d).answer ≡ image_by_bytes d
 
@@ -65,25 +66,28 @@ BufferByBytes = (d : Decoding) → HasSides d.state.page → HasSamples d.state.
 abbrev pub ChunkByBytes : Type 0
 ChunkByBytes = (d : Decoding) (i : ℕ) → (outcome.read_chunk d i).answer ≡ chunk_by_bytes d i
 
--- The planes of the image have this layout, its numbers are of this type, and the limit lets those of so many bytes through.
+-- The planes of the image have this layout, its numbers have this type, and the limit allows the
+-- numbers of `len` bytes.
 pub record HasNumbers (d : Decoding) (layout : LayoutRecord) (type : DecodingSampleType) (len : ℕ) : Type 0 where
   pub laid : planes_layout d.state.page d.state.page.width d.state.page.height ≡ Ok layout
   pub typed : sample_type_of d.state.page ≡ Ok type
   pub few : limit_fault d.state.limits (size_of type) len ≡ Ok tt
 
--- these are the numbers of what the chunks of an image make, read one by one and placed into so many zeros
+-- these are the numbers of the bytes that the chunks of an image make, read one by one and placed
+-- into `len` zeros
 abbrev pub AreOfChunks : Decoding → LayoutRecord → DecodingSampleType → ℕ → Decoded → Type 0
 AreOfChunks d layout type len numbers = (made : List ℕ) × (IsMadeOfChunks d layout (replicate len 0) made × (decoded_samples type made ≡ numbers))
 
--- so the samples of an image are the numbers of what the chunks of one plane make, and are refused with the fault of the first of
--- these chunks that is refused
+-- the samples of an image are the numbers of the bytes that the chunks of one plane make; the image
+-- is refused with the error of the first of these chunks that is refused
 abbrev pub SamplesOfChunks : Type 0
 SamplesOfChunks = (d : Decoding) (layout : LayoutRecord) (type : DecodingSampleType) → HasSides d.state.page → HasSamples d.state.page
     → HasNumbers d layout type layout.plane_stride
     → ((x : Decoded) → ((outcome.read_image d).answer ≡ Ok x) ↔ AreOfChunks d layout type layout.plane_stride x)
     × ((e : TiffError) → ((outcome.read_image d).answer ≡ Err e) ↔ ((plane k : ℕ) × IsFirstRefused d layout 1 plane k e))
 
--- as are those of the planes that the limit lets through
+-- the samples of the planes within the limit are the numbers of the bytes that the chunks of these
+-- planes make; the planes are refused with the error of the first of these chunks that is refused
 abbrev pub BufferOfChunks : Type 0
 BufferOfChunks = (d : Decoding) (layout : LayoutRecord) (type : DecodingSampleType) → HasSides d.state.page → HasSamples d.state.page
     → HasNumbers d layout type (layout.plane_stride * planes_let d layout)

@@ -1,4 +1,4 @@
-//! The laws of a decoder's calls, each the contract of a function with no work.
+//! The laws of a decoder's calls. Each law is the contract of a function with an empty body.
 
 ghost use Rattle.tiff_laws.specs.OneAnswer.{IsEachAlong, IsSingleAnswer};
 ghost use Rattle.tiff_decode.specs.Result.{BytesAgain};
@@ -8,23 +8,24 @@ ghost use Rattle.tiff_laws.specs.Whole.{ImageIsItsChunks, PlaneOfChunks, PlanesC
 
 use tiff_page::laws;
 
-/// A call leaves the file, counts its failed reads, and goes to its next state, or with want of memory and a fault of the
-/// device stays.
+/// A call leaves the file unchanged, counts its failed reads, and moves the decoder to its next
+/// state. If memory is out or the device fails, the decoder keeps its state.
 pub fn each_along()
     ensures { IsEachAlong }
 {}
 
-/// A call's answer is one, but for want of memory and faults of the device.
+/// A call has one result, except when memory is out or the device fails.
 pub fn one_answer()
     ensures { IsSingleAnswer }
 {}
 
-/// The numbers that some bytes hold have those bytes again, and behind them the zeros that fill up the last number.
+/// Some bytes, read as numbers, are the bytes of these numbers, except for the zeros that fill up
+/// the last number.
 pub fn bytes_again()
     ensures { BytesAgain }
 {}
 
-/// Each chunk, read alone, stands in the image that is read whole.
+/// The image that is read whole contains each chunk as it is read alone.
 pub fn plane_of_chunks()
     ensures { PlaneOfChunks }
 {
@@ -34,14 +35,14 @@ pub fn plane_of_chunks()
     laws::image_of_chunks();
 }
 
-/// Each byte of an image's planes is of a chunk.
+/// Each byte of an image's planes belongs to a chunk.
 pub fn planes_covered()
     ensures { PlanesCovered }
 {
     laws::one_chunk();
 }
 
-/// An image is read exactly where its chunks are.
+/// An image is read exactly if its chunks are.
 pub fn read_where_chunks()
     ensures { ReadWhereChunks }
 {
@@ -49,7 +50,7 @@ pub fn read_where_chunks()
     laws::no_fault();
 }
 
-/// An image is read whole exactly as its chunks make it, read one by one and placed.
+/// Reading a whole image gives exactly the bytes that its chunks make, read one by one and placed.
 pub fn image_is_its_chunks()
     ensures { ImageIsItsChunks }
 {
@@ -59,7 +60,7 @@ pub fn image_is_its_chunks()
     read_where_chunks();
 }
 
-/// An image is refused with the fault of the first chunk that is refused.
+/// An image is refused with the error of the first chunk that is refused.
 pub fn refused_where_chunks()
     ensures { RefusedWhereChunks }
 {
@@ -75,8 +76,8 @@ pub fn image_by_bytes()
     laws::some_bytes();
 }
 
-/// The samples of all planes, or of the first where the limit doesn't let all through, are the numbers of the bytes that are
-/// read into zeros for these planes.
+/// The samples of all planes, or of the first plane if not all are within the limit, are the
+/// numbers of the bytes that are read into zeros for these planes.
 pub fn buffer_by_bytes()
     ensures { BufferByBytes }
 {
@@ -88,8 +89,9 @@ pub fn chunk_by_bytes()
     ensures { ChunkByBytes }
 {}
 
-/// The samples of an image are the numbers of what the chunks of its first plane make, read one by one and placed; they are
-/// refused with the fault of the first of these chunks that is refused.
+/// The samples of an image are the numbers of the bytes that the chunks of its first plane make,
+/// read one by one and placed. The image is refused with the error of the first of these chunks
+/// that is refused.
 pub fn samples_of_chunks()
     ensures { SamplesOfChunks }
 {
@@ -99,8 +101,9 @@ pub fn samples_of_chunks()
     image_by_bytes();
 }
 
-/// The samples of all planes, or of the first where the limit doesn't let all through, are the numbers of what the chunks of
-/// these planes make; they are refused with the fault of the first of these chunks that is refused.
+/// The samples of all planes, or of the first plane if not all are within the limit, are the
+/// numbers of the bytes that the chunks of these planes make. The planes are refused with the error
+/// of the first of these chunks that is refused.
 pub fn buffer_of_chunks()
     ensures { BufferOfChunks }
 {
@@ -110,14 +113,15 @@ pub fn buffer_of_chunks()
     buffer_by_bytes();
 }
 
-/// A coding unit is read exactly where the chunk of each plane is.
+/// A coding unit is read exactly if the chunk of each plane is.
 pub fn unit_where_chunks()
     ensures { UnitWhereChunks }
 {
     laws::no_fault();
 }
 
-/// A coding unit is read exactly as the chunk of each plane makes it, read alone and placed behind those before it.
+/// Reading a coding unit gives exactly the bytes that the chunk of each plane makes, read alone and
+/// placed after the chunks of the planes before.
 pub fn unit_is_its_chunks()
     ensures { UnitIsItsChunks }
 {
@@ -127,7 +131,7 @@ pub fn unit_is_its_chunks()
     unit_where_chunks();
 }
 
-/// A coding unit is refused with the fault of the first of its chunks that is refused.
+/// A coding unit is refused with the error of the first of its chunks that is refused.
 pub fn unit_refused_where_chunks()
     ensures { UnitRefusedWhereChunks }
 {

@@ -1,4 +1,4 @@
-//! Laws of what is read and written, proved over the definitions of the crates below.
+//! Laws of what is read and written, proved from the specifications of the other crates.
 #![tactic(auto)]
 
 pub mod costs;

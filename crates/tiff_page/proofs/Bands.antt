@@ -32,7 +32,7 @@ use Rattle.tiff_page.proofs.ChunkRows.{row_handed, bits_are, number_in_row, none
 use Rattle.tiff_page.proofs.Rects.{writes_more, writes_as}
 use Rattle.tiff_page.proofs.Rows.{each_same}
 
--- ---- what is handed out of one row of several
+-- ---- the output of one row of several
 
 -- the numbers of one row
 number_moved : (order : ByteOrder) (size len q n k : ℕ) (many one : List ℕ) → len ≡ n * size → k < n
@@ -54,7 +54,7 @@ number_alone order p many one predictor.None c d e h = h
 number_alone order p many one predictor.Horizontal c d e h = cc
 number_alone order p many one predictor.FloatingPoint c d e h = cc
 
--- rows of so many columns, of which the one after q others is alone
+-- rows of the same number of columns, of which the one after q others is alone
 module _ (order : ByteOrder) (p : PageRecord) (color : ColorType) (w q b : ℕ) (many one : List ℕ) (stored : StoresAllShown p color) (all : stored_samples p ≤ samples_in_chunk p.planar color) (alone : p.predictor ≡ predictor.None) (bl : b < row_bytes p color w) (same : (m : ℕ) → m < row_bytes p color w → slice_index many (q * row_bytes p color w + m) ≡ slice_index one m) where
   abbrev len : ℕ
   len = row_bytes p color w
@@ -136,7 +136,7 @@ band_of_numbers p color w q n stored e =
 
 -- ---- where the rows go
 
--- so many rows lie in the buffer
+-- the rows lie in the buffer
 pub rows_below : (top h stride size row n : ℕ) → 0 < stride → (top + h) * stride ≤ size → row + n ≤ h → (top + row + n ≤ size) × ((top + row) * stride + n * stride ≤ size)
 rows_below top h stride size row n s l r =
     let e : top + h ≤ (top + h) * stride = le-mul_of_pos_right (top + h) s in
@@ -144,7 +144,7 @@ rows_below top h stride size row n s l r =
     let a : (top + (row + n)) * stride ≡ (top + row) * stride + n * stride = omega arith in
     (omega (arith, e, l, r), omega (arith, m, a, l))
 
--- so many more rows are put
+-- more rows are written
 pub band_put : (value : ℕ → ℕ → ℕ) (stride top row n left len at : ℕ) (out old mid new : List ℕ) → 0 < stride → left ≡ 0 → stride ≡ len
     → at ≡ (top + row) * stride → length out ≡ n * stride
     → ((i : ℕ) → i < length out → slice_index out i ≡ value (row + i / stride) (i % stride))
@@ -231,7 +231,7 @@ module _ (file : List ℕ) (order : ByteOrder) (p : PageRecord) (color : ColorTy
       ∙ (λ z. handed_byte order p (take (sym (needed_here len) z) (drop ((row + q) * sym together.in_data z) bytes)) color b)
       ∙ sym (row_handed file order p color k (row + q) b sides stored listed (omega (arith, ql, rl)) bl)
 
-  -- the data hold the rows so far
+  -- the data contain the rows so far
   pub band_held : (row n : ℕ) (ahead rest out : List ℕ) → 0 < stride → 0 < n → length out ≡ n * stride → ahead ≡ drop (row * stride) bytes
       → TakesRow order p color ahead rest out → (row + n) * stride ≤ length bytes
   band_held row n ahead rest out s some c d t =
@@ -241,7 +241,7 @@ module _ (file : List ℕ) (order : ByteOrder) (p : PageRecord) (color : ColorTy
       let y : (row + n) * stride ≡ row * stride + n * stride = omega arith in
       omega (arith, a, f, c, s, x, y)
 
-  -- where the next row stands
+  -- where the next row is
   pub next_band : (row n : ℕ) (ahead rest out : List ℕ) → length out ≡ n * stride → ahead ≡ drop (row * stride) bytes
       → TakesRow order p color ahead rest out → rest ≡ drop ((row + n) * stride) bytes
   next_band row n ahead rest out c d t =

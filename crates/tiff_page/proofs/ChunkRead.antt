@@ -34,7 +34,7 @@ pub width_within : (p : PageRecord) (k : ℕ) → (rect p k).width ≤ p.chunk_w
 unfolding rect
 width_within p k = omega arith
 
--- a row is of some bytes
+-- a row has at least one byte
 pub row_some : (p : PageRecord) (color : ColorType) (w : ℕ) → 0 < w → 0 < p.depth → 0 < samples_in_chunk p.planar color → 0 < row_bytes p color w
 unfolding row_bits
 row_some p color w a b s = product_some w p.depth (samples_in_chunk p.planar color) a b s
@@ -60,7 +60,7 @@ module _ (file : List ℕ) (order : ByteOrder) (p : PageRecord) (color : ColorTy
       ∙ (λ z. handed_byte order p (take (needed_of_row p color (e z)) (d z)) color b)
       ∙ sym (row_handed file order p color k r b sides stored listed rl bl)
 
-  -- the data hold the rows so far
+  -- the data contain the rows so far
   pub row_held : (r : ℕ) (left rest out : List ℕ) → 0 < len → r < h → length out ≡ len → left ≡ drop (r * stored_row_bytes p) bytes → TakesRow order p color left rest out
       → r * stored_row_bytes p + need ≤ length bytes
   row_held r left rest out some rl e d t =
@@ -69,7 +69,7 @@ module _ (file : List ℕ) (order : ByteOrder) (p : PageRecord) (color : ColorTy
       let g : len ≤ need = needed_more file order p color k r 0 sides stored listed rl some in
       omega (arith, a, f, g, some)
 
-  -- where the next row stands
+  -- where the next row is
   pub next_row : (r gap : ℕ) (left rest next out : List ℕ) → 0 < len → r + 1 < h → length out ≡ len → left ≡ drop (r * stored_row_bytes p) bytes → TakesRow order p color left rest out
       → gap ≡ stored_row_bytes p - need → next ≡ drop gap rest → next ≡ drop ((r + 1) * stored_row_bytes p) bytes
   next_row r gap left rest next out some rl e d t g n =

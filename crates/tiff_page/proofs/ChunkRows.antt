@@ -1,4 +1,4 @@
--- The bytes of a row of a chunk over its stored bytes.
+-- The bytes of a row of a chunk, from its stored bytes.
 use Rattle.std.proofs.Common.{◌≡◌, ℕ, ◌+◌, ◌-◌, ◌*◌, ◌/◌, ◌%◌, ◌^◌, ◌<◌, ◌≤◌, min, true, false, Bool, List, drop, refl, ap, sym, ◌∙◌, ⊎_elim, arith}
 use Rattle.std.specs.Prelude.{nat_lt, slice_index, ◌||◌}
 use Rattle.std.proofs.lemmas.Bool.{cases_Bool, cases_lt, lt-ltb, le-ltb, ltb-false}
@@ -30,7 +30,7 @@ bits_are w d n s e =
     let b : w * (n * 8) * s ≡ w * s * n * 8 = omega arith in
     omega (arith, a, b)
 
--- the samples of a pixel that are shown are within those of its column
+-- the output samples of a pixel are among those of its column
 pub number_in_row : (n s t w : ℕ) → 0 < s → s ≤ t → n < w * s → n / s * t + n % s + 1 ≤ w * t
 number_in_row n s t w h l b =
     let q : n / s < w = div_below n s w h b in
@@ -43,7 +43,7 @@ pub none_dropped : (b : Bool) (s t : ℕ) → (b || nat_lt s t) ≡ false → t 
 none_dropped true s t h = cc
 none_dropped false s t h = ltb-false s t h
 
--- the plane and the sample that a sample of a region is read of
+-- the plane and the sample from which a sample of a region is read
 pub plane_for : (planar : PlanarConfiguration) (plane chunks j k m : ℕ) → plane * chunks + j ≡ k → (planar ≡ Chunky → j ≡ k)
     → planar_or planar (planar_or planar plane m) 0 * chunks + j ≡ k
 plane_for Planar plane chunks j k m h c = h
@@ -139,7 +139,7 @@ module _ (file : List ℕ) (order : ByteOrder) (p : PageRecord) (color : ColorTy
       (λ (e : needs_whole_rows p color ≡ false). rw e l)
       (cases_Bool (needs_whole_rows p color))
 
-  -- what is read has each byte of the row below the ones that are needed
+  -- the bytes that are read contain each byte of the row below the needed ones
   pub byte_of_row : (q : ℕ) → q < need → slice_index all q ≡ slice_index row q
   byte_of_row q l =
       let w = need_within in
@@ -198,7 +198,7 @@ module _ (file : List ℕ) (order : ByteOrder) (p : PageRecord) (color : ColorTy
     pub column_below : col < (rect p k).width
     column_below = div_below n s (rect p k).width stored.shows number_below
 
-    -- the numbers of the columns that are shown stand among the bytes that are read
+    -- the numbers of the output columns are among the bytes that are read
     pub samples_needed : (rect p k).width * t * size ≤ need
     samples_needed =
         let e = bytes_shown in
@@ -223,7 +223,7 @@ module _ (file : List ℕ) (order : ByteOrder) (p : PageRecord) (color : ColorTy
         let q = samples_needed in
         omega (arith, m, q)
 
-    -- so it has the same numbers
+    -- the output columns have the same numbers
     pub number_is : (pr : Predictor) → pr ≡ p.predictor → number_by pr order p all (col * t + sample) ≡ number_by pr order p row (col * t + sample)
     number_is predictor.None e = number_same order size all row (col * t + sample) (λ i u v. byte_of_row i (omega (arith, v, number_needed)))
     number_is predictor.Horizontal e =

@@ -1,4 +1,5 @@
--- A chunk's rows are a part of the rows of the image; a coding unit's are those of the chunk of each plane.
+-- The rows of a chunk are parts of the rows of the image; the rows of a coding unit are those of
+-- the chunk of each plane.
 use Rattle.std.proofs.Common.{◌≡◌, ℕ, Some, ◌+◌, ◌-◌, ◌*◌, ◌/◌, ◌%◌, ◌^◌, ◌<◌, ◌≤◌, min, true, false, List, ap, sym, ◌∙◌, ⊎_elim, arith}
 use Rattle.std.specs.Prelude.{nat_lt, slice_index}
 use Rattle.std.proofs.lemmas.Bool.{cases_lt, lt-ltb, le-ltb}
@@ -15,7 +16,7 @@ use Rattle.tiff_page.specs.Laws.{HasSides, HasWholeRows}
 use Rattle.tiff_page.proofs.Sizes.{parts_some}
 use Rattle.tiff_page.proofs.Planes.{from_0}
 
--- bits in whole bytes, so many times
+-- a multiple of bits in whole bytes
 pub start_is : (col w d s : ℕ) → w * d * s ≡ w * d * s / 8 * 8 → col * w * d * s / 8 ≡ col * ((w * d * s + 7) / 8)
 start_is col w d s e =
     let a : col * w * d * s ≡ col * (w * d * s) = ap (λ z. z * s) (mul_assoc col w d) ∙ mul_assoc col (w * d) s in
@@ -34,7 +35,7 @@ fewer_bytes v w d s h =
     let b : v * d * s ≤ w * d * s = mul-le-mul_right s a in
     omega (arith, b)
 
--- so many numbers, each of n bytes
+-- a multiple of numbers of n bytes
 pub numbers_before : (x d n s : ℕ) → d ≡ n * 8 → x * d * s / 8 ≡ x * s * n
 numbers_before x d n s e =
     let a : x * d * s ≡ x * (n * 8) * s = ap (λ z. x * z * s) e in

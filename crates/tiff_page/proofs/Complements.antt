@@ -4,13 +4,13 @@ use Rattle.std.proofs.lemmas.List.{get_or-take, length-take-le}
 use Rattle.std.proofs.lemmas.Simd.{put_chunk_whole, length-put_chunk, length-zip2, get_or-zip2, length-replicate, get_or-replicate}
 use lib.Lanes.{zip2, put_chunk}
 
--- The first so many bytes of a row are complements, and the others as they were.
+-- The bytes of a row below a position are complemented, and the others are unchanged.
 pub record Upto (n : ℕ) (old new : List ℕ) : Type 0 where
   pub long : length new ≡ length old
   pub done : (i : ℕ) → i < n → i < length old → get_or new i 0 ≡ 255 - get_or old i 0
   pub rest : (i : ℕ) → n ≤ i → i < length old → get_or new i 0 ≡ get_or old i 0
 
--- each lane of 255 less the byte
+-- each lane of 255, less the byte
 pub complements : (xs : List ℕ) → length xs ≡ 16 → ((k : ℕ) → Fits w8 (get_or xs k 0)) → let v = zip2 (λ a b. (a + (2 ^ 8 - b)) % 2 ^ 8) (replicate 16 255) (take 16 xs) in
     (i : ℕ) → i < length (put_chunk 0 xs v) → get_or (put_chunk 0 xs v) i 0 ≡ 255 - get_or xs i 0
 complements xs long fits i h =

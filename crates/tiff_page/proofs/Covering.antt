@@ -71,7 +71,7 @@ row_covered a cw w d s l h =
     omega (arith, e, b, c, f, g))
     h
 
--- fewer bytes than two rows have, where the shorter of them counts
+-- fewer bytes than two rows have, with the shorter row as the limit
 pub below_min : (m cw n d s : ℕ) → m < (cw * d * s + 7) / 8 → m < (n * d * s + 7) / 8 → m < (min cw n * d * s + 7) / 8
 below_min m cw n d s a b =
     ⊎_elim
@@ -284,7 +284,7 @@ chunks_written p color stride n j plane value old mid new l a b =
     q.of_chunk)
     a b
 
--- all planes of the j-th chunk are all chunks below the next, in no plane more
+-- all planes of the j-th chunk are all chunks below the next one, and no plane has more
 pub planes_written : law.PlanesWritten
 planes_written p color stride n j value old new w =
     writes_same (IsBefore p color stride n j n) (IsBefore p color stride n (j + 1) 0) value old new
@@ -369,7 +369,8 @@ module _ (file : List ℕ) (order : ByteOrder) (p : PageRecord) (color : ColorTy
       (cases_lt (plane_of p color stride i) n))
       (w.1 i l)
 
--- a list with a buffer's byte or what it had at each position is the buffer after a region is placed in it
+-- a list that has at each position the byte of a region, or that of the buffer, is the buffer after
+-- the region is placed in it
 pub is_placed : (file : List ℕ) (order : ByteOrder) (p : PageRecord) (color : ColorType) (region : Region) (stride n : ℕ) (old new : List ℕ) → length new ≡ length old
     → ((i : ℕ) → i < length old → slice_index new i ≡ unwrap_or (byte_at file order p color region stride n i) (slice_index old i))
     → new ≡ bytes_with_region file order p color region stride n old

@@ -1,4 +1,4 @@
--- What is found before memory is taken for samples.
+-- Errors that are found before memory is allocated for samples.
 use Rattle.std.proofs.Common.{◌≡◌, ℕ, zero, suc, ◌+◌, ◌-◌, ◌*◌, ◌<◌, ◌≤◌, ◌^◌, min, List, [], ◌∷◌, length, take, drop, Bool, true, false, Ok, Err, Fits, refl, ap, sym, ◌∙◌, subst, ⊎_elim, arith, length-append, length-drop}
 use Rattle.std.proofs.lemmas.List.{length-take, length-replicate}
 use lib.ListN.{replicate}
@@ -35,7 +35,7 @@ use Rattle.tiff_page.proofs.Sizes.{plane_some}
 use Rattle.tiff_page.proofs.PositionLaws.{cases_fault}
 use Rattle.tiff_page.proofs.Filling.{first_at}
 
--- the rows of a chunk are of fewer than 2^88 bytes
+-- the rows of a chunk have fewer than 2^88 bytes
 rows_few : (h r : ℕ) → h < 2 ^ 32 → r < 2 ^ 56 → (h - 1) * r < 2 ^ 88
 rows_few h r a b = let k : (h - 1) * r < 2 ^ 32 * 2 ^ 56 = mul-lt (h - 1) r (2 ^ 32) (2 ^ 56) (omega (arith, a)) b in omega (arith, k)
 
@@ -56,11 +56,11 @@ reached failed bytes buf at len last (Err f) e s h =
     cause_along f (λ w. w) (λ d. d)
     (λ g. (let m = missing bytes last 1 f g in rw (lt-ltb (length bytes - at) len (omega (arith, m.0, e, s))) (ap Err m.1))) h
 
--- no byte stands at 2^64 or behind
+-- there is no byte at offset 2^64 or after
 pub past_all : (bytes : List ℕ) (at len : ℕ) → length bytes < 2 ^ 64 → 0 < len → 2 ^ 64 ≤ at + len - 1 → fail_if (nat_lt (length bytes - at) len) (IoError UnexpectedEof) ≡ Err (IoError UnexpectedEof)
 past_all bytes at len l s p = rw (lt-ltb (length bytes - at) len (omega (arith, l, s, p))) refl
 
--- ---- packed bytes
+-- ---- PackBits data
 
 pub least_few : (n : ℕ) → n < 2 ^ 89 → div_ceil n 64 < 2 ^ 89
 least_few n h = let k = div_ceil_times n 64 (omega arith) in omega (arith, h, k.1)
@@ -75,7 +75,7 @@ counted_all bytes at count least h =
     (λ (l : least ≤ length bytes - at). le-ltb (length bytes - at) least l ∙ sym (le-ltb (min count (length bytes - at)) least (omega (arith, l, h))))
     (cases_lt (length bytes - at) least)
 
--- ---- what packed bytes unpack to at most
+-- ---- how many bytes PackBits data decompress to at most
 
 of_step : (u v : Unpacked) (n : ℕ) → u ≡ v → length v.out ≤ n → length u.out ≤ n
 of_step u v n e h = subst (λ (w : Unpacked). length w.out ≤ n) (sym e) h
@@ -130,7 +130,7 @@ module _ (file : List ℕ) (order : ByteOrder) (p : PageRecord) (limits : Limits
   abbrev fault_of : ℕ → Result (Unit {0}) TiffError
   fault_of i = chunk_fault p limits (is_short file order p color) color i
 
-  -- what is found early of a chunk is its fault
+  -- the early error of a chunk is its error
   found_early : (i : ℕ) (e : TiffError) → chunk_fault p limits (is_cut file p color) color i ≡ Err e → fault_of i ≡ Err e
   found_early i e h =
       ⊎_elim
@@ -142,7 +142,7 @@ module _ (file : List ℕ) (order : ByteOrder) (p : PageRecord) (limits : Limits
       (λ er. let g : Err er.0 ≡ Err e = rw (er.1) at h in rw (er.1) g)
       (cases_fault (form_fault p limits color i))
 
-  -- a fault of the first chunk is the first of a part
+  -- an error of the first chunk is the first error of a part
   part_early : (part : Part) (e : TiffError) → 0 < part.count → 0 < part.planes → fault_of part.first ≡ Err e → part_fault file order p limits color part ≡ Err e
   part_early part e some planes h =
       let in_plane : ℕ → ℕ → Result (Unit {0}) TiffError = λ j plane. fault_of (plane * chunks_of_plane p + (part.first + j)) in
@@ -150,7 +150,7 @@ module _ (file : List ℕ) (order : ByteOrder) (p : PageRecord) (limits : Limits
       first_at (λ j. each_below (in_plane j) part.planes) part.count 0 e some refl
       (first_at (in_plane 0) part.planes 0 e planes refl (subst (λ (m : ℕ). fault_of m ≡ Err e) at h))
 
-  -- and of its samples
+  -- an error of the first chunk is the error of the part's samples
   pub samples_early : (part : Part) (type : DecodingSampleType) (len : ℕ) (e : TiffError) → 0 < part.count → 0 < part.planes → sample_type_of p ≡ Ok type
       → early_fault file p limits color type part.first len ≡ Err e → samples file order p limits color part len ≡ Err e
   unfolding samples fill_buffer
@@ -163,7 +163,7 @@ module _ (file : List ℕ) (order : ByteOrder) (p : PageRecord) (limits : Limits
       (λ er. let g : Err er.0 ≡ Err e = rw (er.1) at h in let q : er.0 ≡ e = cc in rw (typed, er.1) (ap Err q))
       (cases_fault (limit_fault limits (size_of type) len))
 
-  -- a fault of the form of the first chunk is what a buffer's filling gives
+  -- an error of the form of the first chunk is the result of filling a buffer
   form_early : (part : Part) (buf : List ℕ) (e : TiffError) → 0 < part.count → 0 < part.planes → form_fault p limits color part.first ≡ Err e
       → fill_buffer file order p limits color part buf ≡ Err e
   unfolding fill_buffer
@@ -172,7 +172,7 @@ module _ (file : List ℕ) (order : ByteOrder) (p : PageRecord) (limits : Limits
       let g : part_fault file order p limits color part ≡ Err e = part_early part e some planes f in
       rw g refl
 
--- ---- the form of the first chunk, of what is read into a slice
+-- ---- the form of the first chunk, for reads into a slice
 
 module _ (wanting failed : Type 0) (file : List ℕ) (order : ByteOrder) (p : PageRecord) (limits : Limits) (buf : List ℕ) (l : LayoutRecord) (e : TiffError) where
   pub image_form : 0 < p.width → 0 < p.height → 0 < p.chunk_width → 0 < p.chunk_height → planes_layout p p.width p.height ≡ Ok l → room_fault (length buf) l.plane_stride ≡ Ok tt

@@ -8,16 +8,16 @@ use Rattle.tiff_ifd.specs.declared.packbits.PackedPosition.{PackedPosition}
 pub unpacked_out : (bytes : List ℕ) (position : PackedPosition) (at len : ℕ) → left_at bytes position ≡ unpacked_at bytes at len → (left_at bytes position).out ≡ (unpacked_at bytes at len).out
 unpacked_out bytes position at len e = ap (λ (u : Unpacked). u.out) e
 
--- nothing stands behind the last byte of a source
+-- there is nothing after the last byte of a source
 pub passed_end : (bytes : List ℕ) (at n : ℕ) → length bytes < 2 ^ 64 → 2 ^ 64 ≤ at + n → [] ≡ drop n (drop at bytes)
 passed_end bytes at n l h = sym (drop_all n (drop at bytes) (omega (arith, length-drop at bytes, l, h)))
 
--- the bytes behind a front
+-- the bytes after a front
 pub behind_front : (front rest : List ℕ) (k : ℕ) → length front ≡ k → rest ≡ drop k (front ++ rest)
 behind_front front rest k e =
     sym (drop-append-le k front rest (omega (arith, e)) ∙ ap (λ (z : List ℕ). z ++ rest) (drop_all k front (omega (arith, e))))
 
--- some more bytes are passed
+-- some more bytes are skipped
 pub more_passed : (first mid last : Unpacked) (piece : List ℕ) (n left k : ℕ) → left ≤ n → k ≤ left → length piece ≡ k
     → mid.out ≡ drop (n - left) first.out → mid ≡ with_front piece last → last.out ≡ drop (n - (left - k)) first.out
 more_passed first mid last piece n left k h l e a b =

@@ -1,4 +1,4 @@
--- What is found before memory is taken for samples is what a call answers.
+-- A call returns the error that is found before memory is allocated for samples.
 use Rattle.std.proofs.Common.{◌≡◌, ℕ, ◌*◌, ◌<◌, Bool, true, false, cond, List, Ok, Err, refl, ap, ◌∙◌, arith}
 use Rattle.std.specs.Prelude.{Result, nat_le}
 use Rattle.tiff_base.specs.declared.color.ColorType.{ColorType}
@@ -19,13 +19,13 @@ use Rattle.tiff_page.proofs.Cut as cut
 use Rattle.tiff_page.proofs.PixelSteps.{colored, some_planes}
 use Rattle.tiff_page.proofs.Sizes.{plane_some}
 
--- an error of what both begin with, or of what follows it
+-- an error of what two chains begin with, or of what follows it
 follows : {A B C : Type 0} (r : Result A TiffError) (early : A → Result B TiffError) (call : A → Result C TiffError) (e : TiffError)
     → ((x : A) → r ≡ Ok x → early x ≡ Err e → call x ≡ Err e) → (r >>= early) ≡ Err e → (r >>= call) ≡ Err e
 follows (Ok x) early call e k h = k x refl h
 follows (Err f) early call e k h = let q : f ≡ e = cc in ap Err q
 
--- an error is that of all that follows it
+-- an error of a step is the error of all steps after it
 goes_on : {A B : Type 0} (r : Result A TiffError) (next : A → Result B TiffError) (e : TiffError) → r ≡ Err e → (r >>= next) ≡ Err e
 goes_on r next e h = ap (λ q. q >>= next) h
 
@@ -41,7 +41,7 @@ module _ (file : List ℕ) (order : ByteOrder) (p : PageRecord) (limits : Limits
       → samples_early file p limits color part.first len ≡ Err e → samples file order p limits color part len ≡ Err e
   sampled color part len e some used h = typed color part len e (sample_type_of p) some used refl h
 
-  -- a part of all chunks of a plane has some
+  -- a part of all chunks of a plane has at least one chunk
   some_chunks : HasSides p → 0 < chunks_of_plane p
   some_chunks s = plane_some p.width p.height p.chunk_width p.chunk_height s.wide s.high s.chunk_wide s.chunk_high
 
@@ -73,7 +73,7 @@ module _ (file : List ℕ) (order : ByteOrder) (p : PageRecord) (limits : Limits
       (λ _ _ m. follows (wide (stride * p.chunk_height)) (λ _. early l) (λ _. read l) e
       (λ _ _ n. sampled l.color (chunk_part p i 1 stride) len e (omega arith) (omega arith) n) m) k) h
 
-  -- the planes that are within the limit are some
+  -- at least one plane is within the limit
   within_some : (l : LayoutRecord) → 0 < planes p.planar l.color → 0 < planes_within p limits l
   within_some l s = chosen (nat_le (l.plane_stride * planes p.planar l.color) limits.decoding_buffer_size)
     where
@@ -81,7 +81,7 @@ module _ (file : List ℕ) (order : ByteOrder) (p : PageRecord) (limits : Limits
       chosen true = s
       chosen false = omega arith
 
-  -- a layout of all planes is of the page's color
+  -- a layout of all planes has the page's color
   laid_color : (w h : ℕ) (l : LayoutRecord) → planes_layout p w h ≡ Ok l → color_of p ≡ Ok l.color
   unfolding planes_layout
   laid_color w h l q = by_layout (layout_of p w h) refl q

@@ -29,7 +29,7 @@ use Rattle.tiff_page.proofs.PositionLaws.{chunks_within, cases_fault, all_ok, ok
 use Rattle.tiff_page.proofs.Sizes.{plane_some}
 use Rattle.tiff_page.specs.PixelCalls.{fill_buffer, bytes_with_region, image_part, chunk_part}
 
--- the chunks of one number lie upon each other
+-- the chunks of one index lie at the same position
 module _ (p : PageRecord) (plane j : ℕ) (l : j < chunks_of_plane p) where
   pub index : (plane * chunks_of_plane p + j) % chunks_of_plane p ≡ j % chunks_of_plane p
   index = mod-mul-add plane (chunks_of_plane p) j l ∙ sym (mod-eq_of_lt l)
@@ -50,7 +50,7 @@ module _ (p : PageRecord) (plane j : ℕ) (l : j < chunks_of_plane p) where
   unfolding rect
   same_width = ap (λ m. min p.chunk_width (p.width - m % across p * p.chunk_width)) index
 
--- where a fault is the first of several
+-- an error is the first of several
 pub first_at : (fault : ℕ → Result (Unit {0}) TiffError) (n k : ℕ) (e : TiffError) → k < n → each_below fault k ≡ Ok tt → fault k ≡ Err e → each_below fault n ≡ Err e
 first_at fault n k e l none h = of_first fault n e k l (record { found = h; none = all_ok fault k none })
 
@@ -149,7 +149,7 @@ module _ (file : List ℕ) (order : ByteOrder) (p : PageRecord) (limits : Limits
         chunks_written p l.color l.row_bytes planes j plane (image_byte p l.color l.row_bytes file order) before mid new below a
         (chunk_written file order p l.color l.row_bytes plane j mid new sides (is_whole i formed) (omega (arith, row_is)) in_plane d)
 
--- the same rows under other names
+-- equal arguments write the same rows
 pub moved : (order : ByteOrder) (p : PageRecord) (color : ColorType) (i h n : ℕ) (mid new f f' : List ℕ) (a a' b b' d d' : ℕ) → f ≡ f' → a ≡ a' → b ≡ b' → d ≡ d'
     → Writes (IsIn a b h d n) (in_rect (chunk_byte f order p color i) a b d) mid new → Writes (IsIn a' b' h d' n) (in_rect (chunk_byte f' order p color i) a' b' d') mid new
 moved order p color i h n mid new f f' a a' b b' d d' ef ea eb ed w =
@@ -159,7 +159,7 @@ moved order p color i h n mid new f f' a a' b b' d d' ef ea eb ed w =
     (subst (λ (z : List ℕ). Writes (IsIn a b h d n) (in_rect (chunk_byte z order p color i) a b d) mid new) ef w)))
 
 module _ (file : List ℕ) (order : ByteOrder) (p : PageRecord) (limits : Limits) (l : LayoutRecord) (sides : HasSides p) (samples : 0 < p.samples) (deep : 0 < p.depth) (laid : layout_of p p.width p.height ≡ Ok l) (planes : ℕ) where
-  -- the first fault of a chunk in all planes
+  -- the first error of a chunk in all planes
   abbrev pub of_chunk : ℕ → Result (Unit {0}) TiffError
   of_chunk j =
       each_below (λ plane. chunk_fault p limits (is_short file order p l.color) l.color (plane * chunks_of_plane p + (0 + j))) planes

@@ -29,7 +29,7 @@ required_of into (Ok (Some d)) e x h = tt
 required_of into (Ok None) e x h = absurd (cc)
 required_of into (Err f) e x h = absurd (cc)
 
--- one that had to be there
+-- a number of a required tag
 pub required_found : {A : Type 0} (into : Datum → Result A TiffError) (look : Look) (tag : Tag) (x : A) → require into look tag ≡ Ok x → IsFoundWithin (look.value tag)
 unfolding require find
 required_found into look tag x h = required_of into (look.value tag) (FormatError (RequiredTagNotFound tag)) x h
@@ -38,7 +38,7 @@ width_of : {A B : Type 0} (width : Result A TiffError) (next : A → Result B Ti
 width_of (Ok x) next size h = (x, λ i. Ok x)
 width_of (Err e) next size h = absurd (cc)
 
--- the sides of a page, and so its width
+-- the sides of a page, with its width
 pub size_found : (look : Look) (size : ℕ × ℕ) → size_in look ≡ Ok size → IsFoundWithin (look.value tag.ImageWidth)
 unfolding size_in
 size_found look size h =

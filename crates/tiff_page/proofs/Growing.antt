@@ -1,4 +1,5 @@
--- The chunks of an image are read into a list that grows before each of them: with zeros up to its last length behind it the list is a buffer.
+-- The chunks of an image are read into a list that grows before each of them. The list is a buffer
+-- if zeros follow it up to its last length.
 use Rattle.std.proofs.Common.{append_assoc, ◌≡◌, ℕ, zero, suc, ◌+◌, ◌-◌, ◌*◌, ◌/◌, ◌%◌, ◌<◌, ◌≤◌, List, [], ◌++◌, length, take, drop, get_or, refl, ap, sym, ◌∙◌, inl, inr, ⊎_elim, Ok, subst, arith}
 use Rattle.std.specs.Prelude.{replicate, Result}
 use Rattle.std.proofs.lemmas.Bool.{cases_lt}
@@ -22,14 +23,14 @@ use Rattle.tiff_page.proofs.Filling.{first_index, form_of, is_whole, plane_room,
 use Rattle.tiff_page.proofs.Planes.{layout_gives}
 use Rattle.tiff_page.proofs.PositionLaws.{all_ok, chunks_within}
 
--- a list with zeros behind it, up to a length
+-- a list with zeros after it, up to a length
 abbrev pub filled_to : ℕ → List ℕ → List ℕ
 filled_to total bytes = bytes ++ replicate (total - length bytes) 0
 
 pub none_filled : (total : ℕ) (bytes : List ℕ) → bytes ≡ [] → filled_to total bytes ≡ replicate total 0
 none_filled total bytes e = let all : total - 0 ≡ total = omega arith in ap (filled_to total) e ∙ ap (λ (k : ℕ). replicate k 0) all
 
--- a list that grew by zeros is filled up to the same
+-- a list that grew by zeros is the same when it is filled up
 pub grown_filled : (total more : ℕ) (old new : List ℕ) → new ≡ old ++ replicate more 0 → length new ≤ total → filled_to total new ≡ filled_to total old
 grown_filled total more old new e l =
     let long : length new ≡ length old + more = ap (λ (xs : List ℕ). length xs) e ∙ length-append old (replicate more 0) ∙ ap (λ (k : ℕ). length old + k) (length-replicate {A = ℕ} more 0) in
@@ -43,7 +44,7 @@ grown_within total to old new e l m =
     let long : length new ≡ length old + (to - length old) = ap (λ (xs : List ℕ). length xs) e ∙ length-append old (replicate (to - length old) 0) ∙ ap (λ (k : ℕ). length old + k) (length-replicate {A = ℕ} (to - length old) 0) in
     (omega (arith, long, l, m), omega (arith, long))
 
--- what is written in front of zeros is written in the whole
+-- writing before zeros is writing in the whole list
 zero_in : (n i : ℕ) → get_or {A = ℕ} (replicate n 0) i 0 ≡ 0
 zero_in zero i = refl
 zero_in (suc n) zero = refl
@@ -102,7 +103,7 @@ module _ (p : PageRecord) (color : ColorType) (stride n j : ℕ) (sides : HasSid
     of_chunk = ⊎_elim (λ (z : chunk_of p color stride i < j). inl z) (λ z. Prim.absurd (omega (arith, z.1))) b.of_chunk;
   }
 
-  -- a position of the chunk is within what holds it
+  -- a position of the chunk is within the bytes that hold the chunk
   held : (len i : ℕ) → HoldsChunk p color stride n j len → IsBefore p color stride n j n i → chunk_of p color stride i ≡ j → i < len
   held len i room b e =
       let q = is_of p color stride (plane_of p color stride i) j sides whole fits in_plane i (record { byte = b.byte; of_plane = refl; of_chunk = e }) in
@@ -121,7 +122,7 @@ module _ (p : PageRecord) (color : ColorType) (stride n j : ℕ) (sides : HasSid
 -- ---- how many bytes hold a chunk
 
 module _ (p : PageRecord) (l : LayoutRecord) (sides : HasSides p) (laid : layout_of p p.width p.height ≡ Ok l) (planes j : ℕ) where
-  -- those of all planes
+  -- the bytes of all planes
   pub planes_hold : HoldsChunk p l.color l.row_bytes planes j (planes * l.plane_stride)
   planes_hold plane below =
       let g = layout_gives p p.width p.height l laid in
@@ -131,7 +132,7 @@ module _ (p : PageRecord) (l : LayoutRecord) (sides : HasSides p) (laid : layout
       let r : planes * (l.row_bytes * p.height) ≤ planes * l.plane_stride = subst (λ (m : ℕ). planes * m ≤ planes * l.plane_stride) plane_is (omega arith) in
       plane_room plane planes p.height (rect p k).y (rect p k).height l.row_bytes (planes * l.plane_stride) below w r
 
-  -- of one plane its rows up to the chunk's last
+  -- of one plane, its rows up to the last row of the chunk
   pub one_holds : (end : ℕ) → planes < 2 → end ≡ ((rect p j).y + (rect p j).height) * l.row_bytes → HoldsChunk p l.color l.row_bytes planes j end
   one_holds end one e plane below =
       let z : plane ≡ 0 = omega (arith, one, below) in

@@ -1,4 +1,4 @@
--- Rows of bytes that are put into lists of numbers.
+-- Rows of bytes that are written into lists of numbers.
 use borrow.Rule.Slice.PartMut.{mid_of, put_mid}
 use Rattle.std.proofs.Common.{◌≡◌, ℕ, zero, suc, ◌+◌, ◌-◌, ◌*◌, ◌/◌, ◌%◌, ◌^◌, ◌<◌, ◌≤◌, true, false, inl, inr, ⊎_elim, List, [], ◌∷◌, ◌++◌, length, map, take, drop, get_or, refl, ap, sym, subst, ◌∙◌, arith}
 use Rattle.std.specs.Prelude.{◌==◌, slice_index, replicate, Result, Ok, Err, OnOk}
@@ -33,11 +33,11 @@ low_digits n (suc k) =
     let p : 256 ^ suc k * (n / 256 ^ suc k) ≡ 256 ^ k * 256 * (q / 256) = (λ i. pow-suc 256 k i * e i) in
     omega (arith, low_digits n k, d, p)
 
--- a number is what its bytes are together
+-- a number is the sum of its bytes
 pub of_bytes : (size n : ℕ) → IsSize size → digits (byte_of size n) size ≡ n
 of_bytes size n z = by_size (λ s. digits (byte_of s n) s ≡ n) size (low_digits n 0) (low_digits n 1) (low_digits n 3) (low_digits n 7) z
 
--- the bytes of a number that so many bytes hold
+-- the bytes of a number of `size` bytes
 byte_is : (size n j : ℕ) → n < 256 ^ size → byte_of size n j ≡ n / 256 ^ j % 256
 byte_is size n j h =
     ⊎_elim
@@ -49,7 +49,7 @@ byte_is size n j h =
     (λ (f : (j + 1 == size) ≡ false). rw f refl)
     (cases_Bool (j + 1 == size))
 
--- a byte of a number that bytes are is that byte
+-- a byte of a number that is made of bytes is that byte
 pub byte_back : (size : ℕ) (row : List ℕ) (k j : ℕ) → IsSize size → AreOctets row → j < size → byte_of size (row_number LittleEndian size row k) j ≡ get_or row (k * size + j) 0
 byte_back size row k j z o h =
     byte_is size (row_number LittleEndian size row k) j (number_lt size row k z o) ∙ sym (bytes_of_numbers size row k j z o h)
@@ -102,11 +102,11 @@ numbers_again size ns z =
     byte_at size ns (k * size + j) r ∙ (λ i. byte_of size (get_or ns (div-mul-add k size j w i) 0) (mod-mul-add k size j w i))))
     ∙ little_digits size (byte_of size (get_or ns k 0)) z ∙ of_bytes size (get_or ns k 0) z)
 
--- the number that a byte is of is there
+-- the number to which a byte belongs is in the list
 pub number_there : {X : Type 0} (bits : X → ℕ) (size at : ℕ) (xs : List X) → 0 < size → at < length (bytes_in size (map bits xs)) → at / size < length xs
 number_there bits size at xs s h = div_below at size (length xs) s (omega (arith, h, length_bytes size (map bits xs), ap (λ (m : ℕ). m * size) (length-map xs bits)))
 
--- zeros
+-- the bytes of zeros
 pub zeros_in : (size n : ℕ) (ns : List ℕ) → IsSize size → ns ≡ replicate n 0 → bytes_in size ns ≡ replicate (n * size) 0
 zeros_in size n ns z e =
     let s : 0 < size = some_size size z in
@@ -121,12 +121,12 @@ zeros_in size n ns z e =
     ∙ byte_is size 0 (i % size) (power_pos size) ∙ ap (λ (m : ℕ). m % 256) (zero-div (256 ^ (i % size)))
     ∙ sym (get_or-replicate (n * size) i 0 0 h))
 
--- ---- whole numbers are put
+-- ---- whole numbers are written
 
 whole_front : (size : ℕ) (bytes : List ℕ) → length bytes ≡ size → bytes_at bytes (0 * size) size ≡ bytes
 whole_front size bytes e = (let z : 0 * size ≡ 0 = omega arith in ap (λ (m : ℕ). take size (drop m bytes)) z) ∙ take_all size bytes (omega (arith, e))
 
--- where a byte of such numbers stands
+-- where a byte of such numbers is
 in_numbers : (size first count at len i : ℕ) → 0 < size → at ≡ first * size → len ≡ count * size → (first ≤ i / size) × (i / size < first + count) → (at ≤ i) × (i < at + len)
 in_numbers size first count at len i s a l w =
     let d : i / size * size + i % size ≡ i = div-add-mod' i size in
@@ -167,7 +167,7 @@ pub row_put_whole : (size at : ℕ) (row old new : List ℕ) → IsSize size →
     → NumbersArePut size (at / size) row (length row / size) old new → IsPut at row (bytes_in size old) (bytes_in size new)
 row_put_whole size at row old new z o a l w = placed_put size (at / size) (length row / size) at row old new z o (of_whole at size a) (of_whole (length row) size l) w
 
--- they are in the list
+-- the numbers are in the list
 pub numbers_fit : {X : Type 0} (bits : X → ℕ) (size at len : ℕ) (xs : List X) → 0 < size → at % size ≡ 0 → len % size ≡ 0 → at + len ≤ length (bytes_in size (map bits xs))
     → at / size + len / size ≤ length xs
 numbers_fit bits size at len xs s a l h =
@@ -202,7 +202,7 @@ within size len n h =
 pub none_placed : (size first : ℕ) (row old : List ℕ) → NumbersArePut size first row 0 old old
 none_placed size first row old = writes_none (λ i. (first ≤ i) × (i < first + 0)) (λ i. row_number LittleEndian size row (i - first)) old (λ i p. absurd (omega (arith, p.0, p.1)))
 
--- one more number
+-- one more number is written
 pub placed_more : {X : Type 0} (bits : X → ℕ) (size first k : ℕ) (row : List ℕ) (old mid new : List X) (x : X) (pieces : List (List ℕ)) (piece d : List ℕ)
     → pieces ≡ first_chunks size (length row / size) row → k < length row / size → piece ≡ get_or pieces k d → bits x ≡ number LittleEndian (width_of size) piece
     → first + k < length mid → new ≡ set mid (first + k) x → NumbersArePut size first row k (map bits old) (map bits mid)
@@ -223,7 +223,8 @@ placed_more bits size first k row old mid new x pieces piece d are h here is in_
     (λ i r. ⊎_elim (λ (a : i < first + k). inl (r.0, a)) (λ (a : first + k ≤ i). inr (omega (arith, a, r.1))) (cases_lt i (first + k)))
     w one
 
--- numbers that are put at the front of what is behind others are put behind these
+-- numbers that are written at the front of the rest of a list are written after the numbers before
+-- the rest
 pub placed_behind : {X : Type 0} (bits : X → ℕ) (size first count : ℕ) (row : List ℕ) (front old new : List X) → length front ≡ first
     → NumbersArePut size 0 row count (map bits old) (map bits new) → NumbersArePut size first row count (map bits (front ++ old)) (map bits (front ++ new))
 placed_behind bits size first count row front old new e w =
@@ -255,7 +256,7 @@ placed_behind bits size first count row front old new e w =
           (cases_lt i first),
     )
 
--- and so, as a goal shows a list after a write to what is behind others
+-- the list after a write to its rest, as a goal has it
 pub put_behind : {X : Type 0} (bits : X → ℕ) (size first count : ℕ) (row : List ℕ) (old mid : List X) → first ≤ length old
     → NumbersArePut size 0 row count (map bits (mid_of first (length old - first) old)) (map bits mid)
     → NumbersArePut size first row count (map bits old) (map bits (put_mid first (length old - first) old mid))
@@ -269,7 +270,7 @@ put_behind bits size first count row old mid h w =
     subst (λ xs. NumbersArePut size first row count (map bits old) (map bits xs)) (sym none)
     (subst (λ xs. NumbersArePut size first row count (map bits xs) (map bits (take first old ++ mid))) (take-append-drop first old) put)
 
--- ---- single bytes are put
+-- ---- single bytes are written
 
 pub set_octets : (xs : List ℕ) (i b : ℕ) → AreOctets xs → b < 256 → AreOctets (set xs i b)
 set_octets [] i b o h k = o k
@@ -333,11 +334,11 @@ byte_put bits size at byte bytes old new y d x given z o in_list found told set_
           (cases_eq i at),
     )
 
--- none yet
+-- no byte is written yet
 pub none_put : (at : ℕ) (row old : List ℕ) → Writes (λ i. (at ≤ i) × (i < at + 0)) (λ i. slice_index row (i - at)) old old
 none_put at row old = writes_none (λ i. (at ≤ i) × (i < at + 0)) (λ i. slice_index row (i - at)) old (λ i p. absurd (omega (arith, p.0, p.1)))
 
--- one more byte
+-- one more byte is written
 pub put_more : (at k byte : ℕ) (row old mid new : List ℕ) → byte ≡ get_or row k 0 → Writes (λ i. (at ≤ i) × (i < at + k)) (λ i. slice_index row (i - at)) old mid
     → IsPut (at + k) (byte ∷ []) mid new → Writes (λ i. (at ≤ i) × (i < at + (k + 1))) (λ i. slice_index row (i - at)) old new
 put_more at k byte row old mid new e w v =
@@ -352,7 +353,7 @@ put_more at k byte row old mid new e w v =
     let b : k ≡ i - at = omega (arith, q.0, q.1) in
     ap (λ (m : ℕ). get_or (byte ∷ []) m 0) a ∙ (e ∙ ap (λ (m : ℕ). get_or row m 0) b)) v)
 
--- ---- lists of numbers as they are handed out
+-- ---- lists of numbers as the decoder returns them
 
 map_replicate : {A : Type 0} (f : A → ℕ) (x : A) (n : ℕ) → map f (replicate n x) ≡ replicate n (f x)
 map_replicate f x zero = refl
@@ -362,7 +363,7 @@ map_replicate f x (suc n) = ap (λ (ys : List ℕ). f x ∷ ys) (map_replicate f
 pub zeros_mapped : {A : Type 0} (f : A → ℕ) (x : A) (xs : List A) (n : ℕ) → f x ≡ 0 → xs ≡ replicate n x → map f xs ≡ replicate n 0
 zeros_mapped f x xs n z e = ap (map f) e ∙ map_replicate f x n ∙ ap (replicate n) z
 
--- ---- zeros behind a list
+-- ---- zeros after a list
 
 pub zeros_behind : {A : Type 0} (f : A → ℕ) (x : A) (old new : List A) (n : ℕ) → f x ≡ 0 → new ≡ old ++ replicate n x → map f new ≡ map f old ++ replicate n 0
 zeros_behind f x old new n z e = ap (map f) e ∙ map-append f old (replicate n x) ∙ ap (λ ys. map f old ++ ys) (zeros_mapped f x (replicate n x) n z refl)
@@ -378,7 +379,7 @@ zero_in (suc n) (suc i) = zero_in n i
 no_byte : (size i : ℕ) → byte_of size 0 (i % size) ≡ 0
 no_byte size i = byte_is size 0 (i % size) (power_pos size) ∙ ap (λ (m : ℕ). m % 256) (zero-div (256 ^ (i % size)))
 
--- the bytes of zeros behind a list stand behind its bytes
+-- the bytes of zeros after a list follow its bytes
 pub bytes_behind : (size : ℕ) (ns : List ℕ) (n : ℕ) → IsSize size → bytes_in size (ns ++ replicate n 0) ≡ bytes_in size ns ++ replicate (n * size) 0
 bytes_behind size ns n z =
     let s : 0 < size = some_size size z in
@@ -422,14 +423,14 @@ less-times m n size =
     omega (arith, b))
     (cases_lt m n)
 
--- a list that has grown by zeros, seen as bytes
+-- a list that grew by zeros, seen as bytes
 pub zero_bytes_behind : (size : ℕ) (old new : List ℕ) (count : ℕ) → IsSize size → new ≡ old ++ replicate (count - length old) 0
     → bytes_in size new ≡ bytes_in size old ++ replicate (count * size - length (bytes_in size old)) 0
 zero_bytes_behind size old new count z e =
     ap (bytes_in size) e ∙ bytes_behind size old (count - length old) z
     ∙ ap (λ (k : ℕ). bytes_in size old ++ replicate k 0) (less-times count (length old) size ∙ ap (λ (k : ℕ). count * size - k) (sym (length_bytes size old)))
 
--- the same of what a call answers
+-- the result of a call that grows a list, seen as bytes
 pub grown_bytes : {X E T : Type 0} (r : Result X E) (size : ℕ) (bits : T → ℕ) (old new : List T) (count len : ℕ) → IsSize size → count ≡ div_ceil len size
     → OnOk r (map bits new ≡ map bits old ++ replicate (count - length old) 0)
     → OnOk r (bytes_in size (map bits new) ≡ bytes_in size (map bits old) ++ replicate (div_ceil len size * size - length (bytes_in size (map bits old))) 0)

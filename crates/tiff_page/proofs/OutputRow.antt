@@ -1,4 +1,4 @@
--- The bytes of a row as they are handed out: of the numbers that the row became.
+-- The bytes of an output row, from the numbers that the row became.
 use Rattle.std.proofs.Common.{take, drop, mul_assoc, ◌≡◌, ℕ, ◌+◌, ◌-◌, ◌*◌, ◌/◌, ◌%◌, ◌^◌, ◌<◌, ◌≤◌, ◌⊎◌, true, false, List, length, get_or, refl, ap, sym, ◌∙◌, subst, arith, ⊎_elim}
 use Rattle.std.specs.Prelude.{nat_lt}
 use Rattle.std.proofs.lemmas.List.{get_or_past, get_or-take, get_or-drop, length-take-le, length-drop}
@@ -74,7 +74,7 @@ summed_row p old new size s e z n b =
     (subst (λ (x : ℕ). RowReplaced x (summed_number LittleEndian x s old) old new) z b) in
     record { numbers = λ k h. c.numbers k h ∙ (rw e refl); behind = c.behind }
 
--- a number is told by those that a list holds of its row
+-- a number depends only on the numbers that a list holds of its row
 module _ (order : ByteOrder) (p : PageRecord) (stored held : List ℕ) (b : RowReplaced (p.depth / 8) (row_number order (p.depth / 8) stored) stored held) where
   number_undone : (q : Predictor) → is_byte_plane q ≡ false → (k : ℕ) → (k + 1) * (p.depth / 8) ≤ length stored → number_by q LittleEndian p held k ≡ number_by q order p stored k
   number_undone predictor.None f k h = b.numbers k h
@@ -125,9 +125,9 @@ pub whole_stood : (order : ByteOrder) (p : PageRecord) (row : List ℕ) → need
     → RowReplaced (p.depth / 8) (row_number order (p.depth / 8) row) row row
 whole_stood order p row t z = let s : 0 < p.depth / 8 = some_size (p.depth / 8) z in (holds_same order p row t).numbers (omega (arith, s))
 
--- ---- the bytes that are handed out
+-- ---- the output bytes
 
--- of a row of numbers k is the one that a byte is of
+-- of a row of numbers, k is the number to which a byte belongs
 handed_at : (order : ByteOrder) (p : PageRecord) (c : ColorType) (old mid : List ℕ) (b k : ℕ) → IsRead p c → 8 ≤ p.depth
     → RowReplaced (p.depth / 8) (number_of_row order p old) old mid → ((i : ℕ) → get_or mid i 0 < 256)
     → in_row p (b / (p.depth / 8) / samples_in_chunk p.planar c) (b / (p.depth / 8) % samples_in_chunk p.planar c) ≡ k → (k + 1) * (p.depth / 8) ≤ length old
@@ -153,11 +153,11 @@ in_place p c h =
     ⊎_elim (λ (t : is_byte_plane p.predictor ≡ true). let k : true ≡ false = rw t at h in cc)
     (λ (f : is_byte_plane p.predictor ≡ false). (f, rw f at h)) (cases_Bool (is_byte_plane p.predictor))
 
--- a byte behind the last one is 0
+-- a byte after the last one is 0
 pub each_octet : (row : List ℕ) → ((i : ℕ) → i < length row → get_or row i 0 < 256) → (i : ℕ) → get_or row i 0 < 256
 each_octet row b i = ⊎_elim (λ (h : i < length row). b i h) (λ (h : length row ≤ i). (let e : get_or row i 0 ≡ 0 = get_or_past row i 0 h in omega (arith, e))) (cases_lt i (length row))
 
--- a row whose samples are all shown
+-- a row whose samples are all output
 pub row_handed : (order : ByteOrder) (p : PageRecord) (c : ColorType) (old mid : List ℕ) (b : ℕ) → IsRead p c → needs_whole_rows p c ≡ false
     → (8 ≤ p.depth → RowReplaced (p.depth / 8) (number_of_row order p old) old mid) → (p.depth < 8 → mid ≡ old) → ((i : ℕ) → i < length mid → get_or mid i 0 < 256)
     → (p.depth < 8) ⊎ (length old / (p.depth / 8) * (p.depth / 8) ≡ length old) → b < length old
@@ -219,7 +219,7 @@ joined_numbers order p old new e l b =
       behind = b.behind;
     }
 
--- the bytes of so many samples of whole bytes
+-- the bytes of a number of samples of whole bytes
 sample_bytes : (n d s : ℕ) → d ≡ d / 8 * 8 → (n * d * s + 7) / 8 ≡ n * s * (d / 8)
 sample_bytes n d s e =
     let k : n * (d / 8 * 8) * s ≡ n * s * (d / 8) * 8 = omega arith in

@@ -1,4 +1,4 @@
--- What the calls that read pixels know of a layout, and the room that it takes.
+-- Facts of a layout, and of its room, for the calls that read pixels.
 use Rattle.std.proofs.Common.{◌≡◌, ℕ, ◌*◌, ◌/◌, ◌^◌, ◌<◌, ◌≤◌, min, Ok, Fits, w64, ap, sym, subst, ◌∙◌, arith}
 use Rattle.std.proofs.lemmas.Nat.{le-div}
 use Rattle.std.proofs.Math.Nat.{mul_comm, mul-le-mul_right, div-mul-le_self}
@@ -31,7 +31,7 @@ some_of Planar c h = h
 pub some_planes : (p : PageRecord) (c : ColorType) → 0 < p.samples → color_of p ≡ Ok c → 0 < planes p.planar c
 some_planes p c s e = some_of p.planar c (subst Shows e (color_shows p s))
 
--- ---- the planes that a slice takes whole
+-- ---- the whole planes that a slice holds
 
 pub whole_planes : (all s n : ℕ) → min all (n / s) * s ≤ n
 whole_planes all s n =

@@ -1,4 +1,4 @@
--- What a layout gives; the image as its first plane; rows of whole bytes.
+-- Facts of a layout; the image as its first plane; rows of whole bytes.
 use Rattle.std.proofs.Common.{◌≡◌, ℕ, ◌+◌, ◌*◌, ◌/◌, ◌^◌, ◌<◌, ◌≤◌, zero, suc, Bool, true, false, List, Ok, Err, refl, ap, sym, subst, ◌∙◌, ◌⊎◌, inl, inr, ⊎_elim, arith}
 use Rattle.std.specs.Prelude.{◌%◌, ◌&&◌, not, Result, if◌then◌else◌, nat_lt, ◌==◌}
 use Rattle.std.proofs.lemmas.Bool.{cases_Bool, cases_lt, eqb-true, ltb-false, le-ltb}
@@ -34,7 +34,7 @@ pub cases_of : {A : Type 0} (r : Result A TiffError) → ((x : A) × (r ≡ Ok x
 cases_of (Ok x) = inl (x, refl)
 cases_of (Err e) = inr (e, refl)
 
--- what a chain of steps gives
+-- a property of the result of a chain of steps
 pub given_bind : {A B : Type 0} (P : Result B TiffError → Type 0) (r : Result A TiffError) (f : A → Result B TiffError)
     → ((e : TiffError) → P (Err e)) → ((x : A) → r ≡ Ok x → P (f x)) → P (r >>= f)
 given_bind P (Ok x) f a b = b x refl
@@ -58,7 +58,7 @@ abbrev pub color_or : Result ColorType TiffError → ColorType → ColorType
 color_or (Ok c) d = c
 color_or (Err e) d = d
 
--- it gives the color that it is handed
+-- the check of whole chunks returns its color
 pub aligned_gives : (p : PageRecord) (c : ColorType) (w : ℕ) → color_or (whole_chunks p c w) c ≡ c
 aligned_gives p c w =
     given_if (λ r. color_or r c ≡ c) (nat_lt 1 (parts w p.chunk_width) && not (row_bits p c p.chunk_width % 8 == 0))
@@ -102,7 +102,7 @@ module _ (p : PageRecord) (w h : ℕ) where
   pub layout_gives : (l : LayoutRecord) → layout_of p w h ≡ Ok l → Given (Ok l)
   layout_gives l e = subst Given e layout_given
 
--- ---- a row is of some bytes
+-- ---- a row has at least one byte
 
 abbrev pub Shows : Result ColorType TiffError → Type 0
 Shows (Ok c) = 0 < num_samples c
@@ -162,7 +162,7 @@ some_bytes p w h l wp hp d s e =
     let q : 1 ≤ row_bytes p l.color w * h = one-le-mul r hp in
     (omega (arith, r, g.0.0), omega (arith, q, g.0.1))
 
--- the rows of a page with samples of some bits
+-- the rows of a page whose samples have at least one bit
 pub some_row : (p : PageRecord) (c : ColorType) (w : ℕ) → 0 < p.depth → 0 < p.samples → color_of p ≡ Ok c → 0 < w → 0 < row_bytes p c w
 some_row p c w d s e wp =
     let k : 0 < num_samples c = subst Shows e (color_shows p s) in

@@ -1,4 +1,4 @@
--- Each pixel is of one chunk of a plane; the first fault; a buffer position by position.
+-- Each pixel belongs to one chunk of a plane; the first error; a buffer position by position.
 use Rattle.std.proofs.Common.{◌≡◌, ℕ, zero, suc, ◌+◌, ◌-◌, ◌*◌, ◌/◌, ◌%◌, ◌<◌, ◌≤◌, min, length, Ok, Err, refl, ap, sym, ◌∙◌, ◌⊎◌, inl, inr, ⊎_elim, arith}
 use Rattle.std.specs.Prelude.{Result, slice_index, unwrap_or}
 use Rattle.std.proofs.lemmas.Bool.{cases_lt}
@@ -27,7 +27,7 @@ pub part_below : (x w n : ℕ) → 0 < n → x < w → x / n < parts w n
 part_below x w n p q =
     let k : w ≤ parts w n * n = parts_cover w n p in div_below x n (parts w n) p (omega arith)
 
--- what a part has, where it begins within the length
+-- the length of a part that begins within the length
 pub in_part : (x w n : ℕ) → 0 < n → x < w → x < x / n * n + min n (w - x / n * n)
 in_part x w n p q =
     let e : x / n * n + x % n ≡ x = div-add-mod' x n in
@@ -115,7 +115,7 @@ chunks_within p i s =
       rows = omega arith;
     }
 
--- ---- the first fault
+-- ---- the first error
 
 pub cases_fault : (r : Result (Unit {0}) TiffError) → (r ≡ Ok tt) ⊎ ((e : TiffError) × (r ≡ Err e))
 cases_fault (Ok u) = inl refl

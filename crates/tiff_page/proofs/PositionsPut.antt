@@ -1,4 +1,4 @@
--- A row that was read is put into a list.
+-- A row that was read is written into a list.
 use Rattle.std.proofs.Common.{◌≡◌, ℕ, ◌+◌, ◌-◌, ◌≤◌, List, length, Result, Ok, Err, subst, sym}
 use borrow.Rule.Slice.PartMut.{put_mid}
 use Rattle.tiff_base.specs.Answers.{IsCause}
@@ -13,7 +13,7 @@ use Rattle.tiff_page.specs.RowReads.{RowRead, TakesRow, PutsRow, RowPut}
 use Rattle.tiff_page.specs.ChunkData.{bytes_left, IsTooShort}
 use Rattle.tiff_page.proofs.Rects.{copied, holds_put_mid}
 
--- where it was read into its position
+-- a row that was read straight to its position
 pub put_in_place : (file : List ℕ) (order : ByteOrder) (p : PageRecord) (color : ColorType) (position : ChunkCursor) (failed : Type 0) (at len : ℕ) (old row : List ℕ) (r : Result ChunkCursor TiffError)
     → length row ≡ len → at + len ≤ length old → RowRead file order p color position (Unit {0}) failed row r
     → RowPut file order p color position failed at len old (put_mid at (at + len - at) old row) r
@@ -26,7 +26,7 @@ put_in_place file order p color position failed at len old row (Ok rest) e fits 
 put_in_place file order p color position failed at len old row (Err f) e fits h =
     subst (λ (n : ℕ). IsCause (Unit {0}) failed f (IsTooShort (bytes_left file position) (needed_of_row p color n) f)) e h
 
--- where it is put from a room
+-- a row that is written from a scratch buffer
 pub put_from_room : (order : ByteOrder) (p : PageRecord) (color : ColorType) (left rest : List ℕ) (at len : ℕ) (row old new : List ℕ)
     → length row ≡ len → TakesRow order p color left rest row → IsPut at row old new → PutsRow order p color left rest at len old new
 put_from_room order p color left rest at len row old new e takes put = record { row = row; all = e; takes = takes; put = put }

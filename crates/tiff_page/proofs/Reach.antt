@@ -1,4 +1,4 @@
--- Which bytes a source is asked for by reads of pixels.
+-- Which bytes reads of pixels ask a source for.
 use Rattle.std.proofs.Common.{◌≡◌, ℕ, ◌+◌, ◌-◌, ◌*◌, ◌<◌, ◌≤◌, Bool, true, false, List, Ok, Err, refl, ap, sym, subst, arith, ⊎_elim}
 use Rattle.std.specs.Prelude.{Result, slice_index, if◌then◌else◌}
 use Rattle.std.proofs.lemmas.Bool.{cases_lt}
@@ -42,13 +42,13 @@ counted_fewer false at count a b h t r = part_readable t at b at a (omega arith)
 data_fewer : (p : PageRecord) (i a b : ℕ) → a ≤ b → (t : SourceRecord) → DataReadable t p i b → DataReadable t p i a
 data_fewer p i a b h t r = counted_fewer (is_packed p.method) (slice_index p.offsets i) (slice_index p.byte_counts i) a b h t r
 
--- a position that is as many bytes behind one as that one and this are behind each other
+-- a position after one that is after another
 pub moves_on : (from mid rest : ChunkCursor) (a b n : ℕ) → a + b ≡ n → Moves from a mid → Moves mid b rest → Moves from n rest
 moves_on from mid rest a b n e g m t k r =
     let x : n + k ≡ a + (b + k) = omega (arith, e) in
     m t k (g t (b + k) (subst (StoredReadable t from) x r))
 
--- some more bytes of so many are read
+-- some more of the bytes are read
 pub more_asked : (from mid : ChunkCursor) (a b n : ℕ) (e : TiffError) (s t : SourceRecord) → t ≡ s → a + b ≤ n → Moves from a mid
     → (StoredReadable t mid b → IsNotDevice e) → StoredReadable s from n → IsNotDevice e
 more_asked from mid a b n e s t same l g asked r =
@@ -59,7 +59,7 @@ asked_as s n m t r same a = subst (λ (k : ℕ). AsksOnly (StoredReadable t s k)
 
 -- ---- the data of a chunk
 
--- a position is so many bytes behind the front of a chunk's data
+-- a position is n bytes after the front of a chunk's data
 abbrev pub StandsAt : PageRecord → ℕ → ℕ → ChunkCursor → Type 0
 StandsAt p i at position = (t : SourceRecord) (m : ℕ) → DataReadable t p i (at + m) → StoredReadable t position m
 
@@ -67,17 +67,17 @@ pub stands_on : (p : PageRecord) (i at n next : ℕ) (position rest : ChunkCurso
 stands_on p i at n next position rest l s h t m r =
     h t m (s t (n + m) (data_fewer p i (at + (n + m)) (next + m) (omega (arith, l)) t r))
 
--- so does the front itself, by no or more bytes
+-- the front is 0 bytes after itself
 pub front_stands : (p : PageRecord) (i at : ℕ) (position : ChunkCursor) → ((t : SourceRecord) (n : ℕ) → DataReadable t p i n → StoredReadable t position n) → StandsAt p i at position
 front_stands p i at position e t m r = e t m (data_fewer p i m (at + m) (omega arith) t r)
 
--- bytes within those that are needed of a chunk are read
+-- bytes within the needed bytes of a chunk are read
 pub chunk_asked : (p : PageRecord) (color : ColorType) (i at n : ℕ) (position : ChunkCursor) (e : TiffError) (s t : SourceRecord) → t ≡ s → at + n ≤ needed_bytes p color i
     → StandsAt p i at position → (StoredReadable t position n → IsNotDevice e) → ChunkReadable s p color i → IsNotDevice e
 chunk_asked p color i at n position e s t same l stands asked r =
     asked (stands t n (data_fewer p i (at + n) (needed_bytes p color i) l t (subst (λ x. ChunkReadable x p color i) (sym same) r)))
 
--- a row, and the bytes behind it up to the next one, are within those that are needed
+-- a row, and the bytes after it up to the next one, are within the needed bytes
 pub row_within : (row h stored need gap : ℕ) → row < h → need + gap ≤ stored → (row + 1 ≡ h → gap ≡ 0) → row * stored + (need + gap) ≤ (h - 1) * stored + need
 row_within row h stored need gap l w e =
     ⊎_elim
@@ -125,7 +125,7 @@ module _ (p : PageRecord) (color : ColorType) (k row n : ℕ) (position : ChunkC
       let x : row * stored ≤ (h - 1) * stored = mul-le-mul_right stored (omega (arith, rl)) in
       chunk_asked p color k at (needed_of_row p color n) position e s t same (omega (arith, x, need_is)) stands asked
 
-  -- and the bytes behind it are passed
+  -- the bytes after a row are skipped
   module _ (rest : ChunkCursor) (behind : ℕ) (within : need ≤ stored) (moves : Moves position (needed_of_row p color n) rest)
       (between : row + 1 < h → behind ≡ stored - need) (last : row + 1 ≡ h → behind ≡ 0) where
     gap : need + behind ≤ stored
@@ -162,7 +162,7 @@ image_asked p color planes stride chunk e s t same l asked r =
           subst (λ k. ChunkReadable t p color k) x (subst (λ z. ChunkReadable z p color (plane * chunks_of_plane p + (0 + chunk))) (sym same) (r.chunk plane pl chunk l));
     })
 
--- the first chunk is one of them
+-- the first chunk is in the part
 pub first_readable : (file : List ℕ) (order : ByteOrder) (p : PageRecord) (request : ReadRequest) (s : SourceRecord) → HasSides p → IsLaid p request
     → PartReadable s p (color_in request) (part_of file order p request) → ChunkReadable s p (color_in request) (first_in request)
 first_readable file order p (Image layout planes) s sides laid r =
@@ -176,27 +176,27 @@ part_same : (file other : List ℕ) (order : ByteOrder) (p : PageRecord) (reques
 part_same file other order p (Image layout planes) = refl
 part_same file other order p (Chunk color i stride) = refl
 
--- a portion is read, from a source that tells the same
+-- a portion is read from a source with the same bytes
 pub portion_filled : (order : ByteOrder) (p : PageRecord) (request : ReadRequest) (e : TiffError) (s t : SourceRecord) → t ≡ s
     → (PartReadable t p (color_in request) (part_of t.bytes order p request) → IsNotDevice e)
     → PartReadable s p (color_in request) (part_of s.bytes order p request) → IsNotDevice e
 portion_filled order p request e s t same asked r =
     asked (subst (λ z. PartReadable z p (color_in request) (part_of z.bytes order p request)) (sym same) r)
 
--- ---- what a layout tells
+-- ---- what a layout defines
 
--- the part that the layout tells was read
+-- the part that the layout defines was read
 pub laid_asked : {X : Type 0} (p : PageRecord) (laid : Result LayoutRecord TiffError) (part : LayoutRecord → Part) (l : LayoutRecord) (here : Part) (s : SourceRecord) (r : Result X TiffError)
     → laid ≡ Ok l → here ≡ part l → AsksOnly (PartReadable s p l.color here) r → AsksOnly (LaidReadable s p laid part) r
 laid_asked p laid part l here s r given same a =
     asks_more (PartReadable s p l.color here) (LaidReadable s p laid part) r (λ q. subst (λ (x : Part). PartReadable s p l.color x) (sym same) (q.part_readable l given)) a
 
--- the same of an error that is passed on
+-- the part that the layout defines, with an error that is passed on
 pub laid_error : (p : PageRecord) (laid : Result LayoutRecord TiffError) (part : LayoutRecord → Part) (l : LayoutRecord) (here : Part) (s : SourceRecord) (e : TiffError)
     → laid ≡ Ok l → here ≡ part l → (PartReadable s p l.color here → IsNotDevice e) → LaidReadable s p laid part → IsNotDevice e
 laid_error p laid part l here s e given same a q = a (subst (λ (x : Part). PartReadable s p l.color x) (sym same) (q.part_readable l given))
 
--- a chunk's bytes don't depend on how far its rows lie apart
+-- the bytes of a chunk don't depend on the distance of its rows
 pub strided_asked : {X : Type 0} (p : PageRecord) (laid : Result LayoutRecord TiffError) (i stride : ℕ) (l : LayoutRecord) (s : SourceRecord) (r : Result X TiffError)
     → laid ≡ Ok l → AsksOnly (PartReadable s p l.color (chunk_part p i 1 stride)) r → AsksOnly (LaidReadable s p laid (λ l. chunk_part p i 1 l.row_bytes)) r
 strided_asked p laid i stride l s r given a =

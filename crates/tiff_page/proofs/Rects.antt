@@ -12,7 +12,7 @@ use Rattle.tiff_page.specs.PositionLaws as law
 abbrev pub Holds : List ℕ → ℕ → List ℕ → List ℕ → Type 0
 Holds old at bytes new = new ≡ take at old ++ (bytes ++ drop (at + length bytes) old)
 
--- as a goal shows a buffer after a write to a part of it
+-- the buffer after a write to a part of it, as a goal has it
 pub holds_put_mid : (old part : List ℕ) (a n : ℕ) → length part ≡ n → Holds old a part (put_mid a (a + n - a) old part)
 holds_put_mid old part a n l =
     let e : a + n - a ≡ n = omega arith in
@@ -57,11 +57,11 @@ writes_more P Q R value old mid new f g k a b = (
       (b.1 i (omega (arith, a.0, l))),
 )
 
--- the same values under another name
+-- writes of equal values
 pub writes_as : (P : ℕ → Type 0) (f g : ℕ → ℕ) (old new : List ℕ) → ((i : ℕ) → P i → f i ≡ g i) → Writes P f old new → Writes P g old new
 writes_as P f g old new e w = (w.0, λ i l. ⊎_elim (λ p. inl (p.0, p.1 ∙ e i p.0)) (λ p. inr p) (w.1 i l))
 
--- the same positions under another name
+-- writes to the same positions
 pub writes_same : (P Q : ℕ → Type 0) (value : ℕ → ℕ) (old new : List ℕ) → ((i : ℕ) → P i → Q i) → ((i : ℕ) → Q i → P i)
     → Writes P value old new → Writes Q value old new
 writes_same P Q value old new f g w = (w.0, λ i l. ⊎_elim (λ p. inl (f i p.0, p.1)) (λ p. inr (λ q. p.0 (g i q), p.1)) (w.1 i l))
@@ -92,7 +92,7 @@ of_row stride top r left len at i e q l h =
     let f : i / stride * stride ≡ (top + r) * stride = ap (λ z. z * stride) q in
     (omega (arith, e, l, d, f), omega (arith, e, h, d, f))
 
--- one more row of a rectangle is put
+-- one more row of a rectangle is put into the buffer
 pub row_put_there : (value : ℕ → ℕ → ℕ) (stride top r left len at : ℕ) (bytes old mid new : List ℕ) → left + len ≤ stride → at ≡ (top + r) * stride + left
     → length bytes ≡ len → ((k : ℕ) → k < len → get_or bytes k 0 ≡ value r k)
     → Writes (IsIn stride top r left len) (in_rect value stride top left) old mid

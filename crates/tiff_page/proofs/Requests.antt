@@ -1,4 +1,4 @@
--- The samples of an image or a chunk, whose bytes are put into a list of numbers.
+-- The samples of an image or a chunk, whose bytes are written into a list of numbers.
 use Rattle.std.proofs.Common.{◌≡◌, ℕ, zero, suc, ◌+◌, ◌*◌, ◌/◌, ◌%◌, ◌<◌, ◌≤◌, true, false, List, length, get_or, None, Ok, Err, refl, ap, sym, subst, ◌∙◌, arith, ⊎_elim}
 use Rattle.std.specs.Prelude.{replicate, unwrap_or, nat_lt}
 use Rattle.std.specs.Int.{div_ceil}
@@ -36,7 +36,7 @@ use Rattle.tiff_page.proofs.PositionLaws.{chunks_within, cases_fault}
 use Rattle.tiff_page.proofs.Planes.{layout_gives}
 use Rattle.tiff_page.proofs.Rows.{each_same, by_size}
 
--- ---- early faults
+-- ---- early errors
 
 pub portion_early : (wanting failed : Type 0) (file : List ℕ) (order : ByteOrder) (p : PageRecord) (limits : Limits) (request : ReadRequest) (color : ColorType) (type : DecodingSampleType) (first len : ℕ) (e : TiffError)
     → HasSides p → IsLaid p request → sample_type_of p ≡ Ok type → color ≡ color_in request → first ≡ first_in request
@@ -51,13 +51,13 @@ portion_early wanting failed file order p limits (Chunk shade i stride) color ty
     (subst (λ (n : ℕ). IsCause wanting failed e (early_fault file p limits shade type n len ≡ Err e)) f
     (subst (λ (c : ColorType). IsCause wanting failed e (early_fault file p limits c type first len ≡ Err e)) c h))
 
--- no early fault is none of the limit
+-- without an early error, there is no error of the limit
 pub within_limit : (file : List ℕ) (p : PageRecord) (limits : Limits) (color : ColorType) (type : DecodingSampleType) (first len : ℕ)
     → early_fault file p limits color type first len ≡ Ok tt → limit_fault limits (size_of type) len ≡ Ok tt
 within_limit file p limits color type first len h =
     ⊎_elim (λ ok. ok) (λ er. let g : Err er.0 ≡ Ok tt = rw (er.1) at h in cc) (cases_fault (limit_fault limits (size_of type) len))
 
--- ---- what stands behind a portion
+-- ---- what follows a portion
 
 module _ (file : List ℕ) (order : ByteOrder) (p : PageRecord) where
   past : (color : ColorType) (r : Region) (stride planes i : ℕ) → row_bytes p color r.width ≤ stride → 0 < r.height → planes * (stride * r.height) ≤ i
@@ -104,7 +104,7 @@ placed_in_zeros file order p color region stride planes n =
     ap (λ (k : ℕ). tabulate k (λ i. found i (get_or (replicate n 0) i 0))) count
     ∙ each_same n (λ i. found i (get_or (replicate n 0) i 0)) (λ i. found i 0) (λ i l. ap (found i) (zero_in n i))
 
--- a list by its positions, with zeros behind them
+-- a list by its positions, with zeros after it
 at_position : (f : ℕ → ℕ) (n i : ℕ) → ((k : ℕ) → n ≤ k → f k ≡ 0) → get_or (tabulate n f) i 0 ≡ f i
 at_position f n i none =
     ⊎_elim
@@ -112,7 +112,7 @@ at_position f n i none =
     (λ (l : n ≤ i). get_or_past (tabulate n f) i 0 (omega (arith, l, length-map-range_with_len f 0 n)) ∙ sym (none i l))
     (cases_lt i n)
 
--- numbers of bytes that are filled up are the same
+-- numbers of bytes that are filled up with zeros are the same
 filled_up : (size : ℕ) (f : ℕ → ℕ) (n : ℕ) → IsSize size → ((k : ℕ) → n ≤ k → f k ≡ 0) → numbers_in size (tabulate (div_ceil n size * size) f) ≡ numbers_in size (tabulate n f)
 unfolding numbers_in
 filled_up size f n z none =
@@ -147,7 +147,7 @@ module _ (file : List ℕ) (order : ByteOrder) (p : PageRecord) (limits : Limits
   none_behind : (len i : ℕ) → room_of p request ≤ len → len ≤ i → in_place i ≡ 0
   none_behind len i room l = ap (λ o. unwrap_or o 0) (portion_past file order p request i sides laid (omega (arith, room, l)))
 
-  -- bytes that are filled into some zeros were filled
+  -- bytes that were filled into some zeros
   filled_bytes : (zeros new : List ℕ) → fill_buffer file order p limits (color_in request) part zeros ≡ Ok new
       → (part_fault file order p limits (color_in request) part ≡ Ok tt) × (new ≡ bytes_with_region file order p (color_in request) part.region part.stride part.planes zeros)
   unfolding fill_buffer
@@ -168,7 +168,7 @@ module _ (file : List ℕ) (order : ByteOrder) (p : PageRecord) (limits : Limits
       (λ er. let g : Err er.0 ≡ Err e = rw (er.1) at h in let q : er.0 ≡ e = cc in er.1 ∙ ap Err q)
       (cases_fault (part_fault file order p limits (color_in request) part))
 
-  -- the samples, where bytes were filled into as many zeros as whole numbers take
+  -- the samples, if bytes were filled into as many zeros as whole numbers take
   pub numbers_given : (color : ColorType) (type : DecodingSampleType) (size first len : ℕ) (before after : List ℕ) → IsSize size → size_of type ≡ size → sample_type_of p ≡ Ok type
       → early_fault file p limits color type first len ≡ Ok tt → room_of p request ≤ len → before ≡ replicate (div_ceil len size) 0
       → fill_buffer file order p limits (color_in request) part (bytes_in size before) ≡ Ok (bytes_in size after)
@@ -184,7 +184,7 @@ module _ (file : List ℕ) (order : ByteOrder) (p : PageRecord) (limits : Limits
       rw (typed, within_limit file p limits color type first len early, f.0)
       (ap Ok (λ i. record { sample_type = type; numbers = ((λ t. numbers_in (sized t) (bytes_with_region file order p (color_in request) part.region part.stride part.planes (replicate len 0))) ∙ numbers) i }))
 
-  -- the same of the bytes of these zeros
+  -- the samples, from the bytes of these zeros
   pub zeros_filled : (color : ColorType) (type : DecodingSampleType) (size first len : ℕ) (after : List ℕ) → IsSize size → size_of type ≡ size → sample_type_of p ≡ Ok type
       → early_fault file p limits color type first len ≡ Ok tt → room_of p request ≤ len
       → fill_buffer file order p limits (color_in request) part (replicate (div_ceil len size * size) 0) ≡ Ok (bytes_in size after)
@@ -194,7 +194,7 @@ module _ (file : List ℕ) (order : ByteOrder) (p : PageRecord) (limits : Limits
       numbers_given color type size first len zeros after z sized typed early room refl
       (ap (fill_buffer file order p limits (color_in request) part) (zeros_in size (div_ceil len size) zeros z refl) ∙ h)
 
-  -- and the bytes, where these are the numbers
+  -- the bytes, if these are the numbers
   pub bytes_given : (color : ColorType) (type : DecodingSampleType) (first len : ℕ) (before after : List ℕ) → size_of type ≡ 1 → sample_type_of p ≡ Ok type
       → early_fault file p limits color type first len ≡ Ok tt → before ≡ replicate len 0
       → fill_buffer file order p limits (color_in request) part before ≡ Ok after
@@ -208,7 +208,7 @@ module _ (file : List ℕ) (order : ByteOrder) (p : PageRecord) (limits : Limits
       rw (typed, within_limit file p limits color type first len early, f.0)
       (ap Ok (λ i. record { sample_type = type; numbers = ((λ t. numbers_in (sized t) (bytes_with_region file order p (color_in request) part.region part.stride part.planes (replicate len 0))) ∙ numbers) i }))
 
-  -- a fault of filling is one of the samples
+  -- an error of filling is an error of the samples
   pub filling_cause : (failed failed' : Type 0) (color : ColorType) (type : DecodingSampleType) (first len : ℕ) (zeros : List ℕ) (e : TiffError) → (failed → failed') → sample_type_of p ≡ Ok type
       → early_fault file p limits color type first len ≡ Ok tt
       → IsCause (Unit {0}) failed e (fill_buffer file order p limits (color_in request) part zeros ≡ Err e)

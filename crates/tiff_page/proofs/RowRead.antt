@@ -1,4 +1,4 @@
--- A row is read: its bytes are taken, and handed out.
+-- A row is read: its bytes are taken and output.
 use Rattle.std.proofs.Common.{◌≡◌, ℕ, ◌+◌, ◌*◌, ◌/◌, ◌<◌, ◌≤◌, ◌⊎◌, true, false, List, ◌++◌, take, drop, length, ap, sym, ◌∙◌, inl, inr, ⊎_elim, arith}
 use Rattle.std.specs.Prelude.{Result, Ok, Err, slice_index}
 use Rattle.std.proofs.lemmas.Bool.{cases_lt}
@@ -39,7 +39,7 @@ taken order p color left rest filled out e n h =
       handed = λ b bl. h b bl ∙ ap (λ (z : List ℕ). handed_byte order p z color b) (sym t);
     }
 
--- numbers that were turned on their way, and such as are read as they stand
+-- numbers that were byte-swapped, and numbers that are read as they are stored
 pub turned_taken : (order : ByteOrder) (p : PageRecord) (left rest row out : List ℕ) → needs_swap order p.depth ≡ true
     → length out / (p.depth / 8) * (p.depth / 8) ≡ length out → length row ≡ length out → left ≡ row ++ rest → TurnsNumbers (p.depth / 8) row out
     → TakesNumbers order p left rest out
@@ -82,7 +82,7 @@ pub whole_cause : (p : PageRecord) (color : ColorType) (failed : Type 0) (left :
 whole_cause p color failed left m e w c =
     cause_along e (λ z. z) (λ f. f) (λ t. record { fault = t.fault; short = rw w t.short }) c
 
--- a row of whole bytes is one of whole numbers
+-- a row of whole bytes is a row of whole numbers
 pub row_of_numbers : (p : PageRecord) (color : ColorType) (width n : ℕ) → StoresAllShown p color → n ≡ row_bytes p color width
     → (p.depth < 8) ⊎ (n / (p.depth / 8) * (p.depth / 8) ≡ n)
 unfolding row_bits

@@ -1,4 +1,4 @@
--- What is known of a page that passed the tests of its form.
+-- Facts of a page that passed the checks of its form.
 use Rattle.std.proofs.Common.{List, suc, ◌-◌, [], ◌∷◌, ◌≡◌, ℕ, ◌/◌, ◌<◌, ◌≤◌, Bool, true, false, Ok, Err, refl, sym, subst, ◌∙◌, ◌⊎◌, inl, inr, ⊎_elim, arith}
 use Rattle.std.specs.Prelude.{Result, length, slice_index, if◌then◌else◌, nat_le, nat_lt, ◌==◌}
 use Rattle.std.proofs.lemmas.Bool.{cases_Bool, cases_lt, eqb-true, lt-ltb, le-ltb}
@@ -28,9 +28,9 @@ use Rattle.tiff_page.specs.Row.{IsSize}
 use Rattle.tiff_page.specs.ReadablePage.{IsRead, FormRead}
 use Rattle.tiff_page.proofs.Planes.{Shows, color_shows, shown_some, read_depth}
 
--- ---- the samples of a color are of the page
+-- ---- the samples of a color are samples of the page
 
--- what a color shows of so many samples; gray and bands show all
+-- how many samples a color has; gray and bands have all
 abbrev pub AllShown : ColorType → ℕ → Type 0
 AllShown (Gray d) n = 1 ≡ n
 AllShown (Multiband d m) n = m ≡ n
@@ -44,7 +44,7 @@ no_color_stores : (p : PageRecord) → Stores p.samples (no_color p)
 unfolding no_color
 no_color_stores p = tt
 
--- what is given where a count is a number
+-- the result if a count is a number
 where_is : {A : Type 0} (P : A → Type 0) (n k : ℕ) (x y : A) → (n ≡ k → P x) → P y → P (if n == k then x else y)
 where_is P n k x y a b =
     ⊎_elim (λ (t : (n == k) ≡ true). subst (λ (z : Bool). P (if z then x else y)) (sym t) (a (eqb-true n k t)))
@@ -132,7 +132,7 @@ not_whole d h =
     (λ o. ⊎_elim (λ (e : d / 8 ≡ 2). omega (arith, e, h)) (λ q. ⊎_elim (λ (e : d / 8 ≡ 4). omega (arith, e, h)) (λ (e : d / 8 ≡ 8). omega (arith, e, h)) q) o) (whole_size d t)))
     (λ f. f) (cases_Bool (is_byte_multiple d))
 
--- with depths below 8
+-- depths below 8
 packed_fault : (p : PageRecord) (c : ColorType) → p.depth < 8 → depth_fault p c ≡ (if is_gray c then refuse_predictor p.predictor c else Err (UnsupportedError (UnsupportedColorType c)))
 unfolding depth_fault
 packed_fault p c h = rw (not_whole p.depth h, lt-ltb p.depth 8 h) refl

@@ -35,7 +35,7 @@ pub number_same : (order : ByteOrder) (size : ℕ) (new old : List ℕ) (k : ℕ
 number_same order size new old k e =
     ap (number order (width_of size)) (each_same size (λ j. get_or new (k * size + j) 0) (λ j. get_or old (k * size + j) 0) (λ j h. e (k * size + j) (omega arith) (omega (arith, h))))
 
--- the bytes of a number as a part of the row
+-- the bytes of a number are a part of the row
 pub each_at : (size k : ℕ) (row : List ℕ) → (k + 1) * size ≤ length row → tabulate size (λ j. get_or row (k * size + j) 0) ≡ bytes_at row (k * size) size
 each_at size k row h =
     let l : length (bytes_at row (k * size) size) ≡ size = length-take-le size (drop (k * size) row) (omega (arith, h, length-drop (k * size) row)) in
@@ -47,12 +47,12 @@ each_at size k row h =
 
 -- ---- the four sizes
 
--- the number of n digits, the least first
+-- the number of n digits, the least significant first
 abbrev pub digits : (ℕ → ℕ) → ℕ → ℕ
 digits f zero = 0
 digits f (suc n) = digits f n + 256 ^ n * f n
 
--- what holds of the four sizes
+-- facts of the four sizes
 pub by_size : (P : ℕ → Type 0) (size : ℕ) → P 1 → P 2 → P 4 → P 8 → IsSize size → P size
 by_size P size a b c d (inl e) = subst P (sym e) a
 by_size P size a b c d (inr (inl e)) = subst P (sym e) b
@@ -64,7 +64,8 @@ unfolding number
 little_digits size f s =
     by_size (λ n. number LittleEndian (width_of n) (tabulate n f) ≡ digits f n) size (omega arith) (omega arith) (omega arith) (omega arith) s
 
--- the most significant first is the least first the other way round
+-- the number with the most significant byte first is the reversed number with the least significant
+-- byte first
 pub big_as_little : (size : ℕ) (f : ℕ → ℕ) → IsSize size → number BigEndian (width_of size) (tabulate size f) ≡ number LittleEndian (width_of size) (tabulate size (λ j. f (size - 1 - j)))
 unfolding number
 big_as_little size f s =
@@ -170,7 +171,7 @@ sum_more g n =
     ap (λ (m : ℕ). sum_by g (range_with_len 0 m)) (add-one n) ∙ ap (sum_by g) (range_more 0 n) ∙ sum_by_push g (range_with_len 0 n) (0 + n)
     ∙ (let z : 0 + n ≡ n = omega arith in ap (λ (m : ℕ). sum_by g (range_with_len 0 n) + g m) z)
 
--- f k, with those by whole pixels before it
+-- f k, plus f at the positions before k that are whole pixels away
 abbrev strided : (ℕ → ℕ) → ℕ → ℕ → ℕ
 strided f s k = sum_by (λ c. f (c * s + k % s)) (range_with_len 0 (k / s + 1))
 
@@ -253,7 +254,7 @@ sum_same (suc n) a f g e =
     sum_by-cons f a (range_with_len (a + 1) n) ∙ (λ i. e a (omega arith) (omega arith) i + sum_same n (a + 1) f g (λ j h l. e j (omega (arith, h)) (omega (arith, l))) i)
     ∙ sym (sum_by-cons g a (range_with_len (a + 1) n))
 
--- the same sum from its last number back
+-- the sum from its last number back
 back : (f : ℕ → ℕ) (s r c : ℕ) → sum_by (λ n. f (c * s + r - n * s)) (range_with_len 0 (suc c)) ≡ sum_by (λ n. f (n * s + r)) (range_with_len 0 (suc c))
 back f s r zero = sum_same 1 0 (λ n. f (0 * s + r - n * s)) (λ n. f (n * s + r)) (λ j h l. (let z : j ≡ 0 = omega (arith, l) in let y : 0 * s + r - 0 * s ≡ 0 * s + r = omega arith in subst (λ (n : ℕ). f (0 * s + r - n * s) ≡ f (n * s + r)) (sym z) (ap f y)))
 back f s r (suc c) =
@@ -304,7 +305,7 @@ joins_same size s count new old k n e h w =
     (sum_same ((j * count + k) / s + 1) 0 (λ i. get_or new (j * count + k - i * s) 0) (λ i. get_or old (j * count + k - i * s) 0)
     (λ i a b. e (j * count + k - i * s) (omega (arith, o, h, w))))))
 
--- where a byte of a plane stands
+-- where a byte of a plane is
 pub plane_within : (size count j k len : ℕ) → j < size → k < count → size * count ≤ len → (size - 1 - j) * count + k < len
 plane_within size count j k len a b h =
     let n : (size - 1 - j) * count ≤ (size - 1) * count = mul-le-mul_right count (omega arith) in
@@ -318,7 +319,7 @@ pub put_at : (row part : List ℕ) (at k j : ℕ) → at + k ≤ length row → 
 put_at row part at k j h l b =
     sym (get_or-drop at (put_mid at k row part) j 0) ∙ sym (get_or-take k (drop at (put_mid at k row part)) j 0 b) ∙ ap (λ (xs : List ℕ). get_or xs j 0) (put_there row part at k h l)
 
--- one more number of planes is put together
+-- one more number of planes is joined
 pub join_more : (size count k n m : ℕ) (planes row part : List ℕ) → n ≡ size → m ≡ size → length part ≡ size → (k + 1) * size ≤ length row
     → ((j : ℕ) → j < length part → get_or part j 0 ≡ get_or planes ((m - 1 - j) * count + k) 0)
     → ((i : ℕ) → i < k → (j : ℕ) → j < size → get_or row (i * size + j) 0 ≡ get_or planes ((size - 1 - j) * count + i) 0)
@@ -356,7 +357,7 @@ joined size s old mid planes new z whole l m sums e each =
       behind = λ i h. get_or_past new i 0 (omega (arith, h, whole, m)) ∙ sym (get_or_past old i 0 (omega (arith, h, whole)));
     }
 
--- ---- numbers the other way round
+-- ---- numbers in the other byte order
 
 pub stayed : (size : ℕ) (old : List ℕ) → RowReplaced size (row_number LittleEndian size old) old old
 stayed size old = record { numbers = λ k h. refl; behind = λ i h. refl }
@@ -402,7 +403,7 @@ pub turns_8 : (row old part : List ℕ) (at n k : ℕ) → k ≡ 8 → (at + 1) 
 turns_8 row old part at n k e w l b p q =
     turns 8 row old part at n k e (ap length p) w l (as_bytes w64 part ∙ ap (from_le_bytes w64) p ∙ from_le_bytes-to_le_bytes_8 n b) q
 
--- one more number is turned
+-- one more number is byte-swapped
 pub turned_more : (size : ℕ) (row mid new : List ℕ) (k : ℕ) → TurnsNumber size row k mid new
     → ((j : ℕ) → j < k → row_number LittleEndian size mid j ≡ row_number BigEndian size row j)
     → (j : ℕ) → j < k + 1 → row_number LittleEndian size new j ≡ row_number BigEndian size row j
@@ -416,11 +417,11 @@ turned_more size row mid new k a done j l =
     subst (λ (i : ℕ). row_number LittleEndian size new i ≡ row_number BigEndian size row i) e a.turned)
     (cases_lt j k)
 
--- a row of one byte each is the same in either order
+-- a row of numbers of one byte is the same in either order
 pub bytes_turned : (size : ℕ) (row : List ℕ) → size ≡ 1 → TurnsNumbers size row row
 bytes_turned size row e = subst (λ (n : ℕ). TurnsNumbers n row row) (sym e) (λ k h. one_byte BigEndian row k)
 
--- of whole numbers, no byte stands behind the last
+-- after the last whole number, there is no byte
 pub all_turned : (size : ℕ) (row new : List ℕ) → length row / size * size ≡ length row → length new ≡ length row → TurnsNumbers size row new
     → RowReplaced size (row_number BigEndian size row) row new
 all_turned size row new whole l t = record {

@@ -23,7 +23,7 @@ pub planes_some : (c : PlanarConfiguration) (s : ℕ) → 0 < s → 0 < planes_o
 planes_some Chunky s h = omega arith
 planes_some Planar s h = h
 
--- the chunks of a plane are some, and below 2^32
+-- a plane has at least one chunk, and fewer than 2^32
 pub plane_some : (w h cw ch : ℕ) → 0 < w → 0 < h → 0 < cw → 0 < ch → 0 < parts w cw * parts h ch
 plane_some w h cw ch a b c d = one-le-mul (parts_some w cw c a) (parts_some h ch d b)
 

@@ -36,7 +36,7 @@ byte_held last pixel j v l m held i h =
 pub byte_kept : (old xs : List ℕ) (j v : ℕ) → ((i : ℕ) → j ≤ i → get_or xs i 0 ≡ get_or old i 0) → (i : ℕ) → j + 1 ≤ i → get_or (set xs j v) i 0 ≡ get_or old i 0
 byte_kept old xs j v kept i h = get_or-set_other xs j i v 0 (λ d. omega (arith, h, d)) ∙ kept i (omega (arith, h))
 
--- these bytes, added to those of a pixel, give its sums
+-- these bytes, plus those of a pixel, are its sums
 abbrev pub CarriesTo : ℕ → List ℕ → List ℕ → ℕ → Type 0
 CarriesTo s old last k = (j : ℕ) → j < s → (get_or last j 0 + get_or old (k * s + j) 0) % 256 ≡ summed_number LittleEndian 1 s old (k * s + j)
 
@@ -86,7 +86,7 @@ pub pixel_rest : (s k n : ℕ) (old row part : List ℕ) → n ≡ s → length 
 pixel_rest s k n old row part e l w rest i h =
     put_above row part (k * s) n i (omega (arith, w, e)) (omega (arith, l, e)) (omega (arith, h, e)) ∙ rest i (omega (arith, h))
 
--- the sums of a pixel are those that are carried to the next
+-- the sums of a pixel are the sums for the next one
 pub pixel_carries : (s k n : ℕ) (old row part last next : List ℕ) → n ≡ s → length part ≡ s → (k + 1) * s ≤ length row → 0 < s
     → ((j : ℕ) → j < length part → get_or part j 0 ≡ (get_or last j 0 + get_or (take n (drop (k * s) row)) j 0) % 256)
     → ((j : ℕ) → j < length part → get_or next j 0 ≡ get_or part j 0)

@@ -1,4 +1,4 @@
--- Memory that is wanted for a layout is wanted for a fault that carries a list.
+-- Computing a layout runs out of memory only for an error that contains a list.
 use Rattle.std.proofs.Common.{◌≡◌, ℕ, Ok, Err, subst, sym}
 use Rattle.std.specs.Prelude.{Result}
 use Rattle.tiff_base.specs.declared.error.TiffError.{TiffError}
@@ -10,7 +10,7 @@ use Rattle.tiff_page.specs.Layout.{LayoutRecord, color_of, layout_of}
 use Rattle.tiff_page.specs.Buffers.{planes_layout}
 use Rattle.tiff_page.specs.EarlyFaults.{WantsAfter}
 
--- a fault is that of all that follows it
+-- an error that contains a list is the error of all steps after it
 fault_kept : {A B : Type 0} (r : Result A TiffError) (next : A → Result B TiffError) → IsListFault r → IsListFault (r >>= next)
 fault_kept (Ok x) next h = absurd h
 fault_kept (Err e) next h = h
@@ -19,7 +19,7 @@ list_allowed : {A : Type 0} (r : Result A TiffError) → IsListFault r → IsOkO
 list_allowed (Ok x) h = absurd h
 list_allowed (Err e) h = h
 
--- a layout's fault of its color is a list's
+-- the error of a layout's color contains a list
 pub layout_fault : (p : PageRecord) (width height : ℕ) → IsListFault (color_of p) → IsListFault (planes_layout p width height)
 unfolding planes_layout layout_of
 layout_fault p width height h = fault_kept _ _ (fault_kept (color_of p) _ h)
@@ -37,7 +37,7 @@ pub layout_of_fault : {B : Type 0} (p : PageRecord) (width height : ℕ) (next :
 unfolding layout_of
 layout_of_fault p width height next h = fault_kept (layout_of p width height) next (fault_kept (color_of p) _ h)
 
--- memory may be wanted where nothing is found early
+-- a call may run out of memory if no error is found early
 pub may_want : {X : Type 0} (early : Result (Unit {0}) TiffError) (result : Result X TiffError) → early ≡ Ok tt → WantsAfter early result
 may_want early (Ok x) h = tt
 may_want early (Err e) h = let P : Result (Unit {0}) TiffError → Type 0 = λ r. e ≡ OutOfMemory → IsOkOrList r in subst P (sym h) (λ m. tt)

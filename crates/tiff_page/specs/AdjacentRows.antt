@@ -5,8 +5,8 @@ use Rattle.tiff_base.specs.declared.tags.Predictor.TheVariants as predictor
 use Rattle.tiff_page.specs.Page.{PageRecord}
 use Rattle.tiff_page.specs.Pixels.{stored_row_bytes, needs_whole_rows}
 
--- Of each stored row all bytes are handed out, so many, and its rows follow one another in a buffer from its left edge on;
--- no number is told by others of its row.
+-- The rows of a chunk lie together: each stored row has `len` bytes, which are all output; the rows
+-- follow one another in the buffer from its left edge; and no number depends on others of its row.
 pub record LieTogether (p : PageRecord) (color : ColorType) (len left stride : ℕ) : Type 0 where
   pub from_edge : left ≡ 0
   pub in_buffer : stride ≡ len

@@ -7,13 +7,14 @@ use Rattle.tiff_page.specs.Rect.{rect, across, chunks_of_plane}
 use Rattle.tiff_page.specs.Layout.{row_bits, row_bytes}
 use Rattle.tiff_page.specs.Pixels.{chunk_region, region_byte, image_region}
 
--- each position with P has its value in new, and each other what it had in old
+-- new has at each position with P its value, and at each other position the value of old
 abbrev pub Writes : (ℕ → Type 0) → (ℕ → ℕ) → List ℕ → List ℕ → Type 0
 Writes P value old new =
     (length new ≡ length old)
     × ((i : ℕ) → i < length old → (P i × (slice_index new i ≡ value i)) ⊎ ((P i → ⊥) × (slice_index new i ≡ slice_index old i)))
 
--- a position of a rectangle: so many rows from the top one on, and in each so many bytes from the left one on
+-- a position of a rectangle of `rows` rows from row `top` on, with `len` bytes in each row from
+-- byte `left` on
 pub record IsIn (stride top rows left len i : ℕ) : Type 0 where
   pub below : top ≤ i / stride
   pub above : i / stride < top + rows
@@ -24,11 +25,12 @@ pub record IsIn (stride top rows left len i : ℕ) : Type 0 where
 abbrev pub in_rect : (ℕ → ℕ → ℕ) → ℕ → ℕ → ℕ → ℕ → ℕ
 in_rect value stride top left i = value (i / stride - top) (i % stride - left)
 
--- a byte of a row of a chunk, as it is handed out
+-- a byte of a row of a chunk, as it is output
 abbrev pub chunk_byte : List ℕ → ByteOrder → PageRecord → ColorType → ℕ → ℕ → ℕ → ℕ
 chunk_byte file order p color k row b = region_byte file order p color (chunk_region p k) (rect p k).plane row b
 
--- the rows of a chunk stand in a buffer a stride apart, from a row and a byte of it on, and all else of it stays
+-- a buffer contains the rows of a chunk, a stride apart, from row `top` and byte `left` on, and is
+-- otherwise unchanged
 abbrev pub WritesChunk : List ℕ → ByteOrder → PageRecord → ColorType → ℕ → ℕ → ℕ → ℕ → List ℕ → List ℕ → Type 0
 WritesChunk file order p color k stride top left old new =
     Writes (IsIn stride top (rect p k).height left (row_bytes p color (rect p k).width)) (in_rect (chunk_byte file order p color k) stride top left) old new
@@ -38,7 +40,7 @@ module _ (p : PageRecord) (color : ColorType) (stride : ℕ) where
   abbrev pub plane_of : ℕ → ℕ
   plane_of i = i / stride / p.height
 
-  -- the chunk of a plane that a position belongs to
+  -- the chunk of a plane to which a position belongs
   abbrev pub chunk_of : ℕ → ℕ
   chunk_of i = i / stride % p.height / p.chunk_height * across p + i % stride / row_bytes p color p.chunk_width
 
@@ -54,7 +56,7 @@ module _ (p : PageRecord) (color : ColorType) (stride : ℕ) where
   IsInChunk plane j i =
       IsIn stride (top_of plane j) (rect p (plane * chunks_of_plane p + j)).height (left_of plane j) (row_bytes p color (rect p (plane * chunks_of_plane p + j)).width) i
 
-  -- so many bytes hold the rows of the j-th chunk of each of n planes
+  -- `len` bytes hold the rows of the j-th chunk of each of n planes
   abbrev pub HoldsChunk : ℕ → ℕ → ℕ → Type 0
   HoldsChunk n j len = (plane : ℕ) → plane < n → (top_of plane j + (rect p (plane * chunks_of_plane p + j)).height) * stride ≤ len
 
@@ -63,7 +65,8 @@ module _ (p : PageRecord) (color : ColorType) (stride : ℕ) where
     pub of_plane : plane_of i ≡ plane
     pub of_chunk : chunk_of i ≡ j
 
-  -- a position of a chunk below the j-th of a plane below n, or of the j-th of a plane below another
+  -- a position, in the first n planes, of a chunk below the j-th, or of the j-th chunk of a plane
+  -- below `plane`
   pub record IsBefore (n j plane i : ℕ) : Type 0 where
     pub byte : i % stride < row_bytes p color p.width
     pub of_plane : plane_of i < n
@@ -73,18 +76,19 @@ module _ (p : PageRecord) (color : ColorType) (stride : ℕ) where
   abbrev pub image_byte : List ℕ → ByteOrder → ℕ → ℕ
   image_byte file order i = region_byte file order p color (image_region p) (plane_of i) (i / stride % p.height) (i % stride)
 
--- Of the image these chunks stand in a buffer that held something before: of each of n planes those below the j-th, and the
--- j-th of the planes below another; all else of it stays.
+-- A buffer contains these chunks of the image: of each of n planes the chunks below the j-th, and
+-- the j-th chunk of the planes below `plane`. The buffer is otherwise unchanged.
 abbrev pub WritesBefore : List ℕ → ByteOrder → PageRecord → ColorType → ℕ → ℕ → ℕ → ℕ → List ℕ → List ℕ → Type 0
 WritesBefore file order p color stride n j plane before new =
     Writes (IsBefore p color stride n j plane) (image_byte p color stride file order) before new
 
--- the j-th chunk of each of n planes is put beside those below it
+-- the j-th chunk of each of n planes is written, after the chunks below it
 abbrev pub WritesNext : List ℕ → ByteOrder → PageRecord → ColorType → ℕ → ℕ → ℕ → List ℕ → List ℕ → Type 0
 WritesNext file order p color stride n j old new =
     (before : List ℕ) → WritesBefore file order p color stride n j 0 before old → WritesBefore file order p color stride n j n before new
 
--- a chunk in a buffer, and those of further planes behind it, each of so many rows of so many bytes
+-- a position of a chunk in a buffer or of the chunks of further planes after it: n planes of `rows`
+-- rows of `len` bytes
 pub record IsInPlanes (stride rows len n i : ℕ) : Type 0 where
   pub byte : i % stride < len
   pub of_plane : i / stride / rows < n
@@ -92,7 +96,7 @@ pub record IsInPlanes (stride rows len n i : ℕ) : Type 0 where
 abbrev pub IsInUnit : PageRecord → ColorType → ℕ → ℕ → ℕ → ℕ → Type 0
 IsInUnit p color stride k n i = IsInPlanes stride (rect p k).height (row_bytes p color (rect p k).width) n i
 
--- the byte of these chunks at a position
+-- the byte at a position of a chunk and the chunks of further planes after it
 abbrev pub unit_byte : List ℕ → ByteOrder → PageRecord → ColorType → ℕ → ℕ → ℕ → ℕ
 unit_byte file order p color stride k i =
     region_byte file order p color (chunk_region p k) ((rect p k).plane + i / stride / (rect p k).height) (i / stride % (rect p k).height) (i % stride)

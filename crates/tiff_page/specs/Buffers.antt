@@ -1,4 +1,5 @@
--- How buffers for decoded samples are laid out (as in the Rust crate; the order of faults is this project's).
+-- How buffers for decoded samples are laid out (as in the Rust crate; the order of errors is this
+-- project's).
 use Rattle.std.specs.Prelude.{ℕ, ◌*◌, ◌^◌, replicate, Option, Some, None, Result, Ok, Err, if◌then◌else◌, nat_lt}
 use Rattle.std.specs.Int.{div_ceil}
 use Rattle.tiff_base.specs.declared.error.TiffError.{TiffError}
@@ -18,19 +19,19 @@ use Rattle.tiff_page.specs.Layout.{LayoutRecord, layout_of, planes, wide, sample
 use Rattle.tiff_page.specs.PixelFault.{limit_fault}
 use Rattle.tiff_page.specs.Image.{Decoded}
 
--- the layout of a part of an image all of whose planes are below 2^64 bytes
+-- the layout of a part of an image all of whose planes have together fewer than 2^64 bytes
 unfoldable pub planes_layout : PageRecord → ℕ → ℕ → Result LayoutRecord TiffError
 planes_layout p width height = do
   layout ← layout_of p width height
   _ ← wide (layout.plane_stride * planes p.planar layout.color)
   Ok layout
 
--- the number type where there is one
+-- the number type, if there is one
 abbrev pub type_known : Result DecodingSampleType TiffError → Option DecodingSampleType
 type_known (Ok type) = Some type
 type_known (Err fault) = None
 
--- a buffer of all planes of a layout
+-- the layout of a buffer for all planes of a layout
 abbrev pub all_planes : PageRecord → LayoutRecord → BufferLayoutPreference
 all_planes p layout = record {
   len = layout.plane_stride;
@@ -42,17 +43,18 @@ all_planes p layout = record {
   complete_len = layout.plane_stride * planes p.planar layout.color;
 }
 
--- a buffer for an image
+-- the layout of a buffer for an image
 unfoldable pub image_buffer_layout : PageRecord → Result BufferLayoutPreference TiffError
 image_buffer_layout p = do
   layout ← planes_layout p p.width p.height
   Ok (all_planes p layout)
 
--- so many bytes in whole samples, below 2^63
+-- a number of bytes, rounded up to whole samples, below 2^63
 abbrev pub rounded_size : ℕ → ℕ → Result ℕ TiffError
 rounded_size bytes size = if nat_lt (div_ceil bytes size * size) (2 ^ 63) then Ok (div_ceil bytes size * size) else Err LimitsExceeded
 
--- a buffer for a chunk: one plane, in whole samples; a page with no number type of samples has none
+-- the layout of a buffer for a chunk: one plane, in whole samples; a page whose samples have no
+-- number type has none
 unfoldable pub image_chunk_buffer_layout : PageRecord → ℕ → Result BufferLayoutPreference TiffError
 image_chunk_buffer_layout p i = do
   layout ← layout_of p (rect p i).width (rect p i).height
@@ -79,7 +81,7 @@ unit_from Planar p unit = do
   _ ← unit_fault p unit
   Ok (all_planes p layout)
 
--- a buffer for a coding unit: of all planes, or as of a chunk where they stand together
+-- the layout of a buffer for a coding unit: all planes of a planar page, the chunk of a chunky page
 unfoldable pub image_coding_unit_layout : PageRecord → ℕ → Result BufferLayoutPreference TiffError
 image_coding_unit_layout p unit = unit_from p.planar p unit
 

@@ -29,7 +29,7 @@ use Rattle.tiff_page.specs.Page.{PageRecord, Chunks}
 abbrev pub inconsistent : TiffError
 inconsistent = FormatError InconsistentSizesEncountered
 
--- a page has a width and a height
+-- the width and the height of a page aren't 0
 abbrev pub sides : ℕ → ℕ → Result (ℕ × ℕ) TiffError
 sides width height =
     if width == 0 || height == 0 then Err (FormatError (InvalidDimensions width height)) else Ok (width, height)
@@ -40,7 +40,7 @@ size_in look = do
   height ← require into_u32 look tag.ImageLength
   sides width height
 
--- an interpretation that has a name
+-- the interpretation of a number that has one
 abbrev pub interpretation_named : Option ℕ → Result PhotometricInterpretation TiffError
 interpretation_named None = Err (UnsupportedError UnknownInterpretation)
 interpretation_named (Some n) = ok_or_fault (kinds.interpretation_of n) (UnsupportedError UnknownInterpretation)
@@ -63,7 +63,7 @@ samples_in look = do
   samples ← find_or into_u16 look tag.SamplesPerPixel 1
   some_samples samples
 
--- extra samples are no more than the samples
+-- the extra samples are no more than the samples
 abbrev pub within_samples : ℕ → List ExtraSamples → Result (List ExtraSamples) TiffError
 within_samples samples extra = if nat_le (length extra) samples then Ok extra else Err inconsistent
 
@@ -144,7 +144,7 @@ subsampling_in look = do
   found ← find into_u64_vec look tag.ChromaSubsampling
   subsampling_from found
 
--- exactly the two tags of strips, or exactly the two of tiles
+-- the page has exactly the two tags of strips, or exactly the two of tiles
 abbrev pub chunk_kind : Bool → Bool → Bool → Bool → Result ChunkType TiffError
 chunk_kind true true false false = Ok Strip
 chunk_kind false false true true = Ok Tile
@@ -154,7 +154,7 @@ unfoldable pub chunk_type_in : Look → Result ChunkType TiffError
 chunk_type_in look =
     chunk_kind (look.has tag.StripOffsets) (look.has tag.StripByteCounts) (look.has tag.TileOffsets) (look.has tag.TileByteCounts)
 
--- as many offsets and byte counts as there are chunks, below 2^32
+-- there are as many offsets and byte counts as chunks, and fewer than 2^32
 unfoldable pub chunks_counted : ℕ → ℕ → ℕ → Chunks → Result Chunks TiffError
 chunks_counted width height planes chunks =
     let count = chunk_count width height chunks.chunk_width chunks.chunk_height planes in
@@ -190,7 +190,7 @@ abbrev pub chunks_in : Look → ChunkType → ℕ → ℕ → ℕ → Result Chu
 chunks_in look Strip width height planes = strips_in look width height planes
 chunks_in look Tile width height planes = tiles_in look width height planes
 
--- the page that the tags tell
+-- the page that the tags define
 unfoldable pub page_of : Look → Result PageRecord TiffError
 page_of look = do
   size ← size_in look

@@ -8,23 +8,23 @@ use Rattle.tiff_ifd.specs.Unpacking.{left_at}
 use Rattle.tiff_page.specs.declared.chunk_data.ChunkCursor.{ChunkCursor}
 use Rattle.tiff_page.specs.declared.chunk_data.ChunkCursor.TheVariants.{Plain, Packed, Ended}
 
--- the bytes that a position in a chunk still gives
+-- the bytes that are left from a position in a chunk
 abbrev pub bytes_left : List ℕ → ChunkCursor → List ℕ
 bytes_left bytes (Plain at) = drop at bytes
 bytes_left bytes (Packed position) = (left_at bytes position).out
 bytes_left bytes Ended = []
 
--- fewer bytes are left than are asked for
+-- fewer bytes are left than a call asks for
 pub record IsTooShort (left : List ℕ) (wanted : ℕ) (e : TiffError) : Type 0 where
   pub fault : e ≡ IoError UnexpectedEof
   pub short : length left < wanted
 
--- a buffer was filled with the next bytes, or there are fewer
+-- a buffer was filled with the next bytes, or fewer are left
 abbrev pub Takes : List ℕ → ChunkCursor → Type 0 → Type 0 → ℕ → List ℕ → Result ChunkCursor TiffError → Type 0
 Takes bytes stored wanting failed len filled (Ok rest) = (bytes_left bytes stored ≡ filled ++ bytes_left bytes rest) × (length filled ≡ len)
 Takes bytes stored wanting failed len filled (Err e) = IsCause wanting failed e (IsTooShort (bytes_left bytes stored) len e)
 
--- so many bytes were passed, or all that are left where there are fewer
+-- n bytes were skipped, or all that are left if there are fewer
 abbrev pub Passes : List ℕ → ChunkCursor → Type 0 → ℕ → Result ChunkCursor TiffError → Type 0
 Passes bytes stored failed n (Ok rest) = bytes_left bytes rest ≡ drop n (bytes_left bytes stored)
 Passes bytes stored failed n (Err e) = IsCause ⊥ failed e ⊥

@@ -1,4 +1,4 @@
--- Faults that are found before memory is taken for samples.
+-- Errors that the decoder finds before it allocates memory for samples.
 use Rattle.std.specs.Prelude.{◌≡◌, ℕ, ◌-◌, ◌*◌, min, Bool, true, false, if◌then◌else◌, nat_lt, List, length, slice_index, Result, Ok, Err}
 use Rattle.std.specs.Int.{div_ceil}
 use Rattle.tiff_base.specs.declared.color.ColorType.{ColorType}
@@ -22,65 +22,70 @@ abbrev pub is_packed : CompressionMethod → Bool
 is_packed method.PackBits = true
 is_packed _ = false
 
--- the bytes that so many of data take in a file at least: packed, two of them give at most 128
+-- how many bytes n bytes of decompressed data take in a file at least: two bytes of PackBits data
+-- decompress to at most 128
 abbrev pub least_stored : CompressionMethod → ℕ → ℕ
 least_stored m n = if is_packed m then div_ceil n 64 else n
 
--- the bytes that a file has from an offset on; of packed data so many are counted
+-- how many bytes a file has from an offset on; of PackBits data at most `count`
 abbrev pub bytes_held : List ℕ → CompressionMethod → ℕ → ℕ → ℕ
 bytes_held file m offset count = if is_packed m then min count (length file - offset) else length file - offset
 
--- a file has fewer bytes for a chunk than its data take at least
+-- a file has fewer bytes of a chunk than the data of the chunk take at least
 abbrev pub is_cut : List ℕ → PageRecord → ColorType → ℕ → Bool
 is_cut file p color i =
     nat_lt (bytes_held file p.method (slice_index p.offsets i) (slice_index p.byte_counts i)) (least_stored p.method (needed_bytes p color i))
 
--- what is found before memory is taken for samples of so many bytes: more of them than fit into the limit, and the
--- faults of the first chunk, whose data are told by how many bytes the file has
+-- the error that is found before memory is allocated for samples of `len` bytes: more samples than
+-- fit into the limit, or the errors of the first chunk, whose data are too few if the file has too
+-- few bytes for them
 abbrev pub early_fault : List ℕ → PageRecord → Limits → ColorType → DecodingSampleType → ℕ → ℕ → Result (Unit {0}) TiffError
 early_fault file p limits color type first len = do
   _ ← limit_fault limits (size_of type) len
   chunk_fault p limits (is_cut file p color) color first
 
--- ---- where memory is wanted
+-- ---- when memory is out
 
--- Memory is wanted only where this holds.
+-- A call runs out of memory only if this holds.
 abbrev pub WantsWhere : {X : Type 0} → Type 0 → Result X TiffError → Type 0
 WantsWhere holds (Ok x) = Unit {0}
 WantsWhere holds (Err e) = e ≡ OutOfMemory → holds
 
--- Memory is wanted only where no fault is found early, or one that carries a list: neither where a limit refuses what is
--- asked for, nor where the source ends before the last byte that its first chunk needs at least, nor where the page's form or
--- the call's own arguments do.
+-- A call runs out of memory only if no error is found early, or an error that contains a list. It
+-- doesn't run out of memory if a limit refuses the request, if the source ends before the last byte
+-- that the first chunk needs at least, or if the form of the page or the call's own arguments are
+-- refused.
 abbrev pub WantsAfter : {X : Type 0} → Result (Unit {0}) TiffError → Result X TiffError → Type 0
 WantsAfter early result = WantsWhere (IsOkOrList early) result
 
--- what is found before memory is taken for samples in so many bytes, of a color and from a first chunk on
+-- the error that is found before memory is allocated for samples of `len` bytes, of a color and
+-- from a first chunk on
 abbrev pub samples_early : List ℕ → PageRecord → Limits → ColorType → ℕ → ℕ → Result (Unit {0}) TiffError
 samples_early file p limits color first len = do
   type ← sample_type_of p
   early_fault file p limits color type first len
 
--- the same of an image, of its first plane where it is planar
+-- the early error of reading the samples of an image, or of the first plane of a planar image
 abbrev pub image_early : List ℕ → PageRecord → Limits → Result (Unit {0}) TiffError
 image_early file p limits = do
   layout ← planes_layout p p.width p.height
   samples_early file p limits layout.color 0 layout.plane_stride
 
--- of all planes, or of the first one where all aren't within the limit
+-- the early error of reading the samples of all planes, or of the first plane if not all are within
+-- the limit
 abbrev pub planes_early : List ℕ → PageRecord → Limits → Result (Unit {0}) TiffError
 planes_early file p limits = do
   layout ← planes_layout p p.width p.height
   let used = planes_within p limits layout
   samples_early file p limits layout.color 0 (layout.plane_stride * used)
 
--- of a chunk
+-- the early error of reading the samples of a chunk
 abbrev pub chunk_early : List ℕ → PageRecord → Limits → ℕ → Result (Unit {0}) TiffError
 chunk_early file p limits i = do
   layout ← planes_layout p (rect p i).width (rect p i).height
   samples_early file p limits layout.color i layout.plane_stride
 
--- of a chunk in rows so many bytes apart
+-- the early error of reading the samples of a chunk in rows a stride apart
 abbrev pub strided_early : List ℕ → PageRecord → Limits → ℕ → ℕ → Result (Unit {0}) TiffError
 strided_early file p limits i stride = do
   layout ← planes_layout p (rect p i).width (rect p i).height
@@ -88,24 +93,25 @@ strided_early file p limits i stride = do
   _ ← wide (stride * p.chunk_height)
   samples_early file p limits layout.color i (stride * (rect p i).height)
 
--- ---- of slices, before memory is taken for their chunks: the faults of the layout, of the call's own arguments, and of the
--- form of the first chunk
+-- ---- slices: the errors that are found before memory is allocated for their chunks
+-- These are the errors of the layout, of the call's own arguments, and of the form of the first
+-- chunk.
 
--- of an image in a slice of so many bytes
+-- the early error of reading an image into a slice of `len` bytes
 abbrev pub image_bytes_early : PageRecord → Limits → ℕ → Result (Unit {0}) TiffError
 image_bytes_early p limits len = do
   layout ← planes_layout p p.width p.height
   _ ← room_fault len layout.plane_stride
   form_fault p limits layout.color 0
 
--- of a chunk
+-- the early error of reading a chunk into a slice of `len` bytes
 abbrev pub chunk_bytes_early : PageRecord → Limits → ℕ → ℕ → Result (Unit {0}) TiffError
 chunk_bytes_early p limits i len = do
   layout ← planes_layout p (rect p i).width (rect p i).height
   _ ← room_fault len layout.plane_stride
   form_fault p limits layout.color i
 
--- of a coding unit
+-- the early error of reading a coding unit into a slice of `len` bytes
 abbrev pub unit_bytes_early : PageRecord → Limits → ℕ → ℕ → Result (Unit {0}) TiffError
 unit_bytes_early p limits unit len = do
   layout ← planes_layout p (rect p unit).width (rect p unit).height

@@ -1,4 +1,4 @@
--- What is found before memory is taken for samples is what a call answers.
+-- A call returns the error that is found before memory is allocated for samples.
 use Rattle.std.specs.Prelude.{◌≡◌, ℕ, ◌<◌, List, Err}
 use Rattle.tiff_base.specs.declared.error.TiffError.{TiffError}
 use Rattle.tiff_base.specs.declared.tags.ByteOrder.{ByteOrder}
@@ -8,7 +8,8 @@ use Rattle.tiff_page.specs.Laws.{HasSides}
 use Rattle.tiff_page.specs.PixelCalls.{image_of, read_image_to_buffer, read_chunk, read_chunk_to_buffer}
 use Rattle.tiff_page.specs.EarlyFaults.{image_early, planes_early, chunk_early, strided_early}
 
--- An error that is found early is the answer of each call that hands out samples, of a page as any page is that was read.
+-- Each call that returns samples returns the error that is found early. The page has sides and
+-- samples, as each page that was read.
 pub record EarlyIsAnswered : Type 0 where
   pub image : (file : List ℕ) (order : ByteOrder) (p : PageRecord) (limits : Limits) (e : TiffError) → HasSides p
       → image_early file p limits ≡ Err e → image_of file order p limits ≡ Err e

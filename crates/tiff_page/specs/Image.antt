@@ -1,4 +1,4 @@
--- Samples as they are handed out.
+-- Samples as the decoder returns them.
 use Rattle.std.specs.Prelude.{ℕ, List}
 use Rattle.tiff_page.specs.declared.layout.DecodingSampleType.{DecodingSampleType}
 use Rattle.tiff_page.specs.Layout.{size_of}

@@ -1,5 +1,6 @@
--- Laws of these definitions: each pixel is of one chunk of a plane, a call's fault is the first that there is, a buffer
--- is placed position by position, no row is empty, and images and coding units show their chunks.
+-- Laws of the specifications: each pixel belongs to one chunk of a plane, a call returns the first
+-- error, a buffer is written position by position, no row is empty, and images and coding units
+-- contain their chunks.
 use Rattle.std.specs.Prelude.{◌≡◌, ℕ, ◌+◌, ◌*◌, ◌/◌, ◌<◌, ◌≤◌, ◌⊎◌, List, length, slice_index, unwrap_or, Result, Ok, Err}
 use Rattle.tiff_base.specs.declared.color.ColorType.{ColorType}
 use Rattle.tiff_base.specs.declared.error.TiffError.{TiffError}
@@ -18,7 +19,7 @@ pub record HasSides (p : PageRecord) : Type 0 where
   pub chunk_wide : 0 < p.chunk_width
   pub chunk_high : 0 < p.chunk_height
 
--- a chunk of a plane has a pixel in its rectangle
+-- the rectangle of a chunk of a plane contains a pixel
 pub record HasPixel (p : PageRecord) (i plane x y : ℕ) : Type 0 where
   pub of_plane : (rect p i).plane ≡ plane
   pub left : (rect p i).x ≤ x
@@ -26,13 +27,13 @@ pub record HasPixel (p : PageRecord) (i plane x y : ℕ) : Type 0 where
   pub top : (rect p i).y ≤ y
   pub bottom : y < (rect p i).y + (rect p i).height
 
--- each pixel of the image is of one chunk of a plane and of no other
+-- each pixel of the image belongs to exactly one chunk of a plane
 abbrev pub OneChunk : Type 0
 OneChunk = (p : PageRecord) (plane x y : ℕ) → HasSides p → x < p.width → y < p.height
     → HasPixel p (chunk_of_pixel p plane x y) plane x y
     × ((i : ℕ) → HasPixel p i plane x y → i ≡ chunk_of_pixel p plane x y)
 
--- a chunk's rectangle has a pixel, and lies within the image
+-- the rectangle of a chunk has at least one pixel, and lies within the image
 pub record ChunkIsWithin (p : PageRecord) (i : ℕ) : Type 0 where
   pub some_column : 0 < (rect p i).width
   pub some_row : 0 < (rect p i).height
@@ -42,24 +43,25 @@ pub record ChunkIsWithin (p : PageRecord) (i : ℕ) : Type 0 where
 abbrev pub ChunksWithin : Type 0
 ChunksWithin = (p : PageRecord) (i : ℕ) → HasSides p → ChunkIsWithin p i
 
--- a fault at a number, and none at those before it
+-- n is the first number that has an error
 pub record IsFirst (fault : ℕ → Result (Unit {0}) TiffError) (n : ℕ) (e : TiffError) : Type 0 where
   pub found : fault n ≡ Err e
   pub none : (k : ℕ) → k < n → fault k ≡ Ok tt
 
--- what is answered of those below a number is the first fault
+-- the error of the numbers below n is the first error of one of them
 abbrev pub FirstFault : Type 0
 FirstFault = (fault : ℕ → Result (Unit {0}) TiffError) (n : ℕ) (e : TiffError)
     → (each_below fault n ≡ Err e → (m : ℕ) × ((m < n) × IsFirst fault m e))
     × ((m : ℕ) → m < n → IsFirst fault m e → each_below fault n ≡ Err e)
 
--- and none where there is none
+-- there is no error below n exactly if no number below n has one
 abbrev pub NoFault : Type 0
 NoFault = (fault : ℕ → Result (Unit {0}) TiffError) (n : ℕ)
     → (each_below fault n ≡ Ok tt → (k : ℕ) → k < n → fault k ≡ Ok tt)
     × (((k : ℕ) → k < n → fault k ≡ Ok tt) → each_below fault n ≡ Ok tt)
 
--- a buffer in which a region is placed is as long as before, and has at each position the region's byte or what it had
+-- a buffer in which a region is placed keeps its length, and has at each position the region's byte
+-- or its own
 abbrev pub PlacedEach : Type 0
 PlacedEach = (file : List ℕ) (order : ByteOrder) (p : PageRecord) (color : ColorType) (region : Region) (stride planes : ℕ) (buf : List ℕ)
     → (length (bytes_with_region file order p color region stride planes buf) ≡ length buf)
@@ -67,30 +69,31 @@ PlacedEach = (file : List ℕ) (order : ByteOrder) (p : PageRecord) (color : Col
     → slice_index (bytes_with_region file order p color region stride planes buf) i
     ≡ unwrap_or (byte_at file order p color region stride planes i) (slice_index buf i))
 
--- the rows and the planes of a layout of a page are of some bytes
+-- the rows and the planes of a layout of a page have at least one byte
 abbrev pub SomeBytes : Type 0
 SomeBytes = (p : PageRecord) (width height : ℕ) (layout : LayoutRecord) → 0 < width → 0 < height → 0 < p.depth → 0 < p.samples
     → layout_of p width height ≡ Ok layout → (0 < layout.row_bytes) × (0 < layout.plane_stride)
 
--- a page whose samples are of whole bytes or below 8 bits, and whose chunks, where there are several across, have rows
--- of whole bytes: other layouts are refused
+-- a page whose samples are of whole bytes or below 8 bits, and whose chunks have rows of whole
+-- bytes if several lie side by side: other layouts are refused
 pub record HasWholeRows (p : PageRecord) (color : ColorType) : Type 0 where
   pub depth : (p.depth < 8) ⊎ (p.depth ≡ p.depth / 8 * 8)
   pub rows : (across p ≤ 1) ⊎ (row_bits p color p.chunk_width ≡ row_bits p color p.chunk_width / 8 * 8)
 
--- a chunk's rows are a part of the rows of the image, from the bytes on that the columns before it take
+-- the rows of a chunk are parts of the rows of the image, after the bytes of the columns to the
+-- left of the chunk
 abbrev pub ImageOfChunks : Type 0
 ImageOfChunks = (file : List ℕ) (order : ByteOrder) (p : PageRecord) (color : ColorType) (i row k : ℕ) → HasSides p → HasWholeRows p color
     → row < (rect p i).height → k < row_bytes p color (rect p i).width
     → region_byte file order p color (image_region p) (rect p i).plane ((rect p i).y + row) (row_bits p color (rect p i).x / 8 + k)
     ≡ region_byte file order p color (chunk_region p i) (rect p i).plane row k
 
--- a page whose image has a layout, and whose depth and color are read, has such rows
+-- a page whose image has a layout, and whose depth and color are supported, has rows of whole bytes
 abbrev pub WholeRows : Type 0
 WholeRows = (p : PageRecord) (layout : LayoutRecord) → layout_of p p.width p.height ≡ Ok layout → depth_fault p layout.color ≡ Ok tt
     → HasWholeRows p layout.color
 
--- a coding unit shows of each plane the chunk of that plane
+-- a coding unit contains the chunk of each plane
 abbrev pub UnitOfChunks : Type 0
 UnitOfChunks = (file : List ℕ) (order : ByteOrder) (p : PageRecord) (color : ColorType) (unit plane row k : ℕ) → unit < chunks_of_plane p
     → region_byte file order p color (chunk_region p unit) plane row k

@@ -48,7 +48,7 @@ cmyk p =
 abbrev pub ycbcr : PageRecord → Result ColorType TiffError
 ycbcr p = if photometric p == 3 then Ok (YCbCr p.depth) else no_color p
 
--- extra samples count here
+-- the color of a gray page counts the extra samples
 abbrev pub gray : PageRecord → Result ColorType TiffError
 gray p = if p.samples == 1 then Ok (Gray p.depth) else Ok (Multiband p.depth p.samples)
 
@@ -108,7 +108,7 @@ pub record LayoutRecord : Type 0 where
   pub row_bytes : ℕ
   pub plane_stride : ℕ
 
--- samples of a color that a chunk shows, and planes that show the rest
+-- how many samples of a color a chunk contains, and how many planes contain them all
 abbrev pub samples_in_chunk : PlanarConfiguration → ColorType → ℕ
 samples_in_chunk Chunky color = num_samples color
 samples_in_chunk Planar color = 1
@@ -127,7 +127,7 @@ row_bytes p color width = (row_bits p color width + 7) / 8
 abbrev pub wide : ℕ → Result ℕ TiffError
 wide n = if nat_lt n (2 ^ 64) then Ok n else Err LimitsExceeded
 
--- more than one chunk in a row: each of whole bytes
+-- several chunks side by side have rows of whole bytes
 abbrev pub whole_chunks : PageRecord → ColorType → ℕ → Result ColorType TiffError
 whole_chunks p color width =
     if nat_lt 1 (parts width p.chunk_width) && not (row_bits p color p.chunk_width % 8 == 0)

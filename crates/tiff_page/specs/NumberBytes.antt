@@ -1,4 +1,4 @@
--- Numbers as the bytes that they stand for, the lowest first.
+-- Numbers as the bytes that represent them, the least significant first.
 use Rattle.std.proofs.Common.{ap, arith, inl, inr, sym, ◌∙◌, ⊎_elim}
 use Rattle.std.proofs.lemmas.Bool.{cases_lt}
 use Rattle.std.proofs.lemmas.Grind.{div_ceil_times}
@@ -12,27 +12,27 @@ use Rattle.tiff_page.specs.Pixels.{tabulate, row_number}
 use Rattle.tiff_page.specs.BufferPositions.{Writes}
 use Rattle.tiff_page.specs.Row.{IsSize}
 
--- byte j of a number of so many bytes: the last is what is left
+-- byte j of a number of `size` bytes: the last byte is all that is left
 abbrev pub byte_of : ℕ → ℕ → ℕ → ℕ
 byte_of size n j = if j + 1 == size then n / 256 ^ j else n / 256 ^ j % 256
 
--- all its bytes
+-- all bytes of a number
 abbrev pub all_bytes : ℕ → ℕ → List ℕ
 all_bytes size n = tabulate size (byte_of size n)
 
--- those of all numbers of a list
+-- the bytes of all numbers of a list
 unfoldable pub bytes_in : ℕ → List ℕ → List ℕ
 bytes_in size numbers = tabulate (length numbers * size) (λ i. byte_of size (slice_index numbers (i / size)) (i % size))
 
--- a row is put at a position, and each other byte stays
+-- a row is written at a position, and each other byte is unchanged
 abbrev pub IsPut : ℕ → List ℕ → List ℕ → List ℕ → Type 0
 IsPut at row old new = Writes (λ i. (at ≤ i) × (i < at + length row)) (λ i. slice_index row (i - at)) old new
 
--- so many numbers of a row are put from one on, and each other stays
+-- `count` numbers of a row are written from number `first` on, and each other number is unchanged
 abbrev pub NumbersArePut : ℕ → ℕ → List ℕ → ℕ → List ℕ → List ℕ → Type 0
 NumbersArePut size first row count old new = Writes (λ i. (first ≤ i) × (i < first + count)) (λ i. row_number LittleEndian size row (i - first)) old new
 
--- numbers of lists of one length have as many bytes
+-- lists of equal length have equally many bytes
 pub same_bytes : {X : Type 0} (size : ℕ) (bits : X → ℕ) (xs ys : List X) → length xs ≡ length ys → length (bytes_in size (map bits xs)) ≡ length (bytes_in size (map bits ys))
 unfolding bytes_in
 same_bytes size bits xs ys e =
@@ -40,7 +40,7 @@ same_bytes size bits xs ys e =
     let f : List ℕ → ℕ → ℕ = λ ns i. byte_of size (slice_index ns (i / size)) (i % size) in
     length-map-range_with_len (f (map bits xs)) 0 (length (map bits xs) * size) ∙ (count ∙ sym (length-map-range_with_len (f (map bits ys)) 0 (length (map bits ys) * size)))
 
--- no numbers have none
+-- an empty list has no bytes
 pub no_bytes : (size : ℕ) → bytes_in size [] ≡ []
 unfolding bytes_in
 no_bytes size = let z : 0 * size ≡ 0 = omega arith in ap (λ (k : ℕ). tabulate k (λ i. byte_of size (slice_index [] (i / size)) (i % size))) z
@@ -51,7 +51,7 @@ some_size size (inr (inl e)) = omega (arith, e)
 some_size size (inr (inr (inl e))) = omega (arith, e)
 some_size size (inr (inr (inr e))) = omega (arith, e)
 
--- whole numbers for so many bytes
+-- the whole numbers for m bytes have at least m bytes, and more bytes need no fewer whole numbers
 pub whole_enough : (size : ℕ) → IsSize size → (m n : ℕ) → m ≤ n → (m ≤ div_ceil m size * size) × (div_ceil m size * size ≤ div_ceil n size * size)
 whole_enough size z m n l =
     let s : 0 < size = some_size size z in

@@ -8,7 +8,7 @@ use Rattle.tiff_base.specs.declared.tags.SampleFormat.{SampleFormat}
 use Rattle.tiff_base.specs.declared.tags.ExtraSamples.{ExtraSamples}
 use Rattle.tiff_base.specs.declared.color.ChunkType.{ChunkType}
 
--- what the checks give
+-- what the checks return
 pub record PageRecord : Type 0 where
   pub width : ℕ
   pub height : ℕ

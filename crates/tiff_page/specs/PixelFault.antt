@@ -1,4 +1,4 @@
--- The faults of reading pixels, in their order (this project's order).
+-- The errors of reading pixels, in their order (which is this project's).
 use Rattle.std.specs.Prelude.{ℕ, zero, suc, ◌/◌, Bool, true, false, length, slice_index, Result, Ok, Err, if◌then◌else◌, ◌==◌, ◌&&◌, ◌||◌, nat_lt, nat_le, not}
 use Rattle.tiff_base.specs.declared.error.TiffError.{TiffError}
 use Rattle.tiff_base.specs.declared.error.TiffError.TheVariants.{FormatError, UnsupportedError, IoError, LimitsExceeded}
@@ -20,7 +20,7 @@ use Rattle.std.specs.Int.{div_ceil}
 use Rattle.tiff_ifd.specs.declared.limits.Limits.{Limits}
 use Rattle.tiff_page.specs.Page.{PageRecord}
 
--- a fault where a test holds
+-- an error if a test holds
 abbrev pub fail_if : Bool → TiffError → Result (Unit {0}) TiffError
 fail_if true fault = Err fault
 fail_if false fault = Ok tt
@@ -84,8 +84,8 @@ white_from _ p color = Ok tt
 unfoldable pub inversion_fault : PageRecord → ColorType → Result (Unit {0}) TiffError
 inversion_fault p color = white_from p.interpretation p color
 
--- a chunk's faults but that of too few data: an index past the list, the depth, the predictor, the limit of the file's
--- bytes, the method, an image that can't be inverted
+-- the errors of a chunk, except for too few data: an index past the list, the depth, the predictor,
+-- the limit of its bytes in the file, the compression method, an image that can't be inverted
 unfoldable pub form_fault : PageRecord → Limits → ColorType → ℕ → Result (Unit {0}) TiffError
 form_fault p limits color i = do
   _ ← fail_if (nat_le (length p.offsets) i) (FormatError InconsistentSizesEncountered)
@@ -95,13 +95,13 @@ form_fault p limits color i = do
   _ ← method_fault p.method
   inversion_fault p color
 
--- a chunk's faults, where `short` says whether its data are too few
+-- the errors of a chunk, where `short` says whether its data are too few
 abbrev pub chunk_fault : PageRecord → Limits → (ℕ → Bool) → ColorType → ℕ → Result (Unit {0}) TiffError
 chunk_fault p limits short color i = do
   _ ← form_fault p limits color i
   fail_if (short i) (IoError UnexpectedEof)
 
--- the first fault of those below n
+-- the first error of the numbers below n
 abbrev pub each_below : (ℕ → Result (Unit {0}) TiffError) → ℕ → Result (Unit {0}) TiffError
 each_below fault zero = Ok tt
 each_below fault (suc n) = do

@@ -3,7 +3,7 @@ use Rattle.std.specs.Prelude.{ℕ, ◌+◌, ◌-◌, ◌*◌, ◌/◌, ◌%◌, 
 use Rattle.tiff_page.specs.Counts.{parts}
 use Rattle.tiff_page.specs.Page.{PageRecord}
 
--- chunks of a plane
+-- the number of chunks side by side, and the number of chunks of a plane
 abbrev pub across : PageRecord → ℕ
 across p = parts p.width p.chunk_width
 
@@ -17,7 +17,7 @@ pub record RectRecord : Type 0 where
   pub width : ℕ
   pub height : ℕ
 
--- the rectangle of the chunk at column and row, clipped to the image
+-- the rectangle of the j-th chunk of a plane, clipped to the image
 abbrev pub rect_at : PageRecord → ℕ → ℕ → RectRecord
 rect_at p plane j =
     record {
@@ -28,7 +28,8 @@ rect_at p plane j =
       height = min p.chunk_height (p.height - j / across p * p.chunk_height);
     }
 
--- an index past the planes is reduced
+-- the rectangle of a chunk by its index in all planes; the index counts modulo the chunks of a
+-- plane
 unfoldable pub rect : PageRecord → ℕ → RectRecord
 rect p i = rect_at p (i / chunks_of_plane p) (i % chunks_of_plane p)
 
@@ -36,6 +37,6 @@ rect p i = rect_at p (i / chunks_of_plane p) (i % chunks_of_plane p)
 abbrev pub chunk_data_dimensions : PageRecord → ℕ → ℕ × ℕ
 chunk_data_dimensions p i = ((rect p i).width, (rect p i).height)
 
--- the chunk of a plane that holds a pixel
+-- the chunk of a plane that contains a pixel
 abbrev pub chunk_of_pixel : PageRecord → ℕ → ℕ → ℕ → ℕ
 chunk_of_pixel p plane x y = plane * chunks_of_plane p + (y / p.chunk_height * across p + x / p.chunk_width)

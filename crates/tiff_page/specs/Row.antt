@@ -1,4 +1,4 @@
--- How the numbers of a row are changed in place, and their bytes.
+-- How the numbers of a row change in place, and their bytes.
 use Rattle.std.specs.Prelude.{◌≡◌, ℕ, ◌+◌, ◌-◌, ◌*◌, ◌/◌, ◌%◌, ◌^◌, ◌<◌, ◌≤◌, ◌⊎◌, List, length, slice_index}
 use Rattle.tiff_base.specs.declared.tags.ByteOrder.TheVariants.{LittleEndian, BigEndian}
 use Rattle.tiff_base.specs.SourceAndSink.{AreOctets}
@@ -8,19 +8,20 @@ use Rattle.tiff_page.specs.Pixels.{row_number}
 abbrev pub IsSize : ℕ → Type 0
 IsSize size = (size ≡ 1) ⊎ ((size ≡ 2) ⊎ ((size ≡ 4) ⊎ (size ≡ 8)))
 
--- Each whole number of a row that held old became, in little-endian order, the value that is given for it. What stands
--- behind the last one stayed.
+-- Each whole number of a row that held old became, in little-endian order, its value. The bytes
+-- after the last whole number are unchanged.
 pub record RowReplaced (size : ℕ) (value : ℕ → ℕ) (old new : List ℕ) : Type 0 where
   pub numbers : (k : ℕ) → (k + 1) * size ≤ length old → row_number LittleEndian size new k ≡ value k
   pub behind : (i : ℕ) → length old / size * size ≤ i → slice_index new i ≡ slice_index old i
 
--- The number at one position was added to that at another, and no other byte was changed.
+-- The number at one position was added to the number at another, and no other byte changed.
 pub record AddsNumber (size : ℕ) (old : List ℕ) (from to : ℕ) (new : List ℕ) : Type 0 where
   pub sum : row_number LittleEndian size new to ≡ (row_number LittleEndian size old from + row_number LittleEndian size old to) % 256 ^ size
   pub below : (i : ℕ) → i < to * size → slice_index new i ≡ slice_index old i
   pub above : (i : ℕ) → to * size + size ≤ i → slice_index new i ≡ slice_index old i
 
--- The little-endian number at one position became the big-endian one of a row there, and no other byte was changed.
+-- The little-endian number at one position became the big-endian number of a row at that position,
+-- and no other byte changed.
 pub record TurnsNumber (size : ℕ) (row : List ℕ) (at : ℕ) (old new : List ℕ) : Type 0 where
   pub turned : row_number LittleEndian size new at ≡ row_number BigEndian size row at
   pub below : (i : ℕ) → i < at * size → slice_index new i ≡ slice_index old i
@@ -30,9 +31,10 @@ pub record TurnsNumber (size : ℕ) (row : List ℕ) (at : ℕ) (old new : List 
 abbrev pub TurnsNumbers : ℕ → List ℕ → List ℕ → Type 0
 TurnsNumbers size row new = (k : ℕ) → (k + 1) * size ≤ length row → row_number LittleEndian size new k ≡ row_number BigEndian size row k
 
--- ---- its laws
+-- ---- laws of rows
 
--- A row whose bytes are complemented has each number less than what its bytes hold by the number that it was, and one.
+-- If the bytes of a row are complemented, each number of the row is complemented: it is the
+-- greatest number of its bytes, less the number before.
 abbrev pub ComplementsInvert : Type 0
 ComplementsInvert = (size : ℕ) (old new : List ℕ) (k : ℕ) → IsSize size → AreOctets old → ((i : ℕ) → i < length old → slice_index new i ≡ 255 - slice_index old i)
     → (k + 1) * size ≤ length old → row_number LittleEndian size new k ≡ 256 ^ size - 1 - row_number LittleEndian size old k

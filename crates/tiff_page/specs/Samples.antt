@@ -1,4 +1,4 @@
--- Samples by their number type, and what they are read of.
+-- Samples by their number type, and requests to read them.
 use Rattle.std.specs.Prelude.{◌≡◌, ℕ, ◌*◌, ◌<◌, ◌≤◌, List, map, Ok}
 use Rattle.std.specs.Int.{w8, w16, w32, w64, cast_unsigned}
 use Rattle.tiff_base.specs.declared.color.ColorType.{ColorType}
@@ -32,23 +32,23 @@ abbrev pub color_in : ReadRequest → ColorType
 color_in (Image layout planes) = layout.color
 color_in (Chunk color i stride) = color
 
--- its first chunk
+-- the first chunk of a request
 abbrev pub first_in : ReadRequest → ℕ
 first_in (Image layout planes) = 0
 first_in (Chunk color i stride) = i
 
--- what is read as the part of a page that it is
+-- the part of a page that a request reads
 abbrev pub part_of : (file : List ℕ) (order : ByteOrder) (p : PageRecord) → ReadRequest → Part
 part_of file order p (Image layout planes) = image_part p planes layout.row_bytes
 part_of file order p (Chunk color i stride) = chunk_part p i 1 stride
 
--- its layout is the page's
+-- the layout of a request is that of the page
 abbrev pub IsLaid : PageRecord → ReadRequest → Type 0
 IsLaid p (Image layout planes) =
     (layout_of p p.width p.height ≡ Ok (record { color = layout.color; row_bytes = layout.row_bytes; plane_stride = layout.plane_stride })) × (0 < planes)
 IsLaid p (Chunk color i stride) = (color_of p ≡ Ok color) × (row_bytes p color (rect p i).width ≤ stride)
 
--- the bytes that it takes
+-- the number of bytes that a request takes
 abbrev pub room_of : PageRecord → ReadRequest → ℕ
 room_of p (Image layout planes) = planes * layout.plane_stride
 room_of p (Chunk color i stride) = (rect p i).height * stride

@@ -1,4 +1,5 @@
-//! The rows of a chunk that lie together, in its data and in a buffer, are read many at once.
+//! Reads many rows of a chunk at once, where the rows lie together in the chunk's data and in the
+//! buffer.
 
 ghost use Rattle.std.specs.Prelude.{◌≡◌, ◌+◌, ◌*◌, ◌^◌, ◌<◌, ◌≤◌, ◌↔◌, IsTrue, Ok, length, OnOk};
 ghost use Rattle.tiff_base.specs.Answers.{Answers, AsksOnly, IsKept};
@@ -22,14 +23,17 @@ use tiff_base::error::TiffResult;
 use tiff_base::io::Source;
 use tiff_base::tags::Predictor;
 
-// How many bytes of rows are read at once, where a row has no more or its numbers are turned: they are copied fast, and what is
-// turned of them is still in the processor's nearest cache.
+// The number of bytes of rows that are read at once, if a row has at most this many bytes or its
+// numbers are byte-swapped. Small reads are copied fast, and byte-swapping then finds the bytes in
+// the processor's nearest cache.
 const BAND: usize = 8192;
 
-// The same of longer rows, and of packed data, of which a block may be cut at the end of each band.
+// The number of bytes of rows that are read at once for longer rows, and for PackBits data, of
+// which the end of each read may cut a block.
 const WIDE_BAND: usize = 65536;
 
-// How many rows of so many bytes are read at once. What is read doesn't depend on it.
+// Returns how many rows of `len` bytes are read at once, at least 1. The bytes that are read don't
+// depend on it.
 fn rows_at_once(front: ChunkCursor, len: usize, turned: bool) -> usize
     requires { 0 < len }
     ensures { 0 < result }
@@ -42,8 +46,8 @@ fn rows_at_once(front: ChunkCursor, len: usize, turned: bool) -> usize
 }
 
 impl ChunkReader<'_> {
-    /// Whether the rows lie one behind another, in the chunk's data and in a buffer, all of their bytes are handed out, and
-    /// no byte is summed with others of its row.
+    /// Whether the rows lie together: they follow one another in the chunk's data and in the
+    /// buffer, all of their bytes are output, and no byte is summed with others of its row.
     pub(crate) fn is_contiguous(&self, destination: Destination) -> bool
         ensures { IsTrue result ↔ LieTogether (view.page self.now.page.now) self.now.color
             (row_bytes (view.page self.now.page.now) self.now.color (rect (view.page self.now.page.now) self.now.index).width)
@@ -58,7 +62,7 @@ impl ChunkReader<'_> {
             && matches!(page.predictor, Predictor::None)
     }
 
-    /// Reads the rows that lie together, from the front of the chunk's data on.
+    /// Reads the rows of a chunk whose rows lie together, from the start of the chunk's data.
     pub(crate) fn read_contiguous<R: Source, T, W: RowSink<T>>(
         &self,
         source: &mut R,

@@ -1,4 +1,4 @@
-//! Buffers for an image and its parts.
+//! Layouts of buffers for an image, a chunk and a coding unit.
 
 ghost use Rattle.std.specs.Prelude.{◌≡◌, ◌<◌, ◌*◌, ◌^◌, IfOk, IfSome, Ok};
 ghost use Rattle.tiff_base.specs.Answers.{AnswersWithoutSource, Gives};
@@ -18,8 +18,9 @@ use std::alloc::Global;
 use tiff_base::error::{TiffError, TiffResult, UsageError};
 use tiff_base::tags::PlanarConfiguration;
 
-/// The layout of a part of a page all of whose planes are below 2^64 bytes; else `LimitsExceeded`, after the layout's own
-/// faults.
+/// Returns the layout of a part of a page, `width` by `height` pixels, all of whose planes have
+/// together fewer than 2^64 bytes. Returns the layout's own errors first, then `LimitsExceeded` if
+/// all planes have 2^64 bytes or more.
 #[tactic(auto, unfolding(crate::specs::Buffers::planes_layout))]
 pub fn planes_layout(page: &Page, alloc: Global, width: u32, height: u32) -> TiffResult<PlaneLayout>
     ensures answer { AnswersWithoutSource (λ l. record {
@@ -41,7 +42,7 @@ pub fn planes_layout(page: &Page, alloc: Global, width: u32, height: u32) -> Tif
     Ok(layout)
 }
 
-// A buffer for all planes of a layout.
+// Returns the layout of a buffer for all planes of a plane layout.
 pub(crate) fn all_planes(page: &Page, layout: PlaneLayout) -> BufferLayoutPreference
     requires { layout.plane_stride * layouts.planes page.now.planar layout.color < 2 ^ 64 }
     ensures { result ≡ spec.all_planes (view.page page.now) (record
@@ -59,10 +60,12 @@ pub(crate) fn all_planes(page: &Page, layout: PlaneLayout) -> BufferLayoutPrefer
     }
 }
 
-/// A buffer for the image, its planes one behind the other. The first fault: of the color, `InterpretationWithBits`; a
-/// plane, or its rows up to the stored height of a chunk, of 2^64 bytes or more: `LimitsExceeded`; chunks beside each other
-/// whose rows aren't of whole bytes: `MisalignedTileBoundaries`; YCbCr with fewer chroma samples: `ChromaSubsampling`; all
-/// planes of 2^64 bytes or more: `LimitsExceeded`. A page whose samples are of no number type has no `sample_type`.
+/// Returns the layout of a buffer for the image, with its planes one after another. Returns the
+/// first of these errors: `InterpretationWithBits` if the page has no color; `LimitsExceeded` if a
+/// plane, or its rows up to the stored height of a chunk, have 2^64 bytes or more;
+/// `MisalignedTileBoundaries` if chunks lie side by side and their rows aren't of whole bytes;
+/// `ChromaSubsampling` for YCbCr with fewer chroma samples; `LimitsExceeded` if all planes have
+/// 2^64 bytes or more. `sample_type` is `None` if the samples of the page have no number type.
 #[tactic(auto, using(crate::proofs::Wants::laid_fault, crate::proofs::Wants::layout_of_fault), unfolding(crate::specs::Buffers::image_buffer_layout))]
 pub fn image_buffer_layout(page: &Page, alloc: Global) -> TiffResult<BufferLayoutPreference>
     ensures answer { AnswersWithoutSource (λ l. l) result (spec.image_buffer_layout (view.page page.now)) }
@@ -74,7 +77,8 @@ pub fn image_buffer_layout(page: &Page, alloc: Global) -> TiffResult<BufferLayou
     Ok(all_planes(page, layout))
 }
 
-// So many bytes in whole samples, below 2^63.
+// Rounds a number of bytes up to whole samples of `size` bytes. Returns `LimitsExceeded` if the
+// result is 2^63 or more.
 fn rounded(bytes: usize, size: usize) -> TiffResult<usize>
     requires { 0 < size }
     ensures { Gives (λ n. n) result (spec.rounded_size bytes size) }
@@ -88,9 +92,10 @@ fn rounded(bytes: usize, size: usize) -> TiffResult<usize>
     Ok(len)
 }
 
-/// A buffer for a chunk in one plane, in whole samples; an index past the planes is reduced. The first fault: of the layout,
-/// as for the image; of the samples, `UnsupportedSampleDepth` or `UnsupportedSampleFormat`; 2^63 bytes or more:
-/// `LimitsExceeded`.
+/// Returns the layout of a buffer for one plane of a chunk, in whole samples. The index counts
+/// modulo the number of chunks of a plane. Returns the first of these errors: those of the layout,
+/// as `image_buffer_layout` does; `UnsupportedSampleDepth` or `UnsupportedSampleFormat` if the
+/// samples have no number type; `LimitsExceeded` for 2^63 bytes or more.
 #[tactic(auto, using(crate::proofs::Wants::laid_fault, crate::proofs::Wants::layout_of_fault), unfolding(crate::specs::Buffers::image_chunk_buffer_layout))]
 pub fn image_chunk_buffer_layout(
     page: &Page,
@@ -117,7 +122,8 @@ pub fn image_chunk_buffer_layout(
     })
 }
 
-// A coding unit is one of the chunks of a plane.
+// Returns `InvalidCodingUnit(unit, chunks)` if `unit` isn't below the number of chunks of a
+// plane.
 pub(crate) fn unit_fault(page: &Page, unit: u32) -> TiffResult<()>
     ensures answer { Gives (λ _. tt) result (spec.unit_fault (view.page page.now) unit) }
     ensures below { IfOk result (λ _. unit < rects.chunks_of_plane (view.page page.now)) }
@@ -129,8 +135,10 @@ pub(crate) fn unit_fault(page: &Page, unit: u32) -> TiffResult<()>
     Ok(())
 }
 
-/// A buffer for a coding unit: of a chunky page as for the chunk, of a planar one for all planes, whose first fault is that
-/// of the layout, as for the image; then a unit that isn't below the chunks of a plane: `InvalidCodingUnit(unit, chunks)`.
+/// Returns the layout of a buffer for a coding unit. For a chunky page it is that of
+/// `image_chunk_buffer_layout`. For a planar page it is a buffer for all planes: returns first the
+/// errors of the layout, as `image_buffer_layout` does, then `InvalidCodingUnit(unit, chunks)` if
+/// the unit isn't below the number of chunks of a plane.
 #[tactic(auto, using(crate::proofs::Wants::laid_fault, crate::proofs::Wants::layout_of_fault), unfolding(crate::specs::Buffers::image_coding_unit_layout))]
 pub fn image_coding_unit_layout(
     page: &Page,

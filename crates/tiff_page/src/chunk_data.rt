@@ -1,4 +1,4 @@
-//! The data of a chunk, read from the front on.
+//! Reads the data of a chunk from its start.
 
 ghost use Rattle.std.specs.Prelude.{◌≡◌, ◌+◌, ◌<◌, ◌≤◌, ℕ, List, if◌then◌else◌, length, slice_index, Ok, IfOk};
 ghost use Rattle.tiff_base.specs.Answers.{AsksOnly, IsKept};
@@ -19,7 +19,8 @@ use tiff_base::read::read_exact_at;
 use tiff_base::tags::CompressionMethod;
 use tiff_ifd::packbits::PackedPosition;
 
-/// A position in the data of a chunk: in the file, in packed data, or behind the last byte of these.
+/// A position in the data of a chunk: at an offset in the file, in PackBits data, or after the last
+/// byte of these.
 #[derive(Clone, Copy, Debug)]
 pub enum ChunkCursor {
     Plain(u64),
@@ -27,10 +28,10 @@ pub enum ChunkCursor {
     Ended,
 }
 
-// How many bytes are read at once.
+// The number of bytes that `read_grown` reads at once.
 const PIECE: usize = 65536;
 
-// Passes so many bytes of packed data, or all that are left.
+// Skips `n` bytes of PackBits data after decompression, or all that are left if there are fewer.
 fn pass_packed<R: Source>(
     source: &mut R,
     position: PackedPosition,
@@ -57,7 +58,8 @@ fn pass_packed<R: Source>(
 }
 
 impl ChunkCursor {
-    /// The front of data at a position of so many bytes, by a method that is unpacked.
+    /// Returns the position at the start of the data of `count` bytes at offset `at`, which are
+    /// uncompressed or compressed by PackBits.
     #[tactic(auto, using(crate::proofs::Data::unpacked_out))]
     pub fn new(method: CompressionMethod, at: u64, count: u64) -> Self
         requires { method_fault method ≡ Ok tt }
@@ -70,7 +72,8 @@ impl ChunkCursor {
         }
     }
 
-    /// Fills a buffer with the next bytes, and answers the position behind them. Fewer are left: `IoError(UnexpectedEof)`.
+    /// Fills a buffer with the next bytes, and returns the position after them. Returns
+    /// `IoError(UnexpectedEof)` if fewer bytes are left.
     pub fn read<R: Source>(self, source: &mut R, buf: &mut [u8]) -> TiffResult<ChunkCursor>
         ensures kept { IsKept R.told R.failures result source.old source.new }
         ensures taken { Takes (R.told source.old).bytes self ⊥ (R.failures source.old < R.failures source.new) (length buf.old) buf.new result }
@@ -95,8 +98,9 @@ impl ChunkCursor {
         }
     }
 
-    /// Makes a list the next `len` bytes; it grows as they come, by a piece at most ahead of them. Fewer are left:
-    /// `IoError(UnexpectedEof)`, and the list holds some of them.
+    /// Replaces a list by the next `len` bytes. The list grows as the bytes come, and is at most
+    /// `PIECE` bytes, 65536, ahead of them. Returns `IoError(UnexpectedEof)` if fewer bytes are
+    /// left; the list then holds some of them.
     pub fn read_grown<R: Source>(
         self,
         source: &mut R,
@@ -120,7 +124,7 @@ impl ChunkCursor {
         Ok(position)
     }
 
-    /// Passes so many bytes, or all that are left where there are fewer.
+    /// Skips `n` bytes, or all that are left if there are fewer.
     #[tactic(auto, using(crate::proofs::Data::passed_end))]
     pub fn pass<R: Source>(self, source: &mut R, n: u64) -> TiffResult<ChunkCursor>
         ensures kept { IsKept R.told R.failures result source.old source.new }

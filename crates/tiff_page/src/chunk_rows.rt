@@ -1,4 +1,4 @@
-//! The rows of a chunk are read into a buffer.
+//! Reads the rows of a chunk into a buffer.
 
 ghost use Rattle.std.specs.Prelude.{◌≡◌, ℕ, List, ◌+◌, ◌-◌, ◌*◌, Ok, true, ◌<◌, ◌≤◌, ◌^◌, length, false, ◌/◌, ◌⊎◌, OnOk, IfOk};
 ghost use Rattle.tiff_base.specs.Answers.{Answers, AsksOnly, IsKept};
@@ -30,7 +30,7 @@ use tiff_base::error::TiffResult;
 use tiff_base::io::Source;
 use tiff_base::tags::{ByteOrder, Predictor};
 
-/// What reads the rows of a chunk of a page, in the color that its samples are shown in.
+/// Reads the rows of a chunk of a page, in the color of the output.
 #[derive(Clone, Copy)]
 pub struct ChunkReader<'a> {
     pub(crate) page: &'a Page,
@@ -45,7 +45,8 @@ pub struct ChunkReader<'a> {
     ghost high: { height ≡ (rect (view.page page.now) index).height },
 }
 
-/// Where the rows of a chunk go in a buffer whose rows are a stride apart: their first row, and its first byte.
+/// Where the rows of a chunk go in a buffer: the row `top` of the first one, the byte `left` of
+/// that row, and the number of bytes `stride` from a row of the buffer to the next.
 #[derive(Clone, Copy, Debug)]
 pub struct Destination {
     pub top: usize,
@@ -53,8 +54,8 @@ pub struct Destination {
     pub stride: usize,
 }
 
-/// The bytes of a chunk that are read next: their position in its data, how many they are as they are handed out, and the first
-/// byte that they go to in a list.
+/// The bytes of a chunk that are read next: their position in its data, their number as they are
+/// output, and the first byte of a list that they go to.
 #[derive(Clone, Copy, Debug)]
 pub struct RowSlot {
     pub position: ChunkCursor,
@@ -62,7 +63,8 @@ pub struct RowSlot {
     pub at: usize,
 }
 
-/// Rooms for a whole stored row, and for bytes before their byte planes are joined or their numbers turned.
+/// Scratch buffers for a whole stored row, and for bytes before their byte planes are joined or
+/// their numbers are byte-swapped.
 #[derive(Drop)]
 pub struct RowScratch {
     row: Vec<u8>,
@@ -70,7 +72,7 @@ pub struct RowScratch {
 }
 
 impl RowScratch {
-    /// No room yet.
+    /// Returns empty scratch buffers.
     pub fn new(alloc: Global) -> Self {
         RowScratch {
             row: Vec::new(alloc),
@@ -79,7 +81,7 @@ impl RowScratch {
     }
 }
 
-// The bytes to be passed behind a row, of which there are none behind the last.
+// Returns the number of bytes to skip after a row: `gap`, or 0 after the last row.
 fn gap_behind(gap: u64, row: usize, rows: usize) -> u64
     requires { row < rows }
     ensures between { row + 1 < rows → result ≡ gap }
@@ -89,7 +91,7 @@ fn gap_behind(gap: u64, row: usize, rows: usize) -> u64
 }
 
 impl ChunkReader<'_> {
-    // Reads the next row into a buffer, where a whole stored row has to be read for it.
+    // Reads the next row into a buffer, if this needs the whole stored row.
     #[tactic(auto, using(crate::proofs::RowRead::whole_taken, crate::proofs::RowRead::whole_cause))]
     fn read_whole_row<R: Source>(
         &self,
@@ -117,7 +119,7 @@ impl ChunkReader<'_> {
         Ok(rest)
     }
 
-    // Reads the next bytes into a room, and turns their numbers on the way from there into a buffer.
+    // Reads the next bytes into a scratch buffer, and writes their numbers byte-swapped into `out`.
     #[tactic(auto, using(crate::proofs::RowRead::numbers_cause))]
     fn read_turned<R: Source>(
         &self,
@@ -141,7 +143,7 @@ impl ChunkReader<'_> {
         Ok(rest)
     }
 
-    // Reads the next bytes into a buffer, their numbers in little-endian order.
+    // Reads the next bytes into a buffer, with their numbers in little-endian order.
     #[tactic(auto, using(crate::proofs::RowRead::numbers_cause))]
     fn read_numbers<R: Source>(
         &self,
@@ -165,7 +167,7 @@ impl ChunkReader<'_> {
         position.read(source, out)
     }
 
-    /// Reads the next bytes into a buffer, as they are handed out, where no whole rows have to be read for them.
+    /// Reads the next bytes into a buffer as they are output, if this needs no whole stored rows.
     #[tactic(auto, using(crate::proofs::RowRead::row_taken, crate::proofs::RowRead::row_cause))]
     pub(crate) fn read_finished<R: Source>(
         &self,
@@ -189,7 +191,7 @@ impl ChunkReader<'_> {
         Ok(rest)
     }
 
-    /// Reads the next row into a buffer, as it is handed out.
+    /// Reads the next row into a buffer as it is output.
     pub(crate) fn read_row<R: Source>(
         &self,
         source: &mut R,
@@ -214,7 +216,7 @@ impl ChunkReader<'_> {
         self.read_finished(source, position, room, out)
     }
 
-    // The bytes of a stored row that aren't read.
+    // Returns the number of bytes at the end of a stored row that aren't read.
     fn gap(&self, len: usize) -> u64
         ensures { result ≡ stored_row_bytes (view.page self.now.page.now) - needed_of_row (view.page self.now.page.now) self.now.color len }
     {
@@ -224,7 +226,7 @@ impl ChunkReader<'_> {
         stored_row_bytes(self.page).saturating_sub(len) as u64
     }
 
-    /// The front of the chunk's data.
+    /// Returns the position at the start of the chunk's data.
     pub(crate) fn front(&self) -> ChunkCursor
         requires formed { method_fault self.now.page.now.method ≡ Ok tt }
         requires listed { self.now.index < length self.now.page.now.offsets }
@@ -242,7 +244,7 @@ impl ChunkReader<'_> {
         )
     }
 
-    // Reads the rows one by one, from the front of the chunk's data on.
+    // Reads the rows one by one, from the start of the chunk's data.
     fn read_each<R: Source, T, W: RowSink<T>>(
         &self,
         source: &mut R,

@@ -1,4 +1,4 @@
-//! How many chunks a page has, and how large they are.
+//! The number of chunks of a page, and their size.
 
 ghost use Rattle.std.specs.Prelude.{◌≡◌};
 ghost use Rattle.tiff_base.specs.Answers.{Gives};
@@ -9,8 +9,9 @@ use crate::page::Page;
 use tiff_base::color::ChunkType;
 use tiff_base::error::{TiffError, TiffResult, UsageError};
 
-/// The strips of all planes. A page of tiles: `InvalidChunkType(Strip, Tile)`; the height and the rows of a strip, less one,
-/// past `u32::MAX` together: `IntSizeError`.
+/// Returns the number of strips of all planes. Returns `InvalidChunkType(Strip, Tile)` for a page
+/// of tiles, and `IntSizeError` if the height plus the rows of a strip, less one, is above
+/// `u32::MAX`.
 #[tactic(auto, unfolding(crate::specs::Counts::strip_count))]
 pub fn strip_count(page: &Page) -> TiffResult<u32>
     ensures { Gives (λ n. n) result (counts.strip_count (view.page page.now)) }
@@ -30,7 +31,8 @@ pub fn strip_count(page: &Page) -> TiffResult<u32>
     }
 }
 
-/// The tiles of all planes. A page of strips: `InvalidChunkType(Tile, Strip)`.
+/// Returns the number of tiles of all planes. Returns `InvalidChunkType(Tile, Strip)` for a page
+/// of strips.
 #[tactic(auto, unfolding(crate::specs::Counts::tile_count))]
 pub fn tile_count(page: &Page) -> TiffResult<u32>
     ensures { Gives (λ n. n) result (counts.tile_count (view.page page.now)) }
@@ -44,7 +46,8 @@ pub fn tile_count(page: &Page) -> TiffResult<u32>
     }
 }
 
-/// The width and the height of a chunk as the tags tell them: those at the edges of the image aren't cut.
+/// Returns the width and the height of a chunk, in pixels, as the tags define them: chunks at the
+/// edges of the image aren't cut.
 pub fn chunk_dimensions(page: &Page) -> (u32, u32)
     ensures { result ≡ counts.chunk_dimensions (view.page page.now) }
 {

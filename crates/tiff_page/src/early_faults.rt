@@ -1,4 +1,4 @@
-//! Faults that are found before memory is taken for samples.
+//! Errors that the decoder finds before it allocates memory for samples.
 
 ghost use Rattle.std.specs.Prelude.{◌≡◌, ◌+◌, ◌-◌, ◌*◌, ◌<◌, ◌≤◌, ◌^◌, length, min, nat_lt};
 ghost use Rattle.std.specs.Int.{div_ceil};
@@ -29,7 +29,7 @@ fn is_packed(method: CompressionMethod) -> bool
     matches!(method, CompressionMethod::PackBits)
 }
 
-// The bytes that are read of a row of which so many are handed out.
+// Returns how many bytes of a stored row are read to output `len` bytes.
 fn needed_of_row(page: &Page, color: ColorType, len: usize) -> usize
     requires { len < 2 ^ 56 }
     ensures value { result ≡ pixels.needed_of_row (view.page page.now) color len }
@@ -41,7 +41,7 @@ fn needed_of_row(page: &Page, color: ColorType, len: usize) -> usize
     len
 }
 
-// The bytes that are needed of a chunk.
+// Returns how many decompressed bytes the image needs of a chunk.
 #[tactic(auto, using(crate::proofs::Cut::rows_fit, crate::proofs::Cut::bytes_few))]
 fn needed_bytes(page: &Page, color: ColorType, index: u32) -> u128
     ensures value { result ≡ pixels.needed_bytes (view.page page.now) color index }
@@ -53,7 +53,8 @@ fn needed_bytes(page: &Page, color: ColorType, index: u32) -> u128
     u128::from(height - 1) * row + last
 }
 
-// A source that has fewer than so many bytes from an offset on: `IoError(UnexpectedEof)`. The last of them is read.
+// Returns `IoError(UnexpectedEof)` if the source has fewer than `len` bytes from offset `at` on.
+// Reads the last of them.
 #[tactic(auto, using(crate::proofs::Cut::reached, crate::proofs::Cut::past_all))]
 fn reach<R: Source>(source: &mut R, at: u64, len: u128) -> TiffResult<()>
     requires few { len < 2 ^ 89 }
@@ -71,7 +72,9 @@ fn reach<R: Source>(source: &mut R, at: u64, len: u128) -> TiffResult<()>
     read_exact_at(source, last, &mut [0u8; 1])
 }
 
-// The same of packed bytes, of which so many are counted, for so many that they unpack to: two of them give at most 128.
+// Returns `IoError(UnexpectedEof)` if the source has too few of the `count` bytes of PackBits data
+// at offset `at` for `needed` decompressed bytes. Two bytes of PackBits data decompress to at most
+// 128 bytes.
 #[tactic(auto, using(crate::proofs::Cut::counted_few, crate::proofs::Cut::counted_all, crate::proofs::Cut::least_few))]
 fn reach_packed<R: Source>(source: &mut R, at: u64, count: u64, needed: u128) -> TiffResult<()>
     requires few { needed < 2 ^ 89 }
@@ -88,7 +91,8 @@ fn reach_packed<R: Source>(source: &mut R, at: u64, count: u64, needed: u128) ->
     reach(source, at, least)
 }
 
-// A source that has fewer bytes for a chunk than its data take at least: `IoError(UnexpectedEof)`. One byte is read.
+// Returns `IoError(UnexpectedEof)` if the source has fewer bytes of a chunk than the data of the
+// chunk take at least. Reads at most one byte.
 fn cut_fault<R: Source>(source: &mut R, page: &Page, color: ColorType, index: u32) -> TiffResult<()>
     requires listed { index < length page.now.offsets }
     ensures kept { IsKept R.told R.failures result source.old source.new }
@@ -108,8 +112,9 @@ fn cut_fault<R: Source>(source: &mut R, page: &Page, color: ColorType, index: u3
 }
 
 impl PageReader<'_> {
-    /// The first fault of a chunk, as far as it is found before memory is taken for its samples: of its form, or too few bytes
-    /// in the source for its data, `IoError(UnexpectedEof)`. One byte is read.
+    /// Returns the first error of a chunk, as far as it is found before memory is allocated for its
+    /// samples: an error of `form_fault`, or `IoError(UnexpectedEof)` if the source has too few
+    /// bytes for the chunk's data. Reads at most one byte.
     pub(crate) fn early_fault<R: Source>(
         &self,
         source: &mut R,

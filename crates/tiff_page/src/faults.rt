@@ -1,4 +1,4 @@
-//! The faults of reading pixels, but that of too few data.
+//! The errors of reading pixels, except for too few data.
 
 ghost use Rattle.std.specs.Prelude.{◌≡◌, ◌<◌, length, OnOk};
 ghost use Rattle.tiff_base.specs.Answers.{Gives};
@@ -100,9 +100,11 @@ fn inversion_fault(page: &Page, color: ColorType) -> TiffResult<()>
     }
 }
 
-/// The first fault of a chunk but that of too few data. An index past the list: `InconsistentSizesEncountered`; a depth,
-/// a predictor, a method or an inversion that isn't supported: its `UnsupportedError`; more bytes in the file than
-/// `intermediate_buffer_size`: `LimitsExceeded`.
+/// Returns the first error of a chunk, except for too few data, in this order:
+/// `InconsistentSizesEncountered` if the index is past the list of chunks; the `UnsupportedError`
+/// of a depth or a predictor that isn't supported; `LimitsExceeded` if the chunk has more bytes in
+/// the file than `intermediate_buffer_size`; the `UnsupportedError` of a compression method or an
+/// inversion that isn't supported.
 #[tactic(auto, unfolding(crate::specs::PixelFault::form_fault))]
 pub fn form_fault(page: &Page, limits: &Limits, color: ColorType, index: usize) -> TiffResult<()>
     ensures answer { Gives (λ _. tt) result (spec.form_fault (view.page page.now) limits.now color index) }
@@ -121,7 +123,8 @@ pub fn form_fault(page: &Page, limits: &Limits, color: ColorType, index: usize) 
     inversion_fault(page, color)
 }
 
-/// More samples than `decoding_buffer_size` bytes hold: `LimitsExceeded`.
+/// Returns `LimitsExceeded` if `bytes` bytes, in whole samples of `size` bytes, are more samples
+/// than `decoding_buffer_size` bytes hold.
 pub fn limit_fault(limits: &Limits, size: usize, bytes: usize) -> TiffResult<()>
     requires { 0 < size }
     ensures { Gives (λ _. tt) result (spec.limit_fault limits.now size bytes) }

@@ -1,65 +1,67 @@
-//! Laws of the definitions, each the contract of a function with no work.
+//! Laws of the specifications. Each law is the contract of a function with an empty body.
 
 ghost use Rattle.tiff_page.specs.EarlyLaws.{EarlyIsAnswered};
 ghost use Rattle.tiff_page.specs.Laws.{OneChunk, ChunksWithin, FirstFault, NoFault, PlacedEach, SomeBytes, ImageOfChunks, WholeRows, UnitOfChunks};
 ghost use Rattle.tiff_page.specs.Row.{ComplementsInvert, BytesOfNumbers};
 
-/// Each pixel of the image is of one chunk of a plane and of no other.
+/// Each pixel of the image belongs to exactly one chunk of a plane.
 pub fn one_chunk()
     ensures { OneChunk }
 {}
 
-/// A chunk's rectangle has a pixel, and lies within the image.
+/// The rectangle of a chunk has at least one pixel, and lies within the image.
 pub fn chunks_within()
     ensures { ChunksWithin }
 {}
 
-/// What is answered of several chunks is the first fault.
+/// The error of several chunks is the first error of one of them.
 pub fn first_fault()
     ensures { FirstFault }
 {}
 
-/// There is no fault where none has one, and nowhere else.
+/// Several chunks have no error exactly if none of them has one.
 pub fn no_fault()
     ensures { NoFault }
 {}
 
-/// A buffer in which a region is placed has at each position the region's byte or what it had.
+/// Where a region is placed in a buffer, each byte of the buffer is the region's byte or unchanged.
 pub fn placed_each()
     ensures { PlacedEach }
 {}
 
-/// The rows and the planes of a layout are of some bytes.
+/// The rows and the planes of a layout have at least one byte.
 pub fn some_bytes()
     ensures { SomeBytes }
 {}
 
-/// A chunk's rows are a part of the rows of the image.
+/// The rows of a chunk are parts of the rows of the image.
 pub fn image_of_chunks()
     ensures { ImageOfChunks }
 {}
 
-/// A page that is read has rows of whole bytes.
+/// A page with a layout and a supported depth has rows of whole bytes.
 pub fn whole_rows()
     ensures { WholeRows }
 {}
 
-/// A coding unit shows of each plane the chunk of that plane.
+/// A coding unit contains the chunk of each plane.
 pub fn unit_of_chunks()
     ensures { UnitOfChunks }
 {}
 
-/// Complements of the bytes of a row are complements of its numbers.
+/// If each byte of a row is complemented, each number of the row is complemented.
 pub fn complements_invert()
     ensures { ComplementsInvert }
 {}
 
-/// A row of little-endian numbers has the bytes of these numbers, the least first.
+/// The bytes of a row of little-endian numbers are the bytes of these numbers, the least
+/// significant first.
 pub fn bytes_of_numbers()
     ensures { BytesOfNumbers }
 {}
 
-/// What is found before memory is taken for samples is the answer of the call that hands them out.
+/// An error that is found before memory is allocated for samples is the error of the call that
+/// returns these samples.
 pub fn early_is_answered()
     ensures { EarlyIsAnswered }
 {}

@@ -1,4 +1,5 @@
-//! The color of a page, the number type of its samples, where its chunks lie, and how planes are laid out.
+//! The color of a page, the number type of its samples, the positions of its chunks, and the layout
+//! of its planes.
 
 ghost use Rattle.std.specs.Prelude.{◌≡◌, ◌+◌, ◌-◌, ◌*◌, ◌/◌, ◌%◌, ◌<◌, ◌≤◌, ◌^◌, replicate, IfOk, None};
 ghost use Rattle.tiff_base.specs.Answers.{AnswersWithoutSource, Gives};
@@ -37,30 +38,31 @@ pub enum DecodingSampleType {
     I64,
 }
 
-/// A chunk of the first plane and those of the other planes that lie upon it, by its index.
+/// A coding unit: the chunk with this index of the first plane, and the chunks at the same position
+/// of the other planes.
 #[derive(Clone, Copy, Debug, PartialEq, Eq, Hash)]
 pub struct TiffCodingUnit(pub u32);
 
-/// How the bytes of a buffer that takes an image or a part of one are laid out (as in the Rust crate).
+/// How the bytes of a buffer for an image or a part of one are laid out (as in the Rust crate).
 #[derive(Clone, Debug, PartialEq, Drop)]
 #[non_exhaustive]
 pub struct BufferLayoutPreference {
-    /// The bytes of one plane.
+    /// The number of bytes of one plane.
     pub len: usize,
-    /// What the bits of a sample are.
+    /// The format of a sample: how its bits are read.
     pub sample_format: SampleFormat,
-    /// The number type of a sample, where there is one.
+    /// The number type of a sample, if there is one.
     pub sample_type: Option<DecodingSampleType>,
-    /// The bytes from a row to the next, at least 1.
+    /// The number of bytes from a row to the next, at least 1.
     pub row_stride: Option<usize>,
     pub planes: usize,
-    /// The bytes from a plane to the next, at least 1.
+    /// The number of bytes from a plane to the next, at least 1.
     pub plane_stride: Option<usize>,
-    /// The bytes of all planes.
+    /// The number of bytes of all planes.
     pub complete_len: usize,
 }
 
-/// A chunk's position and size in the image.
+/// The position and the size of a chunk in the image, in pixels, and its plane.
 #[derive(Clone, Copy, Debug, PartialEq, Eq)]
 pub struct ChunkRect {
     pub plane: u64,
@@ -70,14 +72,14 @@ pub struct ChunkRect {
     pub height: u32,
 }
 
-/// Chunks beside each other.
+/// Returns the number of chunks side by side.
 fn chunks_across(page: &Page) -> u64
     ensures { result ≡ rects.across (view.page page.now) }
 {
     (u64::from(page.width) + u64::from(page.chunk_width) - 1) / u64::from(page.chunk_width)
 }
 
-/// Chunks of a plane.
+/// Returns the number of chunks of a plane.
 #[tactic(auto, using(crate::proofs::Sizes::plane_some, crate::proofs::Sizes::plane_few))]
 pub fn chunks_of_plane(page: &Page) -> u32
     ensures count { result ≡ rects.chunks_of_plane (view.page page.now) }
@@ -88,7 +90,7 @@ pub fn chunks_of_plane(page: &Page) -> u32
     (chunks_across(page) * down) as u32
 }
 
-/// The rectangle of a chunk.
+/// Returns the rectangle of a chunk, clipped to the image.
 #[tactic(auto, using(crate::proofs::Sizes::parts_some, crate::proofs::Sizes::column_fits, crate::proofs::Sizes::row_fits, crate::proofs::Sizes::column_in, crate::proofs::Sizes::row_in), unfolding(crate::specs::Rect::rect))]
 pub fn rect(page: &Page, index: u32) -> ChunkRect
     ensures wide { 0 < result.width }
@@ -114,7 +116,7 @@ pub fn rect(page: &Page, index: u32) -> ChunkRect
     }
 }
 
-/// The width and the height of a chunk in the image.
+/// Returns the width and the height of a chunk, in pixels, clipped to the image.
 pub fn chunk_data_dimensions(page: &Page, index: u32) -> (u32, u32)
     ensures wide { 0 < result.0 }
     ensures high { 0 < result.1 }
@@ -148,11 +150,11 @@ fn first_is_alpha(extra: &[ExtraSamples]) -> bool
     )
 }
 
-/// The color of a page.
+/// Returns the color of a page, or `InterpretationWithBits` if it has none.
 #[tactic(auto, unfolding(crate::specs::Layout::color_of))]
 pub fn color_of(page: &Page, alloc: Global) -> TiffResult<ColorType>
     ensures answer { AnswersWithoutSource (λ c. c) result (spec.color_of (view.page page.now)) }
-    // No memory is taken where there is a color.
+    // `color_of` allocates no memory if there is a color.
     ensures color { (c : ColorType) → spec.color_of (view.page page.now) ≡ Ok c → result ≡ Ok c }
     ensures memory { WantsWhere (IsListFault (spec.color_of (view.page page.now))) result }
 {
@@ -203,7 +205,7 @@ pub fn color_of(page: &Page, alloc: Global) -> TiffResult<ColorType>
 
 // ---- the sample type
 
-/// The number type of the samples of a page, where there is one.
+/// Returns the number type of the samples of a page, if there is one.
 #[tactic(auto, unfolding(crate::specs::Layout::sample_type_of))]
 pub fn known_sample_type(page: &Page) -> Option<DecodingSampleType>
     ensures { result ≡ type_known (spec.sample_type_of (view.page page.now)) }
@@ -234,7 +236,7 @@ pub fn known_sample_type(page: &Page) -> Option<DecodingSampleType>
     }
 }
 
-// Why there is no number type of the samples of a page.
+// Returns the error for samples without a number type.
 #[tactic(auto, unfolding(crate::specs::Layout::sample_type_of))]
 fn no_sample_type(page: &Page, alloc: Global) -> TiffResult<DecodingSampleType>
     requires { type_known (spec.sample_type_of (view.page page.now)) ≡ None }
@@ -252,8 +254,9 @@ fn no_sample_type(page: &Page, alloc: Global) -> TiffResult<DecodingSampleType>
     }
 }
 
-/// The number type of the samples of a page. Of a depth for which its format has none: `UnsupportedSampleDepth`; of a format
-/// that isn't one of numbers: `UnsupportedSampleFormat`.
+/// Returns the number type of the samples of a page. Returns `UnsupportedSampleDepth` if the format
+/// has no number type of this depth, and `UnsupportedSampleFormat` if the format isn't one of
+/// numbers.
 pub fn sample_type_of(page: &Page, alloc: Global) -> TiffResult<DecodingSampleType>
     ensures answer { AnswersWithoutSource (λ t. t) result (spec.sample_type_of (view.page page.now)) }
     ensures memory { WantsWhere (IsListFault (spec.sample_type_of (view.page page.now))) result }
@@ -264,7 +267,7 @@ pub fn sample_type_of(page: &Page, alloc: Global) -> TiffResult<DecodingSampleTy
     }
 }
 
-/// The bytes of a sample.
+/// Returns the number of bytes of a sample, from 1 to 8.
 pub fn size_of(sample: DecodingSampleType) -> usize
     ensures size { result ≡ spec.size_of sample }
     ensures some { 0 < result }
@@ -280,7 +283,8 @@ pub fn size_of(sample: DecodingSampleType) -> usize
 
 // ---- a layout
 
-/// How the bytes of a plane are laid out.
+/// How the bytes of a plane are laid out: its color, the number of bytes of a row, and the number
+/// of bytes of the plane.
 #[derive(Clone, Copy, Debug)]
 pub struct PlaneLayout {
     pub color: ColorType,
@@ -350,7 +354,11 @@ pub fn checked_byte_count(a: usize, b: usize) -> TiffResult<usize>
     a.checked_mul(b).ok_or(TiffError::LimitsExceeded)
 }
 
-/// The layout of a part of a page.
+/// Returns the layout of a part of a page, `width` by `height` pixels. Returns the first of these
+/// errors: `InterpretationWithBits` if the page has no color; `LimitsExceeded` if a plane, or its
+/// rows up to the stored height of a chunk, have 2^64 bytes or more; `MisalignedTileBoundaries` if
+/// chunks lie side by side and their rows aren't of whole bytes; `ChromaSubsampling` for YCbCr with
+/// fewer chroma samples.
 #[tactic(auto, using(crate::proofs::Planes::some_row, crate::proofs::Planes::some_plane), unfolding(crate::specs::Layout::layout_of))]
 pub fn layout_of(page: &Page, alloc: Global, width: u32, height: u32) -> TiffResult<PlaneLayout>
     ensures rows { 0 < width → IfOk result (λ l. 0 < l.row_bytes) }

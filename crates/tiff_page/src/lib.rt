@@ -1,4 +1,4 @@
-//! What the tags of a page say, how its samples are laid out, and its pixels.
+//! The facts that the tags of a page define, the layout of its samples, and its pixels.
 #![tactic(auto)]
 
 mod adjacent_rows;

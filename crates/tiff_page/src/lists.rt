@@ -1,10 +1,10 @@
-//! Lists that a page carries.
+//! Lists that a page has.
 
 use tiff_base::lists::ItemList;
 use tiff_base::tags::ExtraSamples;
 
-/// What the samples beyond those of the color are.
+/// What the samples beyond those of the color mean.
 pub type ExtraSampleList = ItemList<ExtraSamples>;
 
-/// Numbers that a tag holds.
+/// The numbers of a tag.
 pub type NumberList = ItemList<u64>;

@@ -1,4 +1,4 @@
-//! Lists of numbers that rows of bytes are put into.
+//! Lists of numbers into which rows of bytes are written.
 
 ghost use Rattle.std.proofs.Common.{refl, inl, inr};
 ghost use Rattle.std.specs.Int.{w8, w16, w32, w64, cast_unsigned};
@@ -12,24 +12,24 @@ ghost use Rattle.tiff_page.specs.Row.{IsSize};
 use std::alloc::AllocError;
 use tiff_base::tags::{Bits16, Bits32, Bits64};
 
-/// A number of so many bytes.
+/// A number of `N` bytes.
 pub trait Number<const N: usize>: Copy {
-    /// Its bits.
+    /// The bits of the number.
     ghost bits: { Self → ℕ };
 
-    /// Zero.
+    /// Returns zero.
     fn zero() -> Self
         ensures { bits result ≡ 0 };
 
-    /// The number of some bytes, the lowest first.
+    /// Returns the number of some bytes, the least significant first.
     fn of(bytes: [u8; N]) -> Self
         ensures { bits result ≡ number LittleEndian (width_of N) bytes.entry };
 
-    /// Its bytes, the lowest first.
+    /// Returns the bytes of the number, the least significant first.
     fn bytes(self) -> [u8; N]
         ensures { result ≡ all_bytes N (bits self) };
 
-    /// It has one, two, four or eight bytes.
+    /// `N` is 1, 2, 4 or 8.
     ghost sized: { IsSize N };
 }
 
@@ -275,7 +275,7 @@ impl Number<8> for i64 {
     ghost sized = { inr (inr (inr refl)) };
 }
 
-/// Makes a list so many numbers long by zeros, where it is shorter.
+/// Grows a list to `count` numbers by zeros, if it is shorter.
 #[tactic(auto, using(crate::proofs::NumberBytes::zeros_behind, crate::proofs::NumberBytes::no_zeros_behind))]
 pub(crate) fn grow<T: Number<N>, const N: usize>(
     numbers: &mut Vec<T>,
@@ -289,7 +289,8 @@ pub(crate) fn grow<T: Number<N>, const N: usize>(
     Ok(())
 }
 
-// Puts the numbers of a row of whole numbers at the front of a list. One index alone: LLVM makes vectors of it.
+// Writes the numbers of a row of whole numbers at the front of a list. The loop has only one index,
+// so that LLVM vectorizes it.
 #[tactic(auto, using(crate::proofs::NumberBytes::none_placed, crate::proofs::NumberBytes::placed_more))]
 fn put_front<T: Number<N>, const N: usize>(numbers: &mut [T], row: &[u8])
     requires some { 0 < N }
@@ -302,7 +303,7 @@ fn put_front<T: Number<N>, const N: usize>(numbers: &mut [T], row: &[u8])
     }
 }
 
-// Puts the numbers of a row of whole numbers from number `first` on.
+// Writes the numbers of a row of whole numbers from number `first` on.
 fn put_numbers<T: Number<N>, const N: usize>(numbers: &mut [T], first: usize, row: &[u8])
     requires some { 0 < N }
     requires room { first + length row.now / N ≤ length numbers.old }
@@ -311,7 +312,7 @@ fn put_numbers<T: Number<N>, const N: usize>(numbers: &mut [T], first: usize, ro
     put_front(&mut numbers[first..], row);
 }
 
-// Puts a byte at a position of the bytes of numbers.
+// Writes a byte at a position among the bytes of numbers.
 #[tactic(auto, using(crate::proofs::NumberBytes::number_there, crate::proofs::NumberBytes::byte_put))]
 fn put_byte<T: Number<N>, const N: usize>(numbers: &mut [T], at: usize, byte: u8)
     requires some { 0 < N }
@@ -323,7 +324,7 @@ fn put_byte<T: Number<N>, const N: usize>(numbers: &mut [T], at: usize, byte: u8
     numbers[at / N] = T::of(bytes);
 }
 
-// Puts the bytes of a row one by one.
+// Writes the bytes of a row one by one.
 #[tactic(auto, using(crate::proofs::NumberBytes::none_put, crate::proofs::NumberBytes::put_more))]
 fn put_bytes<T: Number<N>, const N: usize>(numbers: &mut [T], at: usize, row: &[u8])
     requires some { 0 < N }
@@ -336,7 +337,7 @@ fn put_bytes<T: Number<N>, const N: usize>(numbers: &mut [T], at: usize, row: &[
     }
 }
 
-/// Puts a row at a position of the bytes of numbers, whole numbers at once.
+/// Writes a row at a position among the bytes of numbers, whole numbers at once.
 #[tactic(auto, using(crate::proofs::NumberBytes::row_put_whole, crate::proofs::NumberBytes::numbers_fit))]
 pub(crate) fn put_row<T: Number<N>, const N: usize>(numbers: &mut [T], at: usize, row: &[u8])
     requires some { 0 < N }

@@ -1,4 +1,4 @@
-//! The rows of a chunk as they are handed out.
+//! The rows of a chunk as they are output.
 
 ghost use Rattle.std.specs.Prelude.{◌≡◌, ◌+◌, ◌*◌, ◌/◌, ◌%◌, ◌^◌, ◌<◌, ◌≤◌, ◌⊎◌, ◌||◌, ℕ, List, true, false, length, slice_index, EachIndex};
 ghost use Rattle.tiff_base.specs.declared.tags.ByteOrder.{ByteOrder};
@@ -18,7 +18,7 @@ use crate::predictors::{invert, to_little_endian, undo_float_predictor, undo_hor
 use tiff_base::color::ColorType;
 use tiff_base::tags::{ByteOrder, PhotometricInterpretation, PlanarConfiguration, Predictor};
 
-/// The samples of a pixel that a chunk stores.
+/// Returns how many samples of a pixel a chunk stores.
 pub fn stored_samples(page: &Page) -> u16
     ensures count { result ≡ pixels.stored_samples (view.page page.now) }
     ensures some { 0 < result }
@@ -29,7 +29,7 @@ pub fn stored_samples(page: &Page) -> u16
     }
 }
 
-/// The bytes of a row of a chunk, all of its samples and columns counted.
+/// Returns the number of bytes of a stored row of a chunk, with all of its samples and columns.
 pub fn stored_row_bytes(page: &Page) -> usize
     ensures value { result ≡ pixels.stored_row_bytes (view.page page.now) }
     ensures few { result < 2 ^ 56 }
@@ -37,7 +37,7 @@ pub fn stored_row_bytes(page: &Page) -> usize
     (bits(page.chunk_width, page.depth, stored_samples(page)) + 7) / 8
 }
 
-/// The bytes that are shown of so many columns of a row.
+/// Returns how many bytes `width` columns of a row have in the output.
 pub fn row_len(page: &Page, color: ColorType, width: u32) -> usize
     ensures value { result ≡ layouts.row_bytes (view.page page.now) color width }
     ensures few { result < 2 ^ 56 }
@@ -45,7 +45,8 @@ pub fn row_len(page: &Page, color: ColorType, width: u32) -> usize
     (row_bits(page, color, width) + 7) / 8
 }
 
-/// Whether the shown samples are read from whole rows: with the byte-plane predictor, or where samples are dropped.
+/// Whether the output needs whole stored rows: with the byte-plane predictor, or if samples are
+/// dropped.
 pub fn needs_whole_rows(page: &Page, color: ColorType) -> bool
     ensures { result ≡ pixels.needs_whole_rows (view.page page.now) color }
 {
@@ -53,14 +54,16 @@ pub fn needs_whole_rows(page: &Page, color: ColorType) -> bool
         || samples_in_chunk(page, color) < stored_samples(page)
 }
 
-/// Whether numbers are turned on their way into a buffer: those of more bytes than one in a big-endian file.
+/// Whether numbers are byte-swapped on their way into a buffer: those of more than one byte in a
+/// big-endian file.
 pub fn needs_swap(order: ByteOrder, page: &Page) -> bool
     ensures { result ≡ spec.needs_swap order page.now.depth }
 {
     matches!(order, ByteOrder::BigEndian) && page.depth > 8
 }
 
-// Sums the differences of a row of little-endian numbers where they are predicted; one of depths below 8 stays.
+// Undoes the horizontal predictor, if the page has it, over a row of little-endian numbers. A row
+// of depth below 8 stays as it is.
 fn undo_differences(page: &Page, row: &mut [u8])
     requires sizes { (page.now.depth < 8) ⊎ IsSize (page.now.depth / 8) }
     requires deep { (page.now.depth < 8) ⊎ (page.now.depth ≡ page.now.depth / 8 * 8) }
@@ -81,7 +84,7 @@ fn undo_differences(page: &Page, row: &mut [u8])
     }
 }
 
-// Complements the bytes of a row where the page says so.
+// Complements the bytes of a row if the interpretation of the page is `WhiteIsZero`.
 fn complement(page: &Page, row: &mut [u8])
     ensures { EachIndex row.new (λ b. slice_index row.new b ≡ pixels.shown_number page.now.interpretation 256 (slice_index row.old b)) }
 {
@@ -90,8 +93,8 @@ fn complement(page: &Page, row: &mut [u8])
     }
 }
 
-/// Makes the numbers of a stored row the row that is handed out, where all of its samples are shown and no byte planes are
-/// joined. They stand in little-endian order.
+/// Makes the numbers of a stored row the output row, if all of its samples are output and no byte
+/// planes are joined. The numbers are in little-endian order.
 pub fn finish_row(page: &Page, color: ColorType, row: &mut [u8])
     requires read { IsRead (view.page page.now) color }
     requires in_place { pixels.needs_whole_rows (view.page page.now) color ≡ false }
@@ -103,7 +106,8 @@ pub fn finish_row(page: &Page, color: ColorType, row: &mut [u8])
     complement(page, row);
 }
 
-// Puts the numbers of a whole stored row of whole bytes into little-endian order. Such as are turned need `room` of its length.
+// Converts the numbers of a whole stored row of whole bytes to little-endian order. If numbers are
+// byte-swapped, `room` needs the length of the row.
 fn turn_whole(page: &Page, order: ByteOrder, row: &mut [u8], room: &mut [u8])
     requires size { IsSize (page.now.depth / 8) }
     requires whole { length row.old / (page.now.depth / 8) * (page.now.depth / 8) ≡ length row.old }
@@ -116,8 +120,8 @@ fn turn_whole(page: &Page, order: ByteOrder, row: &mut [u8], room: &mut [u8])
     }
 }
 
-// Makes a whole stored row of whole bytes the little-endian numbers of its samples. Byte planes, and numbers that are turned,
-// need `room` of its length.
+// Makes a whole stored row of whole bytes the little-endian numbers of its samples. If byte planes
+// are joined or numbers are byte-swapped, `room` needs the length of the row.
 fn undo_whole(page: &Page, order: ByteOrder, row: &mut [u8], room: &mut [u8])
     requires size { IsSize (page.now.depth / 8) }
     requires deep { page.now.depth ≡ page.now.depth / 8 * 8 }
@@ -139,7 +143,7 @@ fn undo_whole(page: &Page, order: ByteOrder, row: &mut [u8], room: &mut [u8])
     }
 }
 
-// The bytes of a pixel in a stored row, and the first of them that are handed out.
+// The number of bytes of a pixel in a stored row, and how many of the first of them are output.
 #[derive(Clone, Copy)]
 struct PixelBytes {
     stored: usize,
@@ -148,7 +152,8 @@ struct PixelBytes {
     ghost within: { shown ≤ stored },
 }
 
-// Keeps the shown bytes of each pixel of a row. Where their counts are constants, the loop is compiled for these.
+// Keeps the output bytes of each pixel of a row. If their numbers are constants, the loop is
+// compiled for these.
 #[inline(always)]
 fn keep_bytes(row: &[u8], pixel: PixelBytes, out: &mut [u8], width: usize)
     requires row { width * pixel.stored ≤ length row.now }
@@ -163,7 +168,8 @@ fn keep_bytes(row: &[u8], pixel: PixelBytes, out: &mut [u8], width: usize)
     }
 }
 
-// The same: at once where pixels are kept whole, and by constants for three samples of four.
+// Keeps the output bytes of each pixel of a row: with one copy if whole pixels are kept, and with
+// constants for three samples of four.
 fn keep_pixels(row: &[u8], pixel: PixelBytes, out: &mut [u8], width: usize)
     requires row { width * pixel.stored ≤ length row.now }
     requires out { length out.old ≡ width * pixel.shown }
@@ -182,9 +188,10 @@ fn keep_pixels(row: &[u8], pixel: PixelBytes, out: &mut [u8], width: usize)
 }
 
 impl ChunkReader<'_> {
-    /// Makes a whole stored row the row that is handed out of the chunk's columns, in `out`: byte planes are joined, and of
-    /// each pixel the shown samples are kept. Byte planes, and numbers that are turned, need `room` of the row's length. What
-    /// stands in `row` and `room` afterwards is open.
+    /// Makes a whole stored row the output row of the chunk's columns, in `out`: joins byte planes,
+    /// and keeps the output samples of each pixel. If byte planes are joined or numbers are
+    /// byte-swapped, `room` needs the length of the row. The bytes of `row` and `room` afterwards
+    /// are unspecified.
     pub(crate) fn finish_whole_row(&self, row: &mut [u8], room: &mut [u8], out: &mut [u8])
         requires read { IsRead (view.page self.now.page.now) self.now.color }
         requires whole { pixels.needs_whole_rows (view.page self.now.page.now) self.now.color ≡ true }
@@ -208,7 +215,7 @@ impl ChunkReader<'_> {
     }
 }
 
-/// A page that passes the tests of its form is read.
+/// A page that passes the checks of its form is readable.
 pub fn form_read()
     ensures { FormRead }
 {}

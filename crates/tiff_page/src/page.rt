@@ -9,7 +9,8 @@ use tiff_base::tags::{
     CompressionMethod, PhotometricInterpretation, PlanarConfiguration, Predictor, SampleFormat,
 };
 
-/// Where the chunks of a page stand.
+/// The chunks of a page: their width and height, and their offsets and numbers of bytes in the
+/// file.
 #[derive(Drop)]
 pub struct ChunkTable {
     pub chunk_width: u32,
@@ -18,7 +19,7 @@ pub struct ChunkTable {
     pub byte_counts: NumberList,
 }
 
-/// What the tags of a page say.
+/// What the tags of a page define.
 #[derive(Drop)]
 pub struct Page {
     pub width: u32,

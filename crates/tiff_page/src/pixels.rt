@@ -1,12 +1,14 @@
-//! Pixels are read: whole images, chunks, and coding units.
+//! Reads pixels: whole images, chunks, and coding units.
 //!
-//! Each call answers the first fault in this order: of the layout of what is read, in all planes, as
-//! `buffers::image_buffer_layout`; of the call's own arguments; of samples, `UnsupportedSampleDepth` or
-//! `UnsupportedSampleFormat`, and more of them than `decoding_buffer_size` bytes hold, `LimitsExceeded`; then of the first
-//! chunk, and in it of the first plane, that has one: a form that isn't supported, or more bytes in the file than
-//! `intermediate_buffer_size`, as `faults::form_fault`, and too few data, `IoError(UnexpectedEof)`. What a slice holds after
-//! a fault is open. No call asks a source for other bytes than those that are needed of the chunks that it reads; of packed
-//! data all bytes that are counted may be asked for.
+//! Each call returns the first error in this order: the errors of the layout of what it reads, in
+//! all planes, as `buffers::image_buffer_layout` does; the errors of the call's own arguments; for
+//! calls that return samples, `UnsupportedSampleDepth` or `UnsupportedSampleFormat`, then
+//! `LimitsExceeded` if the samples are more than `decoding_buffer_size` bytes hold; then the error
+//! of the first chunk, and in it of the first plane, that has one: those of `faults::form_fault` (a
+//! form that isn't supported, or more bytes in the file than `intermediate_buffer_size`), then
+//! `IoError(UnexpectedEof)` for too few data. After an error, the bytes of a slice are unspecified.
+//! A call asks a source only for bytes that are needed of the chunks that it reads; of PackBits
+//! data it may ask for all bytes that the byte count of the chunk includes.
 
 ghost use Rattle.std.specs.Int.{div_ceil};
 ghost use Rattle.std.specs.Prelude.{◌≡◌, ◌*◌, ◌<◌, ◌≤◌, ◌^◌, Ok, IfOk, [], length, map, replicate, if◌then◌else◌, nat_le};
@@ -42,7 +44,7 @@ use tiff_base::io::Source;
 use tiff_base::tags::ByteOrder;
 use tiff_ifd::limits::Limits;
 
-// A slice has room for one plane.
+// Returns `InsufficientOutputBufferSize` if a slice has no room for one plane.
 fn room_fault(provided: usize, needed: usize) -> TiffResult<()>
     ensures answer { Gives (λ _. tt) result (calls.room_fault provided needed) }
     ensures room { IfOk result (λ _. needed ≤ provided) }
@@ -53,7 +55,7 @@ fn room_fault(provided: usize, needed: usize) -> TiffResult<()>
     Ok(())
 }
 
-// Rows that lie so many bytes apart don't reach into each other.
+// Returns `InsufficientOutputRowStride` if rows that are `stride` bytes apart overlap.
 fn stride_fault(stride: usize, row_bytes: usize) -> TiffResult<()>
     ensures answer { Gives (λ _. tt) result (calls.stride_fault stride row_bytes) }
     ensures columns { IfOk result (λ _. row_bytes ≤ stride) }
@@ -68,7 +70,7 @@ fn stride_fault(stride: usize, row_bytes: usize) -> TiffResult<()>
     Ok(())
 }
 
-// The planes that a slice of so many bytes takes whole.
+// Returns how many whole planes a slice of `len` bytes holds.
 #[tactic(auto, using(crate::proofs::PixelSteps::whole_planes, crate::proofs::PixelSteps::one_plane))]
 fn planes_used(page: &Page, layout: PlaneLayout, len: usize) -> u16
     requires plane { 0 < layout.plane_stride }
@@ -83,7 +85,7 @@ fn planes_used(page: &Page, layout: PlaneLayout, len: usize) -> u16
     all.min(len / layout.plane_stride) as u16
 }
 
-// The layout of a chunk as a part of its page.
+// Returns the layout of a chunk as a part of its page.
 #[tactic(auto, using(crate::proofs::PixelSteps::colored, crate::proofs::PixelSteps::columns, crate::proofs::PixelSteps::stride))]
 fn chunk_layout(page: &Page, alloc: Global, index: u32) -> TiffResult<PlaneLayout>
     ensures answer { AnswersWithoutSource (λ l. record {
@@ -104,7 +106,7 @@ fn chunk_layout(page: &Page, alloc: Global, index: u32) -> TiffResult<PlaneLayou
     planes_layout(page, alloc, width, height)
 }
 
-// The bytes of the rows of a chunk that lie so many bytes apart.
+// Returns how many bytes the rows of a chunk take if they are `stride` bytes apart.
 #[tactic(auto, using(crate::proofs::PixelSteps::height_within, crate::proofs::PixelSteps::rows_fit))]
 fn rows_len(page: &Page, index: u32, stride: usize) -> usize
     requires wide { stride * page.now.chunk_height < 2 ^ 64 }
@@ -115,7 +117,7 @@ fn rows_len(page: &Page, index: u32, stride: usize) -> usize
     stride * height as usize
 }
 
-// All planes of an image where their bytes are within the limit, else one.
+// Returns the number of all planes of an image if their bytes are within the limit, else 1.
 fn planes_within(page: &Page, limits: &Limits, layout: PlaneLayout) -> u16
     requires some { 0 < layouts.planes page.now.planar layout.color }
     requires fits { layout.plane_stride * layouts.planes page.now.planar layout.color < 2 ^ 64 }
@@ -132,7 +134,7 @@ fn planes_within(page: &Page, limits: &Limits, layout: PlaneLayout) -> u16
 }
 
 impl ReadRequest {
-    // Its color.
+    // Returns the color of the request.
     fn color(self) -> ColorType
         ensures { result ≡ color_in self }
     {
@@ -142,7 +144,7 @@ impl ReadRequest {
         }
     }
 
-    // Its first chunk.
+    // Returns the index of the first chunk of the request.
     fn first(self) -> u32
         ensures { result ≡ first_in self }
     {
@@ -154,8 +156,9 @@ impl ReadRequest {
 }
 
 impl PageReader<'_> {
-    // Room for the samples of an image or a chunk in so many bytes, if these are within the limit, and no fault of its first
-    // chunk is found before memory is taken.
+    // Returns an empty list with room for the samples of an image or a chunk in `len` bytes, if
+    // these are within the limit and no error of its first chunk is found before memory is
+    // allocated.
     fn allocate_output<R: Source, T: Number<N>, const N: usize>(
         &self,
         source: &mut R,
@@ -176,7 +179,8 @@ impl PageReader<'_> {
         Ok(Vec::with_capacity(self.alloc, len.div_ceil(N))?)
     }
 
-    // Reads an image or a chunk into a list that holds nothing, which becomes so many bytes long, in whole items.
+    // Reads an image or a chunk into an empty list, which becomes `len` bytes long, rounded up to
+    // whole items.
     fn fill<R: Source, T, W: RowSink<T>>(
         &self,
         source: &mut R,
@@ -213,7 +217,7 @@ impl PageReader<'_> {
         }
     }
 
-    // The bytes of an image or a chunk whose samples are bytes.
+    // Returns the bytes of an image or a chunk whose samples are bytes.
     fn read_bytes<R: Source>(
         &self,
         source: &mut R,
@@ -244,7 +248,7 @@ impl PageReader<'_> {
         Ok(bytes)
     }
 
-    // The numbers of an image or a chunk whose samples are of a number type.
+    // Returns the numbers of an image or a chunk whose samples have a number type of `N` bytes.
     #[tactic(auto, using(crate::proofs::Requests::portion_early, crate::proofs::Requests::numbers_given, crate::proofs::Requests::filling_cause))]
     fn read_typed<R: Source, T: Number<N>, const N: usize>(
         &self,
@@ -274,7 +278,7 @@ impl PageReader<'_> {
         Ok(numbers)
     }
 
-    // The samples of an image or a chunk, in so many bytes.
+    // Returns the samples of an image or a chunk, in `len` bytes.
     #[tactic(auto, unfolding(crate::specs::PixelCalls::samples))]
     fn read_samples<R: Source>(
         &self,
@@ -331,7 +335,7 @@ impl PageReader<'_> {
     }
 }
 
-/// The samples of an image, of its first plane where it is planar.
+/// Returns the samples of an image, row by row; of a planar image, those of its first plane.
 #[tactic(auto, using(crate::proofs::Planes::image_is_first_plane))]
 pub fn read_image<R: Source>(
     alloc: Global,
@@ -357,8 +361,8 @@ pub fn read_image<R: Source>(
     reader.read_samples(source, request, layout.plane_stride)
 }
 
-/// The samples of all planes of an image, or of the first one where all aren't within `decoding_buffer_size`, with the layout
-/// of all planes.
+/// Returns the samples of all planes of an image, with the layout of all planes. If all planes
+/// aren't within `decoding_buffer_size`, returns the samples of the first plane only.
 #[tactic(auto, unfolding(crate::specs::PixelCalls::read_image_to_buffer))]
 pub fn read_image_to_buffer<R: Source>(
     alloc: Global,
@@ -389,8 +393,9 @@ pub fn read_image_to_buffer<R: Source>(
     Ok((preference, samples))
 }
 
-/// Reads an image into a slice, as many planes as it takes whole, one behind the other; bytes behind them stay. Less room
-/// than a plane's bytes: `InsufficientOutputBufferSize`.
+/// Reads an image into a slice: as many whole planes as the slice holds, one after another. The
+/// bytes after them stay unchanged. Returns `InsufficientOutputBufferSize` if the slice has fewer
+/// bytes than a plane.
 #[tactic(auto, using(crate::proofs::Wants::may_want), unfolding(crate::specs::PixelCalls::read_image_bytes))]
 pub fn read_image_bytes<R: Source>(
     alloc: Global,
@@ -420,8 +425,8 @@ pub fn read_image_bytes<R: Source>(
     reader.fill_image(source, part, &mut ByteRows::new(alloc), buf)
 }
 
-/// The samples of a chunk, in rows of its own width in the image. An index past the list of chunks:
-/// `InconsistentSizesEncountered`.
+/// Returns the samples of a chunk, in rows of its own width in the image. Returns
+/// `InconsistentSizesEncountered` if the index is past the list of chunks.
 #[tactic(auto, unfolding(crate::specs::PixelCalls::read_chunk))]
 pub fn read_chunk<R: Source>(
     alloc: Global,
@@ -448,8 +453,9 @@ pub fn read_chunk<R: Source>(
     reader.read_samples(source, request, layout.plane_stride)
 }
 
-/// Reads a chunk into a slice, in rows of its own width in the image; bytes behind them stay. Less room than its bytes:
-/// `InsufficientOutputBufferSize`; an index past the list of chunks: `InconsistentSizesEncountered`.
+/// Reads a chunk into a slice, in rows of its own width in the image. The bytes after the chunk
+/// stay unchanged. Returns `InsufficientOutputBufferSize` if the slice has fewer bytes than the
+/// chunk, and `InconsistentSizesEncountered` if the index is past the list of chunks.
 #[tactic(auto, using(crate::proofs::Wants::may_want), unfolding(crate::specs::PixelCalls::read_chunk_bytes))]
 pub fn read_chunk_bytes<R: Source>(
     alloc: Global,
@@ -484,9 +490,10 @@ pub fn read_chunk_bytes<R: Source>(
     reader.fill_unit(source, unit, &mut ByteRows::new(alloc), buf)
 }
 
-/// The samples of a chunk, its rows `stride` bytes apart, with zeros between them. A stride below the bytes of a row:
-/// `InsufficientOutputRowStride`; a chunk's stored height of such rows of 2^64 bytes or more: `LimitsExceeded`; an index past
-/// the list of chunks: `InconsistentSizesEncountered`.
+/// Returns the samples of a chunk, with its rows `stride` bytes apart and zeros between them.
+/// Returns `InsufficientOutputRowStride` if the stride is below the number of bytes of a row;
+/// `LimitsExceeded` if the stored height of a chunk in such rows has 2^64 bytes or more;
+/// `InconsistentSizesEncountered` if the index is past the list of chunks.
 #[tactic(auto, unfolding(crate::specs::PixelCalls::read_chunk_to_buffer))]
 pub fn read_chunk_to_buffer<R: Source>(
     alloc: Global,
@@ -517,9 +524,10 @@ pub fn read_chunk_to_buffer<R: Source>(
     reader.read_samples(source, request, len)
 }
 
-/// Reads the chunk of each plane of a coding unit into a slice, as many as it takes whole, one behind the other; bytes behind
-/// them stay. A unit that isn't below the chunks of a plane: `InvalidCodingUnit(unit, chunks)`; less room than a chunk's
-/// bytes: `InsufficientOutputBufferSize`.
+/// Reads the chunk of each plane of a coding unit into a slice: as many whole chunks as the slice
+/// holds, one after another. The bytes after them stay unchanged. Returns
+/// `InvalidCodingUnit(unit, chunks)` if the unit isn't below the number of chunks of a plane, and
+/// `InsufficientOutputBufferSize` if the slice has fewer bytes than a chunk.
 #[tactic(auto, using(crate::proofs::Wants::may_want), unfolding(crate::specs::PixelCalls::read_coding_unit_bytes))]
 pub fn read_coding_unit_bytes<R: Source>(
     alloc: Global,

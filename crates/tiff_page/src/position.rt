@@ -1,9 +1,10 @@
-//! Chunks are placed in a buffer.
+//! Laws of how chunks are placed in a buffer. Each law is the contract of a function with an empty
+//! body.
 
 ghost use Rattle.tiff_page.specs.OutputRow.{RowHanded};
 ghost use Rattle.tiff_page.specs.PositionLaws.{RowWritten, ChunkWritten, ChunksWritten, PlanesWritten, NoneWritten, ImageWritten, UnitPlaneWritten, NoPlaneWritten, UnitWritten};
 
-/// A row of a rectangle is written after those above it.
+/// After the rows above it, a row of a rectangle is written.
 pub fn row_written()
     ensures { RowWritten }
 {}
@@ -13,7 +14,7 @@ pub fn chunk_written()
     ensures { ChunkWritten }
 {}
 
-/// A chunk of an image is written after those before it.
+/// After the chunks before it, a chunk of an image is written.
 pub fn chunks_written()
     ensures { ChunksWritten }
 {}
@@ -23,7 +24,7 @@ pub fn planes_written()
     ensures { PlanesWritten }
 {}
 
-/// No chunk is written.
+/// At the start, no chunk is written.
 pub fn none_written()
     ensures { NoneWritten }
 {}
@@ -33,22 +34,22 @@ pub fn image_written()
     ensures { ImageWritten }
 {}
 
-/// The bytes of a row of a chunk are told by the row's stored bytes.
+/// The bytes of an output row of a chunk depend only on the stored bytes of that row.
 pub fn row_handed()
     ensures { RowHanded }
 {}
 
-/// The chunk of a plane is written behind those of the planes before it.
+/// After the chunks of the planes before it, the chunk of a plane is written.
 pub fn unit_plane_written()
     ensures { UnitPlaneWritten }
 {}
 
-/// No plane is written.
+/// At the start, no plane is written.
 pub fn no_plane_written()
     ensures { NoPlaneWritten }
 {}
 
-/// A chunk, or that of each plane, fills its positions.
+/// A chunk, or the chunk of each plane, fills its positions.
 pub fn unit_written()
     ensures { UnitWritten }
 {}

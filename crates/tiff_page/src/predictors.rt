@@ -1,4 +1,5 @@
-//! The rows of a chunk, undone: numbers to little-endian on their way into another list; predictors and complements in place.
+//! Undoes what the file stores of a row of a chunk: converts numbers to little-endian order on
+//! their way into another list, and undoes predictors and complements in place.
 
 ghost use Rattle.std.specs.Prelude.{◌≡◌, ℕ, ◌+◌, ◌-◌, ◌*◌, ◌/◌, ◌%◌, ◌<◌, ◌≤◌, length, slice_index, EachIndex};
 ghost use Rattle.tiff_base.specs.declared.tags.ByteOrder.TheVariants.{LittleEndian, BigEndian};
@@ -9,7 +10,8 @@ use std::simd::prelude::*;
 use tiff_base::read::{u16_in, u32_in, u64_in};
 use tiff_base::tags::ByteOrder;
 
-// Turns the big-endian number of two, four and eight bytes at one position of a row.
+// Each function byte-swaps the big-endian number of two, four or eight bytes at one position of a
+// row.
 #[tactic(auto, using(crate::proofs::Rows::turns_2))]
 fn turn_u16(row: &[u8], k: usize, out: &mut [u8])
     requires row { (k + 1) * 2 ≤ length row.now }
@@ -43,7 +45,7 @@ fn turn_u64(row: &[u8], k: usize, out: &mut [u8])
     out[at..at + 8].copy_from_slice(&number.to_le_bytes());
 }
 
-// Those of a row.
+// Each function byte-swaps the big-endian numbers of a row.
 fn turn_u16s(row: &[u8], out: &mut [u8])
     requires { length out.old ≡ length row.now }
     ensures { TurnsNumbers 2 row.now out.new }
@@ -74,8 +76,8 @@ fn turn_u64s(row: &[u8], out: &mut [u8])
     }
 }
 
-/// Puts the big-endian numbers of a row, of `size` bytes each, into `out` as little-endian ones. What stands there behind the
-/// last whole number is open.
+/// Writes the big-endian numbers of a row, of `size` bytes each, into `out` in little-endian order.
+/// The bytes of `out` after the last whole number are unspecified.
 pub fn to_little_endian(row: &[u8], size: usize, out: &mut [u8])
     requires size { IsSize size }
     requires out { length out.old ≡ length row.now }
@@ -89,7 +91,7 @@ pub fn to_little_endian(row: &[u8], size: usize, out: &mut [u8])
     }
 }
 
-// The additions of numbers of one, two, four and eight bytes.
+// Each function adds a number of one, two, four or eight bytes to another one of the row.
 #[tactic(auto, using(crate::proofs::Rows::adds_1))]
 fn add_byte(row: &mut [u8], from: usize, to: usize)
     requires before { from < to }
@@ -135,7 +137,7 @@ fn add_u64(row: &mut [u8], from: usize, to: usize)
     row[at..at + 8].copy_from_slice(&sum.to_le_bytes());
 }
 
-// Adds number `from` of a row to number `to`, modulo what their bytes hold.
+// Adds number `from` of a row to number `to`, modulo 256 to the power of `size`.
 fn add_number(row: &mut [u8], from: usize, to: usize, size: usize)
     requires size { IsSize size }
     requires before { from < to }
@@ -150,8 +152,8 @@ fn add_number(row: &mut [u8], from: usize, to: usize, size: usize)
     }
 }
 
-// Adds to each number of a row the one before it of the same sample. Where `size` and `stored` are constants, the loop is
-// compiled for these.
+// Adds to each number of a row the one before it of the same sample. If `size` and `stored` are
+// constants, the loop is compiled for these.
 #[inline(always)]
 fn sum_numbers(row: &mut [u8], size: usize, stored: usize)
     requires size { IsSize size }
@@ -164,7 +166,7 @@ fn sum_numbers(row: &mut [u8], size: usize, stored: usize)
     }
 }
 
-// Adds to the bytes of a pixel those of `last`, which becomes the sums.
+// Adds the bytes of `last` to the bytes of a pixel, and stores the sums in both.
 #[inline(always)]
 fn sum_pixel<const N: usize>(last: &mut [u8; N], pixel: &mut [u8])
     requires { length pixel.old ≡ N }
@@ -178,7 +180,8 @@ fn sum_pixel<const N: usize>(last: &mut [u8; N], pixel: &mut [u8])
     }
 }
 
-// Adds to each byte of a row of pixels of N bytes the one before it of the same sample. The sums stay in registers.
+// Adds to each byte of a row of pixels of `N` bytes the one before it of the same sample. The sums
+// stay in registers.
 #[inline(always)]
 fn sum_pixels<const N: usize>(row: &mut [u8])
     requires some { 0 < N }
@@ -192,7 +195,8 @@ fn sum_pixels<const N: usize>(row: &mut [u8])
     }
 }
 
-/// Undoes the horizontal predictor over a row of little-endian numbers of `size` bytes, of which a pixel has `stored`.
+/// Undoes the horizontal predictor over a row of little-endian numbers of `size` bytes, `stored` of
+/// them for each pixel.
 pub fn undo_horizontal(row: &mut [u8], size: usize, stored: usize)
     requires size { IsSize size }
     requires stored { 0 < stored }
@@ -211,7 +215,7 @@ pub fn undo_horizontal(row: &mut [u8], size: usize, stored: usize)
     }
 }
 
-// Puts the bytes of one number together: in planes of `count` bytes, the most significant first, it has number `k`.
+// Joins the bytes of number `k` from planes of `count` bytes, the most significant first.
 fn join_number(planes: &[u8], count: usize, k: usize, number: &mut [u8])
     requires k { k < count }
     requires within { length number.old * count ≤ length planes.now }
@@ -223,8 +227,8 @@ fn join_number(planes: &[u8], count: usize, k: usize, number: &mut [u8])
     }
 }
 
-// Puts the numbers of a row of planes together: the most significant bytes of all numbers stand first. Where `size` is a
-// constant, the loop is compiled for it.
+// Joins the bytes of the numbers of a row of byte planes: the first plane holds the most
+// significant bytes of all numbers. If `size` is a constant, the loop is compiled for it.
 #[inline(always)]
 fn join_numbers(planes: &[u8], size: usize, row: &mut [u8])
     requires size { 0 < size }
@@ -239,7 +243,8 @@ fn join_numbers(planes: &[u8], size: usize, row: &mut [u8])
     }
 }
 
-// The same, by constants for the sizes of floating-point numbers.
+// Joins the bytes of the numbers of a row of byte planes, with constants for the sizes of
+// floating-point numbers.
 fn join_planes(planes: &[u8], size: usize, row: &mut [u8])
     requires size { 0 < size }
     requires same { length planes.now ≡ length row.old }
@@ -254,8 +259,9 @@ fn join_planes(planes: &[u8], size: usize, row: &mut [u8])
     }
 }
 
-/// Undoes the byte-plane predictor over a row of numbers of `size` bytes, of which a pixel has `stored`, into little-endian
-/// ones. `room` has the row's length; what stands there afterwards is open.
+/// Undoes the byte-plane predictor over a row of numbers of `size` bytes, `stored` of them for each
+/// pixel; the numbers become little-endian. `room` has the length of the row. The bytes of `room`
+/// afterwards are unspecified.
 pub fn undo_float_predictor(row: &mut [u8], room: &mut [u8], size: usize, stored: usize)
     requires size { IsSize size }
     requires stored { 0 < stored }
@@ -277,7 +283,7 @@ fn invert_lanes(part: &mut [u8])
     (u8x16::splat(255) - u8x16::from_slice(part)).copy_to_slice(part);
 }
 
-/// Complements each byte of a row, and so each number of it.
+/// Complements each byte of a row, and thus each number of the row.
 pub fn invert(row: &mut [u8])
     ensures { EachIndex row.new (λ i. slice_index row.new i ≡ 255 - slice_index row.old i) }
 {

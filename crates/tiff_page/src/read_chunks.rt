@@ -1,4 +1,4 @@
-//! The chunks of an image are read into a list of bytes or of numbers, in one plane or in several.
+//! Reads the chunks of an image into a list of bytes or of numbers, in one plane or in several.
 
 ghost use Rattle.std.specs.Prelude.{◌≡◌, ◌+◌, ◌*◌, ◌<◌, ◌≤◌, ◌^◌, ◌⊎◌, List, [], ℕ, Ok, length, replicate, OnOk};
 ghost use Rattle.tiff_base.specs.Answers.{Answers, AsksOnly, IsKept};
@@ -23,7 +23,7 @@ use tiff_base::io::Source;
 use tiff_base::tags::ByteOrder;
 use tiff_ifd::limits::Limits;
 
-/// What reads the pixels of a page.
+/// Reads the pixels of a page.
 #[derive(Clone, Copy)]
 pub struct PageReader<'a> {
     pub(crate) alloc: Global,
@@ -32,21 +32,21 @@ pub struct PageReader<'a> {
     pub(crate) limits: &'a Limits,
 }
 
-/// So many planes of an image, by its layout.
+/// A number of planes of an image, with the layout of a plane.
 #[derive(Clone, Copy, Debug)]
 pub struct ImagePlanes {
     pub layout: PlaneLayout,
     pub planes: u16,
 }
 
-// The chunk of each plane of a part of an image.
+// The chunk with one index of each plane of a part of an image.
 #[derive(Clone, Copy, Debug)]
 struct ChunkRequest {
     part: ImagePlanes,
     chunk: u32,
 }
 
-/// A chunk in a color, or that of each of so many planes, its rows so many bytes apart.
+/// A chunk in a color, or the chunk of each of `planes` planes, with rows `stride` bytes apart.
 #[derive(Clone, Copy, Debug)]
 pub struct UnitRequest {
     pub color: ColorType,
@@ -55,7 +55,7 @@ pub struct UnitRequest {
     pub stride: usize,
 }
 
-// Where a chunk of a plane goes in a buffer of the planes of an image.
+// Returns where a chunk of a plane goes in a buffer of the planes of an image.
 fn image_destination(page: &Page, layout: PlaneLayout, plane: u16, chunk: u32) -> Destination
     requires { chunk < chunks_of_plane (view.page page.now) }
     ensures top { result.top ≡ top_of (view.page page.now) layout.color layout.row_bytes plane chunk }
@@ -71,7 +71,8 @@ fn image_destination(page: &Page, layout: PlaneLayout, plane: u16, chunk: u32) -
     }
 }
 
-// So many bytes from a buffer's first on hold the rows of a chunk of an image in one plane, or all planes of it.
+// Returns how many bytes from the start of a buffer hold the rows of a chunk of an image: up to the
+// last row of the chunk for one plane, or all planes for several.
 fn bytes_up_to(page: &Page, part: ImagePlanes, chunk: u32) -> usize
     requires laid { layout_of (view.page page.now) page.now.width page.now.height ≡ Ok
         (record { color = part.layout.color; row_bytes = part.layout.row_bytes; plane_stride = part.layout.plane_stride }) }
@@ -89,7 +90,7 @@ fn bytes_up_to(page: &Page, part: ImagePlanes, chunk: u32) -> usize
 }
 
 impl PageReader<'_> {
-    // Reads a chunk of an image in all planes that are asked for.
+    // Reads a chunk of an image in all planes of the request.
     fn fill_chunk<R: Source, T, W: RowSink<T>>(
         &self,
         source: &mut R,
@@ -137,8 +138,9 @@ impl PageReader<'_> {
         Ok(())
     }
 
-    /// Reads all chunks of an image into the bytes of a list, in so many planes one behind the other, or answers the first
-    /// fault: of the first chunk, and in it of the first plane, that has one.
+    /// Reads all chunks of an image into the bytes of a list, in `part.planes` planes one after
+    /// another. Returns the first error: that of the first chunk, and in it of the first plane,
+    /// that has one.
     pub(crate) fn fill_image<R: Source, T, W: RowSink<T>>(
         &self,
         source: &mut R,
@@ -165,8 +167,10 @@ impl PageReader<'_> {
         Ok(())
     }
 
-    /// The same of a list that holds nothing, which becomes so many bytes long, in whole items: it grows by zeros before each chunk,
-    /// and behind the last.
+    /// Reads all chunks of an image into an empty list, in `part.planes` planes one after another.
+    /// The list becomes `len` bytes long, rounded up to whole items: it grows by zeros before each
+    /// chunk, and after the last. Returns the first error: that of the first chunk, and in it of
+    /// the first plane, that has one.
     pub(crate) fn grow_image<R: Source, T, W: RowSink<T>>(
         &self,
         source: &mut R,
@@ -196,8 +200,8 @@ impl PageReader<'_> {
         Ok(())
     }
 
-    /// Reads a chunk into the bytes of a list, its rows a stride apart, or that of each of so many planes one behind the
-    /// other; or answers the first fault.
+    /// Reads a chunk, or the chunk of each of `unit.planes` planes, into the bytes of a list: the
+    /// planes one after another, the rows `unit.stride` bytes apart. Returns the first error.
     pub(crate) fn fill_unit<R: Source, T, W: RowSink<T>>(
         &self,
         source: &mut R,
@@ -246,7 +250,9 @@ impl PageReader<'_> {
         Ok(())
     }
 
-    /// The same of a list that holds nothing, which becomes so many bytes long, in whole items.
+    /// Reads a chunk, or the chunk of each of `unit.planes` planes, into an empty list, which
+    /// becomes `len` bytes long, rounded up to whole items: the planes one after another, the rows
+    /// `unit.stride` bytes apart. Returns the first error.
     pub(crate) fn grow_unit<R: Source, T, W: RowSink<T>>(
         &self,
         source: &mut R,

@@ -28,7 +28,7 @@ use tiff_base::tags::{
 };
 use tiff_ifd::lookup::{Tags, find_u16, find_u16_vec, find_u32, require_u32, require_u64_vec};
 
-// A page has a width and a height.
+// Returns `InvalidDimensions(width, height)` if the width or the height is 0.
 fn sides(width: u32, height: u32) -> TiffResult<(u32, u32)>
     ensures answer { Gives (λ s. s) result (checks.sides width height) }
     ensures some { IfOk result (λ s. (0 < s.0) × (0 < s.1)) }
@@ -39,7 +39,7 @@ fn sides(width: u32, height: u32) -> TiffResult<(u32, u32)>
     Ok((width, height))
 }
 
-/// The width and the height.
+/// Reads the width and the height, in pixels.
 #[tactic(auto, using(crate::proofs::Found::required_found), unfolding(crate::specs::Checks::size_in))]
 pub fn read_size<T: Tags>(tags: &mut T, alloc: Global) -> TiffResult<(u32, u32)>
     ensures kept { IsKept T.told T.failures result tags.old tags.new }
@@ -53,7 +53,7 @@ pub fn read_size<T: Tags>(tags: &mut T, alloc: Global) -> TiffResult<(u32, u32)>
     sides(width, height)
 }
 
-// An interpretation has a name.
+// Returns the interpretation of a number, or `UnknownInterpretation` if there is none.
 fn interpretation_named(number: Option<u16>) -> TiffResult<PhotometricInterpretation>
     ensures { Gives (λ s. s) result (checks.interpretation_named number) }
 {
@@ -63,7 +63,7 @@ fn interpretation_named(number: Option<u16>) -> TiffResult<PhotometricInterpreta
     }
 }
 
-/// What the samples mean.
+/// Reads the photometric interpretation: what the samples mean.
 #[tactic(auto, unfolding(crate::specs::Checks::interpretation_in))]
 pub fn read_interpretation<T: Tags>(
     tags: &mut T,
@@ -77,7 +77,7 @@ pub fn read_interpretation<T: Tags>(
     interpretation_named(find_u16(tags, alloc, Tag::PhotometricInterpretation)?)
 }
 
-/// How chunks are packed.
+/// Reads the compression method.
 #[tactic(auto, unfolding(crate::specs::Checks::method_in))]
 pub fn read_method<T: Tags>(tags: &mut T, alloc: Global) -> TiffResult<CompressionMethod>
     ensures kept { IsKept T.told T.failures result tags.old tags.new }
@@ -89,7 +89,7 @@ pub fn read_method<T: Tags>(tags: &mut T, alloc: Global) -> TiffResult<Compressi
     Ok(CompressionMethod::from_u16_exhaustive(number))
 }
 
-// A pixel has samples.
+// Returns `SamplesPerPixelIsZero` if a pixel has no samples.
 fn some_samples(samples: u16) -> TiffResult<u16>
     ensures answer { Gives (λ s. s) result (checks.some_samples samples) }
     ensures some { IfOk result (λ n. 0 < n) }
@@ -100,7 +100,7 @@ fn some_samples(samples: u16) -> TiffResult<u16>
     Ok(samples)
 }
 
-/// How many samples a pixel has.
+/// Reads how many samples a pixel has.
 #[tactic(auto, unfolding(crate::specs::Checks::samples_in))]
 pub fn read_samples<T: Tags>(tags: &mut T, alloc: Global) -> TiffResult<u16>
     ensures kept { IsKept T.told T.failures result tags.old tags.new }
@@ -121,7 +121,7 @@ fn extras(alloc: Global, numbers: &[u16]) -> Result<Vec<ExtraSamples>, AllocErro
         .collect(alloc)
 }
 
-// Extra samples are no more than the samples.
+// Returns `InconsistentSizesEncountered` if there are more extra samples than samples.
 fn within_samples(samples: u16, extra: Vec<ExtraSamples>) -> TiffResult<ExtraSampleList>
     ensures answer { Gives (λ s. s) result (checks.within_samples samples extra.items) }
     ensures few { IfOk result (λ e. length e ≤ samples) }
@@ -132,7 +132,7 @@ fn within_samples(samples: u16, extra: Vec<ExtraSamples>) -> TiffResult<ExtraSam
     Ok(ExtraSampleList::from_vec(extra))
 }
 
-/// What the extra samples are.
+/// Reads what the extra samples are.
 #[tactic(auto, using(crate::proofs::Found::number_found), unfolding(crate::specs::Checks::extra_in))]
 pub fn read_extra<T: Tags>(tags: &mut T, alloc: Global, samples: u16) -> TiffResult<ExtraSampleList>
     ensures kept { IsKept T.told T.failures result tags.old tags.new }
@@ -147,7 +147,7 @@ pub fn read_extra<T: Tags>(tags: &mut T, alloc: Global, samples: u16) -> TiffRes
     }
 }
 
-// Whether all numbers are this one.
+// Whether all numbers are equal to `number`.
 fn are_all_u16(numbers: &[u16], number: u16) -> bool
     ensures { result ≡ list_all (λ n. n == number) numbers.now }
 {
@@ -169,7 +169,7 @@ fn formats(alloc: Global, numbers: &[u16]) -> Result<Vec<SampleFormat>, AllocErr
         .collect(alloc)
 }
 
-// The numbers, each below 2^16.
+// Returns the numbers if each is below 2^16, else `InvalidTagValueType(tag)`.
 fn fit_u16s(alloc: Global, tag: Tag, numbers: Vec<u64>) -> TiffResult<Vec<u16>>
     ensures { AnswersWithoutSource (λ v. v.items) result (fitted_numbers tag (2 ^ 16) numbers.items) }
 {
@@ -183,7 +183,7 @@ fn fit_u16s(alloc: Global, tag: Tag, numbers: Vec<u64>) -> TiffResult<Vec<u16>>
     Ok(all)
 }
 
-// The numbers, each below 2^8.
+// Returns the numbers if each is below 2^8, else `InvalidTagValueType(tag)`.
 fn fit_u8s(alloc: Global, tag: Tag, numbers: Vec<u64>) -> TiffResult<Vec<u8>>
     ensures { AnswersWithoutSource (λ v. v.items) result (fitted_numbers tag (2 ^ 8) numbers.items) }
 {
@@ -197,7 +197,7 @@ fn fit_u8s(alloc: Global, tag: Tag, numbers: Vec<u64>) -> TiffResult<Vec<u8>>
     Ok(all)
 }
 
-// One format for all samples. Memory is taken for the fault that carries a list alone.
+// Returns the one format of all samples. Allocates memory only for the error that contains a list.
 fn one_format(alloc: Global, numbers: &[u16]) -> TiffResult<SampleFormat>
     ensures { let given = checks.one_format numbers.now in AnswersBut (IsListFault given) ⊥ (λ f. f) result given }
 {
@@ -212,7 +212,7 @@ fn one_format(alloc: Global, numbers: &[u16]) -> TiffResult<SampleFormat>
     Ok(SampleFormat::from_u16_exhaustive(*first))
 }
 
-/// What the numbers of samples are.
+/// Reads the sample format: what the numbers of samples are.
 #[tactic(auto, using(crate::proofs::Found::number_found), unfolding(crate::specs::Checks::format_in))]
 pub fn read_format<T: Tags>(tags: &mut T, alloc: Global) -> TiffResult<SampleFormat>
     ensures kept { IsKept T.told T.failures result tags.old tags.new }
@@ -247,7 +247,7 @@ fn one_depth(samples: u16, bits: Vec<u8>) -> TiffResult<u8>
     Ok(first)
 }
 
-/// How many bits a sample has.
+/// Reads how many bits a sample has.
 #[tactic(auto, using(crate::proofs::Found::number_found), unfolding(crate::specs::Checks::depth_in))]
 pub fn read_depth<T: Tags>(tags: &mut T, alloc: Global, samples: u16) -> TiffResult<u8>
     ensures kept { IsKept T.told T.failures result tags.old tags.new }
@@ -262,7 +262,8 @@ pub fn read_depth<T: Tags>(tags: &mut T, alloc: Global, samples: u16) -> TiffRes
     }
 }
 
-// A predictor that is known, or none.
+// Returns the predictor of a number, or `Predictor::None` without one. Returns
+// `UnknownPredictor(number)` for other numbers.
 fn predictor_from(number: Option<u16>) -> TiffResult<Predictor>
     ensures { Gives (λ s. s) result (checks.predictor_from number) }
 {
@@ -275,7 +276,7 @@ fn predictor_from(number: Option<u16>) -> TiffResult<Predictor>
     }
 }
 
-/// How stored samples differ from those before them.
+/// Reads the predictor: how stored samples differ from those before them.
 #[tactic(auto, unfolding(crate::specs::Checks::predictor_in))]
 pub fn read_predictor<T: Tags>(tags: &mut T, alloc: Global) -> TiffResult<Predictor>
     ensures kept { IsKept T.told T.failures result tags.old tags.new }
@@ -286,7 +287,8 @@ pub fn read_predictor<T: Tags>(tags: &mut T, alloc: Global) -> TiffResult<Predic
     predictor_from(find_u16(tags, alloc, Tag::Predictor)?)
 }
 
-// A configuration of planes that is known, or chunky.
+// Returns the planar configuration of a number, or `Chunky` without one. Returns
+// `UnknownPlanarConfiguration(number)` for other numbers.
 fn planar_from(number: Option<u16>) -> TiffResult<PlanarConfiguration>
     ensures { Gives (λ s. s) result (checks.planar_from number) }
 {
@@ -299,7 +301,7 @@ fn planar_from(number: Option<u16>) -> TiffResult<PlanarConfiguration>
     }
 }
 
-/// Whether each plane of samples has its chunks.
+/// Reads the planar configuration: whether each plane of samples has its own chunks.
 #[tactic(auto, unfolding(crate::specs::Checks::planar_in))]
 pub fn read_planar<T: Tags>(tags: &mut T, alloc: Global) -> TiffResult<PlanarConfiguration>
     ensures kept { IsKept T.told T.failures result tags.old tags.new }
@@ -319,7 +321,7 @@ fn two(sizes: &[u16]) -> TiffResult<(u16, u16)>
     }
 }
 
-/// How many pixels share a chroma sample.
+/// Reads the chroma subsampling: how many pixels share a chroma sample, across and down.
 #[tactic(auto, using(crate::proofs::Found::number_found), unfolding(crate::specs::Checks::subsampling_in))]
 pub fn read_subsampling<T: Tags>(tags: &mut T, alloc: Global) -> TiffResult<(u16, u16)>
     ensures kept { IsKept T.told T.failures result tags.old tags.new }
@@ -336,7 +338,8 @@ pub fn read_subsampling<T: Tags>(tags: &mut T, alloc: Global) -> TiffResult<(u16
     }
 }
 
-/// Whether chunks are strips or tiles.
+/// Returns whether chunks are strips or tiles, or `StripTileTagConflict` if the tags of the page
+/// aren't exactly those of one of them.
 #[tactic(auto, unfolding(crate::specs::Checks::chunk_type_in))]
 pub fn chunk_type<T: Tags>(tags: &T) -> TiffResult<ChunkType>
     ensures { Gives (λ s. s) result (checks.chunk_type_in (T.told tags.now).look) }
@@ -353,7 +356,7 @@ pub fn chunk_type<T: Tags>(tags: &T) -> TiffResult<ChunkType>
     }
 }
 
-// How many chunks there are, below 2^32.
+// Returns the number of chunks in all planes, or `None` if it is 2^32 or more.
 fn chunk_count(
     width: u32,
     height: u32,
@@ -399,7 +402,7 @@ fn counted(width: u32, height: u32, planes: u16, chunks: ChunkTable) -> TiffResu
     Ok(chunks)
 }
 
-// A strip has rows.
+// Returns `InconsistentSizesEncountered` if a strip has no rows.
 fn some_rows(rows: u32) -> TiffResult<u32>
     ensures answer { Gives (λ n. n) result (checks.some_rows rows) }
     ensures some { IfOk result (λ n. 0 < n) }
@@ -410,7 +413,7 @@ fn some_rows(rows: u32) -> TiffResult<u32>
     Ok(rows)
 }
 
-/// The strips of a page.
+/// Reads the strips of a page.
 #[tactic(auto, using(crate::proofs::Found::required_found), unfolding(crate::specs::Checks::strips_in))]
 pub fn read_strips<T: Tags>(
     tags: &mut T,
@@ -446,7 +449,7 @@ pub fn read_strips<T: Tags>(
     )
 }
 
-// A tile has columns and rows.
+// Returns `InvalidTagValueType(tag)` if the width or the height of a tile is 0.
 fn some_side(size: u32, tag: Tag) -> TiffResult<u32>
     ensures answer { Gives (λ n. n) result (checks.some_side size (tiff.FormatError (format.InvalidTagValueType tag))) }
     ensures some { IfOk result (λ n. 0 < n) }
@@ -457,7 +460,7 @@ fn some_side(size: u32, tag: Tag) -> TiffResult<u32>
     Ok(size)
 }
 
-/// The tiles of a page.
+/// Reads the tiles of a page.
 #[tactic(auto, using(crate::proofs::Found::required_found), unfolding(crate::specs::Checks::tiles_in))]
 pub fn read_tiles<T: Tags>(
     tags: &mut T,
@@ -504,7 +507,8 @@ fn planes_of(planar: PlanarConfiguration, samples: u16) -> u16
     }
 }
 
-/// The page that the tags tell. Memory is wanted only where there is a width, within the limits and the source.
+/// Returns the page that the tags define. Returns `OutOfMemory` only if the tags have a width that
+/// is within the limits and the source.
 #[tactic(auto, using(crate::proofs::Found::size_found), unfolding(crate::specs::Checks::page_of))]
 pub fn read_page<T: Tags>(tags: &mut T, alloc: Global) -> TiffResult<Page>
     ensures kept { IsKept T.told T.failures result tags.old tags.new }

@@ -1,4 +1,4 @@
-//! Samples by their number type, and what they are read of.
+//! Samples by their number type, and requests to read them.
 
 use crate::layout::PlaneLayout;
 use tiff_base::color::ColorType;
@@ -20,11 +20,11 @@ pub enum Samples {
     I64(Vec<i64>),
 }
 
-/// What samples are read of.
+/// What to read: an image or a chunk.
 #[derive(Clone, Copy, Debug)]
 pub enum ReadRequest {
-    /// An image of a layout, in so many planes.
+    /// An image of a layout, in this number of planes.
     Image(PlaneLayout, u16),
-    /// A chunk in a color, by its index, its rows so many bytes apart.
+    /// A chunk in a color, by its index, and the number of bytes from a row to the next.
     Chunk(ColorType, u32, usize),
 }

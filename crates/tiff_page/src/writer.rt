@@ -1,4 +1,4 @@
-//! Rows of a chunk go into a list of bytes or of numbers.
+//! Writes the rows of a chunk into a list of bytes or of numbers.
 
 ghost use Rattle.std.specs.Prelude.{◌≡◌, ℕ, ◌+◌, ◌-◌, ◌*◌, ◌/◌, ◌^◌, ◌<◌, ◌≤◌, ◌⊎◌, ◌++◌, List, [], length, map, replicate, false, IfOk, OnOk, refl};
 ghost use Rattle.std.specs.Int.{div_ceil};
@@ -18,12 +18,12 @@ use std::alloc::{AllocError, Global};
 use tiff_base::error::TiffResult;
 use tiff_base::io::Source;
 
-/// How the rows of chunks go into a list, which is seen as bytes.
+/// Writes the rows of chunks into a list, which is seen as bytes.
 pub trait RowSink<T> {
     /// The bytes of a list.
     ghost bytes: { List T → List ℕ };
 
-    /// So many bytes, in whole items.
+    /// A number of bytes, rounded up to whole items.
     ghost whole: { ℕ → ℕ };
 
     /// Reads the next row of a chunk into the bytes of a list.
@@ -47,8 +47,8 @@ pub trait RowSink<T> {
         ensures moves { IfOk result (λ rest. Moves next.position (needed_of_row (view.page reader.now.page.now)
             reader.now.color next.len) rest) };
 
-    /// Reads the next bytes of a chunk, as they are handed out, into the bytes of a list, where no whole rows have to be read
-    /// for them.
+    /// Reads the next bytes of a chunk, as they are output, into the bytes of a list, if this needs
+    /// no whole stored rows.
     fn read_band<R: Source>(
         &mut self,
         source: &mut R,
@@ -68,28 +68,28 @@ pub trait RowSink<T> {
         ensures asked { AsksOnly (StoredReadable (R.told source.old) next.position next.len) result }
         ensures moves { IfOk result (λ rest. Moves next.position next.len rest) };
 
-    /// Makes a list so many bytes long, in whole items, by zeros, where it is shorter.
+    /// Grows a list to `len` bytes by zeros, rounded up to whole items, if it is shorter.
     fn grow(list: &mut Vec<T>, len: usize) -> Result<(), AllocError>
         ensures { OnOk result (bytes list.new.items ≡ bytes list.old.items ++ replicate (whole len - length (bytes list.old.items)) 0) };
 
-    /// Lists of one length have as many bytes.
+    /// Lists of equal length have equally many bytes.
     ghost same_length: { (xs ys : List T) → length xs ≡ length ys → length (bytes xs) ≡ length (bytes ys) };
 
-    /// Whole items have as many bytes, and more where more are asked for.
+    /// `whole m` is at least `m`, and doesn't fall if `m` grows.
     ghost enough: { (m n : ℕ) → m ≤ n → (m ≤ whole m) × (whole m ≤ whole n) };
 
-    /// Nothing has none.
+    /// An empty list has no bytes.
     ghost none: { bytes [] ≡ [] };
 }
 
-/// Rows are read into the position of a list of bytes where they stand.
+/// Reads rows straight to their position in a list of bytes.
 #[derive(Drop)]
 pub struct ByteRows {
     room: RowScratch,
 }
 
 impl ByteRows {
-    /// No room yet.
+    /// Returns empty scratch buffers.
     pub fn new(alloc: Global) -> Self {
         ByteRows {
             room: RowScratch::new(alloc),
@@ -138,7 +138,7 @@ impl RowSink<u8> for ByteRows {
     ghost none = { refl };
 }
 
-/// Rows are read into a room, and their numbers are put from there into a list.
+/// Reads rows into a scratch buffer, and writes their numbers from there into a list.
 #[derive(Drop)]
 pub struct TypedRows<const N: usize> {
     row: Vec<u8>,
@@ -146,7 +146,7 @@ pub struct TypedRows<const N: usize> {
 }
 
 impl<const N: usize> TypedRows<N> {
-    /// No room yet.
+    /// Returns empty scratch buffers.
     pub fn new(alloc: Global) -> Self {
         TypedRows {
             row: Vec::new(alloc),

@@ -59,7 +59,7 @@ abbrev pub state_along : Decoding → ℕ → State
 state_along d zero = (seek_to_image d 0).next
 state_along d (suc n) = (next_image (record d { state = state_along d n })).next
 
--- how often a decoder goes on along a chain of so many offsets: to each offset behind the first,
+-- how often a decoder goes on along a chain of `offsets` offsets: to each offset after the first,
 -- and once more if the chain ends by an error
 abbrev pub times_on : ℕ → Option TiffError → ℕ
 times_on offsets None = offsets - 1

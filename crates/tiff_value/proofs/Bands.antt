@@ -1,4 +1,4 @@
--- Rows of samples go to a sink, some of their bytes at a time.
+-- Rows of samples written to a sink, some of their bytes at a time.
 use Rattle.std.proofs.Common.{◌≡◌, ℕ, ◌+◌, ◌-◌, ◌*◌, ◌/◌, ◌%◌, ◌<◌, ◌≤◌, List, ◌++◌, map, length, take, drop, Option, Some, None, Result, Ok, Err, MatchResult, inl, inr, refl, subst, ap, sym, ◌∙◌, arith, lit<, append_assoc, length-append, replicate}
 use Rattle.std.specs.List.{range_with_len, flat_map}
 use Rattle.std.specs.Prelude.{◌⊎◌, IsSome}
@@ -26,7 +26,7 @@ some_fault : {A : Type 0} (o : Option A) → o ≡ None → IsSome o → ⊥
 some_fault None e h = absurd cc
 some_fault (Some x) e h = absurd cc
 
--- a number of each type has bytes, and a band has room for one
+-- a number of each type has at least one byte, and a band has room for one number
 pub type_band : (type : «Type») → (0 < type_size type) × (0 < 8192 / type_size type)
 type_band BYTE = (lit< tt, lit< tt)
 type_band ASCII = (lit< tt, lit< tt)
@@ -45,7 +45,7 @@ type_band LONG8 = (lit< tt, lit< tt)
 type_band SLONG8 = (lit< tt, lit< tt)
 type_band IFD8 = (lit< tt, lit< tt)
 
--- a room of 8192 bytes has so many for as many numbers as it has room for
+-- a part of a room of 8192 bytes, for as many numbers as fit, has the bytes of these numbers
 pub band_long : (room : List ℕ) (at n size w : ℕ) → w ≡ size → n ≤ 8192 / w → length room ≡ 8192
     → length (take ((at + n - at) * w) room) ≡ (at + n - at) * size
 band_long room at n size w same most long =
@@ -55,11 +55,11 @@ band_long room at n size w same most long =
     length-take-le ((at + n - at) * w) room within ∙ ap (λ (k : ℕ). (at + n - at) * k) same
 
 module _ (size : ℕ) (F : ℕ → ℕ) where
-  -- the bytes of the first so many numbers
+  -- the bytes of the first n numbers
   abbrev pub bytes_of : ℕ → List ℕ
   bytes_of n = flat_map (le size) (map F (range_with_len 0 n))
 
-  -- those behind them
+  -- the bytes of the numbers from `at` up to `end`
   abbrev pub bytes_between : ℕ → ℕ → List ℕ
   bytes_between at end = flat_map (le size) (map (λ j. F (at + j)) (range_with_len 0 (end - at)))
 
@@ -70,14 +70,14 @@ module _ (size : ℕ) (F : ℕ → ℕ) where
       ∙ ap (flat_map (le size)) (joined F at (end - at)) ∙ ap bytes_of whole
 
   module _ (w : Written) (offset : w.at ≤ length w.bytes) where
-    -- one band more
+    -- one more band
     pub band_next : (at end : ℕ) (v new : Written) → at ≤ end → v ≡ writer_after w (bytes_of at) → new ≡ writer_after v (bytes_between at end)
         → new ≡ writer_after w (bytes_of end)
     band_next at end v new h was is =
         is ∙ ap (λ (u : Written). writer_after u (bytes_between at end)) was ∙ moved-moved w (bytes_of at) (bytes_between at end) offset
         ∙ ap (writer_after w) (bytes_joined at end h)
 
-    -- the sink failed within a band
+    -- the sink fails inside a band
     pub band_cut : (at end n : ℕ) (v new : Written) (e : TiffError) → at ≤ end → end ≤ n → w.fault ≡ None → v ≡ writer_after w (bytes_of at)
         → IsCut (bytes_between at end) e v new → IsCut (bytes_of n) e w new
     band_cut at end n v new e h within fresh was c =
@@ -86,18 +86,18 @@ module _ (size : ℕ) (F : ℕ → ℕ) where
         ∙ append_assoc (bytes_of at) (bytes_between at end) (bytes_between end n) in
         cut_behind w v new (bytes_of at) (bytes_between at end) (bytes_between end n) (bytes_of n) e offset fresh was all c
 
--- a write that had no fault before isn't stopped by one
+-- a writer without an earlier error is not stopped by one
 pub not_stopped : (xs : List ℕ) (e : TiffError) (w new : Written) → w.fault ≡ None → IsStopped e w new ⊎ IsCut xs e w new → IsCut xs e w new
 not_stopped xs e w new fresh h = elim h [ inl s ↦ absurd (some_fault w.fault fresh s.failed) | inr c ↦ c ]
 
 module _ (size m s : ℕ) (numbers : List ℕ) where
-  -- a row's differences, in their order
+  -- the bytes of the differences of a row, in order
   pub row_bytes : 0 < s → s ≤ length numbers
       → flat_map (le size) (predicted_row m s numbers) ≡ bytes_of size (stored_difference Horizontal m (length numbers) s numbers) (length numbers)
   unfolding differences
   row_bytes some whole = ap (flat_map (le size)) (predicted m s numbers some whole)
 
-  -- and as a part from its first number on
+  -- the part of a row from its first number to its end is the whole row
   pub whole_part : (end : ℕ) → end ≡ length numbers → 0 < s → s ≤ length numbers
       → flat_map (le size) (predicted_part m s 0 end numbers) ≡ flat_map (le size) (predicted_row m s numbers)
   whole_part end e some whole =
@@ -108,11 +108,11 @@ module _ {A : Type 0} (size m l s : ℕ) (num : A → ℕ) (samples : List A) wh
   abbrev pub all_numbers : List ℕ
   all_numbers = map num samples
 
-  -- what is written for one of the samples of several rows
+  -- the number written in place of a number of several rows
   abbrev pub in_rows : ℕ → ℕ
   in_rows = stored_difference Horizontal m l s all_numbers
 
-  -- the bytes of a row among them
+  -- the bytes of a row among several rows
   pub row_between : (at : ℕ) → 0 < s → s ≤ l → at + l ≤ length samples → at % l ≡ 0
       → flat_map (le size) (predicted_row m s (map num (take (at + l - at) (drop at samples)))) ≡ bytes_between size in_rows at (at + l)
   row_between at some whole fits even =
@@ -122,12 +122,12 @@ module _ {A : Type 0} (size m l s : ℕ) (num : A → ℕ) (samples : List A) wh
       ∙ ap (flat_map (le size)) (row_made m l s all_numbers at some whole (omega (arith, long, fits)) even)
       ∙ ap (λ n. flat_map (le size) (map (λ j. in_rows (at + j)) (range_with_len 0 n))) count
 
-  -- those of all rows
+  -- the bytes of all rows
   pub rows_bytes : (at : ℕ) → at ≡ length all_numbers → bytes_of size in_rows at ≡ flat_map (le size) (differences Horizontal m l s all_numbers)
   unfolding differences
   rows_bytes at e = ap (bytes_of size in_rows) e
 
--- of one row no difference is taken before its stride
+-- a row no longer than its stride is written without differences
 pub one_row : (predictor : Predictor) (m l s all : ℕ) (ns : List ℕ) → (predictor ≡ Horizontal → ⊥) → length ns ≤ all
     → differences Horizontal m all all ns ≡ differences predictor m l s ns
 unfolding differences
@@ -136,13 +136,13 @@ one_row predictor m l s all ns other h =
     (λ k within. sym (first_kept m all all ns k (omega (arith, h, within)) (omega (arith, h, within)))))
     ∙ sym (left_plain predictor m l s ns other)
 
--- bytes that went out, or a beginning of them, as other words tell them
+-- written bytes, or a part of them from the front, under an equal list of bytes
 pub told_raw : {A : Type 0} (r : Result A TiffError) (xs ys : List ℕ) (w new : Written) → w.fault ≡ None → xs ≡ ys
     → MatchResult r (λ _. new ≡ writer_after w xs) (λ e. IsCut xs e w new) → WritesRaw ys w new r
 told_raw (Ok x) xs ys w new fresh same h = (fresh, h ∙ ap (writer_after w) same)
 told_raw (Err e) xs ys w new fresh same h = inr (subst (λ (bs : List ℕ). IsCut bs e w new) same h)
 
--- zeros were appended to a list, and bytes put in their place
+-- zeros appended to a list, and then bytes in their place
 pub put_behind : (old items xs part bytes : List ℕ) (start end len : ℕ) → xs ≡ items → items ≡ take end old ++ replicate (end - start) 0 → start ≡ length old
     → start ≤ end → len ≡ end → length part ≡ end - start → part ≡ bytes → (rest : List ℕ)
     → take len (put_mid start (length xs - start) xs part ++ rest) ≡ old ++ bytes

@@ -1,4 +1,4 @@
--- Bytes as they are written one by one.
+-- Bytes written one by one.
 use Rattle.std.proofs.Common.{◌≡◌, ℕ, ◌+◌, ◌-◌, ◌≤◌, ◌%◌, List, [], ◌∷◌, ◌++◌, map, length, take, drop, get_or, Fits, w8, refl, ap, sym, ◌∙◌, arith, suc, length-append}
 use Rattle.std.proofs.Math.Seq.{take-append_seam, take-add}
 use Rattle.std.proofs.lemmas.List.{take-take, take_all, append_assoc}
@@ -18,11 +18,11 @@ bytes_alone (x ∷ xs) h =
     let rest : flat_map (le 1) xs ≡ xs = bytes_alone xs (λ i. h (suc i)) in
     ap (λ (b : ℕ). b ∷ flat_map (le 1) xs) e ∙ ap (λ (bs : List ℕ). x ∷ bs) rest
 
--- what is appended to a list leaves its front
+-- to append to a list leaves its front unchanged
 pub front_appended : (new old xs : List ℕ) → new ≡ old ++ xs → StartsWith new old
 front_appended new old xs e = ap (take (length old)) e ∙ take-append_seam old xs
 
--- the front of a front
+-- the front of a front is a front
 pub front_kept : (new mid old xs : List ℕ) → StartsWith new mid → mid ≡ old ++ xs → StartsWith new old
 front_kept new mid old xs h e =
     let within : length old ≤ length mid = omega (arith, ap length e, length-append old xs) in
@@ -32,12 +32,12 @@ joined : {X : Type 0} (f : X → List ℕ) (xs : List X) → flat_map (λ x. x) 
 joined f [] = refl
 joined f (x ∷ xs) = ap (λ (bs : List ℕ). f x ++ bs) (joined f xs)
 
--- lists one after another, each made of one value
+-- lists one after another, each made from one value
 pub flattened : {X : Type 0} (f : X → List ℕ) (xs : List X) (rows : List (List ℕ)) (old new : List ℕ)
     → rows ≡ map f xs → new ≡ old ++ flat_map (λ x. x) rows → new ≡ old ++ flat_map f xs
 flattened f xs rows old new are h = h ∙ ap (λ (rs : List (List ℕ)). old ++ flat_map (λ x. x) rs) are ∙ ap (λ (bs : List ℕ). old ++ bs) (joined f xs)
 
--- the next of several pieces
+-- one more of several pieces
 pub pieces_more : {X : Type 0} (f : X → List ℕ) (xs : List X) (at end : ℕ) (old mid new : List ℕ) → at ≤ end
     → mid ≡ old ++ flat_map f (take at xs) → new ≡ mid ++ flat_map f (take (end - at) (drop at xs)) → new ≡ old ++ flat_map f (take end xs)
 pieces_more f xs at end old mid new h made more =

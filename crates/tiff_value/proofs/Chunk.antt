@@ -18,11 +18,11 @@ use Rattle.tiff_value.specs.Predicted.{AppendsRow}
 use Rattle.tiff_value.proofs.Differences.{predicted}
 use Rattle.tiff_value.proofs.Lowest.{spelled_by}
 
--- each number in its turn
+-- the list of each number in turn is the list
 in_turn : (ns : List ℕ) → map (λ k. get_or ns k 0) (range_with_len 0 (length ns)) ≡ ns
 in_turn ns = sym (fill_by_all (λ k. get_or ns k 0) ns (length ns) 0 refl (λ k h. refl))
 
--- without the horizontal predictor numbers are left as they are
+-- without the horizontal predictor numbers are unchanged
 pub left_plain : (predictor : Predictor) (m l s : ℕ) (ns : List ℕ) → (predictor ≡ Horizontal → ⊥) → differences predictor m l s ns ≡ ns
 unfolding differences
 left_plain predictor.None m l s ns other = in_turn ns
@@ -30,20 +30,20 @@ left_plain predictor.Horizontal m l s ns other = absurd (other refl)
 left_plain predictor.FloatingPoint m l s ns other = in_turn ns
 
 module _ {A : Type 0} (size : ℕ) (b : A → ℕ) (spelled : A → List ℕ) (by : (x : A) → spelled x ≡ le size (b x)) where
-  -- a sample's number
+  -- the number of a sample
   abbrev num : A → ℕ
   num = sample_number size b
 
-  -- a sample's bytes are those of its number
+  -- the bytes of a sample are the bytes of its number
   spell : (x : A) → spelled x ≡ le size (num x)
   spell x = (spelled_by size (b x) (spelled x) (by x)).0
 
-  -- so are those of several
+  -- the bytes of several samples are the bytes of their numbers
   pub spelled_all : (xs : List A) → flat_map spelled xs ≡ flat_map (le size) (map num xs)
   spelled_all [] = refl
   spelled_all (x ∷ xs) = ap (λ (ys : List ℕ). ys ++ flat_map spelled xs) (spell x) ∙ ap (λ (ys : List ℕ). le size (num x) ++ ys) (spelled_all xs)
 
-  -- without the horizontal predictor the bytes are those of each
+  -- without the horizontal predictor the bytes are the bytes of each sample
   pub pushed_plain : {B : Type 0} (r : Result B TiffError) (predictor : Predictor) (m l s : ℕ) (xs : List A) (old given new : List ℕ)
       → (predictor ≡ Horizontal → ⊥) → given ≡ old
       → MatchResult r (λ _. new ≡ given ++ flat_map spelled xs) (λ e. e ≡ OutOfMemory)
@@ -55,11 +55,11 @@ module _ {A : Type 0} (size : ℕ) (b : A → ℕ) (spelled : A → List ℕ) (b
   pushed_plain (Err e) predictor m l s xs old given new other same h = h
 
   module _ (m : ℕ) (all : m ≡ 256 ^ size) (s : ℕ) (row : List A) where
-    -- a number of bits that are few enough
+    -- a sample whose bits are below the modulus is its own number
     plain : (x : A) → b x < m → num x ≡ b x
     plain x h = ap (λ (k : ℕ). b x % k) (sym all) ∙ mod-eq_of_lt h
 
-    -- numbers of bits that are few enough
+    -- samples whose bits are below the modulus are their own numbers
     plain_all : (xs : List A) → ((k : ℕ) → k < length xs → get_or (map b xs) k 0 < m) → map num xs ≡ map b xs
     plain_all [] h = refl
     plain_all (x ∷ xs) h = λ i. plain x (h 0 (omega arith)) i ∷ plain_all xs (λ k lt. h (suc k) (omega (arith, lt))) i
@@ -87,7 +87,7 @@ bytes_pushed (Ok x) s row old new low held is =
     (sym (alone is.added fit) ∙ ap (flat_map (le 1)) (sym (map-id is.added) ∙ is.same ∙ ap (predicted_row 256 s) (sym plain)))
 bytes_pushed (Err e) s row old new low held is = is.0
 
--- what some numbers give, and what those behind them give
+-- the values of some numbers, and then the values of the numbers behind them
 pub joined : {X : Type 0} (F : ℕ → X) (n k : ℕ) → map F (range_with_len 0 n) ++ map (λ j. F (n + j)) (range_with_len 0 k) ≡ map F (range_with_len 0 (n + k))
 joined F n zero =
     let z : n + zero ≡ n = omega arith in
@@ -103,7 +103,7 @@ joined F n (suc k) =
     ∙ sym (map-range_with_len_more F 0 (n + k) (n + k) (omega arith))
     ∙ ap (λ j. map F (range_with_len 0 j)) (sym z)
 
--- nothing ends within a row
+-- no row ends inside a row
 no_part : (at row n : ℕ) → at < n → n < at + row → at % row ≡ 0 → n % row ≡ 0 → ⊥
 no_part at row n h f a b =
     let z : at + (n - at) ≡ n = omega (arith, h) in
@@ -114,7 +114,7 @@ no_part at row n h f a b =
     ap (λ (k : ℕ). k % row) (sym z) ∙ sym (mod-add-mod at row (n - at)) ∙ ap (λ (k : ℕ). (k + (n - at)) % row) a ∙ ap (λ (k : ℕ). k % row) none ∙ e in
     omega (arith, h, b, g)
 
--- so many whole rows, and more: a row more
+-- after whole rows, with numbers left, there is one more row
 pub row_fits : (at row n : ℕ) → at < n → at % row ≡ 0 → n % row ≡ 0 → at + row ≤ n
 row_fits at row n h a b = elim (cases_lt n (at + row)) [ inl f ↦ absurd (no_part at row n h f a b) | inr f ↦ f ]
 
@@ -126,11 +126,11 @@ row_seen num at row xs =
     ∙ ap (λ (n : ℕ). take n (drop at (map num xs))) e
 
 module _ (m l s : ℕ) (numbers : List ℕ) where
-  -- what is written in place of the first so many numbers of rows
+  -- what is written in place of the first n numbers of rows
   abbrev pub rows_made : ℕ → List ℕ
   rows_made n = map (stored_difference Horizontal m l s numbers) (range_with_len 0 n)
 
-  -- number k of a row stands for number at + k of all
+  -- number k of a row is number at + k of all numbers
   kept_in_row : (at k : ℕ) → s ≤ l → k < l → at % l ≡ 0 → stored_difference Horizontal m l s (take l (drop at numbers)) k ≡ stored_difference Horizontal m l s numbers (at + k)
   kept_in_row at k whole h e =
       let line : List ℕ = take l (drop at numbers) in
@@ -146,7 +146,7 @@ module _ (m l s : ℕ) (numbers : List ℕ) where
             ∙ ap (λ (y : ℕ). (get_or numbers (at + k) 0 + m - y) % m) (here (k - s) (omega (arith, h)) ∙ ap (λ (j : ℕ). get_or numbers j 0) back))
       ]
 
-  -- a row's differences
+  -- the differences of a row
   pub row_made : (at : ℕ) → 0 < s → s ≤ l → at + l ≤ length numbers → at % l ≡ 0
       → predicted_row m s (take l (drop at numbers)) ≡ map (λ j. stored_difference Horizontal m l s numbers (at + j)) (range_with_len 0 l)
   unfolding differences
@@ -159,7 +159,7 @@ module _ (m l s : ℕ) (numbers : List ℕ) where
       (length-map-range_with_len (stored_difference Horizontal m l s line) 0 (length line) ∙ long)
       (λ k h. get_or-map-range_with_len (stored_difference Horizontal m l s line) 0 (length line) k k 0 (omega (arith, long, h)) (omega arith) ∙ kept_in_row at k whole h e)
 
-  -- those of the rows before it, and its own
+  -- the differences of the rows before a row, and then of this row
   pub rows_next : (size at : ℕ) (old given new : List ℕ) → 0 < s → s ≤ l → at + l ≤ length numbers → at % l ≡ 0
       → given ≡ old ++ flat_map (le size) (rows_made at) → new ≡ given ++ flat_map (le size) (predicted_row m s (take l (drop at numbers)))
       → new ≡ old ++ flat_map (le size) (rows_made (at + l))
@@ -172,7 +172,7 @@ module _ (m l s : ℕ) (numbers : List ℕ) where
       ∙ ap (λ (ys : List ℕ). old ++ ys) (sym (flat_map-append (le size) (rows_made at) behind))
       ∙ ap (λ (ns : List ℕ). old ++ flat_map (le size) ns) (joined F at l)
 
-  -- all rows
+  -- the differences of all rows
   pub rows_end : (size at : ℕ) (old new : List ℕ) → at ≡ length numbers → new ≡ old ++ flat_map (le size) (rows_made at)
       → new ≡ old ++ flat_map (le size) (differences Horizontal m l s numbers)
   unfolding differences

@@ -1,4 +1,4 @@
--- Each name is that of a color type.
+-- Each name is the name of a color type.
 use Rattle.std.proofs.Common.{lit<}
 use Rattle.tiff_base.specs.declared.tags.PhotometricInterpretation.TheVariants.{BlackIsZero, RGB, CMYK, YCbCr}
 use Rattle.tiff_base.specs.declared.tags.SampleFormat.TheVariants.{Uint, Int, IEEEFP}

@@ -1,4 +1,4 @@
--- The bytes of values that are written are as many as their count and their type say.
+-- The number of bytes of written values is their count times the size of their type.
 use Rattle.std.proofs.Common.{◌+◌, ◌++◌, length, Result, refl, subst}
 use Rattle.std.specs.Int.{w8, w16, w32, w64}
 use Rattle.tiff_base.specs.declared.error.TiffError.{TiffError}

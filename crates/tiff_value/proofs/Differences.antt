@@ -1,4 +1,4 @@
--- Differences along a row, undone, are its numbers.
+-- Differences along a row, undone, are the numbers of the row.
 use Rattle.std.proofs.Common.{◌≡◌, ℕ, zero, suc, ◌+◌, ◌-◌, ◌*◌, ◌/◌, ◌%◌, ◌<◌, ◌≤◌, List, get_or, length, refl, ap, ◌∙◌, arith, add-one}
 use Rattle.std.specs.Prelude.{sum_by, ◌==◌, false}
 use Rattle.std.specs.List.{range_with_len}
@@ -12,7 +12,7 @@ use Rattle.tiff_base.proofs.Common.{range_more}
 use Rattle.tiff_base.specs.declared.tags.Predictor.TheVariants.{Horizontal}
 use Rattle.tiff_value.specs.Differences.{stored_difference, differences, predicted_row, restored_number, IsUndone}
 
--- the first numbers, summed
+-- the sum of the first numbers
 abbrev pub total : (ℕ → ℕ) → ℕ → ℕ
 total d n = sum_by d (range_with_len 0 n)
 
@@ -24,7 +24,7 @@ total_more d n =
 pub one_total : (d : ℕ → ℕ) → total d (suc zero) ≡ d 0
 one_total d = total_more d zero ∙ omega arith
 
--- what differs by d, summed, is x
+-- the sum of the differences d of x, modulo m, is x
 pub undone : (x d : ℕ → ℕ) (m last : ℕ) → ((c : ℕ) → x c < m) → d 0 ≡ x 0 → ((c : ℕ) → c < last → d (suc c) ≡ (x (suc c) + m - x c) % m)
     → (c : ℕ) → c ≤ last → total d (suc c) % m ≡ x c
 undone x d m last b z e zero h = rw (one_total d, z) (mod-eq_of_lt (b 0))
@@ -39,7 +39,7 @@ first_kept m l s row i a b = rw (mod-eq_of_lt a, lt-ltb i s b) refl
 pub later_kept : (m l s : ℕ) (row : List ℕ) (i : ℕ) → i < l → s ≤ i → stored_difference Horizontal m l s row i ≡ (get_or row i 0 + m - get_or row (i - s) 0) % m
 later_kept m l s row i a b = rw (mod-eq_of_lt a, le-ltb i s b) refl
 
--- a number of a row of differences
+-- the number at a place of a row of differences
 pub difference_at : (m s : ℕ) (row : List ℕ) (i : ℕ) → i < length row → get_or (differences Horizontal m (length row) s row) i 0 ≡ stored_difference Horizontal m (length row) s row i
 unfolding differences
 difference_at m s row i h = get_or-map-range_with_len (stored_difference Horizontal m (length row) s row) 0 (length row) i i 0 h (omega arith)

@@ -23,7 +23,7 @@ use mir.Val.{bits}
 
 -- ---- lanes
 
--- two loads of a row, less one another
+-- two loads from a row, one minus the other
 lanes_less : {A : Type 0} (b : A → ℕ) (m : ℕ) (f : A → A → A) (d : A) (n at before : ℕ) (row : List A) → before ≤ at → at + n ≤ length row
     → ((x y : A) → b (f x y) ≡ (b x + (m - b y)) % m)
     → map b (zip2 f (chunk at n row) (chunk before n row)) ≡ less_from m n at before (map b row)
@@ -51,7 +51,7 @@ lanes_long f n at before row order room =
     let ly = length-chunk before n row (omega (arith, order, room)) in
     length-zip2 f (chunk at n row) (chunk before n row) (omega (arith, lx, ly)) ∙ lx
 
--- the same, stored
+-- two loads from a row, one minus the other, stored
 pub lanes_stored : {A : Type 0} (b : A → ℕ) (m : ℕ) (f : A → A → A) (d : A) (n at before : ℕ) (row out : List A) → length out ≡ n → before ≤ at → at + n ≤ length row
     → ((x y : A) → b (f x y) ≡ (b x + (m - b y)) % m)
     → map b (put_chunk 0 out (zip2 f (chunk at n row) (chunk before n row))) ≡ less_from m n at before (map b row)
@@ -91,7 +91,7 @@ signed_stored w n at before row out long order room =
 
 -- ---- rows
 
--- some values, and then so many more
+-- some values, and then n more values
 made_behind : (F G : ℕ → ℕ) (a n : ℕ) → ((k : ℕ) → k < n → G k ≡ F (a + k)) → map F (range_with_len 0 a) ++ map G (range_with_len 0 n) ≡ map F (range_with_len 0 (a + n))
 made_behind F G a n same =
     let xs : List ℕ = map F (range_with_len 0 a) in
@@ -108,7 +108,7 @@ made_behind F G a n same =
           ∙ same (k - a) (omega (arith, h, above)) ∙ ap F (omega (arith, above))
     ])
 
--- one more sample's bits are below the modulus
+-- the bits of one more sample are below the modulus
 pub below_more : {A : Type 0} (b : A → ℕ) (m : ℕ) (row : List A) (i : ℕ) (x : A) → i < length row → x ≡ get_or row i x → b x < m
     → ((k : ℕ) → k < i → get_or (map b row) k 0 < m) → (k : ℕ) → k < i + 1 → get_or (map b row) k 0 < m
 below_more b m row i x within is low all k h = elim (cases_lt k i) [
@@ -118,12 +118,12 @@ below_more b m row i x within is low all k h = elim (cases_lt k i) [
       omega (arith, low, ap (λ (j : ℕ). get_or (map b row) j 0) e, get_or-map b row i x 0 within, ap b (sym is))
 ]
 
--- The first so many of a list of n are numbers of a row, each less one before it.
+-- The first k of a list of n numbers are numbers of a row, each minus a number before it.
 pub record LessUpto {A : Type 0} (b : A → ℕ) (m at before : ℕ) (row : List A) (n k : ℕ) (out : List A) : Type 0 where
   pub long : length out ≡ n
   pub done : map b (take k out) ≡ less_from m k at before (map b row)
 
--- the next of them
+-- one step: the next difference
 pub less_one : {A : Type 0} (b : A → ℕ) (m at before : ℕ) (row : List A) (n k : ℕ) (x y next : A) (out new : List A)
     → k < n → at + k < length row → before + k < length row → x ≡ get_or row (at + k) x → y ≡ get_or row (before + k) y
     → b next ≡ (b x + m - b y) % m → b y < m → LessUpto b m at before row n k out → new ≡ set out k next → LessUpto b m at before row n (k + 1) new
@@ -144,7 +144,7 @@ less_one b m at before row n k x y next out new within there behind is_x is_y is
           ∙ sym (map-range_with_len_more each 0 k k (omega arith));
     }
 
--- all of them
+-- all n differences
 pub less_whole : {A : Type 0} (b : A → ℕ) (m at before : ℕ) (row : List A) (n k : ℕ) (out : List A) → k ≡ n → LessUpto b m at before row n k out
     → map b out ≡ less_from m n at before (map b row)
 less_whole b m at before row n k out e h =
@@ -154,7 +154,7 @@ module _ {A : Type 0} (b : A → ℕ) (m s : ℕ) (row : List A) where
   abbrev value : ℕ → ℕ
   value = stored_difference Horizontal m (length (map b row)) s (map b row)
 
-  -- A list as long as a row has the first so many differences of it.
+  -- A list as long as a row has the first n differences of the row.
   pub record Upto (n : ℕ) (out : List A) : Type 0 where
     pub long : length out ≡ length row
     pub done : map b (take n out) ≡ made b m s row n

@@ -1,4 +1,4 @@
--- The lowest bytes of a number are those of its remainder.
+-- The lowest bytes of a number are the lowest bytes of its remainder.
 use Rattle.std.proofs.Common.{zero, suc, ◌≡◌, ℕ, ◌+◌, ◌*◌, ◌/◌, ◌%◌, ◌^◌, ◌<◌, List, ◌∷◌, refl, ap, sym, ◌∙◌, arith, lit<}
 use Rattle.std.proofs.Math.Nat.{mod-add-div, mod-lt, add-mul-div_left, add-mul-mod_self_left, mul_assoc}
 use Rattle.std.proofs.lemmas.Nat.{pow-add}
@@ -15,14 +15,14 @@ one_more k =
     let one : 256 ^ 1 ≡ 256 = refl in
     ap (λ (x : ℕ). 256 ^ x) z ∙ pow-add 256 1 k ∙ ap (λ (x : ℕ). x * 256 ^ k) one
 
--- a number is what is left of it, and a multiple
+-- a number is its remainder plus a multiple
 whole : (n a b : ℕ) → n % (a * (256 * b)) + a * (256 * (b * (n / (a * (256 * b))))) ≡ n
 whole n a b =
     let q : ℕ = n / (a * (256 * b)) in
     ap (λ (k : ℕ). n % (a * (256 * b)) + k) (sym (mul_assoc a (256 * b) q ∙ ap (λ (k : ℕ). a * k) (mul_assoc 256 b q)))
     ∙ mod-add-div n (a * (256 * b))
 
--- a byte that is not the lowest
+-- a byte other than the lowest byte
 digit : (n a b : ℕ) → 0 < a → n % (a * (256 * b)) / a % 256 ≡ n / a % 256
 digit n a b p =
     let r : ℕ = n % (a * (256 * b)) in
@@ -30,7 +30,7 @@ digit n a b p =
     let moved : n / a ≡ r / a + 256 * q = ap (λ (k : ℕ). k / a) (sym (whole n a b)) ∙ add-mul-div_left r (256 * q) p in
     sym (ap (λ (k : ℕ). k % 256) moved ∙ add-mul-mod_self_left (r / a) 256 q)
 
--- the lowest
+-- the lowest byte
 lowest : (n b : ℕ) → n % (256 * b) % 256 ≡ n % 256
 lowest n b =
     let r : ℕ = n % (256 * b) in
@@ -53,7 +53,7 @@ kept i (suc k) n m e =
     let next : i + suc k ≡ suc i + k = omega arith in
     λ t. byte_kept i k n m e t ∷ kept (suc i) k n m (e ∙ ap (λ (x : ℕ). 256 ^ x) next) t
 
--- bytes of some bits are those of a number below 256 for each
+-- the bytes of some bits are the bytes of a number below 256 ^ size
 pub spelled_by : (size b : ℕ) (bytes : List ℕ) → bytes ≡ le size b → (bytes ≡ le size (b % 256 ^ size)) × (b % 256 ^ size < 256 ^ size)
 spelled_by size b bytes e =
     let z : size ≡ 0 + size = omega arith in

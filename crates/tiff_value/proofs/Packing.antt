@@ -82,7 +82,7 @@ packs_run n v a b = record {
   stands = sym (append-nil (replicate n v));
 }
 
--- what was packed unpacks to the bytes
+-- packed bytes unpack to the original bytes
 pub unpacks : (bytes list : List ℕ) → IsPacked bytes list → runs false list ≡ record { out = bytes; end = Plain }
 unpacks bytes list p = one_unpacked list false bytes Plain (record {
   blocks = p.packs.blocks;
@@ -94,7 +94,7 @@ unpacks bytes list p = one_unpacked list false bytes Plain (record {
   ends = refl;
 })
 
--- ---- what blocks owe
+-- ---- the slack of blocks
 
 owed_le : (bytes : List ℕ) → bound_slack bytes ≤ 128
 owed_le [] = omega arith
@@ -160,7 +160,7 @@ block_literal old bytes new n v d e =
       at_end = e ∙ append_assoc old ((n - 1) ∷ []) (take n bytes);
     }
 
--- these are blocks for the first n bytes, short enough in all
+-- the packed list is blocks for the first n bytes, short enough in all
 pub record HasPacked (bytes : List ℕ) (n : ℕ) (packed_block : List ℕ) : Type 0 where
   pub within : n ≤ length bytes
   pub packs : Packs packed_block (take n bytes)

@@ -1,4 +1,4 @@
--- A part of a row goes into bytes, one number after another.
+-- The bytes of a part of a row, stored one number after another.
 use Rattle.std.proofs.Common.{zero, suc, ◌≡◌, ℕ, ◌+◌, ◌-◌, ◌*◌, ◌%◌, ◌^◌, ◌<◌, ◌≤◌, List, [], ◌∷◌, ◌++◌, map, get_or, length, take, drop, ap, sym, refl, ◌∙◌, arith, append-nil}
 use Rattle.std.specs.Int.{bytes_low_first}
 use Rattle.std.specs.List.{range_with_len, flat_map}
@@ -15,7 +15,7 @@ use Rattle.tiff_value.proofs.Differences.{first_kept, later_kept}
 use Rattle.tiff_value.proofs.Lowest.{spelled_by}
 use borrow.Rule.Slice.PartMut.{put_mid, same_len_mid}
 
--- a number has so many bytes
+-- a number has `size` bytes
 pub length-le : (i size n : ℕ) → length (bytes_low_first i size n) ≡ size
 length-le i zero n = refl
 length-le i (suc size) n = ap suc (length-le (suc i) size n)
@@ -25,7 +25,7 @@ module _ (F : ℕ → ℕ) (size at end : ℕ) where
   abbrev pub bytes_upto : ℕ → List ℕ
   bytes_upto k = flat_map (le size) (map (λ j. F (at + j)) (range_with_len 0 (k - at)))
 
-  -- The bytes of a part of a row have these of the numbers up to k.
+  -- The bytes of a part of a row contain the bytes of the numbers up to k.
   pub record PutUpto (k : ℕ) (out : List ℕ) : Type 0 where
     pub long : length out ≡ (end - at) * size
     pub done : take ((k - at) * size) out ≡ bytes_upto k
@@ -40,7 +40,7 @@ module _ (F : ℕ → ℕ) (size at end : ℕ) where
         done = (λ i. take (front i) out) ∙ (λ i. flat_map (le size) (map (λ j. F (at + j)) (range_with_len 0 (sym none i))));
       }
 
-  -- the next of them
+  -- one step: the bytes of the next number
   pub put_next : (k : ℕ) (out part : List ℕ) → at ≤ k → k < end → part ≡ le size (F k) → PutUpto k out
       → PutUpto (k + 1) (put_mid ((k - at) * size) ((k - at) * size + size - (k - at) * size) out part)
   put_next k out part after within is h =
@@ -65,7 +65,7 @@ module _ (F : ℕ → ℕ) (size at end : ℕ) where
             ∙ (λ i. flat_map (le size) (map G (range_with_len 0 (sym one i))));
       }
 
-  -- all of them
+  -- the bytes of all numbers
   pub put_all : (k : ℕ) (out : List ℕ) → k ≡ end → PutUpto k out → out ≡ bytes_upto end
   put_all k out e h =
       let whole : length out ≤ (k - at) * size = omega (arith, h.long ∙ ap (λ n. (n - at) * size) (sym e)) in
@@ -76,25 +76,25 @@ module _ {A : Type 0} (b : A → ℕ) (size m : ℕ) (all : m ≡ 256 ^ size) (s
   abbrev pub numbers : List ℕ
   numbers = map (sample_number size b) row
 
-  -- what is written for one of them
+  -- the number written in place of a number of the row
   abbrev pub written : ℕ → ℕ
   written = stored_difference Horizontal m (length numbers) s numbers
 
   number_at : (k : ℕ) (x : A) → k < length row → x ≡ get_or row k x → get_or numbers k 0 ≡ sample_number size b x
   number_at k x within is = get_or-map (sample_number size b) row k x 0 within ∙ ap (sample_number size b) (sym is)
 
-  -- a number of bits that are few enough
+  -- a sample whose bits are below the modulus is its own number
   plain : (x : A) → b x < m → sample_number size b x ≡ b x
   plain x h = ap (λ (q : ℕ). b x % q) (sym all) ∙ mod-eq_of_lt h
 
-  -- a sample before the stride
+  -- the bytes of a sample before the stride
   pub first_bytes : (k : ℕ) (x : A) (part : List ℕ) → k < length row → k < s → x ≡ get_or row k x → part ≡ le size (b x) → part ≡ le size (written k)
   first_bytes k x part within below is e =
       let long : length numbers ≡ length row = length-map row (sample_number size b) in
       (spelled_by size (b x) part e).0
       ∙ ap (le size) (sym (first_kept m (length numbers) s numbers k (omega (arith, long, within)) below ∙ number_at k x within is))
 
-  -- one behind it
+  -- a sample from the stride on
   pub later_bytes : (k : ℕ) (x y d : A) (part : List ℕ) → k < length row → s ≤ k → x ≡ get_or row k x → y ≡ get_or row (k - s) y
       → b d ≡ (b x + m - b y) % m → b x < m → b y < m → part ≡ le size (b d) → part ≡ le size (written k)
   later_bytes k x y d part within after is_x is_y is_d low_x low_y e =

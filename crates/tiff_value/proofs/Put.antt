@@ -9,7 +9,7 @@ use Rattle.std.proofs.Math.Seq.{take-append-add}
 use Rattle.std.proofs.lemmas.List.{take-append-le}
 use Rattle.tiff_value.specs.Written.{Written, writer_after, SinkFails, IsCut}
 
--- a second piece right behind the first
+-- a second piece right after the first
 pub put-put : (file : List ℕ) (at : ℕ) (xs ys : List ℕ) → at ≤ length file → put (put file at xs) (at + length xs) ys ≡ put file at (xs ++ ys)
 put-put file at xs ys h =
     ap (λ d. put d (at + length xs) ys) (sym (paste_all file at xs (length xs) refl))
@@ -37,11 +37,11 @@ moved-moved w xs ys h =
     let e2 : w.at + length xs + length ys ≡ w.at + length (xs ++ ys) = omega (arith, length-append xs ys) in
     λ i. record w { bytes = e1 i; at = e2 i }
 
--- what was written so far, and n more of the rest
+-- the bytes written so far, and then n more bytes of the rest
 pub moved_more : (w : Written) (xs : List ℕ) (d n : ℕ) → w.at ≤ length w.bytes → writer_after (writer_after w (take d xs)) (take n (drop d xs)) ≡ writer_after w (take (d + n) xs)
 moved_more w xs d n h = moved-moved w (take d xs) (take n (drop d xs)) h ∙ ap (writer_after w) (take_split xs d n)
 
--- a fault of the sink after a beginning of the bytes
+-- an error of the sink after a part of the bytes, from the front
 pub cut_from : (w v new : Written) (xs : List ℕ) (d : ℕ) (e : TiffError) → w.fault ≡ None → d < length xs → v ≡ writer_after w (take d xs) → SinkFails e v new → IsCut xs e w new
 cut_from w v new xs d e a h s f = record {
   fresh = a;
@@ -56,7 +56,7 @@ cut_from w v new xs d e a h s f = record {
 pub zeros : (n : ℕ) → n ≤ 3 → let z : List ℕ = 0 ∷ 0 ∷ 0 ∷ [] in take n z ≡ replicate n 0
 zeros n h = take-replicate n 3 0 h
 
--- a fault of the sink while a later piece of the bytes was written
+-- an error of the sink during the write of a later piece of the bytes
 pub cut_behind : (w v new : Written) (xs ys zs whole : List ℕ) (e : TiffError) → w.at ≤ length w.bytes → w.fault ≡ None → v ≡ writer_after w xs
     → whole ≡ xs ++ (ys ++ zs) → IsCut ys e v new → IsCut whole e w new
 cut_behind w v new xs ys zs whole e h a s all c =

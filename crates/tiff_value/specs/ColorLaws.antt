@@ -1,4 +1,4 @@
--- What the laws of color types rest on.
+-- Lemmas for the laws of color types.
 use Rattle.std.specs.Prelude.{◌≡◌, ℕ, ◌*◌, ◌^◌, ◌<◌}
 use Rattle.std.proofs.Common.{refl, sym, ◌∙◌, arith}
 use Rattle.std.proofs.lemmas.List.{length-replicate}
@@ -8,7 +8,8 @@ use Rattle.tiff_base.specs.declared.tags.SampleFormat.{SampleFormat}
 use Rattle.tiff_value.specs.ColorType.{IsColorType}
 use Rattle.tiff_value.specs.ColorTypes.{samples_of}
 
--- a color type may have so many samples of the bits of its bytes in memory and of one format
+-- a color type may have `samples` samples of one sample format, each with all the bits of its
+-- `size` bytes in memory
 pub samples_alike : (interpretation : PhotometricInterpretation) (samples size : ℕ) (format : SampleFormat)
     → 0 < samples → samples < 2 ^ 16 → IsColorType size (samples_of interpretation samples (8 * size) format)
 samples_alike interpretation samples size format some few = record {

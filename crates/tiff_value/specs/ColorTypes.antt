@@ -1,4 +1,5 @@
--- What each color type says of its samples (TIFF 6.0 sections 4 to 6, 16, 19, 21; their names as in the Rust crate).
+-- What each color type says about its samples (TIFF 6.0 sections 4 to 6, 16, 19, 21; their names as
+-- in the Rust crate).
 use Rattle.std.specs.Prelude.{ℕ, replicate}
 use Rattle.tiff_base.specs.declared.tags.PhotometricInterpretation.{PhotometricInterpretation}
 use Rattle.tiff_base.specs.declared.tags.PhotometricInterpretation.TheVariants.{BlackIsZero, RGB, CMYK, YCbCr}
@@ -11,12 +12,12 @@ use Rattle.tiff_value.specs.declared.encoder.colortype.ColorTypeName.{ColorTypeN
 use Rattle.tiff_value.specs.declared.encoder.colortype.ColorTypeName.TheVariants as n
 use Rattle.tiff_value.specs.ColorType.{ColorTypeRecord, IsColorType}
 
--- so many samples of one depth and format
+-- a color type with `samples` samples of one number of bits and one sample format
 abbrev pub samples_of : PhotometricInterpretation → ℕ → ℕ → SampleFormat → ColorTypeRecord
 samples_of interpretation samples bits format =
     record { interpretation = interpretation; bits = replicate samples bits; formats = replicate samples format }
 
--- the interpretation, the bits and the formats of each color type
+-- the interpretation, the numbers of bits and the sample formats of each color type
 unfoldable pub color_type : ColorTypeName → ColorTypeRecord
 color_type n.Gray8 = samples_of BlackIsZero 1 8 Uint
 color_type n.Gray16 = samples_of BlackIsZero 1 16 Uint
@@ -49,7 +50,7 @@ color_type n.CMYK64Float = samples_of CMYK 4 64 IEEEFP
 color_type n.YCbCr8 = samples_of YCbCr 3 8 Uint
 color_type n.CMYKA8 = samples_of CMYK 5 8 Uint
 
--- the field type of its numbers in memory; floating ones are their bits
+-- the field type of the samples of a color type in memory; floating-point samples are their bits
 unfoldable pub inner_type : ColorTypeName → «Type»
 inner_type n.Gray8 = t.BYTE
 inner_type n.Gray16 = t.SHORT
@@ -82,12 +83,12 @@ inner_type n.CMYK64Float = t.DOUBLE
 inner_type n.YCbCr8 = t.BYTE
 inner_type n.CMYKA8 = t.BYTE
 
--- the bytes of such a number
+-- the number of bytes of a sample of a color type in memory
 abbrev pub inner_size : ColorTypeName → ℕ
 inner_size name = type_size (inner_type name)
 
 -- ---- its law
 
--- Each name is that of a color type.
+-- Each name is the name of a color type.
 abbrev pub AreColorTypes : Type 0
 AreColorTypes = (name : ColorTypeName) → IsColorType (inner_size name) (color_type name)

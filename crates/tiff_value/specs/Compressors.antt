@@ -1,4 +1,4 @@
--- The method of each compressor.
+-- The compression method of each compressor.
 use Rattle.tiff_base.specs.declared.tags.CompressionMethod.{CompressionMethod}
 use Rattle.tiff_base.specs.declared.tags.CompressionMethod.TheVariants as method
 use Rattle.tiff_value.specs.declared.encoder.compression.Compressor.{Compressor}

@@ -1,4 +1,5 @@
--- What the values that are written are in a file (TIFF 6.0 section 2; BigTIFF; their types as in the Rust crate).
+-- What written values are in a file (TIFF 6.0 section 2; BigTIFF; their types as in the Rust
+-- crate).
 use Rattle.std.specs.Prelude.{◌≡◌, ℕ, ◌+◌, ◌*◌, ℤ, Bool, not, ◌&&◌, if◌then◌else◌, ◌==◌, nat_lt, List, [], ◌∷◌, ◌++◌, length, Result, Ok, Err}
 use Rattle.std.specs.Int.{Width, w8, w16, w32, w64, byte_len, cast_unsigned}
 use Rattle.std.specs.List.{flat_map, list_all}
@@ -18,13 +19,14 @@ use Rattle.tiff_base.specs.Types.{type_size}
 use Rattle.tiff_base.specs.Tags.{method_number, interpretation_number, planar_number, predictor_number, unit_number, format_number, extra_number}
 use Rattle.tiff_base.specs.Number.{le}
 
--- what a field is given: the type of its values, how many there are, and their little-endian bytes
+-- the data of a field: the type of its values, their number, and their little-endian bytes
 pub record FieldData : Type 0 where
   pub field_type : «Type»
   pub count : ℕ
   pub bytes : List ℕ
 
--- Values that are written: some of one type; a single value is a list of one. Floating numbers are their bits.
+-- Values that a writer writes: several values of one type. A single value is a list of one.
+-- Floating-point numbers are their bits.
 pub data Scalars : Type 0 where
   u8s : List ℕ → Scalars
   i8s : List ℤ → Scalars
@@ -48,15 +50,16 @@ pub data Scalars : Type 0 where
   rationals : List (ℕ × ℕ) → Scalars
   srationals : List (ℤ × ℤ) → Scalars
 
--- the bytes of a signed number, by two's complement
+-- the bytes of a signed number, in two's complement
 abbrev pub signed_le : Width → ℤ → List ℕ
 signed_le w n = le (byte_len w) (cast_unsigned w n)
 
--- values of a type, each of so many bytes
+-- the data of values of a type, each with the bytes that `bytes_of` returns
 abbrev pub data_by : {A : Type 0} → «Type» → (A → List ℕ) → List A → FieldData
 data_by type bytes_of values = record { field_type = type; count = length values; bytes = flat_map bytes_of values }
 
--- the type, the count and the bytes of some values; the enums of tags are their numbers, each a SHORT
+-- the type, the number and the bytes of some values; each value of an enum is its number, as a
+-- SHORT
 unfoldable pub data_of : Scalars → FieldData
 data_of (u8s ns) = data_by t.BYTE (le 1) ns
 data_of (i8s ns) = data_by t.SBYTE (signed_le w8) ns
@@ -80,11 +83,11 @@ data_of (ifd8s ns) = data_by t.IFD8 (le 8) ns
 data_of (rationals rs) = data_by t.RATIONAL (λ r. le 4 r.0 ++ le 4 r.1) rs
 data_of (srationals rs) = data_by t.SRATIONAL (λ r. signed_le w32 r.0 ++ signed_le w32 r.1) rs
 
--- a byte of ASCII that is not the zero that ends a text
+-- a byte of ASCII other than the zero that ends a text
 abbrev pub is_letter : ℕ → Bool
 is_letter b = nat_lt b 128 && not (b == 0)
 
--- a text: ASCII without a zero, and a zero is appended
+-- the data of a text: ASCII without a zero byte, followed by a zero byte
 unfoldable pub text_data : List ℕ → Result FieldData TiffError
 text_data text =
     if list_all is_letter text
@@ -93,7 +96,7 @@ text_data text =
 
 -- ---- its laws
 
--- The bytes are as many as the count and the size of the type say.
+-- The number of bytes is the count times the size of the type.
 abbrev pub IsWhole : FieldData → Type 0
 IsWhole d = length d.bytes ≡ d.count * type_size d.field_type
 

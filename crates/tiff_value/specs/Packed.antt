@@ -1,4 +1,4 @@
--- What may be written for bytes that are packed by PackBits, or stand as they are (TIFF 6.0 section 9).
+-- What a writer may write for bytes, packed by PackBits or as they are (TIFF 6.0 section 9).
 use Rattle.std.specs.Prelude.{◌≡◌, ℕ, ◌+◌, ◌/◌, ◌≤◌, Bool, true, false, not, ◌&&◌, ◌||◌, ◌==◌, List, [], ◌∷◌, length, Option, Some, None}
 use Rattle.std.specs.List.{flat_map, list_all}
 use Rattle.tiff_base.specs.declared.error.TiffError.{TiffError}
@@ -18,21 +18,24 @@ abbrev pub holds_three : List ℕ → Bool
 holds_three [] = false
 holds_three (a ∷ bytes) = (begins_with_two (a ∷ bytes) && begins_with_two bytes) || holds_three bytes
 
--- a literal that doesn't begin with two equal bytes, nor hold three equal ones in a row
+-- a literal that does not begin with two equal bytes, and does not contain three equal bytes in a
+-- row
 abbrev pub is_sparing : List ℕ → Bool
 is_sparing literal = not (begins_with_two literal) && not (holds_three literal)
 
--- the most bytes that n bytes are packed to: one more for each 128 or part of 128
+-- the largest number of bytes that n bytes are packed to: one more for each 128 bytes or part of
+-- 128
 abbrev pub packed_bound : ℕ → ℕ
 packed_bound n = n + (n + 127) / 128
 
--- a block that may be written: not one that stands for nothing, nor a literal that isn't sparing
+-- a block that may be written: neither a block that encodes nothing, nor a literal that isn't
+-- sparing
 abbrev pub may_be_written : Block → Bool
 may_be_written Nothing = false
 may_be_written (Literal bytes) = is_sparing bytes
 may_be_written (Repeated n value) = true
 
--- A list is whole blocks that may be written, and these stand for the bytes.
+-- The list is whole blocks that may be written, and these encode the bytes.
 pub record Packs (list bytes : List ℕ) : Type 0 where
   pub blocks : List Block
   pub are_blocks : AreBlocks blocks
@@ -40,25 +43,26 @@ pub record Packs (list bytes : List ℕ) : Type 0 where
   pub is_list : list ≡ flat_map packed_block blocks
   pub stands : bytes ≡ flat_map plain_block blocks
 
--- A packed list is one that may be written for these bytes: such blocks, and at most one byte longer than the bytes for each 128 of
--- them or part of 128.
+-- The packed list may be written for these bytes: it consists of blocks that may be written, and is
+-- at most one byte longer than the bytes for each 128 bytes or part of 128.
 pub record IsPacked (bytes list : List ℕ) : Type 0 where
   pub packs : Packs list bytes
   pub bound : length list ≤ packed_bound (length bytes)
 
--- What is stored for bytes by a method: the bytes, or a packed list of them; by no other method.
+-- The stored form of bytes by a method: the bytes themselves, or a packed list of them. No other
+-- method stores bytes.
 abbrev pub IsStored : CompressionMethod → List ℕ → List ℕ → Type 0
 IsStored method.None stored bytes = stored ≡ bytes
 IsStored method.PackBits stored bytes = IsPacked bytes stored
 IsStored method stored bytes = ⊥
 
--- why bytes can't be stored: there are none, and they are to be packed
+-- the error if bytes can't be stored: the method packs bytes and there are none
 abbrev pub store_fault : CompressionMethod → List ℕ → Option TiffError
 store_fault method.PackBits [] = Some (IoError WriteZero)
 store_fault method bytes = None
 
 -- ---- its law
 
--- a packed list unpacks to the bytes that it was packed from, and ends at the end of a block
+-- a packed list unpacks to the bytes that it is packed from, and ends at the end of a block
 abbrev pub PackedUnpacks : Type 0
 PackedUnpacks = (bytes list : List ℕ) → IsPacked bytes list → runs false list ≡ record { out = bytes; end = Plain }

@@ -1,4 +1,4 @@
--- What a writer has written, and what each write does to it.
+-- What a writer has written, and what each write does to the writer.
 use Rattle.std.specs.Prelude.{◌≡◌, ℕ, ◌+◌, ◌<◌, ◌⊎◌, List, length, take, Option, Some, None, IsSome, Result, MatchResult}
 use Rattle.tiff_base.specs.SourceAndSink.{put, sink_error}
 use Rattle.tiff_base.specs.declared.error.TiffError.{TiffError}
@@ -8,8 +8,9 @@ use Rattle.tiff_base.specs.declared.io.SinkFault.{SinkFault}
 use Rattle.tiff_base.specs.declared.tags.CompressionMethod.{CompressionMethod}
 use Rattle.tiff_base.specs.declared.tags.CompressionMethod.TheVariants as method
 
--- a writer: the bytes of its sink, the offset that is written next, the fault of the sink that ended all writing, how many
--- writes of its sink failed, the byte count of the last write, and the method that bytes are packed by
+-- a writer: the bytes of its sink, the offset of the next write, the error of the sink that ended
+-- all writing, the number of failed writes of its sink, the number of bytes of the last write, and
+-- its compression method
 pub record Written : Type 0 where
   pub bytes : List ℕ
   pub at : ℕ
@@ -18,20 +19,20 @@ pub record Written : Type 0 where
   pub last : ℕ
   pub method : CompressionMethod
 
--- a new writer over a sink that holds these bytes, some of whose writes failed before
+-- a fresh writer over a sink that contains these bytes, after some failed writes of the sink
 abbrev pub new_writer : List ℕ → ℕ → Written
 new_writer told failures =
     record { bytes = told; at = length told; fault = None; failures = failures; last = 0; method = method.None }
 
--- the writer after bytes went out at its offset
+-- the writer after a write of bytes at its offset
 abbrev pub writer_after : Written → List ℕ → Written
 writer_after w xs = record w { bytes = put w.bytes w.at xs; at = w.at + length xs }
 
--- the same, with their count kept for `last_written`
+-- the writer after a write of bytes at its offset, with their number as `last_written`
 abbrev pub writer_after_counted : Written → List ℕ → Written
 writer_after_counted w xs = record w { bytes = put w.bytes w.at xs; at = w.at + length xs; last = length xs }
 
--- One call of the sink failed: its bytes stay, and its fault ends all writing.
+-- One call of the sink fails: its bytes are unchanged, and its error ends all writing.
 pub record SinkFails (e : TiffError) (old new : Written) : Type 0 where
   pub fault : SinkFault
   pub answer : e ≡ sink_error fault
@@ -43,7 +44,8 @@ pub record IsStopped (e : TiffError) (old new : Written) : Type 0 where
   pub failed : IsSome old.fault
   pub same : new ≡ old
 
--- The sink failed while these bytes were written: a beginning of them stands, and nothing is written after it.
+-- The sink fails during the write of these bytes: a part of them, from the front, is written, and
+-- nothing after it.
 pub record IsCut (xs : List ℕ) (e : TiffError) (old new : Written) : Type 0 where
   pub fresh : old.fault ≡ None
   pub fault : SinkFault
@@ -58,12 +60,14 @@ pub record IsCut (xs : List ℕ) (e : TiffError) (old new : Written) : Type 0 wh
   }
 
 module _ {A : Type 0} where
-  -- the bytes went out, or a beginning of them as the sink failed, or nothing since an earlier write failed
+  -- the bytes are written; or a part of them, from the front, because the sink fails; or nothing,
+  -- because an earlier write failed
   abbrev pub WritesRaw : List ℕ → Written → Written → Result A TiffError → Type 0
   WritesRaw xs old new r =
       MatchResult r (λ _. (old.fault ≡ None) × (new ≡ writer_after old xs)) (λ e. IsStopped e old new ⊎ IsCut xs e old new)
 
-  -- the same, with the count kept for `last_written`
+  -- the bytes are written, with their number as `last_written`; or a part of them, from the front,
+  -- because the sink fails; or nothing, because an earlier write failed
   abbrev pub WritesCounted : List ℕ → Written → Written → Result A TiffError → Type 0
   WritesCounted xs old new r =
       MatchResult r (λ _. (old.fault ≡ None) × (new ≡ writer_after_counted old xs)) (λ e. IsStopped e old new ⊎ IsCut xs e old new)

@@ -31,7 +31,7 @@ impl ValueBuffer {
     ghost use Rattle.std.specs.Borrow.{sem};
     ghost use Rattle.tiff_value.specs.Lends.{lends_bytes};
 
-    /// No values of a type, in the machine's order.
+    /// Makes a buffer without values, of a type, in the machine's byte order.
     pub fn empty(alloc: Global, data_type: Type) -> Self
         ensures { result ≡ empty_buffer data_type }
     {
@@ -42,7 +42,8 @@ impl ValueBuffer {
         }
     }
 
-    /// The values that are written, in the machine's order. Errors are those of `data`.
+    /// Makes a buffer of the bytes of a value, in the machine's byte order. Its errors are those of
+    /// `data`.
     pub fn from_value<V: TiffValue>(alloc: Global, value: &V) -> TiffResult<Self>
         ensures { AnswersBut (IsWritable (V.field_data value.now)) ⊥ (λ b. b) result (buffer_given (V.field_data value.now)) }
     {
@@ -55,7 +56,8 @@ impl ValueBuffer {
         })
     }
 
-    /// The values of a type that these bytes are, in an order (this project's).
+    /// Makes a buffer from the bytes of values of a type, in a byte order. This project adds this
+    /// function.
     pub fn from_parts(order: ByteOrder, data_type: Type, bytes: Vec<u8>) -> Self
         ensures { result ≡ record { order = order; data_type = data_type; bytes = bytes.items } }
     {
@@ -66,21 +68,21 @@ impl ValueBuffer {
         }
     }
 
-    /// The order of the bytes of each number.
+    /// Returns the byte order of the numbers.
     pub fn byte_order(&self) -> ByteOrder
         ensures { result ≡ self.now.order }
     {
         self.order
     }
 
-    /// The type of the values.
+    /// Returns the type of the values.
     pub fn data_type(&self) -> Type
         ensures { result ≡ self.now.data_type }
     {
         self.data_type
     }
 
-    /// How many values there are.
+    /// Returns the number of values.
     pub fn count(&self) -> u64
         ensures { result ≡ buffer_count self.now }
     {
@@ -88,14 +90,14 @@ impl ValueBuffer {
         self.bytes.len() as u64 / size
     }
 
-    /// The bytes of the values, in their order.
+    /// Returns the bytes of the values, in their byte order.
     pub fn as_bytes(&self) -> &[u8]
         ensures { result.now ≡ self.now.bytes }
     {
         self.bytes.as_slice()
     }
 
-    /// The bytes of the values, to be written. Their order and type stay.
+    /// Returns the bytes of the values for writing. The byte order and the type stay the same.
     pub fn as_bytes_mut(&mut self) -> &mut [u8]
         ensures* writes_back { sem 𝓛 (lends_bytes self.entry result) }
         ensures value { result.now ≡ self.old.bytes }
@@ -103,7 +105,7 @@ impl ValueBuffer {
         self.bytes.as_mut_slice()
     }
 
-    /// Turns the bytes of the numbers into an order.
+    /// Converts the bytes of the numbers to a byte order.
     pub fn set_byte_order(&mut self, order: ByteOrder)
         ensures { self.new ≡ in_byte_order self.old order }
     {

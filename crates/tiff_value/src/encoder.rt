@@ -1,4 +1,4 @@
-//! What files are written by.
+//! The parts that writers of files use.
 
 pub mod chunk;
 mod colors;

@@ -1,4 +1,4 @@
-//! Laws of the definitions, each the contract of a function with no work.
+//! Laws of the definitions. Each is the contract of a function with an empty body.
 
 ghost use Rattle.std.specs.Prelude.{◌≡◌, ◌^◌, ◌<◌, [], ◌∷◌};
 ghost use Rattle.tiff_base.specs.Number.{le};
@@ -14,33 +14,34 @@ use crate::encoder::colortype::{ColorType, NamedColorType};
 use crate::encoder::differences::Sample;
 use crate::encoder::tiff_value::{TiffScalar, TiffValue};
 
-/// The bytes of values are as many as their count and their type say.
+/// The number of bytes of values is the count times the size of the type.
 pub fn data_is_whole()
     ensures { DataIsWhole }
 {}
 
-/// So are those of a text.
+/// The number of bytes of a text is the count times the size of the type.
 pub fn text_is_whole()
     ensures { TextIsWhole }
 {}
 
-/// A field is given the type and the count of a value, and as many bytes as these say, or it is no text.
+/// The data of a field has the type and the count of its value, and as many bytes as these say, or
+/// the value is a text that can't be written.
 pub fn value_is_whole<T: TiffValue>()
     ensures { (x : T) → IsValue T.value_type (T.value_count x) (T.field_data x) }
 {}
 
-/// A scalar is one value, and a field can always be given it.
+/// A scalar is one value, and a field can always have it.
 pub fn scalar_is_single<T: TiffScalar>()
     ensures count { (x : T) → T.value_count x ≡ 1 }
     ensures data { (x : T) → T.field_data x ≡ Ok (data_of (T.scalars (x ∷ []))) }
 {}
 
-/// What the name of each color type says is what a page can say of its samples.
+/// What the name of each color type says is what a page can say about its samples.
 pub fn are_color_types()
     ensures { AreColorTypes }
 {}
 
-/// So is what any color type says, with a name or without.
+/// What any color type says, with a name or without, is what a page can say about its samples.
 pub fn color_type_is_lawful<C: ColorType>()
     ensures { IsColorType (type_size C.Inner.value_type) C.described }
 {}
@@ -51,19 +52,20 @@ pub fn named_is_known<C: NamedColorType>()
     ensures in_memory { C.Inner.value_type ≡ inner_type C.name }
 {}
 
-/// A sample is written as the bytes of its number, the lowest first, which they hold.
+/// A sample is written as the bytes of its number, the lowest byte first, and these bytes can
+/// encode the number.
 #[tactic(auto, using(crate::proofs::Lowest::spelled_by))]
 pub fn sample_is_spelled<S: Sample>()
     ensures { (x : S) → (S.spelled x ≡ le (type_size S.value_type) (sample_number (type_size S.value_type) S.bits x))
         × (sample_number (type_size S.value_type) S.bits x < 256 ^ type_size S.value_type) }
 {}
 
-/// A row that was written as differences is given back by undoing them.
+/// A row that is written as differences comes back when a reader undoes the differences.
 pub fn is_undone()
     ensures { IsUndone }
 {}
 
-/// What was packed by PackBits unpacks to the bytes that were handed in.
+/// Bytes packed by PackBits unpack to the original bytes.
 pub fn packed_unpacks()
     ensures { PackedUnpacks }
 {}

@@ -1,4 +1,4 @@
-//! Color types, values as bytes, and the writer of numbers and bytes that files are written by.
+//! Color types, values as bytes, and the writer that puts numbers and bytes into a sink.
 #![tactic(auto)]
 
 pub mod buffer;

@@ -1,4 +1,4 @@
--- What a new image is, and what stands where it was begun, or was not.
+-- What a new image is, and what the file contains after the image begins or fails to begin.
 use Rattle.std.proofs.Common.{◌≡◌, ℕ, ◌≤◌, inl, inr, true, cond, List, [], ◌∷◌, ◌++◌, Some, Ok, refl, ap, sym, ◌∙◌, subst, arith}
 use Rattle.std.proofs.lemmas.Bool.{eq-eqb}
 use Rattle.std.specs.Prelude.{◌==◌}
@@ -48,7 +48,7 @@ module _ (color : ColorTypeRecord) (size width height : ℕ) (file : FileState) 
       (tags_adding d (first_tags (image_of d)) next)
       (λ last _. answers_adding (Ok (image_of last)) (write_tags d (first_tags (image_of d)) next).next))))
 
-  -- where it is not begun, what stood stands
+  -- if a new image fails to begin, the model still describes the file
   pub not_begun : (e : TiffError) (new : FileState) → CallFails (new_image color size width height file) e file new → StillStands file new
   not_begun e new h =
       let told : WriteOutcome OpenImage = new_image color size width height file in
@@ -83,7 +83,7 @@ module _ (color : ColorTypeRecord) (size width height : ℕ) (file : FileState) 
         ),
       )
 
-  -- the image is one in a directory that follows the chain's last link
+  -- a new image has a directory that follows the last link of the chain
   pub new_is : (i : OpenImage) → (new_image color size width height file).answer ≡ Ok i
       → (d : OpenDirectory) × ((image_of d ≡ i) × IsPlacedAs (new_directory (Some file.chain) true) d)
   unfolding new_image
@@ -94,9 +94,9 @@ module _ (color : ColorTypeRecord) (size width height : ℕ) (file : FileState) 
       let b = tagged_is a.0 (image_directory file).next i (ap (λ told. told.answer) (sym a.1.1) ∙ all) in
       (b.0, (b.1.0, subst (λ d. IsPlacedAs d b.0) (sym (begun_is a.0 a.1.0)) b.1.1))
 
--- ---- the link of a directory that ended
+-- ---- the link of a directory after its end
 
--- where the chain goes on
+-- the chain continues at the link of the directory that a call ended
 abbrev pub Chains : {A : Type 0} → FileState → Model → WriteOutcome A → Type 0
 Chains file m told = IsLink file.kind (model_by file m told) told.next.chain
 
@@ -106,7 +106,7 @@ behind_chains first second file m d l =
     subst (λ n. IsLink file.kind n second.next.chain) (sym (behind_model first second file m d))
     (subst (λ kind. IsLink kind (model_by first.next (model_by file m first) second) second.next.chain) d.kind l)
 
--- it is the directory's own
+-- after the end of a chained directory, the last link of the chain is the directory's own link
 finish_chain : (d : OpenDirectory) (file : FileState) (offsets : Offsets) → (finish d file).answer ≡ Ok offsets → d.chained ≡ true
     → (finish d file).next.chain ≡ link_offset file.kind offsets.pointer (len d.fields)
 unfolding finish
@@ -145,17 +145,17 @@ image_chains i file m offsets h q =
     (behind_chains (call file) (finish a.0 mid) file m (adding_done (call file) file (tags_adding i.directory values file))
     (finish_chains a.0 mid (model_by file m (call file)) offsets (ap (λ told. told.answer) (sym a.1.1) ∙ h) (placed.chained ∙ q)))
 
--- ---- the link to a directory that ended
+-- ---- the link to a directory after its end
 
 pub behind_linked : {A B : Type 0} (first : WriteOutcome A) (second : WriteOutcome B) (file : FileState) (m : Model) (offset pointer : ℕ) → IsDone first file
     → (model_by first.next (model_by file m first) second).links offset ≡ pointer → (model_by file m (after_deeds first.deeds second)).links offset ≡ pointer
 behind_linked first second file m offset pointer d l = ap (λ n. n.links offset) (behind_model first second file m d) ∙ l
 
--- a link that was pointed points
+-- a link that a call points to a target has that target
 pointed : (offset target other : ℕ) → cond (offset == offset) target other ≡ target
 pointed offset target other = ap (λ b. cond b target other) (eq-eqb offset offset refl)
 
--- its parent's link points to it
+-- after the end of a directory, its parent's link points to it
 finish_linked : (d : OpenDirectory) (file : FileState) (m : Model) (offsets : Offsets) (offset : ℕ) → (finish d file).answer ≡ Ok offsets
     → d.parent ≡ Some offset → (model_by file m (finish d file)).links offset ≡ offsets.pointer
 unfolding finish
@@ -182,7 +182,7 @@ image_linked i file m offsets offset h q =
     (behind_linked (call file) (finish a.0 mid) file m offset offsets.pointer (adding_done (call file) file (tags_adding i.directory values file))
     (finish_linked a.0 mid (model_by file m (call file)) offsets offset (ap (λ told. told.answer) (sym a.1.1) ∙ h) (placed.parent ∙ q)))
 
--- ---- where a directory stands that ended
+-- ---- the offset of a directory after its end
 
 finish_placed : (d : OpenDirectory) (file : FileState) (offsets : Offsets) → (finish d file).answer ≡ Ok offsets → end_of file ≡ offsets.pointer
 unfolding finish
@@ -193,7 +193,7 @@ finish_placed d file offsets h =
     let c = cause_answered (finish_cause file d) call file offsets h in
     ap (λ o. o.pointer) (ok_inj at offsets (ap (λ told. told.answer) (sym c.1) ∙ h))
 
--- behind the file that its end found
+-- the directory of an image is appended behind the file that its end finds
 pub image_placed : (i : OpenImage) (file : FileState) (offsets : Offsets) → (finish_image i file).answer ≡ Ok offsets → end_of file ≤ offsets.pointer
 unfolding finish_image
 image_placed i file offsets h =

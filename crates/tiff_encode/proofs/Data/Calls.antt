@@ -11,9 +11,9 @@ use Rattle.tiff_encode.proofs.Leaving.{link_count, count_joined, ok_err}
 use Rattle.tiff_encode.proofs.Joining.{IsAdding, appending_joined}
 use Rattle.tiff_encode.proofs.Image.FitsCalls.{IsDone, bind_done}
 
--- ---- calls that were answered
+-- ---- calls that succeed
 
--- the first was, and the second followed
+-- if two calls in sequence succeed, each of the two succeeds
 going_answered : {A B : Type 0} (r : Result A TiffError) (deeds : List Deed) (next : FileState) (rest : A → Writing B) (y : B)
     → (and_then r deeds next rest).answer ≡ Ok y
     → (x : A) × ((r ≡ Ok x) × (and_then r deeds next rest ≡ after_deeds deeds (rest x next)))
@@ -25,15 +25,15 @@ pub bind_answered : {A B : Type 0} (call : Writing A) (rest : A → Writing B) (
     → (x : A) × (((call file).answer ≡ Ok x) × ((call >>= rest) file ≡ after_deeds (call file).deeds (rest x (call file).next)))
 bind_answered call rest file y h = going_answered (call file).answer (call file).deeds (call file).next rest y h
 
--- it had no cause to be refused
+-- nothing refuses a call that succeeds
 pub cause_answered : {A : Type 0} (cause : Option TiffError) (call : Writing A) (file : FileState) (y : A)
     → (by_cause cause call file).answer ≡ Ok y → (cause ≡ None) × (by_cause cause call file ≡ call file)
 cause_answered None call file y h = (refl, refl)
 cause_answered (Some e) call file y h = absurd (ok_err (sym h))
 
--- ---- links among deeds
+-- ---- links among the changes of a call
 
--- each link among some deeds is this one
+-- each link among some changes is at the given offset
 abbrev pub AreAt : Option ℕ → List Deed → Type 0
 AreAt parent [] = Unit {0}
 AreAt parent (Appended more ∷ deeds) = AreAt parent deeds
@@ -55,7 +55,7 @@ at_joined parent (Handed x ∷ deeds) more a b = at_joined parent deeds more a b
 at_joined parent (Listed x ∷ deeds) more a b = at_joined parent deeds more a b
 at_joined parent (Linked offset target ∷ deeds) more a b = (a.0, at_joined parent deeds more a.1 b)
 
--- the last one is
+-- if each link among some changes is at the parent's offset, a last link is there
 pub last_at : (parent : Option ℕ) (before : List Deed) (offset target : ℕ) → AreAt parent (before ++ Linked offset target ∷ [])
     → parent ≡ Some offset
 last_at parent [] offset target a = a.0
@@ -64,7 +64,7 @@ last_at parent (Handed x ∷ before) offset target a = last_at parent before off
 last_at parent (Listed x ∷ before) offset target a = last_at parent before offset target a
 last_at parent (Linked p t ∷ before) offset target a = last_at parent before offset target a.1
 
--- where deeds only append, none is a link
+-- changes that only append point no link
 no_links : (deeds : List Deed) → AreAppending deeds → link_count deeds ≡ 0
 no_links [] a = refl
 no_links (Appended x ∷ deeds) a = no_links deeds a
@@ -72,10 +72,10 @@ no_links (Handed x ∷ deeds) a = no_links deeds a
 no_links (Listed x ∷ deeds) a = no_links deeds a
 no_links (Linked offset target ∷ deeds) a = absurd a
 
--- ---- calls that patch one link at most
+-- ---- calls that patch at most one link
 
--- What a call is told to do is done to the bytes alone; a refusal only appends; and one deed at most is a link: the
--- parent's.
+-- A call makes its changes to the bytes only. A call that is refused only appends. At most one
+-- change points a link: the parent's.
 pub record Patches {A : Type 0} (parent : Option ℕ) (told : WriteOutcome A) (file : FileState) : Type 0 where
   pub done : IsDone told file
   pub refused : (e : TiffError) → told.answer ≡ Err e → AreAppending told.deeds
@@ -94,7 +94,7 @@ caused_patches parent None call file p = p
 caused_patches parent (Some e) call file p =
     record { done = record { kind = refl; bytes = refl }; refused = λ _ _. tt; links = omega arith; at = tt }
 
--- what goes on with deeds that append
+-- a call that only appends, followed by another call
 module _ {A B : Type 0} (parent : Option ℕ) (rest : A → Writing B) where
   going_refused : (r : Result A TiffError) (deeds : List Deed) (next : FileState) (e : TiffError) → AreAppending deeds
       → ((x : A) → r ≡ Ok x → Patches parent (rest x next) next) → (and_then r deeds next rest).answer ≡ Err e
@@ -115,7 +115,7 @@ module _ {A B : Type 0} (parent : Option ℕ) (rest : A → Writing B) where
   going_at (Err f) deeds next a p = none_at parent deeds a
   going_at (Ok x) deeds next a p = at_joined parent deeds (rest x next).deeds (none_at parent deeds a) (p x refl).at
 
--- one that appends, and then one that may patch
+-- a call that appends, followed by a call that may patch a link, patches at most that link
 pub bind_patches : {A B : Type 0} (parent : Option ℕ) (call : Writing A) (rest : A → Writing B) (file : FileState)
     → IsAdding (call file) file → ((x : A) → (call file).answer ≡ Ok x → Patches parent (rest x (call file).next) (call file).next)
     → Patches parent ((call >>= rest) file) file
@@ -126,7 +126,7 @@ bind_patches parent call rest file a p = record {
   at = going_at parent rest (call file).answer (call file).deeds (call file).next a.appending p;
 }
 
--- the model after both
+-- the model after two calls in sequence
 pub behind_model : {A B : Type 0} (first : WriteOutcome A) (second : WriteOutcome B) (file : FileState) (m : Model) → IsDone first file
     → model_by file m (after_deeds first.deeds second) ≡ model_by first.next (model_by file m first) second
 behind_model first second file m d =

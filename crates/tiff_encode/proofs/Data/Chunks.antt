@@ -1,4 +1,4 @@
--- What `write_data` of an image does: the chunks that are left, then its end.
+-- What `write_data` of an image does: it writes the chunks that are left and ends the image.
 use Rattle.std.proofs.Common.{◌≡◌, ℕ, List, [], ◌∷◌, ◌++◌, length, Option, Some, None, Ok, refl, ap, sym, ◌∙◌, subst}
 use Rattle.tiff_base.specs.declared.error.TiffError.{TiffError}
 use Rattle.tiff_base.specs.Field.{AreEntries}
@@ -30,7 +30,7 @@ chunk_adds i count stored file =
     (bind_adds (appends stored) chunk file (appends_adds stored file)
     (λ offset _. answers_adding (Ok (with_chunk i offset (length stored))) (appends stored file).next))
 
--- the image has it then
+-- after `write_chunk` succeeds, the image has the chunk
 pub chunk_is : (i next : OpenImage) (count : ℕ) (stored : List ℕ) (file : FileState) → (write_chunk i count stored file).answer ≡ Ok next
     → with_chunk i (end_of file) (length stored) ≡ next
 unfolding write_chunk
@@ -38,7 +38,7 @@ chunk_is i next count stored file h =
     ok_inj (with_chunk i (end_of file) (length stored)) next
     (uncaused (write_chunk_cause file i count (length stored)) (appends_chunk i stored) file next h).1
 
--- and the directory that it had
+-- an image has a given directory
 abbrev pub HasDirectory : OpenDirectory → OpenImage → Type 0
 HasDirectory d i = i.directory ≡ d
 
@@ -79,7 +79,7 @@ chunks_fit i (part ∷ parts) (bytes ∷ stored) file m =
     (λ next _. chunks_done next parts stored mid)
     (λ next _ same last h l. let f = chunks_fit next parts stored mid after last h l in (f.0, f.1 ∙ same))
 
--- the image that is answered has the directory that it had
+-- the image that the calls return has the same directory
 pub directory_kept : (i : OpenImage) (parts stored : List (List ℕ)) (last : OpenImage) (file : FileState)
     → (write_chunks i parts stored file).answer ≡ Ok last → last.directory ≡ i.directory
 directory_kept i [] stored last file h = ap (λ j. j.directory) (sym (ok_inj i last h))
@@ -92,7 +92,7 @@ directory_kept i (part ∷ parts) (bytes ∷ stored) last file h =
 
 -- ---- the end of an image
 
--- a directory keeps its parent, and whether it is chained
+-- a directory keeps its parent and whether it is chained
 pub record IsPlacedAs (d next : OpenDirectory) : Type 0 where
   pub parent : next.parent ≡ d.parent
   pub chained : next.chained ≡ d.chained
@@ -114,13 +114,13 @@ tags_placed d next (v ∷ values) file h =
     let others = tags_placed a.0 next values (call file).next (ap (λ told. told.answer) (sym a.1.1) ∙ h) in
     record { parent = others.parent ∙ first.parent; chained = others.chained ∙ first.chained }
 
--- what is refused links nothing
+-- a call that is refused points no link
 caused_at : {A : Type 0} (parent : Option ℕ) (cause : Option TiffError) (call : Writing A) (file : FileState)
     → AreAt parent (call file).deeds → AreAt parent (by_cause cause call file).deeds
 caused_at parent None call file a = a
 caused_at parent (Some e) call file a = tt
 
--- the link of a parent alone
+-- the end of a directory points only the link of its parent
 links_at : (parent : Option ℕ) (offset : ℕ) → AreAt parent (links_to parent offset ++ [])
 links_at None offset = tt
 links_at (Some parent) offset = (refl, tt)
@@ -157,11 +157,11 @@ module _ (i : OpenImage) (samples : List ℕ) (stored : List (List ℕ)) (old : 
   abbrev pub data_chunks : Writing OpenImage
   data_chunks = write_chunks i (parts_left i samples) stored
 
-  -- the file behind the chunks
+  -- the file after the chunks are written
   abbrev pub data_mid : FileState
   data_mid = (data_chunks old).next
 
-  -- an answered chunk call keeps the directory
+  -- the calls that write the chunks keep the directory
   pub same_directory : (last : OpenImage) → (data_chunks old).answer ≡ Ok last → last.directory ≡ i.directory
   same_directory last h = directory_kept i (parts_left i samples) stored last old h
 
@@ -172,7 +172,7 @@ module _ (i : OpenImage) (samples : List ℕ) (stored : List (List ℕ)) (old : 
       (bind_patches i.directory.parent data_chunks finish_image old (chunks_adding i (parts_left i samples) stored old)
       (λ last h. subst (λ p. Patches p (finish_image last data_mid) data_mid) (ap (λ d. d.parent) (same_directory last h)) (image_patches last data_mid)))
 
-  -- what it did fits
+  -- the changes of `write_data` fit
   pub data_fits : (m : Model) → AreEntries i.directory.fields → ((offset : ℕ) → i.directory.parent ≡ Some offset → IsLink old.kind m offset)
       → Fits (write_image_data i samples stored old) old m (λ _. Unit {0})
   unfolding write_image_data

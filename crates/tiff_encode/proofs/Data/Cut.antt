@@ -1,4 +1,4 @@
--- What is cut out of an image for a chunk.
+-- The samples that are cut out of an image for a chunk.
 use Rattle.std.proofs.Common.{◌≡◌, ℕ, zero, suc, ◌+◌, ◌-◌, ◌*◌, ◌/◌, ◌%◌, ◌<◌, ◌≤◌, cond, List, [], ◌∷◌, ◌++◌, length, map, take, drop, get_or, Result, Ok, Err, MatchResult, refl, ap, sym, ◌∙◌, subst, arith, append_assoc, append-nil}
 use Rattle.std.proofs.Math.Nat.{mul_comm, mul_assoc, mul-sub, mul-le-mul_right, mul-add-mod_self_right, one-le-mul, le-div_iff_mul-le}
 use Rattle.std.proofs.lemmas.Bool.{lt-ltb, le-ltb}
@@ -23,7 +23,7 @@ use Rattle.tiff_encode.specs.Parts.{IsPatch, pixel_sample, row_sample}
 -- ---- lists of samples
 
 module _ {X : Type 0} (number : X → ℕ) (before : List X) where
-  -- one more
+  -- one more sample at the end of a list
   pub one_pushed : (old new : List X) (x : X) (f : ℕ → ℕ) (n : ℕ) → map number old ≡ map number before ++ tabulate n f
       → new ≡ old ++ x ∷ [] → number x ≡ f n → map number new ≡ map number before ++ tabulate (n + 1) f
   one_pushed old new x f n h e v =
@@ -31,16 +31,16 @@ module _ {X : Type 0} (number : X → ℕ) (before : List X) where
       ∙ append_assoc (map number before) (tabulate n f) (f n ∷ [])
       ∙ ap (λ xs. map number before ++ xs) (sym (map-range_with_len_more f 0 n n (omega arith)))
 
--- the number of a sample of a list
+-- the number of a sample at an index of a list
 pub number_at : {X : Type 0} (number : X → ℕ) (xs : List X) (n : ℕ) (x : X) → n < length xs → x ≡ get_or xs n x → number x ≡ slice_index (map number xs) n
 number_at number xs n x l h = ap number h ∙ sym (get_or-map number xs n x 0 l)
 
--- a sample of a pixel is one of those of all pixels
+-- the index of a pixel's sample in a plane is an index of all samples
 pub plane_within : (column count samples plane len : ℕ) → column < count → plane < samples → count * samples ≤ len → column * samples + plane < len
 plane_within column count samples plane len l p w =
     let a : (column + 1) * samples ≤ count * samples = mul-le-mul_right samples (omega (arith, l)) in omega (arith, a, p, w)
 
--- the first, and those behind them
+-- a table of numbers is its first part, followed by the rest
 each_more : (a b : ℕ) (f : ℕ → ℕ) → tabulate (a + b) f ≡ tabulate a f ++ tabulate b (λ n. f (a + n))
 each_more a zero f = (let e : a + 0 ≡ a = omega arith in ap (λ n. tabulate n f) e ∙ sym (append-nil (tabulate a f)))
 each_more a (suc b) f =
@@ -52,7 +52,7 @@ each_more a (suc b) f =
     ∙ append_assoc (tabulate a f) (tabulate b g) (f (a + b) ∷ [])
     ∙ ap (λ xs. tabulate a f ++ xs) (sym (ap (λ n. tabulate n g) s ∙ map-range_with_len_more g 0 b b (omega arith)))
 
--- a part of a list
+-- a part of a list as a table of its numbers
 pub each_of : (xs : List ℕ) (first n : ℕ) → first + n ≤ length xs → take n (drop first xs) ≡ tabulate n (λ j. slice_index xs (first + j))
 each_of xs first n l =
     let f : ℕ → ℕ = λ j. slice_index xs (first + j) in
@@ -74,7 +74,7 @@ not_planar Planar h = absurd (h refl)
 
 -- ---- a row of a part of the image
 
--- the samples of some pixels of a row are of the image
+-- the samples of some pixels of a row are within the image
 pub pixels_within : (y row h x w wide high all : ℕ) → row < h → y + h ≤ high → x + w ≤ wide
     → ((y + row) * wide + x) * all + w * all ≤ wide * high * all
 pixels_within y row h x w wide high all r b c =
@@ -86,7 +86,7 @@ pixels_within y row h x w wide high all r b c =
     let d : ((y + row) * wide + (x + w)) * all ≡ ((y + row) * wide + x) * all + w * all = omega arith in
     omega (arith, t, d)
 
--- and stand where its pixels do
+-- the samples of a pixel are at the pixel's offset
 at_pixel : (base x q all m n : ℕ) → q * all + m ≡ n → (base + (x + q)) * all + m ≡ (base + x) * all + n
 at_pixel base x q all m n e =
     let d : (base + (x + q)) * all + m ≡ (base + x) * all + (q * all + m) = omega arith in
@@ -96,7 +96,7 @@ factor_some : (w s n : ℕ) → n < w * s → 0 < s
 factor_some w zero n l = absurd (omega (arith, l))
 factor_some w (suc s) n l = omega arith
 
--- an index in a row is that in all rows, as far as its pixel is not told
+-- a sample's index within a pixel is the same in a row and in all rows
 mod_of_row : (n w s : ℕ) → n % (w * s) % s ≡ n % s
 mod_of_row n w s =
     let e : n / (w * s) * (w * s) + n % (w * s) ≡ n = div-add-mod' n (w * s) in
@@ -111,7 +111,7 @@ module _ (p : PageRecord) (numbers : List ℕ) (r : RectRecord) (row : ℕ) wher
   abbrev start : ℕ
   start = ((r.y + row) * p.width + r.x) * p.samples
 
-  -- a sample, by how the chunks are planar
+  -- the sample of a chunk, by its planar configuration
   abbrev sample_by : PlanarConfiguration → ℕ → ℕ
   sample_by planar n =
       slice_index numbers
@@ -127,7 +127,7 @@ module _ (p : PageRecord) (numbers : List ℕ) (r : RectRecord) (row : ℕ) wher
     abbrev pixels : List ℕ
     pixels = take (r.width * p.samples) (drop start numbers)
 
-    -- all samples of its pixels
+    -- a chunky row contains all samples of its pixels
     pub chunky_row : p.planar ≡ Chunky → pixels ≡ pixel_row
     chunky_row chunky =
         each_of numbers start (r.width * p.samples) within
@@ -135,7 +135,7 @@ module _ (p : PageRecord) (numbers : List ℕ) (r : RectRecord) (row : ℕ) wher
         (λ n l. ap (slice_index numbers) (sym (at_pixel ((r.y + row) * p.width) r.x (n / p.samples) p.samples (n % p.samples) n (div-add-mod' n p.samples))))
         ∙ sym (ap row_by chunky)
 
-    -- one sample of each
+    -- a planar row contains one sample of each pixel
     pub planar_row : p.planar ≡ Planar → r.plane < p.samples
         → tabulate r.width (λ column. slice_index pixels (column * p.samples + r.plane)) ≡ pixel_row
     planar_row planar one =
@@ -151,7 +151,7 @@ module _ (p : PageRecord) (numbers : List ℕ) (r : RectRecord) (row : ℕ) wher
 
   -- ---- a row of a chunk
 
-  -- where the part has the row
+  -- the part of the image contains the row
   module _ (some : row < r.height) (narrow : r.width ≤ p.chunk_width) where
     abbrev stored : ℕ
     stored = stored_samples p
@@ -185,7 +185,7 @@ module _ (p : PageRecord) (numbers : List ℕ) (k : ℕ) where
   abbrev pub by_row : ℕ → ℕ
   by_row n = row_sample p numbers (rect p k) (n / row_samples p) (n % row_samples p)
 
-  -- one more row
+  -- the samples of some rows, followed by one more row
   pub more_rows : (n : ℕ) → tabulate (n * row_samples p) by_row ++ tabulate (row_samples p) (row_sample p numbers (rect p k) n)
       ≡ tabulate ((n + 1) * row_samples p) by_row
   more_rows n =
@@ -197,7 +197,7 @@ module _ (p : PageRecord) (numbers : List ℕ) (k : ℕ) where
       ∙ sym (each_more (n * row) row by_row)
       ∙ ap (λ z. tabulate z by_row) e
 
-  -- all rows are what is cut out
+  -- the samples of all rows are the samples that are cut out
   pub all_rows : tabulate (chunk_rows p k * row_samples p) by_row ≡ cut_out p numbers k
   unfolding cut_out
   all_rows =
@@ -205,7 +205,7 @@ module _ (p : PageRecord) (numbers : List ℕ) (k : ℕ) where
       (slice_index numbers ((((rect p k).y + n / row_samples p) * p.width + ((rect p k).x + n % row_samples p / stored_samples p)) * p.samples + planar_or p.planar (rect p k).plane m)) 0)
       (mod_of_row n p.chunk_width (stored_samples p)))
 
--- ---- the part of the image that a chunk has
+-- ---- the part of the image that a chunk covers
 
 plane_below : (planar : PlanarConfiguration) (samples k c : ℕ) → 0 < c → k < c * planes_of planar samples → planar ≡ Planar → k / c < samples
 plane_below Chunky samples k c pos l h = absurd cc
@@ -222,14 +222,14 @@ is_patch p k sides l =
       plane = plane_below p.planar p.samples k (chunks_of_plane p) (some_chunks p sides) l;
     }
 
--- ---- what the calls give
+-- ---- what the calls return
 
--- what holds of an answer is told on
+-- a property of a result implies a weaker one
 pub told_on : {A P Q : Type 0} (E : TiffError → Type 0) (r : Result A TiffError) → (P → Q) → MatchResult r (λ _. P) E → MatchResult r (λ _. Q) E
 told_on E (Ok x) f h = f h
 told_on E (Err e) f h = h
 
--- a row was appended
+-- a row is appended to the samples of a chunk
 pub row_pushed : (p : PageRecord) (numbers : List ℕ) (r : RectRecord) (row gap : ℕ) (before mid now : List ℕ) → row < r.height → r.width ≤ p.chunk_width
     → gap ≡ p.chunk_width * stored_samples p - r.width * stored_samples p
     → mid ≡ before ++ tabulate (r.width * stored_samples p) (pixel_sample p numbers r row) → now ≡ mid ++ tabulate gap (λ _. 0)
@@ -240,7 +240,7 @@ row_pushed p numbers r row gap before mid now some narrow g m n =
     n ∙ ap (λ xs. xs ++ zeros gap) m ∙ append_assoc before pixels (zeros gap)
     ∙ ap (λ xs. before ++ xs) (ap (λ n. pixels ++ zeros n) g ∙ filled_row p numbers r row some narrow)
 
--- and one behind others
+-- a row is appended behind the earlier rows of a chunk
 pub rows_pushed : (p : PageRecord) (numbers : List ℕ) (k n : ℕ) (r : RectRecord) (before now : List ℕ) → r ≡ rect p k
     → before ≡ tabulate (n * row_samples p) (by_row p numbers k) → now ≡ before ++ tabulate (row_samples p) (row_sample p numbers r n)
     → now ≡ tabulate ((n + 1) * row_samples p) (by_row p numbers k)

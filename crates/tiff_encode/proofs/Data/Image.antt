@@ -1,4 +1,4 @@
--- What stands where a new image was written, or was not.
+-- What the file contains after a call writes a whole image, or fails to write it.
 use Rattle.std.proofs.Common.{◌≡◌, ℕ, ◌*◌, ◌^◌, ◌<◌, ◌≤◌, ◌⊎◌, inl, inr, true, List, [], ◌++◌, length, take, Option, Some, None, Result, Ok, Err, refl, ap, sym, ◌∙◌, subst, arith}
 use Rattle.std.proofs.lemmas.List.{length-append, length-replicate}
 use Rattle.tiff_base.specs.declared.color.ColorType.{ColorType}
@@ -43,13 +43,13 @@ use Rattle.tiff_encode.proofs.Data.Begun.{new_adding, not_begun, new_is, Chains,
 
 -- ---- the samples that a page shows
 
--- a color of a page, of which there is one of no more samples
+-- the color of a page has no more samples than the page
 color_few : (interpretation : PhotometricInterpretation) (p : PageRecord) (most : ℕ) (color : ColorType)
     → HasColor interpretation p most → color_from interpretation p ≡ Ok color → num_samples color ≤ most
 color_few interpretation p most color has h =
     subst (λ x. num_samples x ≤ most) (ok_inj has.0 color (sym has.1.0 ∙ h)) has.1.1
 
--- those of its color are no more than the image has
+-- a page shows no more samples than the image has
 few_shown : (i : OpenImage) → IsOf i.color i.size → (offsets byte_counts : List ℕ) (color : ColorType)
     → color_of (record (image_page i) { offsets = offsets; byte_counts = byte_counts }) ≡ Ok color → num_samples color ≤ all_samples i
 unfolding color_of
@@ -62,7 +62,7 @@ few_shown i c offsets byte_counts color h =
     (family_has p (all_samples i) (omega arith) f (omega (arith, many)) (omega (arith, many))) in
     color_few i.color.interpretation p (all_samples i) color has h
 
--- the parts show the samples
+-- the page shows the samples if the parts of the chunks show them
 pub shown_whole : PartsShow → (kind : FileKind) (file : List ℕ) (offset : ℕ) (i : OpenImage) (samples : List ℕ) (m : Model)
     → HoldsOpen kind m i [] → i.chunks ≡ [] → Shows kind file offset (image_with i (parts_left i samples))
     → Shows kind file offset (image_of_samples i samples)
@@ -89,9 +89,9 @@ shown_whole show kind file offset i samples m h none s =
           ∙ show i samples x y sample drawn none (omega (arith, xl, width)) (omega (arith, yl, height)) (omega (arith, sl, few));
     }
 
--- ---- what was begun
+-- ---- the image after its beginning
 
--- what an option holds
+-- equal options have equal values
 some_inj : (x y : ℕ) → (let a : Option ℕ = Some x in let b : Option ℕ = Some y in a ≡ b) → x ≡ y
 some_inj x y h = ap held h where
   held : Option ℕ → ℕ
@@ -106,7 +106,7 @@ module _ (color : ColorTypeRecord) (size width height : ℕ) (old : FileState) (
   begun_kind : mid.kind ≡ old.kind
   begun_kind = ap (λ s. s.kind) begun.state ∙ (adding_done begins old (new_adding color size width height old)).kind
 
-  -- it takes nothing away
+  -- the beginning of an image removes nothing from the file
   begun_stands : StillStands old mid
   begun_stands =
       let a = new_adding color size width height old in
@@ -150,9 +150,9 @@ module _ (color : ColorTypeRecord) (size width height : ℕ) (old : FileState) (
         (subst (λ q. IsLink old.kind model q) same
         (link_kept old.kind m model old.chain (deeds_grow old.kind old.bytes m begins.deeds) l))
 
--- ---- how long the file is then
+-- ---- the length of the file after the call
 
--- a link that broke off took nothing away
+-- a file in which the sink fails at a link is at least as long as before
 torn_longer : (i : OpenImage) (samples : List ℕ) (stored : List (List ℕ)) (e : TiffError) (old new : FileState)
     → IsTornOff (write_image_data i samples stored old).deeds e old new → end_of old ≤ end_of new
 torn_longer i samples stored e old new t =
@@ -162,7 +162,7 @@ torn_longer i samples stored e old new t =
     let b : end_of new ≡ length (put (old.bytes ++ more) t.offset over) = ap (λ s. length s.bytes) t.state in
     omega (arith, a, b, length-append old.bytes more)
 
--- nor did what was written
+-- a file with the written samples is at least as long as before
 written_longer : (i : OpenImage) (samples : List ℕ) (old new : FileState) → IsWritten i samples old new → end_of old ≤ end_of new
 written_longer i samples old new w =
     let told : WriteOutcome Offsets = write_image_data i samples w.stored old in
@@ -179,7 +179,7 @@ module _ (parts_show : PartsShow) (color : ColorTypeRecord) (size width height :
   abbrev first_model : Model
   first_model = model_by old m (new_image color size width height old)
 
-  -- the samples were not written
+  -- the call fails to write the samples
   image_stopped : (A : Type 0) (e : TiffError) → (let r : Result A TiffError = Err e in WritesImageData i samples r mid new)
       → (let r : Result A TiffError = Err e in LeavesNewImage color size width height samples r old new m)
   image_stopped A e h =
@@ -209,7 +209,7 @@ module _ (parts_show : PartsShow) (color : ColorTypeRecord) (size width height :
             ))
       ]
 
-  -- they were
+  -- the call writes the samples
   module _ (w : IsWritten i samples mid new) where
     mid_short : end_of mid < 2 ^ 64
     mid_short = let longer = written_longer i samples mid new w in omega (arith, longer, short)
@@ -223,14 +223,14 @@ module _ (parts_show : PartsShow) (color : ColorTypeRecord) (size width height :
     abbrev told : WriteOutcome Offsets
     told = write_image_data i samples w.stored mid
 
-    -- what stood stands, with what was done
+    -- the model after the changes of the call describes the file
     all_stands : Stands mid.kind new.bytes (model_by mid first_model told)
     all_stands =
         data_stands i samples w.stored w.offsets mid new first_model (entries_are color size width height old i mid begun m mid_short) short
         (model_stands color size width height old i mid begun m mid_short stands)
         (parent_links color size width height old i mid begun m mid_short link) w.told
 
-    -- the model holds it as it was begun
+    -- the model contains the image
     image_held : (name : ColorTypeName) → color ≡ color_type name → size ≡ inner_size name → HoldsOpen old.kind first_model i []
     image_held name c s =
         let P : ColorTypeRecord → ℕ → Type 0 = λ x n. (new_image x n width height old).answer ≡ Ok i
@@ -238,7 +238,7 @@ module _ (parts_show : PartsShow) (color : ColorTypeRecord) (size width height :
         let named : P (color_type name) (inner_size name) = begins_open old m name width height i wide high packed in
         subst (λ x. P x size) (sym c) (subst (λ n. P (color_type name) n) (sym s) named) begun.answer
 
-    -- the page shows them
+    -- the page shows the samples
     image_shown : (name : ColorTypeName) → color ≡ color_type name → size ≡ inner_size name
         → Shows old.kind new.bytes w.offsets.pointer (image_of_samples i samples)
     image_shown name c s =
@@ -250,7 +250,7 @@ module _ (parts_show : PartsShow) (color : ColorTypeRecord) (size width height :
         (no_chunks color size width height old i mid begun)
         (subst (λ kind. Shows kind new.bytes w.offsets.pointer (image_with i (parts_left i samples))) same_kind here)
 
-    -- and a next one can follow
+    -- the link of the image's directory is free for a next directory
     image_next : IsLink old.kind (model_by mid first_model told) new.chain
     image_next =
         let ended = data_ended i samples mid new w in
@@ -268,7 +268,7 @@ module _ (parts_show : PartsShow) (color : ColorTypeRecord) (size width height :
         subst (λ q. IsLink old.kind (model_by mid first_model told) q) (sym (ap (λ s. s.chain) w.told.state))
         (subst (λ kind. IsLink kind (model_by mid first_model told) told.next.chain) same_kind all)
 
-    -- the chain's last link points to it
+    -- the last link of the chain points to the image
     image_linked_to : (model_by mid first_model told).links old.chain ≡ w.offsets.pointer
     image_linked_to =
         let ended = data_ended i samples mid new w in
@@ -283,7 +283,7 @@ module _ (parts_show : PartsShow) (color : ColorTypeRecord) (size width height :
         (behind_linked (data_chunks i samples w.stored mid mid) (finish_image last end) mid first_model old.chain w.offsets.pointer done
         (image_linked last end n w.offsets old.chain told_last parent))
 
-    -- it stands behind what stood
+    -- the image begins behind the earlier bytes of the file
     image_behind : end_of old ≤ w.offsets.pointer
     image_behind =
         let begins : WriteOutcome OpenImage = new_image color size width height old in
@@ -315,7 +315,7 @@ module _ (parts_show : PartsShow) (color : ColorTypeRecord) (size width height :
       linked = image_linked_to;
     }
 
--- where the parts show the samples
+-- what a call that writes a new image leaves, if the parts of the chunks show the samples
 pub new_image_leaves : PartsShow → {A : Type 0} (color : ColorTypeRecord) (size width height : ℕ) (samples : List ℕ) (r : Result A TiffError)
     (old new : FileState) (m : Model) → width < 2 ^ 32 → height < 2 ^ 32
     → (old.method ≡ method.None) ⊎ (old.method ≡ method.PackBits) → AreNumbers size samples → IsShortFile new

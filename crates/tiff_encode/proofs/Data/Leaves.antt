@@ -1,4 +1,4 @@
--- What stands where the samples of an image were written, or were not.
+-- What the file contains after a call writes the samples of an image, or fails to write them.
 use Rattle.std.proofs.Common.{◌≡◌, ℕ, ◌+◌, ◌^◌, ◌<◌, ◌≤◌, ◌⊎◌, List, [], ◌∷◌, ◌++◌, length, take, Option, Some, None, Result, Ok, Err, refl, ap, sym, ◌∙◌, inl, inr, subst, arith}
 use Rattle.std.proofs.Math.Seq.{take-length}
 use Rattle.std.proofs.lemmas.List.{length-append, length-take}
@@ -29,11 +29,11 @@ use Rattle.tiff_encode.proofs.Data.Chunks.{chunks_adding, data_patches, data_fit
 
 -- ---- calls that fail
 
--- what stood in a file stands
+-- each model that describes a file describes a later file
 abbrev pub StillStands : FileState → FileState → Type 0
 StillStands old new = (m : Model) → Stands old.kind old.bytes m → Stands old.kind new.bytes m
 
--- also where something was appended
+-- after an append, each model that describes the file before describes the file after it
 pub appended_stands : {A : Type 0} (told : WriteOutcome A) (old new : FileState) → IsDone told old → AreAppending told.deeds → new ≡ told.next
     → StillStands old new
 appended_stands told old new d a n m s =
@@ -41,7 +41,7 @@ appended_stands told old new d a n m s =
     begun_leaves told.deeds (length all) old new.bytes m
     (ap (λ file. file.bytes) n ∙ d.bytes ∙ deeds_append old.kind old.bytes told.deeds a ∙ ap (λ xs. old.bytes ++ xs) (sym (take-length all))) s
 
--- a call fails: what stood stands, but for the parent's link
+-- after a call fails, the earlier model describes the file, or the sink fails at the parent's link
 pub patched_fails : {A : Type 0} (parent : Option ℕ) (told : WriteOutcome A) (e : TiffError) (old new : FileState) → Patches parent told old
     → CallFails told e old new → StillStands old new ⊎ IsTornOff told.deeds e old new
 patched_fails parent told e old new p h =
@@ -56,17 +56,17 @@ patched_fails parent told e old new p h =
       ]
     ]
 
--- the link broke off
+-- the sink fails while it writes the parent's link
 module _ {A : Type 0} (parent : Option ℕ) (told : WriteOutcome A) (e : TiffError) (old new : FileState) (m : Model) (p : Patches parent told old)
     (f : Fits told old m (λ _. Unit {0})) (l : (offset : ℕ) → parent ≡ Some offset → IsLink old.kind m offset) (short : IsShortFile new)
     (s : Stands old.kind old.bytes m) (t : IsTornOff told.deeds e old new) where
-  -- the deeds before it append
+  -- the changes before the parent's link append
   torn_before : AreAppending t.before
   torn_before =
       let few = p.links in
       appending t.before (omega (arith, few, count_last told.deeds t.before t.offset t.target t.last))
 
-  -- had it not, the file were as long
+  -- without the failure of the sink, the length of the file is a 64-bit number
   torn_short : end_of told.next < 2 ^ 64
   torn_short =
       let n : ℕ = offset_len old.kind in
@@ -103,7 +103,7 @@ module _ {A : Type 0} (parent : Option ℕ) (told : WriteOutcome A) (e : TiffErr
             (sym (ap (λ f. f.bytes) t.state)) x.1;
       }
 
--- all was done
+-- after a call succeeds, the model with its changes describes the file
 pub patched_stands : {A : Type 0} (parent : Option ℕ) (told : WriteOutcome A) (x : A) (old new : FileState) (m : Model) → Patches parent told old
     → Fits told old m (λ _. Unit {0}) → IsShortFile new → Stands old.kind old.bytes m → IsTold told (Ok x) new
     → Stands old.kind new.bytes (model_by old m told)
@@ -114,12 +114,12 @@ patched_stands parent told x old new m p f short s t =
 
 -- ---- `write_data`
 
--- what stood stands, or the parent's link broke off
+-- the earlier model describes the file, or the sink fails at the parent's link
 abbrev pub Stopped : OpenImage → List ℕ → TiffError → FileState → FileState → Type 0
 Stopped i samples e old new =
     StillStands old new ⊎ ((stored : List (List ℕ)) × IsTornOff (write_image_data i samples stored old).deeds e old new)
 
--- within the chunks
+-- if `write_data` stops within the chunks, the earlier model describes the file
 pub within_stands : (i : OpenImage) (parts : List (List ℕ)) (e : TiffError) (old new : FileState) → StopsWithin i parts e old new → StillStands old new
 within_stands i parts e old new h =
     let stored : List (List ℕ) = h.0 in
@@ -146,7 +146,7 @@ stopped_by A None i samples e old new h =
       | inr w ↦ inl (within_stands i (parts_left i samples) e old new w)
     ]
 
--- it is not done
+-- `write_data` fails
 pub data_stopped : (A : Type 0) (i : OpenImage) (samples : List ℕ) (e : TiffError) (old new : FileState)
     → (let r : Result A TiffError = Err e in WritesImageData i samples r old new) → Stopped i samples e old new
 data_stopped A i samples e old new h = stopped_by A (write_image_data_cause old i (length samples)) i samples e old new h
@@ -159,7 +159,7 @@ data_torn i samples stored e old new m a short s p t =
     patched_torn i.directory.parent (write_image_data i samples stored old) e old new m
     (data_patches i samples stored old) (data_fits i samples stored old m a p) p short s t
 
--- It is done: each chunk that is left was stored.
+-- `write_data` succeeds: it stores each chunk that is left.
 pub record IsWritten (i : OpenImage) (samples : List ℕ) (old new : FileState) : Type 0 where
   pub stored : List (List ℕ)
   pub are_stored : AreStored i (parts_left i samples) stored

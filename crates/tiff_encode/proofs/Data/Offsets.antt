@@ -36,7 +36,7 @@ part_before c n size pos h =
     let b : parts n size * size ≤ n + size - 1 = div-mul-le_self (n + size - 1) size in
     omega (arith, a, b, pos)
 
--- some rows, and those of a strip behind them
+-- the rows of a strip are within the image
 rows_within : (k c size n row rows : ℕ) → k ≤ c → c * size < n → rows ≡ min size (n - c * size) → k * size * row + rows * row ≤ n * row
 rows_within k c size n row rows l b e =
     let a : k * size ≤ c * size = mul-le-mul_right size l in
@@ -96,7 +96,7 @@ module _ (i : OpenImage) (drawn : IsDrawn i.width i.height (length i.color.bits)
       ap (λ n. i.height * n) row_is ∙ sym (mul_assoc i.height i.width (all_samples i))
       ∙ ap (λ n. n * all_samples i) (mul_comm i.height i.width)
 
-  -- where k strips were written of these samples
+  -- after k strips of these samples are written
   module _ (k : ℕ) (known : k ≤ c) where
     pub above : k * i.form.chunk_height < i.height
     above = (let a : k * i.form.chunk_height ≤ c * i.form.chunk_height = mul-le-mul_right i.form.chunk_height known in let b = begins in omega (arith, a, b))
@@ -106,7 +106,7 @@ module _ (i : OpenImage) (drawn : IsDrawn i.width i.height (length i.color.bits)
         subst (λ n. k * i.form.chunk_height * row_samples p + chunk_samples p c ≤ n) all_rows
         (rows_within k c i.form.chunk_height i.height (row_samples p) (chunk_rows p c) known begins rows_are)
 
-    -- the samples of the strip are told
+    -- the sample count of the next chunk is the number of samples of the strip
     pub count_is : image_samples i < 2 ^ 64 → next_chunk_sample_count i ≡ chunk_samples p c
     unfolding next_chunk_sample_count
     count_is l =

@@ -1,4 +1,4 @@
--- An image stays held where the chunks that are left are written, and its end shows it.
+-- An open image stays held while a call writes the chunks that are left, and its end shows it.
 use Rattle.std.proofs.Common.{◌≡◌, ℕ, ◌+◌, ◌^◌, ◌<◌, List, [], ◌∷◌, ◌++◌, length, Ok, refl, ap, sym, ◌∙◌, subst, arith, append_assoc, append-nil}
 use Rattle.std.proofs.lemmas.List.{length-append}
 use Rattle.tiff_page.specs.Rect.{rect}
@@ -19,7 +19,7 @@ use Rattle.tiff_encode.proofs.Data.Parts.{AreReady}
 
 -- ---- one more chunk
 
--- what is ready for the chunks, and stored, is so behind one more
+-- the stored bytes of some parts encode them also if the image has one more chunk
 stored_more : (i : OpenImage) (offset n : ℕ) (parts stored : List (List ℕ)) → AreStored i parts stored
     → AreStored (with_chunk i offset n) parts stored
 unfolding unpacked_chunk
@@ -34,7 +34,7 @@ unfolding rect
 ready_more i offset n most k [] r = tt
 ready_more i offset n most k (part ∷ parts) r = (r.0, ready_more i offset n most (k + 1) parts r.1)
 
--- an answered call leaves a file that is longer by what was stored
+-- after a call stores a chunk, the file is longer by the stored bytes
 chunk_longer : (i next : OpenImage) (count : ℕ) (stored : List ℕ) (file : FileState) → (write_chunk i count stored file).answer ≡ Ok next
     → end_of (write_chunk i count stored file).next ≡ end_of file + length stored
 unfolding write_chunk
@@ -48,7 +48,7 @@ chunk_longer i next count stored file h =
 abbrev pub rechunked : OpenImage → List Chunk → OpenImage
 rechunked i chunks = record i { chunks = chunks }
 
--- the image that is answered has so many chunks more
+-- the returned image has the given number of chunks more
 pub record IsLast (i : OpenImage) (many : ℕ) (last : OpenImage) : Type 0 where
   pub same : last ≡ rechunked i last.chunks
   pub count : length last.chunks ≡ length i.chunks + many

@@ -1,4 +1,4 @@
--- The samples that `write_data` hands to each chunk that is left.
+-- The samples that `write_data` passes to each chunk that is left.
 use Rattle.std.proofs.Common.{zero, suc, ◌≡◌, ℕ, ◌+◌, ◌-◌, ◌*◌, ◌^◌, ◌<◌, ◌≤◌, Bool, true, false, cond, ◌&&◌, List, [], ◌∷◌, length, map, take, drop, get_or, None, refl, ap, sym, ◌∙◌, subst, arith, min}
 use Rattle.std.proofs.Math.Nat.{mul-le-mul_right, mul_assoc, mul_comm}
 use Rattle.std.proofs.lemmas.Bool.{leb-false}
@@ -22,7 +22,7 @@ use Rattle.tiff_encode.proofs.Open.Settings.{fresh, first_test}
 
 -- ---- small numbers
 
--- numbers of a list are small, also past its end
+-- each number of a list is small, also past its end
 abbrev pub AreSmall : ℕ → List ℕ → Type 0
 AreSmall most xs = (n : ℕ) → get_or xs n 0 < most
 
@@ -62,7 +62,7 @@ cut_length p samples k = length-map-range_with_len _ 0 (chunk_samples p k)
 
 -- ---- a part is ready for its chunk
 
--- as many samples as a call asks for are as many as the chunk has, and they are small
+-- a part whose number of samples is that of the call has as many as its chunk, and they are small
 abbrev pub IsReady : (ℕ → ℕ) → ℕ → ℕ → List ℕ → Type 0
 IsReady many most k xs = (length xs ≡ min (many k) (2 ^ 64 - 1) → length xs ≡ many k) × AreSmall most xs
 
@@ -70,7 +70,7 @@ abbrev pub AreReady : (ℕ → ℕ) → ℕ → ℕ → List (List ℕ) → Type
 AreReady many most k [] = Unit {0}
 AreReady many most k (xs ∷ others) = IsReady many most k xs × AreReady many most (k + 1) others
 
--- chunks in the image's order are strips of whole rows
+-- chunks in the order of the image are strips of whole rows
 strips_form : (form : ChunkLayout) → is_in_order form ≡ true → (form.chunk_type ≡ Strip) × (form.planar ≡ Chunky)
 strips_form form h = by form.chunk_type form.planar h refl refl where
   by : (c : ChunkType) (p : PlanarConfiguration) → (not (is_tile c) && not (is_planar p)) ≡ true → form.chunk_type ≡ c → form.planar ≡ p
@@ -83,7 +83,7 @@ module _ (i : OpenImage) (samples : List ℕ) where
   abbrev page : PageRecord
   page = image_page i
 
-  -- none has more samples than the image
+  -- a strip has no more samples than the image
   strip_within : IsForm i.width i.form → is_in_order i.form ≡ true → (k : ℕ) → chunk_samples page k ≤ image_samples i
   unfolding rect
   strip_within f h k =
@@ -116,7 +116,7 @@ module _ (i : OpenImage) (samples : List ℕ) where
   parts_ready most a (suc n) r j e =
       (subst (λ x. IsReady (chunk_samples page) most x (part i samples a)) (sym e) (r a), parts_ready most (a + 1) n r (j + 1) (omega (arith, e)))
 
-  -- each chunk that is left is handed such samples
+  -- the samples that each chunk that is left receives are ready for it
   pub left_ready : (file : FileState) (count : ℕ) → write_image_data_cause file i count ≡ None → IsForm i.width i.form → AreNumbers i.size samples
       → AreReady (chunk_samples page) (256 ^ i.size) (length i.chunks) (parts_left i samples)
   unfolding write_image_data_cause parts_left

@@ -1,4 +1,4 @@
--- An image whose chunks that were left were all written is shown where it ends.
+-- After all chunks that are left are written, the file shows the image at its end.
 use Rattle.std.proofs.Common.{◌≡◌, ℕ, ◌^◌, ◌<◌, inl, inr, false, List, ◌++◌, length, Some, None, Result, Ok, Err, ap, sym, ◌∙◌, subst, arith, le-ltb}
 use Rattle.tiff_base.specs.declared.error.TiffError.{TiffError}
 use Rattle.tiff_base.specs.declared.tags.FileKind.{FileKind}
@@ -23,7 +23,7 @@ use Rattle.tiff_encode.proofs.Data.Parts.{left_ready, left_many}
 use Rattle.tiff_encode.proofs.Data.Open.{rechunked, chunks_last, chunks_held}
 use Rattle.tiff_encode.proofs.Data.Leaves.{IsWritten, data_stopped, data_torn, data_written, data_stands}
 
--- what is shown of an image is shown of it with other chunks
+-- a file that shows an image with other chunks shows the image
 pub shown_as : (kind : FileKind) (file : List ℕ) (offset : ℕ) (i : OpenImage) (chunks : List Chunk) (samples : List (List ℕ))
     → Shows kind file offset (image_with (rechunked i chunks) samples) → Shows kind file offset (image_with i samples)
 unfolding sample_in
@@ -38,7 +38,7 @@ shown_as kind file offset i chunks samples s = record {
 }
 
 module _ (i : OpenImage) (samples : List ℕ) (old new : FileState) (w : IsWritten i samples old new) where
-  -- what is told, its chunks, and the file behind them
+  -- the outcome of `write_data`, its chunks, and the file after the chunks
   abbrev told : WriteOutcome Offsets
   told = write_image_data i samples w.stored old
 
@@ -52,7 +52,7 @@ module _ (i : OpenImage) (samples : List ℕ) (old new : FileState) (w : IsWritt
   unfolding write_image_data
   data_is h = ap (λ c. by_cause c (chunks >>= finish_image) old) h
 
-  -- the chunks were written, and then the image ended
+  -- `write_data` writes the chunks and ends the image
   pub data_ended : (last : OpenImage) × (((chunks old).answer ≡ Ok last) × (told ≡ after_deeds (chunks old).deeds (finish_image last mid)))
   data_ended =
       let is = data_is w.uncaused in
@@ -62,7 +62,7 @@ module _ (i : OpenImage) (samples : List ℕ) (old new : FileState) (w : IsWritt
   abbrev last : OpenImage
   last = data_ended.0
 
-  -- the file is no longer before that
+  -- the length of the file before the end of the image is a 64-bit number
   mid_short : IsShortFile new → end_of mid < 2 ^ 64
   mid_short short =
       let longer = done_longer (finish_image last mid) mid (image_patches last mid).done in
@@ -70,7 +70,7 @@ module _ (i : OpenImage) (samples : List ℕ) (old new : FileState) (w : IsWritt
       ap (λ file. end_of file) w.told.state ∙ ap (λ t. end_of t.next) data_ended.1.1 in
       omega (arith, longer, same, short)
 
-  -- no chunk is left
+  -- no chunk is left after `write_data`
   pub none_left : is_left last ≡ false
   none_left =
       let l = chunks_last i (parts_left i samples) w.stored last old w.all data_ended.1.0 in
@@ -80,7 +80,7 @@ module _ (i : OpenImage) (samples : List ℕ) (old new : FileState) (w : IsWritt
       le-ltb (length last.chunks) (all_chunks (image_page last)) (omega (arith, same, many, count))
 
   module _ (m : Model) (short : IsShortFile new) where
-    -- the model behind the chunks
+    -- the model after the chunks are written
     abbrev between : Model
     between = model_by old m (chunks old)
 
@@ -117,7 +117,7 @@ module _ (i : OpenImage) (samples : List ℕ) (old new : FileState) (w : IsWritt
 
 -- ---- the law
 
--- the samples were written
+-- `write_data` succeeds
 pub data_done : (i : OpenImage) (samples : List ℕ) (old new : FileState) (m : Model) → AreEntries i.directory.fields
     → AreNumbers i.size samples → IsShortFile new → Stands old.kind old.bytes m
     → ((offset : ℕ) → i.directory.parent ≡ Some offset → IsLink old.kind m offset)

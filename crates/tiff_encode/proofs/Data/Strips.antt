@@ -1,4 +1,4 @@
--- How strips and chunks are written that an open image has, and what that leaves.
+-- How calls write strips and chunks of an open image, and what they leave in the file.
 use Rattle.std.proofs.Common.{◌≡◌, ℕ, ◌^◌, ◌<◌, List, length, Option, None, Some, IsSome, Result, Ok, Err, cond, refl, ap, sym, ◌∙◌, inl, inr, subst}
 use Rattle.tiff_base.specs.declared.color.ChunkType.TheVariants.{Strip, Tile}
 use Rattle.tiff_base.specs.declared.error.TiffError.{TiffError}
@@ -21,7 +21,7 @@ use Rattle.tiff_encode.proofs.Keeping.{left_so}
 
 -- ---- a strip is written as a chunk
 
--- one call in place of another that is told alike
+-- one call in place of another that has the same outcome
 module _ {A : Type 0} (call other : OpenImage → ℕ → List ℕ → Writing OpenImage) (i : OpenImage) (samples : List ℕ) (old new : FileState) (next : OpenImage)
     (same : (stored : List ℕ) → call i (length samples) stored old ≡ other i (length samples) stored old) where
   writes_alike : (cause : Option TiffError) (r : Result A TiffError) → WritesStoredChunk call cause i samples r old new next → WritesStoredChunk other cause i samples r old new next
@@ -45,13 +45,13 @@ module _ {A : Type 0} (call other : OpenImage → ℕ → List ℕ → Writing O
   )
 
 module _ (old : FileState) (i : OpenImage) where
-  -- its causes are those of a chunk
+  -- the errors that refuse a strip are the errors that refuse a chunk
   as_chunk : (n stored : ℕ) → i.form.chunk_type ≡ Strip → write_chunk_cause old i n stored ≡ write_strip_cause old i n stored
   unfolding write_chunk_cause write_strip_cause
   as_chunk n stored s =
       ap (λ t. unless_failed old (cond (is_tile t) (Some (UsageError (InvalidChunkType Strip Tile))) (chunk_cause old i n stored))) (sym s)
 
-  -- and so is what it does
+  -- the outcome of writing a strip is the outcome of writing a chunk
   told_as_chunk : (n : ℕ) (stored : List ℕ) → i.form.chunk_type ≡ Strip → write_chunk i n stored old ≡ write_strip i n stored old
   unfolding write_chunk write_strip
   told_as_chunk n stored s = ap (λ c. by_cause c (appends_chunk i stored) old) (as_chunk n (length stored) s)
@@ -79,9 +79,9 @@ module _ (old : FileState) (i : OpenImage) where
         refused_so (UsageError (InvalidChunkType Strip Tile))
         (fresh_cause old.fault _ f ∙ ap (λ t. cond (is_tile t) (Some (UsageError (InvalidChunkType Strip Tile))) (chunk_cause old i n 0)) t)
 
--- ---- what it leaves
+-- ---- what the calls leave
 
--- a chunk is appended
+-- appending a chunk adds bytes unless the call is refused
 appending_adds : (cause : Option TiffError) (i : OpenImage) (stored : List ℕ) (file : FileState) → Adds (by_cause cause (appends_chunk i stored) file) file
 appending_adds cause i stored file =
     caused_adds cause (appends_chunk i stored) file
@@ -128,7 +128,7 @@ module _ (call : OpenImage → ℕ → List ℕ → Writing OpenImage) (i : Open
             ]))
       ]
 
--- of a chunk, and of a strip
+-- what a call leaves that writes a chunk or a strip
 module _ {A : Type 0} (i : OpenImage) (samples : List ℕ) (old new : FileState) (next : OpenImage) (m : Model) (cause : Option TiffError) (r : Result A TiffError)
     (entries : AreEntries i.directory.fields) (short : end_of new < 2 ^ 64) (s : Stands old.kind old.bytes m) where
   pub chunk_left : WritesStoredChunk write_chunk cause i samples r old new next → LeavesChunk write_chunk i samples r old new next m

@@ -1,4 +1,4 @@
--- The samples of a whole image are written.
+-- A call writes the samples of a whole image.
 use Rattle.std.proofs.Common.{◌≡◌, ℕ, ◌+◌, ◌*◌, ◌^◌, ◌<◌, ◌≤◌, Bool, true, false, cond, List, [], ◌∷◌, ◌++◌, length, take, drop, get_or, Option, Some, None, Result, Ok, Err, refl, ap, sym, ◌∙◌, subst, inl, inr, arith, append-nil}
 use Rattle.std.proofs.Math.Seq.{take-length}
 use Rattle.std.proofs.lemmas.Bool.{leb-false, ltb-false}
@@ -26,7 +26,7 @@ use Rattle.tiff_encode.proofs.Joining.{IsAdding, Adds, adding, answers_adding, a
 use Rattle.tiff_encode.proofs.Leaving.{ok_err}
 use Rattle.tiff_encode.proofs.Tagging.{going_alike, going_further}
 
--- So many of some parts were written as chunks, one after another: the image has them.
+-- The first k parts are written as chunks, one after another, and the image has these chunks.
 pub record HasWritten (i : OpenImage) (parts : List (List ℕ)) (k : ℕ) (old new : FileState) (next : OpenImage) : Type 0 where
   pub stored : List (List ℕ)
   pub are : AreStored i parts stored
@@ -63,7 +63,7 @@ ok_same {A} x y h =
     ] in
     ap value h
 
--- what an image is after a chunk: it has that too
+-- after a call stores a chunk, the image has that chunk
 added_by : (cause : Option TiffError) (i next : OpenImage) (stored : List ℕ) (old : FileState)
     → (by_cause cause (appends_chunk i stored) old).answer ≡ Ok next → (offset : ℕ) × (next ≡ with_chunk i offset (length stored))
 added_by None i next stored old h = (length old.bytes, sym (ok_same (with_chunk i (length old.bytes) (length stored)) next h))
@@ -74,7 +74,7 @@ pub chunk_added : (i next : OpenImage) (n : ℕ) (stored : List ℕ) (old : File
 unfolding write_chunk
 chunk_added i next n stored old h = added_by (write_chunk_cause old i n (length stored)) i next stored old h
 
--- no bytes are given
+-- without stored bytes, no chunk is written
 none_stored : (i : OpenImage) (parts : List (List ℕ)) (file : FileState) → write_chunks i parts [] file ≡ answers (Ok i) file
 none_stored i [] file = refl
 none_stored i (p ∷ ps) file = refl
@@ -113,7 +113,7 @@ stored_more i (p ∷ ps) (x ∷ xs) samples others s h a b = (a.0, stored_more i
 
 -- ---- where it stops
 
--- The first call is done, and the sink fails in the second: in both.
+-- If the first call succeeds and the sink fails in the second call, the sink fails in both.
 cut_after : {A B : Type 0} (rest : A → Writing B) (r : Result A TiffError) (deeds : List Deed) (next : FileState) (x : A) (e : TiffError)
     (old mid new : FileState) → next ≡ file_with_bytes old (all_appended old.kind deeds) → r ≡ Ok x → mid ≡ next
     → IsCutOff (rest x mid).deeds e mid new → IsCutOff (and_then r deeds next rest).deeds e old new
@@ -132,7 +132,8 @@ cut_after {A} rest r deeds next x e old mid new n a m h =
     let P : Result A TiffError → Type 0 = λ q. IsCutOff (and_then q deeds next rest).deeds e old new in
     subst P (sym a) done
 
--- A call is done, and there is no memory for what follows.
+-- If the first call succeeds and no memory is available for the second call, both run out of
+-- memory.
 short_after : {A : Type 0} (told : WriteOutcome A) (x : A) (e : TiffError) (old new : FileState) → IsAdding told old → IsTold told (Ok x) new
     → old.fault ≡ None → e ≡ OutOfMemory → IsShortOfMemory told e old new
 short_after told x e old new a t f q =
@@ -162,7 +163,7 @@ module _ (i : OpenImage) (samples : List ℕ) where
       drop_more parts k [] (subst (λ n. k < n) (sym parts_len) l)
       ∙ ap (λ xs. xs ∷ drop (k + 1) parts) (get_or-map-range_with_len (part i samples) 0 (chunks_left i) k k [] l (omega arith))
 
-  -- what the image hands to its next chunk
+  -- the samples that the image passes to its next chunk
   part_same : (now : OpenImage) (k : ℕ) → now ≡ record i { chunks = now.chunks } → length now.chunks ≡ length i.chunks + k
       → next_part now samples k ≡ part i samples k
   unfolding cut_out rect
@@ -175,7 +176,7 @@ module _ (i : OpenImage) (samples : List ℕ) where
   unfolding unpacked_chunk
   bytes_same now xs same = ap (λ x. unpacked_chunk x xs) same
 
-  -- none is written yet
+  -- at the start, no chunk is written
   pub none_written : (old : FileState) → HasWritten i parts 0 old old i
   none_written old = record {
     stored = [];
@@ -219,7 +220,7 @@ module _ (i : OpenImage) (samples : List ℕ) where
         (bind_told (write_chunks i parts h.stored) (rest s) now r old mid new h.told
         (subst (λ (xs : List ℕ). IsTold (write_chunk now (length xs) s mid) r new) same_part t))
 
-    -- one more is written
+    -- one more chunk is written
     pub more_written : (let r : Result (Unit {0}) TiffError = Ok tt in WritesPart now (next_part now samples k) r mid new next) → HasWritten i parts (k + 1) old new next
     more_written w =
         let s : List ℕ = w.0 in
@@ -238,7 +239,7 @@ module _ (i : OpenImage) (samples : List ℕ) where
           chunks = (let c = h.chunks in omega (arith, chunks, c));
         }
 
-    -- or it isn't, and so they stop
+    -- if the next chunk fails, the call stops within the chunks
     pub stops_written : (e : TiffError) → old.fault ≡ None → (let r : Result (Unit {0}) TiffError = Err e in WritesPart now (next_part now samples k) r mid new next)
         → StopsWithin i parts e old new
     stops_written e f w = elim w as (λ _. StopsWithin i parts e old new) [
@@ -261,12 +262,12 @@ module _ (i : OpenImage) (samples : List ℕ) where
           ])
     ]
 
-  -- all are
+  -- all chunks that are left are written
   pub all_written : (k : ℕ) (old new : FileState) (now : OpenImage) → k ≡ chunks_left i → HasWritten i parts k old new now
       → (let r : Result (Unit {0}) TiffError = Ok tt in WritesChunks i parts r old new now)
   all_written k old new now l h = (h.stored, (h.are, (h.count ∙ l ∙ sym parts_len, h.told)))
 
--- ---- causes
+-- ---- errors that refuse a call
 
 uncaused_by : (fault : Option SinkFault) (far begun few past : Bool)
     → unless_ended fault (cond (far || begun) (Some (IoError InvalidInput)) (cond few (Some (IoError InvalidData)) (cond past (Some IntSizeError) None))) ≡ None
@@ -278,7 +279,7 @@ uncaused_by None false true few past h = absurd cc
 uncaused_by None true begun few past h = absurd cc
 uncaused_by (Some f) far begun few past h = absurd cc
 
--- what is known where the samples of an image may be written
+-- what holds if nothing refuses the samples of an image
 module _ (file : FileState) (i : OpenImage) (count : ℕ) (h : write_image_data_cause file i count ≡ None) where
   known : (file.fault ≡ None) × ((nat_le (2 ^ 64) (image_samples i) ≡ false) × ((nat_lt count (image_samples i) ≡ false) × (is_past_chunks i ≡ false)))
   unfolding write_image_data_cause
@@ -296,7 +297,7 @@ module _ (file : FileState) (i : OpenImage) (count : ℕ) (h : write_image_data_
   pub data_whole : (now : OpenImage) → now ≡ record i { chunks = now.chunks } → image_samples now ≤ count
   data_whole now same = subst (λ n. n ≤ count) (sym (ap image_samples same)) (ltb-false count (image_samples i) known.1.1.0)
 
--- ---- and then the image ends
+-- ---- the end of the image
 
 module _ (i : OpenImage) (samples : List ℕ) (n : ℕ) (counted : n ≡ length samples) (old mid new : FileState) (next : OpenImage)
     (uncaused_at : write_image_data_cause old i n ≡ None)

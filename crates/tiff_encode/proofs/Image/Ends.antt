@@ -1,4 +1,4 @@
--- What the end of an open image leaves, and shows.
+-- What the end of an open image leaves in the file, and what the file shows.
 use Rattle.std.proofs.Common.{◌≡◌, ℕ, ◌⊎◌, false, List, Some, Result, Ok, Err, sym, inl, inr, subst}
 use Rattle.tiff_base.specs.declared.error.TiffError.{TiffError}
 use Rattle.tiff_base.specs.Field.{AreEntries}
@@ -19,11 +19,11 @@ use Rattle.tiff_encode.proofs.Image.FitsCalls.{Fits}
 
 module _ (i : OpenImage) (old new : FileState) (m : Model) (entries : AreEntries i.directory.fields) (short : IsShortFile new)
     (s : Stands old.kind old.bytes m) (link : (offset : ℕ) → i.directory.parent ≡ Some offset → IsLink old.kind m offset) where
-  -- what it does fits
+  -- the changes of the end of an image fit
   end_fits : Fits (finish_image i old) old m (λ _. Unit {0})
   end_fits offsets h l = (finish_image_fits old m i offsets entries h l link, tt)
 
-  -- what it leaves
+  -- what the end of an image leaves
   pub end_left : (r : Result (Unit {0}) TiffError) → EndsSilently (finish_image i old) r old new → LeavesLinked (finish_image i old) r old new m
   end_left (Ok x) h = patched_stands i.directory.parent (finish_image i old) h.0 old new m (image_patches i old) end_fits short s h.1
   end_left (Err e) h =
@@ -32,7 +32,7 @@ module _ (i : OpenImage) (old new : FileState) (m : Model) (entries : AreEntries
         | inr t ↦ inr (patched_torn i.directory.parent (finish_image i old) e old new m (image_patches i old) end_fits link short s t)
       ]
 
-  -- and shows
+  -- the file shows an image that ends with every chunk
   pub end_shown : EndsShown → (samples : List (List ℕ)) (r : Result (Unit {0}) TiffError) → EndsSilently (finish_image i old) r old new
       → HoldsOpen old.kind m i samples → is_left i ≡ false → ShowsFinished i samples r old new
   end_shown show samples (Err e) h held left = tt

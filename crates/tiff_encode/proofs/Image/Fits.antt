@@ -1,4 +1,4 @@
--- What the calls of an image do can be done to a file in which a model stands.
+-- The changes of an image's calls fit a file that a model describes.
 use Rattle.std.proofs.Common.{◌≡◌, ℕ, ◌^◌, ◌<◌, ◌≤◌, ◌==◌, Bool, true, false, cond, ◌&&◌, List, [], ◌∷◌, ◌++◌, length, Option, Some, None, Ok, refl, sym, ◌∙◌, subst, arith, length-append}
 use Rattle.std.proofs.lemmas.Bool.{ltb-true}
 use Rattle.std.specs.FinMap.{len}
@@ -39,7 +39,7 @@ use Rattle.tiff_encode.proofs.Image.FitsCalls.{IsDone, plain_done, gives_done, b
 
 -- ---- several tags
 
--- whether the tag numbers are of 16 bits
+-- whether each tag number has at most 16 bits
 abbrev are_short : List (Tag × Scalars) → Bool
 are_short [] = true
 are_short (value ∷ values) = nat_lt (tag_number value.0) (2 ^ 16) && are_short values
@@ -74,7 +74,7 @@ module _ (d : OpenDirectory) (values : List (Tag × Scalars)) (file : FileState)
 abbrev IsKept : OpenImage → Type 0
 IsKept i = AreEntries i.directory.fields
 
--- several tags, and an image with the directory
+-- several tags, and an image with the directory that has them
 module _ (d : OpenDirectory) (g : OpenDirectory → OpenImage) (kept : (x : OpenDirectory) → AreEntries x.fields → IsKept (g x)) (file : FileState) where
   made_done : (values : List (Tag × Scalars)) → IsDone ((write_tags d values >>= (λ x. gives (g x))) file) file
   made_done values =
@@ -87,7 +87,7 @@ module _ (d : OpenDirectory) (g : OpenDirectory → OpenImage) (kept : (x : Open
       viewed_fits (write_tags d values) g file m IsKept (tags_done d values file)
       (λ x h l. let f = tags_fit d values file d.parent m s (a, refl) x h l in (f.0, kept x f.1.0))
 
-  -- the same of one tag
+  -- the changes of one tag fit
   one_fits : (m : Model) (t : Tag) (value : Scalars) → nat_lt (tag_number t) (2 ^ 16) ≡ true → AreEntries d.fields
       → Fits ((write_tag d t (Ok (data_of value)) >>= (λ x. gives (g x))) file) file m IsKept
   one_fits m t value s a =
@@ -99,7 +99,7 @@ module _ (d : OpenDirectory) (g : OpenDirectory → OpenImage) (kept : (x : Open
 
 -- ---- a new image
 
--- the tags of its color do, and some more
+-- the tags of the color and some more tags have short numbers
 color_short : (c : PhotometricInterpretation) (more : List (Tag × Scalars)) → are_short more ≡ true
     → are_short (chroma_tags c ++ more) ≡ true
 color_short WhiteIsZero more h = h
@@ -182,7 +182,7 @@ settings_fit = (extra_fits, (rows_fit, (tiles_fit, planar_fits)))
 
 -- ---- resolutions
 
--- some tags more, unless there is a cause
+-- some more tags, unless a check refuses the call
 with_fit : (cause : Option TiffError) (i : OpenImage) (values : List (Tag × Scalars)) (file : FileState) (m : Model)
     → are_short values ≡ true → IsKept i → Fits (by_cause cause (with_tags i values) file) file m IsKept
 with_fit cause i values file m s a =
@@ -220,7 +220,7 @@ chunks_fit count stored = (
 
 -- ---- the end of an image
 
--- its tags, with the number of samples or without
+-- the last tags, with or without the number of samples, have short numbers
 samples_short : (b : Bool) (value : Scalars) (more : List (Tag × Scalars)) → are_short more ≡ true
     → are_short (cond b [] ((tag.SamplesPerPixel, value) ∷ []) ++ more) ≡ true
 samples_short true value more h = h
@@ -235,17 +235,17 @@ unfolding last_tags
 last_short kind i =
     samples_short (length i.extra == 0) (u16s (all_samples i ∷ [])) _ (chunks_short i.form.chunk_type _ _)
 
--- no more entries than bytes
+-- a directory has no more entries than bytes
 entries_within : (kind : FileKind) (offset n : ℕ) → n ≤ link_offset kind offset n
 entries_within Classic offset n = omega arith
 entries_within Big offset n = omega arith
 
--- the chain goes on in a file that is as long
+-- a directory that continues the chain keeps the length of the file
 chain_end : (chained : Bool) (offsets : Offsets) (file : FileState) → end_of (chain_after file chained offsets) ≡ end_of file
 chain_end true offsets file = refl
 chain_end false offsets file = refl
 
--- what an answered call left, it left without a cause
+-- nothing refuses a call that succeeds
 answered : {A : Type 0} (cause : Option TiffError) (call : Writing A) (file : FileState) (x : A)
     → (by_cause cause call file).answer ≡ Ok x → end_of (by_cause cause call file).next < 2 ^ 64 → end_of (call file).next < 2 ^ 64
 answered None call file x h l = l

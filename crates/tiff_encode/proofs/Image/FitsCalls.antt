@@ -1,4 +1,4 @@
--- Calls one after another: what they did fits where they were answered and the file is not too long.
+-- The changes of calls in sequence fit if the calls succeed and the file is not too long.
 use Rattle.std.proofs.Common.{◌≡◌, ℕ, ◌+◌, ◌^◌, ◌<◌, ◌≤◌, Bool, true, false, cond, List, [], ◌∷◌, ◌++◌, length, take, drop, Option, Some, None, Result, Ok, Err, refl, ap, sym, ◌∙◌, subst, arith, length-append, lit≤}
 use Rattle.std.proofs.lemmas.Bool.{ltb-false}
 use Rattle.std.proofs.lemmas.List.{length-take, length-drop}
@@ -28,7 +28,7 @@ use Rattle.tiff_encode.proofs.Image.FitsEntries.{insert_entries, AreBytes, field
 
 -- ---- what calls do to the bytes
 
--- What a call is told to do is done to the bytes alone.
+-- A call makes its changes to the bytes only.
 pub record IsDone {A : Type 0} (told : WriteOutcome A) (file : FileState) : Type 0 where
   pub kind : told.next.kind ≡ file.kind
   pub bytes : told.next.bytes ≡ bytes_after file.kind file.bytes told.deeds
@@ -56,7 +56,7 @@ pub bind_done : {A B : Type 0} (call : Writing A) (rest : A → Writing B) (file
 bind_done call rest file a d =
     joined_done (call file).answer (call file).deeds (call file).next rest file a.kind a.bytes d
 
--- bytes that are written over others take none away
+-- bytes that are written over others never shorten the file
 pub put_longer : (bytes : List ℕ) (at : ℕ) (over : List ℕ) → length bytes ≤ length (put bytes at over)
 put_longer bytes at over =
     let behind : List ℕ = drop (at + length over) bytes in
@@ -68,7 +68,7 @@ put_longer bytes at over =
       length-drop (at + length over) bytes,
     )
 
--- nor does a deed, nor do some
+-- a change never shortens the file, nor do several changes
 deed_longer : (kind : FileKind) (bytes : List ℕ) (deed : Deed) → length bytes ≤ length (after_deed kind bytes deed)
 deed_longer kind bytes (Appended more) = omega (arith, length-append bytes more)
 deed_longer kind bytes (Handed handed) = omega arith
@@ -90,21 +90,22 @@ done_longer told file d =
 
 -- ---- what fits
 
--- Where a call is answered, and the file after it is not too long, what it did fits, and its answer is so.
+-- If a call succeeds and the file after it is not too long, the changes of the call fit and its
+-- result has the given property.
 abbrev pub Fits : {A : Type 0} → WriteOutcome A → FileState → Model → (A → Type 0) → Type 0
 Fits {A = A} told file m P = (x : A) → told.answer ≡ Ok x → end_of told.next < 2 ^ 64 → DeedsFit file.kind file.bytes m told.deeds × P x
 
--- an answer alone
+-- a call that only returns a value
 pub gives_fits : {A : Type 0} (x : A) (file : FileState) (m : Model) (P : A → Type 0) → P x → Fits (gives x file) file m P
 gives_fits x file m P p y h l = (tt, subst P (ok_inj x y h) p)
 
--- a call that may have a cause to be refused
+-- a call that its checks may refuse
 pub cause_fits : {A : Type 0} (cause : Option TiffError) (call : Writing A) (file : FileState) (m : Model) (P : A → Type 0)
     → (cause ≡ None → Fits (call file) file m P) → Fits (by_cause cause call file) file m P
 cause_fits None call file m P f y h l = f refl y h l
 cause_fits (Some e) call file m P f y h l = absurd (ok_err (sym h))
 
--- one call, and what follows it
+-- the changes of two calls in sequence fit
 joined_fits : {A B : Type 0} (r : Result A TiffError) (deeds : List Deed) (next : FileState) (rest : A → Writing B)
     (file : FileState) (m : Model) (P : A → Type 0) (Q : B → Type 0)
     → next.kind ≡ file.kind → next.bytes ≡ bytes_after file.kind file.bytes deeds
@@ -133,7 +134,7 @@ pub bind_fits : {A B : Type 0} (call : Writing A) (rest : A → Writing B) (file
 bind_fits call rest file m P Q a f d s =
     joined_fits (call file).answer (call file).deeds (call file).next rest file m P Q a.kind a.bytes f d s
 
--- an answer that is made of a call's own
+-- a call whose result is made of another call's result
 pub viewed_fits : {A B : Type 0} (call : Writing A) (g : A → B) (file : FileState) (m : Model) (Q : B → Type 0)
     → IsDone (call file) file → Fits (call file) file m (λ x. Q (g x)) → Fits ((call >>= (λ x. gives (g x))) file) file m Q
 viewed_fits call g file m Q a f =
@@ -143,7 +144,8 @@ viewed_fits call g file m Q a f =
 
 -- ---- fields
 
--- What a field is given: its tag number is of 16 bits, its bytes are as many as its count says, and each is a byte.
+-- The data of a field: the tag number has at most 16 bits, the number of bytes matches the count,
+-- and each number is a byte.
 pub record IsData (value : Tag × FieldData) : Type 0 where
   pub tag : tag_number value.0 < 2 ^ 16
   pub whole : IsWhole value.1
@@ -153,12 +155,12 @@ abbrev pub AreData : List (Tag × FieldData) → Type 0
 AreData [] = Unit {0}
 AreData (value ∷ values) = IsData value × AreData values
 
--- a value field is no longer than eight bytes
+-- a value field has at most eight bytes
 at_most_8 : (kind : FileKind) → offset_len kind ≤ 8
 at_most_8 Classic = lit≤ tt
 at_most_8 Big = lit≤ tt
 
--- a short value, or one that the file has room for
+-- a value is short, or the file has room for its offset
 room : (kind : FileKind) (long : Bool) (bytes xs : List ℕ) (h : HandedField) → (long ≡ false → length xs ≤ 8)
     → length (bytes_after kind bytes (cond long (Appended xs ∷ Handed h ∷ []) (Handed h ∷ []))) < 2 ^ 64
     → (length bytes < 2 ^ 64) × (length xs < 2 ^ 64)
@@ -190,7 +192,7 @@ module _ (t : ℕ) (value : FieldData) (file : FileState) (m : Model) (n : t < 2
       cause_fits (write_tag_cause file (Ok value)) (answers (Ok value) >>= placed_field) file m (λ f. IsEntry (t, f))
       (λ c. placed_entry (unended file.fault (field_cause file value) c))
 
--- the fields of a directory are entries, and its parent is this
+-- the fields of a directory are entries, and its parent is the given one
 abbrev pub Keeps : Option ℕ → OpenDirectory → Type 0
 Keeps parent d = AreEntries d.fields × (d.parent ≡ parent)
 

@@ -1,4 +1,4 @@
--- The entries of a directory stay entries where a field is added or taken away.
+-- The entries of a directory stay entries if a field is added or removed.
 use Rattle.std.proofs.Common.{◌≡◌, ℕ, zero, suc, ◌+◌, ◌*◌, ◌%◌, ◌^◌, ◌<◌, ◌≤◌, Bool, true, false, cond, List, [], ◌∷◌, ◌++◌, length, take, None, refl, ap, sym, ◌∙◌, inl, inr, subst, arith}
 use Rattle.std.proofs.lemmas.List.{length-append, length-take-le}
 use Rattle.std.specs.Prelude.{not, replicate}
@@ -27,12 +27,12 @@ use Rattle.tiff_encode.proofs.Entries.{entries_of}
 pub no_entries : AreEntries empty
 no_entries = subst Fit (sym entries_of_empty) none_fits
 
--- one entry more in a list
+-- a list that fits still fits with one more entry
 more_fits : (x : ℕ × Field) (es : List (ℕ × Field)) → IsEntry x → Fit es → Fit (x ∷ es)
 more_fits x es new old e (inl h) = subst IsEntry (sym h) new
 more_fits x es new old e (inr h) = old e h
 
--- a map is the map of its entries
+-- a map is equal to the map made of its entries
 map_of_entries : (fields : FinMap nat_cmp Field) → from_entries (entries fields) ≡ fields
 map_of_entries fields =
     same_entries_map (from_entries (entries fields)) fields (entries_of (entries fields) (entries_sorted fields))
@@ -43,7 +43,7 @@ insert_entries fields k f new all =
     subst (λ m. AreEntries (insert m k f)) (map_of_entries fields)
     (tree_fits ((k, f) ∷ entries fields) (more_fits (k, f) (entries fields) new all))
 
--- those that pass a test
+-- the entries that pass a test fit
 either_fits : (b : Bool) (x : ℕ × Field) (es : List (ℕ × Field)) → IsEntry x → Fit es → Fit (cond b (x ∷ es) es)
 either_fits true x es new old = more_fits x es new old
 either_fits false x es new old = old
@@ -57,7 +57,7 @@ turned : {A : Type 0} (b : Bool) (x y : A) → cond (not b) x y ≡ cond b y x
 turned true x y = refl
 turned false x y = refl
 
--- all but one
+-- the entries without one key are those of the map without that key
 removed : (fields : FinMap nat_cmp Field) (k : ℕ)
     → from_entries (where_key nat_cmp (λ q. not (eq_by_cmp nat_cmp q k)) (entries fields)) ≡ remove fields k
 removed fields k =
@@ -77,7 +77,7 @@ remove_entries fields k all =
 
 -- ---- bytes
 
--- each of a list is a byte
+-- each number of a list is a byte
 abbrev pub AreBytes : List ℕ → Type 0
 AreBytes [] = Unit {0}
 AreBytes (x ∷ xs) = (x < 256) × AreBytes xs
@@ -113,13 +113,13 @@ low_bytes i (suc k) n = (one_byte i n, low_bytes (suc i) k n)
 pub le_bytes : (k n : ℕ) → AreBytes (le k n)
 le_bytes k n = low_bytes 0 k n
 
--- each number of a list of bytes is that of a byte
+-- a list of bytes is a list of octets
 octets : (xs : List ℕ) → AreBytes xs → AreOctets xs
 octets [] a k = omega arith
 octets (x ∷ xs) a zero = a.0
 octets (x ∷ xs) a (suc k) = octets xs a.1 k
 
--- the bytes of values
+-- the bytes of values are bytes
 pub data_bytes : (values : Scalars) → AreBytes (data_of values).bytes
 unfolding data_of
 data_bytes (u8s ns) = bytes_each (le 1) (le_bytes 1) ns
@@ -149,7 +149,7 @@ data_bytes (srationals rs) =
 
 -- ---- the entry of a value
 
--- a type's values take a byte at least
+-- a value of each type has at least one byte
 some_size : (t : «Type») → 1 ≤ type_size t
 some_size BYTE = omega arith
 some_size ASCII = omega arith
@@ -168,12 +168,12 @@ some_size LONG8 = omega arith
 some_size SLONG8 = omega arith
 some_size IFD8 = omega arith
 
--- no more values than bytes
+-- the number of values is at most the number of their bytes
 few_values : (n size : ℕ) → 1 ≤ size → n ≤ n * size
 few_values n (suc size) h = let e : n * suc size ≡ n + n * size = omega arith in omega (arith, e)
 few_values n zero h = absurd (omega (arith, h))
 
--- eight bytes of a value field
+-- the eight bytes of a value field are bytes
 filled_bytes : (xs : List ℕ) → AreBytes xs → AreBytes (filled_field xs)
 filled_bytes xs a = bytes_taken 8 (xs ++ replicate 8 0) (bytes_joined xs (replicate 8 0) a (zeros 8))
 

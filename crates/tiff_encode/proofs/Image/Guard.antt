@@ -1,4 +1,4 @@
--- How an image begins that is lent with its encoder.
+-- How an image begins that borrows its encoder.
 use Rattle.std.proofs.Common.{◌≡◌, ℕ, ◌^◌, ◌<◌, None, Result, Ok, Err, ap, ◌∙◌, subst}
 use Rattle.tiff_base.specs.declared.error.TiffError.{TiffError}
 use Rattle.tiff_value.specs.ColorType.{ColorTypeRecord}
@@ -16,7 +16,7 @@ use Rattle.tiff_encode.proofs.Keeping.{left_so}
 use Rattle.tiff_encode.proofs.Open.Tags.{tags_adding}
 
 module _ (color : ColorTypeRecord) (size width height : ℕ) where
-  -- it only appends
+  -- `new_image` only appends
   pub new_adds : (file : FileState) → Adds (new_image color size width height file) file
   unfolding new_image
   new_adds file =
@@ -28,12 +28,12 @@ module _ (color : ColorTypeRecord) (size width height : ℕ) where
       bind_adding (write_tags d (first_tags (image_of d))) (λ last. gives (image_of last)) next (tags_adding d (first_tags (image_of d)) next)
       (λ last _. answers_adding (Ok (image_of last)) (write_tags d (first_tags (image_of d)) next).next)))
 
-  -- and not after a fault
+  -- if `new_image` succeeds, no sink error precedes it
   new_fresh : (file : FileState) (i : OpenImage) → (new_image color size width height file).answer ≡ Ok i → file.fault ≡ None
   unfolding new_image new_image_cause
   new_fresh file i h = fresh_by file.fault _ (uncaused_by (new_image_cause file color width height) _ file i h)
 
-  -- what it did fits, where it was answered
+  -- the changes of `new_image` fit if the call succeeds
   new_left_fits : {X : Type 0} (view : X → OpenImage) (r : Result X TiffError) (old new : FileState) (m : Model)
       → (new.fault ≡ None → end_of new < 2 ^ 64) → Ends view (new_image color size width height old) r old new
       → (x : X) → r ≡ Ok x → DeedsFit old.kind old.bytes m (new_image color size width height old).deeds
@@ -44,7 +44,7 @@ module _ (color : ColorTypeRecord) (size width height : ℕ) where
       (new_image_fits old m color size width height (view y) e.answer (subst (λ f. end_of f < 2 ^ 64) e.state (short free))).0
   new_left_fits view (Err f) old new m short e x h = absurd cc
 
-  -- what it leaves
+  -- what `new_image` leaves in the file
   pub new_left : {X : Type 0} (view : X → OpenImage) (r : Result X TiffError) (old new : FileState) (m : Model)
       → (new.fault ≡ None → end_of new < 2 ^ 64) → Stands old.kind old.bytes m
       → Ends view (new_image color size width height old) r old new → Leaves (new_image color size width height old) r old new m
@@ -52,7 +52,7 @@ module _ (color : ColorTypeRecord) (size width height : ℕ) where
       left_so view (new_image color size width height old) r old new m (adding (new_image color size width height old) old (new_adds old))
       (λ x h. new_left_fits view r old new m short e x h) s e
 
-  -- where it failed
+  -- what `new_image` leaves if it fails
   pub new_left_err : (e : TiffError) (old new : FileState) (m : Model) → CallFails (new_image color size width height old) e old new
       → Stands old.kind old.bytes m → Stands old.kind new.bytes m
   new_left_err e old new m h s =

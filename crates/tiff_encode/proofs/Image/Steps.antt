@@ -1,4 +1,4 @@
--- What the steps of an image do from a standing of its file: the calls that set what it is and how it is cut.
+-- What the steps of an image do to a file: the calls that set the tags and the layout of the image.
 use Rattle.std.proofs.Common.{◌≡◌, ℕ, ◌^◌, ◌<◌, Bool, true, List, [], ◌∷◌, Option, Result, Ok, Err, refl, sym, subst}
 use Rattle.std.specs.Prelude.{OnErr}
 use Rattle.tiff_base.specs.declared.error.TiffError.{TiffError}
@@ -27,19 +27,19 @@ use Rattle.tiff_encode.proofs.Open.Kept.{resolutions_keep_open}
 use Rattle.tiff_encode.proofs.Open.Settings.{settings_keep_open}
 use Rattle.tiff_encode.proofs.Settings.{one_tag, one_adds, several_adds, side_tags}
 
--- ---- a call that gives what is open then
+-- ---- a call that returns an open image
 
--- such a call, from a standing of its file
+-- what such a call does from each `Standing` of its file
 abbrev pub CallDraws : (OpenImage → Writing OpenImage) → OpenImage → Result StepReply TiffError → FileState → FileState → OpenImage → Type 0
 CallDraws call i r = DrawMoves i (λ s before t after. jobs.DrawStep call before r s t after) true
 
--- what is told of it is done, or it fails and the image stays
+-- the call succeeds, or it fails and the image stays the same
 changed : (call : OpenImage → Writing OpenImage) (i j : OpenImage) (r : Result (Unit {0}) TiffError) (s t : Standing)
     → OnErr r (j ≡ i) → Seen (λ _. j) (call i s.file) r s t → jobs.Changes (call i) i (reply_to r) s t j
 changed call i j (Ok x) s t o e = e
 changed call i j (Err f) s t o e = (o, e)
 
--- and so is the image held
+-- the image stays held after the call
 kept_changed : (call : OpenImage → Writing OpenImage) (i j : OpenImage) (r : Result (Unit {0}) TiffError) (s t : Standing) (samples : List (List ℕ))
     → KeepsOpen call → OnErr r (j ≡ i) → Grows s.model t.model → Seen (λ _. j) (call i s.file) r s t
     → HoldsOpen s.file.kind s.model i samples → HoldsOpen s.file.kind t.model j samples
@@ -58,7 +58,7 @@ call_draws call i j r old new a k o e l known s before q f =
     let grows : Grows s.model t.model = led.1.1.1.1 in
     (t, (before, (led.1.0, ((refl, changed call i j r s t o seen), (led.1.1.1.0, (grows, λ _ h. kept_changed call i j r s t before k o grows seen h))))))
 
--- tags are written, unless there is a cause, and the image has the directory
+-- a call that writes tags, unless its checks refuse it, only appends
 set_adding : (cause : Option TiffError) (call : Writing OpenDirectory) (g : OpenDirectory → OpenImage) (file : FileState) → Adds (call file) file
     → IsAdding (by_cause cause (call >>= (λ x. gives (g x))) file) file
 set_adding cause call g file a =
@@ -92,7 +92,7 @@ module _ (i : OpenImage) (file : FileState) where
       set_adding (planar_cause file i) (one_tag tag.PlanarConfiguration (planars (Planar ∷ [])) i.directory)
       (λ d. record i { directory = d; form = record i.form { planar = Planar } }) file (one_adds tag.PlanarConfiguration (planars (Planar ∷ [])) i.directory file)
 
-  -- some tags, one at least
+  -- a call that writes at least one tag, unless its checks refuse it, only appends
   tags_adding : (cause : Option TiffError) (t : Tag) (value : Scalars) (values : List (Tag × Scalars))
       → IsAdding (by_cause cause (with_tags i ((t, value) ∷ values)) file) file
   tags_adding cause t value values =
@@ -118,7 +118,7 @@ module _ (i : OpenImage) (file : FileState) where
 -- ---- the calls
 
 module _ (i j : OpenImage) (r : Result (Unit {0}) TiffError) (old new : FileState) (o : OnErr r (j ≡ i)) where
-  -- a call is answered, and leaves what stood, as it is told
+  -- a call ends as specified and leaves a file that the model describes
   abbrev IsCalled : (OpenImage → Writing OpenImage) → Type 0
   IsCalled call = Ends (λ _. j) (call i old) r old new × ((m : Model) → Stands old.kind old.bytes m → Leaves (call i old) r old new m)
 
@@ -148,7 +148,7 @@ module _ (i j : OpenImage) (r : Result (Unit {0}) TiffError) (old new : FileStat
 
 -- ---- counts
 
--- nothing is done but to answer
+-- a call that only returns a value keeps the image and the file
 pub asked : (i : OpenImage) (Said : Standing → Drawn → Standing → Drawn → Type 0) (apart : Bool) (file : FileState)
     → ((s : Standing) (before : List (List ℕ)) → Said s (record { image = i; samples = before }) s (record { image = i; samples = before }))
     → DrawMoves i Said apart file file i

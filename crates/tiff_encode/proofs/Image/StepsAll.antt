@@ -1,4 +1,4 @@
--- The steps of an image one after another.
+-- The steps of an image in sequence.
 use Rattle.std.proofs.Common.{◌≡◌, ℕ, ◌+◌, ◌<◌, Bool, true, false, List, [], ◌∷◌, ◌++◌, length, take, get_or, Result, refl, ap, sym, ◌∙◌, subst}
 use Rattle.std.proofs.lemmas.List.{take_more}
 use Rattle.std.specs.Prelude.{◌&&◌}
@@ -17,7 +17,8 @@ both : (a b : Bool) → (a && b) ≡ true → (a ≡ true) × (b ≡ true)
 both true b h = (refl, h)
 both false b h = absurd cc
 
--- steps are apart where those before the last are, and the last
+-- if all steps pass `are_apart`, so do the steps before the last one, and the last passes
+-- `is_apart`
 apart_more : (old new : Standing) (s t : Drawn) (steps : List ImageStep) (step : ImageStep) (rs : List (Result StepReply TiffError)) (r : Result StepReply TiffError)
     → AllStepped ImageStepped old s steps rs new t → are_apart (steps ++ step ∷ []) (rs ++ r ∷ []) ≡ true
     → (are_apart steps rs ≡ true) × (is_apart step r ≡ true)
@@ -29,13 +30,13 @@ apart_more old new s t (x ∷ steps) step (y ∷ rs) r h a =
     let more = apart_more h.0 new h.1.0 t steps step rs r h.1.1.1 one.1 in
     (ap (λ b. b && are_apart steps rs) one.0 ∙ more.0, more.1)
 
--- none is made
+-- no step is done
 pub none_drawn : (i : OpenImage) (file : FileState) → StepsDraw i [] [] file file i
 none_drawn i file =
     asked i (λ s before t after. AllStepped ImageStepped s before [] [] t after) true file
     (λ s before. all_none ImageStepped s (record { image = i; samples = before }))
 
--- one more is, behind those that were made
+-- one more step, behind the steps that are done
 pub next_drawn : (i j k : OpenImage) (old mid new : FileState) (steps : List ImageStep) (step : ImageStep) (n : ℕ)
     (rs : List (Result StepReply TiffError)) (r : Result StepReply TiffError) → mid.kind ≡ old.kind → n < length steps → step ≡ get_or steps n step
     → StepsDraw i (take n steps) rs old mid j → StepDraws j step r mid new k → StepsDraw i (take (n + 1) steps) (rs ++ r ∷ []) old new k

@@ -1,4 +1,4 @@
--- What a step of an image's directory does from a standing of its file.
+-- What a step of an image's directory does from a `Standing` of its file.
 use Rattle.std.proofs.Common.{◌≡◌, ℕ, Bool, true, false, List, [], ◌∷◌, take, Result, Ok, Err, refl, ap, sym, ◌∙◌, subst, zero, suc}
 use Rattle.std.specs.Prelude.{not, ◌||◌}
 use Rattle.std.specs.FinMap.{entries}
@@ -29,7 +29,7 @@ is_not : (b : Bool) → not b ≡ true → b ≡ false
 is_not true h = absurd cc
 is_not false h = refl
 
--- the first ones of some are such where all are
+-- if no element of a list passes a test, none of its first elements does
 pub few_none : {A : Type 0} (p : A → Bool) (xs : List A) (k : ℕ) → list_any p xs ≡ false → list_any p (take k xs) ≡ false
 few_none p xs zero h = refl
 few_none p [] (suc k) h = refl
@@ -38,14 +38,14 @@ few_none p (x ∷ xs) (suc k) h =
     ap (λ b. b || list_any p (take k xs)) each.0 ∙ few_none p xs k each.1
 
 module _ (i : OpenImage) (s t : Standing) (samples : List (List ℕ)) (g : Grows s.model t.model) (h : HoldsOpen s.file.kind s.model i samples) where
-  -- the image is held with a directory
+  -- the model holds the image with a directory
   abbrev With : OpenDirectory → Type 0
   With d = HoldsOpen s.file.kind t.model (with_directory_of i d) samples
 
   same_with : (d : OpenDirectory) → d ≡ i.directory → With d
   same_with d e = subst With (sym e) (grown_open s.file.kind s.model t.model i samples h g)
 
-  -- a tag is written
+  -- a step that writes a tag keeps the image held
   tag_with : (n : Tag) (call : Writing OpenDirectory) (r : Result StepReply TiffError) (d : OpenDirectory)
       → ((x : StepReply) → r ≡ Ok x → is_page_tag (tag_number n) ≡ false)
       → ((is_page_tag (tag_number n) ≡ false) → (call s.file).answer ≡ Ok d → HoldsOpen s.file.kind (model_by s.file s.model (call s.file)) (with_directory_of i d) samples)
@@ -56,13 +56,13 @@ module _ (i : OpenImage) (s t : Standing) (samples : List (List ℕ)) (g : Grows
   tag_with n call (Ok (reply.Written x)) d a k c = absurd c
   tag_with n call (Err e) d a k c = same_with d c.0
 
-  -- nothing is, and something is replied
+  -- a step that only returns a value keeps the image held
   reply_with : {A : Type 0} (view : A → StepReply) (call : Writing A) (r : Result StepReply TiffError) (d : OpenDirectory)
       → jobs.Replies view call i.directory r s t d → With d
   reply_with view call (Ok x) d c = same_with d c.0
   reply_with view call (Err e) d c = same_with d c.0
 
-  -- fields are given
+  -- a step that copies fields keeps the image held
   fields_with : (fields : List (ℕ × Field)) → list_any (λ entry. is_page_tag entry.0) fields ≡ false → t ≡ s → With (extend_from i.directory fields)
   fields_with fields a e =
       subst (λ m. HoldsOpen s.file.kind m (with_directory_of i (extend_from i.directory fields)) samples) (sym (ap (λ x. x.model) e))
@@ -76,7 +76,7 @@ module _ (i : OpenImage) (s t : Standing) (samples : List (List ℕ)) (g : Grows
   extended_with fields (Err e) d a c =
       subst With (sym c.1.1.0) (fields_with (take c.1.0 fields) (few_none (λ entry. is_page_tag entry.0) fields c.1.0 a) c.1.1.1)
 
-  -- a step that hands the directory no tag that a page is read by
+  -- a step that writes no tag that a page is read by keeps the image held
   directed_with : (step : DirectoryStep) (r : Result StepReply TiffError) (d : OpenDirectory) → is_apart (istep.Directory step) r ≡ true
       → DirectoryStepped s i.directory step r t d → With d
   directed_with (step.WriteTag n value) (Ok x) d a c =
@@ -94,7 +94,7 @@ module _ (i : OpenImage) (s t : Standing) (samples : List (List ℕ)) (g : Grows
   directed_with (step.WriteEntryBytes type bytes) r d a c = reply_with reply.Written _ r d c
   directed_with (step.ExtendFrom given) r d a c = extended_with (entries given.entries) r d (is_not _ a) c
 
--- a step of an image's directory is one of the image
+-- a step of an image's directory is a step of the image
 pub directed : (i j : OpenImage) (step : DirectoryStep) (r : Result StepReply TiffError) (old new : FileState)
     → j ≡ with_directory_of i j.directory → Moves (λ s t. DirectoryStepped s i.directory step r t j.directory) old new
     → StepDraws i (istep.Directory step) r old new j

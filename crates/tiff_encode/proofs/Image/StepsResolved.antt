@@ -1,4 +1,5 @@
--- What `resolution` does from a standing of its file: after a fault of the sink, or want of memory, its first tags may stand.
+-- What `resolution` does from a `Standing` of its file: after an error of the sink, or if the call
+-- runs out of memory, the file may contain its first tags.
 use Rattle.std.proofs.Common.{zero, suc, ◌≡◌, ℕ, ◌^◌, ◌<◌, ◌≤◌, ◌⊎◌, Bool, true, List, [], ◌∷◌, ◌++◌, length, take, drop, None, Result, Ok, Err, refl, ap, sym, ◌∙◌, inl, inr, subst, arith, length-append}
 use Rattle.std.proofs.lemmas.Bool.{ltb-true}
 use Rattle.std.proofs.lemmas.List.{take-map, drop-map, take-append-drop}
@@ -40,14 +41,14 @@ use Rattle.tiff_encode.proofs.Open.Tags.{no_answer, tags_adding}
 use Rattle.tiff_encode.proofs.Settings.{several_adds}
 use Rattle.tiff_encode.proofs.Tagging.{tags_are_fields, fields_told}
 
--- ---- an image with some tags more
+-- ---- an image with some more tags
 
 with_adding : (i : OpenImage) (values : List (Tag × Scalars)) (file : FileState) → IsAdding (with_tags i values file) file
 with_adding i values file =
     bind_adding (write_tags i.directory values) (λ d. gives (with_directory_of i d)) file (tags_adding i.directory values file)
     (λ d _. answers_adding (Ok (with_directory_of i d)) (write_tags i.directory values file).next)
 
--- what they did fits
+-- the changes of the tags fit
 with_fits : (i : OpenImage) (values : List (Tag × Scalars)) (file : FileState) (m : Model) → AreData (fields_of values) → AreEntries i.directory.fields
     → Fits (with_tags i values file) file m (λ j. Unit {0})
 with_fits i values file m g a =
@@ -58,17 +59,17 @@ with_fits i values file m g a =
     (subst (λ told. fit.IsDone told file) same (fields_done i.directory (fields_of values) file))
     (λ x h l. ((subst (λ told. Fits told file m (Keeps parent)) same (fields_fit parent i.directory (fields_of values) file m g (a, refl)) x h l).0, tt))
 
--- the first ones of some
+-- the first tags of some have data if all have
 few_data : (k : ℕ) (xs : List (Tag × FieldData)) → AreData xs → AreData (take k xs)
 few_data zero xs g = tt
 few_data (suc k) [] g = tt
 few_data (suc k) (x ∷ xs) g = (g.0, few_data k xs g.1)
 
--- one fault is another
+-- equal results have equal errors
 refused_alike : {B : Type 0} (f e : TiffError) → (let a : Result B TiffError = Err f in let b : Result B TiffError = Err e in a ≡ b) → f ≡ e
 refused_alike f e h = cc
 
--- where the tags are not refused, an image with them is not
+-- if an image with the tags is refused, the tags are refused
 gives_refused : {A B : Type 0} (r : Result A TiffError) (told : WriteOutcome A) (g : A → B) (file : FileState) (e : TiffError) → told.answer ≡ r
     → (((λ (f : FileState). told) >>= (λ x. gives (g x))) file).answer ≡ Err e → told.answer ≡ Err e
 gives_refused (Ok x) told g file e q h =
@@ -95,7 +96,7 @@ module _ (u : ResolutionUnit) (value : ℕ × ℕ) where
       (few_data k fields
       (data_so tag.ResolutionUnit (units (u ∷ [])) refl, (data_so tag.XResolution rational refl, (data_so tag.YResolution rational refl, tt))))
 
-  -- one of them is left
+  -- writing the tags that are left makes a change unless it is refused
   left_adds : (k : ℕ) → k < 3 → (d : OpenDirectory) (file : FileState) → Adds (write_tags d (drop k tags) file) file
   left_adds zero l d file =
       several_adds tag.ResolutionUnit (units (u ∷ [])) ((tag.XResolution, rationals (value ∷ [])) ∷ (tag.YResolution, rationals (value ∷ [])) ∷ []) d file
@@ -103,7 +104,7 @@ module _ (u : ResolutionUnit) (value : ℕ × ℕ) where
   left_adds (suc (suc zero)) l d file = several_adds tag.YResolution (rationals (value ∷ [])) [] d file
   left_adds (suc (suc (suc k))) l d file = absurd (omega (arith, l))
 
-  -- Some were written, and the others fail.
+  -- The first tags are written, and the others fail.
   module _ (i : OpenImage) (d : OpenDirectory) (k : ℕ) (l : k < 3) (old mid new : FileState) (e : TiffError)
       (h : IsTold (write_fields i.directory (take k fields) old) (Ok d) mid) (f : CallFails (write_fields d (drop k fields) mid) e mid new) where
     abbrev image : OpenImage
@@ -135,7 +136,7 @@ module _ (u : ResolutionUnit) (value : ℕ × ℕ) where
         (ap (λ vs. write_fields i.directory vs old) (take-append-drop k fields) ∙ sym (tags_are_fields i.directory tags old)) whole in
         never_refused i.directory u value old e c all.answer
 
-    -- the sink fails, or there is no memory
+    -- the sink fails, or the call runs out of memory
     abbrev Stops : Type 0
     Stops = IsCutOff (with_tags image (drop k tags) mid).deeds e mid new ⊎ IsShortOfMemory (with_tags image (drop k tags) mid) e mid new
 
@@ -152,7 +153,7 @@ module _ (u : ResolutionUnit) (value : ℕ × ℕ) where
           ]
         ]
 
--- the file is longer then, and of its kind
+-- the later file has the same kind and at least the same length
 record IsLonger (mid new : FileState) : Type 0 where
   kind : new.kind ≡ mid.kind
   longer : end_of mid ≤ end_of new
@@ -170,7 +171,7 @@ either_fails : (told : WriteOutcome OpenImage) (e : TiffError) (mid new : FileSt
 either_fails told e mid new (inl x) = inr (inl x)
 either_fails told e mid new (inr x) = inr (inr (inr x))
 
--- what stands after some calls of an image, the last of which fails
+-- what the file contains after two calls of an image, the second of which fails
 stands_after : (one two : WriteOutcome OpenImage) (j : OpenImage) (e : TiffError) (old mid new : FileState) (m : Model) → IsTold one (Ok j) mid
     → IsAdding one old → IsAdding two mid → Fits one old m (λ j. Unit {0}) → IsCutOff two.deeds e mid new ⊎ IsShortOfMemory two e mid new
     → end_of new < 2 ^ 64 → Stands old.kind old.bytes m → Stands new.kind new.bytes (model_by old m one)
@@ -190,7 +191,7 @@ stands_after one two j e old mid new m told a b f x short s =
 
 module _ (u : ResolutionUnit) (value : ℕ × ℕ) (i j : OpenImage) (e : TiffError) (new : FileState)
     (a : AreEntries i.directory.fields) (short : end_of new < 2 ^ 64) where
-  -- from a standing to one of the file that is left
+  -- from a `Standing` of the file before to one of the file after the call
   abbrev Resolved : Bool → Standing → List (List ℕ) → Type 0
   Resolved known s before =
       (t : Standing) × ((after : List (List ℕ)) × ((t.file ≡ new)

@@ -1,4 +1,4 @@
--- What a step does that writes a chunk of an image, from a standing of its file.
+-- What a step that writes a chunk of an image does from a `Standing` of its file.
 use Rattle.std.proofs.Common.{◌≡◌, ℕ, ◌-◌, ◌^◌, ◌%◌, ◌<◌, ◌≤◌, ◌⊎◌, Bool, true, false, List, [], ◌∷◌, ◌++◌, length, get_or, Option, Some, None, Result, Ok, Err, refl, ap, sym, ◌∙◌, inl, inr, subst, arith, length-append}
 use Rattle.tiff_base.specs.declared.error.TiffError.{TiffError}
 use Rattle.tiff_base.specs.declared.error.TiffError.TheVariants.{OutOfMemory}
@@ -36,7 +36,7 @@ chunk_adding cause i stored file =
     (bind_adds (appends stored) (λ offset. gives (with_chunk i offset (length stored))) file (appends_adds stored file)
     (λ offset _. answers_adding (Ok (with_chunk i offset (length stored))) (appends stored file).next)))
 
--- the file has it
+-- the file is at least as long as the stored bytes
 chunk_within : (cause : Option TiffError) (i next : OpenImage) (stored : List ℕ) (file : FileState)
     → (by_cause cause (appends_chunk i stored) file).answer ≡ Ok next → length stored ≤ end_of (by_cause cause (appends_chunk i stored) file).next
 chunk_within None i next stored file a = omega (arith, length-append file.bytes stored)
@@ -44,14 +44,15 @@ chunk_within (Some e) i next stored file a = absurd (no_answer a)
 
 -- ---- a call that writes a chunk
 
--- `write_strip` or `write_chunk`, where memory for its samples is found
+-- `write_strip` or `write_chunk`, if memory for the samples is available
 abbrev pub StoresIfFound : (OpenImage → ℕ → List ℕ → Writing OpenImage) → Option TiffError → jobs.Drawn → List ℕ → Result StepReply TiffError
     → jobs.Standing → jobs.Standing → jobs.Drawn → Type 0
 StoresIfFound call cause i samples r old new t =
     (t.samples ≡ jobs.samples_after r i samples)
     × (jobs.StoresBy call cause i.image samples r old new t.image ⊎ jobs.IsUnfound r i.image old new t.image)
 
--- What is known of one: it appends; the file has the bytes then; and an image that is held is held with it.
+-- Properties of a call that writes a chunk: it only appends, the file contains the bytes, and a
+-- held image stays held with the chunk.
 record IsStoring (call : OpenImage → ℕ → List ℕ → Writing OpenImage) : Type 0 where
   adds : (i : OpenImage) (n : ℕ) (stored : List ℕ) (file : FileState) → IsAdding (call i n stored file) file
   within : (i next : OpenImage) (n : ℕ) (stored : List ℕ) (file : FileState) → (call i n stored file).answer ≡ Ok next
@@ -82,7 +83,8 @@ chunks_store = record {
 
 module _ (call : OpenImage → ℕ → List ℕ → Writing OpenImage) (c : IsStoring call) (i j : OpenImage) (numbers : List ℕ) (new : FileState)
     (small : (n : ℕ) → get_or numbers n 0 < 256 ^ i.size) (few : length numbers < 2 ^ 64 - 1) (short : end_of new < 2 ^ 64) where
-  -- from a standing, with the samples before, to one of the file that is left, with those after
+  -- from a `Standing` and the samples before the call to a `Standing` of the file after it and the
+  -- samples with the chunk
   abbrev Stored : Option TiffError → Result (Unit {0}) TiffError → Bool → Standing → List (List ℕ) → Type 0
   Stored cause r known s before =
       (t : Standing) × ((after : List (List ℕ)) × ((t.file ≡ new)
@@ -90,7 +92,7 @@ module _ (call : OpenImage → ℕ → List ℕ → Writing OpenImage) (c : IsSt
       × (StandsIfKnown known t × (Grows s.model t.model
       × (true ≡ true → HoldsOpen s.file.kind s.model i before → HoldsOpen s.file.kind t.model j after))))))
 
-  -- it is stored as these bytes
+  -- the chunk is stored as the given bytes
   stored_so : (x : Unit {0}) (known : Bool) (s : Standing) (before : List (List ℕ)) (stored : List ℕ) → end_of s.file < 2 ^ 64
       → IsStored i.method stored (unpacked_chunk i numbers) → IsTold (call i (length numbers) stored s.file) (Ok j) new
       → (known ≡ true → Stands s.file.kind new.bytes (model_by s.file s.model (call i (length numbers) stored s.file)))
@@ -119,7 +121,7 @@ module _ (call : OpenImage → ℕ → List ℕ → Writing OpenImage) (c : IsSt
         ),
       )
 
-  -- nothing is done
+  -- the call does nothing
   undone : (cause : Option TiffError) (r : Result (Unit {0}) TiffError) (known : Bool) (s : Standing) (before : List (List ℕ)) → StandsIfKnown known s → new ≡ s.file → j ≡ i
       → StoresIfFound call cause (record { image = i; samples = before }) numbers (reply_to r) s s (record { image = j; samples = before })
       → Stored cause r known s before
@@ -131,7 +133,7 @@ module _ (call : OpenImage → ℕ → List ℕ → Writing OpenImage) (c : IsSt
     ),
   )
 
-  -- it is refused, or the sink fails
+  -- the call is refused, or the sink fails
   stopped : (e : TiffError) (known : Bool) (s : Standing) (before : List (List ℕ)) (stored : List ℕ) → j ≡ i
       → IsStored i.method stored (unpacked_chunk i numbers)
       → IsTold (call i (length numbers) stored s.file) (Err e) new ⊎ IsCutOff (call i (length numbers) stored s.file).deeds e s.file new
@@ -163,7 +165,7 @@ module _ (call : OpenImage → ℕ → List ℕ → Writing OpenImage) (c : IsSt
         ),
       )
 
-  -- where the model is known to stand, the bytes are those with which it does
+  -- if the model is known to describe the file, the stored bytes are those that the model describes
   stored_by : (x : Unit {0}) (known : Bool) (s : Standing) (before : List (List ℕ)) → StandsIfKnown known s → end_of s.file < 2 ^ 64
       → (let r : Result (Unit {0}) TiffError = Ok x in WritesStoredChunk call None i numbers r s.file new j
       → ((m : Model) → Stands s.file.kind s.file.bytes m → LeavesChunk call i numbers r s.file new j m) → Stored None r known s before)
@@ -185,17 +187,17 @@ module _ (call : OpenImage → ℕ → List ℕ → Writing OpenImage) (c : IsSt
         | inr y ↦ stopped e known s before y.0 w.0 y.1.0 y.1.1 (λ q. l s.model (k q))
       ]
 
--- a chunk of samples, where memory for them is found
+-- a chunk of samples, if memory for them is available
 abbrev StoresAll : (OpenImage → ℕ → List ℕ → Writing OpenImage) → (FileState → OpenImage → ℕ → Option TiffError) → List ℕ
     → Result StepReply TiffError → Standing → Drawn → Standing → Drawn → Type 0
 StoresAll call cause numbers r s before t after = StoresIfFound call (cause s.file before.image (length numbers)) before numbers r s t after
 
--- the same of the lowest bits of numbers
+-- a chunk of the lowest bits of numbers, if memory for them is available
 abbrev StoresCut : (OpenImage → ℕ → List ℕ → Writing OpenImage) → (FileState → OpenImage → ℕ → Option TiffError) → List ℕ
     → Result StepReply TiffError → Standing → Drawn → Standing → Drawn → Type 0
 StoresCut call cause given r s before t after = StoresAll call cause (cut_to before.image.size given) r s before t after
 
--- from each standing of the file
+-- what a call that writes a chunk does from each `Standing` of the file
 storing_draws : (call : OpenImage → ℕ → List ℕ → Writing OpenImage) (cause : FileState → OpenImage → ℕ → Option TiffError) → IsStoring call
     → (i j : OpenImage) (numbers : List ℕ) (r : Result (Unit {0}) TiffError) (old new : FileState)
     → ((n : ℕ) → get_or numbers n 0 < 256 ^ i.size) → length numbers < 2 ^ 64 - 1 → end_of old < 2 ^ 64 → end_of new < 2 ^ 64
@@ -211,13 +213,13 @@ storing_draws call cause c i j numbers r old new small few near short w l known 
 -- ---- the lowest bits of numbers
 
 module _ (size : ℕ) (given numbers : List ℕ) (cut : cut_to size given ≡ numbers) where
-  -- they are numbers of their bytes
+  -- the cut samples fit their number of bytes
   pub cut_small : (k : ℕ) → get_or numbers k 0 < 256 ^ size
   cut_small k =
       let same : ℕ → ℕ = λ n. n in
       subst (λ xs. get_or xs k 0 < 256 ^ size) cut (are_numbers size same given k)
 
-  -- and no fewer
+  -- the number of cut samples stays below the limit of the given ones
   pub cut_few : (n : ℕ) → n ≡ length numbers → length given < 2 ^ 64 - 1 → n < 2 ^ 64 - 1
   cut_few n e l =
       let same : n ≡ length given = e ∙ ap (λ xs. length xs) (sym cut) ∙ length-map given (λ n. n % 256 ^ size) in
@@ -247,7 +249,7 @@ module _ (i j : OpenImage) (given numbers : List ℕ) (n : ℕ) (r : Result (Uni
       → ChunkDraws i given (reply_to r) old new j
   chunk_draws w l = drawn_by write_chunk (λ file i k. write_chunk_cause file i k 0) chunks_store w l
 
--- there is no memory for them
+-- no memory is available for the cut samples
 module _ (i : OpenImage) (given : List ℕ) (e : TiffError) (file : FileState) (short : e ≡ OutOfMemory) where
   unfound : (call : OpenImage → ℕ → List ℕ → Writing OpenImage) (cause : FileState → OpenImage → ℕ → Option TiffError)
       → DrawMoves i (StoresCut call cause given (Err e)) true file file i

@@ -1,4 +1,4 @@
--- Where nothing refuses `resolution`, none of its tags is refused.
+-- If nothing refuses `resolution`, nothing refuses any of its tags.
 use Rattle.std.proofs.Common.{◌≡◌, ℕ, ◌+◌, ◌^◌, ◌≤◌, Bool, true, false, cond, List, [], ◌∷◌, length, Some, None, Ok, Err, refl, ap, sym, ◌∙◌, arith, length-append}
 use Rattle.std.proofs.lemmas.Bool.{leb-false, lt-leb}
 use Rattle.tiff_base.specs.declared.error.TiffError.{TiffError}
@@ -25,7 +25,7 @@ use Rattle.tiff_encode.proofs.Open.Tags.{no_answer}
 -- ---- a tag that nothing refuses
 
 module _ (d : OpenDirectory) (t : Tag) (value : FieldData) (file : FileState) where
-  -- what is told of it then
+  -- the outcome of writing a tag that nothing refuses
   abbrev told_so : WriteOutcome OpenDirectory
   told_so = ((answers (Ok value) >>= placed_field) >>= (λ field. gives (with_field d t field))) file
 
@@ -35,14 +35,14 @@ module _ (d : OpenDirectory) (t : Tag) (value : FieldData) (file : FileState) wh
       let call : Writing Field = answers (Ok value) >>= placed_field in
       ap (λ cause. ((λ f. by_cause cause call f) >>= (λ field. gives (with_field d t field))) file) c
 
--- the rest of some tags is refused where they are
+-- if nothing refuses the first tag and writing all tags fails, writing the other tags fails
 rest_refused : (d : OpenDirectory) (t : Tag) (value : Scalars) (values : List (Tag × Scalars)) (file : FileState) (e : TiffError)
     → write_tag_cause file (Ok (data_of value)) ≡ None → (write_tags d ((t, value) ∷ values) file).answer ≡ Err e
     → (write_tags (with_field d t (field_at file.kind (end_of file) (data_of value))) values (told_so d t (data_of value) file).next).answer ≡ Err e
 rest_refused d t value values file e c h =
     sym (ap (λ told. (((λ (f : FileState). told) >>= (λ next. write_tags next values)) file).answer) (tag_so d t (data_of value) file c)) ∙ h
 
--- the length of a file in which a value stands
+-- the length of a file with a written value
 grown_len : (b : Bool) (kind : FileKind) (bytes xs : List ℕ) (h : HandedField)
     → length (bytes_after kind bytes (cond b (Appended xs ∷ Handed h ∷ []) (Handed h ∷ []))) ≡ length bytes + cond b (length xs) 0
 grown_len true kind bytes xs h = length-append bytes xs
@@ -54,7 +54,7 @@ at_most false n = omega arith
 
 -- ---- a unit, and a fraction
 
--- a shorter file is not past what the kind can hold
+-- if the kind can hold a length, it can hold each shorter one
 below : (kind : FileKind) (m n : ℕ) → m ≤ n → is_past kind n ≡ false → is_past kind m ≡ false
 below Classic m n l h = let b = leb-false (2 ^ 32) n h in lt-leb (2 ^ 32) m (omega (arith, b, l))
 below Big m n l h = refl
@@ -87,9 +87,9 @@ fraction_len : (value : ℕ × ℕ) → length (data_of (rationals (value ∷ []
 unfolding data_of
 fraction_len value = refl
 
--- ---- the three
+-- ---- the three tags
 
--- after the unit the file is as long, after a fraction at most eight bytes longer
+-- the unit keeps the length of the file, and a fraction adds at most eight bytes
 unit_end : (d : OpenDirectory) (t : Tag) (u : ResolutionUnit) (file : FileState) → end_of (told_so d t (data_of (units (u ∷ []))) file).next ≡ end_of file
 unit_end d t u file =
     let v : FieldData = data_of (units (u ∷ [])) in

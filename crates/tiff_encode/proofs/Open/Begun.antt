@@ -1,4 +1,4 @@
--- A new image is held.
+-- A new image is held by the model.
 use Rattle.std.proofs.Common.{◌≡◌, ℕ, zero, suc, ◌*◌, ◌^◌, ◌<◌, ◌≤◌, ◌⊎◌, inl, inr, true, List, [], ◌∷◌, length, Option, Some, None, Ok, refl, sym, subst, arith, lit<}
 use Rattle.std.proofs.Math.Nat.{div-le_self, min-le_left}
 use Rattle.std.proofs.lemmas.Grind.{div_ceil_times}
@@ -35,9 +35,9 @@ use Rattle.tiff_encode.proofs.Open.Held.{none_held}
 use Rattle.tiff_encode.proofs.Open.Tags.{both_held, caused_held, tags_adding, tags_held, after, after_joined}
 use Rattle.tiff_encode.proofs.Open.Settings.{fresh, first_test, above}
 
--- ---- its tags
+-- ---- the tags of a new image
 
--- those before the subsampling, and those behind it
+-- the tags before the subsampling, and the tags behind it
 abbrev head_tags : OpenImage → List (Tag × Scalars)
 head_tags i =
     (tag.ImageWidth, u32s (i.width ∷ [])) ∷ (tag.ImageLength, u32s (i.height ∷ [])) ∷ (tag.Compression, methods (i.method ∷ []))
@@ -50,7 +50,7 @@ tail_tags i =
     ∷ (tag.XResolution, rationals ((1, 1) ∷ [])) ∷ (tag.YResolution, rationals ((1, 1) ∷ []))
     ∷ (tag.ResolutionUnit, units (unit.None ∷ [])) ∷ []
 
--- the values of the first ones, of these and the subsampling, and of all
+-- the values of the first tags, of these and the subsampling, and of all tags
 abbrev head_given : OpenImage → Given
 head_given i = after (λ t. None) (head_tags i)
 
@@ -64,7 +64,7 @@ all_given : (i : OpenImage) → after (λ t. None) (first_tags i) ≡ first_give
 unfolding first_tags
 all_given i = after_joined (head_given i) (chroma_tags i.color.interpretation) (tail_tags i)
 
--- the subsampling changes its own tag alone
+-- the subsampling changes only its own tag
 chroma_kept : (p : PhotometricInterpretation) (given : Given) (n : ℕ)
     → after given (chroma_tags meaning.YCbCr) n ≡ given n → after given (chroma_tags p) n ≡ given n
 chroma_kept meaning.WhiteIsZero given n h = refl
@@ -90,7 +90,7 @@ chroma_told meaning.CIELab given h = h
 chroma_told meaning.IccLab given h = h
 chroma_told meaning.ItuLab given h = h
 
--- what a new image says of itself
+-- the values of a new image's tags describe the image
 begun_tells : (file : FileState) (d : OpenDirectory) (color : ColorTypeRecord) (size width height : ℕ)
     → (let i : OpenImage = image_in file d color size width height in TellsOpen i (first_given i))
 begun_tells file d color size width height =
@@ -114,16 +114,16 @@ begun_tells file d color size width height =
       no_tile_counts = kept 325 refl;
     }
 
--- ---- its sides, its samples, and how it is packed
+-- ---- the sides, the samples and the compression of a new image
 
--- the predictor is one that is written
+-- the predictor is one that is supported
 predicted : (p : Predictor) (formats : List SampleFormat) (rest : Option TiffError) → predictor_cause p formats rest ≡ None
     → (p ≡ predictor.None) ⊎ (p ≡ predictor.Horizontal)
 predicted predictor.None formats rest h = inl refl
 predicted predictor.Horizontal formats rest h = inr refl
 predicted predictor.FloatingPoint formats rest h = absurd cc
 
--- what makes a product is not 0
+-- a factor of a product that isn't 0 isn't 0
 some : (x n : ℕ) → 1000000 ≤ x * n → 0 < x
 some zero n h = absurd (omega (arith, h))
 some (suc x) n h = omega arith
@@ -132,7 +132,7 @@ some_rows : (n : ℕ) → 0 < rows_per_strip n
 some_rows zero = lit< tt
 some_rows (suc n) = some (rows_per_strip (suc n)) (suc n) (div_ceil_times 1000000 (suc n) (omega arith)).0
 
--- a strip has a row, and no more than a million
+-- a strip has at least one row, and at most a million
 rows_side : (n : ℕ) → IsSide (rows_per_strip n)
 rows_side n =
     let q : ℕ = 1000000 / n in
@@ -145,7 +145,7 @@ default_side m n (inr e) = subst (λ k. IsSide (default_rows k n)) (sym e) (lit<
 
 -- ---- the image
 
--- its directory is empty at first
+-- a new directory is empty
 begun_empty : (file : FileState) (d : OpenDirectory) (m : Model) → (image_directory file).answer ≡ Ok d → HoldsValues m d.fields (λ t. None)
 unfolding image_directory
 begun_empty file d m h =
@@ -157,7 +157,7 @@ positive : (n : ℕ) → 0 < 256 ^ n
 positive zero = lit< tt
 positive (suc n) = let p = positive n in omega (arith, p)
 
--- it has no chunk
+-- a new image has no chunk
 no_chunks : (file : FileState) (d : OpenDirectory) (color : ColorTypeRecord) (size width height : ℕ) (m : Model)
     → HoldsChunks file.kind m (image_in file d color size width height) []
 no_chunks file d color size width height m = record {
@@ -170,7 +170,7 @@ no_chunks file d color size width height m = record {
   fit = λ c l. absurd l;
 }
 
--- it is held, where its cause was none
+-- a new image is held if nothing refuses it
 begun_held : (file : FileState) (d : OpenDirectory) (m : Model) (name : ColorTypeName) (width height : ℕ)
     → width < 2 ^ 32 → height < 2 ^ 32 → (file.method ≡ method.None) ⊎ (file.method ≡ method.PackBits)
     → (let i : OpenImage = image_in file d (color_type name) (inner_size name) width height in

@@ -1,4 +1,4 @@
--- A chunk that is written is held with its samples.
+-- A written chunk is held with its samples.
 use Rattle.std.proofs.Common.{zero, suc, ◌≡◌, ℕ, ◌+◌, ◌-◌, ◌^◌, ◌<◌, ◌⊎◌, inl, inr, Bool, true, false, cond, List, [], ◌∷◌, ◌++◌, length, map, get_or, None, Ok, refl, ap, sym, ◌∙◌, subst, arith, min}
 use Rattle.std.proofs.Math.Nat.{min-eq_left, min-eq_right}
 use Rattle.std.proofs.Math.Seq.{get_or-append_seam}
@@ -27,9 +27,9 @@ use Rattle.tiff_encode.proofs.Open.Settings.{fresh, first_test}
 use Rattle.tiff_encode.proofs.Deeds.{deeds_grow}
 use Rattle.tiff_encode.specs.Deeds.{Appended}
 
--- ---- one more in a list
+-- ---- one more element in a list
 
--- what holds of each holds with one more
+-- a property of each element holds with one more
 each_more : {A : Type 0} (P : A → Type 0) (xs : List A) (y : A) → ((x : A) → In x xs → P x) → P y
     → (x : A) → In x (xs ++ y ∷ []) → P x
 each_more P [] y f p x (inl e) = subst P (sym e) p
@@ -37,7 +37,7 @@ each_more P [] y f p x (inr i) = absurd i
 each_more P (z ∷ zs) y f p x (inl e) = f x (inl e)
 each_more P (z ∷ zs) y f p x (inr i) = each_more P zs y (λ w j. f w (inr j)) p x i
 
--- at each offset, also past the end
+-- a property at each index, also past the end, holds with one more element
 offset_more : {A : Type 0} (P : A → Type 0) (xs : List A) (y d : A) → ((k : ℕ) → P (get_or xs k d)) → P y
     → (k : ℕ) → P (get_or (xs ++ y ∷ []) k d)
 offset_more P [] y d f p zero = p
@@ -45,7 +45,7 @@ offset_more P [] y d f p (suc k) = f k
 offset_more P (x ∷ xs) y d f p zero = f zero
 offset_more P (x ∷ xs) y d f p (suc k) = offset_more P xs y d (λ j. f (suc j)) p k
 
--- what was there, and the last
+-- the earlier elements, and the last one
 kept_at : {A B : Type 0} (f : A → B) (xs : List A) (y : A) (k : ℕ) (d : B) → k < length xs
     → get_or (map f (xs ++ y ∷ [])) k d ≡ get_or (map f xs) k d
 kept_at f xs y k d l =
@@ -59,13 +59,13 @@ last_at f xs y k d e =
     ∙ ap (λ j. get_or (map f xs ++ f y ∷ []) j d) (e ∙ sym (length-map xs f))
     ∙ get_or-append_seam (map f xs) (f y) [] d
 
--- one more than a list's length is its last index or one before
+-- an index of a list with one more element is an earlier index or the last one
 last_or : (k n : ℕ) → k < n + 1 → (k < n) ⊎ (k ≡ n)
 last_or k n l = elim (cases_lt k n) [ inl b ↦ inl b | inr a ↦ inr (omega (arith, l, a)) ]
 
--- ---- what its cause says
+-- ---- what the checks of a chunk imply
 
--- the lesser of two is the first, where it is less than the second
+-- the lesser of two numbers is the first if it is less than the second
 least : (c s m : ℕ) → c ≡ min s m → c < m → c ≡ s
 least c s m e l =
     elim (cases_lt s m) [
@@ -77,7 +77,8 @@ is_true : (b : Bool) → not b ≡ false → b ≡ true
 is_true true h = refl
 is_true false h = absurd (false≢true (sym h))
 
--- the chunk is one that is left, of as many samples as it has; its offset and its length are numbers of the kind
+-- The chunk is one that is left, with as many samples as it needs. Its offset and its number of
+-- bytes are numbers of the kind.
 record IsNext (file : FileState) (i : OpenImage) (count stored : ℕ) : Type 0 where
   few : all_chunks (image_page i) < 2 ^ 32
   left : length i.chunks < all_chunks (image_page i)
@@ -85,7 +86,7 @@ record IsNext (file : FileState) (i : OpenImage) (count stored : ℕ) : Type 0 w
   offset : is_past file.kind (end_of file) ≡ false
   short : is_past file.kind stored ≡ false
 
--- as many samples as the call asks for are as many as the chunk has
+-- the call requests as many samples as the chunk has
 abbrev pub IsAsked : OpenImage → ℕ → Type 0
 IsAsked i count =
     count ≡ min (chunk_samples (image_page i) (length i.chunks)) (2 ^ 64 - 1) → count ≡ chunk_samples (image_page i) (length i.chunks)
@@ -109,16 +110,16 @@ is_next file i count stored l c =
       short = far.1;
     }
 
--- ---- the chunks, and this one
+-- ---- the earlier chunks, and this one
 
--- bytes at an offset that stand for some samples of the image
+-- bytes at an offset that encode some samples of the image
 abbrev Standing : Model → OpenImage → ℕ → ℕ → List ℕ → Type 0
 Standing m i offset count samples =
     (stored : List ℕ) × (In (record { offset = offset; bytes = stored }) m.regions
     × ((length stored ≡ count) × IsStored i.method stored (unpacked_chunk i samples)))
 
 module _ (file : FileState) (m : Model) (i : OpenImage) (samples : List (List ℕ)) (numbers stored : List ℕ) where
-  -- the region, the chunk, the model, the image and the samples then
+  -- the region, the chunk, the model, the image and the samples after the call
   abbrev region : ByteRegion
   region = record { offset = end_of file; bytes = stored }
 
@@ -177,7 +178,7 @@ module _ (file : FileState) (m : Model) (i : OpenImage) (samples : List (List �
             (offset_fits file.kind (end_of file) c.offset near, offset_fits file.kind (length stored) c.short short);
       }
 
-  -- the image
+  -- the image with the chunk is held
   chunk_kept : HoldsOpen file.kind m i samples → chunk_cause file i (length numbers) (length stored) ≡ None
       → ((n : ℕ) → get_or numbers n 0 < 256 ^ i.size) → IsAsked i (length numbers)
       → IsStored i.method stored (unpacked_chunk i numbers) → end_of file < 2 ^ 64 → length stored < 2 ^ 64
@@ -190,7 +191,7 @@ module _ (file : FileState) (m : Model) (i : OpenImage) (samples : List (List �
     chunks = chunks_more h.chunks (is_next file i (length numbers) (length stored) l c) s is near short;
   }
 
-  -- the call
+  -- the image that the call returns is held
   appended_kept : (next : OpenImage) → HoldsOpen file.kind m i samples → chunk_cause file i (length numbers) (length stored) ≡ None
       → ((n : ℕ) → get_or numbers n 0 < 256 ^ i.size) → IsAsked i (length numbers)
       → IsStored i.method stored (unpacked_chunk i numbers) → end_of file < 2 ^ 64 → length stored < 2 ^ 64
@@ -199,7 +200,7 @@ module _ (file : FileState) (m : Model) (i : OpenImage) (samples : List (List �
   appended_kept next h c s l is near short a =
       subst (λ j. HoldsOpen file.kind later j all) (ok_inj image next a) (chunk_kept h c s l is near short)
 
--- a chunk of as many samples as it has
+-- a chunk with its number of samples keeps the image held
 pub chunk_keeps_open : (file : FileState) (m : Model) (i next : OpenImage) (samples : List (List ℕ)) (numbers stored : List ℕ)
     → HoldsOpen file.kind m i samples → ((n : ℕ) → get_or numbers n 0 < 256 ^ i.size) → IsAsked i (length numbers)
     → IsStored i.method stored (unpacked_chunk i numbers) → end_of file < 2 ^ 64 → length stored < 2 ^ 64

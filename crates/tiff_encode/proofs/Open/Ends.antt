@@ -1,4 +1,4 @@
--- An image that ends with every chunk is held, and shown.
+-- An image that ends with every chunk is held, and the file shows it.
 use Rattle.std.proofs.Common.{◌≡◌, ℕ, ◌^◌, ◌<◌, inl, inr, Bool, true, false, cond, List, [], ◌∷◌, ◌++◌, length, map, Some, None, Ok, refl, ap, sym, ◌∙◌, subst, arith}
 use Rattle.std.proofs.lemmas.Bool.{eqb-true, ltb-false, cases_lt}
 use Rattle.std.specs.Prelude.{◌==◌}
@@ -25,7 +25,7 @@ use Rattle.tiff_encode.proofs.Deeds.{deeds_grow}
 use Rattle.tiff_encode.proofs.Open.Held.{holds_grown, chunks_grown, set}
 use Rattle.tiff_encode.proofs.Open.Tags.{both_held, caused_held, tags_adding, tags_held, after, after_joined}
 
--- ---- its last tags
+-- ---- the last tags of an image
 
 module _ (kind : FileKind) (i : OpenImage) (given : Given) where
   abbrev offsets : Scalars
@@ -34,7 +34,7 @@ module _ (kind : FileKind) (i : OpenImage) (given : Given) where
   abbrev byte_counts : Scalars
   byte_counts = offset_values kind (map (λ chunk. chunk.stored) i.chunks)
 
-  -- the values with the bits, then the number of samples, the formats, and the chunks
+  -- the values with the bits, then the number of samples, the sample formats, and the chunks
   abbrev bits_given : Given
   bits_given = set given (tag_number tag.BitsPerSample) (Some (u16s (extended_by_first i.color.bits (length i.extra))))
 
@@ -57,7 +57,7 @@ module _ (kind : FileKind) (i : OpenImage) (given : Given) where
       after_joined bits_given (sample_tags i)
       ((tag.SampleFormat, formats (extended_by_first i.color.formats (length i.extra))) ∷ chunk_tags i.form.chunk_type offsets byte_counts)
 
-  -- a tag that has neither the number of samples nor the offsets or lengths of chunks stays
+  -- a tag other than the number of samples and the chunk lists keeps its value
   samples_kept : (b : Bool) (n : ℕ) → samples_given false n ≡ bits_given n → samples_given b n ≡ bits_given n
   samples_kept true n h = refl
   samples_kept false n h = h
@@ -67,7 +67,7 @@ module _ (kind : FileKind) (i : OpenImage) (given : Given) where
   chunks_kept b Strip n h g = h
   chunks_kept b Tile n h g = g
 
-  -- the number of all samples
+  -- the number of samples of a pixel
   samples_told : (b : Bool) → (length i.extra == 0) ≡ b → given (tag_number tag.SamplesPerPixel) ≡ Some (u16s (length i.color.bits ∷ []))
       → samples_given b (tag_number tag.SamplesPerPixel) ≡ Some (u16s (all_samples i ∷ []))
   samples_told false e h = refl
@@ -76,7 +76,7 @@ module _ (kind : FileKind) (i : OpenImage) (given : Given) where
       let same : length i.color.bits ≡ all_samples i = omega (arith, none) in
       h ∙ ap (λ n. Some (u16s (n ∷ []))) same
 
-  -- where the chunks stand
+  -- where the chunks are in the file
   chunks_told : (b : Bool) (c : ChunkType) → TellsForm c i given → given (tag_number tag.StripOffsets) ≡ None
       → given (tag_number tag.StripByteCounts) ≡ None → given (tag_number tag.TileOffsets) ≡ None
       → given (tag_number tag.TileByteCounts) ≡ None → TellsChunks c kind i (chunks_given b c)
@@ -96,7 +96,7 @@ module _ (kind : FileKind) (i : OpenImage) (given : Given) where
     no_byte_counts = samples_kept b 279 refl ∙ sc;
   }
 
-  -- what the image says of itself then
+  -- the values of all tags describe the image
   last_tells : TellsOpen i given → TellsImage kind i last_given
   last_tells t =
       let b : Bool = length i.extra == 0 in
@@ -119,17 +119,17 @@ module _ (kind : FileKind) (i : OpenImage) (given : Given) where
         chunks = chunks_told b c t.form t.no_strips t.no_strip_counts t.no_tiles t.no_tile_counts;
       }
 
--- ---- its chunks
+-- ---- the chunks of an image
 
 module _ (kind : FileKind) (m : Model) (i : OpenImage) (samples : List (List ℕ)) where
-  -- none is left
+  -- no chunk is left
   all_written : HoldsChunks kind m i samples → is_left i ≡ false → length i.chunks ≡ all_chunks (image_page i)
   all_written h l =
       let a = ltb-false (length i.chunks) (all_chunks (image_page i)) l in
       let b = h.within in
       omega (arith, a, b)
 
-  -- they are not too many
+  -- the chunks are not too many
   few_chunks : HoldsChunks kind m i samples → is_left i ≡ false → all_chunks (image_page i) < 2 ^ 32
   few_chunks h l =
       let same = all_written h l in
@@ -152,17 +152,17 @@ module _ (kind : FileKind) (m : Model) (i : OpenImage) (samples : List (List ℕ
     fit = h.fit;
   }
 
-  -- each chunk was handed its samples
+  -- each chunk has its samples
   are_handed : HoldsChunks kind m i samples → is_left i ≡ false → AreHanded i samples
   are_handed h l = record { lengths = λ k b. h.lengths k (subst (λ n. k < n) (sym (all_written h l)) b); small = h.small }
 
-  -- and stands for them
+  -- each chunk encodes its samples
   regions_have : HoldsChunks kind m i samples → is_left i ≡ false → RegionsHaveChunks m i samples
   regions_have h l k b = h.regions k (subst (λ n. k < n) (sym (all_written h l)) b)
 
--- ---- its end
+-- ---- the end of an image
 
--- the directory that a call ends
+-- a call that ends a directory appends it
 pub finish_listed : (d : OpenDirectory) (file : FileState) (m : Model) (offsets : Offsets) → (finish d file).answer ≡ Ok offsets
     → (let listed : FinishedDirectory = record { offset = offsets.pointer; fields = standing_fields file.kind d.fields } in
     In listed (model_by file m (finish d file)).directories)
@@ -180,7 +180,7 @@ finish_listed d file m offsets h =
     let grown = deeds_grow file.kind (after_deed file.kind file.bytes (Listed d.fields)) n (links ++ []) in
     grown.directories (listed offsets.pointer) (inl (ap listed (sym same))))
 
--- a directory that holds some values, as it stands at an offset
+-- a model holds a directory with some values at an offset
 abbrev Ended : FileKind → ℕ → Given → Model → Type 0
 Ended kind offset given m =
     (d : OpenDirectory)
@@ -212,7 +212,7 @@ image_ended file m i samples offsets h a =
       ),
     ))
 
--- it is held as one that has ended
+-- the image is held as one that is finished
 pub ends_held : EndsHeld
 ends_held file m i samples offsets h left a =
     let n : Model = model_by file m (finish_image i file) in
@@ -230,7 +230,7 @@ ends_held file m i samples offsets h left a =
       regions = regions_have file.kind n i samples c left;
     }
 
--- also when more is written
+-- a finished image stays held while the file grows
 pub grown_ended : GrownEnded
 grown_ended kind m n i samples offset g h = record {
   fields = h.fields;
@@ -243,7 +243,7 @@ grown_ended kind m n i samples offset g h = record {
   regions = λ k b. let r = h.regions k b in (r.0, (g.regions _ r.1.0, r.1.1));
 }
 
--- where what stands and holds an image shows it, it is shown
+-- a finished image is shown if each image that a file contains and holds is shown
 pub ended_shown_by : ImagesShow → EndedShown
 ended_shown_by show kind file m i samples offset stands h =
     show kind file m (record { offset = offset; fields = standing_fields kind h.fields }) h.fields h.given i samples

@@ -1,4 +1,4 @@
--- What a model holds of a directory, it holds when more is written and when tags are set.
+-- What a model holds of a directory stays held if more is written and if tags are set.
 use Rattle.std.proofs.Common.{◌≡◌, ℕ, List, Ordering, Less, Equal, Greater, Bool, true, false, cond, Option, Some, None, refl, ap, sym, ◌∙◌, subst}
 use Rattle.std.proofs.lemmas.Bool.{false≢true}
 use Rattle.std.specs.FinMap.{FinMap, get, insert, remove, empty, get-insert, get-remove, get-empty, nat_cmp-IsAntisymmetric}
@@ -14,7 +14,7 @@ use Rattle.tiff_encode.specs.Open.{HoldsChunks, GrownOpen}
 
 -- ---- more is written
 
--- a tag
+-- one tag stays held in a model that grows
 at_grown : (m n : Model) (f : Option Field) (v : Option Scalars) → Grows m n → HoldsAt m f v → HoldsAt n f v
 at_grown m n (Some f) (Some v) g h =
     record { field_type = h.field_type; count = h.count; whole = h.whole; handed = g.handed _ h.handed }
@@ -22,11 +22,11 @@ at_grown m n None None g h = tt
 at_grown m n (Some f) None g h = absurd h
 at_grown m n None (Some v) g h = absurd h
 
--- all tags
+-- all tags stay held in a model that grows
 pub holds_grown : (m n : Model) (fields : FinMap nat_cmp Field) (given : Given) → Grows m n → HoldsValues m fields given → HoldsValues n fields given
 holds_grown m n fields given g h t p = at_grown m n (get fields t) (given t) g (h t p)
 
--- the chunks
+-- the chunks stay held in a model that grows
 pub chunks_grown : (kind : FileKind) (m n : Model) (i : OpenImage) (samples : List (List ℕ)) → Grows m n
     → HoldsChunks kind m i samples → HoldsChunks kind n i samples
 chunks_grown kind m n i samples g h = record {
@@ -50,13 +50,13 @@ grown_open kind m n i samples h g = record {
 
 -- ---- tags are set
 
--- an order that is one of equals
+-- an order that tests as equal is `Equal`
 is_equal : (r : Ordering) → is_eq r ≡ true → r ≡ Equal
 is_equal Equal e = refl
 is_equal Less e = absurd (false≢true e)
 is_equal Greater e = absurd (false≢true e)
 
--- the values with those of a tag, or none of it
+-- the values with the values of one tag, or without that tag
 abbrev pub set : Given → ℕ → Option Scalars → Given
 set given n v = λ t. cond (eq_by_cmp nat_cmp t n) v (given t)
 
@@ -70,14 +70,14 @@ module _ (m : Model) where
   unset_by true x g o = tt
   unset_by false x g o = o
 
-  -- a field for a tag
+  -- a field is set for a tag
   pub set_held : (fields : FinMap nat_cmp Field) (given : Given) (n : ℕ) (f : Field) (v : Scalars) → HasValues m f v
       → HoldsValues m fields given → HoldsValues m (insert fields n f) (set given n (Some v))
   set_held fields given n f v h o t p =
       subst (λ x. HoldsAt m x (set given n (Some v) t)) (sym (get-insert nat_cmp_total fields n f t))
       (set_by (eq_by_cmp nat_cmp t n) (get fields t) (given t) f v h (o t p))
 
-  -- the field of a tag is taken away
+  -- the field of a tag is removed
   pub unset_held : (fields : FinMap nat_cmp Field) (given : Given) (n : ℕ) → HoldsValues m fields given
       → HoldsValues m (remove fields n) (set given n None)
   unset_held fields given n o t p =
@@ -91,13 +91,13 @@ module _ (m : Model) where
       let same : t ≡ n = nat_cmp-IsAntisymmetric t n (is_equal (nat_cmp t n) e) in
       absurd (false≢true (sym q ∙ ap is_page_tag (sym same) ∙ p))
 
-  -- a field for a tag that a page isn't read by
+  -- a field is set for a tag that a page isn't read by
   pub other_held : (fields : FinMap nat_cmp Field) (given : Given) (n : ℕ) (f : Field) → is_page_tag n ≡ false
       → HoldsValues m fields given → HoldsValues m (insert fields n f) given
   other_held fields given n f q o t p =
       subst (λ x. HoldsAt m x (given t)) (sym (get-insert nat_cmp_total fields n f t))
       (other_by (eq_by_cmp nat_cmp t n) (get fields t) (given t) f t n refl q p (o t p))
 
-  -- no field holds nothing
+  -- an empty directory holds no values
   pub none_held : HoldsValues m empty (λ t. None)
   none_held t p = subst (λ x. HoldsAt m x None) (sym (get-empty nat_cmp t)) tt

@@ -1,4 +1,4 @@
--- What is held of an image that is open, when a call changes one part of it.
+-- What is held of an open image if a call changes one part of it.
 use Rattle.std.proofs.Common.{◌≡◌, ℕ, false, List, [], ◌∷◌, Option, Some, Ok, refl, ap, sym, ◌∙◌, subst}
 use Rattle.std.specs.List.{list_any}
 use Rattle.std.specs.FinMap.{insert}
@@ -26,7 +26,7 @@ use Rattle.tiff_encode.proofs.Open.Tags.{both_held, caused_held, tags_adding, ot
 
 -- ---- one part
 
--- how it is cut, where the tags of that are given the same
+-- the layout of the image stays if its tags have the same values
 pub form_kept : (c : ChunkType) (i next : OpenImage) (given later : Given) → next.form.chunk_width ≡ i.form.chunk_width
     → next.form.chunk_height ≡ i.form.chunk_height → later (tag_number tag.RowsPerStrip) ≡ given (tag_number tag.RowsPerStrip)
     → later (tag_number tag.TileWidth) ≡ given (tag_number tag.TileWidth)
@@ -35,7 +35,7 @@ form_kept Strip i next given later w h r x y t = r ∙ t ∙ ap (λ n. Some (u32
 form_kept Tile i next given later w h r x y t =
     (x ∙ t.0 ∙ ap (λ n. Some (u32s (n ∷ []))) (sym w), y ∙ t.1 ∙ ap (λ n. Some (u32s (n ∷ []))) (sym h))
 
--- what an image says of itself, with another directory and other chunks
+-- the tags of an image describe it with another directory and other chunks
 pub tells_kept : (i : OpenImage) (d : OpenDirectory) (chunks : List Chunk) (given : Given) → TellsOpen i given
     → TellsOpen (record i { directory = d; chunks = chunks }) given
 tells_kept i d chunks given t = record {
@@ -55,7 +55,7 @@ tells_kept i d chunks given t = record {
   no_tile_counts = t.no_tile_counts;
 }
 
--- what it is
+-- an image stays open with another directory and other chunks
 pub open_kept : (i : OpenImage) (d : OpenDirectory) (chunks : List Chunk) → IsOpen i
     → IsOpen (record i { directory = d; chunks = chunks })
 open_kept i d chunks s = record {
@@ -70,7 +70,7 @@ open_kept i d chunks s = record {
   form = s.form;
 }
 
--- its directory
+-- an image with another directory is held
 pub directory_kept : (kind : FileKind) (m n : Model) (i : OpenImage) (d : OpenDirectory) (samples : List (List ℕ))
     (h : HoldsOpen kind m i samples) → HoldsValues n d.fields h.given → HoldsChunks kind n i samples
     → HoldsOpen kind n (with_directory_of i d) samples
@@ -107,7 +107,7 @@ tags_keep_open file m i samples t d h q = (
       (chunks_grown file.kind m n i samples (deeds_grow file.kind file.bytes m (call file).deeds) h.chunks),
 )
 
--- fields of such tags
+-- fields of tags that a page isn't read by
 extended_held : (m : Model) (given : Given) (d : OpenDirectory) (fields : List (ℕ × Field))
     → list_any (λ entry. is_page_tag entry.0) fields ≡ false → HoldsValues m d.fields given → HoldsValues m (extend_from d fields).fields given
 unfolding extend_from
@@ -123,7 +123,7 @@ fields_keep_open kind m i samples fields h q =
 
 -- ---- resolutions
 
--- some tags more, none of which a page is read by
+-- some more tags that a page isn't read by
 pub with_tags_kept : (values : List (Tag × Scalars)) (cause : Option TiffError) (file : FileState) (m : Model) (i next : OpenImage)
     (samples : List (List ℕ)) → list_any (λ v. is_page_tag (tag_number v.0)) values ≡ false → HoldsOpen file.kind m i samples
     → (by_cause cause (with_tags i values) file).answer ≡ Ok next

@@ -1,4 +1,4 @@
--- An image that is open is held still when it is set how it is cut and what extra samples it has.
+-- An open image stays held if calls set its layout and its extra samples.
 use Rattle.std.proofs.Common.{◌≡◌, ℕ, ◌+◌, ◌^◌, ◌<◌, ◌≤◌, inl, Bool, true, false, cond, List, [], ◌∷◌, length, get_or, Option, Some, None, Ok, refl, ap, sym, ◌∙◌, subst, arith}
 use Rattle.std.proofs.lemmas.Bool.{ltb-false, eqb-false}
 use Rattle.std.specs.Prelude.{◌==◌}
@@ -28,14 +28,14 @@ use Rattle.tiff_encode.proofs.Open.Held.{chunks_grown, set, unset_held}
 use Rattle.tiff_encode.proofs.Open.Tags.{both_held, caused_held, tags_adding, tag_held, tags_held, after}
 use Rattle.tiff_encode.proofs.Open.Kept.{form_kept}
 
--- ---- what its causes say
+-- ---- what the checks of these calls imply
 
--- no earlier fault
+-- no sink error precedes a call that nothing refuses
 pub fresh : (fault : Option SinkFault) (cause : Option TiffError) → unless_ended fault cause ≡ None → cause ≡ None
 fresh None cause h = h
 fresh (Some f) cause h = absurd cc
 
--- a test that was not met
+-- if the tests return no error, the first test isn't met and the others return none
 pub first_test : (a : Bool) (e : TiffError) (rest : Option TiffError) → cond a (Some e) rest ≡ None → (a ≡ false) × (rest ≡ None)
 first_test true e rest h = absurd cc
 first_test false e rest h = (refl, h)
@@ -43,13 +43,13 @@ first_test false e rest h = (refl, h)
 no_strip : Tile ≡ Strip → ⊥
 no_strip e = cc
 
--- a number that is not 0
+-- a number that isn't 0 is above 0
 pub above : (n : ℕ) → (n == 0) ≡ false → 0 < n
 above n h = let e = eqb-false n 0 h in omega (arith, e)
 
--- ---- an image with no chunk yet
+-- ---- an image without chunks
 
--- it has none, however it is cut
+-- an image without chunks holds its chunks in each layout
 none_held : (kind : FileKind) (m : Model) (i next : OpenImage) (samples : List (List ℕ)) → HoldsChunks kind m i samples
     → is_begun i ≡ false → next.chunks ≡ i.chunks → next.size ≡ i.size → HoldsChunks kind m next samples
 none_held kind m i next samples h b c s =
@@ -65,7 +65,7 @@ none_held kind m i next samples h b c s =
       fit = λ x l. h.fit x (subst (λ cs. In x cs) c l);
     }
 
--- one tag is written: what is held of the image with it
+-- one tag is written, and the image is held with it
 one_set : (call : OpenDirectory → OpenImage) (t : Tag) (values : Scalars) (cause : Option TiffError) (file : FileState) (m : Model)
     (i next : OpenImage) (samples : List (List ℕ)) (h : HoldsOpen file.kind m i samples)
     → (let write : Writing OpenImage = write_tag i.directory t (Ok (data_of values)) >>= (λ d. gives (call d)) in
@@ -130,9 +130,9 @@ extra_kept extra file m i next samples h a =
       chunks = none_held file.kind n i (call d) samples g tests.0 refl refl;
     })
 
--- ---- how it is cut
+-- ---- the layout of an image
 
--- by another form, that the values tell
+-- an image with another layout that its values describe
 cut_kept : (kind : FileKind) (m : Model) (i : OpenImage) (d : OpenDirectory) (form : ChunkLayout) (later : Given) (samples : List (List ℕ))
     → IsOpen i → HoldsChunks kind m i samples → is_begun i ≡ false → IsForm i.width form → HoldsValues m d.fields later
     → TellsOpen (record i { directory = d; form = form }) later
@@ -216,7 +216,7 @@ planar_kept file m i next samples h a =
       no_tile_counts = t.no_tile_counts;
     }))
 
--- a side of a tile
+-- a side of a tile isn't 0
 side : (n : ℕ) → is_no_side n ≡ false → 0 < n
 side n h = above n (neither (n == 0) _ h).0
 

@@ -1,4 +1,4 @@
--- What the calls leave that set what an open image is, and how it is cut.
+-- What calls leave that set the tags and the layout of an open image.
 use Rattle.std.proofs.Common.{◌≡◌, ℕ, ◌^◌, ◌<◌, List, [], ◌∷◌, None, Option, Result, Ok, Err, ap, sym, ◌∙◌, subst}
 use Rattle.tiff_base.specs.declared.error.TiffError.{TiffError}
 use Rattle.tiff_base.specs.declared.tags.ExtraSamples.{ExtraSamples}
@@ -21,11 +21,11 @@ use Rattle.tiff_encode.proofs.Keeping.{left_so}
 use Rattle.tiff_encode.proofs.Leaving.{ok_err}
 use Rattle.tiff_encode.proofs.Settings.{one_tag, one_adds, several_adds, side_tags}
 
--- A file whose end is a number of 64 bits, unless a write failed.
+-- The end of the file is a 64-bit number, unless a write failed.
 abbrev pub EndFits : FileState → Type 0
 EndFits file = file.fault ≡ None → end_of file < 2 ^ 64
 
--- what an answered call of an image did fits, and the fields of the image's directory are entries
+-- the changes of a call that succeeds fit, and the fields of the image's directory are entries
 abbrev pub DoneFits : FileState → Model → WriteOutcome OpenImage → Type 0
 DoneFits old m told = (x : OpenImage) → told.answer ≡ Ok x → end_of told.next < 2 ^ 64
     → DeedsFit old.kind old.bytes m told.deeds × AreEntries x.directory.fields
@@ -41,7 +41,7 @@ image_left view told (Ok x) old new m a f d l s e =
 image_left view told (Err fault) old new m a f d l s e =
     left_so view told (Err fault) old new m a (λ x h. absurd (ok_err (sym h))) s e
 
--- tags are written, unless there is a cause, and the image has the directory
+-- tags are written unless the checks refuse the call, and the image has their directory
 module _ {X : Type 0} (view : X → OpenImage) (r : Result X TiffError) (old new : FileState) (m : Model) (l : EndFits new)
     (s : Stands old.kind old.bytes m) where
   set_left : (cause : Option TiffError) (call : Writing OpenDirectory) (g : OpenDirectory → OpenImage)

@@ -1,4 +1,4 @@
--- What a model holds of a directory, it holds when a call writes tags.
+-- What a model holds of a directory stays held if a call writes tags.
 use Rattle.std.proofs.Common.{◌≡◌, ℕ, Bool, true, false, cond, List, [], ◌∷◌, ◌++◌, length, Option, Some, None, Result, Ok, Err, refl, ap, sym, ◌∙◌, subst, inl, arith}
 use Rattle.std.proofs.lemmas.List.{length-take-le, length-append}
 use Rattle.std.specs.Prelude.{replicate}
@@ -25,13 +25,13 @@ use Rattle.tiff_encode.proofs.Deeds.{model_joined, deeds_append, deeds_grow}
 use Rattle.tiff_encode.proofs.Joining.{IsAdding, Adds, adding, caused_adds, placed_adds, entry_adds, tag_adds, answers_adding, bind_adding}
 use Rattle.tiff_encode.proofs.Open.Held.{holds_grown, set, set_held, other_held}
 
--- ---- calls that were answered
+-- ---- calls that succeed
 
--- a fault is no answer
+-- an error is no success
 pub no_answer : {A : Type 0} {e : TiffError} {x : A} → let a : Result A TiffError = Err e in let b : Result A TiffError = Ok x in a ≡ b → ⊥
 no_answer h = cc
 
--- the first was, and then the second
+-- the first call succeeds, and then the second call
 going_on_held : {A B : Type 0} (r : Result A TiffError) (deeds : List Deed) (next : FileState) (rest : A → Writing B) (file : FileState)
     (m : Model) (P : Model → Type 0) (y : B) → next.kind ≡ file.kind → next.bytes ≡ bytes_after file.kind file.bytes deeds
     → (and_then r deeds next rest).answer ≡ Ok y
@@ -43,7 +43,7 @@ going_on_held (Ok x) deeds next rest file m P y k b h f =
     subst P ((λ i. model_after (k i) (b i) after (rest x next).deeds) ∙ sym (model_joined file.kind file.bytes m deeds (rest x next).deeds))
     (f x refl h)
 
--- What the second leaves, where the first appends, both leave.
+-- If the first call appends, both calls leave what the second call leaves.
 pub both_held : {A B : Type 0} (call : Writing A) (rest : A → Writing B) (file : FileState) (m : Model) (P : Model → Type 0) (y : B)
     → IsAdding (call file) file → ((call >>= rest) file).answer ≡ Ok y
     → ((x : A) → (call file).answer ≡ Ok x → (rest x (call file).next).answer ≡ Ok y
@@ -53,7 +53,7 @@ both_held call rest file m P y a h f =
     going_on_held (call file).answer (call file).deeds (call file).next rest file m P y (ap (λ s. s.kind) a.next)
     (ap (λ s. s.bytes) a.next ∙ sym (deeds_append file.kind file.bytes (call file).deeds a.appending)) h f
 
--- it was not refused
+-- nothing refuses the call
 pub caused_held : {A : Type 0} (cause : Option TiffError) (call : Writing A) (file : FileState) (m : Model) (P : Model → Type 0) (y : A)
     → (by_cause cause call file).answer ≡ Ok y
     → (cause ≡ None → (call file).answer ≡ Ok y → P (model_by file m (call file)))
@@ -61,21 +61,21 @@ pub caused_held : {A : Type 0} (cause : Option TiffError) (call : Writing A) (fi
 caused_held None call file m P y h f = f refl h
 caused_held (Some e) call file m P y h f = absurd (no_answer h)
 
--- ---- a value that is handed in
+-- ---- a value that a call writes
 
--- its value field has eight bytes
+-- the value field of a written value has eight bytes
 whole_by : (long : Bool) (offset : ℕ) (bytes : List ℕ) → length (cond long (le 8 offset) (filled_field bytes)) ≡ 8
 whole_by true offset bytes = length-le 0 8 offset
 whole_by false offset bytes =
     length-take-le 8 (bytes ++ replicate 8 0) (omega (arith, length-append bytes (replicate 8 0)))
 
--- the model has it
+-- the model contains the written value
 handed_by : (long : Bool) (kind : FileKind) (bytes : List ℕ) (m : Model) (h : HandedField) (more : List ℕ)
     → In h (model_after kind bytes m (cond long (Appended more ∷ Handed h ∷ []) (Handed h ∷ []) ++ [])).handed
 handed_by true kind bytes m h more = inl refl
 handed_by false kind bytes m h more = inl refl
 
--- a value is a field of the model
+-- a written value is a field of the model
 placed_held : (values : Scalars) (file : FileState) (m : Model) (field : Field) → (placed_field (data_of values) file).answer ≡ Ok field
     → HasValues (model_by file m (placed_field (data_of values) file)) field values
 placed_held values file m field h =
@@ -89,7 +89,7 @@ placed_held values file m field h =
       handed = handed_by (is_long file.kind v) file.kind file.bytes m (record { field = f; bytes = v.bytes }) v.bytes;
     })
 
--- so is one that is written
+-- a value written by `write_entry` is a field of the model
 entry_held : (values : Scalars) (file : FileState) (m : Model) (field : Field) → (write_entry (Ok (data_of values)) file).answer ≡ Ok field
     → HasValues (model_by file m (write_entry (Ok (data_of values)) file)) field values
 unfolding write_entry
@@ -99,7 +99,7 @@ entry_held values file m field h =
 
 -- ---- tags
 
--- the directory has the values of a tag that is written
+-- the directory holds the values of a written tag
 pub tag_held : (d : OpenDirectory) (t : Tag) (values : Scalars) (file : FileState) (m : Model) (given : Given) (next : OpenDirectory)
     → HoldsValues m d.fields given → (write_tag d t (Ok (data_of values)) file).answer ≡ Ok next
     → HoldsValues (model_by file m (write_tag d t (Ok (data_of values)) file)) next.fields (set given (tag_number t) (Some values))
@@ -115,12 +115,12 @@ tag_held d t values file m given next o h =
     subst (λ x. HoldsValues n x.fields later) (ok_inj (with_field d t field) next b)
     (set_held n d.fields given (tag_number t) field values (entry_held values file m field a) grown))
 
--- the values after some tags were written
+-- the values after some tags are written
 abbrev pub after : Given → List (Tag × Scalars) → Given
 after given [] = given
 after given (v ∷ values) = after (set given (tag_number v.0) (Some v.1)) values
 
--- the directory has them
+-- the directory holds the values of some written tags
 pub tags_held : (d : OpenDirectory) (values : List (Tag × Scalars)) (file : FileState) (m : Model) (given : Given) (next : OpenDirectory)
     → HoldsValues m d.fields given → (write_tags d values file).answer ≡ Ok next
     → HoldsValues (model_by file m (write_tags d values file)) next.fields (after given values)
@@ -132,7 +132,7 @@ tags_held d (v ∷ values) file m given next o h =
     (adding (call file) file (tag_adds d v.0 (Ok (data_of v.1)) file)) h
     (λ x a b. tags_held x values (call file).next (model_by file m (call file)) later next (tag_held d v.0 v.1 file m given x o a) b)
 
--- they append
+-- writing tags only appends
 pub tags_adding : (d : OpenDirectory) (values : List (Tag × Scalars)) (file : FileState) → IsAdding (write_tags d values file) file
 tags_adding d [] file = answers_adding (Ok d) file
 tags_adding d (v ∷ values) file =
@@ -141,14 +141,14 @@ tags_adding d (v ∷ values) file =
     (adding (call file) file (tag_adds d v.0 (Ok (data_of v.1)) file))
     (λ next _. tags_adding next values (call file).next)
 
--- some, and others after them
+-- the values after two lists of tags in sequence
 pub after_joined : (given : Given) (xs ys : List (Tag × Scalars)) → after given (xs ++ ys) ≡ after (after given xs) ys
 after_joined given [] ys = refl
 after_joined given (x ∷ xs) ys = after_joined (set given (tag_number x.0) (Some x.1)) xs ys
 
 -- ---- tags that a page isn't read by
 
--- the values stay, whatever a call writes for one
+-- the values stay held if a call writes a tag that a page isn't read by
 other_by : (call : Writing Field) (d : OpenDirectory) (t : Tag) (file : FileState) (m : Model) (given : Given) (next : OpenDirectory)
     → Adds (call file) file → is_page_tag (tag_number t) ≡ false → HoldsValues m d.fields given
     → ((call >>= (λ field. gives (with_field d t field))) file).answer ≡ Ok next
@@ -177,7 +177,7 @@ pub other_buf_held : (d : OpenDirectory) (t : Tag) (b : BufferRecord) (file : Fi
 unfolding write_tag_buf
 other_buf_held d t b file m given next q o h = other_by (write_entry_buf b) d t file m given next (buf_adds b file) q o h
 
--- several of them
+-- several tags that a page isn't read by
 pub others_held : (d : OpenDirectory) (values : List (Tag × Scalars)) (file : FileState) (m : Model) (given : Given) (next : OpenDirectory)
     → list_any (λ v. is_page_tag (tag_number v.0)) values ≡ false → HoldsValues m d.fields given → (write_tags d values file).answer ≡ Ok next
     → HoldsValues (model_by file m (write_tags d values file)) next.fields given

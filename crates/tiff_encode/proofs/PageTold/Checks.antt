@@ -1,4 +1,4 @@
--- A look-up of what an image says of itself tells the image's page.
+-- A look-up of the tags of an image defines the image's page.
 use Rattle.std.proofs.Common.{◌≡◌, ℕ, ◌+◌, ◌^◌, ◌<◌, ◌==◌, ◌⊎◌, List, [], ◌∷◌, length, map, get_or, true, false, Option, Some, None, Ok, refl, ap, sym, ◌∙◌, inl, inr, subst, arith}
 use Rattle.std.proofs.lemmas.Bool.{eq-eqb, ne_eqb, lt-ltb, le-leb}
 use Rattle.std.proofs.lemmas.List.{length-map}
@@ -33,16 +33,16 @@ use Rattle.tiff_encode.specs.Calls.{extended_by_first}
 use Rattle.tiff_encode.specs.Held.{IsWholeImage}
 use Rattle.tiff_encode.proofs.PageTold.Colors.{AreAlike, bits_repeated, formats_repeated, format_same, depth_same, image_alike, image_samples}
 
--- ---- what a look-up finds
+-- ---- the values that a look-up finds
 
--- where each chunk stands, and how many bytes it has there
+-- the offset of each chunk, and its number of bytes
 abbrev pub offsets_of : OpenImage → List ℕ
 offsets_of i = map (λ chunk. chunk.offset) i.chunks
 
 abbrev pub lengths_of : OpenImage → List ℕ
 lengths_of i = map (λ chunk. chunk.stored) i.chunks
 
--- strips, and no tiles
+-- the look-up finds strips and no tiles
 pub record FindsStrips (l : Look) (i : OpenImage) : Type 0 where
   pub rows : find into_u32 l tag.RowsPerStrip ≡ Ok (Some i.form.chunk_height)
   pub offsets : find into_u64_vec l tag.StripOffsets ≡ Ok (Some (offsets_of i))
@@ -52,7 +52,7 @@ pub record FindsStrips (l : Look) (i : OpenImage) : Type 0 where
   pub no_offsets : l.has tag.TileOffsets ≡ false
   pub no_counts : l.has tag.TileByteCounts ≡ false
 
--- tiles, and no strips
+-- the look-up finds tiles and no strips
 pub record FindsTiles (l : Look) (i : OpenImage) : Type 0 where
   pub wide : find into_u32 l tag.TileWidth ≡ Ok (Some i.form.chunk_width)
   pub high : find into_u32 l tag.TileLength ≡ Ok (Some i.form.chunk_height)
@@ -67,7 +67,7 @@ abbrev pub FindsChunks : ChunkType → Look → OpenImage → Type 0
 FindsChunks Strip l i = FindsStrips l i
 FindsChunks Tile l i = FindsTiles l i
 
--- the number that is found of how samples stand, and the chroma sizes that are
+-- the numbers that are found for the planar configuration and the chroma subsampling
 abbrev pub planar_found : PlanarConfiguration → Option ℕ
 planar_found Planar = Some 2
 planar_found Chunky = None
@@ -93,9 +93,9 @@ pub record FindsPage (l : Look) (i : OpenImage) : Type 0 where
   pub chroma : find into_u64_vec l tag.ChromaSubsampling ≡ Ok (chroma_found i.color.interpretation)
   pub chunks : FindsChunks i.form.chunk_type l i
 
--- ---- what is read of a number that was written
+-- ---- reading a written number of an enum
 
--- of a method
+-- a compression method is read back as written
 method_back : (x : CompressionMethod) → (x ≡ method.None) ⊎ (x ≡ method.PackBits)
     → kinds.method_of (method_number x) ≡ x
 unfolding kinds.method_of
@@ -103,7 +103,7 @@ method_back x e =
     let P : CompressionMethod → Type 0 = λ y. kinds.method_of (method_number y) ≡ y in
     elim e as (λ _. P x) [ inl a ↦ subst P (sym a) refl | inr b ↦ subst P (sym b) refl ]
 
--- of an interpretation
+-- a photometric interpretation is read back as written
 interpretation_back : (x : PhotometricInterpretation)
     → kinds.interpretation_of (interpretation_number x) ≡ Some x
 unfolding kinds.interpretation_of
@@ -118,14 +118,14 @@ interpretation_back meaning.CIELab = refl
 interpretation_back meaning.IccLab = refl
 interpretation_back meaning.ItuLab = refl
 
--- of a predictor
+-- a predictor is read back as written
 predictor_back : (x : Predictor) → kinds.predictor_of (predictor_number x) ≡ Some x
 unfolding kinds.predictor_of
 predictor_back predictor.None = refl
 predictor_back predictor.Horizontal = refl
 predictor_back predictor.FloatingPoint = refl
 
--- of extra samples
+-- extra samples are read back as written
 extra_back : (x : ExtraSamples) → unwrap_or (kinds.extra_of (extra_number x)) extra.Unspecified ≡ x
 unfolding kinds.extra_of
 extra_back extra.Unspecified = refl
@@ -137,13 +137,13 @@ extras_back : (xs : List ExtraSamples)
 extras_back [] = refl
 extras_back (x ∷ xs) = let a = extra_back x in let b = extras_back xs in λ i. a i ∷ b i
 
--- how samples stand
+-- a planar configuration is read back as written
 planar_back : (x : PlanarConfiguration) → planar_from (planar_found x) ≡ Ok x
 unfolding kinds.planar_of
 planar_back Chunky = refl
 planar_back Planar = refl
 
--- the chroma sizes
+-- the chroma subsampling is read back as written
 chroma_back : (x : PhotometricInterpretation) → subsampling_from (chroma_found x) ≡ Ok (encoded.subsampling_of x)
 chroma_back meaning.WhiteIsZero = refl
 chroma_back meaning.BlackIsZero = refl
@@ -156,52 +156,52 @@ chroma_back meaning.CIELab = refl
 chroma_back meaning.IccLab = refl
 chroma_back meaning.ItuLab = refl
 
--- ---- what each check of the page gives
+-- ---- what each check of the page returns
 
 -- a number above 0 is not 0
 some_is : (n : ℕ) → 0 < n → (n == 0) ≡ false
 some_is n h = ne_eqb n 0 (λ e. omega (arith, e, h))
 
--- the type of the chunks
+-- the check of the chunk type finds the type
 chunk_type_found : (l : Look) (i : OpenImage) (c : ChunkType) → FindsChunks c l i → chunk_type_in l ≡ Ok c
 unfolding chunk_type_in
 chunk_type_found l i Strip t = rw (t.has_offsets, t.has_counts, t.no_offsets, t.no_counts) refl
 chunk_type_found l i Tile t = rw (t.has_offsets, t.has_counts, t.no_offsets, t.no_counts) refl
 
 module _ (kind : FileKind) (l : Look) (i : OpenImage) (t : FindsPage l i) (w : IsWholeImage kind i) where
-  -- its samples
+  -- the samples of the color are alike
   abbrev alike : AreAlike i.color
   alike = image_alike kind i w
 
-  -- the sides
+  -- the check of the sides returns the width and the height
   size_is : size_in l ≡ Ok (i.width, i.height)
   unfolding size_in look.require
   size_is = rw (t.wide, t.high, some_is i.width w.wide.0, some_is i.height w.high.0) refl
 
-  -- the meaning of a sample
+  -- the check of the photometric interpretation returns the image's
   interpretation_is : interpretation_in l ≡ Ok i.color.interpretation
   unfolding interpretation_in
   interpretation_is = rw (t.interpretation, interpretation_back i.color.interpretation) refl
 
-  -- how chunks are packed
+  -- the check of the compression method returns the image's
   method_is : method_in l ≡ Ok i.method
   unfolding method_in
   method_is = rw t.packed_by (ap (λ x. Ok x) (method_back i.method w.packed_by))
 
-  -- the samples of a pixel
+  -- the check of the samples returns the number of samples of a pixel
   samples_is : samples_in l ≡ Ok (all_samples i)
   unfolding samples_in
   samples_is =
       let s = image_samples kind i w in
       rw (t.samples, some_is (all_samples i) (omega (arith, s))) refl
 
-  -- the extra ones
+  -- the check of the extra samples returns the image's
   extra_is : extra_in l (all_samples i) ≡ Ok i.extra
   unfolding extra_in
   extra_is =
       rw t.extra (rw t.extra_is (rw (extras_back i.extra, le-leb (length i.extra) (all_samples i) (omega arith)) refl))
 
-  -- their format
+  -- the check of the sample format returns the color's
   format_is : format_in l ≡ Ok (get_or i.color.formats 0 Void)
   unfolding format_in
   format_is =
@@ -210,7 +210,7 @@ module _ (kind : FileKind) (l : Look) (i : OpenImage) (t : FindsPage l i) (w : I
       rw t.formats (ap (λ ns. format_from (Some ns)) (formats_repeated i.color a e)
       ∙ format_same (a.more + e) a.format a.named a.small ∙ ap (λ fs. Ok (get_or fs 0 Void)) (sym a.formats))
 
-  -- their depth
+  -- the check of the depth returns the color's
   depth_is : depth_in l (all_samples i) ≡ Ok (get_or i.color.bits 0 0)
   unfolding depth_in
   depth_is =
@@ -220,30 +220,30 @@ module _ (kind : FileKind) (l : Look) (i : OpenImage) (t : FindsPage l i) (w : I
       ∙ depth_same (a.more + e) a.depth (all_samples i) a.some a.few (image_samples kind i w)
       ∙ ap (λ bs. Ok (get_or bs 0 0)) (sym a.bits))
 
-  -- how they are differenced
+  -- the check of the predictor returns the image's
   predictor_is : predictor_in l ≡ Ok i.predictor
   unfolding predictor_in
   predictor_is = rw (t.predicted_by, predictor_back i.predictor) refl
 
-  -- how they stand
+  -- the check of the planar configuration returns the image's
   planar_is : planar_in l ≡ Ok i.form.planar
   unfolding planar_in
   planar_is = rw t.planar (planar_back i.form.planar)
 
-  -- the chroma sizes
+  -- the check of the chroma subsampling returns that of the interpretation
   chroma_is : subsampling_in l ≡ Ok (encoded.subsampling_of i.color.interpretation)
   unfolding subsampling_in
   chroma_is = rw t.chroma (chroma_back i.color.interpretation)
 
-  -- the type of its chunks
+  -- the check of the chunk type returns the image's
   chunk_type_is : chunk_type_in l ≡ Ok i.form.chunk_type
   chunk_type_is = chunk_type_found l i i.form.chunk_type t.chunks
 
-  -- how often they cover the image
+  -- the number of planes of the image
   abbrev planes : ℕ
   planes = planes_of i.form.planar (all_samples i)
 
-  -- its chunks
+  -- the chunks of the image
   the_chunks : Chunks
   the_chunks = record {
     chunk_width = i.form.chunk_width;
@@ -252,7 +252,7 @@ module _ (kind : FileKind) (l : Look) (i : OpenImage) (t : FindsPage l i) (w : I
     byte_counts = lengths_of i;
   }
 
-  -- they are as many as are counted
+  -- the check of the number of chunks returns the chunks
   counted_is : chunks_counted i.width i.height planes the_chunks ≡ Ok the_chunks
   unfolding chunks_counted the_chunks
   counted_is =
@@ -265,7 +265,7 @@ module _ (kind : FileKind) (l : Look) (i : OpenImage) (t : FindsPage l i) (w : I
         lt-ltb count (2 ^ 32) w.count,
       ) refl
 
-  -- they are found
+  -- the check of the chunks finds the chunks
   chunks_found : (c : ChunkType) → FindsChunks c l i → (c ≡ Strip → i.form.chunk_width ≡ i.width)
       → chunks_in l c i.width i.height planes ≡ Ok the_chunks
   unfolding strips_in tiles_in look.require the_chunks
@@ -277,11 +277,11 @@ module _ (kind : FileKind) (l : Look) (i : OpenImage) (t : FindsPage l i) (w : I
       rw (f.wide, f.high, some_is i.form.chunk_width w.form.wide.0, some_is i.form.chunk_height w.form.high.0)
       (rw (f.offsets, f.byte_counts) counted_is)
 
-  -- so they are its chunks
+  -- the check of the chunks returns the chunks
   chunks_are : chunks_in l i.form.chunk_type i.width i.height planes ≡ Ok the_chunks
   chunks_are = chunks_found i.form.chunk_type t.chunks w.form.strips
 
-  -- the page
+  -- the look-up returns the image's page
   pub page_found : page_of l ≡ Ok (image_page i)
   unfolding page_of the_chunks
   page_found =

@@ -1,4 +1,4 @@
--- All samples of a named color type are of one depth and of one format.
+-- All samples of a named color type have the same depth and the same format.
 use Rattle.std.proofs.Common.{zero, suc, ◌≡◌, ℕ, ◌+◌, ◌^◌, ◌<◌, ◌==◌, List, ◌∷◌, ◌++◌, length, map, replicate, get_or, true, Some, Ok, refl, ap, sym, ◌∙◌, subst, arith, lit<}
 use Rattle.std.proofs.lemmas.Bool.{eq-eqb, ne_eqb}
 use Rattle.std.proofs.lemmas.List.{length-replicate}
@@ -25,7 +25,7 @@ use Rattle.tiff_encode.proofs.PageTold.Values.{AllBelow}
 
 -- ---- the samples of a color type
 
--- All samples of a color are of one depth and of one format, which has a name.
+-- All samples of a color have the same depth and the same sample format, which is a named one.
 pub record AreAlike (c : ColorTypeRecord) : Type 0 where
   pub more : ℕ
   pub depth : ℕ
@@ -37,7 +37,7 @@ pub record AreAlike (c : ColorTypeRecord) : Type 0 where
   pub named : kinds.format_of (format_number format) ≡ format
   pub small : format_number format < 2 ^ 16
 
--- so many whole numbers from 0 on, whole numbers, or floating ones
+-- colors of k unsigned integers, signed integers or floats
 uints : (x : PhotometricInterpretation) (k b : ℕ) → 0 < b → b < 2 ^ 8 → AreAlike (samples_of x (suc k) b Uint)
 unfolding kinds.format_of
 uints x k b p q = record {
@@ -80,7 +80,7 @@ floats x k b p q = record {
   small = lit< tt;
 }
 
--- the samples of each named color type
+-- the samples of each named color type are alike
 pub named_alike : (name : ColorTypeName) → AreAlike (color_type name)
 unfolding color_type
 named_alike n.Gray8 = uints meaning.BlackIsZero 0 8 (lit< tt) (lit< tt)
@@ -114,55 +114,55 @@ named_alike n.CMYK64Float = floats meaning.CMYK 3 64 (lit< tt) (lit< tt)
 named_alike n.YCbCr8 = uints meaning.YCbCr 2 8 (lit< tt) (lit< tt)
 named_alike n.CMYKA8 = uints meaning.CMYK 4 8 (lit< tt) (lit< tt)
 
--- ---- numbers that are all the same
+-- ---- equal numbers
 
--- so many of one, and some more
+-- a repeated value, extended by more of the same
 many_more : {A : Type 0} (k e : ℕ) (x : A) → replicate k x ++ replicate e x ≡ replicate (k + e) x
 many_more zero e x = let z : 0 + e ≡ e = omega arith in ap (λ n. replicate n x) (sym z)
 many_more (suc k) e x =
     let z : suc k + e ≡ suc (k + e) = omega arith in
     ap (λ xs. x ∷ xs) (many_more k e x) ∙ ap (λ n. replicate n x) (sym z)
 
--- what is repeated
+-- extending a repeated value by its first element repeats it more often
 repeated_is : {A : Type 0} (k e : ℕ) (x : A) → extended_by_first (replicate (suc k) x) e ≡ replicate (suc (k + e)) x
 repeated_is k e x = ap (λ xs. x ∷ xs) (many_more k e x)
 
--- their numbers
+-- mapping a repeated value repeats the mapped value
 map_replicate : {A B : Type 0} (g : A → B) (k : ℕ) (x : A) → map g (replicate k x) ≡ replicate k (g x)
 map_replicate g zero x = refl
 map_replicate g (suc k) x = ap (λ xs. g x ∷ xs) (map_replicate g k x)
 
--- the depths of a color's samples, and of some more
+-- the depths of a color's samples, extended by some more
 pub bits_repeated : (c : ColorTypeRecord) (a : AreAlike c) (e : ℕ)
     → extended_by_first c.bits e ≡ replicate (suc (a.more + e)) a.depth
 bits_repeated c a e = ap (λ bs. extended_by_first bs e) a.bits ∙ repeated_is a.more e a.depth
 
--- the numbers of their formats
+-- the format numbers of a color's samples, extended by some more
 pub formats_repeated : (c : ColorTypeRecord) (a : AreAlike c) (e : ℕ)
     → map format_number (extended_by_first c.formats e) ≡ replicate (suc (a.more + e)) (format_number a.format)
 formats_repeated c a e =
     ap (λ fs. map format_number (extended_by_first fs e)) a.formats ∙ ap (map format_number) (repeated_is a.more e a.format)
     ∙ map_replicate format_number (suc (a.more + e)) a.format
 
--- each is the first
+-- each number of a repeated list is the first
 all_same : (k x : ℕ) → list_all (λ m. m == x) (replicate k x) ≡ true
 all_same zero x = refl
 all_same (suc k) x = rw (eq-eqb x x refl) (all_same k x)
 
--- each is below a limit
+-- each number of a repeated list is below a limit
 all_below : (k x limit i : ℕ) → x < limit → get_or (replicate k x) i 0 < limit
 all_below zero x limit i h = omega (arith, h)
 all_below (suc k) x limit zero h = h
 all_below (suc k) x limit (suc i) h = all_below k x limit i h
 
--- a few small numbers that are all the same are few and small
+-- a short list of one small number is short and small
 pub same_few : (k x : ℕ) (ns : List ℕ) → ns ≡ replicate k x → k < 2 ^ 16 → x < 2 ^ 16
     → AllBelow (2 ^ 16) ns × (length ns < 2 ^ 32)
 same_few k x ns e few small =
     let n : length ns ≡ k = ap length e ∙ length-replicate k x in
     (subst (AllBelow (2 ^ 16)) (sym e) (λ j. all_below k x (2 ^ 16) j small), omega (arith, n, few))
 
--- one format for all
+-- one sample format for all samples
 pub format_same : (k : ℕ) (format : SampleFormat) → kinds.format_of (format_number format) ≡ format
     → format_number format < 2 ^ 16
     → format_from (Some (replicate (suc k) (format_number format))) ≡ Ok format
@@ -171,7 +171,7 @@ format_same k format named small =
     rw (all_fit tag.SampleFormat (2 ^ 16) (replicate (suc k) x) (λ i. all_below (suc k) x (2 ^ 16) i small))
     (rw (all_same (suc k) x) (ap (λ y. Ok y) named))
 
--- one depth for all
+-- one depth for all samples
 pub depth_same : (k depth samples : ℕ) → 0 < depth → depth < 2 ^ 8 → suc k ≡ samples
     → depth_from samples (Some (replicate (suc k) depth)) ≡ Ok depth
 depth_same k depth samples p q s =
@@ -184,11 +184,11 @@ depth_same k depth samples p q s =
 
 -- ---- the samples of an image
 
--- they are alike
+-- the samples of an image's color are alike
 pub image_alike : (kind : FileKind) (i : OpenImage) → IsWholeImage kind i → AreAlike i.color
 image_alike kind i w = subst AreAlike (sym w.color) (named_alike w.name)
 
--- all samples of a pixel
+-- the number of samples of a pixel
 pub image_samples : (kind : FileKind) (i : OpenImage) (w : IsWholeImage kind i)
     → suc ((image_alike kind i w).more + length i.extra) ≡ all_samples i
 image_samples kind i w =

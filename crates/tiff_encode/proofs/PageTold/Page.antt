@@ -1,4 +1,4 @@
--- A directory that holds what an image says of itself is the image's page.
+-- A directory that holds the tags of an image is read as the image's page.
 use Rattle.std.proofs.Common.{zero, suc, ◌≡◌, ℕ, ◌+◌, ◌^◌, ◌<◌, ◌⊎◌, List, [], ◌∷◌, length, map, true, Option, Some, None, Result, Ok, refl, ap, sym, ◌∙◌, inl, inr, subst, arith, lit<}
 use Rattle.std.proofs.lemmas.List.{length-map}
 use Rattle.std.specs.Prelude.{unwrap_or}
@@ -50,13 +50,13 @@ use Rattle.tiff_encode.proofs.PageTold.Checks.{FindsChunks, planar_found, chroma
 
 -- ---- the numbers of enums
 
--- of a method that is written
+-- the number of a supported compression method is small
 method_small : (x : CompressionMethod) → (x ≡ method.None) ⊎ (x ≡ method.PackBits) → method_number x < 2 ^ 16
 method_small x e =
     let P : CompressionMethod → Type 0 = λ y. method_number y < 2 ^ 16 in
     elim e as (λ _. P x) [ inl a ↦ subst P (sym a) (lit< tt) | inr b ↦ subst P (sym b) (lit< tt) ]
 
--- of an interpretation
+-- the number of a photometric interpretation is small
 interpretation_small : (x : PhotometricInterpretation) → interpretation_number x < 2 ^ 16
 interpretation_small meaning.WhiteIsZero = lit< tt
 interpretation_small meaning.BlackIsZero = lit< tt
@@ -69,19 +69,19 @@ interpretation_small meaning.CIELab = lit< tt
 interpretation_small meaning.IccLab = lit< tt
 interpretation_small meaning.ItuLab = lit< tt
 
--- of a predictor
+-- the number of a predictor is small
 predictor_small : (x : Predictor) → predictor_number x < 2 ^ 16
 predictor_small predictor.None = lit< tt
 predictor_small predictor.Horizontal = lit< tt
 predictor_small predictor.FloatingPoint = lit< tt
 
--- of an extra sample
+-- the number of an extra sample is small
 extra_small : (x : ExtraSamples) → extra_number x < 2 ^ 16
 extra_small extra.Unspecified = lit< tt
 extra_small extra.AssociatedAlpha = lit< tt
 extra_small extra.UnassociatedAlpha = lit< tt
 
--- chroma sizes are given for YCbCr, and no other
+-- only YCbCr has chroma subsampling
 chroma_parts : (x : PhotometricInterpretation)
     → ((chroma_given x ≡ Some (u16s (1 ∷ 1 ∷ []))) × (chroma_found x ≡ Some (1 ∷ 1 ∷ [])))
     ⊎ ((chroma_given x ≡ None) × (chroma_found x ≡ None))
@@ -96,7 +96,7 @@ chroma_parts meaning.CIELab = inr (refl, refl)
 chroma_parts meaning.IccLab = inr (refl, refl)
 chroma_parts meaning.ItuLab = inr (refl, refl)
 
--- each of the chroma sizes is small
+-- each number of the chroma subsampling that the encoder writes is small
 ones_below : AllBelow (2 ^ 16) (1 ∷ 1 ∷ [])
 ones_below zero = lit< tt
 ones_below (suc zero) = lit< tt
@@ -107,14 +107,14 @@ some_offsets : (kind : FileKind) → 0 < 256 ^ offset_len kind
 some_offsets Classic = lit< tt
 some_offsets Big = lit< tt
 
--- ---- what an image says of itself is found
+-- ---- the look-up finds the tags of an image
 
 module _ (kind : FileKind) (file : List ℕ) (m : Model) (fields : FinMap nat_cmp Field) (given : Given)
     (s : Stands kind file m) (h : HoldsValues m fields given) where
   abbrev l : Look
   l = the_look kind file m fields given s h
 
-  -- how samples stand
+  -- the look-up finds the planar configuration
   planar_is : (x : PlanarConfiguration) → given (tag_number tag.PlanarConfiguration) ≡ planar_given x
       → find into_u16 l tag.PlanarConfiguration ≡ Ok (planar_found x)
   unfolding data_of
@@ -123,7 +123,7 @@ module _ (kind : FileKind) (file : List ℕ) (m : Model) (fields : FinMap nat_cm
   planar_is Chunky g =
       none_found into_u16 l tag.PlanarConfiguration (nothing_found kind file m fields given s h tag.PlanarConfiguration refl g).0
 
-  -- the chroma sizes
+  -- the look-up finds the chroma subsampling
   chroma_is : (x : PhotometricInterpretation) → given (tag_number tag.ChromaSubsampling) ≡ chroma_given x
       → find into_u64_vec l tag.ChromaSubsampling ≡ Ok (chroma_found x)
   unfolding data_of
@@ -136,7 +136,7 @@ module _ (kind : FileKind) (file : List ℕ) (m : Model) (fields : FinMap nat_cm
         ∙ ap (λ o. Ok o) (sym b.1)
   ]
 
-  -- the extra samples
+  -- the look-up finds the extra samples
   extra_is : (xs : List ExtraSamples) → length xs < 2 ^ 32 → ExtraGiven xs (given (tag_number tag.ExtraSamples))
       → (ns : Option (List ℕ)) × ((find into_u16_vec l tag.ExtraSamples ≡ Ok ns) × (unwrap_or ns [] ≡ map extra_number xs))
   unfolding data_of
@@ -166,15 +166,15 @@ module _ (kind : FileKind) (file : List ℕ) (m : Model) (fields : FinMap nat_cm
       ]
 
   module _ (i : OpenImage) (w : IsWholeImage kind i) (t : TellsImage kind i given) where
-    -- its samples
+    -- the samples of the color are alike
     abbrev alike : AreAlike i.color
     alike = image_alike kind i w
 
-    -- all samples of a pixel are few
+    -- the number of all samples of a pixel is small
     few_samples : suc (alike.more + length i.extra) < 2 ^ 16
     few_samples = let n = image_samples kind i w in let f = w.few in omega (arith, n, f)
 
-    -- the depths
+    -- the look-up finds the depths
     bits_is : find into_u64_vec l tag.BitsPerSample ≡ Ok (Some (extended_by_first i.color.bits (length i.extra)))
     unfolding data_of
     bits_is =
@@ -185,7 +185,7 @@ module _ (kind : FileKind) (file : List ℕ) (m : Model) (fields : FinMap nat_cm
         let x = same_few (suc (a.more + e)) a.depth ns (bits_repeated i.color a e) few_samples (omega (arith, small)) in
         shorts_found kind file m fields given s h tag.BitsPerSample (u16s ns) ns refl t.bits refl x.0 x.1
 
-    -- the formats
+    -- the look-up finds the sample formats
     formats_is : find into_u64_vec l tag.SampleFormat
         ≡ Ok (Some (map format_number (extended_by_first i.color.formats (length i.extra))))
     unfolding data_of
@@ -198,7 +198,7 @@ module _ (kind : FileKind) (file : List ℕ) (m : Model) (fields : FinMap nat_cm
         shorts_found kind file m fields given s h tag.SampleFormat (formats fs) ns refl t.sample_formats
         (as_numbers format_number fs) x.0 x.1
 
-    -- numbers of its chunks
+    -- the look-up finds numbers of the chunks
     chunk_numbers : (g : Chunk → ℕ) → ((c : Chunk) → In c i.chunks → g c < 256 ^ offset_len kind)
         → (q : Tag) → is_page_tag (tag_number q) ≡ true → given (tag_number q) ≡ Some (offset_values kind (map g i.chunks))
         → (find into_u64_vec l q ≡ Ok (Some (map g i.chunks))) × (l.has q ≡ true)
@@ -209,7 +209,7 @@ module _ (kind : FileKind) (file : List ℕ) (m : Model) (fields : FinMap nat_cm
         offsets_found kind file m fields given s h q (map g i.chunks) p e
         (each_below g (256 ^ offset_len kind) i.chunks (some_offsets kind) b) (omega (arith, n, c, few))
 
-    -- its chunks
+    -- the look-up finds the chunks
     chunks_is : (c : ChunkType) → TellsChunks c kind i given → FindsChunks c l i
     chunks_is Strip u =
         let o = chunk_numbers (λ chunk. chunk.offset) (λ c j. (w.fit c j).0) tag.StripOffsets refl u.offsets in
@@ -237,7 +237,7 @@ module _ (kind : FileKind) (file : List ℕ) (m : Model) (fields : FinMap nat_cm
           no_counts = (nothing_found kind file m fields given s h tag.StripByteCounts refl u.no_byte_counts).1;
         }
 
-    -- all that it says
+    -- the look-up finds all tags of the image
     image_found : FindsPage l i
     unfolding data_of
     image_found =
@@ -265,7 +265,7 @@ module _ (kind : FileKind) (file : List ℕ) (m : Model) (fields : FinMap nat_cm
           chunks = chunks_is i.form.chunk_type t.chunks;
         }
 
--- a directory that holds what an image says of itself is the image's page
+-- a directory that holds the tags of an image is read as the image's page
 pub page_told : PageTold
 unfolding look_in
 page_told kind file m d fields given i s in_model is holds w t =

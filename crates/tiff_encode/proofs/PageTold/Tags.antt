@@ -1,4 +1,4 @@
--- What is found at a tag is what was given for it.
+-- The look-up of a tag finds the values that the tag has.
 use Rattle.std.proofs.Common.{zero, suc, ◌≡◌, ℕ, ◌^◌, ◌<◌, List, [], ◌∷◌, length, map, true, false, Option, Some, None, Result, Ok, refl, ap, sym, ◌∙◌, inl, inr, subst, arith, lit<}
 use Rattle.std.proofs.lemmas.List.{length-map}
 use Rattle.std.proofs.lemmas.List.Folds.{flat_map-map}
@@ -31,9 +31,9 @@ use Rattle.tiff_encode.specs.Deeds.{standing_field, standing_fields}
 use Rattle.tiff_encode.specs.Held.{is_page_tag, Given, HasValues, HoldsAt, HoldsValues}
 use Rattle.tiff_encode.proofs.PageTold.Values.{get_standing, standing_bytes, AllBelow, joint, AreNumbers, value_read, are_shorts, are_longs, are_long8s}
 
--- ---- what a directory holds at a tag
+-- ---- what a directory holds for a tag
 
--- the field of a tag that was given values
+-- a tag with values has a field
 held : (m : Model) (found : Option Field) (given : Option Scalars) (values : Scalars) → given ≡ Some values
     → HoldsAt m found given → (e : Field) × ((found ≡ Some e) × HasValues m e values)
 held m (Some e) (Some v) values g h =
@@ -43,51 +43,51 @@ held m (Some e) None values g h = absurd h
 held m None (Some v) values g h = absurd h
 held m None None values g h = absurd cc
 
--- a tag that was given none has no field
+-- a tag without values has no field
 not_held : (m : Model) (found : Option Field) (given : Option Scalars) → given ≡ None → HoldsAt m found given
     → found ≡ None
 not_held m found (Some v) g h = absurd cc
 not_held m (Some e) None g h = absurd h
 not_held m None None g h = refl
 
--- a field as it stands has its type and its count
+-- a field in its entry has its type and its count
 standing_parts : (kind : FileKind) (e : Field)
     → ((standing_field kind e).field_type ≡ e.field_type) × ((standing_field kind e).count ≡ e.count)
 standing_parts Classic e = (refl, refl)
 standing_parts Big e = (refl, refl)
 
--- a value that is looked up is the field's
+-- the look-up of a value finds the value of the field
 value_found : (value : Field → Result Datum TiffError) (found : Option Field) (e : Field) (d : Datum)
     → found ≡ Some e → value e ≡ Ok d → if_found value found ≡ Ok (Some d)
 value_found value found e d a b = rw (a, b) refl
 
 -- ---- what is found by a conversion
 
--- one number
+-- the look-up finds one number
 pub one_found : (into : Datum → Result ℕ TiffError) (l : Look) (t : Tag) (d : Datum) (n : ℕ) → l.value t ≡ Ok (Some d)
     → into d ≡ Ok n → find into l t ≡ Ok (Some n)
 unfolding find
 one_found into l t d n a b = rw (a, b) refl
 
--- some numbers
+-- the look-up finds several numbers
 pub some_found : (into : Datum → Result (List ℕ) TiffError) (l : Look) (t : Tag) (d : Datum) (ns : List ℕ)
     → l.value t ≡ Ok (Some d) → into d ≡ Ok ns → find into l t ≡ Ok (Some ns)
 unfolding find
 some_found into l t d ns a b = rw (a, b) refl
 
--- none
+-- the look-up finds nothing
 pub none_found : {A : Type 0} (into : Datum → Result A TiffError) (l : Look) (t : Tag) → l.value t ≡ Ok None
     → find into l t ≡ Ok None
 unfolding find
 none_found into l t a = rw a refl
 
--- each of some numbers
+-- the conversion of each number returns the number
 each_back : (into : Datum → Result ℕ TiffError) (one : ℕ → Datum) → ((n : ℕ) → into (one n) ≡ Ok n) → (ns : List ℕ)
     → each_item into (f.datum_list_of (map one ns)) ≡ Ok ns
 each_back into one b [] = refl
 each_back into one b (n ∷ ns) = rw (b n, each_back into one b ns) refl
 
--- some numbers, or one alone
+-- the conversion of one number or of several returns a list
 pub list_back : (into : Datum → Result ℕ TiffError) (all : Datum → Result (List ℕ) TiffError) (one : ℕ → Datum)
     → ((n : ℕ) → into (one n) ≡ Ok n) → ((n : ℕ) → all (one n) ≡ Ok (n ∷ []))
     → ((ds : DatumList) → all (f.list ds) ≡ each_item into ds) → (ns : List ℕ) → all (joint (map one ns)) ≡ Ok ns
@@ -98,19 +98,19 @@ list_back into all one a b c (n ∷ m ∷ ns) =
 
 -- ---- lists of numbers
 
--- one is below a limit
+-- a list with one number below a limit
 one_below : (n limit : ℕ) → n < limit → AllBelow limit (n ∷ [])
 one_below n limit h zero = h
 one_below n limit h (suc i) = omega (arith, h)
 
--- so are what each of a list gives, where that is
+-- the numbers of a list's elements are below a limit if each one is
 pub each_below : {A : Type 0} (g : A → ℕ) (limit : ℕ) (xs : List A) → 0 < limit → ((x : A) → In x xs → g x < limit)
     → AllBelow limit (map g xs)
 each_below g limit [] p h i = p
 each_below g limit (x ∷ xs) p h zero = h x (inl refl)
 each_below g limit (x ∷ xs) p h (suc i) = each_below g limit xs p (λ y j. h y (inr j)) i
 
--- enums of tags are written as their numbers
+-- enums of tags are written as numbers
 pub as_numbers : {A : Type 0} (g : A → ℕ) (xs : List A)
     → data_by SHORT (λ x. le 2 (g x)) xs ≡ data_by SHORT (le 2) (map g xs)
 as_numbers g xs =
@@ -118,17 +118,17 @@ as_numbers g xs =
     let b = sym (flat_map-map (le 2) g xs) in
     λ i. record { field_type = SHORT; count = c i; bytes = b i }
 
--- the values of a list of one type are these numbers
+-- the values are a list of numbers of one type
 abbrev pub AreBy : Scalars → «Type» → List ℕ → Type 0
 AreBy values type ns = data_of values ≡ data_by type (le (type_size type)) ns
 
 module _ (kind : FileKind) (file : List ℕ) (m : Model) (fields : FinMap nat_cmp Field) (given : Given)
     (s : Stands kind file m) (h : HoldsValues m fields given) where
-  -- the look-up in the fields as they stand
+  -- the look-up in the fields as the entries contain them
   abbrev pub the_look : Look
   the_look = look_up_in (field_value kind LittleEndian file unlimited) (standing_fields kind fields)
 
-  -- a tag that was given numbers has them
+  -- the look-up finds the numbers of a tag
   pub numbers_found : (t : Tag) (values : Scalars) (type : «Type») (limit : ℕ) (one : ℕ → Datum) (ns : List ℕ)
       → AreNumbers type limit one → is_page_tag (tag_number t) ≡ true → given (tag_number t) ≡ Some values
       → AreBy values type ns → AllBelow limit ns → length ns < 2 ^ 32
@@ -151,7 +151,7 @@ module _ (kind : FileKind) (file : List ℕ) (m : Model) (fields : FinMap nat_cm
         ap is_some stood,
       )
 
-  -- a tag that was given none has none
+  -- the look-up finds nothing for a tag without values
   pub nothing_found : (t : Tag) → is_page_tag (tag_number t) ≡ true → given (tag_number t) ≡ None
       → (the_look.value t ≡ Ok None) × (the_look.has t ≡ false)
   nothing_found t p g =
@@ -161,7 +161,7 @@ module _ (kind : FileKind) (file : List ℕ) (m : Model) (fields : FinMap nat_cm
       ∙ ap (option_map (standing_field kind)) (not_held m (get fields q) (given q) g (h q p)) in
       (ap (if_found (field_value kind LittleEndian file unlimited)) stood, ap is_some stood)
 
-  -- one SHORT
+  -- the look-up finds one SHORT
   pub short_found : (t : Tag) (values : Scalars) (n : ℕ) → is_page_tag (tag_number t) ≡ true
       → given (tag_number t) ≡ Some values → AreBy values SHORT (n ∷ []) → n < 2 ^ 16
       → find into_u16 the_look t ≡ Ok (Some n)
@@ -169,7 +169,7 @@ module _ (kind : FileKind) (file : List ℕ) (m : Model) (fields : FinMap nat_cm
       one_found into_u16 the_look t (short n) n
       (numbers_found t values SHORT (2 ^ 16) short (n ∷ []) are_shorts p g d (one_below n (2 ^ 16) b) (lit< tt)).0 refl
 
-  -- one LONG
+  -- the look-up finds one LONG
   pub long_found : (t : Tag) (n : ℕ) → is_page_tag (tag_number t) ≡ true
       → given (tag_number t) ≡ Some (u32s (n ∷ [])) → n < 2 ^ 32
       → find into_u32 the_look t ≡ Ok (Some n)
@@ -179,7 +179,7 @@ module _ (kind : FileKind) (file : List ℕ) (m : Model) (fields : FinMap nat_cm
       (numbers_found t (u32s (n ∷ [])) LONG (2 ^ 32) unsigned (n ∷ []) are_longs p g refl (one_below n (2 ^ 32) b) (lit< tt)).0
       refl
 
-  -- some SHORTs
+  -- the look-up finds several SHORTs
   pub shorts_found : (t : Tag) (values : Scalars) (ns : List ℕ) → is_page_tag (tag_number t) ≡ true
       → given (tag_number t) ≡ Some values → AreBy values SHORT ns → AllBelow (2 ^ 16) ns → length ns < 2 ^ 32
       → find into_u64_vec the_look t ≡ Ok (Some ns)
@@ -188,7 +188,7 @@ module _ (kind : FileKind) (file : List ℕ) (m : Model) (fields : FinMap nat_cm
       (numbers_found t values SHORT (2 ^ 16) short ns are_shorts p g d b few).0
       (list_back into_u64 into_u64_vec short (λ n. refl) (λ n. refl) (λ ds. refl) ns)
 
--- offsets, or lengths, in a file of a kind
+-- the look-up finds offsets, or numbers of bytes, in a file of a kind
 pub offsets_found : (kind : FileKind) (file : List ℕ) (m : Model) (fields : FinMap nat_cmp Field) (given : Given)
     (s : Stands kind file m) (h : HoldsValues m fields given) (t : Tag) (ns : List ℕ)
     → is_page_tag (tag_number t) ≡ true → given (tag_number t) ≡ Some (offset_values kind ns)

@@ -1,4 +1,4 @@
--- The values of a directory's tags are those that were handed in for them.
+-- The values of a directory's tags are read back as written.
 use Rattle.std.proofs.Common.{suc, ◌≡◌, ℕ, ◌^◌, ◌/◌, ◌<◌, ◌≤◌, ◌==◌, ◌||◌, List, [], ◌∷◌, ◌++◌, length, map, take, get_or, Bool, true, false, not, cond, leb, ltb, Option, Some, Result, Ok, Err, refl, ap, sym, ◌∙◌, inl, inr, arith, append-nil}
 use Rattle.std.proofs.lemmas.Bool.{leb-true, le-leb, ne_eqb}
 use Rattle.std.proofs.Math.Bool.{or-true}
@@ -32,15 +32,15 @@ use Rattle.tiff_encode.specs.FileBytes.{offset_len}
 use Rattle.tiff_encode.specs.Deeds.{standing_field, standing_fields}
 use Rattle.tiff_encode.proofs.Slices.{ok_bind, ok_inj, length-le, number-le}
 
--- ---- a field as it stands
+-- ---- a field in its entry
 
--- one of two entries, each changed
+-- one of two entries, each of which is mapped
 changed : {X : Type 0} (g : X → X) (b : Bool) (x : X) (o p : Option X) → o ≡ option_map g p
     → cond b (Some (g x)) o ≡ option_map g (cond b (Some x) p)
 changed g true x o p e = refl
 changed g false x o p e = e
 
--- what is found at a key, where each entry was changed
+-- a key is found in a mapped list with its mapped value
 find_changed : {X : Type 0} (g : X → X) (q : ℕ) (es : List (ℕ × X))
     → find nat_cmp q (map (λ e. (e.0, g e.1)) es) ≡ option_map g (find nat_cmp q es)
 find_changed g q [] = refl
@@ -48,7 +48,7 @@ find_changed g q (e ∷ es) =
     changed g (is_eq (nat_cmp q e.0)) e.1 (find nat_cmp q (map (λ x. (x.0, g x.1)) es)) (find nat_cmp q es)
     (find_changed g q es)
 
--- the field of a tag, as it stands
+-- the field of a tag as its entry contains it
 pub get_standing : (kind : FileKind) (fields : FinMap nat_cmp Field) (q : ℕ)
     → get (standing_fields kind fields) q ≡ option_map (standing_field kind) (get fields q)
 get_standing kind fields q =
@@ -56,13 +56,13 @@ get_standing kind fields q =
     ∙ find_changed (standing_field kind) q (entries fields)
     ∙ ap (option_map (standing_field kind)) (sym (get-entries fields q))
 
--- the first bytes of four that stand, filled up
+-- the first bytes of a four-byte value field, padded with zeros, are those of the field
 front_stands : (n : ℕ) (v : List ℕ) → length v ≡ 8 → n ≤ 4 → take n (take 4 v ++ (0 ∷ 0 ∷ 0 ∷ 0 ∷ [])) ≡ take n v
 front_stands n v l h =
     take-append-le n (take 4 v) (0 ∷ 0 ∷ 0 ∷ 0 ∷ []) (omega (arith, length-take-le 4 v (omega (arith, l))))
     ∙ take-take n 4 v h
 
--- the offset that they hold
+-- the offset in a four-byte value field is the offset of the field
 offset_stands : (v : List ℕ) → length v ≡ 8
     → number LittleEndian w32 (take 4 v ++ (0 ∷ 0 ∷ 0 ∷ 0 ∷ [])) ≡ number LittleEndian w32 v
 unfolding number
@@ -72,12 +72,12 @@ offset_stands (a ∷ b ∷ []) l = absurd (omega (arith, l))
 offset_stands (a ∷ b ∷ c ∷ []) l = absurd (omega (arith, l))
 offset_stands (a ∷ b ∷ c ∷ d ∷ v) l = refl
 
--- an answer where a test holds
+-- a choice by a test is the same if the values are equal where the test holds
 where_true : {A : Type 0} (b : Bool) (x y z : A) → (b ≡ true → x ≡ y) → cond b x z ≡ cond b y z
 where_true true x y z e = e refl
 where_true false x y z e = refl
 
--- the bytes of a field are those of the field as it stands
+-- the bytes of a field are the same in its entry
 pub standing_bytes : (kind : FileKind) (file : List ℕ) (e : Field) → length e.value ≡ 8
     → field_bytes kind LittleEndian file (standing_field kind e) ≡ field_bytes kind LittleEndian file e
 unfolding field_bytes
@@ -100,12 +100,12 @@ standing_bytes Big file e l = refl
 abbrev pub AllBelow : ℕ → List ℕ → Type 0
 AllBelow limit ns = (i : ℕ) → get_or ns i 0 < limit
 
--- the value that some others are: one alone, or their list
+-- the value of a list of values: the only one, or the list
 abbrev pub joint : List Datum → Datum
 joint (d ∷ []) = d
 joint ds = f.list (datum_list_of ds)
 
--- numbers that were written are read
+-- numbers are read back as written
 items_read : (k limit : ℕ) (read : List ℕ → Datum) (one : ℕ → Datum)
     → ((n : ℕ) → n < limit → read (le k n) ≡ one n) → (ns : List ℕ) → AllBelow limit ns
     → items read k (length ns) (flat_map (le k) ns) ≡ map one ns
@@ -118,7 +118,7 @@ items_read k limit read one back (n ∷ ns) b =
     ∙ items_read k limit read one back ns (λ i. b (suc i)) in
     items-first read k (length ns) (flat_map (le k) (n ∷ ns)) ∙ (λ i. x i ∷ y i)
 
--- a type of numbers from 0 on, of some bytes each, and the value that one of them is
+-- a type of unsigned numbers, the number of bytes of each, and the value of one
 pub record AreNumbers (type : «Type») (limit : ℕ) (one : ℕ → Datum) : Type 0 where
   pub alone : (n : ℕ) → n < limit → item type LittleEndian (le (type_size type) n) ≡ one n
   pub among : (inline : Bool) (n : ℕ) → n < limit
@@ -127,7 +127,7 @@ pub record AreNumbers (type : «Type») (limit : ℕ) (one : ℕ → Datum) : Ty
       → value_from inline type LittleEndian n bytes ≡ Ok (numbers inline type LittleEndian n bytes)
   pub free : (n : ℕ) → n < 2 ^ 32 → is_allowed unlimited type n ≡ true
 
--- numbers of a type that were written are its values
+-- numbers of a type are read as its values
 numbers_read : (type : «Type») (limit : ℕ) (one : ℕ → Datum) (inline : Bool) (ns : List ℕ) → AreNumbers type limit one
     → AllBelow limit ns
     → numbers inline type LittleEndian (length ns) (flat_map (le (type_size type)) ns) ≡ joint (map one ns)
@@ -145,7 +145,7 @@ numbers_read type limit one inline (n ∷ m ∷ ns) a b =
 
 -- ---- the value of a field
 
--- a value by tests: of none, of too many bytes, of bytes in the entry, of allowed ones elsewhere
+-- a value chosen by tests: no values, too many bytes, bytes in the entry, allowed bytes elsewhere
 by_tests : (none few inline allowed : Bool) (empty value : Datum) (front bytes : List ℕ)
     (far : Result (List ℕ) TiffError) (near elsewhere : List ℕ → Result Datum TiffError)
     → (none ≡ true → empty ≡ value) → allowed ≡ true
@@ -161,14 +161,14 @@ by_tests false true false false empty value front bytes far near elsewhere a b c
 by_tests false true false true empty value front bytes far near elsewhere a b c d e =
     ok_bind far elsewhere bytes value c e
 
--- no numbers are an empty list
+-- an empty list of numbers is an empty list of values
 empty_joint : (one : ℕ → Datum) (ns : List ℕ) → (length ns == 0) ≡ true → f.list (datum_list_of []) ≡ joint (map one ns)
 empty_joint one [] e = refl
 empty_joint one (n ∷ ns) e =
     let some : (length (n ∷ ns) == 0) ≡ false = ne_eqb (length (n ∷ ns)) 0 (λ z. omega (arith, z)) in
     absurd (cc (some, e))
 
--- the value of a field whose bytes are those of numbers
+-- the value of a field with the bytes of numbers
 pub value_read : (kind : FileKind) (file : List ℕ) (e : Field) (type : «Type») (limit : ℕ) (one : ℕ → Datum) (ns : List ℕ)
     → AreNumbers type limit one → AllBelow limit ns → length ns < 2 ^ 32
     → e.field_type ≡ type → e.count ≡ length ns
@@ -189,9 +189,9 @@ value_read kind file e type limit one ns a b few t c h =
     ((λ i. is_allowed unlimited (t i) (c i)) ∙ a.free (length ns) few)
     h (back true) (back false)
 
--- ---- the types that a page's numbers have
+-- ---- the types of the numbers of a page
 
--- so many numbers may be read without limits
+-- this number of values can be read without limits
 all_free : (n : ℕ) → n < 2 ^ 32 → ((n == 1) || leb n (0xFFFF_FFFF_FFFF_FFFF / 32)) ≡ true
 all_free n h = rw (le-leb n (0xFFFF_FFFF_FFFF_FFFF / 32) (omega arith)) (or-true (n == 1))
 
@@ -200,7 +200,7 @@ either : (inline : Bool) (x y : Datum) → x ≡ y → cond inline x x ≡ y
 either true x y e = e
 either false x y e = e
 
--- numbers of 2 bytes
+-- SHORT: numbers of 2 bytes
 pub are_shorts : AreNumbers SHORT (2 ^ 16) short
 are_shorts = record {
   alone = λ n h. ap short (number-le w16 n (inl refl) h);
@@ -209,7 +209,7 @@ are_shorts = record {
   free = all_free;
 }
 
--- of 4 bytes
+-- LONG: numbers of 4 bytes
 pub are_longs : AreNumbers LONG (2 ^ 32) unsigned
 are_longs = record {
   alone = λ n h. ap unsigned (number-le w32 n (inr (inl refl)) h);
@@ -218,7 +218,7 @@ are_longs = record {
   free = all_free;
 }
 
--- of 8 bytes
+-- LONG8: numbers of 8 bytes
 pub are_long8s : AreNumbers LONG8 (2 ^ 64) unsigned_big
 are_long8s = record {
   alone = λ n h. ap unsigned_big (number-le w64 n (inr (inr refl)) h);

@@ -1,4 +1,4 @@
--- A page that shows an image is read as its samples.
+-- A page that shows an image is read as the image's samples.
 use Rattle.std.proofs.Common.{◌≡◌, ℕ, ◌+◌, ◌*◌, ◌/◌, ◌%◌, ◌^◌, ◌<◌, ◌≤◌, min, true, false, List, length, Result, Ok, refl, ap, sym, ◌∙◌, subst, arith}
 use Rattle.std.specs.Prelude.{replicate, nat_lt, nat_le, not, ◌==◌, slice_index}
 use Rattle.std.specs.Int.{div_ceil}
@@ -44,9 +44,9 @@ use Rattle.tiff_encode.proofs.Slices.{ok_inj}
 use Rattle.tiff_encode.proofs.ReadsBack.Numbers.{all_are, sample_within, column_within, row_within, numbers_are}
 use Rattle.tiff_encode.proofs.ReadsBack.Page.{IsListed, page_listed}
 
--- ---- of a page
+-- ---- properties of a page
 
--- a sample type is of the bytes of its samples
+-- a sample type has the number of bytes of its samples
 sized : (x y : DecodingSampleType) → (let a : Result DecodingSampleType TiffError = Ok x in let b : Result DecodingSampleType TiffError = Ok y in a ≡ b)
     → size_of y ≡ size_of x
 sized x y e = ap size_of (sym (ok_inj x y e))
@@ -58,25 +58,25 @@ type_sized IEEEFP size t s = by_size (λ n. sample_type_from IEEEFP (8 * n) ≡ 
 type_sized Void size t s = λ e. absurd cc
 type_sized (Unknown n) size t s = λ e. absurd cc
 
--- such samples are of whole bytes
+-- samples of a supported size have whole bytes
 whole_size : (size : ℕ) → IsSize size → is_byte_multiple (8 * size) ≡ true
 whole_size size s = by_size (λ n. is_byte_multiple (8 * n) ≡ true) size refl refl refl refl s
 
--- a plane shows no more samples than a color has
+-- a plane shows no more samples than the color has
 shown_few : (planar : PlanarConfiguration) (color : ColorType) → 0 < num_samples color → samples_in_chunk planar color ≤ num_samples color
 shown_few Chunky color h = omega arith
 shown_few Planar color h = h
 
--- a color has planes
+-- a color has at least one plane
 planes_there : (planar : PlanarConfiguration) (color : ColorType) → 0 < num_samples color → 0 < planes planar color
 planes_there Chunky color h = omega arith
 planes_there Planar color h = h
 
--- so many times a number are at least so many
+-- if n * k is at most m, n is at most m / k
 at_least : (n k m : ℕ) → 0 < k → n * k ≤ m → n ≤ m / k
 at_least n k m b h = (le-div_iff_mul-le b).1 h
 
--- samples that are read are the numbers of what is placed in zeros
+-- the decoded samples are those of the bytes that the decoder places into a buffer of zeros
 samples_give : (file : List ℕ) (p : PageRecord) (limits : Limits) (color : ColorType) (part : Part) (len : ℕ) (d : Decoded)
     → calls.samples file LittleEndian p limits color part len ≡ Ok d
     → (t : DecodingSampleType) × ((sample_type_of p ≡ Ok t)
@@ -92,7 +92,7 @@ samples_give file p limits color part len d e =
     let here : all ≡ made.0 = ok_inj all made.0 whole.1.1 in
     (type.0, (type.1.0, ap (decoded_samples type.0) here ∙ ok_inj (decoded_samples type.0 made.0) d made.1.1))
 
--- ---- of a page that shows an image
+-- ---- properties of a page that shows an image
 module _ (kind : FileKind) (file : List ℕ) (offset : ℕ) (i : Image) (size : ℕ) (limits : Limits) (s : Shows kind file offset i) (h : HasSamplesOf i size) where
   abbrev p : PageRecord
   p = s.page
@@ -114,11 +114,11 @@ module _ (kind : FileKind) (file : List ℕ) (offset : ℕ) (i : Image) (size : 
   some : 0 < num_samples color
   some = subst plane.Shows s.is_color (color_shows p listed.some)
 
-  -- its bytes, of rows of so many bytes
+  -- the decoded bytes, in rows of a number of bytes
   abbrev bytes : ColorType → ℕ → ℕ → List ℕ
   bytes c row all = bytes_with_region file LittleEndian p c (image_region p) row 1 (replicate all 0)
 
-  -- the numbers of these are the samples that it shows
+  -- the numbers of the decoded bytes are the samples that the page shows
   bytes_are : numbers_in size (bytes color (row_bytes p color p.width) (row_bytes p color p.width * p.height)) ≡ samples_shown i p color
   bytes_are =
       let n : ℕ = samples_in_chunk p.planar color in
@@ -131,7 +131,7 @@ module _ (kind : FileKind) (file : List ℕ) (offset : ℕ) (i : Image) (size : 
       (column_within file p color size deep h.is_size k b) (row_within file p color size deep h.is_size k b) few)
       (λ k. h.small (k / n % p.width) (k / n / p.width) (k % n))
 
-  -- its sample type is of so many bytes
+  -- the sample type of the page has the size of the samples
   type_is : (t : DecodingSampleType) → sample_type_of p ≡ Ok t → size_of t ≡ size
   unfolding sample_type_of
   type_is t e = type_sized p.format size t h.is_size (sym (ap (λ (n : ℕ). sample_type_from p.format n) deep) ∙ e)
@@ -143,7 +143,7 @@ module _ (kind : FileKind) (file : List ℕ) (offset : ℕ) (i : Image) (size : 
       ∙ ap (λ (k : ColorType). numbers_in size (bytes k (row_bytes p k p.width) (row_bytes p k p.width * p.height))) f
       ∙ bytes_are
 
-  -- whatever is read of it are these samples
+  -- each result of reading the page contains these samples
   shown_read : (d : Decoded) → image_of file LittleEndian p limits ≡ Ok d
       → (d.numbers ≡ samples_shown i p color) × (sample_type_of p ≡ Ok d.sample_type)
   unfolding image_of planes_layout
@@ -166,7 +166,7 @@ module _ (kind : FileKind) (file : List ℕ) (offset : ℕ) (i : Image) (size : 
         type,
       )
 
-  -- ---- where it is readable and the limits let it pass
+  -- ---- a readable page within the limits
   module _ (type : DecodingSampleType) (is_type : sample_type_of p ≡ Ok type) (r : IsReadable p color) (l : LetsPass limits p color) where
     -- the bytes of a row, and of the image
     abbrev row : ℕ
@@ -196,7 +196,7 @@ module _ (kind : FileKind) (file : List ℕ) (offset : ℕ) (i : Image) (size : 
     layout_is =
         rw (s.is_color, lt-ltb (row * p.chunk_height) (2 ^ 64) l.rows, lt-ltb all (2 ^ 64) plane_fits, aligned_is, r.chroma) refl
 
-    -- the samples are not too many
+    -- the number of samples is within the limits
     samples_pass : limit_fault limits (size_of type) all ≡ Ok tt
     samples_pass =
         let some_bytes : 0 < size = some_size size h.is_size in
@@ -210,7 +210,7 @@ module _ (kind : FileKind) (file : List ℕ) (offset : ℕ) (i : Image) (size : 
         le-ltb (limits.decoding_buffer_size / size) (div_ceil all size) (omega (arith, b, c)) in
         rw (type_is type is_type, f) refl
 
-    -- no chunk has a fault
+    -- no chunk returns an error
     chunk_listed : (k : ℕ) → k < chunks_of_plane p → k < all_chunks p
     chunk_listed k b =
         let m : chunks_of_plane p ≤ all_chunks p = le-mul_of_pos_right (chunks_of_plane p) (planes_some p.planar p.samples listed.some) in
@@ -236,7 +236,7 @@ module _ (kind : FileKind) (file : List ℕ) (offset : ℕ) (i : Image) (size : 
     chunks_are : part_fault file LittleEndian p limits color (image_part p 1 row) ≡ Ok tt
     chunks_are = first_plane_fault file LittleEndian p limits color row ∙ (no_fault (chunk_fault p limits (is_short file LittleEndian p color) color) (chunks_of_plane p)).1 chunk_is
 
-    -- it is read
+    -- the decoder reads the page
     is_read : image_of file LittleEndian p limits ≡ Ok (record { sample_type = type; numbers = samples_shown i p color })
     unfolding image_of planes_layout calls.samples fill_buffer
     is_read =

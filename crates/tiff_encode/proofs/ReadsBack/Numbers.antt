@@ -1,4 +1,4 @@
--- The numbers that the bytes of an image hold are the samples that it shows.
+-- The numbers in the bytes of an image are the samples that it shows.
 use Rattle.std.proofs.Common.{zero, suc, ◌≡◌, ℕ, ◌+◌, ◌*◌, ◌/◌, ◌%◌, ◌^◌, ◌<◌, ◌≤◌, min, true, false, cond, List, length, Some, None, refl, ap, sym, ◌∙◌, subst, arith, lit<}
 use Rattle.std.specs.Prelude.{nat_lt, ◌&&◌, unwrap_or, slice_index}
 use Rattle.std.specs.Int.{div_ceil}
@@ -19,13 +19,13 @@ use Rattle.tiff_page.specs.Pixels.{tabulate, width_of, planar_or, shown_sample, 
 use Rattle.tiff_page.proofs.ChunkRows.{bits_are}
 use Rattle.tiff_page.proofs.Rows.{each_same, digits, little_digits, some_size}
 
--- ---- a number by its bytes
+-- ---- a number and its bytes
 
 power_pos : (n : ℕ) → 0 < 256 ^ n
 power_pos zero = omega arith
 power_pos (suc n) = omega (arith, power_pos n, pow-suc 256 n)
 
--- the bytes of a number, put together, are what it is below a power
+-- the bytes of a number, put together, are the number modulo a power of 256
 digits_of : (x n : ℕ) → digits (λ j. x / 256 ^ j % 256) n ≡ x % 256 ^ n
 digits_of x zero = omega arith
 digits_of x (suc n) =
@@ -37,25 +37,25 @@ digits_of x (suc n) =
 
 -- ---- offsets
 
--- what is below a product has both factors
+-- if a number is below a product, both factors are above 0
 some_right : (a b n : ℕ) → n < a * b → 0 < b
 some_right a zero n h = Prim.absurd (omega (arith, h))
 some_right a (suc b) n h = omega arith
 
--- the first plane's samples are those of the pixel
+-- the samples of the first plane, for each planar configuration
 first_plane : (planar : PlanarConfiguration) (n : ℕ) (color : ColorType) → planar_or planar (0 + 0) (n % samples_in_chunk planar color) ≡ n % samples_in_chunk planar color
 first_plane Planar n color = omega arith
 first_plane Chunky n color = refl
 
 module _ (file : List ℕ) (p : PageRecord) (color : ColorType) (size : ℕ) (deep : p.depth ≡ 8 * size) (is_size : IsSize size) where
-  -- the samples of a pixel, and of a row of the image
+  -- the number of samples of a pixel, and of a row of the image
   abbrev s : ℕ
   s = samples_in_chunk p.planar color
 
   abbrev c : ℕ
   c = p.width * s
 
-  -- the bytes of a row
+  -- the number of bytes of a row
   abbrev stride : ℕ
   stride = row_bytes p color p.width
 
@@ -63,14 +63,14 @@ module _ (file : List ℕ) (p : PageRecord) (color : ColorType) (size : ℕ) (de
   unfolding row_bits
   stride_is = bits_are p.width p.depth size s (omega (arith, deep))
 
-  -- the byte at a position
+  -- the byte at an index
   abbrev at : ℕ → ℕ
   at i = unwrap_or (byte_at file LittleEndian p color (image_region p) stride 1 i) 0
 
   abbrev pub bytes : List ℕ
   bytes = tabulate (stride * p.height) at
 
-  -- the bytes of the image are those of its samples
+  -- the bytes of the image are the bytes of its samples
   pub all_are : stride * p.height ≡ p.height * p.width * s * size
   all_are =
       ap (λ (n : ℕ). n * p.height) stride_is
@@ -78,9 +78,9 @@ module _ (file : List ℕ) (p : PageRecord) (color : ColorType) (size : ℕ) (de
       ∙ sym (mul_assoc p.height c size)
       ∙ ap (λ (n : ℕ). n * size) (sym (mul_assoc p.height p.width s))
 
-  -- a sample
+  -- the sample at an index
   module _ (n : ℕ) (within : n < p.height * p.width * s) where
-    -- its pixel is of the image
+    -- the pixel of the sample is within the image
     some_shown : 0 < s
     some_shown = some_right (p.height * p.width) s n within
 
@@ -99,12 +99,12 @@ module _ (file : List ℕ) (p : PageRecord) (color : ColorType) (size : ℕ) (de
     pub sample_within : n % s < s
     sample_within = mod_below n s some_shown
 
-    -- a byte of it
+    -- a byte of the sample
     module _ (j : ℕ) (small : j < size) where
       abbrev i : ℕ
       i = n * size + j
 
-      -- where it is in its row
+      -- the index of the byte in its row
       abbrev k : ℕ
       k = n % c * size + j
 
@@ -144,7 +144,7 @@ module _ (file : List ℕ) (p : PageRecord) (color : ColorType) (size : ℕ) (de
           let m : (n + 1) * size ≤ p.height * p.width * s * size = mul-le-mul_right size l in
           omega (arith, m, all_are, small)
 
-      -- which number of its row, and which byte of it
+      -- the index of the number in its row, and the index of the byte in the number
       number_is : k / (p.depth / 8) ≡ n % c
       number_is =
           let e : p.depth / 8 ≡ size = omega (arith, deep) in
@@ -193,7 +193,7 @@ module _ (file : List ℕ) (p : PageRecord) (color : ColorType) (size : ℕ) (de
           get_or-map-range_with_len at 0 (stride * p.height) i i 0 i_within (omega arith)
           ∙ ap (λ o. unwrap_or o 0) byte_is
 
-    -- the bytes of the number, put together
+    -- the bytes of the number, put together, are the sample
     pub number_there : shown_sample file LittleEndian p (n / s % p.width) (n / s / p.width) (n % s) < 256 ^ size
         → number LittleEndian (width_of size) (tabulate size (λ j. slice_index bytes (n * size + j)))
         ≡ shown_sample file LittleEndian p (n / s % p.width) (n / s / p.width) (n % s)
@@ -204,7 +204,7 @@ module _ (file : List ℕ) (p : PageRecord) (color : ColorType) (size : ℕ) (de
         ∙ digits_of x size
         ∙ mod-eq_of_lt below
 
-  -- so many numbers are there
+  -- the bytes contain as many numbers as the image has samples
   count_is : div_ceil (length bytes) size ≡ p.height * p.width * s
   count_is =
       let l : length bytes ≡ stride * p.height = length-map-range_with_len at 0 (stride * p.height) in
@@ -217,7 +217,7 @@ module _ (file : List ℕ) (p : PageRecord) (color : ColorType) (size : ℕ) (de
       ∙ (λ t. d t + min 1 (r t))
       ∙ omega arith
 
-  -- and each is the sample
+  -- each number in the bytes is a sample of the image
   pub numbers_are : (f : ℕ → ℕ) → ((n : ℕ) → n < p.height * p.width * s → shown_sample file LittleEndian p (n / s % p.width) (n / s / p.width) (n % s) ≡ f n)
       → ((n : ℕ) → f n < 256 ^ size)
       → numbers_in size bytes ≡ tabulate (p.height * p.width * s) f

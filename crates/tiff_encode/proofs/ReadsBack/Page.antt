@@ -1,4 +1,4 @@
--- What is known of a page that the tags tell: it has samples, and an offset for each chunk.
+-- A page read from its tags has samples, and an offset for each chunk.
 use Rattle.std.proofs.Common.{zero, suc, ◌≡◌, ℕ, ◌^◌, ◌<◌, true, false, cond, Bool, length, Result, Ok, Err, refl, sym, subst, arith, ⊎_elim}
 use Rattle.std.specs.Prelude.{nat_lt, ◌==◌, ◌&&◌}
 use Rattle.std.proofs.lemmas.Bool.{eqb-true}
@@ -17,7 +17,7 @@ use Rattle.tiff_page.specs.Checks.{size_in, interpretation_in, method_in, some_s
 use Rattle.tiff_page.proofs.Planes.{cases_of, given_bind}
 use Rattle.tiff_encode.proofs.Slices.{ok_inj}
 
--- what a choice of an answer and a fault is
+-- if a choice between a value and an error succeeds, it returns the value
 chosen : {A : Type 0} (b : Bool) (x y : A) (e : TiffError) → cond b (Ok x) (Err e) ≡ Ok y → (b ≡ true) × (x ≡ y)
 chosen true x y e h = (refl, ok_inj x y h)
 chosen false x y e h = absurd cc
@@ -26,18 +26,18 @@ refused : {A : Type 0} (b : Bool) (x y : A) (e : TiffError) → cond b (Err e) (
 refused true x y e h = absurd cc
 refused false x y e h = (refl, ok_inj x y h)
 
--- the middle one of three tests that hold
+-- the second of three tests that hold
 middle : (a b c : Bool) → ((a && b) && c) ≡ true → b ≡ true
 middle true true c h = refl
 middle true false c h = cc
 middle false b c h = cc
 
--- a number that is not 0
+-- a number that is not 0 is above 0
 positive : (n : ℕ) → (n == 0) ≡ false → 0 < n
 positive zero h = cc
 positive (suc n) h = omega arith
 
--- a page has samples
+-- a page has at least one sample
 some_is : (n m : ℕ) → some_samples n ≡ Ok m → 0 < m
 some_is n m e =
     let r = refused (n == 0) n m _ e in
@@ -47,7 +47,7 @@ samples_some : (look : Look) (n : ℕ) → samples_in look ≡ Ok n → 0 < n
 unfolding samples_in
 samples_some look n e = let b = bind_ok (find_or into_u16 look tag.SamplesPerPixel 1) _ _ e in some_is b.0 n b.1.1
 
--- chunks that are counted have an offset each
+-- counted chunks have one offset each
 abbrev AreListed : ℕ → ℕ → ℕ → Chunks → Type 0
 AreListed width height planes c = length c.offsets ≡ chunk_count width height c.chunk_width c.chunk_height planes
 
@@ -59,7 +59,7 @@ counted_listed width height planes chunks c e =
     subst (AreListed width height planes) r.1
     (eqb-true (length chunks.offsets) count (middle (length chunks.offsets == length chunks.byte_counts) (length chunks.offsets == count) (nat_lt count (2 ^ 32)) r.0))
 
--- the same of an answer
+-- counted chunks in a result have one offset each
 abbrev Counted : ℕ → ℕ → ℕ → Result Chunks TiffError → Type 0
 Counted width height planes (Ok c) = AreListed width height planes c
 Counted width height planes (Err e) = Unit {0}
@@ -88,7 +88,7 @@ chunks_given look Tile width height planes =
     given_bind P (require into_u64_vec look tag.TileByteCounts) _ (λ e. tt) (λ byte_counts eb.
     counted_given width height planes (record { chunk_width = wide; chunk_height = high; offsets = offsets; byte_counts = byte_counts })))))))
 
--- What is known of a page.
+-- A page has samples, and an offset for each chunk.
 pub record IsListed (p : PageRecord) : Type 0 where
   pub some : 0 < p.samples
   pub offsets : length p.offsets ≡ all_chunks p
@@ -117,6 +117,6 @@ page_given look =
       offsets = subst (Counted size.0 size.1 (planes_of planar samples)) ec (chunks_given look type size.0 size.1 (planes_of planar samples));
     }))))))))))))
 
--- a page that is told is known so
+-- a page read from its tags has samples and an offset for each chunk
 pub page_listed : (look : Look) (p : PageRecord) → page_of look ≡ Ok p → IsListed p
 page_listed look p e = subst Listed e (page_given look)

@@ -1,4 +1,4 @@
--- An image that was written whole is read as it was handed in.
+-- An image that a call writes as a whole is read back with the same samples.
 use Rattle.std.proofs.Common.{◌≡◌, ℕ, ◌+◌, ◌*◌, List, [], length, Ok, ap, sym, ◌∙◌, subst, arith}
 use Rattle.std.proofs.lemmas.List.{length-replicate}
 use Rattle.tiff_base.specs.declared.color.ColorType.{ColorType}
@@ -23,10 +23,10 @@ use Rattle.tiff_encode.proofs.ReadsBack.Written.{shown_in_order}
 use Rattle.tiff_encode.proofs.Shown.Color.{Family, OneGray, ThreeRgb, FourRgb, FourCmyk, FiveCmyk, ThreeYcbcr, meaning_of, count_of, IsOf, of_family, IsColored, colored}
 use Rattle.tiff_encode.proofs.Slices.{ok_inj}
 
--- ---- a color of all samples
+-- ---- a color with all samples
 
 module _ (p : PageRecord) where
-  -- a page of so many samples, none of which is extra, has a color of as many
+  -- a page of a family without extra samples has a color with the same number of samples
   counted : (f : Family) (color : ColorType) → color_from (meaning_of f) (record p { samples = count_of f; extra = [] }) ≡ Ok color
       → num_samples color ≡ count_of f
   counted OneGray color e = ap num_samples (sym (ok_inj (Gray p.depth) color e))
@@ -43,14 +43,14 @@ module _ (p : PageRecord) where
       let Q : List ExtraSamples → Type 0 = λ xs. color_from (meaning_of f) (record p { extra = xs }) ≡ Ok color in
       counted f color (subst P as_many (subst Q none e))
 
--- an image's color type is of a family
+-- the color type of an image is of a family
 is_of : (i : OpenImage) → IsOpen i → IsOf i.color i.size
 is_of i w =
     let P : ColorTypeRecord → Type 0 = λ c. IsOf c i.size in
     let Q : ℕ → Type 0 = λ k. IsOf (color_type w.name) k in
     subst P (sym w.color) (subst Q (sym w.size) (of_family w.name))
 
--- which has as many samples as the image has, where none is extra
+-- without extra samples, a color has as many samples as the image
 as_many_samples : (i : OpenImage) (o : IsOf i.color i.size) → i.extra ≡ [] → all_samples i ≡ count_of o.family
 as_many_samples i o none =
     let bits : length i.color.bits ≡ count_of o.family = ap (λ xs. length xs) o.bits ∙ length-replicate (count_of o.family) (8 * i.size) in
@@ -70,7 +70,7 @@ all_shown i p color w none chunky same is_color =
     let P : PlanarConfiguration → Type 0 = λ q. samples_in_chunk q color ≡ all_samples i in
     subst P (sym planar) (count ∙ sym (as_many_samples i o none))
 
--- ---- what is shown, and what was written
+-- ---- the shown samples and the written ones
 
 pub shown_is_read : ShownIsRead
 shown_is_read kind file offset i samples limits d s w none chunky small whole read =

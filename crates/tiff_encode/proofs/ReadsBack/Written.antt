@@ -1,4 +1,4 @@
--- A page that an encoder made of an image is of a form that is read.
+-- A page that an encoder writes for an image has a form that the decoder reads.
 use Rattle.std.proofs.Common.{◌≡◌, ℕ, ◌+◌, ◌*◌, ◌/◌, ◌%◌, ◌<◌, ◌⊎◌, length, true, cond, get_or, Result, Ok, Err, refl, ap, sym, ◌∙◌, subst, inl, inr, arith}
 use Rattle.std.specs.Prelude.{◌==◌, slice_index}
 use Rattle.std.proofs.lemmas.List.{ext_get_or}
@@ -35,7 +35,7 @@ use Rattle.tiff_encode.proofs.ReadsBack.Entries.{reads_back}
 
 -- ---- the sample type
 
--- each named color type is of a sample type
+-- each named color type has a sample type
 typed : (name : ColorTypeName) → (t : DecodingSampleType) × (sample_type_from (get_or (color_type name).formats 0 Void) (get_or (color_type name).bits 0 0) ≡ Ok t)
 unfolding color_type
 typed n.Gray8 = (U8, refl)
@@ -69,7 +69,7 @@ typed n.CMYK64Float = (F64, refl)
 typed n.YCbCr8 = (U8, refl)
 typed n.CMYKA8 = (U8, refl)
 
--- samples of a type are numbers
+-- samples of a sample type are numbers
 numbered : (f : SampleFormat) (d : ℕ) (t : DecodingSampleType) → sample_type_from f d ≡ Ok t → is_number f ≡ true
 numbered Uint d t e = refl
 numbered Int d t e = refl
@@ -79,7 +79,7 @@ numbered (Unknown k) d t e = absurd cc
 
 -- ---- the color
 
--- it is plain, and its chroma is whole
+-- the color is supported, and its chroma is not subsampled
 abbrev IsTaken : PageRecord → Result ColorType TiffError → Type 0
 IsTaken p (Ok c) = (is_supported_color c ≡ true) × (whole_chroma p c ≡ Ok c)
 IsTaken p (Err e) = Unit {0}
@@ -89,7 +89,7 @@ module _ (p : PageRecord) where
   unfolding no_color
   none_taken = tt
 
-  -- one of two colors, by a test, where a count is a number
+  -- the decoder supports a color that a test chooses, if it supports each choice
   some_taken : (k : ℕ) (x y : ColorType) (other : Result ColorType TiffError) → IsTaken p (Ok x) → IsTaken p (Ok y) → IsTaken p other
       → IsTaken p (cond (photometric p == k) (Ok (cond (first_is_alpha p.extra) x y)) other)
   some_taken k x y other a b c =
@@ -113,7 +113,7 @@ module _ (p : PageRecord) where
   family_taken FiveCmyk e = cmyk_taken
   family_taken ThreeYcbcr e = one_taken 3 (YCbCr p.depth) (refl, rw e refl)
 
-  -- nothing is inverted
+  -- no color of a family is inverted
   family_upright : (f : Family) (c : ColorType) → white_from (meaning_of f) p c ≡ Ok tt
   family_upright OneGray c = refl
   family_upright ThreeRgb c = refl
@@ -122,7 +122,7 @@ module _ (p : PageRecord) where
   family_upright FiveCmyk c = refl
   family_upright ThreeYcbcr c = refl
 
-  -- differences of numbers are undone
+  -- the decoder supports the predictors that the encoder writes
   undone : (q : Predictor) (c : ColorType) → (q ≡ predictor.None) ⊎ (q ≡ predictor.Horizontal) → is_number p.format ≡ true → fault_of_predictor q p c ≡ Ok tt
   undone q c way e =
       let P : Predictor → Type 0 = λ r. fault_of_predictor r p c ≡ Ok tt in
@@ -139,7 +139,7 @@ unpacked m way =
       | inr h ↦ subst P (sym h) refl
     ]
 
--- ---- an image, and a page of it, wherever its chunks stand
+-- ---- an image and a page of it, with its chunks at any offsets
 module _ (i : OpenImage) (w : IsOpen i) (p : PageRecord)
     (same : p ≡ record (image_page i) { offsets = p.offsets; byte_counts = p.byte_counts }) where
   is_of : IsOf i.color i.size
@@ -198,9 +198,9 @@ written_reads_back kind file offset i sample_at limits w small s l =
       ),
     )
 
--- ---- an image that was handed in whole
+-- ---- an image that a call writes as a whole
 
--- the samples of an image are in the order in which they were handed in
+-- the page shows the samples of an image in the order in which the call receives them
 pub shown_in_order : ShownInOrder
 shown_in_order i samples p color wide all long =
     let s : ℕ = samples_in_chunk p.planar color in

@@ -1,4 +1,4 @@
--- Lists of jobs, one after another.
+-- Lists of jobs in sequence.
 use Rattle.std.proofs.Common.{◌≡◌, ℕ, ◌+◌, ◌-◌, ◌<◌, Bool, true, false, ◌⊎◌, List, [], ◌∷◌, ◌++◌, length, take, drop, get_or, Some, Vec, refl, ap, sym, ◌∙◌, inl, inr, subst, arith, append-nil, append_assoc}
 use Rattle.std.proofs.lemmas.List.{take_more, take_all, length-append, length-drop}
 use Rattle.std.proofs.lemmas.Option.{slice_get-get_or}
@@ -28,11 +28,11 @@ jobs_snoc old mid new [] (y ∷ replies) j r h x = absurd h
 jobs_snoc old mid new (k ∷ jobs) [] j r h x = absurd h
 jobs_snoc old mid new (k ∷ jobs) (y ∷ replies) j r h x = (h.0, (h.1.0, jobs_snoc h.0 mid new jobs replies j r h.1.1 x))
 
--- before the first
+-- no job is run
 pub jobs_none : (earlier : List JobReply) (file : FileState) → JobsMove [] earlier earlier file file
 jobs_none earlier file = ([], (sym (append-nil earlier), λ known run q o s. (run, (q, (refl, (s, o))))))
 
--- one more, behind those that were run
+-- one more job, behind the jobs that are run
 jobs_more : (jobs : List Job) (earlier all : List JobReply) (start : ℕ) (j : Job) (r : JobReply) (old mid new : FileState)
     → start ≡ length earlier → JobsMove jobs earlier all old mid → JobMoves j (drop start all) r mid new
     → JobsMove (jobs ++ j ∷ []) earlier (all ++ r ∷ []) old new
@@ -58,7 +58,7 @@ pub replies_from : (xs all : List JobReply) (start : ℕ) → xs ≡ all → tak
 replies_from xs all start is =
     take_all (length xs - start) (drop start xs) (let l = length-drop start xs in omega (arith, l)) ∙ ap (λ ys. drop start ys) is
 
--- a turn of the loop
+-- one iteration of the loop
 pub jobs_next : (jobs : List Job) (earlier all after : List JobReply) (start n : ℕ) (j : Job) (r : JobReply) (old mid new : FileState)
     → n < length jobs → j ≡ get_or jobs n j → start ≡ length earlier → after ≡ all ++ r ∷ []
     → JobsMove (take n jobs) earlier all old mid → JobMoves j (drop start all) r mid new
@@ -70,7 +70,7 @@ jobs_next jobs earlier all after start n j r old mid new l v at e m x =
 
 -- ---- a whole run
 
--- whether a sink held nothing
+-- whether a sink is empty
 abbrev is_none : List ℕ → Bool
 is_none [] = true
 is_none (x ∷ xs) = false
@@ -82,7 +82,7 @@ told_none (x ∷ told) h = absurd cc
 none_told : (told : List ℕ) → told ≡ [] → is_none told ≡ true
 none_told told h = ap is_none h
 
--- what stands behind the header
+-- after the header is written, the properties of a run hold
 started_sound : (kind : FileKind) (told : List ℕ) (failures : ℕ) (first : FileState) → first ≡ begun_file kind told failures
     → (told ≡ [] → LeavesHeader kind first.bytes first.chain) → IsSound (is_none told) (new_run kind told failures)
 started_sound kind told failures first is leaves =
@@ -95,7 +95,7 @@ started_sound kind told failures first is leaves =
       images = λ f i. absurd i;
     }
 
--- what is held of a run whose model stands is shown
+-- a run whose model describes the file shows the images that it holds
 run_shows : (run : Run) → IsSound true run → RunShows run
 run_shows run s f i =
     let h : IsHeld run.standing f = s.images f i in
@@ -127,7 +127,7 @@ jobs_run kind told failures jobs earlier all first last bytes after is leaves m 
       ),
     )
 
--- ---- rooms
+-- ---- lists with room for replies
 
 module _ {A : Type 0} where
   got_more : (xs : List A) (y : A) (k : ℕ) (x : A) → slice_get (xs ++ y ∷ []) k ≡ Some x
@@ -152,7 +152,7 @@ module _ {A : Type 0} where
 pub rooms_none : {A : Type 0} (jobs : List Job) → AreRooms {A = A} jobs []
 rooms_none jobs k j room h q = absurd (none_some h)
 
--- the job that a room is for
+-- the list of jobs contains the job at each of its indices
 job_at : (jobs : List Job) (i : ℕ) (j : Job) → i < length jobs → j ≡ get_or jobs i j → slice_get jobs i ≡ Some j
 job_at jobs i j l v = slice_get-get_or jobs i j l ∙ ap Some (sym v)
 
@@ -160,11 +160,11 @@ module _ {A : Type 0} (jobs : List Job) (all rooms : List (Vec A Global)) (room 
   all_are : AreRooms jobs all → AreRooms jobs (rooms ++ room ∷ [])
   all_are a = subst (λ xs. AreRooms jobs xs) is a
 
-  -- without the last one
+  -- the lists without the last one
   pub rooms_left : AreRooms jobs all → AreRooms jobs rooms
   rooms_left a k i r g q = all_are a k i r (got_still rooms room k r g) q
 
-  -- the last one, for the first job that isn't run yet
+  -- the last list has room for the replies of the first job that isn't run
   pub room_taken : (i : ℕ) (j : Job) → i < length jobs → j ≡ get_or jobs i j → length all + i ≡ length jobs → AreRooms jobs all
       → IsEmptyWithRoom (step_count j) room
   room_taken i j l v n a =
@@ -172,7 +172,7 @@ module _ {A : Type 0} (jobs : List Job) (all rooms : List (Vec A Global)) (room 
       let at : length jobs - (length rooms + 1) ≡ i = omega (arith, whole, n, l) in
       all_are a (length rooms) j room (got_last rooms room) (ap (λ k. slice_get jobs k) at ∙ job_at jobs i j l v)
 
-  -- one more
+  -- one more list with room
   pub rooms_more : (n : ℕ) (j : Job) → n < length jobs → j ≡ get_or jobs (length jobs - 1 - n) j → length rooms ≡ n
       → AreRooms jobs rooms → IsEmptyWithRoom (step_count j) room → AreRooms jobs all
   rooms_more n j l v count a h =

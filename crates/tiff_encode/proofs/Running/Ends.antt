@@ -1,4 +1,5 @@
--- The end of a directory or an image leads from a standing of the file that it finds to one of the file that it leaves.
+-- The end of a directory or an image leads from a `Standing` of the file before it to a `Standing`
+-- of the file after it.
 use Rattle.std.proofs.Common.{◌≡◌, ℕ, ◌^◌, ◌<◌, inl, inr, Bool, true, false, Option, Some, None, Ok, Err, refl, ap, sym, ◌∙◌, subst}
 use Rattle.std.specs.FinMap.{len}
 use Rattle.tiff_base.specs.declared.error.TiffError.{TiffError}
@@ -26,24 +27,24 @@ use Rattle.tiff_encode.proofs.Data.Chunks.{finish_patches, image_patches}
 use Rattle.tiff_encode.proofs.Data.Leaves.{appended_stands, patched_stands, patched_torn}
 use Rattle.tiff_encode.proofs.EndLinks.{EndLinks, finish_links, image_links}
 
--- ---- what stands then
+-- ---- what the file contains after an end
 
--- What stands where an end was told, and where the parent's link broke off.
+-- What the model describes after an end succeeds, and after the sink fails at the parent's link.
 pub record CanStand (told : WriteOutcome Offsets) (old new : FileState) (m : Model) : Type 0 where
   pub done : (offsets : Offsets) → IsTold told (Ok offsets) new → Stands old.kind new.bytes (model_by old m told)
   pub torn : (e : TiffError) → IsTornOff told.deeds e old new → LeavesTorn told e old new m
 
--- the link of a parent, where there is one
+-- the link of a parent, if there is one
 abbrev pub Parent : Option ℕ → FileState → Model → Type 0
 Parent parent file m = (offset : ℕ) → parent ≡ Some offset → IsLink file.kind m offset
 
--- What is known of an end: what its deeds are, where its links stand, and what stands then.
+-- The properties of an end: its changes, its links, and what the model describes after it.
 pub record IsEnding (parent : Option ℕ) (told : WriteOutcome Offsets) (old new : FileState) : Type 0 where
   pub patches : Patches parent told old
   pub links : (m : Model) → EndLinks told old m
   pub stands : (m : Model) → Stands old.kind old.bytes m → Parent parent old m → CanStand told old new m
 
--- a directory's
+-- the properties of a directory's end
 pub directory_ending : (d : OpenDirectory) (old new : FileState) → AreEntries d.fields → len d.fields < 2 ^ 64
     → (old.fault ≡ None → end_of old < 2 ^ 64) → IsEnding d.parent (finish d old) old new
 directory_ending d old new a n fits = record {
@@ -55,7 +56,7 @@ directory_ending d old new a n fits = record {
   };
 }
 
--- an image's
+-- the properties of an image's end
 pub image_ending : (i : OpenImage) (old new : FileState) → AreEntries i.directory.fields → IsShortFile new
     → IsEnding i.directory.parent (finish_image i old) old new
 image_ending i old new a short =
@@ -72,9 +73,9 @@ image_ending i old new a short =
           };
     }
 
--- ---- where it leads
+-- ---- the `Standing` after an end
 
--- an offset is told, or none is
+-- equal options have equal offsets
 told_offset : (x o : Offsets) → (let a : Option Offsets = Some x in let b : Option Offsets = Some o in a ≡ b) → x ≡ o
 told_offset x o h = ap held h where
   held : Option Offsets → Offsets
@@ -84,14 +85,14 @@ told_offset x o h = ap held h where
 pub no_offset : {o : Offsets} → let a : Option Offsets = None in a ≡ Some o → ⊥
 no_offset h = cc
 
--- What is known of the standing that it leads to, but for what it answers.
+-- The properties of the `Standing` after an end, except those of its result.
 pub record Leads (known : Bool) (s t : Standing) (offset : Option Offsets) : Type 0 where
   pub known_so : StandsIfKnown known t
   pub grows : Grows s.model t.model
   pub own : (o : Offsets) → offset ≡ Some o → IsLink t.file.kind t.model o.link
   pub chain : IsLink s.file.kind s.model s.file.chain → IsLink t.file.kind t.model t.file.chain
 
--- a standing of the file that it leaves
+-- a `Standing` of the file that an end leaves
 abbrev pub Led : Bool → Standing → FileState → (Standing → Standing → Option Offsets → Type 0)
     → (Standing → Standing → Option Offsets → Type 0) → Type 0
 Led known s new Ended Held =
@@ -104,11 +105,11 @@ pub led : (known : Bool) (s t : Standing) (new : FileState) (Ended Held : Standi
     (offset : Option Offsets) → t.file ≡ new → Ended s t offset → Held s t offset → Leads known s t offset → Led known s new Ended Held
 led known s t new Ended Held offset f e h l = (t, (offset, (f, (e, (l.known_so, (l.grows, (l.own, (l.chain, h))))))))
 
--- the standings of a file
+-- the `Standing` of a file with a model
 abbrev pub at : FileState → Model → Standing
 at file m = record { file = file; model = m }
 
--- an end leads on from each standing of the file
+-- an end leads on from each `Standing` of the file
 pub moves_from : (Ended Held : Standing → Standing → Option Offsets → Type 0) (parent : Option ℕ) (old new : FileState)
     → ((known : Bool) (m : Model) → StandsIfKnown known (at old m) → HasLink known (at old m) parent → Led known (at old m) new Ended Held)
     → EndMoves Ended parent old new Held
@@ -117,9 +118,9 @@ moves_from Ended Held parent old new f known s same k l =
     → Led known (at file s.model) new Ended Held in
     subst P (sym same) (f known s.model) k l
 
--- what is told of a call that leaves the model as it was
+-- a call whose outcome keeps the model
 module _ (known : Bool) (old new : FileState) (m : Model) where
-  -- it leaves what stood
+  -- the `Standing` after a call that keeps the model
   pub leads_still : new.kind ≡ old.kind → new.chain ≡ old.chain → (known ≡ true → Stands old.kind new.bytes m)
       → Leads known (at old m) (at new m) None
   leads_still kind chain s = record {
@@ -131,11 +132,11 @@ module _ (known : Bool) (old new : FileState) (m : Model) where
 
 module _ (parent : Option ℕ) (told : WriteOutcome Offsets) (old new : FileState) (ending : IsEnding parent told old new) (known : Bool) (m : Model)
     (k : StandsIfKnown known (at old m)) (l : HasLink known (at old m) parent) where
-  -- what stands, where it is known to
+  -- what the model describes after an end, if it is known to describe the file before
   can_stand : known ≡ true → CanStand told old new m
   can_stand q = ending.stands m (k q) (l q)
 
-  -- it is told
+  -- the end succeeds
   pub leads_told : (offsets : Offsets) → IsTold told (Ok offsets) new
       → Leads known (at old m) (at new (model_by old m told)) (Some offsets)
   leads_told offsets t =
@@ -153,7 +154,7 @@ module _ (parent : Option ℕ) (told : WriteOutcome Offsets) (old new : FileStat
             (subst (λ q. IsLink old.kind n q) (sym (ap (λ f. f.chain) t.state)) (links.chain offsets t.answer i));
       }
 
-  -- the model where the parent's link broke off
+  -- the model after the sink fails at the parent's link
   abbrev torn_model : (e : TiffError) → IsTornOff told.deeds e old new → ℕ → Model
   torn_model e t holds = with_link old.kind (model_after old.kind old.bytes m t.before) t.offset holds
 
@@ -174,7 +175,7 @@ module _ (parent : Option ℕ) (told : WriteOutcome Offsets) (old new : FileStat
             (subst (λ q. IsLink old.kind n q) (sym (ap (λ f. f.chain) t.state)) (link_kept old.kind m n old.chain grows i));
       }
 
-  -- it fails
+  -- the end fails
   abbrev Failed : TiffError → Type 0
   Failed e = (n : Model) × (Refuses told e (at old m) (at new n) × Leads known (at old m) (at new n) None)
 
@@ -185,7 +186,7 @@ module _ (parent : Option ℕ) (told : WriteOutcome Offsets) (old new : FileStat
     (inr (inl (record { torn = t; holds = holds; model = refl })), leads_torn e t holds s),
   )
 
-  -- with the parent's link, by whether it is known what stands
+  -- the end fails at the parent's link, by whether the model is known to describe the file
   torn_failed : (e : TiffError) → IsTornOff told.deeds e old new → (b : Bool) → known ≡ b → Failed e
   torn_failed e t true h = let x = (can_stand h).torn e t in torn_away e x.torn x.holds (λ _. x.stands)
   torn_failed e t false h = torn_away e t 0 (λ q. absurd (no_truth (sym q ∙ h))) where
@@ -212,11 +213,11 @@ module _ (parent : Option ℕ) (told : WriteOutcome Offsets) (old new : FileStat
         ]
       ]
 
--- ---- ends by their answers
+-- ---- ends by their results
 
 module _ (Ended Held : Standing → Standing → Option Offsets → Type 0) (parent : Option ℕ) (told : WriteOutcome Offsets) (old new : FileState)
     (ending : IsEnding parent told old new) where
-  -- an end that is told
+  -- an end that succeeds
   pub told_moves : (offsets : Offsets) → IsTold told (Ok offsets) new
       → ((m : Model) → IsDone told (Ok offsets) (at old m) (at new (model_by old m told))
       → Ended (at old m) (at new (model_by old m told)) (Some offsets))
@@ -229,7 +230,7 @@ module _ (Ended Held : Standing → Standing → Option Offsets → Type 0) (par
       (ended m (record { ended = t; model = refl })) (held m)
       (leads_told parent told old new ending known m k l offsets t))
 
-  -- one that fails
+  -- an end that fails
   pub fails_moves : (e : TiffError) → CallFails told e old new
       → ((m n : Model) → Refuses told e (at old m) (at new n) → Ended (at old m) (at new n) None)
       → ((m n : Model) → Held (at old m) (at new n) None)
@@ -240,7 +241,7 @@ module _ (Ended Held : Standing → Standing → Option Offsets → Type 0) (par
       let x = failed parent told old new ending known m k l e h in
       led known (at old m) (at new x.0) new Ended Held None refl (ended m x.0 x.1.0) (held m x.0) x.1.1)
 
--- what is known of an end is known as what follows from it
+-- the properties of an end imply weaker ones
 pub moves_as : (Ended Held Known_so Held_so : Standing → Standing → Option Offsets → Type 0) (parent : Option ℕ) (old new : FileState)
     → ((s t : Standing) (offset : Option Offsets) → Ended s t offset → Known_so s t offset)
     → ((s t : Standing) (offset : Option Offsets) → Held s t offset → Held_so s t offset)
@@ -255,7 +256,7 @@ moves_as Ended Held Known_so Held_so parent old new f g e known s same k l =
 
 -- ---- a directory
 
--- nothing is held of it
+-- a directory's end holds no image
 abbrev pub Nothing_held : Standing → Standing → Option Offsets → Type 0
 Nothing_held s t offset = Unit {0}
 

@@ -1,5 +1,5 @@
--- The end of an image leads from a standing of the file that it finds to one of the file that it leaves, in which the image is
--- held that was held while it was open.
+-- The end of an image leads from a `Standing` of the file before it to a `Standing` of the file
+-- after it. The image is held there if it is held while it is open.
 use Rattle.std.proofs.Common.{◌≡◌, ℕ, inl, inr, Bool, true, false, cond, List, ◌++◌, length, Option, Some, None, Result, Ok, Err, refl, ap, sym, ◌∙◌, subst}
 use Rattle.tiff_base.specs.declared.error.TiffError.{TiffError}
 use Rattle.tiff_base.specs.Field.{AreEntries}
@@ -28,26 +28,26 @@ use Rattle.tiff_encode.proofs.Data.Shows.{shown_as, data_ended, none_left, last_
 use Rattle.tiff_encode.proofs.EndLinks.{data_links}
 use Rattle.tiff_encode.proofs.Running.Ends.{IsEnding, no_offset, at, led, leads_still, moves_from, told_moves, fails_moves, moves_as}
 
--- what an option holds
+-- equal options have equal values
 held_so : {A : Type 0} (x y : A) → (let a : Option A = Some x in let b : Option A = Some y in a ≡ b) → x ≡ y
 held_so {A = A} x y h = ap held h where
   held : Option A → A
   held (Some z) = z
   held None = x
 
--- what is replied where the call answers nothing
+-- the reply of a call that returns nothing
 replied : Result (Unit {0}) TiffError → Result EndReply TiffError
 replied (Ok x) = Ok last.Nothing
 replied (Err e) = Err e
 
 -- ---- `finish` and `discard`
 
--- the samples of an image none of whose chunks is left
+-- an image ends with samples only if no chunk is left, and they are its samples before the end
 samples_kept : (b : Bool) (before samples : List (List ℕ)) → cond b None (Some before) ≡ Some samples → (b ≡ false) × (before ≡ samples)
 samples_kept true before samples h = absurd cc
 samples_kept false before samples h = (refl, held_so before samples h)
 
--- what is held of it
+-- the image that is held after its end
 abbrev HeldWhole : OpenImage → Standing → Standing → Option Offsets → Type 0
 HeldWhole i s t offset =
     (before samples : List (List ℕ)) (o : Offsets) → HoldsOpen s.file.kind s.model i before → offset ≡ Some o
@@ -98,7 +98,7 @@ module _ (i : OpenImage) (samples : List ℕ) (old new : FileState) (entries : A
     };
   }
 
-  -- all is written
+  -- `write_data` writes all samples
   module _ (w : IsWritten i samples old new) where
     abbrev told : WriteOutcome Offsets
     told = write_image_data i samples w.stored old
@@ -147,12 +147,12 @@ module _ (i : OpenImage) (samples : List ℕ) (old new : FileState) (entries : A
         subst (λ q. P q all) (held_so w.offsets o p)
         (subst (λ xs. P w.offsets xs) (held_so (before ++ parts_left i samples) all e) (data_held m before h)))
 
-  -- it stops
+  -- `write_data` stops
   module _ (e : TiffError) where
     abbrev Fault : Result EndReply TiffError
     Fault = Err e
 
-    -- within the chunks, of which some are stored
+    -- `write_data` stops within the chunks, some of which are stored
     stop_kept : StopsWithin i (parts_left i samples) e old new → (new.kind ≡ old.kind) × (new.chain ≡ old.chain)
     stop_kept h =
         let a = chunks_adding i (parts_left i samples) h.0 old in
@@ -182,7 +182,7 @@ module _ (i : OpenImage) (samples : List ℕ) (old new : FileState) (entries : A
     abbrev Stops : Standing → Standing → Option Offsets → Type 0
     Stops s t offset = WritesData i samples Fault s t offset
 
-    -- for this cause, if for any
+    -- `write_data` stops, by the error that refuses it
     stops_by : (cause : Option TiffError) → write_image_data_cause old i (length samples) ≡ cause → (m : Model) (t : Standing)
         → JobWritesDataBy cause i samples Fault (at old m) t None → Stops (at old m) t None
     stops_by cause q m t h = subst (λ c. JobWritesDataBy c i samples Fault (at old m) t None) (sym q) h
@@ -222,7 +222,7 @@ module _ (i : OpenImage) (samples : List ℕ) (old new : FileState) (entries : A
 
 -- ---- samples that are cut
 
--- they are those that are written, where memory for them is found
+-- the call writes the cut samples if memory for them is available
 pub cut_moves : (i : OpenImage) (r : Result EndReply TiffError) (samples cut : List ℕ) (old new : FileState) → samples ≡ cut
     → EndMoves (λ s t offset. WritesData i samples r s t offset) i.directory.parent old new (DataHeld i samples)
     → EndMoves (λ s t offset. WritesDataIfFound i cut r s t offset) i.directory.parent old new (DataHeld i cut)

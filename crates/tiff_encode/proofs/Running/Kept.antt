@@ -1,4 +1,4 @@
--- No step moves the chain's last link, or has another parent: of a directory, and of an image.
+-- No step of a directory or an image moves the last link of the chain or changes the parent.
 use Rattle.std.proofs.Common.{◌≡◌, ℕ, List, [], ◌∷◌, take, Result, Ok, Err, refl, ap, sym, ◌∙◌, inl, inr, subst}
 use Rattle.tiff_base.specs.declared.error.TiffError.{TiffError}
 use Rattle.tiff_base.specs.declared.tags.Tag.{Tag}
@@ -20,7 +20,7 @@ use Rattle.tiff_encode.proofs.Data.Calls.{bind_answered}
 
 -- ---- files
 
--- the kind of a file, and where the chain's last link stands
+-- the kind of a file and the offset of the chain's last link stay the same
 pub record IsSame (old new : FileState) : Type 0 where
   pub kind : new.kind ≡ old.kind
   pub chain : new.chain ≡ old.chain
@@ -35,11 +35,11 @@ module _ {A : Type 0} (told : WriteOutcome A) (old new : Standing) (a : IsAdding
   told_same : new.file ≡ told.next → IsSame old.file new.file
   told_same h = record { kind = ap (λ f. f.kind) (h ∙ a.next); chain = ap (λ f. f.chain) (h ∙ a.next) }
 
-  -- a call that only appends, where it is done
+  -- a call that only appends keeps the kind and the chain if it succeeds
   pub done_same : (r : Result A TiffError) → IsDone told r old new → IsSame old.file new.file
   done_same r d = told_same d.ended.state
 
-  -- and where it isn't
+  -- a call that only appends keeps the kind and the chain if it fails
   pub refused_same : (e : TiffError) → Refuses told e old new → IsSame old.file new.file
   refused_same e h = elim h as (λ _. IsSame old.file new.file) [
     | inl r ↦ told_same r.1.state
@@ -52,7 +52,7 @@ module _ {A : Type 0} (told : WriteOutcome A) (old new : Standing) (a : IsAdding
     ]
   ]
 
--- ---- steps by what they reply
+-- ---- steps by their replies
 
 pub changes_same : {S : Type 0} (call : Writing S) (s : S) (r : Result StepReply TiffError) (old new : Standing) (t : S)
     → IsAdding (call old.file) old.file → Changes call s r old new t → IsSame old.file new.file
@@ -61,7 +61,7 @@ changes_same call s (Ok (reply.Number n)) old new t a h = absurd h
 changes_same call s (Ok (reply.Written entry)) old new t a h = absurd h
 changes_same call s (Err e) old new t a h = refused_same (call old.file) old new a e h.1
 
--- what is answered is open then, or what was
+-- a property of what is open and of what the call returns holds after the step
 pub changes_to : {S : Type 0} (call : Writing S) (P : S → Type 0) (s : S) (r : Result StepReply TiffError) (old new : Standing) (t : S)
     → P s → ((x : S) → (call old.file).answer ≡ Ok x → P x) → Changes call s r old new t → P t
 changes_to call P s (Ok reply.Nothing) old new t p f h = f t h.ended.answer
@@ -123,7 +123,7 @@ data_buf_adding b file =
 
 -- ---- steps of a directory
 
--- the same parent
+-- two directories have the same parent
 abbrev pub HasParentOf : OpenDirectory → OpenDirectory → Type 0
 HasParentOf d e = e.parent ≡ d.parent
 
@@ -148,7 +148,7 @@ extend_parent : (d : OpenDirectory) (fields : List _) → HasParentOf d (extend_
 unfolding extend_from
 extend_parent d fields = refl
 
--- What a step leaves as it was.
+-- The properties that a step keeps.
 pub record IsKept (old : Standing) (d : OpenDirectory) (new : Standing) (e : OpenDirectory) : Type 0 where
   pub file : IsSame old.file new.file
   pub parent : HasParentOf d e

@@ -1,4 +1,4 @@
--- No step of an image moves the chain's last link, or has its directory linked from elsewhere.
+-- No step of an image moves the last link of the chain or changes the parent of its directory.
 use Rattle.std.proofs.Common.{◌≡◌, ℕ, List, [], ◌∷◌, length, take, drop, Option, Some, None, Result, Ok, Err, refl, ap, sym, ◌∙◌, inl, inr}
 use Rattle.tiff_base.specs.declared.error.TiffError.{TiffError}
 use Rattle.tiff_base.specs.declared.tags.ExtraSamples.{ExtraSamples}
@@ -27,11 +27,11 @@ use Rattle.tiff_encode.proofs.Running.Kept.{IsSame, same_by, same_on, done_same,
 
 -- ---- calls
 
--- an image whose directory has the same parent
+-- two images have directories with the same parent
 abbrev pub IsLinkedAs : OpenImage → OpenImage → Type 0
 IsLinkedAs i j = j.directory.parent ≡ i.directory.parent
 
--- A call of an image appends, and its directory has the parent that it had.
+-- A call of an image only appends, and the directory of the image keeps its parent.
 pub record Keeps (call : OpenImage → Writing OpenImage) : Type 0 where
   pub adding : (i : OpenImage) (file : FileState) → IsAdding (call i file) file
   pub parent : (i : OpenImage) (file : FileState) (j : OpenImage) → (call i file).answer ≡ Ok j → IsLinkedAs i j
@@ -41,7 +41,7 @@ caused_adding : {A : Type 0} (cause : Option TiffError) (call : Writing A) (file
 caused_adding None call file a = a
 caused_adding (Some e) call file a = answers_adding (Err e) file
 
--- a directory is written to, and an image has it
+-- a call writes to the directory, and the image has that directory
 module _ (cause : Option TiffError) (call : Writing OpenDirectory) (g : OpenDirectory → OpenImage) (file : FileState) where
   abbrev set_in : Writing OpenImage
   set_in = call >>= (λ x. gives (g x))
@@ -58,7 +58,7 @@ module _ (cause : Option TiffError) (call : Writing OpenDirectory) (g : OpenDire
       let a = bind_answered call (λ x. gives (g x)) file j all in
       ap (λ x. x.directory.parent) (sym (ok_inj (g a.0) j (ap (λ told. told.answer) (sym a.1.1) ∙ all))) ∙ f a.0 a.1.0
 
--- one tag, and some tags
+-- writing one tag or several tags only appends
 one_adding : (d : OpenDirectory) (t : Tag) (value : Scalars) (file : FileState) → IsAdding (write_tag d t (Ok (data_of value)) file) file
 one_adding d t value file = adding (write_tag d t (Ok (data_of value)) file) file (tag_adds d t (Ok (data_of value)) file)
 
@@ -158,7 +158,7 @@ chunk_linked cause i stored file j h =
     let a = bind_answered (appends stored) (λ offset. gives (last offset)) file j all in
     ap (λ x. x.directory.parent) (sym (ok_inj (last a.0) j (ap (λ told. told.answer) (sym a.1.1) ∙ all)))
 
--- of so many samples
+-- a call that stores a given number of samples
 abbrev pub StoringKeeps : (OpenImage → ℕ → List ℕ → Writing OpenImage) → Type 0
 StoringKeeps call = (count : ℕ) (stored : List ℕ) → Keeps (λ i. call i count stored)
 
@@ -178,7 +178,7 @@ chunk_keeps count stored = record {
 
 -- ---- steps
 
--- What a step leaves as it was.
+-- The properties that a step keeps.
 pub record IsKeptImage (old : Standing) (i : OpenImage) (new : Standing) (j : OpenImage) : Type 0 where
   pub file : IsSame old.file new.file
   pub parent : IsLinkedAs i j
@@ -194,7 +194,7 @@ changed_kept call i r old new j k h = record {
   parent = changes_to (call i) (IsLinkedAs i) i r old new j refl (λ x q. k.parent i old.file x q) h;
 }
 
--- resolutions that are written in part
+-- a step that writes the resolutions in part keeps these properties
 in_part : (i : OpenImage) (values : List (Tag × Scalars)) (e : TiffError) (old new : Standing) (j : OpenImage)
     → ResolvesInPart i values e old new j → IsKeptImage old i new j
 in_part i values e old new j h =

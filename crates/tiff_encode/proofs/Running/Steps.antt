@@ -1,4 +1,4 @@
--- What is so of a run of jobs is so after one more.
+-- The properties of a run of jobs hold after one more job.
 use Rattle.std.proofs.Common.{◌≡◌, ℕ, ◌^◌, ◌<◌, Bool, true, false, ◌⊎◌, List, [], ◌∷◌, ◌++◌, Option, Some, None, Result, Ok, Err, Vec, refl, ap, sym, ◌∙◌, inl, inr, subst}
 use Rattle.std.specs.Prelude.{zero, suc, slice_get, length, if◌then◌else◌, OnErr}
 use Rattle.std.specs.declared.alloc.Global.{Global}
@@ -50,30 +50,30 @@ use Rattle.tiff_encode.proofs.Running.KeptImages.{image_steps_kept}
 
 -- ---- links
 
--- a link is one in a file of the kind whose model has grown
+-- a link stays a link in a file of the same kind whose model grows
 pub link_on : (s t : Standing) (q : ℕ) → t.file.kind ≡ s.file.kind → Grows s.model t.model → IsLink s.file.kind s.model q
     → IsLink t.file.kind t.model q
 link_on s t q k g l = subst (λ kind. IsLink kind t.model q) (sym k) (link_kept s.file.kind s.model t.model q g l)
 
--- where the chain stays where it was
+-- the last link of the chain stays a link if the chain stays the same
 chain_on : (s t : Standing) → IsSame s.file t.file → Grows s.model t.model → IsLink s.file.kind s.model s.file.chain
     → IsLink t.file.kind t.model t.file.chain
 chain_on s t same g l =
     subst (λ q. IsLink t.file.kind t.model q) (sym same.chain) (link_on s t s.file.chain same.kind g l)
 
--- that of a parent
+-- the link of a parent stays a link
 parent_on : (known : Bool) (s t : Standing) (before after : Option ℕ) → t.file.kind ≡ s.file.kind → Grows s.model t.model
     → after ≡ before → HasLink known s before → HasLink known t after
 parent_on known s t before after k g same h q offset p = link_on s t offset k g (h q offset (sym same ∙ p))
 
--- what an option has
+-- equal options have equal values
 pub some_inj : {A : Type 0} (x y : A) → (let a : Option A = Some x in let b : Option A = Some y in a ≡ b) → x ≡ y
 some_inj x y h = cc
 
 pub none_some : {A : Type 0} {x : A} → (let a : Option A = None in let b : Option A = Some x in a ≡ b) → ⊥
 none_some h = cc
 
--- an image of those that an end adds is held
+-- each image that an end adds is held
 at_held : (t : Standing) (i : OpenImage) (offset : Option Offsets) (samples : Option (List (List ℕ))) (f : FinishedImage)
     → ((o : Offsets) (all : List (List ℕ)) → offset ≡ Some o → samples ≡ Some all
     → IsHeld t (record { offset = o.pointer; image = image_with i all }))
@@ -91,7 +91,7 @@ held_if : (apart : Bool) (t : Standing) (i : OpenImage) (offset : Option Offsets
 held_if true t i offset samples f h n = at_held t i offset samples f (h refl) n
 held_if false t i offset samples f h n = absurd n
 
--- ---- from steps to the end
+-- ---- from the steps to the end
 
 module _ (known : Bool) (s : Standing) (left new : FileState) (is_left : left ≡ new) where
   pub directory_goes : (first final : OpenDirectory) (j : DirectoryJob) (called : List DirectoryStep)
@@ -169,7 +169,7 @@ module _ {A : Type 0} where
   in_both x (z ∷ xs) ys (inl q) = inl (inl q)
   in_both x (z ∷ xs) ys (inr i) = elim (in_both x xs ys i) as (λ _. In x (z ∷ xs) ⊎ In x ys) [ inl j ↦ inl (inr j) | inr q ↦ inr q ]
 
--- an image that is held is held in a file of the kind whose model has grown
+-- a held image stays held in a file of the same kind whose model grows
 held_on : (s t : Standing) (f : FinishedImage) → t.file.kind ≡ s.file.kind → Grows s.model t.model → IsHeld s f → IsHeld t f
 held_on s t f k g h = record {
   image = h.image;
@@ -214,14 +214,14 @@ run_on : (Ran : Run → Run → Type 0) (r : JobReply) (known : Bool) (run : Run
     → t.file ≡ new → Ran run (run_after_job run t r.last images) → IsSound known run → Adding known run t r.last images → RunOn Ran r known run new
 run_on Ran r known run new t images f h s a = (run_after_job run t r.last images, (f, (h, (sound_more known run t r.last images s a, refl))))
 
--- ---- jobs that a fault ends at once
+-- ---- jobs that fail at once
 
 no_offsets : (r : Result EndReply TiffError) (e : TiffError) (o : Offsets) → r ≡ Err e → offsets_in r ≡ Some o → ⊥
 no_offsets (Err f) e o h q = cc
 no_offsets (Ok last.Nothing) e o h q = cc
 no_offsets (Ok (last.Offsets pointer link)) e o h q = cc
 
--- where nothing is done
+-- a job that changes nothing keeps the properties of the run
 pub refused_run : (e : TiffError) (r : JobReply) (known : Bool) (run : Run) → IsRefusedAtOnce e r → IsSound known run
     → IsSound known (run_after_job run run.standing r.last [])
 refused_run e r known run a s = sound_more known run run.standing r.last [] s (record {
@@ -233,7 +233,7 @@ refused_run e r known run a s = sound_more known run run.standing r.last [] s (r
   held = λ f i. absurd i;
 })
 
--- A call begins a directory or an image: it is done; or it fails. What stood stands.
+-- A call begins a directory or an image, or it fails. The model still describes the file.
 pub record Begun {A : Type 0} (call : Writing A) (old : FileState) (x : A) (mid : FileState) : Type 0 where
   pub told : IsTold (call old) (Ok x) mid
   pub leaves : (m : Model) → Stands old.kind old.bytes m → Stands old.kind mid.bytes (model_after old.kind old.bytes m (call old).deeds)
@@ -242,7 +242,7 @@ pub record NotBegun {A : Type 0} (call : Writing A) (old : FileState) (e : TiffE
   pub fails : CallFails (call old) e old new
   pub leaves : (m : Model) → Stands old.kind old.bytes m → Stands old.kind new.bytes m
 
--- as its guard's lender is told
+-- a call that returns an error begins no directory and no image
 pub not_begun_as : {A D : Type 0} (call : Writing A) (r : Result D TiffError) (e : TiffError) (old new : FileState) → r ≡ Err e
     → OnErr r (EndsRefused (call old) r old new × LeavesRefused r old new) → NotBegun call old e new
 not_begun_as call (Ok x) e old new h p = absurd cc
@@ -265,7 +265,7 @@ module _ {A : Type 0} (call : Writing A) (known : Bool) (s : Standing) (a : IsAd
       let here = subst (λ o. NotBegun call o e new) (sym q) b in
       seen view (call s.file) s new known k a (Err e) here.fails here.leaves
 
--- it is not begun
+-- a job whose directory or image fails to begin
 pub not_begun_runs : {A : Type 0} (call : Writing A) (e : TiffError) (r : JobReply) (old new : FileState) (known : Bool) (run : Run)
     → IsAdding (call run.standing.file) run.standing.file → NotBegun call old e new → IsRefusedAtOnce e r → run.standing.file ≡ old
     → IsSound known run → RunOn (λ run after. JobIsNotBegun (call run.standing.file) run r after) r known run new
@@ -288,12 +288,12 @@ not_begun_runs call e r old new known run a b refused q s =
 
 -- ---- directories
 
--- they append
+-- opening a directory only appends
 pub open_adding : (chained : Bool) (file : FileState) → IsAdding (open_directory chained file) file
 open_adding true file = adding (image_directory file) file (begin_adds file)
 open_adding false file = adding (extra_directory file) file (extra_adds file)
 
--- as it is chained
+-- a directory begins in the chain or outside of it
 pub begun_chained : (chained b : Bool) (old : FileState) (d : OpenDirectory) (mid : FileState) → chained ≡ b
     → Begun (open_directory b) old d mid → Begun (open_directory chained) old d mid
 begun_chained chained b old d mid h x = subst (λ c. Begun (open_directory c) old d mid) (sym h) x
@@ -302,7 +302,7 @@ pub not_begun_chained : (chained b : Bool) (old : FileState) (e : TiffError) (ne
     → NotBegun (open_directory b) old e new → NotBegun (open_directory chained) old e new
 not_begun_chained chained b old e new h x = subst (λ c. NotBegun (open_directory c) old e new) (sym h) x
 
--- it is not begun
+-- a job whose directory fails to begin
 pub directory_refused : (j : DirectoryJob) (r : JobReply) (e : TiffError) (old new : FileState) (known : Bool) (run : Run)
     (parent : Option Offsets) → NotBegun (open_directory j.chained) old e new → IsRefusedAtOnce e r → run.standing.file ≡ old
     → IsSound known run → RunOn (λ run after. DirectoryRan run parent j r after) r known run new
@@ -311,7 +311,7 @@ directory_refused j r e old new known run parent b refused q s =
     let x = not_begun_runs call e r old new known run (open_adding j.chained run.standing.file) b refused q s in
     (x.0, (x.1.0, (inl x.1.1.0, x.1.1.1)))
 
--- the parent is the chain's last link
+-- the parent of a chained directory is the last link of the chain
 chained_parent : (file : FileState) (d : OpenDirectory) → (image_directory file).answer ≡ Ok d → d.parent ≡ Some file.chain
 unfolding image_directory
 chained_parent file d h =
@@ -320,7 +320,7 @@ chained_parent file d h =
     let c = cause_answered (begin_cause file) call file d h in
     ap (λ x. x.parent) (sym (ok_inj empty d (ap (λ told. told.answer) (sym c.1) ∙ h)))
 
--- or there is none
+-- an extra directory has no parent
 extra_parent : (file : FileState) (d : OpenDirectory) → (extra_directory file).answer ≡ Ok d → d.parent ≡ None
 unfolding extra_directory
 extra_parent file d h =
@@ -334,7 +334,7 @@ open_parent : (chained known : Bool) (s t : Standing) (d : OpenDirectory) → (o
 open_parent true known s t d h k g l = parent_on known s t (Some s.file.chain) d.parent k g (chained_parent s.file d h) l
 open_parent false known s t d h k g l = λ q offset p. absurd (none_some (sym (extra_parent s.file d h) ∙ p))
 
--- a parent that was named
+-- a parent that a job names
 named_on : (known : Bool) (s t : Standing) (link : Option ℕ) (d : OpenDirectory) → t.file.kind ≡ s.file.kind → Grows s.model t.model
     → HasLink known s link → HasLink known t d.parent → HasLink known t (linked_from link d).parent
 named_on known s t None d k g h l = l
@@ -345,7 +345,7 @@ unfolding set_parent
 parented_so None d = refl
 parented_so (Some offsets) d = refl
 
--- the offsets that an end answers are those of its directory
+-- the offsets that an end returns are those of its directory
 answered_offset : (s : Standing) (d : OpenDirectory) (e : DirectoryEnd) (r : Result EndReply TiffError) (t : Standing) (offset : Option Offsets)
     (o : Offsets) → DirectoryEnds s d e r t offset → offsets_in r ≡ Some o → offset ≡ Some o
 answered_offset s d end.Finish (Ok (last.Offsets pointer link)) t offset o h q = h.1 ∙ q
@@ -355,7 +355,7 @@ answered_offset s d end.Discard (Ok (last.Offsets pointer link)) t offset o h q 
 answered_offset s d end.Discard (Ok last.Nothing) t offset o h q = absurd cc
 answered_offset s d end.Discard (Err e) t offset o h q = absurd cc
 
--- a directory that was begun and led to its end
+-- a job that begins a directory and runs to its end
 pub directory_runs : (link : Option ℕ) (j : DirectoryJob) (r : JobReply) (old mid left new : FileState) (d e : OpenDirectory) (known : Bool)
     (run : Run) (parent : Option Offsets) → Begun (open_directory j.chained) old d mid → e ≡ linked_from link d
     → DirectoryGoesOn e j r mid left → left ≡ new → new.kind ≡ old.kind → run.standing.file ≡ old → IsSound known run → link ≡ link_in parent
@@ -400,7 +400,7 @@ directory_runs link j r old mid left new d e known run parent b is goes is_left 
 
 -- ---- images
 
--- the end of an image answers no offsets
+-- the end of an image returns no offsets
 silent : (told : WriteOutcome Offsets) (r : Result EndReply TiffError) (s t : Standing) (offset : Option Offsets)
     → FinishesSilently told r s t offset → offsets_in r ≡ None
 silent told (Ok last.Nothing) s t offset h = refl
@@ -431,7 +431,7 @@ silent_end s i (iend.WriteData samples) r t offset h =
 silent_end s i iend.Finish r t offset h = silent (calls.finish_image i s.file) r s t offset h
 silent_end s i iend.Discard r t offset h = silent (calls.finish_image i s.file) r s t offset h
 
--- a new image's parent is the chain's last link
+-- the parent of a new image is the last link of the chain
 new_parent : (color : ColorTypeRecord) (size width height : ℕ) (file : FileState) (i : OpenImage)
     → (calls.new_image color size width height file).answer ≡ Ok i → i.directory.parent ≡ Some file.chain
 new_parent color size width height file i h =
@@ -441,7 +441,7 @@ new_parent color size width height file i h =
 abbrev pub job_image : ImageJob → Writing OpenImage
 job_image j = calls.new_image (color_type j.color) (inner_size j.color) j.width j.height
 
--- by its color type
+-- the call of a job, by its color type
 module _ (j : ImageJob) (color : ColorTypeRecord) (size : ℕ) (c : color ≡ color_type j.color) (n : size ≡ inner_size j.color) where
   pub begun_named : (old : FileState) (i : OpenImage) (mid : FileState) → Begun (calls.new_image color size j.width j.height) old i mid
       → Begun (job_image j) old i mid
@@ -455,7 +455,7 @@ module _ (j : ImageJob) (color : ColorTypeRecord) (size : ℕ) (c : color ≡ co
       subst (λ x. NotBegun (calls.new_image x (inner_size j.color) j.width j.height) old e new) c
       (subst (λ x. NotBegun (calls.new_image color x j.width j.height) old e new) n b)
 
--- it is not begun
+-- a job whose image fails to begin
 pub image_refused : (j : ImageJob) (r : JobReply) (e : TiffError) (old new : FileState) (known : Bool) (run : Run)
     → NotBegun (job_image j) old e new → IsRefusedAtOnce e r → run.standing.file ≡ old → IsSound known run
     → RunOn (λ run after. ImageRan run j r after) r known run new
@@ -464,7 +464,7 @@ image_refused j r e old new known run b refused q s =
     let x = not_begun_runs (job_image j) e r old new known run adds b refused q s in
     (x.0, (x.1.0, (inl x.1.1.0, x.1.1.1)))
 
--- an image that was begun and led to its end
+-- a job that begins an image and runs to its end
 pub image_runs : (j : ImageJob) (r : JobReply) (old mid left new : FileState) (i : OpenImage) (known : Bool) (run : Run)
     → j.width < 2 ^ 32 → j.height < 2 ^ 32 → (old.method ≡ method.None) ⊎ (old.method ≡ method.PackBits)
     → Begun (job_image j) old i mid → ImageGoesOn i j r mid left → left ≡ new → new.kind ≡ old.kind → run.standing.file ≡ old → IsSound known run
@@ -519,7 +519,7 @@ image_runs j r old mid left new i known run wide high packed b goes is_left kind
 
 -- ---- jobs
 
--- what is set changes neither the bytes nor the model
+-- a setting changes neither the bytes nor the model
 pub set_runs : (set : FileState → FileState) (j : Job) (r : JobReply) (old new : FileState) (known : Bool) (run : Run)
     → ((file : FileState) → IsSame file (set file) × ((set file).bytes ≡ file.bytes))
     → ((run after : Run) → IsSet set run r after → JobRan run j r after)
@@ -543,12 +543,12 @@ set_runs set j r old new known run keeps is h none ok q s =
     let ran_so : IsSet set run r (run_after_job run t r.last []) = (none, (ok, refl {a = run_after_job run t r.last []})) in
     run_on (λ run after. JobRan run j r after) r known run new t [] (ap set q ∙ sym h) (is run (run_after_job run t r.last []) ran_so) s more
 
--- the offsets that jobs answered, and those of one more
+-- the offsets that jobs return, and those of one more job
 answered_more : (earlier : List JobReply) (r : JobReply) → offsets_answered (earlier ++ r ∷ []) ≡ offsets_answered earlier ++ offsets_in r.last ∷ []
 answered_more [] r = refl
 answered_more (x ∷ earlier) r = ap (λ os. offsets_in x.last ∷ os) (answered_more earlier r)
 
--- A job that runs on from each run so far, runs on behind those that had these replies.
+-- A job that leads on from each run so far is one more job behind those with the earlier replies.
 pub job_moves : (j : Job) (earlier : List JobReply) (r : JobReply) (old new : FileState)
     → ((known : Bool) (run : Run) → run.standing.file ≡ old → run.offsets ≡ offsets_answered earlier → IsSound known run
     → RunOn (λ run after. JobRan run j r after) r known run new)
@@ -559,7 +559,7 @@ job_moves j earlier r old new f known run q o s =
     x.1.1.1.1 ∙ ap (λ os. os ++ offsets_in r.last ∷ []) o ∙ sym (answered_more earlier r) in
     (x.0, (x.1.0, (x.1.1.0, (x.1.1.1.0, more))))
 
--- a job that is known
+-- equal jobs run in the same way
 pub moves_as : (j k : Job) (earlier : List JobReply) (r : JobReply) (old new : FileState) → j ≡ k → JobMoves k earlier r old new
     → JobMoves j earlier r old new
 moves_as j k earlier r old new h m = subst (λ x. JobMoves x earlier r old new) (sym h) m
@@ -585,7 +585,7 @@ pub image_moves : (j : ImageJob) (earlier : List JobReply) (r : JobReply) (old n
 image_moves j earlier r old new kind h =
     job_moves (job.Image j) earlier r old new (λ known run q o s. h kind known run q s)
 
--- what is looked up is there
+-- an element found at an index is in the list
 in_got : {A : Type 0} (xs : List A) (n : ℕ) (x : A) → slice_get xs n ≡ Some x → In x xs
 in_got [] n x h = absurd (none_some h)
 in_got (y ∷ xs) zero x h = inl (some_inj x y (sym h))
@@ -603,7 +603,7 @@ named_in : (offsets : List (Option Offsets)) (parent : Option ℕ) (o : Offsets)
 named_in offsets None o h = absurd (none_some (ok_inj None (Some o) h))
 named_in offsets (Some n) o h = parent_in offsets n (slice_get offsets n) o refl h
 
--- a parent's link is one
+-- a parent's link is a link of the model
 named_link : (known : Bool) (run : Run) (o : Option Offsets) (parent : Option ℕ) → named_parent run.offsets parent ≡ Ok o
     → IsSound known run → HasLink known run.standing (link_in o)
 named_link known run None parent h s = λ q offset p. absurd (none_some p)
@@ -624,7 +624,7 @@ directory_moves j earlier r link old new n kind h =
     let x = h kind known run parent q s n.1.1 its in
     (x.0, (x.1.0, (subst (λ p. DirectoryRanBy run p j r x.0) (sym named) x.1.1.0, x.1.1.1))))
 
--- a directory whose parent was not written
+-- a directory whose parent isn't written
 pub unnamed_moves : (j : DirectoryJob) (earlier : List JobReply) (r : JobReply) (e : TiffError) (file : FileState)
     → NamesLink (offsets_answered earlier) j.parent (Err e) → r.steps.items ≡ [] → r.last ≡ Err e → JobMoves (job.Directory j) earlier r file file
 unnamed_moves j earlier r e file n none fault =

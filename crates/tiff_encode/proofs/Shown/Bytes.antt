@@ -1,4 +1,4 @@
--- Numbers in bytes: what is written as the bytes of some numbers, one after another, is read as these numbers.
+-- The bytes of numbers in sequence are read as these numbers.
 use Rattle.std.proofs.Common.{◌≡◌, ℕ, zero, suc, ◌+◌, ◌*◌, ◌^◌, ◌<◌, List, [], ◌∷◌, ◌++◌, length, drop, get_or, refl, ap, sym, ◌∙◌, subst, inl, inr, arith, append_assoc, length-append}
 use Rattle.std.proofs.lemmas.List.{ext_get_or, get_or-drop, get_or_append_left, drop-drop, drop_at}
 use Rattle.std.proofs.lemmas.List.FromFn.{length-map-range_with_len, get_or-map-range_with_len}
@@ -11,12 +11,12 @@ use Rattle.tiff_page.specs.Pixels.{tabulate, width_of}
 use Rattle.tiff_encode.proofs.Slices.{number-le, length-le}
 use Rattle.tiff_encode.proofs.Shown.Color.{IsSize}
 
--- one byte is its number
+-- one byte is read as its number
 byte_back : (x : ℕ) → x < 256 → number LittleEndian w8 (le 1 x) ≡ x
 unfolding number
 byte_back x h = mod-eq_of_lt h
 
--- a number that is written is the one that is read: of so many bytes
+-- a number of a supported size is read back as written
 number_back : (size x : ℕ) → IsSize size → x < 256 ^ size → number LittleEndian (width_of size) (le size x) ≡ x
 number_back size x s =
     let P : ℕ → Type 0 = λ n. x < 256 ^ n → number LittleEndian (width_of n) (le n x) ≡ x in
@@ -31,7 +31,7 @@ number_back size x s =
       ]
     ]
 
--- the bytes that stand where a number was written
+-- the bytes at the offset of a written number
 bytes_there : (size x at : ℕ) (bytes rest : List ℕ) (f : ℕ → ℕ) → drop at bytes ≡ le size x ++ rest
     → ((j : ℕ) → j < size → f j ≡ get_or bytes (at + j) 0) → tabulate size f ≡ le size x
 bytes_there size x at bytes rest f e h =
@@ -45,7 +45,7 @@ bytes_there size x at bytes rest f e h =
     ∙ ap (λ (s : List ℕ). get_or s j 0) e
     ∙ get_or_append_left (le size x) rest 0 j (omega (arith, c, k)))
 
--- number k of some numbers stands in their bytes
+-- the bytes of numbers contain number k at its offset
 stands_there : (n : ℕ) (numbers rest : List ℕ) (k : ℕ) → k < length numbers
     → (tail : List ℕ) × (drop (k * n) (flat_map (le n) numbers ++ rest) ≡ le n (get_or numbers k 0) ++ tail)
 stands_there n [] rest k h = Prim.absurd (omega (arith, h))
@@ -65,7 +65,7 @@ stands_there n (x ∷ xs) rest (suc k) h =
           ∙ i.1,
     )
 
--- number k of some numbers is read in their bytes, whatever stands behind them
+-- number k is read from the bytes of numbers, whatever bytes follow
 pub number_found : (size : ℕ) (numbers rest : List ℕ) (k : ℕ) (f : ℕ → ℕ) → IsSize size → k < length numbers
     → get_or numbers k 0 < 256 ^ size
     → ((j : ℕ) → j < size → f j ≡ get_or (flat_map (le size) numbers ++ rest) (k * size + j) 0)
@@ -76,7 +76,7 @@ number_found size numbers rest k f s h b e =
     (bytes_there size (get_or numbers k 0) (k * size) (flat_map (le size) numbers ++ rest) i.0 f i.1 e)
     ∙ number_back size (get_or numbers k 0) s b
 
--- so many bytes are written
+-- the total number of bytes of some numbers
 pub length_written : (n : ℕ) (numbers : List ℕ) → length (flat_map (le n) numbers) ≡ length numbers * n
 length_written n [] = omega arith
 length_written n (x ∷ xs) =

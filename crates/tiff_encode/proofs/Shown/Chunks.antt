@@ -1,4 +1,4 @@
--- Chunks that stand for samples show them.
+-- Chunks that encode samples show them.
 use Rattle.std.proofs.Common.{◌≡◌, ℕ, ◌+◌, ◌*◌, ◌%◌, ◌^◌, ◌<◌, ◌≤◌, false, List, ◌++◌, length, get_or, ap, sym, ◌∙◌, subst, arith, length-append}
 use Rattle.std.specs.Prelude.{slice_index}
 use Rattle.std.proofs.lemmas.Bool.{le-ltb}
@@ -22,17 +22,17 @@ use Rattle.tiff_encode.proofs.Shown.Color.{IsOf, of_family, IsColored, colored}
 use Rattle.tiff_encode.proofs.Shown.Data.{data_begin, row_is, length_bytes, number_is}
 use Rattle.tiff_encode.proofs.Shown.Offsets.{plane_within, sample_within, chunk_listed, offset_within, offset_same, needed_within}
 
--- an image, all of whose chunks were written, and the samples that they were handed
+-- an image with all chunks written, and the samples that the chunks receive
 module _ (kind : FileKind) (file : List ℕ) (i : OpenImage) (samples : List (List ℕ))
     (w : IsWholeImage kind i) (h : AreHanded i samples) (there : HasChunks file i samples) where
-  -- its page
+  -- the page of the image
   abbrev p : PageRecord
   p = image_page i
 
   sides : HasSides p
   sides = record { wide = w.wide.0; high = w.high.0; chunk_wide = w.form.wide.0; chunk_high = w.form.high.0 }
 
-  -- its color
+  -- the color type of the image is of a family
   is_of : IsOf i.color i.size
   is_of =
       let P : ColorTypeRecord → Type 0 = λ c. IsOf c i.size in
@@ -42,7 +42,7 @@ module _ (kind : FileKind) (file : List ℕ) (i : OpenImage) (samples : List (Li
   tinted : IsColored i
   tinted = colored i is_of
 
-  -- a chunk's data begin with its bytes
+  -- the data of a chunk begin with the chunk's bytes
   begins : (k : ℕ) → k < all_chunks p
       → (rest : List ℕ) × (chunk_data file LittleEndian p k ≡ unpacked_chunk i (samples_of_chunk samples k) ++ rest)
   begins k b =
@@ -52,7 +52,7 @@ module _ (kind : FileKind) (file : List ℕ) (i : OpenImage) (samples : List (Li
       let P : ℕ → Type 0 = λ n. (rest : List ℕ) × (data_by_method file LittleEndian p i.method offset n ≡ bytes ++ rest) in
       subst P t.1.1.0 (data_begin file LittleEndian p offset t.0 bytes t.1.0 i.method w.packed_by t.1.1.1)
 
-  -- they are not too few
+  -- no chunk has too few data
   not_short : (k : ℕ) → k < all_chunks p → is_short file LittleEndian p tinted.color k ≡ false
   not_short k b =
       let t = begins k b in
@@ -66,7 +66,7 @@ module _ (kind : FileKind) (file : List ℕ) (i : OpenImage) (samples : List (Li
       let d : length (chunk_data file LittleEndian p k) ≡ length bytes + length t.0 = ap length t.1 ∙ length-append bytes t.0 in
       le-ltb (length (chunk_data file LittleEndian p k)) (needed_bytes p tinted.color k) (omega (arith, n, r, a, l, d))
 
-  -- a sample is the one that was handed
+  -- a shown sample is the sample that the chunk receives
   sample_shown : (x y sample : ℕ) → x < p.width → y < p.height → sample < num_samples tinted.color
       → shown_sample file LittleEndian p x y sample ≡ sample_in p samples x y sample
   unfolding shown_sample sample_in
@@ -87,7 +87,7 @@ module _ (kind : FileKind) (file : List ℕ) (i : OpenImage) (samples : List (Li
       ∙ number_is i tinted xs file t.0 k t.1 (h.small k) w.predicted_by row column one f (mod_below x p.chunk_width sides.chunk_wide) within
       ∙ ap (λ (n : ℕ). get_or xs n 0) (offset_same p sides row column one)
 
--- chunks that stand for samples show them
+-- chunks that encode samples show them
 pub chunks_show : ChunksShow
 chunks_show kind file i samples w h there =
     let c = tinted kind file i samples w h there in

@@ -1,4 +1,4 @@
--- The page of an image of a named color type has a color, of no more samples than a pixel has.
+-- The page of an image of a named color type has a color with no more samples than a pixel.
 use Rattle.std.proofs.Common.{◌≡◌, ◌==◌, ℕ, ◌+◌, ◌*◌, ◌≤◌, ◌⊎◌, true, false, cond, Bool, List, [], ◌∷◌, length, get_or, replicate, Ok, refl, ap, ◌∙◌, inl, inr, arith}
 use Rattle.std.proofs.lemmas.Bool.{ne_eqb}
 use Rattle.std.proofs.lemmas.List.{length-replicate}
@@ -22,7 +22,7 @@ use Rattle.tiff_encode.specs.Chunks.{all_samples, image_page}
 
 -- ---- six families
 
--- an interpretation and a number of samples
+-- a photometric interpretation and a number of samples
 pub data Family : Type 0 where
   OneGray : Family
   ThreeRgb : Family
@@ -47,11 +47,11 @@ count_of FourCmyk = 4
 count_of FiveCmyk = 5
 count_of ThreeYcbcr = 3
 
--- the bytes that a sample may have
+-- the number of bytes that a sample may have
 abbrev pub IsSize : ℕ → Type 0
 IsSize size = (size ≡ 1) ⊎ ((size ≡ 2) ⊎ ((size ≡ 4) ⊎ (size ≡ 8)))
 
--- A color type of a family, whose samples have so many bytes.
+-- A color type of a family, whose samples have the given number of bytes.
 pub record IsOf (c : ColorTypeRecord) (size : ℕ) : Type 0 where
   pub family : Family
   pub interpretation : c.interpretation ≡ meaning_of family
@@ -74,7 +74,7 @@ four = inr (inr (inl refl))
 eight : IsSize 8
 eight = inr (inr (inr refl))
 
--- each name is of a family
+-- each named color type is of a family
 pub of_family : (name : ColorTypeName) → IsOf (color_type name) (inner_size name)
 unfolding color_type inner_type
 of_family n.Gray8 = alike OneGray 1 Uint one
@@ -108,9 +108,9 @@ of_family n.CMYK64Float = alike FourCmyk 8 IEEEFP eight
 of_family n.YCbCr8 = alike ThreeYcbcr 1 Uint one
 of_family n.CMYKA8 = alike FiveCmyk 1 Uint one
 
--- ---- its color
+-- ---- the color of a family
 
--- a color of no more samples than a pixel has
+-- a color with no more samples than a pixel
 abbrev pub HasColor : PhotometricInterpretation → PageRecord → ℕ → Type 0
 HasColor interpretation p most = (color : ColorType) × ((color_from interpretation p ≡ Ok color) × (num_samples color ≤ most))
 
@@ -121,12 +121,12 @@ by_test : (b : Bool) (x y : ColorType) (interpretation : PhotometricInterpretati
 by_test true x y interpretation p most e h k = (x, (e, h refl))
 by_test false x y interpretation p most e h k = (y, (e, k))
 
--- where the first extra sample is alpha, there is one
+-- if the first extra sample is alpha, there is at least one
 some_alpha : (extra : List ExtraSamples) → first_is_alpha extra ≡ true → 1 ≤ length extra
 some_alpha [] e = cc
 some_alpha (x ∷ extra) e = omega arith
 
--- a page with so many samples that are no extra ones
+-- a page with the samples of a family, without the extra ones
 module _ (p : PageRecord) (most : ℕ) (all : p.samples ≤ most) where
   gray_has : p.samples ≡ 1 + length p.extra → HasColor meaning.BlackIsZero p most
   gray_has e =
@@ -150,7 +150,7 @@ module _ (p : PageRecord) (most : ℕ) (all : p.samples ≤ most) where
   family_has FiveCmyk e h = (CMYKA p.depth, (rw h refl, omega (arith, all, e)))
   family_has ThreeYcbcr e h = (YCbCr p.depth, (rw h refl, omega (arith, all, e)))
 
--- nothing is inverted
+-- the numbers of no family are inverted
 plain_family : (f : Family) (limit v : ℕ)
     → shown_number (meaning_of f) limit v ≡ v
 plain_family OneGray limit v = refl
@@ -160,7 +160,7 @@ plain_family FourCmyk limit v = refl
 plain_family FiveCmyk limit v = refl
 plain_family ThreeYcbcr limit v = refl
 
--- the first of alike numbers
+-- the first of equal numbers
 first_of : (f : Family) (x : ℕ) → get_or (replicate (count_of f) x) 0 0 ≡ x
 first_of OneGray x = refl
 first_of ThreeRgb x = refl
@@ -169,7 +169,7 @@ first_of FourCmyk x = refl
 first_of FiveCmyk x = refl
 first_of ThreeYcbcr x = refl
 
--- What is needed of the color of an image.
+-- The required properties of an image's color.
 pub record IsColored (i : OpenImage) : Type 0 where
   pub color : ColorType
   pub is_color : color_of (image_page i) ≡ Ok color
@@ -178,7 +178,7 @@ pub record IsColored (i : OpenImage) : Type 0 where
   pub is_size : IsSize i.size
   pub upright : (limit v : ℕ) → shown_number i.color.interpretation limit v ≡ v
 
--- an image of a color type of a family
+-- an image whose color type is of a family
 pub colored : (i : OpenImage) → IsOf i.color i.size → IsColored i
 unfolding color_of
 colored i c =

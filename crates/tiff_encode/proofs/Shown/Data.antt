@@ -31,10 +31,10 @@ use Rattle.tiff_encode.proofs.Shown.Color.{IsSize, IsColored}
 use Rattle.tiff_encode.proofs.Shown.Bytes.{number_found, length_written}
 use Rattle.tiff_encode.proofs.Shown.Undone.{summed, kept_small}
 
--- what is stored for bytes, where it stands in a file, gives data that begin with these bytes
+-- bytes stored in a file decode to data that begin with the given bytes
 module _ (file : List ℕ) (order : ByteOrder) (p : PageRecord) (offset : ℕ) (stored bytes : List ℕ)
     (there : exactly_at file offset (length stored) ≡ Ok stored) where
-  -- such data
+  -- the data begin with the given bytes
   abbrev Begins : CompressionMethod → Type 0
   Begins m = (rest : List ℕ) × (data_by_method file order p m offset (length stored) ≡ bytes ++ rest)
 
@@ -67,7 +67,7 @@ module _ (file : List ℕ) (order : ByteOrder) (p : PageRecord) (offset : ℕ) (
         | inr e ↦ subst P (sym e) (λ s. unpacked _ (unpacks bytes stored s) refl)
       ]
 
--- the bits of a sample are those of its bytes
+-- the bits of a sample are the bits of its bytes
 bits_of : (size : ℕ) → IsSize size → 2 ^ (8 * size) ≡ 256 ^ size
 bits_of size s =
     let P : ℕ → Type 0 = λ n. 2 ^ (8 * n) ≡ 256 ^ n in
@@ -90,24 +90,24 @@ module _ (i : OpenImage) (c : IsColored i) where
   abbrev pub p : PageRecord
   p = image_page i
 
-  -- the numbers of a row, and those of a pixel
+  -- the number of samples of a row, and of a pixel
   abbrev pub l : ℕ
   l = row_samples p
 
   abbrev pub s : ℕ
   s = stored_samples p
 
-  -- a number has whole bytes
+  -- the depth is a whole number of bytes
   size_is : p.depth / 8 ≡ i.size
   size_is = omega (arith, c.depth)
 
-  -- and so has a row
+  -- a row is a whole number of bytes
   pub row_is : stored_row_bytes p ≡ l * i.size
   row_is = let e : p.depth ≡ i.size * 8 = omega (arith, c.depth) in bits_are p.chunk_width p.depth i.size s e
 
   -- the samples of a chunk
   module _ (xs : List ℕ) where
-    -- what is kept of each
+    -- the number that is kept for each sample
     abbrev kept_of : ℕ → ℕ
     kept_of = stored_difference i.predictor (256 ^ i.size) l s xs
 
@@ -118,25 +118,25 @@ module _ (i : OpenImage) (c : IsColored i) where
     unfolding unpacked_chunk differences
     bytes_are = refl
 
-    -- its bytes
+    -- the number of bytes of a chunk
     pub length_bytes : length (unpacked_chunk i xs) ≡ length xs * i.size
     length_bytes =
         ap length bytes_are ∙ length_written i.size kept_all
         ∙ ap (λ (n : ℕ). n * i.size) (length-map-range_with_len kept_of 0 (length xs))
 
-    -- where data begin with its bytes
+    -- the data of a chunk begin with its bytes
     module _ (file rest : List ℕ) (k : ℕ) (begins : chunk_data file LittleEndian p k ≡ unpacked_chunk i xs ++ rest)
         (small : (n : ℕ) → get_or xs n 0 < 256 ^ i.size) (way : (i.predictor ≡ predictor.None) ⊎ (i.predictor ≡ predictor.Horizontal))
         (row : ℕ) where
-      -- the offset of a number
+      -- the index of a number
       abbrev at : ℕ → ℕ → ℕ
       at column sample = row * l + (column * s + sample)
 
-      -- the row, as it is stored
+      -- a row as the file stores it
       abbrev stored : List ℕ
       stored = stored_row file LittleEndian p k row
 
-      -- a number as it stands is what was kept
+      -- a stored number is the kept one
       raw_is : (column sample : ℕ) → column * s + sample < l → at column sample < length xs
           → row_number LittleEndian (number_size p) stored (column * s + sample) ≡ kept_of (at column sample)
       raw_is column sample inside h =
@@ -161,7 +161,7 @@ module _ (i : OpenImage) (c : IsColored i) where
           (subst (λ (m : ℕ). m < 256 ^ i.size) (sym there) fits) e
           ∙ there
 
-      -- and the number of a sample is the sample
+      -- the number of a sample is the sample
       pub number_is : (column sample : ℕ) → sample < s → column < p.chunk_width → at column sample < length xs
           → stored_number file LittleEndian p k row column sample ≡ get_or xs (at column sample) 0
       number_is column sample first inside h =

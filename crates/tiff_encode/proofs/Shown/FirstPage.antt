@@ -1,4 +1,4 @@
--- The header of a file in which a model stands.
+-- The header of a file that a model describes.
 use Rattle.std.proofs.Common.{◌≡◌, ℕ, zero, suc, ◌-◌, ◌<◌, Bool, true, false, cond, List, ◌∷◌, ◌++◌, length, drop, Result, Ok, Err, refl, ap, sym, ◌∙◌, subst, arith}
 use Rattle.std.proofs.lemmas.Bool.{le-leb}
 use Rattle.std.proofs.Math.Dec.{eqb-suc-zero}
@@ -16,7 +16,7 @@ use Rattle.tiff_encode.specs.FileBytes.{header_mark}
 use Rattle.tiff_encode.specs.Laws.{FirstTold}
 use Rattle.tiff_encode.proofs.Slices.{ok_bind}
 
--- a test that answered what it gives
+-- if a choice between a value and an error succeeds, it returns the value
 if_ok : {A : Type 0} (b : Bool) (x y : A) (e : TiffError) → (let r : Result A TiffError = Ok y in cond b (Ok x) (Err e) ≡ r) → x ≡ y
 if_ok true x y e h = cc
 if_ok false x y e h = absurd cc
@@ -27,13 +27,13 @@ marked file mark h =
     ap (λ xs. xs ++ drop (length mark) file) (sym (if_ok (nat_le (length mark) (length file - 0)) (bytes_at file 0 (length mark)) mark _ h))
     ∙ take-append-drop (length mark) file
 
--- what a first offset that isn't 0 makes
+-- a first offset that isn't 0 is a first directory
 first_of : (kind : FileKind) (p : ℕ) → 0 < p
     → header_of LittleEndian kind p ≡ Ok (record { order = LittleEndian; kind = kind; first = p })
 first_of kind zero h = absurd (omega (arith, h))
 first_of kind (suc n) h = rw (eqb-suc-zero n) refl
 
--- a classic file's header
+-- the header of a classic file
 classic_told : (rest : List ℕ) (p : ℕ) → 0 < p → number_at LittleEndian w32 (73 ∷ 73 ∷ 42 ∷ 0 ∷ rest) 4 ≡ Ok p
     → header_at (73 ∷ 73 ∷ 42 ∷ 0 ∷ rest) ≡ Ok (record { order = LittleEndian; kind = Classic; first = p })
 unfolding header_at number
@@ -47,7 +47,7 @@ classic_told rest p h n =
     (ok_bind (number_at LittleEndian w16 file 2) _ 42 _ version
     (ok_bind (number_at LittleEndian w32 file 4) _ p _ n (first_of Classic p h)))
 
--- a BigTIFF file's
+-- the header of a BigTIFF file
 big_told : (rest : List ℕ) (p : ℕ) → 0 < p → number_at LittleEndian w64 (73 ∷ 73 ∷ 43 ∷ 0 ∷ 8 ∷ 0 ∷ 0 ∷ 0 ∷ rest) 8 ≡ Ok p
     → header_at (73 ∷ 73 ∷ 43 ∷ 0 ∷ 8 ∷ 0 ∷ 0 ∷ 0 ∷ rest) ≡ Ok (record { order = LittleEndian; kind = Big; first = p })
 unfolding header_at number
@@ -67,7 +67,7 @@ big_told rest p h n =
     (ok_bind (number_at LittleEndian w16 file 6) _ 0 _ zeros
     (ok_bind (number_at LittleEndian w64 file 8) _ p _ n (first_of Big p h)))))
 
--- the header tells the first directory
+-- the header contains the offset of the first directory
 pub first_told : FirstTold
 first_told Classic file m p s e h =
     let same : (73 ∷ 73 ∷ 42 ∷ 0 ∷ drop 4 file) ≡ file = marked file (header_mark Classic) s.header in

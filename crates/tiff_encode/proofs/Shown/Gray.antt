@@ -1,4 +1,4 @@
--- The first page of a file that an image was written into.
+-- The first page of a file with one written image.
 use Rattle.std.proofs.Common.{◌≡◌, ℕ, suc, ◌%◌, ◌<◌, List, [], ◌∷◌, map, get_or, Fits, w8, Ok, refl, ap, sym, ◌∙◌, subst, arith}
 use Rattle.tiff_base.specs.declared.color.ColorType.{ColorType}
 use Rattle.tiff_base.specs.declared.color.ColorType.TheVariants.{Gray}
@@ -76,7 +76,7 @@ gray_shown width height samples old new m k chain some packed predicted l =
           (subst (λ i. Shows Classic new.bytes first.offset (image_of_samples i samples)) (sym n.1.0) (subst (λ kind. Shows kind new.bytes first.offset (image_of_samples l.image samples)) k first.shows));
     }
 
--- a header's link is its only one
+-- the link of a header is the only link of its model
 pub header_chain : (kind : FileKind) (chain : ℕ) → IsLink kind (header_model kind) chain → chain ≡ header_link kind
 header_chain kind chain l = only_link kind chain l
 
@@ -89,7 +89,7 @@ octets_alone [] h = refl
 octets_alone (x ∷ xs) h =
     let e : x % 256 ≡ x = byte_alone x (h 0) in (λ j. e j ∷ octets_alone xs (λ i. h (suc i)) j)
 
--- an image of gray bytes is shown
+-- the file shows an image of gray bytes
 pub gray_bytes_shown : (width height : ℕ) (samples : List ℕ) (old new : FileState) (m : Model) → ((i : ℕ) → Fits w8 (get_or samples i 0))
     → old.kind ≡ Classic → old.chain ≡ header_link Classic → 0 < end_of old → old.method ≡ method.None → old.predictor ≡ predictor.None
     → LeavesImage (record { interpretation = BlackIsZero; bits = 8 ∷ []; formats = Uint ∷ [] }) 1 width height (map (sample_number 1 (λ n. n)) samples) old new m

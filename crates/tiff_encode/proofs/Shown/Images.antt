@@ -1,4 +1,4 @@
--- What stands and holds an image shows it.
+-- An image that a file contains and holds is shown.
 use Rattle.std.proofs.Common.{ℕ, List, refl}
 use Rattle.std.specs.Prelude.{slice_index}
 use Rattle.tiff_base.specs.declared.tags.FileKind.{FileKind}
@@ -8,14 +8,14 @@ use Rattle.tiff_encode.specs.Chunks.{image_page, sample_in}
 use Rattle.tiff_encode.specs.Held.{HasChunks, RegionsHaveChunks, ShowsSamples, PageTold, ImagesShow}
 use Rattle.tiff_encode.proofs.Shown.Chunks.{chunks_show}
 
--- regions that stand for the samples of chunks stand in the file
+-- regions that encode the samples of chunks are in the file
 regions_stand : (kind : FileKind) (file : List ℕ) (m : Model) (i : OpenImage) (samples : List (List ℕ))
     → Stands kind file m → RegionsHaveChunks m i samples → HasChunks file i samples
 regions_stand kind file m i samples s r k b =
     let t = r k b in
     (t.0, (s.regions (record { offset = slice_index (image_page i).offsets k; bytes = t.0 }) t.1.0, t.1.1))
 
--- where a directory that holds what an image says of itself is the image's page
+-- images are shown if a directory with the tags of an image is read as the image's page
 pub images_show_by : PageTold → ImagesShow
 images_show_by told kind file m d fields given i samples s in_directories is_listed holds whole tells handed regions =
     let c : ShowsSamples file (image_page i) (sample_in (image_page i) samples) =

@@ -1,4 +1,5 @@
--- Where a pixel's samples are among those of its chunk, and how many bytes of a chunk are needed.
+-- Where a pixel's samples are among those of its chunk, and how many bytes of a chunk the page
+-- needs.
 use Rattle.std.proofs.Common.{◌≡◌, ℕ, ◌+◌, ◌-◌, ◌*◌, ◌/◌, ◌%◌, ◌<◌, ◌≤◌, min, Bool, true, false, cond, ap, sym, subst, arith}
 use Rattle.std.proofs.lemmas.Nat.{mod_below, div-add-mod'}
 use Rattle.std.proofs.Math.Nat.{mul_comm, mul_assoc, mul-le-mul_left, mul-le-mul_right}
@@ -20,12 +21,12 @@ use Rattle.tiff_encode.specs.Chunks.{is_tile, chunk_rows, row_samples, chunk_sam
 
 -- ---- planes
 
--- a sample's plane is one of the planes
+-- the plane of a sample is one of the planes
 pub plane_within : (planar : PlanarConfiguration) (samples sample : ℕ) → sample < samples → planar_or planar sample 0 < planes_of planar samples
 plane_within Chunky samples sample h = omega arith
 plane_within Planar samples sample h = h
 
--- and it is one of those that a chunk of the plane has
+-- a sample is one of those that a chunk of its plane stores
 pub sample_within : (planar : PlanarConfiguration) (samples sample : ℕ) → sample < samples → planar_or planar 0 sample < planar_or planar 1 samples
 sample_within Chunky samples sample h = h
 sample_within Planar samples sample h = omega arith
@@ -38,7 +39,7 @@ shown_within Planar samples color h = omega arith
 
 -- ---- rows
 
--- the rows of a chunk are those that the image has there, or more
+-- a chunk has at least as many rows as the image has there
 rows_of : (type : ChunkType) (all some : ℕ) → some ≤ all → some ≤ (cond (is_tile type) all some)
 rows_of Tile all some h = h
 rows_of Strip all some h = omega arith
@@ -47,7 +48,7 @@ row_of : (type : ChunkType) (all some row : ℕ) → row < all → row < some �
 row_of Tile all some row a b = a
 row_of Strip all some row a b = b
 
--- a row within the part of the image that a chunk has
+-- a row lies within the part of the image that its chunk covers
 row_in_part : (y n h : ℕ) → 0 < n → y < h → y % n < min n (h - y / n * n)
 row_in_part y n h p q =
     let e : y / n * n + y % n ≡ y = div-add-mod' y n in
@@ -55,7 +56,7 @@ row_in_part y n h p q =
     omega (arith, e, m, q)
 
 module _ (p : PageRecord) (sides : HasSides p) where
-  -- a chunk's part of the image is not higher than the chunk
+  -- the part of the image that a chunk covers is not higher than the chunk
   height_within : (k : ℕ) → (rect p k).height ≤ p.chunk_height
   unfolding rect
   height_within k = omega arith
@@ -69,7 +70,7 @@ module _ (p : PageRecord) (sides : HasSides p) where
     abbrev k : ℕ
     k = chunk_of_pixel p plane x y
 
-    -- its chunk is one of all
+    -- the chunk of a pixel is one of all chunks
     pub chunk_listed : plane < planes_of p.planar p.samples → k < all_chunks p
     chunk_listed h =
         one_below (y / p.chunk_height * across p + x / p.chunk_width) plane (chunks_of_plane p) (planes_of p.planar p.samples)
@@ -79,13 +80,13 @@ module _ (p : PageRecord) (sides : HasSides p) where
     unfolding rect
     height_is = ap (λ (z : ℕ). min p.chunk_height (p.height - z * p.chunk_height)) (row_is p plane x y sides xl yl)
 
-    -- its row is one of the chunk's
+    -- the row of a pixel is a row of its chunk
     row_within : y % p.chunk_height < chunk_rows p k
     row_within =
         let r : y % p.chunk_height < (rect p k).height = subst (λ (n : ℕ). y % p.chunk_height < n) (sym height_is) (row_in_part y p.chunk_height p.height sides.chunk_high yl) in
         row_of p.chunk_type p.chunk_height (rect p k).height (y % p.chunk_height) (mod_below y p.chunk_height sides.chunk_high) r
 
-    -- its sample is one of the chunk's
+    -- the sample of a pixel is a sample of its chunk
     pub offset_within : (sample : ℕ) → sample < stored_samples p
         → y % p.chunk_height * row_samples p + (x % p.chunk_width * stored_samples p + sample) < chunk_samples p k
     offset_within sample h =
@@ -96,14 +97,14 @@ module _ (p : PageRecord) (sides : HasSides p) where
         subst (λ (n : ℕ). y % p.chunk_height * row_samples p + q < n) e
         (one_below q (y % p.chunk_height) (row_samples p) (chunk_rows p k) (omega (arith, u, h)) row_within)
 
-  -- where the samples stand, by rows or by pixels
+  -- the offset of a sample, by rows or by pixels
   pub offset_same : (row column sample : ℕ)
       → row * row_samples p + (column * stored_samples p + sample) ≡ (row * p.chunk_width + column) * stored_samples p + sample
   offset_same row column sample =
       let e : row * p.chunk_width * stored_samples p ≡ row * (p.chunk_width * stored_samples p) = mul_assoc row p.chunk_width (stored_samples p) in
       omega (arith, e)
 
-  -- what is needed of the last row is no more than a row
+  -- the needed part of the last row is at most a row
   last_within : (color : ColorType) (i : ℕ) → num_samples color ≤ p.samples
       → needed_of_row p color (row_bytes p color (rect p i).width) ≤ stored_row_bytes p
   unfolding row_bits
@@ -118,7 +119,7 @@ module _ (p : PageRecord) (sides : HasSides p) where
         | false ↦ omega (arith, a, b)
       ]
 
-  -- a chunk's rows are all that is needed of it
+  -- the needed bytes of a chunk are at most its rows
   pub needed_within : (color : ColorType) (i : ℕ) → num_samples color ≤ p.samples
       → needed_bytes p color i ≤ chunk_rows p i * stored_row_bytes p
   needed_within color i few =

@@ -1,4 +1,4 @@
--- The samples that `write_data` hands to the chunks of an image are those of the image.
+-- The samples that `write_data` passes to the chunks of an image are those of the image.
 use Rattle.std.proofs.Common.{◌≡◌, ℕ, ◌+◌, ◌*◌, ◌/◌, ◌%◌, ◌<◌, ◌≤◌, Bool, true, false, cond, List, [], length, take, drop, refl, ap, sym, ◌∙◌, subst, arith}
 use Rattle.std.specs.Prelude.{◌&&◌, not, nat_lt, slice_index}
 use Rattle.std.proofs.lemmas.Bool.{lt-ltb}
@@ -29,18 +29,18 @@ use Rattle.tiff_encode.specs.ImageData.{image_of_samples, PartsShow}
 use Rattle.tiff_encode.proofs.Shown.Offsets.{plane_within, sample_within, chunk_listed, offset_within, offset_same}
 use Rattle.tiff_encode.proofs.Drawing.{one_part}
 
--- a sample is that of its plane, or that of all of a pixel
+-- a sample is that of its plane, or one of all samples of a pixel
 sample_of : (planar : PlanarConfiguration) (sample : ℕ) → planar_or planar (planar_or planar sample 0) (planar_or planar 0 sample) ≡ sample
 sample_of Chunky sample = refl
 sample_of Planar sample = refl
 
--- what a test that holds lets pass
+-- a condition that holds keeps the number
 passes : (a b : Bool) (n : ℕ) → a ≡ true → b ≡ true → cond (a && b) n 0 ≡ n
 passes true true n p q = refl
 passes true false n p q = cc
 passes false b n p q = cc
 
--- where the samples of a pixel stand, in the rows and in the whole
+-- the offset of a pixel's samples, in the rows and in the whole image
 offset_in_order : (above rows row width x samples sample : ℕ)
     → above * (rows * (width * samples)) + ((row * width + x) * samples + sample) ≡ ((above * rows + row) * width + x) * samples + sample
 offset_in_order above rows row width x samples sample =
@@ -66,11 +66,11 @@ module _ (p : PageRecord) (samples : List ℕ) (x y sample : ℕ) (sides : HasSi
   abbrev column : ℕ
   column = x % p.chunk_width
 
-  -- where it stands in its chunk
+  -- the offset of the sample in its chunk
   abbrev offset : ℕ
   offset = (row * p.chunk_width + column) * stored_samples p + inner
 
-  -- where it stands in the image
+  -- the offset of the sample in the image
   abbrev whole : ℕ
   whole = (y * p.width + x) * p.samples + sample
 
@@ -83,7 +83,7 @@ module _ (p : PageRecord) (samples : List ℕ) (x y sample : ℕ) (sides : HasSi
       let e : row * row_samples p + (column * stored_samples p + inner) ≡ offset = offset_same p sides row column inner in
       omega (arith, l, e)
 
-  -- ---- of a chunk that is cut out
+  -- ---- a chunk that is cut out
 
   in_columns : column * stored_samples p + inner < row_samples p
   in_columns =
@@ -131,7 +131,7 @@ module _ (p : PageRecord) (samples : List ℕ) (x y sample : ℕ) (sides : HasSi
   plane_there : (rect p k).plane ≡ plane
   plane_there = (has_pixel p plane x y sides xl yl).of_plane
 
-  -- what is cut out at an index
+  -- the sample that is cut out at an index
   abbrev cut_at : ℕ → ℕ
   cut_at n =
       cond (nat_lt (n / row_samples p) (rect p k).height && nat_lt (n % row_samples p / stored_samples p) (rect p k).width)
@@ -151,7 +151,7 @@ module _ (p : PageRecord) (samples : List ℕ) (x y sample : ℕ) (sides : HasSi
       ∙ (λ t. slice_index samples ((((rect p k).y + row_there t) * p.width + ((rect p k).x + column_there t)) * p.samples + planar_or p.planar (plane_there t) (inner_there t)))
       ∙ (λ t. slice_index samples ((top_is t * p.width + left_is t) * p.samples + sample_of p.planar sample t))
 
-  -- ---- of a strip of the samples in order
+  -- ---- a strip of the samples in order
 
   strip_shows : p.planar ≡ Chunky → p.chunk_width ≡ p.width
       → slice_index (take (chunk_samples p k) (drop (k * (p.chunk_height * row_samples p)) samples)) offset ≡ slice_index samples whole
@@ -170,9 +170,9 @@ module _ (p : PageRecord) (samples : List ℕ) (x y sample : ℕ) (sides : HasSi
       ∙ ap (λ n. slice_index samples n) (offset_in_order (y / p.chunk_height) p.chunk_height row p.width x p.samples sample)
       ∙ ap (λ n. slice_index samples ((n * p.width + x) * p.samples + sample)) (div-add-mod' y p.chunk_height)
 
--- ---- of an image that has no chunk yet
+-- ---- an image without chunks
 
--- what holds in both cases
+-- a property that holds for both orders
 by_order : (type : ChunkType) (c : PlanarConfiguration) (P : List ℕ → Type 0) (a b : List ℕ)
     → (type ≡ Strip → c ≡ Chunky → P a) → P b → P (cond (not (is_tile type) && not (is_planar c)) a b)
 by_order Strip Chunky P a b f g = f refl refl
@@ -198,9 +198,9 @@ parts_show i samples x y sample d none xl yl sl =
     ∙ strip_shows p samples x y sample sides xl yl sl q (d.cut.strips t))
     (ap (λ n. slice_index (cut_out p samples n) at) same ∙ cut_shows p samples x y sample sides xl yl sl)
 
--- ---- of a new image of gray samples
+-- ---- a new image of gray samples
 
--- the page that it is to be
+-- the page of the new image
 pub gray_page_is : (file : FileState) (d : OpenDirectory) (width height : ℕ) → file.method ≡ method.None → file.predictor ≡ predictor.None
     → image_page (image_in file d (color_type Gray8) (inner_size Gray8) width height) ≡ gray_page width height
 unfolding color_type inner_type
@@ -209,7 +209,7 @@ gray_page_is file d width height m q =
     (λ t. record (gray_page width height) { method = m t; predictor = q t; chunk_height = default_rows (m t) (width * 1) })
     ∙ (λ t. record (gray_page width height) { chunk_height = rows_per_strip (e t) })
 
--- its samples are those of the pixels, row by row
+-- the samples of the image are those of its pixels, row by row
 pub gray_sample_is : (file : FileState) (d : OpenDirectory) (width height : ℕ) (samples : List ℕ) (x y sample : ℕ) → sample < 1
     → (image_of_samples (image_in file d (color_type Gray8) (inner_size Gray8) width height) samples).sample_at x y sample
     ≡ slice_index samples (y * width + x)

@@ -1,4 +1,4 @@
--- Differences along the rows of a chunk, undone, are its numbers.
+-- Undoing the differences along the rows of a chunk restores its numbers.
 use Rattle.std.proofs.Common.{◌≡◌, ℕ, suc, ◌+◌, ◌-◌, ◌*◌, ◌%◌, ◌<◌, ◌≤◌, ◌⊎◌, List, get_or, refl, ap, sym, ◌∙◌, subst, inl, inr, arith, add-one}
 use Rattle.std.specs.Prelude.{sum_by}
 use Rattle.std.specs.List.{range_with_len}
@@ -12,31 +12,31 @@ use Rattle.tiff_value.specs.Differences.{stored_difference}
 use Rattle.tiff_value.proofs.Differences.{total, undone}
 use Rattle.tiff_page.proofs.Rows.{sum_same}
 
--- rows of l numbers, a pixel having s
+-- rows of l numbers, with s numbers per pixel
 module _ (m l s : ℕ) (numbers : List ℕ) (small : (k : ℕ) → get_or numbers k 0 < m) (row sample last : ℕ)
     (first : sample < s) (within : last * s + sample < l) where
-  -- where a number of this sample stands
+  -- the index of a number of this sample
   abbrev at : ℕ → ℕ
   at c = row * l + (c * s + sample)
 
-  -- it is of this row
+  -- the index is within the row
   in_row : (c : ℕ) → c ≤ last → at c % l ≡ c * s + sample
   in_row c h =
       let u : c * s ≤ last * s = mul-le-mul_right s h in
       mod-mul-add row l (c * s + sample) (omega (arith, u, within))
 
-  -- the row's first pixel is kept as it is
+  -- the first pixel of a row stays as it is
   begun : stored_difference Horizontal m l s numbers (at 0) ≡ get_or numbers (at 0) 0
   begun = rw (in_row 0 (omega arith), lt-ltb (0 * s + sample) s (omega (arith, first))) refl
 
-  -- of each later one the difference
+  -- each later pixel is kept as a difference
   goes_on : (c : ℕ) → c < last
       → stored_difference Horizontal m l s numbers (at (suc c)) ≡ (get_or numbers (at (suc c)) 0 + m - get_or numbers (at c) 0) % m
   goes_on c h =
       let u : at (suc c) - s ≡ at c = omega arith in
       rw (in_row (suc c) (omega (arith, h)), le-ltb (suc c * s + sample) s (omega arith), u) refl
 
-  -- the sum of what is kept is the number
+  -- the sum of the kept numbers is the number
   pub summed : (d : ℕ → ℕ) → ((c : ℕ) → c ≤ last → d c ≡ stored_difference Horizontal m l s numbers (at c))
       → sum_by d (range_with_len 0 (last + 1)) % m ≡ get_or numbers (at last) 0
   summed d e =
@@ -45,7 +45,7 @@ module _ (m l s : ℕ) (numbers : List ℕ) (small : (k : ℕ) → get_or number
       ∙ ap (λ (n : ℕ). total f n % m) (add-one last)
       ∙ undone (λ c. get_or numbers (at c) 0) f m last (λ c. small (at c)) begun goes_on last (omega arith)
 
--- what is kept is as small as the numbers
+-- the kept numbers are as small as the numbers
 pub kept_small : (p : Predictor) (m l s : ℕ) (numbers : List ℕ) (k : ℕ) → (p ≡ predictor.None) ⊎ (p ≡ predictor.Horizontal)
     → 0 < m → ((k : ℕ) → get_or numbers k 0 < m) → stored_difference p m l s numbers k < m
 kept_small p m l s numbers k c h b =

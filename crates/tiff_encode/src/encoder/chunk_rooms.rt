@@ -1,4 +1,4 @@
-//! The lists in which chunks are packed.
+//! The buffers in which chunks are compressed.
 
 ghost use Rattle.std.specs.Prelude.{◌≡◌, ◌%◌, ◌^◌, ◌<◌, ◌≤◌, length, map, MatchResult};
 ghost use Rattle.std.specs.List.{flat_map};
@@ -14,7 +14,8 @@ use tiff_base::tags::Predictor;
 use tiff_value::encoder::chunk::{pack_chunk, push_chunk};
 use tiff_value::encoder::differences::Sample;
 
-/// The bytes of a chunk, and what they are packed to: both lists keep their memory from one chunk to the next.
+/// The bytes of a chunk, and its compressed bytes. Both lists keep their memory from one chunk to
+/// the next.
 #[derive(Drop)]
 pub struct ChunkRooms {
     plain: Vec<u8>,
@@ -22,7 +23,7 @@ pub struct ChunkRooms {
 }
 
 impl ChunkRooms {
-    /// Lists without memory.
+    /// Returns two empty lists. It allocates nothing.
     pub(crate) fn empty(alloc: Global) -> ChunkRooms {
         ChunkRooms {
             plain: Vec::new(alloc),
@@ -30,7 +31,8 @@ impl ChunkRooms {
         }
     }
 
-    /// Packs the bytes of rows of samples, `stride` a pixel, as differences where these are predicted. Its only error is
+    /// Compresses rows of samples, as differences if `predictor` says so. `row` is the number of
+    /// samples of a row, and `stride` the number of samples of a pixel. The only error is
     /// `OutOfMemory`.
     pub(crate) fn pack<T: Sample>(
         &mut self,

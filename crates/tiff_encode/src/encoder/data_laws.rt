@@ -1,28 +1,32 @@
-//! The laws of what stands where the samples of an image were written, each the contract of a function with no work.
+//! The laws of what a file contains after the samples of an image are written. Each law is the
+//! contract of a function that does nothing.
 
 ghost use Rattle.tiff_encode.specs.ImageData.{DataLeaves, FirstShown, GrayShown, ImageLeaves, PartsShow};
 
-/// What stands where the samples of an image were written, or were not.
+/// States what a file contains after `write_data` of an image succeeds or fails.
 pub fn data_leaves()
     ensures { DataLeaves }
 {}
 
-/// The samples that `write_data` hands to the chunks of an image are those of the image.
+/// States that the samples that `write_data` passes to the chunks of an image are the samples of
+/// the image.
 pub fn parts_show()
     ensures { PartsShow }
 {}
 
-/// What stands where a new image was written, or was not.
+/// States what a file contains after `write_image` succeeds or fails.
 pub fn image_leaves()
     ensures { ImageLeaves }
 {}
 
-/// An image that was written behind a header alone is the first page of its file, which shows its samples.
+/// States that an image that follows directly after the header is the first page of its file, and
+/// that this page shows its samples.
 pub fn first_shown()
     ensures { FirstShown }
 {}
 
-/// So is one of gray samples of 8 bits.
+/// States that an image of 8-bit gray samples that follows directly after the header is the first
+/// page of its file, and that this page shows its samples.
 pub fn gray_shown()
     ensures { GrayShown }
 {}

@@ -1,4 +1,4 @@
-//! Directories of any tags are written.
+//! Writes directories with any tags.
 
 ghost use Rattle.std.specs.Prelude.{◌≡◌, ℕ, ◌^◌, ◌<◌, length, IfOk, OnErr, Ok, None, Some};
 ghost use Rattle.std.specs.FinMap as map;
@@ -22,9 +22,10 @@ use tiff_value::buffer::ValueBuffer;
 use tiff_value::encoder::colortype::ColorType;
 use tiff_value::encoder::tiff_value::TiffValue;
 
-/// A directory that is open in the file of an encoder, alone or with an image. It ends by `finish`, `finish_with_offsets` or
-/// `discard`: one that isn't spent so doesn't pass the checker. After a fault of the sink each call that writes answers
-/// `UsageError(WriterFailed)`; after another refusal what was written and what is open are as they were.
+/// An open directory in the file of an encoder, alone or with an image. It ends by `finish`,
+/// `finish_with_offsets` or `discard`: the checker rejects code that ends it in another way. After
+/// a write to the sink fails, each later call that writes returns `UsageError(WriterFailed)`. After
+/// any other refusal of a call, the file and the open directory are as they were before the call.
 pub struct DirectoryEncoder<'a, W: Sink, K: TiffKind = TiffKindStandard, D = Fields> {
     pub(crate) encoder: &'a mut TiffEncoder<W, K>,
     pub(crate) state: D,
@@ -34,28 +35,30 @@ impl<W: Sink, K: TiffKind> TiffEncoder<W, K> {
     ghost use Rattle.std.specs.Borrow.{sem};
     ghost use Rattle.tiff_encode.specs.Lending.{image_rests, extra_rests};
 
-    // Its file's end, a number of 64 bits.
+    // States that the file is shorter than 2^64 bytes if no write failed.
     pub(crate) fn fits(&self)
         ensures { self.now.fault ≡ None → end_of self.now < 2 ^ 64 }
     {
         let _end = self.writer.offset();
     }
 
-    // The same, also after a fault.
+    // States that the file is shorter than 2^64 bytes, also after a failed write.
     pub(crate) fn is_short(&self)
         ensures { end_of self.now < 2 ^ 64 }
     {
         let _len = self.writer.len();
     }
 
-    /// Begins a directory of the chain: padding to a multiple of 4. It is linked from the chain's last link, and its
-    /// own becomes the last one when it ends.
+    /// Begins a directory of the IFD chain, and appends padding up to a multiple of 4 bytes. When
+    /// the directory ends, the last link of the chain points to it, and its own link becomes the
+    /// last link of the chain.
     pub fn image_directory(&mut self) -> TiffResult<DirectoryEncoder<'_, W, K>>
         ensures* rests { sem 𝓛 (image_rests W.row K.row K.OffsetType.row W.Sink K.TiffKind K.OffsetType.OffsetNumber K.OffsetType.TiffValue self.entry result) }
         ensures same_reference { IfOk result (λ d. d.encoder.ghost_name ≡ self.entry.ghost_name) }
         ensures begun { IfOk result (λ d. IsTold (calls.image_directory self.entry.now) (Ok d.state) d.encoder.now) }
 
-        // What stood in the file stands; where the call fails, `rests` says so.
+        // Everything that the file contained before the call is still in it. If the call fails,
+        // `rests` states this.
         ensures leaves { (m : Model) → Stands self.entry.now.kind self.entry.now.bytes m
             → IfOk result (λ d. Stands self.entry.now.kind d.encoder.now.bytes (model_after self.entry.now.kind self.entry.now.bytes m (calls.image_directory self.entry.now).deeds)) }
     {
@@ -72,13 +75,15 @@ impl<W: Sink, K: TiffKind> TiffEncoder<W, K> {
         })
     }
 
-    /// Begins a directory that is linked from nowhere, unless `set_parent` names a parent: padding to a multiple of 4.
+    /// Begins a directory outside the IFD chain, and appends padding up to a multiple of 4 bytes.
+    /// No link points to the directory unless `set_parent` names one.
     pub fn extra_directory(&mut self) -> TiffResult<DirectoryEncoder<'_, W, K>>
         ensures* rests { sem 𝓛 (extra_rests W.row K.row K.OffsetType.row W.Sink K.TiffKind K.OffsetType.OffsetNumber K.OffsetType.TiffValue self.entry result) }
         ensures same_reference { IfOk result (λ d. d.encoder.ghost_name ≡ self.entry.ghost_name) }
         ensures begun { IfOk result (λ d. IsTold (calls.extra_directory self.entry.now) (Ok d.state) d.encoder.now) }
 
-        // What stood in the file stands; where the call fails, `rests` says so.
+        // Everything that the file contained before the call is still in it. If the call fails,
+        // `rests` states this.
         ensures leaves { (m : Model) → Stands self.entry.now.kind self.entry.now.bytes m
             → IfOk result (λ d. Stands self.entry.now.kind d.encoder.now.bytes (model_after self.entry.now.kind self.entry.now.bytes m (calls.extra_directory self.entry.now).deeds)) }
     {
@@ -95,7 +100,7 @@ impl<W: Sink, K: TiffKind> TiffEncoder<W, K> {
     }
 }
 
-// The bytes of a buffer are fewer than 2^64.
+// States that a buffer has fewer than 2^64 bytes.
 fn fits_short(buffer: &ValueBuffer)
     ensures { length buffer.now.bytes < 2 ^ 64 }
 {
@@ -103,17 +108,19 @@ fn fits_short(buffer: &ValueBuffer)
 }
 
 impl<'a, W: Sink, K: TiffKind, D: HasDirectory> DirectoryEncoder<'a, W, K, D> {
-    /// Writes a value's bytes, and answers the entry that holds them or their offset; the directory stays. The first cause
-    /// that holds: an earlier fault of the sink: `UsageError(WriterFailed)`; a text that can't be written:
-    /// `FormatError(InvalidTag)`; a count, or the offset of a value that doesn't fit into the entry, past 4 bytes in a
-    /// classic file: `IntSizeError`. Then `OutOfMemory`, or the sink's fault: `IoError(Device)` or `OutOfMemory`.
+    /// Writes a value, and returns the entry that contains its bytes or their offset. The directory
+    /// doesn't change. Returns the first error that applies: `UsageError(WriterFailed)` if an
+    /// earlier write to the sink failed; `FormatError(InvalidTag)` for a text that can't be
+    /// written; `IntSizeError` if in a classic file the count, or the offset of a value that
+    /// doesn't fit into the entry, exceeds 4 bytes. Otherwise `OutOfMemory` if an allocation fails,
+    /// or the error of the sink, `IoError(Device)` or `OutOfMemory`.
     pub fn write_entry<T: TiffValue>(&mut self, value: T) -> TiffResult<Entry>
         ensures same_reference { self.new.encoder.ghost_name ≡ self.old.encoder.ghost_name }
         ensures stays { self.new.state ≡ self.old.state }
         ensures answer { Ends (λ entry. entry) (calls.write_entry (T.field_data value) self.old.encoder.now) result
             self.old.encoder.now self.new.encoder.now }
 
-        // What stood in the file stands.
+        // Everything that the file contained before the call is still in it.
         ensures leaves { (m : Model) → Stands self.old.encoder.now.kind self.old.encoder.now.bytes m
             → Leaves (calls.write_entry (T.field_data value) self.old.encoder.now) result self.old.encoder.now self.new.encoder.now m }
     {
@@ -122,15 +129,16 @@ impl<'a, W: Sink, K: TiffKind, D: HasDirectory> DirectoryEncoder<'a, W, K, D> {
         Ok(entry)
     }
 
-    /// Writes the values of a buffer, as `write_entry` does. Bytes behind the last whole value are left out. In place of a
-    /// text, a buffer of the other byte order is refused: `UsageError(ByteOrderMismatch)`.
+    /// Writes the values of a buffer, as `write_entry` does. It omits the bytes after the last
+    /// whole value. Errors: those of `write_entry`, with `UsageError(ByteOrderMismatch)` for a
+    /// buffer of the other byte order in place of the error for a text.
     pub fn write_entry_buf(&mut self, buffer: &ValueBuffer) -> TiffResult<Entry>
         ensures same_reference { self.new.encoder.ghost_name ≡ self.old.encoder.ghost_name }
         ensures stays { self.new.state ≡ self.old.state }
         ensures answer { Ends (λ entry. entry) (calls.write_entry_buf buffer.now self.old.encoder.now) result
             self.old.encoder.now self.new.encoder.now }
 
-        // What stood in the file stands.
+        // Everything that the file contained before the call is still in it.
         ensures leaves { (m : Model) → Stands self.old.encoder.now.kind self.old.encoder.now.bytes m
             → Leaves (calls.write_entry_buf buffer.now self.old.encoder.now) result self.old.encoder.now self.new.encoder.now m }
     {
@@ -140,15 +148,16 @@ impl<'a, W: Sink, K: TiffKind, D: HasDirectory> DirectoryEncoder<'a, W, K, D> {
         Ok(entry)
     }
 
-    /// Writes bytes as the values of a type, as `write_entry` does. In place of a text, bytes that end within a value are
-    /// refused: `UsageError(MismatchedEntryLength)`.
+    /// Writes bytes as the values of a type, as `write_entry` does. Errors: those of `write_entry`,
+    /// with `UsageError(MismatchedEntryLength)` for bytes that end within a value in place of the
+    /// error for a text.
     pub fn write_entry_bytes(&mut self, field_type: Type, bytes: &[u8]) -> TiffResult<Entry>
         ensures same_reference { self.new.encoder.ghost_name ≡ self.old.encoder.ghost_name }
         ensures stays { self.new.state ≡ self.old.state }
         ensures answer { Ends (λ entry. entry) (calls.write_entry_bytes field_type bytes.now self.old.encoder.now) result
             self.old.encoder.now self.new.encoder.now }
 
-        // What stood in the file stands.
+        // Everything that the file contained before the call is still in it.
         ensures leaves { (m : Model) → Stands self.old.encoder.now.kind self.old.encoder.now.bytes m
             → Leaves (calls.write_entry_bytes field_type bytes.now self.old.encoder.now) result self.old.encoder.now self.new.encoder.now m }
     {
@@ -157,8 +166,9 @@ impl<'a, W: Sink, K: TiffKind, D: HasDirectory> DirectoryEncoder<'a, W, K, D> {
         Ok(entry)
     }
 
-    /// Writes a value as `write_entry` does, and then sets the field of a tag, in place of one that it had. Errors are those
-    /// of `write_entry`; after one the fields are as they were.
+    /// Writes a value as `write_entry` does, and then sets the field of a tag. It replaces an
+    /// earlier field of that tag. Errors: those of `write_entry`; after an error the fields don't
+    /// change.
     pub fn write_tag<T: TiffValue>(&mut self, tag: Tag, value: T) -> TiffResult<()>
         ensures same_reference { self.new.encoder.ghost_name ≡ self.old.encoder.ghost_name }
         ensures stays { OnErr result (self.new.state ≡ self.old.state) }
@@ -167,7 +177,7 @@ impl<'a, W: Sink, K: TiffKind, D: HasDirectory> DirectoryEncoder<'a, W, K, D> {
             (calls.write_tag (D.open_directory self.old.state) tag (T.field_data value) self.old.encoder.now) result
             self.old.encoder.now self.new.encoder.now }
 
-        // What stood in the file stands.
+        // Everything that the file contained before the call is still in it.
         ensures leaves { (m : Model) → Stands self.old.encoder.now.kind self.old.encoder.now.bytes m
             → Leaves (calls.write_tag (D.open_directory self.old.state) tag (T.field_data value) self.old.encoder.now) result self.old.encoder.now self.new.encoder.now m }
     {
@@ -178,8 +188,9 @@ impl<'a, W: Sink, K: TiffKind, D: HasDirectory> DirectoryEncoder<'a, W, K, D> {
         Ok(())
     }
 
-    /// Writes the values of a buffer as `write_entry_buf` does, and then sets the field of a tag, in place of one that it had.
-    /// Errors are those of `write_entry_buf`; after one the fields are as they were.
+    /// Writes the values of a buffer as `write_entry_buf` does, and then sets the field of a tag.
+    /// It replaces an earlier field of that tag. Errors: those of `write_entry_buf`; after an error
+    /// the fields don't change.
     pub fn write_tag_buf(&mut self, tag: Tag, buffer: &ValueBuffer) -> TiffResult<()>
         ensures same_reference { self.new.encoder.ghost_name ≡ self.old.encoder.ghost_name }
         ensures stays { OnErr result (self.new.state ≡ self.old.state) }
@@ -188,7 +199,7 @@ impl<'a, W: Sink, K: TiffKind, D: HasDirectory> DirectoryEncoder<'a, W, K, D> {
             (calls.write_tag_buf (D.open_directory self.old.state) tag buffer.now self.old.encoder.now) result
             self.old.encoder.now self.new.encoder.now }
 
-        // What stood in the file stands.
+        // Everything that the file contained before the call is still in it.
         ensures leaves { (m : Model) → Stands self.old.encoder.now.kind self.old.encoder.now.bytes m
             → Leaves (calls.write_tag_buf (D.open_directory self.old.state) tag buffer.now self.old.encoder.now) result self.old.encoder.now self.new.encoder.now m }
     {
@@ -200,24 +211,26 @@ impl<'a, W: Sink, K: TiffKind, D: HasDirectory> DirectoryEncoder<'a, W, K, D> {
         Ok(())
     }
 
-    /// Writes the bytes of a buffer, a ragged end too, and answers their offset, in bytes from the file's start. In place of a
-    /// text, a buffer of the other byte order is refused: `UsageError(ByteOrderMismatch)`; else errors are those of
-    /// `write_data`.
+    /// Appends all bytes of a buffer, also those after the last whole value, and returns their
+    /// offset in bytes from the start of the file. Errors: those of `write_data`, with
+    /// `UsageError(ByteOrderMismatch)` for a buffer of the other byte order in place of the error
+    /// for a text.
     pub fn write_data_buf(&mut self, buffer: &ValueBuffer) -> TiffResult<u64>
         ensures same_reference { self.new.encoder.ghost_name ≡ self.old.encoder.ghost_name }
         ensures stays { self.new.state ≡ self.old.state }
         ensures answer { Ends (λ offset. offset) (calls.write_data_buf buffer.now self.old.encoder.now) result
             self.old.encoder.now self.new.encoder.now }
 
-        // What stood in the file stands.
+        // Everything that the file contained before the call is still in it.
         ensures leaves { (m : Model) → Stands self.old.encoder.now.kind self.old.encoder.now.bytes m
             → Leaves (calls.write_data_buf buffer.now self.old.encoder.now) result self.old.encoder.now self.new.encoder.now m }
     {
         self.encoder.append_buffer(buffer)
     }
 
-    /// Sets each field of a directory in turn, in place of one that it had for its tag. It writes nothing, and has no refusal,
-    /// also after a fault of the sink. Its only error is `OutOfMemory`, and then the fields that came before are set.
+    /// Sets each field of a directory in turn. Each field replaces an earlier field of its tag. The
+    /// call writes nothing, and succeeds also after a write to the sink failed. The only error is
+    /// `OutOfMemory`; then the fields before the one that failed are set.
     pub fn extend_from(&mut self, directory: &Directory) -> TiffResult<()>
         ensures same_reference { self.new.encoder.ghost_name ≡ self.old.encoder.ghost_name }
         ensures stays { self.new.encoder.now ≡ self.old.encoder.now }
@@ -230,23 +243,26 @@ impl<'a, W: Sink, K: TiffKind, D: HasDirectory> DirectoryEncoder<'a, W, K, D> {
 }
 
 impl<'a, W: Sink, K: TiffKind> DirectoryEncoder<'a, W, K, Fields> {
-    /// Writes a value's bytes and answers their offset, in bytes from the file's start. The first cause that holds: an earlier
-    /// fault of the sink: `UsageError(WriterFailed)`; a text that can't be written: `FormatError(InvalidTag)`. Then
-    /// `OutOfMemory`, or the sink's fault: `IoError(Device)` or `OutOfMemory`.
+    /// Appends the bytes of a value, and returns their offset in bytes from the start of the file.
+    /// Returns the first error that applies: `UsageError(WriterFailed)` if an earlier write to the
+    /// sink failed; `FormatError(InvalidTag)` for a text that can't be written. Otherwise
+    /// `OutOfMemory` if an allocation fails, or the error of the sink, `IoError(Device)` or
+    /// `OutOfMemory`.
     pub fn write_data<T: TiffValue>(&mut self, value: T) -> TiffResult<u64>
         ensures same_reference { self.new.encoder.ghost_name ≡ self.old.encoder.ghost_name }
         ensures stays { self.new.state ≡ self.old.state }
         ensures answer { Ends (λ offset. offset) (calls.write_data (T.field_data value) self.old.encoder.now) result
             self.old.encoder.now self.new.encoder.now }
 
-        // What stood in the file stands.
+        // Everything that the file contained before the call is still in it.
         ensures leaves { (m : Model) → Stands self.old.encoder.now.kind self.old.encoder.now.bytes m
             → Leaves (calls.write_data (T.field_data value) self.old.encoder.now) result self.old.encoder.now self.new.encoder.now m }
     {
         self.encoder.append_value(&value)
     }
 
-    /// Has the link of a directory that was finished point to this one, when it ends. It writes nothing.
+    /// Names a finished directory as the parent: its link points to this directory when this
+    /// directory ends. The call writes nothing.
     #[tactic(auto, unfolding(crate::specs::Calls::set_parent))]
     pub fn set_parent(&mut self, offset: &DirectoryOffset<K>)
         ensures same_reference { self.new.encoder.ghost_name ≡ self.old.encoder.ghost_name }
@@ -256,14 +272,17 @@ impl<'a, W: Sink, K: TiffKind> DirectoryEncoder<'a, W, K, Fields> {
         self.state.set_parent(offset.link());
     }
 
-    /// Ends the directory: it is appended, its link 0, and then its parent's link is pointed to it. The first cause that holds: an
-    /// earlier fault of the sink: `UsageError(WriterFailed)`; more entries, a field of more values, or an offset past what the
-    /// kind can count: `IntSizeError`; a parent's link that isn't within the file: `UsageError(ParentNotWritten)`. Then
-    /// `OutOfMemory`, or the sink's fault: `IoError(Device)` or `OutOfMemory`.
+    /// Ends the directory: appends it with link 0, and then points the parent's link to it. Returns
+    /// the first error that applies: `UsageError(WriterFailed)` if an earlier write to the sink
+    /// failed; `IntSizeError` if the number of entries, the count of a field or the offset of the
+    /// directory exceeds what the kind of file can hold; `UsageError(ParentNotWritten)` if the
+    /// parent's link isn't within the file. Otherwise `OutOfMemory` if an allocation fails, or the
+    /// error of the sink, `IoError(Device)` or `OutOfMemory`.
     pub fn finish(self) -> TiffResult<()>
         ensures answer { EndsSilently (calls.finish self.entry.state self.entry.encoder.now) result self.entry.encoder.now self.exit.0.now }
 
-        // What stood in the file stands, but for the parent's link, where that broke off.
+        // Everything that the file contained before the call is still in it, except the parent's
+        // link if the write of that link failed partway.
         ensures leaves { (m : Model) → Stands self.entry.encoder.now.kind self.entry.encoder.now.bytes m
             → ((offset : ℕ) → self.entry.state.parent ≡ Some offset → IsLink self.entry.encoder.now.kind m offset)
             → LeavesLinked (calls.finish self.entry.state self.entry.encoder.now) result self.entry.encoder.now self.exit.0.now m }
@@ -275,12 +294,14 @@ impl<'a, W: Sink, K: TiffKind> DirectoryEncoder<'a, W, K, Fields> {
         Ok(())
     }
 
-    /// Ends the directory as `finish` does, and answers where it and its link stand. Errors are those of `finish`.
+    /// Ends the directory as `finish` does, and returns its offset and the offset of its link.
+    /// Errors: those of `finish`.
     pub fn finish_with_offsets(self) -> TiffResult<DirectoryOffset<K>>
         ensures answer { Ends (λ offsets. offsets) (calls.finish self.entry.state self.entry.encoder.now) result
             self.entry.encoder.now self.exit.0.now }
 
-        // What stood in the file stands, but for the parent's link, where that broke off.
+        // Everything that the file contained before the call is still in it, except the parent's
+        // link if the write of that link failed partway.
         ensures leaves { (m : Model) → Stands self.entry.encoder.now.kind self.entry.encoder.now.bytes m
             → ((offset : ℕ) → self.entry.state.parent ≡ Some offset → IsLink self.entry.encoder.now.kind m offset)
             → LeavesLinked (calls.finish self.entry.state self.entry.encoder.now) result self.entry.encoder.now self.exit.0.now m }
@@ -291,12 +312,13 @@ impl<'a, W: Sink, K: TiffKind> DirectoryEncoder<'a, W, K, Fields> {
         encoder.finish_directory(&state)
     }
 
-    /// Ends the directory as `finish` does: it is written, as the Rust crate writes one that is let go. Errors are those of
-    /// `finish`.
+    /// Ends the directory as `finish` does. It writes the directory, as the Rust crate does when it
+    /// drops one. Errors: those of `finish`.
     pub fn discard(self) -> TiffResult<()>
         ensures answer { EndsSilently (calls.finish self.entry.state self.entry.encoder.now) result self.entry.encoder.now self.exit.0.now }
 
-        // What stood in the file stands, but for the parent's link, where that broke off.
+        // Everything that the file contained before the call is still in it, except the parent's
+        // link if the write of that link failed partway.
         ensures leaves { (m : Model) → Stands self.entry.encoder.now.kind self.entry.encoder.now.bytes m
             → ((offset : ℕ) → self.entry.state.parent ≡ Some offset → IsLink self.entry.encoder.now.kind m offset)
             → LeavesLinked (calls.finish self.entry.state self.entry.encoder.now) result self.entry.encoder.now self.exit.0.now m }
@@ -313,8 +335,9 @@ impl<'a, W: Sink, K: TiffKind> DirectoryEncoder<'a, W, K, Fields> {
 }
 
 impl<'a, W: Sink, K: TiffKind, C: ColorType> DirectoryEncoder<'a, W, K, Drawing<C>> {
-    /// Has the link of a directory that was finished point to this image's directory, when the image ends, in place of the
-    /// chain's last link. It writes nothing.
+    /// Names a finished directory as the parent: when the image ends, the link of that directory
+    /// points to the directory of this image, and the last link of the IFD chain doesn't. The call
+    /// writes nothing.
     #[tactic(auto, unfolding(crate::specs::Calls::set_parent))]
     pub fn set_parent(&mut self, offset: &DirectoryOffset<K>)
         ensures same_reference { self.new.encoder.ghost_name ≡ self.old.encoder.ghost_name }
@@ -324,15 +347,15 @@ impl<'a, W: Sink, K: TiffKind, C: ColorType> DirectoryEncoder<'a, W, K, Drawing<
         self.state.directory.set_parent(offset.link());
     }
 
-    /// Writes a value's bytes and answers their offset, as `write_data` of a directory does; the image's own `write_data`
-    /// writes samples. Errors are those of that.
+    /// Appends the bytes of a value and returns their offset, as `write_data` of a directory does.
+    /// `write_data` of an image writes samples. Errors: those of `write_data` of a directory.
     pub fn append_data<T: TiffValue>(&mut self, value: T) -> TiffResult<u64>
         ensures same_reference { self.new.encoder.ghost_name ≡ self.old.encoder.ghost_name }
         ensures stays { self.new.state ≡ self.old.state }
         ensures answer { Ends (λ offset. offset) (calls.write_data (T.field_data value) self.old.encoder.now) result
             self.old.encoder.now self.new.encoder.now }
 
-        // What stood in the file stands.
+        // Everything that the file contained before the call is still in it.
         ensures leaves { (m : Model) → Stands self.old.encoder.now.kind self.old.encoder.now.bytes m
             → Leaves (calls.write_data (T.field_data value) self.old.encoder.now) result self.old.encoder.now self.new.encoder.now m }
     {

@@ -1,4 +1,4 @@
-//! What an image has that is open.
+//! The state of an open image.
 
 ghost use Rattle.std.specs.Prelude.{◌≡◌, ℕ, ◌^◌, ◌<◌, ◌≤◌, MatchOption, false};
 ghost use Rattle.tiff_base.specs.Field.{AreEntries};
@@ -19,8 +19,9 @@ use tiff_base::error::TiffResult;
 use tiff_base::tags::{ExtraSamples, PlanarConfiguration, Predictor, Tag};
 use tiff_value::encoder::colortype::ColorType;
 
-/// How an image is cut: into strips or tiles; their width and their height, which strips have but for the last of a plane;
-/// and whether a chunk has all samples of its pixels or those of one plane.
+/// How an image is divided into chunks: strips or tiles; the width and the height of a chunk, in
+/// pixels, where the last strip of a plane can have fewer rows; and whether a chunk contains all
+/// samples of its pixels or those of one plane.
 #[derive(Clone, Copy, Drop)]
 pub struct ChunkLayout {
     pub chunk_type: ChunkType,
@@ -29,15 +30,16 @@ pub struct ChunkLayout {
     pub planar: PlanarConfiguration,
 }
 
-/// A chunk that was written: its offset, and how many bytes stand there.
+/// A chunk in the file: its offset, and its number of bytes in the file.
 #[derive(Clone, Copy, Drop)]
 pub struct Chunk {
     pub offset: u64,
     pub stored: u64,
 }
 
-/// An image that is open: its directory, its sides, its extra samples, how it is packed and cut, the chunks that were
-/// written, and the lists in which they are packed, which are empty where they aren't.
+/// An open image: its directory, its width and height, its extra samples, its predictor, its
+/// compression, its division into chunks, the chunks in the file, and the buffers that compress
+/// chunks, which stay empty if chunks aren't compressed.
 #[derive(Drop)]
 pub struct Drawing<C: ColorType> {
     pub(crate) directory: Fields,
@@ -106,21 +108,21 @@ impl<C: ColorType> HasDirectory for Drawing<C> {
 }
 
 impl<C: ColorType> Drawing<C> {
-    /// The fields of its directory are entries that a directory can have.
+    /// States that the fields of the image's directory are entries that a directory can have.
     pub(crate) fn fits(&self)
         ensures { AreEntries self.now.directory.fields }
     {
         self.directory.fits();
     }
 
-    /// Its samples have as many bytes as its color type's.
+    /// States that a sample of the image has as many bytes as one of its color type.
     pub(crate) fn is_of_type(&self)
         ensures { self.now.size ≡ type_size C.Inner.value_type }
     {
         let _form = &self.form;
     }
 
-    /// All samples of a pixel.
+    /// Returns the number of samples of a pixel, with the extra samples.
     pub(crate) fn samples(&self) -> u64
         ensures count { result ≡ all_samples self.now }
         ensures few { result < 2 ^ 16 }
@@ -128,14 +130,14 @@ impl<C: ColorType> Drawing<C> {
         C::sample_bits().len() as u64 + self.extra.len() as u64
     }
 
-    /// Whether a chunk was written.
+    /// Returns whether the image has a chunk in the file.
     pub(crate) fn is_begun(&self) -> bool
         ensures { result ≡ is_begun self.now }
     {
         !self.chunks.is_empty()
     }
 
-    /// The samples of a pixel that a chunk has.
+    /// Returns the number of samples of a pixel in a chunk.
     pub(crate) fn stored_samples(&self) -> u64
         ensures count { result ≡ stored_samples (image_page self.now) }
         ensures few { result < 2 ^ 16 }
@@ -146,7 +148,7 @@ impl<C: ColorType> Drawing<C> {
         }
     }
 
-    // How many planes the chunks have.
+    // Returns the number of planes.
     fn planes(&self) -> u64
         ensures count { result ≡ planes_of self.now.form.planar (all_samples self.now) }
         ensures few { result < 2 ^ 16 }
@@ -157,7 +159,7 @@ impl<C: ColorType> Drawing<C> {
         }
     }
 
-    // The chunks of one plane.
+    // Returns the number of chunks of one plane.
     fn chunks_of_plane(&self) -> u64
         ensures { result ≡ chunks_of_plane (image_page self.now) }
     {
@@ -166,14 +168,14 @@ impl<C: ColorType> Drawing<C> {
         across * down
     }
 
-    // How many chunks the image has in all, where that is a number of 64 bits.
+    // Returns the number of chunks of the image, or `None` if it is 2^64 or more.
     fn all_chunks(&self) -> Option<u64>
         ensures { MatchOption result (2 ^ 64 ≤ all_chunks (image_page self.now)) (λ n. n ≡ all_chunks (image_page self.now)) }
     {
         self.chunks_of_plane().checked_mul(self.planes())
     }
 
-    /// Whether there are more chunks than a page can have.
+    /// Returns whether the image has more chunks than a page can have.
     pub(crate) fn is_past_chunks(&self) -> bool
         ensures { result ≡ is_past_chunks self.now }
     {
@@ -183,7 +185,7 @@ impl<C: ColorType> Drawing<C> {
         }
     }
 
-    /// Whether a chunk is left.
+    /// Returns whether a chunk is left to write.
     pub(crate) fn is_left(&self) -> bool
         ensures { result ≡ is_left self.now }
     {
@@ -193,7 +195,7 @@ impl<C: ColorType> Drawing<C> {
         }
     }
 
-    /// How many chunks are left.
+    /// Returns the number of chunks that are left to write.
     pub(crate) fn chunks_left(&self) -> u64
         requires { is_past_chunks self.now ≡ false }
         ensures { result ≡ chunks_left self.now }
@@ -204,7 +206,8 @@ impl<C: ColorType> Drawing<C> {
         }
     }
 
-    /// Whether the samples of the chunks, one chunk after another, are those of the image in its order.
+    /// Returns whether the samples of the chunks, one chunk after another, are those of the image
+    /// in row order.
     pub(crate) fn is_in_order(&self) -> bool
         ensures { result ≡ is_in_order self.now.form }
     {
@@ -212,7 +215,7 @@ impl<C: ColorType> Drawing<C> {
             && matches!(self.form.planar, PlanarConfiguration::Chunky)
     }
 
-    /// The samples of the image, where that is a number of 64 bits.
+    /// Returns the number of samples of the image, or `None` if it is 2^64 or more.
     pub(crate) fn image_samples(&self) -> Option<u64>
         ensures { MatchOption result (2 ^ 64 ≤ image_samples self.now) (λ n. n ≡ image_samples self.now) }
     {
@@ -220,7 +223,7 @@ impl<C: ColorType> Drawing<C> {
         pixels.checked_mul(self.samples())
     }
 
-    /// The rows of the chunk that follows so many.
+    /// Returns the number of rows of the chunk with the number `chunk`, counted from 0.
     #[tactic(auto, unfolding(tiff_page::specs::Rect::rect))]
     pub(crate) fn rows_of(&self, chunk: u64) -> u64
         ensures count { result ≡ chunk_rows (image_page self.now) chunk }
@@ -237,7 +240,8 @@ impl<C: ColorType> Drawing<C> {
         }
     }
 
-    /// `next_chunk_sample_count`: the samples of the chunk that is written next, at most `u64::MAX`; 0 behind the last.
+    /// `next_chunk_sample_count`: returns the number of samples of the next chunk, at most
+    /// `u64::MAX`; 0 after the last chunk.
     #[tactic(auto, unfolding(crate::specs::Chunks::next_chunk_sample_count))]
     pub(crate) fn next_samples(&self) -> u64
         ensures { result ≡ next_chunk_sample_count self.now }
@@ -249,7 +253,8 @@ impl<C: ColorType> Drawing<C> {
         self.rows_of(self.chunks.len() as u64).saturating_mul(row)
     }
 
-    /// `next_strip_sample_count`: the same of a strip; a tile is none.
+    /// `next_strip_sample_count`: returns the number of samples of the next strip, at most
+    /// `u64::MAX`; 0 after the last strip and for an image of tiles.
     #[tactic(auto, unfolding(crate::specs::Chunks::next_strip_sample_count))]
     pub(crate) fn next_strip_samples(&self) -> u64
         ensures { result ≡ next_strip_sample_count self.now }
@@ -261,7 +266,7 @@ impl<C: ColorType> Drawing<C> {
     }
 }
 
-/// How many parts of a size cover a length.
+/// Returns how many parts of a size cover a length.
 pub(crate) fn parts_of(length: u32, size: u32) -> u64
     requires { 0 < size }
     ensures count { result ≡ parts length size }

@@ -1,4 +1,4 @@
-//! The samples of a whole image are written.
+//! Writes the samples of a whole image.
 
 ghost use Rattle.std.specs.Prelude.{◌≡◌, ℕ, ◌+◌, ◌*◌, ◌^◌, ◌<◌, ◌≤◌, ◌++◌, length, map, replicate, slice_index, MatchResult, None, Some, false, true};
 ghost use Rattle.tiff_base.specs.Types.{type_size};
@@ -22,7 +22,7 @@ use tiff_base::tags::PlanarConfiguration;
 use tiff_value::encoder::colortype::ColorType;
 use tiff_value::encoder::differences::Sample;
 
-// Appends samples of zeros.
+// Appends samples of value 0.
 fn push_zeros<T: Sample>(count: u64, out: &mut Vec<T>) -> TiffResult<()>
     ensures { MatchResult result (λ _. map (sample_number (type_size T.value_type) T.bits) out.new.items ≡ map
         (sample_number (type_size T.value_type) T.bits) out.old.items ++ tabulate count (λ _. 0)) (λ e. e ≡ TiffError.OutOfMemory) }
@@ -33,7 +33,7 @@ fn push_zeros<T: Sample>(count: u64, out: &mut Vec<T>) -> TiffResult<()>
     Ok(())
 }
 
-// Appends a sample of each of some pixels, which have so many.
+// Appends the sample of the plane `plane` of each of `count` pixels. A pixel has `samples` samples.
 fn push_plane<T: Sample>(
     pixels: &[T],
     count: usize,
@@ -54,7 +54,8 @@ fn push_plane<T: Sample>(
     Ok(())
 }
 
-/// The part of the image that a chunk has, and its plane.
+/// The part of the image that a chunk contains, as a rectangle in pixels, and the plane of the
+/// chunk.
 #[derive(Clone, Copy, Drop)]
 pub struct Patch {
     pub plane: u64,
@@ -65,7 +66,7 @@ pub struct Patch {
 }
 
 impl<C: ColorType> Drawing<C> {
-    // The part of the image that a chunk has.
+    // Returns the part of the image that a chunk contains.
     #[tactic(auto, unfolding(tiff_page::specs::Rect::rect))]
     fn patch(&self, chunk: u64) -> Patch
         ensures { rect_of result ≡ rect (image_page self.now) chunk }
@@ -87,7 +88,7 @@ impl<C: ColorType> Drawing<C> {
         }
     }
 
-    // Appends the samples of a row of a part of the image.
+    // Appends the samples of one row of a part of the image.
     fn push_pixels(
         &self,
         samples: &[C::Inner],
@@ -120,7 +121,8 @@ impl<C: ColorType> Drawing<C> {
         }
     }
 
-    // Appends a row of a chunk: what it has of a part of the image, and zeros.
+    // Appends one row of a chunk: the samples of a part of the image, and zeros up to the width of
+    // the chunk.
     fn push_row(
         &self,
         samples: &[C::Inner],
@@ -144,7 +146,8 @@ impl<C: ColorType> Drawing<C> {
         push_zeros(len - patch.width * stored, out)
     }
 
-    // Of all samples of the image those of a chunk; zeros beyond the image.
+    // Returns the samples of a chunk out of all samples of the image, with zeros beyond the edges
+    // of the image.
     fn cut_out(&self, alloc: Global, samples: &[C::Inner], chunk: u64) -> TiffResult<Vec<C::Inner>>
         requires one { chunk < all_chunks (image_page self.now) }
         requires fits { image_samples self.now < 2 ^ 64 }
@@ -166,7 +169,8 @@ impl<C: ColorType> Drawing<C> {
         Ok(out)
     }
 
-    // Samples in their order, those of the next chunk, where so many were written of them.
+    // Returns the samples of the next chunk out of samples in row order, after `written` chunks of
+    // them were written.
     fn slice_out<'a>(&self, samples: &'a [C::Inner], written: u64) -> &'a [C::Inner]
         requires order { is_in_order self.now.form ≡ true }
         requires left { is_left self.now ≡ true }
@@ -184,7 +188,7 @@ impl<C: ColorType> Drawing<C> {
 }
 
 impl<W: Sink, K: TiffKind> TiffEncoder<W, K> {
-    // The next chunk, where so many were written of all samples.
+    // Writes the next chunk out of all samples, after `written` chunks of them were written.
     fn write_part<C: ColorType>(
         &mut self,
         image: &mut Drawing<C>,
@@ -209,7 +213,8 @@ impl<W: Sink, K: TiffKind> TiffEncoder<W, K> {
         self.put_chunk(image, &part)
     }
 
-    // The chunks that are left, one after another. After an error the first ones are written.
+    // Writes the chunks that are left, one after another. After an error the chunks before the one
+    // that failed are in the file.
     fn write_chunks_left<C: ColorType>(
         &mut self,
         image: &mut Drawing<C>,
@@ -225,7 +230,8 @@ impl<W: Sink, K: TiffKind> TiffEncoder<W, K> {
         Ok(())
     }
 
-    // Whether so many samples may be written as those of an image: else the first cause.
+    // Returns the first error of `write_data` of an image that applies to this number of samples,
+    // before a chunk is written.
     #[tactic(auto, unfolding(crate::specs::Causes::write_image_data_cause))]
     fn check_data<C: ColorType>(&self, image: &Drawing<C>, count: usize) -> TiffResult<()>
         ensures { MatchResult result
@@ -248,7 +254,8 @@ impl<W: Sink, K: TiffKind> TiffEncoder<W, K> {
         Ok(())
     }
 
-    // `write_data` of an image: the chunks that are left, then its end. After an error the image isn't to be used.
+    // `write_data` of an image: writes the chunks that are left, and then ends the image. After an
+    // error the image must not be used.
     pub(crate) fn write_image_data<C: ColorType>(
         &mut self,
         image: &mut Drawing<C>,
@@ -263,7 +270,7 @@ impl<W: Sink, K: TiffKind> TiffEncoder<W, K> {
         Ok(())
     }
 
-    // `write_image`: a new image, whole.
+    // `write_image`: begins an image and writes all of it.
     pub(crate) fn write_new_image<C: ColorType>(
         &mut self,
         width: u32,

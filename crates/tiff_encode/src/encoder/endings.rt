@@ -1,4 +1,4 @@
-//! The ends of images.
+//! Ends images.
 
 ghost use Rattle.std.specs.Prelude.{◌≡◌, ℕ, ◌+◌, ◌^◌, ◌<◌, ◌++◌, length, map, replicate, MatchResult, Ok};
 ghost use Rattle.std.specs.Io.{StartsWith};
@@ -25,9 +25,9 @@ use tiff_base::tags::{FileKind, SampleFormat, Tag, Type};
 use tiff_value::encoder::colortype::ColorType;
 use tiff_value::encoder::tiff_value::{TiffScalar, TiffValue};
 
-// ---- a list whose first item comes several times more
+// ---- a list with copies of its first item at the end
 
-// Appends the bytes of an item so many times.
+// Appends the bytes of an item `count` times.
 fn push_copies<T: TiffScalar>(item: &T, count: usize, out: &mut Vec<u8>) -> TiffResult<()>
     ensures answer { MatchResult result (λ _. out.new.items ≡ out.old.items ++ flat_map T.spelled (replicate count item.now))
         (λ e. e ≡ TiffError.OutOfMemory) }
@@ -39,7 +39,8 @@ fn push_copies<T: TiffScalar>(item: &T, count: usize, out: &mut Vec<u8>) -> Tiff
     Ok(())
 }
 
-// The same of the first item of a list, if it has one.
+// Appends the bytes of the first item of a list `count` times. It appends nothing for an empty
+// list.
 fn push_first<T: TiffScalar>(items: &[T], count: usize, out: &mut Vec<u8>) -> TiffResult<()>
     ensures answer { MatchResult result (λ _. out.new.items ≡ out.old.items ++ flat_map T.spelled (more_of items.now count))
         (λ e. e ≡ TiffError.OutOfMemory) }
@@ -51,7 +52,7 @@ fn push_first<T: TiffScalar>(items: &[T], count: usize, out: &mut Vec<u8>) -> Ti
     }
 }
 
-/// A list of values, and its first so many times more.
+/// A list of values, followed by `more` copies of its first value.
 #[derive(Drop)]
 pub(crate) struct Repeated<'a, T> {
     items: &'a [T],
@@ -70,7 +71,7 @@ impl<'a, T> Model for Repeated<'a, T> {
 }
 
 impl<'a, T> Repeated<'a, T> {
-    // A list, and its first so many times more.
+    // Returns a list of values, followed by `more` copies of its first value.
     fn of(items: &'a [T], more: usize) -> Self
         requires { length items.now + more < 2 ^ 64 }
         ensures { result ≡ calls.extended_by_first items.now more }
@@ -122,7 +123,7 @@ impl<'a, T: TiffScalar> TiffValue for Repeated<'a, T> {
 
 // ---- the lists of chunks
 
-/// A number of a chunk: its offset, or how many bytes stand there.
+/// A number of a chunk: its offset, or its number of bytes in the file.
 #[derive(Clone, Copy, Drop)]
 pub enum Part {
     Offset,
@@ -130,7 +131,7 @@ pub enum Part {
 }
 
 impl Part {
-    // That number.
+    // Returns this number of a chunk.
     fn of(self, chunk: &Chunk) -> u64
         ensures { result ≡ number_of_part self chunk.now }
     {
@@ -141,7 +142,7 @@ impl Part {
     }
 }
 
-/// A number of each chunk, as a file of a kind has offsets.
+/// One number of each chunk, as offsets of the kind of file.
 #[derive(Drop)]
 pub(crate) struct ChunkNumbers<'a, K: TiffKind> {
     chunks: &'a [Chunk],
@@ -190,7 +191,7 @@ impl<'a, K: TiffKind> TiffValue for ChunkNumbers<'a, K> {
     ghost sized = { λ p. offsets_value K.kind (map (number_of_part p.part) p.chunks.now) };
 }
 
-// Appends a number of each chunk, as a file of a kind has offsets.
+// Appends one number of each chunk, each with as many bytes as an offset in this kind of file.
 fn push_offsets(kind: FileKind, chunks: &[Chunk], part: Part, out: &mut Vec<u8>) -> TiffResult<()>
     ensures answer { MatchResult result (λ _. out.new.items ≡ out.old.items ++ flat_map (le (offset_len kind))
         (map (number_of_part part) chunks.now)) (λ e. e ≡ TiffError.OutOfMemory) }
@@ -202,7 +203,7 @@ fn push_offsets(kind: FileKind, chunks: &[Chunk], part: Part, out: &mut Vec<u8>)
     Ok(())
 }
 
-// Appends a number, as a file of a kind has offsets.
+// Appends a number with as many bytes as an offset in this kind of file.
 fn push_offset(kind: FileKind, n: u64, out: &mut Vec<u8>) -> TiffResult<()>
     ensures answer { MatchResult result (λ _. out.new.items ≡ out.old.items ++ le (offset_len kind) n) (λ e. e ≡ TiffError.OutOfMemory) }
     ensures front { StartsWith out.new.items out.old.items }
@@ -218,7 +219,7 @@ fn push_offset(kind: FileKind, n: u64, out: &mut Vec<u8>) -> TiffResult<()>
 // ---- the last tags
 
 impl<W: Sink, K: TiffKind> TiffEncoder<W, K> {
-    // The bits of each sample, and how many samples there are, where some are extra.
+    // Sets the number of bits of each sample, and the number of samples if some are extra samples.
     fn set_bits(&mut self, fields: &mut Fields, bits: &[u16], extra: usize) -> TiffResult<()>
         requires { length bits.now + extra < 2 ^ 16 }
         ensures { Ends (λ _. fields.new) (write_fields fields.old (fields_of (bits_tags bits.now extra)) self.old) result
@@ -233,7 +234,8 @@ impl<W: Sink, K: TiffKind> TiffEncoder<W, K> {
         Ok(())
     }
 
-    // The same, and the format of each sample.
+    // Sets the number of bits of each sample, the number of samples if some are extra samples, and
+    // the format of each sample.
     fn set_samples(
         &mut self,
         fields: &mut Fields,
@@ -251,7 +253,7 @@ impl<W: Sink, K: TiffKind> TiffEncoder<W, K> {
         Ok(())
     }
 
-    // A number of each chunk.
+    // Sets a tag to one number of each chunk.
     fn set_offsets(
         &mut self,
         fields: &mut Fields,
@@ -270,7 +272,7 @@ impl<W: Sink, K: TiffKind> TiffEncoder<W, K> {
         self.set_tag(fields, tag, &offsets)
     }
 
-    // Where the chunks stand, and how many bytes each has there.
+    // Sets the offsets and the byte counts of the chunks.
     fn set_lists(
         &mut self,
         fields: &mut Fields,
@@ -286,7 +288,7 @@ impl<W: Sink, K: TiffKind> TiffEncoder<W, K> {
         Ok(())
     }
 
-    // The tags that the end of an image writes. After an error the image isn't to be used.
+    // Writes the tags that the end of an image writes. After an error the image must not be used.
     fn set_last<C: ColorType>(&mut self, image: &mut Drawing<C>) -> TiffResult<()>
         ensures { Ends (λ _. image.new.directory) (write_fields image.old.directory
             (fields_of (calls.last_tags self.old.kind image.old)) self.old) result self.old self.new }
@@ -304,7 +306,8 @@ impl<W: Sink, K: TiffKind> TiffEncoder<W, K> {
         Ok(())
     }
 
-    // `finish` of an image: its last tags, then the end of its directory. After an error the image isn't to be used.
+    // `finish` of an image: writes its last tags, and then ends its directory. After an error the
+    // image must not be used.
     pub(crate) fn finish_image<C: ColorType>(
         &mut self,
         image: &mut Drawing<C>,
@@ -316,7 +319,7 @@ impl<W: Sink, K: TiffKind> TiffEncoder<W, K> {
     }
 }
 
-// The tags of both lists.
+// Returns the tags of the offsets and of the byte counts of the chunks.
 fn tags_of(chunk_type: ChunkType) -> (Tag, Tag)
     ensures { result ≡ list_tags_of chunk_type }
 {

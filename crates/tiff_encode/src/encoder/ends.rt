@@ -1,4 +1,4 @@
-//! The ends of directories.
+//! Ends directories.
 
 ghost use Rattle.std.specs.Prelude.{◌≡◌, ℕ, ◌+◌, ◌^◌, ◌<◌, ◌≤◌, length, IfOk, MatchResult, if◌then◌else◌, None, Some, false};
 ghost use Rattle.std.specs.FinMap as map;
@@ -18,7 +18,7 @@ use tiff_base::error::{TiffError, TiffResult};
 use tiff_base::io::Sink;
 
 impl<W: Sink, K: TiffKind> TiffEncoder<W, K> {
-    // A directory is appended, with link 0; where its own link stands is answered.
+    // Appends a directory with link 0, and returns the offset of that link.
     fn append_listed(&mut self, fields: &Fields) -> TiffResult<u64>
         requires { self.old.fault ≡ None }
         ensures listed { Lists fields.now self.old self.new result }
@@ -33,7 +33,7 @@ impl<W: Sink, K: TiffKind> TiffEncoder<W, K> {
         Ok(self.writer.offset() - offset_size(kind))
     }
 
-    // The parent's link, where there is one, is pointed to a directory.
+    // Points the parent's link to a directory. It does nothing if there is no parent.
     fn link_from(&mut self, parent: Option<u64>, directory: u64) -> TiffResult<()>
         requires fresh { self.old.fault ≡ None }
         requires within { (offset : ℕ) → parent ≡ Some offset → offset + offset_len K.kind ≤ length self.old.bytes }
@@ -46,14 +46,15 @@ impl<W: Sink, K: TiffKind> TiffEncoder<W, K> {
         self.link(offset, directory)
     }
 
-    // The file is of the encoder's kind.
+    // States that the file is of the kind of the encoder.
     pub(crate) fn is_of_kind(&self)
         ensures { self.now.kind ≡ K.kind }
     {
         let _chain = &self.chain;
     }
 
-    // Where a directory can end, at the file's end; else the cause.
+    // Returns the end of the file, where the directory is appended, or the first error of `finish`
+    // that applies.
     fn end_offset(&self, fields: &Fields) -> TiffResult<u64>
         ensures { MatchResult result
             (λ end. (self.now.fault ≡ None) × (end ≡ end_of self.now) × (finish_cause self.now fields.now ≡ None))
@@ -65,7 +66,8 @@ impl<W: Sink, K: TiffKind> TiffEncoder<W, K> {
         Ok(end)
     }
 
-    // The chain goes on with a directory that is chained.
+    // Sets the last link of the IFD chain to the directory's own link, if the directory is in the
+    // chain.
     fn chain_with(&mut self, chained: bool, link: u64)
         requires { link + offset_len K.kind ≤ length self.old.bytes }
         ensures { self.new ≡ (if chained then record self.old { chain = link } else self.old) }

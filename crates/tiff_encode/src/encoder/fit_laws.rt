@@ -1,29 +1,33 @@
-//! The laws by which what the calls of an image do can be done to a file in which a model stands, each the contract of a
-//! function with no work.
+//! The laws that the writes of the calls of an image are valid for a file that contains a model.
+//! Each law is the contract of a function that does nothing.
 
 ghost use Rattle.tiff_encode.specs.CallLaws.{NewImageFits, SettingsFit, ResolutionsFit, ChunksFit, FinishImageFits};
 
-/// What begins an image can be done to a file in which a model stands.
+/// States that the writes of `new_image` are valid for a file that contains a model.
 pub fn new_image_fits()
     ensures { NewImageFits }
 {}
 
-/// So can what sets how it is cut and what its extra samples are.
+/// States that the writes of the calls that set the division into chunks and the extra samples are
+/// valid for a file that contains a model.
 pub fn settings_fit()
     ensures { SettingsFit }
 {}
 
-/// So can what sets its resolution.
+/// States that the writes of the calls that set the resolution are valid for a file that contains a
+/// model.
 pub fn resolutions_fit()
     ensures { ResolutionsFit }
 {}
 
-/// So can what writes a chunk.
+/// States that the writes of the calls that write a chunk are valid for a file that contains a
+/// model.
 pub fn chunks_fit()
     ensures { ChunksFit }
 {}
 
-/// So can what ends it.
+/// States that the writes of the calls that end an image are valid for a file that contains a
+/// model.
 pub fn finish_image_fits()
     ensures { FinishImageFits }
 {}

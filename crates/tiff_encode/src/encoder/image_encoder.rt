@@ -1,4 +1,4 @@
-//! Images are written.
+//! Writes images.
 
 ghost use Rattle.std.specs.Prelude.{◌≡◌, ℕ, ◌^◌, ◌<◌, List, length, map, IfOk, OnErr, Ok, Some, false};
 ghost use Rattle.tiff_base.specs.Types.{type_size};
@@ -22,21 +22,26 @@ use tiff_base::io::Sink;
 use tiff_value::encoder::colortype::ColorType;
 use tiff_value::encoder::tiff_value::TiffScalar;
 
-/// An image that is open in the file of an encoder, with its directory, whose calls it has too. It ends by `write_data`,
-/// `finish` or `discard`: one that isn't spent so doesn't pass the checker. After a fault of the sink each call that writes
-/// answers `UsageError(WriterFailed)`; after another refusal what was written and what is open are as they were.
+/// An open image in the file of an encoder, with its directory. It has the calls of the directory
+/// too. It ends by `write_data`, `finish` or `discard`: the checker rejects code that ends it in
+/// another way. After a write to the sink fails, each later call that writes returns
+/// `UsageError(WriterFailed)`. After any other refusal of a call, the file and the open image are
+/// as they were before the call.
 pub type ImageEncoder<'a, W, C, K = TiffKindStandard> = DirectoryEncoder<'a, W, K, Drawing<C>>;
 
 impl<W: Sink, K: TiffKind> TiffEncoder<W, K> {
     ghost use Rattle.std.specs.Borrow.{sem};
     ghost use Rattle.tiff_encode.specs.Lending.{new_image_rests};
 
-    /// Begins an image of a color type, of so many columns and rows: padding to a multiple of 4, and its first tags, with a
-    /// resolution of 1/1. Its chunks are strips of as many rows as make a million bytes, or of one row where they are packed. The
-    /// first cause that holds: an earlier fault of the sink: `UsageError(WriterFailed)`; a side of 0:
-    /// `FormatError(InvalidDimensions)`; differences of floating numbers: `UsageError(PredictorIncompatible)`;
-    /// `Predictor::FloatingPoint`: `UsageError(PredictorUnavailable)`; a resolution's offset past 4 bytes in a classic file:
-    /// `IntSizeError`. Then `OutOfMemory`, or the sink's fault: `IoError(Device)` or `OutOfMemory`.
+    /// Begins an image of a color type, `width` columns wide and `height` rows high. It appends
+    /// padding up to a multiple of 4 bytes, and writes the first tags of the image, with a
+    /// resolution of 1/1. The chunks are strips of as many rows as make a million bytes, or of one
+    /// row if they are compressed. Returns the first error that applies: `UsageError(WriterFailed)`
+    /// if an earlier write to the sink failed; `FormatError(InvalidDimensions)` if the width or the
+    /// height is 0; `UsageError(PredictorIncompatible)` for differences of floating point samples;
+    /// `UsageError(PredictorUnavailable)` for `Predictor::FloatingPoint`; `IntSizeError` if in a
+    /// classic file the offset of a resolution exceeds 4 bytes. Otherwise `OutOfMemory` if an
+    /// allocation fails, or the error of the sink, `IoError(Device)` or `OutOfMemory`.
     pub fn new_image<C: ColorType>(
         &mut self,
         width: u32,
@@ -48,7 +53,8 @@ impl<W: Sink, K: TiffKind> TiffEncoder<W, K> {
         ensures begun { IfOk result (λ i. IsTold (calls.new_image C.described (type_size C.Inner.value_type) width height
             self.entry.now) (Ok i.state) i.encoder.now) }
 
-        // What stood in the file stands; where the call fails, `rests` says so.
+        // Everything that the file contained before the call is still in it. If the call fails,
+        // `rests` states this.
         ensures leaves { (m : Model) → Stands self.entry.now.kind self.entry.now.bytes m
             → IfOk result (λ i. Stands self.entry.now.kind i.encoder.now.bytes (model_by self.entry.now m (calls.new_image C.described (type_size C.Inner.value_type) width height self.entry.now))) }
     {
@@ -60,9 +66,10 @@ impl<W: Sink, K: TiffKind> TiffEncoder<W, K> {
         })
     }
 
-    /// Writes an image of a color type whole: `new_image`, then `write_data` of its samples, row by row and pixel by pixel, which
-    /// ends it. Those behind the last of the image are left out. Errors are those of `new_image`, then those of `write_data`; after
-    /// one what was appended stays, unused, and the next image can begin.
+    /// Writes a whole image of a color type: `new_image`, and then `write_data` of its samples, row
+    /// by row and pixel by pixel, which ends the image. It ignores samples after the last one of
+    /// the image. Errors: those of `new_image`, then those of `write_data`. After an error the
+    /// bytes that the call appended stay in the file, unused, and the next image can begin.
     pub fn write_image<C: ColorType>(
         &mut self,
         width: u32,
@@ -72,7 +79,9 @@ impl<W: Sink, K: TiffKind> TiffEncoder<W, K> {
         ensures answer { WritesImage C.described (type_size C.Inner.value_type) width height
             (map (sample_number (type_size C.Inner.value_type) C.Inner.bits) samples.now) result self.old self.new }
 
-        // What stood in the file stands, and the page shows its samples; where the chain's link broke off, all but that link.
+        // Everything that the file contained before the call is still in it, and the page shows the
+        // samples. If the write of the last link of the IFD chain failed partway, everything except
+        // that link is still in the file.
         ensures leaves { (m : Model) → Stands self.old.kind self.old.bytes m → IsLink self.old.kind m self.old.chain
             → LeavesNewImage C.described (type_size C.Inner.value_type) width height (map (sample_number (type_size C.Inner.value_type) C.Inner.bits) samples.now) result self.old self.new m }
     {
@@ -84,7 +93,7 @@ impl<W: Sink, K: TiffKind> TiffEncoder<W, K> {
 }
 
 impl<'a, W: Sink, K: TiffKind, C: ColorType> DirectoryEncoder<'a, W, K, Drawing<C>> {
-    /// The directory's calls of this image: they are its own, so it answers itself.
+    /// Returns the image itself, which has the calls of its directory.
     pub fn encoder(&mut self) -> &mut Self
         ensures same { result.ghost_name ≡ self.entry.ghost_name }
         ensures value { result.now ≡ self.old }
@@ -92,34 +101,39 @@ impl<'a, W: Sink, K: TiffKind, C: ColorType> DirectoryEncoder<'a, W, K, Drawing<
         self
     }
 
-    /// How many samples the strip has that is written next, at most `u64::MAX`; 0 behind the last one, and of tiles.
+    /// Returns the number of samples of the next strip, at most `u64::MAX`; 0 after the last strip
+    /// and for an image of tiles.
     pub fn next_strip_sample_count(&self) -> u64
         ensures { result ≡ chunks.next_strip_sample_count self.now.state }
     {
         self.state.next_strip_samples()
     }
 
-    /// How many samples the strip or the tile has that is written next, at most `u64::MAX`; 0 behind the last one. The strips at
-    /// the bottom of an image may have fewer rows; a tile is always whole. Chunks of planes have one sample a pixel.
+    /// Returns the number of samples of the next strip or tile, at most `u64::MAX`; 0 after the
+    /// last one. The last strip of a plane can have fewer rows; a tile is always whole. A chunk of
+    /// one plane has one sample per pixel.
     pub fn next_chunk_sample_count(&self) -> u64
         ensures { result ≡ chunks.next_chunk_sample_count self.now.state }
     {
         self.state.next_samples()
     }
 
-    /// Writes the next strip or tile, in the order of their numbers, plane after plane: its samples row by row and pixel by
-    /// pixel, the padding of a tile too, which is written as it is. The first cause that holds: an earlier fault of the sink:
-    /// `UsageError(WriterFailed)`; more chunks in all than 4 bytes can count: `IntSizeError`; another number of samples than
-    /// `next_chunk_sample_count`, or no chunk left: `IoError(InvalidData)`; an offset or a length past 4 bytes in a classic file:
-    /// `IntSizeError`. Then `OutOfMemory`, or the sink's fault: `IoError(Device)` or `OutOfMemory`. After an error the chunk is
-    /// still the next.
+    /// Writes the next strip or tile, in the order of their numbers, one plane after another. The
+    /// samples are in the order of rows, and in a row in the order of pixels. For a tile they
+    /// include its padding, which the call writes as it is. Returns the first error that applies:
+    /// `UsageError(WriterFailed)` if an earlier write to the sink failed; `IntSizeError` if the
+    /// image has more chunks than 4 bytes can count; `IoError(InvalidData)` if the number of
+    /// samples isn't `next_chunk_sample_count`, or no chunk is left; `IntSizeError` if in a classic
+    /// file the offset or the number of bytes of the chunk exceeds 4 bytes. Otherwise `OutOfMemory`
+    /// if an allocation fails, or the error of the sink, `IoError(Device)` or `OutOfMemory`. After
+    /// an error this chunk is still the next one.
     pub fn write_chunk(&mut self, samples: &[C::Inner]) -> TiffResult<()>
         ensures same_reference { self.new.encoder.ghost_name ≡ self.old.encoder.ghost_name }
         ensures answer { WritesStoredChunk calls.write_chunk (write_chunk_cause self.old.encoder.now self.old.state
             (length samples.now) 0) self.old.state (map (sample_number (type_size C.Inner.value_type) C.Inner.bits) samples.now)
             result self.old.encoder.now self.new.encoder.now self.new.state }
 
-        // What stood in the file stands.
+        // Everything that the file contained before the call is still in it.
         ensures leaves { (m : Model) → Stands self.old.encoder.now.kind self.old.encoder.now.bytes m
             → LeavesChunk calls.write_chunk self.old.state (map (sample_number (type_size C.Inner.value_type) C.Inner.bits) samples.now) result self.old.encoder.now self.new.encoder.now self.new.state m }
     {
@@ -136,15 +150,16 @@ impl<'a, W: Sink, K: TiffKind, C: ColorType> DirectoryEncoder<'a, W, K, Drawing<
         }
     }
 
-    /// Writes the next strip, as `write_chunk` does. Behind an earlier fault, and before the other causes: of an image of
-    /// tiles: `UsageError(InvalidChunkType(Strip, Tile))`.
+    /// Writes the next strip, as `write_chunk` does. Errors: those of `write_chunk`, and for an
+    /// image of tiles `UsageError(InvalidChunkType(Strip, Tile))`, which comes after
+    /// `UsageError(WriterFailed)` and before all others.
     pub fn write_strip(&mut self, samples: &[C::Inner]) -> TiffResult<()>
         ensures same_reference { self.new.encoder.ghost_name ≡ self.old.encoder.ghost_name }
         ensures answer { WritesStoredChunk calls.write_strip (write_strip_cause self.old.encoder.now self.old.state
             (length samples.now) 0) self.old.state (map (sample_number (type_size C.Inner.value_type) C.Inner.bits) samples.now)
             result self.old.encoder.now self.new.encoder.now self.new.state }
 
-        // What stood in the file stands.
+        // Everything that the file contained before the call is still in it.
         ensures leaves { (m : Model) → Stands self.old.encoder.now.kind self.old.encoder.now.bytes m
             → LeavesChunk calls.write_strip self.old.state (map (sample_number (type_size C.Inner.value_type) C.Inner.bits) samples.now) result self.old.encoder.now self.new.encoder.now self.new.state m }
     {
@@ -161,27 +176,31 @@ impl<'a, W: Sink, K: TiffKind, C: ColorType> DirectoryEncoder<'a, W, K, Drawing<
         }
     }
 
-    /// Ends the image: the bits and the formats of its samples, and where its chunks stand, those that were written; then its
-    /// directory. The first cause that holds: an earlier fault of the sink: `UsageError(WriterFailed)`; of these tags one by one,
-    /// and then of the directory: a count or an offset past what the kind can hold: `IntSizeError`; a parent's link that isn't within
-    /// the file: `UsageError(ParentNotWritten)`. Then `OutOfMemory`, or the sink's fault: `IoError(Device)` or `OutOfMemory`. After
-    /// an error the image has no directory, and the next one can begin.
+    /// Ends the image: writes the bits and the formats of its samples, and the offsets and byte
+    /// counts of the chunks that are in the file, and then ends its directory. Returns the first
+    /// error that applies: `UsageError(WriterFailed)` if an earlier write to the sink failed; then,
+    /// for these tags one by one and after them for the directory, `IntSizeError` if a count or an
+    /// offset exceeds what the kind of file can hold; `UsageError(ParentNotWritten)` if the
+    /// parent's link isn't within the file. Otherwise `OutOfMemory` if an allocation fails, or the
+    /// error of the sink, `IoError(Device)` or `OutOfMemory`. After an error the image has no
+    /// directory, and the next image can begin.
     pub fn finish(self) -> TiffResult<()>
         ensures answer { EndsSilently (calls.finish_image self.entry.state self.entry.encoder.now) result self.entry.encoder.now
             self.exit.0.now }
 
-        // What stood in the file stands, but for the parent's link, where that broke off.
+        // Everything that the file contained before the call is still in it, except the parent's
+        // link if the write of that link failed partway.
         ensures leaves { (m : Model) → Stands self.entry.encoder.now.kind self.entry.encoder.now.bytes m
             → ((offset : ℕ) → self.entry.state.directory.parent ≡ Some offset → IsLink self.entry.encoder.now.kind m offset)
             → LeavesLinked (calls.finish_image self.entry.state self.entry.encoder.now) result self.entry.encoder.now self.exit.0.now m }
 
-        // An image whose chunks were all written is shown.
+        // If all chunks of the image are in the file, the page shows the samples of the image.
         ensures shows { (m : Model) (samples : List (List ℕ)) → Stands self.entry.encoder.now.kind self.entry.encoder.now.bytes m
             → ((offset : ℕ) → self.entry.state.directory.parent ≡ Some offset → IsLink self.entry.encoder.now.kind m offset)
             → HoldsOpen self.entry.encoder.now.kind m self.entry.state samples → chunks.is_left self.entry.state ≡ false
             → ShowsFinished self.entry.state samples result self.entry.encoder.now self.exit.0.now }
 
-        // The file is as short as each is.
+        // The file is shorter than 2^64 bytes.
         ensures short { end_of self.exit.0.now < 2 ^ 64 }
     {
         let DirectoryEncoder { encoder, mut state } = self;
@@ -199,24 +218,25 @@ impl<'a, W: Sink, K: TiffKind, C: ColorType> DirectoryEncoder<'a, W, K, Drawing<
         }
     }
 
-    /// Ends the image as `finish` does, with the chunks that were written, as the Rust crate writes one that is let go. Errors are
-    /// those of `finish`.
+    /// Ends the image as `finish` does, with the chunks that are in the file, as the Rust crate
+    /// does when it drops one. Errors: those of `finish`.
     pub fn discard(self) -> TiffResult<()>
         ensures answer { EndsSilently (calls.finish_image self.entry.state self.entry.encoder.now) result self.entry.encoder.now
             self.exit.0.now }
 
-        // What stood in the file stands, but for the parent's link, where that broke off.
+        // Everything that the file contained before the call is still in it, except the parent's
+        // link if the write of that link failed partway.
         ensures leaves { (m : Model) → Stands self.entry.encoder.now.kind self.entry.encoder.now.bytes m
             → ((offset : ℕ) → self.entry.state.directory.parent ≡ Some offset → IsLink self.entry.encoder.now.kind m offset)
             → LeavesLinked (calls.finish_image self.entry.state self.entry.encoder.now) result self.entry.encoder.now self.exit.0.now m }
 
-        // An image whose chunks were all written is shown.
+        // If all chunks of the image are in the file, the page shows the samples of the image.
         ensures shows { (m : Model) (samples : List (List ℕ)) → Stands self.entry.encoder.now.kind self.entry.encoder.now.bytes m
             → ((offset : ℕ) → self.entry.state.directory.parent ≡ Some offset → IsLink self.entry.encoder.now.kind m offset)
             → HoldsOpen self.entry.encoder.now.kind m self.entry.state samples → chunks.is_left self.entry.state ≡ false
             → ShowsFinished self.entry.state samples result self.entry.encoder.now self.exit.0.now }
 
-        // The file is as short as each is.
+        // The file is shorter than 2^64 bytes.
         ensures short { end_of self.exit.0.now < 2 ^ 64 }
     {
         let DirectoryEncoder { encoder, mut state } = self;
@@ -234,23 +254,28 @@ impl<'a, W: Sink, K: TiffKind, C: ColorType> DirectoryEncoder<'a, W, K, Drawing<
         }
     }
 
-    /// Writes all samples of the image, row by row and pixel by pixel, and ends it as `finish` does. Behind strips that were
-    /// written it goes on with the samples that follow theirs, of as many as the image has; tiles and planes are cut out of the
-    /// image, with zeros beyond its edges. Samples behind the last one needed are left out. The first cause that holds: an earlier
-    /// fault of the sink: `UsageError(WriterFailed)`; an image of 2^64 samples or more, or tiles or planes of which one was written:
-    /// `IoError(InvalidInput)`; fewer samples than the image has: `IoError(InvalidData)`; more chunks in all than 4 bytes can count:
-    /// `IntSizeError`. Then, chunk by chunk, those of `write_chunk`, and those of `finish`. After an error the image has no
-    /// directory, what was appended stays, unused, and the next one can begin.
+    /// Writes all samples of the image, row by row and pixel by pixel, and ends it as `finish`
+    /// does. If strips are in the file already, the first of `samples` is the one after theirs;
+    /// `samples` must still be as many as the whole image has. Tiles and planes are cut out of the
+    /// image, with zeros beyond its edges. The call ignores samples after the last one that it
+    /// needs. Returns the first error that applies: `UsageError(WriterFailed)` if an earlier write
+    /// to the sink failed; `IoError(InvalidInput)` if the image has 2^64 samples or more, or if it
+    /// has tiles or planes and one of them is in the file already; `IoError(InvalidData)` if there
+    /// are fewer samples than the image has; `IntSizeError` if the image has more chunks than 4
+    /// bytes can count. Then, chunk by chunk, the errors of `write_chunk`, and after them those of
+    /// `finish`. After an error the image has no directory, the bytes that the call appended stay
+    /// in the file, unused, and the next image can begin.
     pub fn write_data(self, samples: &[C::Inner]) -> TiffResult<()>
         ensures answer { WritesImageData self.entry.state (map (sample_number (type_size C.Inner.value_type) C.Inner.bits)
             samples.now) result self.entry.encoder.now self.exit.0.now }
 
-        // What stood in the file stands, and the page shows its samples; but for the parent's link, where that broke off.
+        // Everything that the file contained before the call is still in it, and the page shows the
+        // samples, except the parent's link if the write of that link failed partway.
         ensures leaves { (m : Model) → Stands self.entry.encoder.now.kind self.entry.encoder.now.bytes m
             → ((offset : ℕ) → self.entry.state.directory.parent ≡ Some offset → IsLink self.entry.encoder.now.kind m offset)
             → LeavesData self.entry.state (map (sample_number (type_size C.Inner.value_type) C.Inner.bits) samples.now) result self.entry.encoder.now self.exit.0.now m }
 
-        // The file is as short as each is.
+        // The file is shorter than 2^64 bytes.
         ensures short { end_of self.exit.0.now < 2 ^ 64 }
     {
         let DirectoryEncoder { encoder, mut state } = self;

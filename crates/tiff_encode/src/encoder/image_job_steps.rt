@@ -1,4 +1,4 @@
-//! The steps of jobs in an image.
+//! Runs the steps of a job in an image.
 
 ghost use Rattle.std.specs.Prelude.{◌≡◌, ◌-◌, ◌^◌, ◌<◌, [], ◌≤◌, length, vec_capacity};
 ghost use Rattle.tiff_encode.specs.ImageStepping.{ChunkDraws, ResolutionDraws, StripDraws, reply_to};
@@ -16,7 +16,7 @@ use tiff_base::tags::ResolutionUnit;
 use tiff_value::encoder::colortype::ColorType;
 use tiff_value::encoder::tiff_value::Rational;
 
-// What a call that answers nothing replies.
+// Returns the reply to a step whose call returns `()`.
 fn replied(answer: TiffResult<()>) -> TiffResult<StepReply>
     ensures { result ≡ reply_to answer }
 {
@@ -24,7 +24,7 @@ fn replied(answer: TiffResult<()>) -> TiffResult<StepReply>
     Ok(StepReply::Nothing)
 }
 
-// A copy of a fraction.
+// Returns a copy of a fraction.
 fn copied(value: &Rational) -> Rational
     ensures { result ≡ value.now }
 {
@@ -35,7 +35,7 @@ fn copied(value: &Rational) -> Rational
 }
 
 impl<'a, W: Sink, K: TiffKind, C: ColorType> DirectoryEncoder<'a, W, K, Drawing<C>> {
-    // `write_strip` of the lowest bits of some numbers.
+    // `write_strip` of samples, each of which is the lowest bits of a number.
     fn strip_step(&mut self, numbers: &[u64]) -> TiffResult<StepReply>
         requires few { length numbers.now < 2 ^ 64 - 1 }
         ensures same_reference { self.new.encoder.ghost_name ≡ self.old.encoder.ghost_name }
@@ -49,7 +49,7 @@ impl<'a, W: Sink, K: TiffKind, C: ColorType> DirectoryEncoder<'a, W, K, Drawing<
         replied(answer)
     }
 
-    // `write_chunk` of the lowest bits of some numbers.
+    // `write_chunk` of samples, each of which is the lowest bits of a number.
     fn chunk_step(&mut self, numbers: &[u64]) -> TiffResult<StepReply>
         requires few { length numbers.now < 2 ^ 64 - 1 }
         ensures same_reference { self.new.encoder.ghost_name ≡ self.old.encoder.ghost_name }
@@ -63,7 +63,7 @@ impl<'a, W: Sink, K: TiffKind, C: ColorType> DirectoryEncoder<'a, W, K, Drawing<
         replied(answer)
     }
 
-    // `resolution`, of which the first tags may stand after a fault.
+    // `resolution`. After an error the first of its tags can be set.
     fn resolution_step(&mut self, unit: ResolutionUnit, value: Rational) -> TiffResult<StepReply>
         ensures same_reference { self.new.encoder.ghost_name ≡ self.old.encoder.ghost_name }
         ensures draws { ResolutionDraws self.old.state unit (value.n, value.d) result self.old.encoder.now self.new.encoder.now
@@ -75,7 +75,7 @@ impl<'a, W: Sink, K: TiffKind, C: ColorType> DirectoryEncoder<'a, W, K, Drawing<
         replied(answer)
     }
 
-    // A step of an image.
+    // Runs one step of an image.
     fn image_step(&mut self, step: &ImageStep) -> TiffResult<StepReply>
         ensures same_reference { self.new.encoder.ghost_name ≡ self.old.encoder.ghost_name }
         ensures draws { StepDraws self.old.state step.now result self.old.encoder.now self.new.encoder.now self.new.state }
@@ -101,7 +101,7 @@ impl<'a, W: Sink, K: TiffKind, C: ColorType> DirectoryEncoder<'a, W, K, Drawing<
         }
     }
 
-    /// Steps one after another, and their replies; there is room for them.
+    /// Runs steps one after another, and appends their replies to a list that has room for them.
     pub(crate) fn image_steps(
         &mut self,
         steps: &[ImageStep],

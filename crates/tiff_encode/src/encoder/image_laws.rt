@@ -1,58 +1,64 @@
-//! The laws by which a model holds an image that is open, each the contract of a function with no work.
+//! The laws by which a model records an open image. Each law is the contract of a function that
+//! does nothing.
 
 ghost use Rattle.tiff_encode.specs.Open.{BeginsOpen, GrownOpen, TagsKeepOpen, FieldsKeepOpen, ResolutionsKeepOpen, SettingsKeepOpen, ChunksKeepOpen, EndsHeld, GrownEnded, EndedShown, EndsShown};
 
-/// A new image is held.
+/// States that the model after `new_image` records the image.
 pub fn begins_open()
     ensures { BeginsOpen }
 {}
 
-/// What holds an open image still holds it when more is written.
+/// States that a model that records an open image still records it after more is written.
 pub fn grown_open()
     ensures { GrownOpen }
 {}
 
-/// A tag that a page isn't read by keeps the image held.
+/// States that the model still records an open image after its directory is given a tag that
+/// doesn't describe a page.
 pub fn tags_keep_open()
     ensures { TagsKeepOpen }
 {}
 
-/// So do fields of such tags.
+/// States that the model still records an open image after its directory is given fields of tags
+/// that don't describe a page.
 pub fn fields_keep_open()
     ensures { FieldsKeepOpen }
 {}
 
-/// So do the calls that set resolutions.
+/// States that the model still records an open image after a call that sets resolutions.
 pub fn resolutions_keep_open()
     ensures { ResolutionsKeepOpen }
 {}
 
-/// So do those that set how the image is cut, and its extra samples.
+/// States that the model still records an open image after a call that sets its division into
+/// chunks or its extra samples.
 pub fn settings_keep_open()
     ensures { SettingsKeepOpen }
 {}
 
-/// A chunk that is written keeps it held, with its samples.
+/// States that the model still records an open image after a chunk is written, together with the
+/// samples of that chunk.
 pub fn chunks_keep_open()
     ensures { ChunksKeepOpen }
 {}
 
-/// An image that ends with every chunk is held as one that has ended.
+/// States that the model records an image that ends with all its chunks as an ended image.
 pub fn ends_held()
     ensures { EndsHeld }
 {}
 
-/// What holds it still holds it when more is written.
+/// States that a model that records an ended image still records it after more is written.
 pub fn grown_ended()
     ensures { GrownEnded }
 {}
 
-/// Where what holds it stands in a file, the file shows it.
+/// States that a file that contains a model shows each ended image that the model records.
 pub fn ended_shown()
     ensures { EndedShown }
 {}
 
-/// So an image that ends with every chunk is shown.
+/// States that the file shows an open image that the model records, after the image ends with all
+/// its chunks.
 pub fn ends_shown()
     ensures { EndsShown }
 {}

@@ -1,4 +1,4 @@
-//! What an open image is, and how it is cut, is set.
+//! Sets the properties of an open image, and its division into chunks.
 
 ghost use Rattle.std.specs.Prelude.{◌≡◌, ◌+◌, ◌^◌, ◌<◌, length, IfErr, MatchResult, OnErr, None, Some, nat_lt};
 ghost use Rattle.tiff_value.specs.Data.{data_of, extras};
@@ -24,10 +24,10 @@ use tiff_base::tags::{ExtraSamples, FileKind, PlanarConfiguration, ResolutionUni
 use tiff_value::encoder::colortype::ColorType;
 use tiff_value::encoder::tiff_value::{Rational, Slice, TiffValue};
 
-// ---- causes
+// ---- errors
 
 impl<W: Sink, K: TiffKind> TiffEncoder<W, K> {
-    // The field of some extra samples, at the file's end.
+    // Returns the error of a field with these extra samples at the end of the file, if one applies.
     fn check_extras(&self, end: u64, extra: &[ExtraSamples]) -> TiffResult<()>
         requires { end ≡ end_of self.now }
         ensures { Checks (field_cause self.now (data_of (extras extra.now))) result }
@@ -37,7 +37,7 @@ impl<W: Sink, K: TiffKind> TiffEncoder<W, K> {
         Ok(())
     }
 
-    // `extra_samples`'s cause
+    // Returns the first error of `extra_samples` that applies before a byte is written.
     #[tactic(auto, using(crate::proofs::Calling::fresh_cause, crate::proofs::Calling::stopped_cause), unfolding(crate::specs::Causes::extra_samples_cause))]
     fn check_extra_samples<C: ColorType>(
         &self,
@@ -59,7 +59,7 @@ impl<W: Sink, K: TiffKind> TiffEncoder<W, K> {
         self.check_extras(end, extra)
     }
 
-    // `rows_per_strip`'s cause
+    // Returns the first error of `rows_per_strip` that applies before a byte is written.
     #[tactic(auto, using(crate::proofs::Calling::fresh_cause, crate::proofs::Calling::stopped_cause), unfolding(crate::specs::Causes::rows_per_strip_cause))]
     fn check_rows_per_strip<C: ColorType>(&self, image: &Drawing<C>, rows: u32) -> TiffResult<()>
         ensures { MatchResult result
@@ -73,7 +73,7 @@ impl<W: Sink, K: TiffKind> TiffEncoder<W, K> {
         Ok(())
     }
 
-    // `tiles`'s cause
+    // Returns the first error of `tiles` that applies before a byte is written.
     #[tactic(auto, using(crate::proofs::Calling::fresh_cause, crate::proofs::Calling::stopped_cause), unfolding(crate::specs::Causes::tiles_cause))]
     fn check_tiles<C: ColorType>(
         &self,
@@ -95,7 +95,7 @@ impl<W: Sink, K: TiffKind> TiffEncoder<W, K> {
         Ok(())
     }
 
-    // `planar`'s cause
+    // Returns the first error of `planar` that applies before a byte is written.
     #[tactic(auto, using(crate::proofs::Calling::fresh_cause, crate::proofs::Calling::stopped_cause), unfolding(crate::specs::Causes::planar_cause))]
     fn check_planar<C: ColorType>(&self, image: &Drawing<C>) -> TiffResult<()>
         ensures { Checks (causes.planar_cause self.now image.now) result }
@@ -107,7 +107,7 @@ impl<W: Sink, K: TiffKind> TiffEncoder<W, K> {
         Ok(())
     }
 
-    // `resolution`'s cause
+    // Returns the first error of `resolution` that applies before a byte is written.
     #[tactic(auto, using(crate::proofs::Calling::fresh_cause, crate::proofs::Calling::stopped_cause), unfolding(crate::specs::Causes::resolution_cause))]
     fn check_resolution(&self) -> TiffResult<()>
         ensures { Checks (causes.resolution_cause self.now) result }
@@ -119,7 +119,8 @@ impl<W: Sink, K: TiffKind> TiffEncoder<W, K> {
         Ok(())
     }
 
-    // `x_resolution`'s cause, and `y_resolution`'s
+    // Returns the first error of `x_resolution` and of `y_resolution` that applies before a byte is
+    // written.
     #[tactic(auto, using(crate::proofs::Calling::fresh_cause, crate::proofs::Calling::stopped_cause, crate::proofs::Settings::rational_test), unfolding(crate::specs::Causes::one_resolution_cause))]
     fn check_one_resolution(&self) -> TiffResult<()>
         ensures { Checks (causes.one_resolution_cause self.now) result }
@@ -128,7 +129,7 @@ impl<W: Sink, K: TiffKind> TiffEncoder<W, K> {
         check_field(self.file_kind(), end, 1, 8)
     }
 
-    // `resolution_unit`'s cause
+    // Returns the first error of `resolution_unit` that applies before a byte is written.
     #[tactic(auto, using(crate::proofs::Calling::fresh_cause, crate::proofs::Calling::stopped_cause), unfolding(crate::specs::Causes::resolution_unit_cause))]
     fn check_resolution_unit(&self) -> TiffResult<()>
         ensures { Checks (causes.resolution_unit_cause self.now) result }
@@ -138,21 +139,23 @@ impl<W: Sink, K: TiffKind> TiffEncoder<W, K> {
     }
 }
 
-// Whether a number isn't the side of a tile: a multiple of 16 that isn't 0.
+// Returns whether a number can't be the width or the height of a tile, which is a multiple of 16
+// and not 0.
 fn is_no_side(n: u32) -> bool
     ensures { result ≡ causes.is_no_side n }
 {
     n == 0 || n % 16 != 0
 }
 
-// Whether a pixel would have more samples than can be counted.
+// Returns whether a pixel would have more than 65535 samples.
 fn is_past_samples(bits: usize, extra: usize) -> bool
     ensures { result ≡ nat_lt 65535 (bits + extra) }
 {
     bits.saturating_add(extra) > usize::from(u16::MAX)
 }
 
-// Whether the second of two resolutions would stand past what the kind can hold, where nothing is padded.
+// Returns whether the second of two resolutions at the end of the file, without padding, would have
+// an offset past what the kind of file can hold.
 fn is_past_resolution(kind: FileKind, end: u64) -> bool
     ensures { result ≡ causes.is_past kind (end + 8) }
 {
@@ -203,7 +206,8 @@ impl<W: Sink, K: TiffKind> TiffEncoder<W, K> {
         Ok(())
     }
 
-    // `tiles`; the fields are set in a copy, which takes their place
+    // `tiles`. The call sets the fields in a copy of the directory, and then replaces the directory
+    // by the copy.
     fn set_tiles<C: ColorType>(
         &mut self,
         image: &mut Drawing<C>,
@@ -246,7 +250,7 @@ impl<W: Sink, K: TiffKind> TiffEncoder<W, K> {
         Ok(())
     }
 
-    // `resolution`. After an error the first ones of its tags are set.
+    // `resolution`. After an error the first of its tags can be set.
     fn set_resolution<C: ColorType>(
         &mut self,
         image: &mut Drawing<C>,
@@ -305,7 +309,7 @@ impl<W: Sink, K: TiffKind> TiffEncoder<W, K> {
     }
 }
 
-// The tags of both resolutions and their unit, in their order.
+// Returns the tags of both resolutions and their unit, in the order in which they are written.
 #[tactic(auto, unfolding(tiff_value::specs::Data::data_of))]
 fn resolution_values(unit: ResolutionUnit, value: Rational) -> [TagValue; 3]
     ensures { result ≡ fields_of (calls.resolution_tags unit (value.n, value.d)) }
@@ -317,21 +321,23 @@ fn resolution_values(unit: ResolutionUnit, value: Rational) -> [TagValue; 3]
     ]
 }
 
-// ---- of an open image
+// ---- calls of an open image
 
 impl<'a, W: Sink, K: TiffKind, C: ColorType> DirectoryEncoder<'a, W, K, Drawing<C>> {
-    /// Sets what the samples of a pixel mean that follow those of the color type, one for each, in place of those that were
-    /// set before. Each pixel that is written from then on has them too. The first cause that holds: an
-    /// earlier fault of the sink: `UsageError(WriterFailed)`; a chunk was written: `UsageError(ReconfiguredAfterImageWrite)`;
-    /// more than 65535 samples in all, or the list's offset past 4 bytes in a classic file: `IntSizeError`. Then `OutOfMemory`,
-    /// or the sink's fault: `IoError(Device)` or `OutOfMemory`.
+    /// Sets the meaning of the samples of a pixel that follow those of the color type, one item for
+    /// each extra sample. The list replaces an earlier one. Each pixel that is written after the
+    /// call has these samples too. Returns the first error that applies: `UsageError(WriterFailed)`
+    /// if an earlier write to the sink failed; `UsageError(ReconfiguredAfterImageWrite)` if a chunk
+    /// is in the file; `IntSizeError` if a pixel has more than 65535 samples in all, or if in a
+    /// classic file the offset of the list exceeds 4 bytes. Otherwise `OutOfMemory` if an
+    /// allocation fails, or the error of the sink, `IoError(Device)` or `OutOfMemory`.
     pub fn extra_samples(&mut self, extra: &[ExtraSamples]) -> TiffResult<()>
         ensures same_reference { self.new.encoder.ghost_name ≡ self.old.encoder.ghost_name }
         ensures stays { OnErr result (self.new.state ≡ self.old.state) }
         ensures answer { Ends (λ _. self.new.state) (calls.extra_samples self.old.state extra.now self.old.encoder.now) result
             self.old.encoder.now self.new.encoder.now }
 
-        // What stood in the file stands.
+        // Everything that the file contained before the call is still in it.
         ensures leaves { (m : Model) → Stands self.old.encoder.now.kind self.old.encoder.now.bytes m
             → Leaves (calls.extra_samples self.old.state extra.now self.old.encoder.now) result self.old.encoder.now self.new.encoder.now m }
     {
@@ -341,16 +347,18 @@ impl<'a, W: Sink, K: TiffKind, C: ColorType> DirectoryEncoder<'a, W, K, Drawing<
         answer
     }
 
-    /// Sets how many rows a strip has, but for the last. By default a strip has one row where it is packed, and else as many
-    /// as make a million bytes. The first cause that holds: an earlier fault of the sink: `UsageError(WriterFailed)`; no row, a
-    /// chunk was written, or the image has tiles: `IoError(InvalidInput)`. Then `OutOfMemory`.
+    /// Sets the number of rows of each strip; the last strip can have fewer. By default a strip has
+    /// one row if it is compressed, and otherwise as many rows as make a million bytes. Returns the
+    /// first error that applies: `UsageError(WriterFailed)` if an earlier write to the sink failed;
+    /// `IoError(InvalidInput)` if `value` is 0, a chunk is in the file, or the image has tiles.
+    /// Otherwise `OutOfMemory` if an allocation fails.
     pub fn rows_per_strip(&mut self, value: u32) -> TiffResult<()>
         ensures same_reference { self.new.encoder.ghost_name ≡ self.old.encoder.ghost_name }
         ensures stays { OnErr result (self.new.state ≡ self.old.state) }
         ensures answer { Ends (λ _. self.new.state) (calls.set_rows_per_strip self.old.state value self.old.encoder.now) result
             self.old.encoder.now self.new.encoder.now }
 
-        // What stood in the file stands.
+        // Everything that the file contained before the call is still in it.
         ensures leaves { (m : Model) → Stands self.old.encoder.now.kind self.old.encoder.now.bytes m
             → Leaves (calls.set_rows_per_strip self.old.state value self.old.encoder.now) result self.old.encoder.now self.new.encoder.now m }
     {
@@ -360,16 +368,18 @@ impl<'a, W: Sink, K: TiffKind, C: ColorType> DirectoryEncoder<'a, W, K, Drawing<
         answer
     }
 
-    /// Cuts the image into tiles of these sides in place of strips, or of tiles of other sides. The first cause that holds: an
-    /// earlier fault of the sink: `UsageError(WriterFailed)`; a chunk was written: `UsageError(ReconfiguredAfterImageWrite)`; a
-    /// side that isn't a multiple of 16, or is 0: `IoError(InvalidInput)`. Then `OutOfMemory`.
+    /// Divides the image into tiles of `width` columns and `length` rows, in place of strips or of
+    /// tiles of another size. Returns the first error that applies: `UsageError(WriterFailed)` if
+    /// an earlier write to the sink failed; `UsageError(ReconfiguredAfterImageWrite)` if a chunk is
+    /// in the file; `IoError(InvalidInput)` if the width or the length is 0 or not a multiple of
+    /// 16. Otherwise `OutOfMemory` if an allocation fails.
     pub fn tiles(&mut self, width: u32, length: u32) -> TiffResult<()>
         ensures same_reference { self.new.encoder.ghost_name ≡ self.old.encoder.ghost_name }
         ensures stays { OnErr result (self.new.state ≡ self.old.state) }
         ensures answer { Ends (λ _. self.new.state) (calls.tiles self.old.state width length self.old.encoder.now) result
             self.old.encoder.now self.new.encoder.now }
 
-        // What stood in the file stands.
+        // Everything that the file contained before the call is still in it.
         ensures leaves { (m : Model) → Stands self.old.encoder.now.kind self.old.encoder.now.bytes m
             → Leaves (calls.tiles self.old.state width length self.old.encoder.now) result self.old.encoder.now self.new.encoder.now m }
     {
@@ -379,16 +389,17 @@ impl<'a, W: Sink, K: TiffKind, C: ColorType> DirectoryEncoder<'a, W, K, Drawing<
         answer
     }
 
-    /// Has each chunk hold the samples of one plane, all chunks of a plane before those of the next. The first cause that holds:
-    /// an earlier fault of the sink: `UsageError(WriterFailed)`; a chunk was written: `UsageError(ReconfiguredAfterImageWrite)`.
-    /// Then `OutOfMemory`.
+    /// Makes each chunk contain the samples of one plane. All chunks of a plane come before those
+    /// of the next plane. Returns the first error that applies: `UsageError(WriterFailed)` if an
+    /// earlier write to the sink failed; `UsageError(ReconfiguredAfterImageWrite)` if a chunk is in
+    /// the file. Otherwise `OutOfMemory` if an allocation fails.
     pub fn planar(&mut self) -> TiffResult<()>
         ensures same_reference { self.new.encoder.ghost_name ≡ self.old.encoder.ghost_name }
         ensures stays { OnErr result (self.new.state ≡ self.old.state) }
         ensures answer { Ends (λ _. self.new.state) (calls.planar self.old.state self.old.encoder.now) result
             self.old.encoder.now self.new.encoder.now }
 
-        // What stood in the file stands.
+        // Everything that the file contained before the call is still in it.
         ensures leaves { (m : Model) → Stands self.old.encoder.now.kind self.old.encoder.now.bytes m
             → Leaves (calls.planar self.old.state self.old.encoder.now) result self.old.encoder.now self.new.encoder.now m }
     {
@@ -398,10 +409,12 @@ impl<'a, W: Sink, K: TiffKind, C: ColorType> DirectoryEncoder<'a, W, K, Drawing<
         answer
     }
 
-    /// Sets how many pixels there are to a unit, across and down, and the unit. The first cause that holds: an earlier fault of
-    /// the sink: `UsageError(WriterFailed)`; an offset past 4 bytes in a classic file: `IntSizeError`. Then `OutOfMemory`, or the
-    /// sink's fault: `IoError(Device)` or `OutOfMemory`; after one of these the first ones of the three tags may be set, in the
-    /// order of the unit, across, down.
+    /// Sets the number of pixels per unit, in both directions, and the unit. Returns the first
+    /// error that applies: `UsageError(WriterFailed)` if an earlier write to the sink failed;
+    /// `IntSizeError` if in a classic file an offset exceeds 4 bytes. Otherwise `OutOfMemory` if an
+    /// allocation fails, or the error of the sink, `IoError(Device)` or `OutOfMemory`; after one of
+    /// these the first of the three tags can be set, in the order `ResolutionUnit`, `XResolution`,
+    /// `YResolution`.
     pub fn resolution(&mut self, unit: ResolutionUnit, value: Rational) -> TiffResult<()>
         ensures same_reference { self.new.encoder.ghost_name ≡ self.old.encoder.ghost_name }
         ensures part { IfErr result (λ e. StopsResolving self.old.state unit (value.n, value.d) e self.old.encoder.now
@@ -409,7 +422,7 @@ impl<'a, W: Sink, K: TiffKind, C: ColorType> DirectoryEncoder<'a, W, K, Drawing<
         ensures answer { Ends (λ _. self.new.state) (calls.resolution self.old.state unit (value.n, value.d)
             self.old.encoder.now) result self.old.encoder.now self.new.encoder.now }
 
-        // What stood in the file stands.
+        // Everything that the file contained before the call is still in it.
         ensures leaves { (m : Model) → Stands self.old.encoder.now.kind self.old.encoder.now.bytes m
             → Leaves (calls.resolution self.old.state unit (value.n, value.d) self.old.encoder.now) result self.old.encoder.now self.new.encoder.now m }
     {
@@ -419,16 +432,17 @@ impl<'a, W: Sink, K: TiffKind, C: ColorType> DirectoryEncoder<'a, W, K, Drawing<
         answer
     }
 
-    /// Sets how many pixels there are to a unit, across. The first cause that holds: an earlier fault of the sink:
-    /// `UsageError(WriterFailed)`; an offset past 4 bytes in a classic file: `IntSizeError`. Then `OutOfMemory`, or the sink's
-    /// fault: `IoError(Device)` or `OutOfMemory`.
+    /// Sets the number of pixels per unit in the horizontal direction. Returns the first error that
+    /// applies: `UsageError(WriterFailed)` if an earlier write to the sink failed; `IntSizeError`
+    /// if in a classic file an offset exceeds 4 bytes. Otherwise `OutOfMemory` if an allocation
+    /// fails, or the error of the sink, `IoError(Device)` or `OutOfMemory`.
     pub fn x_resolution(&mut self, value: Rational) -> TiffResult<()>
         ensures same_reference { self.new.encoder.ghost_name ≡ self.old.encoder.ghost_name }
         ensures stays { OnErr result (self.new.state ≡ self.old.state) }
         ensures answer { Ends (λ _. self.new.state) (calls.x_resolution self.old.state (value.n, value.d) self.old.encoder.now)
             result self.old.encoder.now self.new.encoder.now }
 
-        // What stood in the file stands.
+        // Everything that the file contained before the call is still in it.
         ensures leaves { (m : Model) → Stands self.old.encoder.now.kind self.old.encoder.now.bytes m
             → Leaves (calls.x_resolution self.old.state (value.n, value.d) self.old.encoder.now) result self.old.encoder.now self.new.encoder.now m }
     {
@@ -438,16 +452,17 @@ impl<'a, W: Sink, K: TiffKind, C: ColorType> DirectoryEncoder<'a, W, K, Drawing<
         answer
     }
 
-    /// Sets how many pixels there are to a unit, down. The first cause that holds: an earlier fault of the sink:
-    /// `UsageError(WriterFailed)`; an offset past 4 bytes in a classic file: `IntSizeError`. Then `OutOfMemory`, or the sink's
-    /// fault: `IoError(Device)` or `OutOfMemory`.
+    /// Sets the number of pixels per unit in the vertical direction. Returns the first error that
+    /// applies: `UsageError(WriterFailed)` if an earlier write to the sink failed; `IntSizeError`
+    /// if in a classic file an offset exceeds 4 bytes. Otherwise `OutOfMemory` if an allocation
+    /// fails, or the error of the sink, `IoError(Device)` or `OutOfMemory`.
     pub fn y_resolution(&mut self, value: Rational) -> TiffResult<()>
         ensures same_reference { self.new.encoder.ghost_name ≡ self.old.encoder.ghost_name }
         ensures stays { OnErr result (self.new.state ≡ self.old.state) }
         ensures answer { Ends (λ _. self.new.state) (calls.y_resolution self.old.state (value.n, value.d) self.old.encoder.now)
             result self.old.encoder.now self.new.encoder.now }
 
-        // What stood in the file stands.
+        // Everything that the file contained before the call is still in it.
         ensures leaves { (m : Model) → Stands self.old.encoder.now.kind self.old.encoder.now.bytes m
             → Leaves (calls.y_resolution self.old.state (value.n, value.d) self.old.encoder.now) result self.old.encoder.now self.new.encoder.now m }
     {
@@ -457,14 +472,15 @@ impl<'a, W: Sink, K: TiffKind, C: ColorType> DirectoryEncoder<'a, W, K, Drawing<
         answer
     }
 
-    /// Sets the unit of the resolutions. An earlier fault of the sink: `UsageError(WriterFailed)`; else `OutOfMemory`.
+    /// Sets the unit of the resolutions. Errors: `UsageError(WriterFailed)` if an earlier write to
+    /// the sink failed, otherwise `OutOfMemory` if an allocation fails.
     pub fn resolution_unit(&mut self, unit: ResolutionUnit) -> TiffResult<()>
         ensures same_reference { self.new.encoder.ghost_name ≡ self.old.encoder.ghost_name }
         ensures stays { OnErr result (self.new.state ≡ self.old.state) }
         ensures answer { Ends (λ _. self.new.state) (calls.resolution_unit self.old.state unit self.old.encoder.now) result
             self.old.encoder.now self.new.encoder.now }
 
-        // What stood in the file stands.
+        // Everything that the file contained before the call is still in it.
         ensures leaves { (m : Model) → Stands self.old.encoder.now.kind self.old.encoder.now.bytes m
             → Leaves (calls.resolution_unit self.old.state unit self.old.encoder.now) result self.old.encoder.now self.new.encoder.now m }
     {

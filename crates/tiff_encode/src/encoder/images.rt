@@ -1,4 +1,4 @@
-//! Images are begun.
+//! Begins images.
 
 ghost use Rattle.std.specs.Prelude.{◌≡◌, ℕ, ◌+◌, ◌*◌, ◌^◌, ◌<◌, [], ◌∷◌, length, IfOk, MatchOption, MatchResult, None, Some, true};
 ghost use Rattle.tiff_base.specs.Types.{type_size};
@@ -32,14 +32,16 @@ use tiff_base::tags::{
 use tiff_value::encoder::colortype::ColorType;
 use tiff_value::encoder::tiff_value::TiffValue;
 
-// Whether differences of the bits of these samples say nothing.
+// Returns whether differences of these samples, taken as integers, have no meaning: the first
+// sample format is IEEE floating point or undefined.
 fn is_not_whole(formats: &[SampleFormat]) -> bool
     ensures { result ≡ causes.is_not_whole formats.now }
 {
     matches!(formats, [SampleFormat::IEEEFP | SampleFormat::Void, ..])
 }
 
-// Whether the second resolution would stand past what the kind can hold.
+// Returns whether the offset of the second resolution, after padding, exceeds what the kind of file
+// can hold.
 #[tactic(auto, using(crate::proofs::Offsets::resolutions_of))]
 fn is_past_resolutions(kind: FileKind, end: u64) -> bool
     ensures { result ≡ is_past kind (resolutions_offset end + 8) }
@@ -51,7 +53,7 @@ fn is_past_resolutions(kind: FileKind, end: u64) -> bool
     }
 }
 
-/// Whether an image can begin here: `new_image`'s causes but for an earlier fault.
+/// Returns the first error of `new_image` that applies, except that of an earlier failed write.
 #[tactic(auto, unfolding(crate::specs::Causes::image_cause))]
 fn check_image(
     kind: FileKind,
@@ -80,7 +82,7 @@ fn check_image(
     Ok(())
 }
 
-// The method of a packing.
+// Returns the compression method that a `Compression` means.
 fn method(compression: Compression) -> CompressionMethod
     ensures { result ≡ compression_method compression }
 {
@@ -90,7 +92,7 @@ fn method(compression: Compression) -> CompressionMethod
     }
 }
 
-// The rows of a strip by default, of rows of so many bytes.
+// Returns the number of rows of a strip by default. `row_bytes` is the number of bytes of a row.
 fn rows_of_strip(compression: Compression, row_bytes: u64) -> u32
     requires { 0 < row_bytes }
     ensures rows { result ≡ default_rows (compression_method compression) row_bytes }
@@ -103,7 +105,7 @@ fn rows_of_strip(compression: Compression, row_bytes: u64) -> u32
 }
 
 impl<W: Sink, K: TiffKind> TiffEncoder<W, K> {
-    // Where an image begins; else `new_image`'s cause.
+    // Returns the first error of `new_image` that applies before a byte is written.
     #[tactic(auto, unfolding(crate::specs::Causes::new_image_cause))]
     fn check_new_image<C: ColorType>(&self, width: u32, height: u32) -> TiffResult<()>
         ensures { MatchResult result
@@ -121,7 +123,7 @@ impl<W: Sink, K: TiffKind> TiffEncoder<W, K> {
         Ok(())
     }
 
-    // An image without chunks, in a directory of the chain without fields.
+    // Returns an image without chunks, with a directory of the IFD chain that has no fields.
     fn blank<C: ColorType>(&self, width: u32, height: u32) -> Drawing<C>
         requires sides { (0 < width) × (0 < height) }
         ensures { result ≡ image_in self.now (new_directory (Some self.now.chain) true) C.described
@@ -154,7 +156,8 @@ impl<W: Sink, K: TiffKind> TiffEncoder<W, K> {
     }
 }
 
-// What an image is.
+// Returns the tags of the width, the height, the compression, the predictor and the interpretation
+// of the samples.
 #[tactic(auto, unfolding(tiff_value::specs::Data::data_of))]
 fn meaning_values<C: ColorType>(image: &Drawing<C>) -> [TagValue; 5]
     ensures { result ≡ fields_of (calls.meaning_tags image.now) }
@@ -168,7 +171,7 @@ fn meaning_values<C: ColorType>(image: &Drawing<C>) -> [TagValue; 5]
     ]
 }
 
-// Samples of YCbCr are not subsampled, which is said.
+// Returns the tag that says that YCbCr samples aren't subsampled, or `None` for another color.
 fn chroma_value<C: ColorType>(image: &Drawing<C>) -> Option<TagValue>
     ensures { MatchOption result
         (fields_of (calls.chroma_tags image.now.color.interpretation) ≡ [])
@@ -181,7 +184,8 @@ fn chroma_value<C: ColorType>(image: &Drawing<C>) -> Option<TagValue>
     }
 }
 
-// The rows of a strip, the samples of a pixel, and a resolution that says nothing.
+// Returns the tags of the rows of a strip, the samples of a pixel, and a resolution of 1/1 without
+// a unit.
 #[tactic(auto, unfolding(tiff_value::specs::Data::data_of))]
 fn layout_values<C: ColorType>(image: &Drawing<C>) -> [TagValue; 5]
     ensures { result ≡ fields_of (calls.layout_tags image.now) }
@@ -196,7 +200,7 @@ fn layout_values<C: ColorType>(image: &Drawing<C>) -> [TagValue; 5]
 }
 
 impl<W: Sink, K: TiffKind> TiffEncoder<W, K> {
-    // `new_image`, but for the guard
+    // `new_image`, without the `DirectoryEncoder` around the image.
     pub(crate) fn begin_image<C: ColorType>(
         &mut self,
         width: u32,
@@ -216,7 +220,7 @@ impl<W: Sink, K: TiffKind> TiffEncoder<W, K> {
     }
 }
 
-// The tags that a new image writes, in their order.
+// Returns the tags that `new_image` writes, in the order in which it writes them.
 #[tactic(auto, unfolding(crate::specs::Calls::first_tags))]
 fn first_values<C: ColorType>(
     alloc: Global,

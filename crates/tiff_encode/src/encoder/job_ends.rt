@@ -1,4 +1,4 @@
-//! The ends of jobs.
+//! Ends jobs.
 
 ghost use Rattle.std.specs.Prelude.{◌≡◌, map};
 ghost use Rattle.tiff_base.specs.Types.{type_size};
@@ -46,7 +46,7 @@ impl<'a, W: Sink, K: TiffKind> DirectoryEncoder<'a, W, K, Fields> {
         Ok(EndReply::Nothing)
     }
 
-    /// Ends a directory.
+    /// Ends the directory of a job.
     pub(crate) fn end(self, end: DirectoryEnd) -> TiffResult<EndReply>
         ensures { EndMoves (λ s t offset. DirectoryEnds s self.entry.state end result t offset) self.entry.state.parent
             self.entry.encoder.now self.exit.0.now (λ s t offset. Unit {0}) }
@@ -59,7 +59,7 @@ impl<'a, W: Sink, K: TiffKind> DirectoryEncoder<'a, W, K, Fields> {
 }
 
 impl<'a, W: Sink, K: TiffKind, C: ColorType> DirectoryEncoder<'a, W, K, Drawing<C>> {
-    // An image ends without a directory.
+    // Drops an open image. It writes no directory.
     fn abandon(self)
         ensures { self.exit.0.now ≡ self.entry.encoder.now }
     {
@@ -82,7 +82,8 @@ impl<'a, W: Sink, K: TiffKind, C: ColorType> DirectoryEncoder<'a, W, K, Drawing<
         Ok(EndReply::Nothing)
     }
 
-    // The same of samples that are cut, where there is memory for them.
+    // `write_data` of samples, each of which is the lowest bits of a number. It returns
+    // `OutOfMemory` if there is no memory for the samples.
     fn write_numbers(self, numbers: &[u64]) -> TiffResult<EndReply>
         ensures { EndMoves (λ s t offset. WritesDataIfFound self.entry.state (cut_to self.entry.state.size numbers.now) result s
             t offset) self.entry.state.directory.parent self.entry.encoder.now self.exit.0.now
@@ -120,7 +121,7 @@ impl<'a, W: Sink, K: TiffKind, C: ColorType> DirectoryEncoder<'a, W, K, Drawing<
         Ok(EndReply::Nothing)
     }
 
-    /// Ends an image. Where there is no memory for its samples, it has no directory.
+    /// Ends the image of a job. If there is no memory for its samples, the image has no directory.
     pub(crate) fn end_image(self, end: &ImageEnd) -> TiffResult<EndReply>
         ensures { EndMoves (λ s t offset. ImageEnds s self.entry.state end.now result t offset) self.entry.state.directory.parent
             self.entry.encoder.now self.exit.0.now (ImageHeld self.entry.state end.now) }

@@ -1,4 +1,4 @@
-//! The steps of jobs in a directory.
+//! Runs the steps of a job in a directory.
 
 ghost use Rattle.std.specs.Prelude.{◌≡◌, ◌+◌, ◌++◌, ◌∷◌, [], ◌<◌, ◌≤◌, length, vec_len, vec_capacity, OnErr};
 ghost use Rattle.tiff_encode.specs.Calls as calls;
@@ -17,7 +17,7 @@ use tiff_base::error::TiffResult;
 use tiff_base::io::Sink;
 use tiff_base::tags::Tag;
 
-// Behind the items of a list that has room.
+// Appends an item to a list that has room for it.
 pub(crate) fn put<T: Drop>(items: &mut Vec<T>, item: T)
     requires { vec_len items.old < vec_capacity items.old }
     ensures items { items.new.items ≡ items.old.items ++ item ∷ [] }
@@ -64,7 +64,7 @@ impl<'a, W: Sink, K: TiffKind, D: HasDirectory> DirectoryEncoder<'a, W, K, D> {
         Ok(())
     }
 
-    /// A step of its directory.
+    /// Runs one step of a directory.
     pub(crate) fn step(&mut self, step: &DirectoryStep) -> TiffResult<StepReply>
         ensures same_reference { self.new.encoder.ghost_name ≡ self.old.encoder.ghost_name }
         ensures rest { self.new.state ≡ D.with_directory self.old.state (D.open_directory self.new.state) }
@@ -109,7 +109,7 @@ impl<'a, W: Sink, K: TiffKind, D: HasDirectory> DirectoryEncoder<'a, W, K, D> {
 }
 
 impl<'a, W: Sink, K: TiffKind> DirectoryEncoder<'a, W, K, Fields> {
-    /// Steps one after another, and their replies; there is room for them.
+    /// Runs steps one after another, and appends their replies to a list that has room for them.
     pub(crate) fn steps(
         &mut self,
         steps: &[DirectoryStep],

@@ -1,4 +1,4 @@
-//! The values of jobs are handed in.
+//! Writes the values of jobs.
 
 ghost use Rattle.std.specs.Prelude.{◌≡◌, map, MatchResult};
 ghost use Rattle.tiff_base.specs.Types.{type_size};
@@ -19,7 +19,7 @@ use tiff_base::io::Sink;
 use tiff_value::encoder::differences::Sample;
 use tiff_value::encoder::tiff_value::{Slice, Text, TiffScalar, TiffValue};
 
-/// Samples, each the lowest bits of a number. The only error is `OutOfMemory`.
+/// Returns samples, each of which is the lowest bits of a number. The only error is `OutOfMemory`.
 pub(crate) fn cut_samples<S: Sample>(alloc: Global, numbers: &[u64]) -> TiffResult<Vec<S>>
     ensures { MatchResult result
         (λ v. map (sample_number (type_size S.value_type) S.bits) v.items ≡ cut_to (type_size S.value_type) numbers.now)
@@ -32,25 +32,26 @@ pub(crate) fn cut_samples<S: Sample>(alloc: Global, numbers: &[u64]) -> TiffResu
     Ok(samples)
 }
 
-// How a value of any type is handed to a state, which gives an answer.
+// Passes a value of any type to a state, which returns an `A`.
 trait ValueVisitor<E, A> {
     ghost use Rattle.std.specs.Prelude.{Result, Ok, string_bytes};
     ghost use Rattle.tiff_base.specs.declared.error.TiffError.{TiffError};
     ghost use Rattle.tiff_value.specs.Data.{FieldData, data_of, text_data};
 
-    // What is then so of a value, or why it can't be written, of the state before, the answer, and the state after.
+    // The relation between a value (or the reason why it can't be written), the state before the
+    // call, its result, and the state after it.
     ghost hands: { Result FieldData TiffError → E → Result A TiffError → E → Type 0 };
 
-    // Several values of a type.
+    // Passes several values of one type.
     fn list<T: TiffScalar>(state: &mut E, values: &Vec<T>) -> TiffResult<A>
         ensures { hands (Ok (data_of (T.scalars values.now.items))) state.old result state.new };
 
-    // A text.
+    // Passes a text.
     fn text(state: &mut E, text: &String) -> TiffResult<A>
         ensures { hands (text_data (string_bytes text.now)) state.old result state.new };
 }
 
-// A value of a job is handed to a state.
+// Passes a value of a job to a state.
 fn hand_in<E, A, H: ValueVisitor<E, A>>(state: &mut E, value: &JobValue) -> TiffResult<A>
     ensures { H.hands (value_data value.now) state.old result state.new }
 {
@@ -80,7 +81,7 @@ fn hand_in<E, A, H: ValueVisitor<E, A>>(state: &mut E, value: &JobValue) -> Tiff
     }
 }
 
-// By `write_entry`.
+// Passes a value to `write_entry`.
 pub(super) struct ForField;
 
 impl<W: Sink, K: TiffKind> ValueVisitor<TiffEncoder<W, K>, Entry> for ForField {
@@ -102,7 +103,7 @@ impl<W: Sink, K: TiffKind> ValueVisitor<TiffEncoder<W, K>, Entry> for ForField {
     }
 }
 
-// The same without room for the entry.
+// Passes a value to `write_entry` without room for the entry.
 pub(super) struct ForNoField;
 
 impl<W: Sink, K: TiffKind> ValueVisitor<TiffEncoder<W, K>, Entry> for ForNoField {
@@ -124,7 +125,7 @@ impl<W: Sink, K: TiffKind> ValueVisitor<TiffEncoder<W, K>, Entry> for ForNoField
     }
 }
 
-// By `write_data`.
+// Passes a value to `write_data`.
 pub(super) struct ForData;
 
 impl<W: Sink, K: TiffKind> ValueVisitor<TiffEncoder<W, K>, u64> for ForData {
@@ -147,12 +148,12 @@ impl<W: Sink, K: TiffKind> ValueVisitor<TiffEncoder<W, K>, u64> for ForData {
 }
 
 impl<W: Sink, K: TiffKind> TiffEncoder<W, K> {
-    /// What gives memory.
+    /// Returns the allocator of the encoder.
     pub(crate) fn alloc(&self) -> Global {
         self.alloc
     }
 
-    // `write_entry` of a value, which leaves what stood.
+    // `write_entry` of a value. Everything that the file contained before the call is still in it.
     fn place_given<T: TiffValue>(&mut self, value: &T, has_room: bool) -> TiffResult<Entry>
         ensures answer { Ends (λ e. e) (calls.write_entry (T.field_data value.now) self.old) result self.old self.new }
         ensures leaves { (m : Model) → Stands self.old.kind self.old.bytes m
@@ -163,7 +164,7 @@ impl<W: Sink, K: TiffKind> TiffEncoder<W, K> {
         Ok(entry)
     }
 
-    // `write_data` of a value, which leaves what stood.
+    // `write_data` of a value. Everything that the file contained before the call is still in it.
     fn append_given<T: TiffValue>(&mut self, value: &T) -> TiffResult<u64>
         ensures answer { Ends (λ n. n) (calls.write_data (T.field_data value.now) self.old) result self.old self.new }
         ensures leaves { (m : Model) → Stands self.old.kind self.old.bytes m

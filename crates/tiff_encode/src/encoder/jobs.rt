@@ -1,4 +1,4 @@
-//! Jobs, one after another.
+//! Runs jobs one after another.
 
 ghost use Rattle.std.specs.Prelude.{◌≡◌, ◌⊎◌, length, true, false};
 ghost use Rattle.tiff_base.specs.declared.tags.CompressionMethod.TheVariants as method;
@@ -25,7 +25,7 @@ use tiff_value::encoder::colortype::{
 };
 
 impl Fields {
-    // Where the link stands that is to point to it, if that was named.
+    // Sets the offset of the link that points to the directory when it ends, if there is one.
     fn link_from(&mut self, parent: Option<u64>)
         ensures { self.new ≡ linked_from parent self.old }
     {
@@ -50,7 +50,7 @@ impl<W: Sink, K: TiffKind> TiffEncoder<W, K> {
         self.compression = compression;
     }
 
-    // It packs by one of two methods.
+    // States that the encoder compresses chunks with PackBits or not at all.
     fn packs(&self)
         ensures { (self.now.method ≡ method.None) ⊎ (self.now.method ≡ method.PackBits) }
     {
@@ -63,7 +63,7 @@ impl<W: Sink, K: TiffKind> TiffEncoder<W, K> {
 
 // ---- directories
 
-// The steps of a directory that is open, and its end; there is room for their replies.
+// Runs the steps of an open directory, and ends it. `steps` has room for their replies.
 fn lead_directory<W: Sink, K: TiffKind>(
     encoder: &mut TiffEncoder<W, K>,
     state: Fields,
@@ -79,7 +79,7 @@ fn lead_directory<W: Sink, K: TiffKind>(
     JobReply { steps, last }
 }
 
-// A directory of the chain.
+// Runs a job that writes a directory of the IFD chain.
 fn run_chained<W: Sink, K: TiffKind>(
     encoder: &mut TiffEncoder<W, K>,
     job: &DirectoryJob,
@@ -105,7 +105,7 @@ fn run_chained<W: Sink, K: TiffKind>(
     }
 }
 
-// One that is linked from nowhere, or from its parent.
+// Runs a job that writes a directory outside the IFD chain, with a parent or without one.
 fn run_extra<W: Sink, K: TiffKind>(
     encoder: &mut TiffEncoder<W, K>,
     job: &DirectoryJob,
@@ -131,7 +131,8 @@ fn run_extra<W: Sink, K: TiffKind>(
     }
 }
 
-// The link of the directory that a job finished, where it answered that.
+// Returns the offset of the link of the directory that a job finished, or `None` if its reply has
+// no offsets.
 fn link_of(reply: &JobReply) -> Option<u64>
     ensures { result ≡ link_in (offsets_in reply.now.last) }
 {
@@ -141,7 +142,9 @@ fn link_of(reply: &JobReply) -> Option<u64>
     }
 }
 
-// The link of a parent, if one is named: that of the directory of an earlier job.
+// Returns the offset of the link of the parent, which is the directory of an earlier job, or
+// `Ok(None)` if there is no parent. Returns `UsageError(ParentNotWritten)` if that job doesn't
+// exist or its reply has no offsets.
 fn named_link(earlier: &[JobReply], parent: Option<usize>) -> TiffResult<Option<u64>>
     ensures { NamesLink (offsets_answered earlier.now) parent result }
 {
@@ -157,7 +160,7 @@ fn named_link(earlier: &[JobReply], parent: Option<usize>) -> TiffResult<Option<
     }
 }
 
-// A directory, in the chain or not.
+// Runs a job that writes a directory, in the IFD chain or outside it.
 fn run_directory<W: Sink, K: TiffKind>(
     encoder: &mut TiffEncoder<W, K>,
     job: &DirectoryJob,
@@ -175,7 +178,7 @@ fn run_directory<W: Sink, K: TiffKind>(
 
 // ---- images
 
-// The steps of an image that is open, and its end; there is room for their replies.
+// Runs the steps of an open image, and ends it. `steps` has room for their replies.
 fn run_image_steps<W: Sink, K: TiffKind, C: ColorType>(
     encoder: &mut TiffEncoder<W, K>,
     state: Drawing<C>,
@@ -191,7 +194,7 @@ fn run_image_steps<W: Sink, K: TiffKind, C: ColorType>(
     JobReply { steps, last }
 }
 
-// An image of the color type that it names.
+// Runs a job that writes an image. `C` is the color type that the job names.
 fn run_image<W: Sink, K: TiffKind, C: NamedColorType>(
     encoder: &mut TiffEncoder<W, K>,
     job: &ImageJob,
@@ -217,7 +220,7 @@ fn run_image<W: Sink, K: TiffKind, C: NamedColorType>(
     }
 }
 
-// An image, by the name of its color type.
+// Runs a job that writes an image, and finds the color type by its name.
 fn run_named<W: Sink, K: TiffKind>(
     encoder: &mut TiffEncoder<W, K>,
     job: &ImageJob,
@@ -262,7 +265,7 @@ fn run_named<W: Sink, K: TiffKind>(
 
 // ---- jobs
 
-// A job, by what it is.
+// Runs a job of any kind.
 fn run_by_kind<W: Sink, K: TiffKind>(
     encoder: &mut TiffEncoder<W, K>,
     job: &Job,
@@ -300,7 +303,8 @@ fn run_by_kind<W: Sink, K: TiffKind>(
     }
 }
 
-/// A job, behind those that had these replies; there is room for the replies of its steps.
+/// Runs a job after the jobs that have the replies `earlier`. `steps` has room for the replies of
+/// its steps.
 pub(crate) fn run_job<W: Sink, K: TiffKind>(
     encoder: &mut TiffEncoder<W, K>,
     job: &Job,

@@ -1,4 +1,5 @@
-//! The two kinds of file that are written, and where a directory of one stands.
+//! The two kinds of TIFF file that the encoder writes, and the offsets of a directory in such a
+//! file.
 
 ghost use Rattle.std.specs.Prelude.{◌≡◌, false, true, ℕ, ◌^◌, if◌then◌else◌, nat_le, None, Some, Ok, Err};
 ghost use Rattle.std.specs.FinMap as map;
@@ -22,17 +23,17 @@ use tiff_base::tags::{FileKind, IfdPointer};
 use tiff_value::encoder::tiff_value::TiffValue;
 use tiff_value::encoder::writer::{TiffWriter, write_bigtiff_header, write_tiff_header};
 
-/// A number that stands for an offset (this project's): `u32` or `u64`.
+/// A number type for offsets (this project's): `u32` or `u64`.
 pub trait OffsetNumber: Copy {
     ghost use Rattle.std.specs.Prelude.{◌≡◌, ℕ};
 
-    // The offset.
+    // The offset that a value of this type is.
     ghost number: { Self → ℕ };
 
-    // What stands for an offset.
+    // The value of this type for an offset.
     ghost numbered: { ℕ → Self };
 
-    // Each stands for its own offset.
+    // The value for the offset of a value is that value.
     ghost again: { (x : Self) → numbered (number x) ≡ x };
 }
 
@@ -56,51 +57,54 @@ impl OffsetNumber for u64 {
     ghost again = { λ x. refl };
 }
 
-/// A kind of file, by the numbers of its offsets.
+/// A kind of TIFF file, with its type of offsets.
 pub trait TiffKind {
-    /// An offset in a file of this kind.
+    /// The type of an offset in a file of this kind.
     type OffsetType: OffsetNumber + TiffValue;
 
     ghost kind: { kinds.FileKind };
 
-    // The offset that a value is.
+    // The offset that a value of this type is.
     ghost offset_number: { Self.OffsetType → ℕ };
 
-    /// The kind (this project's).
+    /// Returns the kind of the file (this project's).
     fn file_kind() -> FileKind
         ensures { result ≡ kind };
 
-    /// An offset as this kind has it. An offset past its bytes: `IntSizeError`.
+    /// Converts an offset to the type of this kind. Returns `IntSizeError` if the offset exceeds
+    /// the bytes of an offset of this kind.
     fn convert_offset(offset: u64) -> TiffResult<Self::OffsetType>
         ensures { Gives offset_number result (if is_past kind offset then Err IntSizeError else Ok offset) };
 
-    /// An offset as this kind has it, where it isn't past its bytes (this project's); else the greatest that it has.
+    /// Converts an offset to the type of this kind (this project's). Returns the greatest offset of
+    /// this kind if the offset exceeds the bytes of an offset of this kind.
     fn offset_at(offset: u64) -> Self::OffsetType
         ensures within { is_past kind offset ≡ false → offset_number result ≡ offset }
         ensures past { is_past kind offset ≡ true → offset_number result ≡ greatest_offset kind };
 
-    /// Writes an offset. An offset past its bytes: `IntSizeError`, and nothing is done; else the errors of
-    /// `TiffWriter::write_plain`.
+    /// Writes an offset. Returns `IntSizeError` and writes nothing if the offset exceeds the bytes
+    /// of an offset of this kind. Other errors: those of `TiffWriter::write_plain`.
     fn write_offset<W: Sink>(writer: &mut TiffWriter<W>, offset: u64) -> TiffResult<()>
         ensures { WritesWithin (is_past kind offset) (le (offset_len kind) offset) writer.old writer.new result };
 
-    /// Writes the count of a directory's entries. A count past its bytes: `IntSizeError`, and nothing is done; else the errors
-    /// of `TiffWriter::write_plain`.
+    /// Writes the number of entries of a directory. Returns `IntSizeError` and writes nothing if
+    /// the number exceeds the bytes of such a number in this kind. Other errors: those of
+    /// `TiffWriter::write_plain`.
     fn write_entry_count<W: Sink>(writer: &mut TiffWriter<W>, count: usize) -> TiffResult<()>
         ensures { WritesWithin (is_past_count kind count) (le (count_len kind) count) writer.old writer.new result };
 
-    /// Writes a header that links to no directory yet. Errors are those of `TiffWriter::write_plain`.
+    /// Writes a header that links to no directory. Errors: those of `TiffWriter::write_plain`.
     fn write_header<W: Sink>(writer: &mut TiffWriter<W>) -> TiffResult<()>
         ensures { WritesHeader kind writer.old writer.new result };
 
-    // It has as many bytes as an offset of this kind has in a file.
+    // A value of the type of offsets has as many bytes as an offset in a file of this kind.
     ghost whole: { type_size Self.OffsetType.value_type ≡ offset_len kind };
 
-    // An offset of this kind is the number that it stands for.
+    // The offset of a value is the same by its number type and by this kind.
     ghost same_number: { (x : Self.OffsetType) → Self.OffsetType.number x ≡ offset_number x };
 }
 
-/// TIFF 6.0: offsets of 4 bytes.
+/// Classic TIFF (TIFF 6.0), with offsets of 4 bytes.
 #[derive(Clone, Copy, Debug, PartialEq, Eq, Hash)]
 pub struct TiffKindStandard;
 
@@ -157,7 +161,7 @@ impl TiffKind for TiffKindStandard {
     ghost same_number = { λ x. refl };
 }
 
-/// BigTIFF: offsets of 8 bytes.
+/// BigTIFF, with offsets of 8 bytes.
 #[derive(Clone, Copy, Debug, PartialEq, Eq, Hash)]
 pub struct TiffKindBig;
 
@@ -202,8 +206,9 @@ impl TiffKind for TiffKindBig {
     ghost same_number = { λ x. refl };
 }
 
-/// Where a directory that is finished stands, as its kind of file has offsets and as a pointer, and its link. The second
-/// parameter follows from the first: `DirectoryOffset<K>` is written.
+/// The offset of a finished directory, as an offset of its kind of file and as a pointer, and the
+/// offset of its link. The second type parameter follows from the first: write
+/// `DirectoryOffset<K>`.
 #[derive(Debug, PartialEq, Eq, Hash)]
 pub struct DirectoryOffset<K: TiffKind, O: OffsetNumber = <K as TiffKind>::OffsetType> {
     pub offset: O,
@@ -223,7 +228,7 @@ impl<K: TiffKind, O: OffsetNumber> Model for DirectoryOffset<K, O> {
 
     ghost view = { λ d. record { pointer = d.pointer.0; link = d.link } };
 
-    // The kind has such offsets, and both are of one directory.
+    // The offset fits the kind of file, and `offset` and `pointer` are the same offset.
     ghost invariant = { λ d. (is_past K.kind d.pointer.0 ≡ false) × (O.number d.offset ≡ d.pointer.0) };
 
     ghost inverse = { λ o. record { offset = O.numbered o.pointer; pointer = record { 0 = o.pointer }; link = o.link; kind = record {} } };
@@ -244,7 +249,8 @@ impl<K: TiffKind, O: OffsetNumber> Clone for DirectoryOffset<K, O> {
     }
 }
 
-// The offset of the link of a directory of so many entries that stands at an offset, if it is below 2^64.
+// Returns the offset of the link of a directory at `offset` with `count` entries, or `None` if it
+// is 2^64 or more.
 fn link_of(kind: FileKind, offset: u64, count: usize) -> Option<u64>
     ensures { result ≡ (if nat_le (2 ^ 64) (link_offset kind offset count) then None else Some (link_offset kind offset count)) }
 {
@@ -257,7 +263,7 @@ fn link_of(kind: FileKind, offset: u64, count: usize) -> Option<u64>
 }
 
 impl<K: TiffKind> DirectoryOffset<K, K::OffsetType> {
-    // A directory's offset, and that of its link.
+    // Returns the offsets of a directory and of its link.
     pub(crate) fn at(offset: u64, link: u64) -> Self
         requires { is_past K.kind offset ≡ false }
         ensures { result ≡ record { pointer = offset; link = link } }
@@ -270,15 +276,17 @@ impl<K: TiffKind> DirectoryOffset<K, K::OffsetType> {
         }
     }
 
-    // The offset of its link.
+    // Returns the offset of the directory's link.
     pub(crate) fn link(&self) -> u64
         ensures { result ≡ self.now.link }
     {
         self.link
     }
 
-    /// Where a directory stands that was finished at an offset with the entries of `directory`. The first cause that holds: an offset past
-    /// the kind's bytes: `IntSizeError`; the offset 0, or a link at 2^64 or behind: `UsageError(ZeroIfdPointer)`.
+    /// Returns the offsets of a directory at `pointer` with the entries of `directory`, and of its
+    /// link. Returns the first error that applies: `IntSizeError` if `pointer` exceeds the bytes of
+    /// an offset of the kind; `UsageError(ZeroIfdPointer)` if `pointer` is 0, or the offset of the
+    /// link is 2^64 or more.
     #[tactic(auto, unfolding(crate::specs::Calls::new_offset, crate::specs::Causes::offset_cause))]
     pub fn new(pointer: IfdPointer, directory: &Directory) -> TiffResult<Self>
         ensures { Gives (λ o. o) result (new_offset K.kind pointer.0 (map.len directory.now.entries)) }

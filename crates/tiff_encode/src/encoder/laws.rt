@@ -1,4 +1,5 @@
-//! The laws by which what stands in a file is kept and grows, each the contract of a function with no work.
+//! The laws by which a file keeps what it contains and contains more after each write. Each law is
+//! the contract of a function that does nothing.
 
 ghost use Rattle.tiff_encode.specs.AppendLaws.{DirectoryCallsAppend, ImageCallsAppend, EndsLinkParent};
 ghost use Rattle.tiff_encode.specs.Held.{ChunksShow, ImagesShow, PageTold};
@@ -6,142 +7,154 @@ ghost use Rattle.tiff_encode.specs.Laws.{HeaderStands, KeptByAppending, KeptByPa
 ghost use Rattle.tiff_encode.specs.RunLaws.{OffsetsAgree, OneStep, OneStored};
 ghost use Rattle.tiff_encode.specs.CallLaws.{PlacedFits, FinishFits};
 
-/// A header that was written stands.
+/// States that a file with only a header contains the model of a header.
 pub fn header_stands()
     ensures { HeaderStands }
 {}
 
-/// What stands in a file stands in each longer one.
+/// States that a file that contains a model still contains it after bytes are appended.
 pub fn kept_by_appending()
     ensures { KeptByAppending }
 {}
 
-/// It stands, with one link changed, after that link was patched.
+/// States that a file that contains a model contains it with one changed link after that link is
+/// overwritten.
 pub fn kept_by_patching()
     ensures { KeptByPatching }
 {}
 
-/// It stands, with one link changed to some number, after a patch of that link that broke off.
+/// States that a file that contains a model contains it with one link changed to some number after
+/// a write of that link fails partway.
 pub fn kept_by_tearing()
     ensures { KeptByTearing }
 {}
 
-/// Bytes that are appended stand as a region.
+/// States that a file with appended bytes contains these bytes as a region.
 pub fn grown_by_region()
     ensures { GrownByRegion }
 {}
 
-/// A field whose bytes fit its entry is handed in.
+/// States that a file contains a field whose bytes fit into its entry, with these bytes.
 pub fn grown_by_inline()
     ensures { GrownByInline }
 {}
 
-/// A field whose bytes are a region is handed in.
+/// States that a file contains a field whose bytes are a region, with these bytes.
 pub fn grown_by_placed()
     ensures { GrownByPlaced }
 {}
 
-/// A directory that is appended stands, with no next one, and its fields as its entries hold them.
+/// States that a file with an appended directory contains it, with link 0, and with its fields as
+/// the entries store them.
 pub fn grown_by_listing()
     ensures { GrownByListing }
 {}
 
-/// A directory that is appended and linked to stands.
+/// States that a file contains a directory that is appended and to which a link points.
 pub fn finished()
     ensures { FinishStep }
 {}
 
-/// What is done to a file in which a model stands leaves one in which the model after it stands.
+/// States that valid writes to a file that contains a model result in a file that contains the
+/// model after these writes.
 pub fn deeds_stand()
     ensures { DeedsStand }
 {}
 
-/// It has all that the model before has.
+/// States that the model after some writes has everything that the model before them has.
 pub fn deeds_grow()
     ensures { DeedsGrow }
 {}
 
-/// Where the sink failed while a call appended, what stood stands.
+/// States that a file that contains a model still contains it after the sink fails while a call
+/// appends.
 pub fn deeds_begun()
     ensures { DeedsBegun }
 {}
 
-/// Where it failed while the last deed, a link, was written, all stands but that link.
+/// States that a file contains everything except one link after the sink fails while the last write
+/// of a call, that link, is written.
 pub fn deeds_torn()
     ensures { DeedsTorn }
 {}
 
-/// Deeds one after another.
+/// States that some writes and then more writes have the same effect as all of them one after
+/// another.
 pub fn deeds_join()
     ensures { DeedsJoin }
 {}
 
-/// Where no link is pointed, what deeds append is appended.
+/// States that writes that change no link append bytes and do nothing else.
 pub fn deeds_append()
     ensures { DeedsAppend }
 {}
 
-/// What hands a value in can be done to a file in which a model stands.
+/// States that the writes of a value for a field are valid for a file that contains a model.
 pub fn placed_fits()
     ensures { PlacedFits }
 {}
 
-/// So can what ends a directory.
+/// States that the writes that end a directory are valid for a file that contains a model.
 pub fn finish_fits()
     ensures { FinishFits }
 {}
 
-/// The header of a file in which a model stands tells its first directory.
+/// States that the header of a file that contains a model links to the first directory of the
+/// model.
 pub fn first_told()
     ensures { FirstTold }
 {}
 
-/// Models that stand in one file agree on what is finished in both.
+/// States that two models that one file contains agree on the directories that are finished in
+/// both.
 pub fn models_agree()
     ensures { ModelsAgree }
 {}
 
-/// A directory that holds what an image says of itself is the image's page.
+/// States that a directory with the values that describe an image is the page of that image.
 pub fn page_told()
     ensures { PageTold }
 {}
 
-/// Where nothing fails, a call has one answer, and leaves one file and one model.
+/// States that a call that doesn't fail has one result, and leaves one file and one model.
 pub fn one_step()
     ensures { OneStep }
 {}
 
-/// Where a strip isn't packed, it is stored in one way.
+/// States that a chunk that isn't compressed is stored in one way.
 pub fn one_stored()
     ensures { OneStored }
 {}
 
-/// The offsets that are made of a finished directory are those that its end answered.
+/// States that `DirectoryOffset::new` of a finished directory returns the offsets that the end of
+/// the directory returned.
 pub fn offsets_agree()
     ensures { OffsetsAgree }
 {}
 
-/// Chunks that stand for samples show them.
+/// States that the chunks in a file show the samples that they store.
 pub fn chunks_show()
     ensures { ChunksShow }
 {}
 
-/// What stands and holds an image shows it.
+/// States that a file that contains a model with an image shows that image.
 pub fn images_show()
     ensures { ImagesShow }
 {}
 
-/// Each call that opens a directory, and each of an open directory but its end, only appends.
+/// States that the calls that begin a directory, and the calls of an open directory except its end,
+/// only append.
 pub fn directory_calls_append()
     ensures { DirectoryCallsAppend }
 {}
 
-/// So does each that opens an image, and each of an open image but its end.
+/// States that the calls that begin an image, and the calls of an open image except its end, only
+/// append.
 pub fn image_calls_append()
     ensures { ImageCallsAppend }
 {}
 
-/// An end appends, and points no link but its parent's.
+/// States that an end appends, and changes no link except its parent's.
 pub fn ends_link_parent()
     ensures { EndsLinkParent }
 {}

@@ -1,4 +1,4 @@
-//! What a kind of file can hold.
+//! The limits of a kind of TIFF file.
 
 ghost use Rattle.std.specs.Prelude.{◌≡◌, ℕ, ◌++◌, ◌≤◌, length, replicate, take};
 ghost use Rattle.tiff_encode.specs.Causes.{is_past, is_past_count};
@@ -9,7 +9,7 @@ ghost use Rattle.tiff_encode.specs.FileBytes.{offset_len};
 use tiff_base::error::{TiffError, TiffResult};
 use tiff_base::tags::FileKind;
 
-/// How many bytes an offset has, and a value field.
+/// Returns the number of bytes of an offset and of a value field.
 pub fn offset_size(kind: FileKind) -> u64
     ensures { result ≡ offset_len kind }
 {
@@ -19,7 +19,7 @@ pub fn offset_size(kind: FileKind) -> u64
     }
 }
 
-/// Whether a number is past the offsets, the counts and the lengths of a kind.
+/// Returns whether a number exceeds the offsets, the counts and the lengths of a kind of file.
 pub fn is_past_offset(kind: FileKind, n: u64) -> bool
     ensures { result ≡ is_past kind n }
 {
@@ -29,7 +29,8 @@ pub fn is_past_offset(kind: FileKind, n: u64) -> bool
     }
 }
 
-/// Whether so many values, which are so many bytes, can be a field at the end of a file of this length: else `IntSizeError`.
+/// Returns `IntSizeError` if `count` values of `len` bytes in all can't be a field at the end of a
+/// file of `end` bytes.
 #[tactic(auto, unfolding(crate::specs::Placing::field_test))]
 pub fn check_field(kind: FileKind, end: u64, count: u64, len: usize) -> TiffResult<()>
     ensures { Checks (field_test kind end count len) result }
@@ -43,7 +44,7 @@ pub fn check_field(kind: FileKind, end: u64, count: u64, len: usize) -> TiffResu
     Ok(())
 }
 
-/// The bytes of a value field that holds these.
+/// Returns the 8 bytes of a value field that contains these bytes, filled with zeros at the end.
 #[tactic(auto, using(crate::proofs::Listing::filled_whole))]
 pub fn fill(bytes: &[u8]) -> [u8; 8]
     requires { length bytes.now ≤ 8 }

@@ -1,4 +1,4 @@
-//! Directories as bytes.
+//! Converts directories to bytes.
 
 ghost use Rattle.std.specs.Prelude.{◌≡◌, ◌++◌, IfOk, OnOk};
 ghost use Rattle.std.specs.FinMap as map;
@@ -15,7 +15,7 @@ use tiff_base::directory::{Directory, Entry};
 use tiff_base::error::{TiffError, TiffResult, UsageError};
 use tiff_base::tags::FileKind;
 
-// How many bytes the count of a directory's entries has.
+// Returns the number of bytes of the number of entries of a directory.
 fn count_bytes(kind: FileKind) -> usize
     ensures { result ≡ count_len kind }
 {
@@ -25,7 +25,7 @@ fn count_bytes(kind: FileKind) -> usize
     }
 }
 
-// Adds the bytes of an entry.
+// Appends the bytes of an entry.
 #[tactic(auto, using(crate::proofs::Listing::le_offset))]
 fn push_entry(out: &mut Vec<u8>, kind: FileKind, tag: u16, entry: &Entry) -> Result<(), AllocError>
     ensures { OnOk result (out.new.items ≡ out.old.items ++ entry_bytes kind (tag, entry.now)) }
@@ -38,7 +38,8 @@ fn push_entry(out: &mut Vec<u8>, kind: FileKind, tag: u16, entry: &Entry) -> Res
     Ok(())
 }
 
-/// The bytes of a directory whose link is 0, in a file of a kind: count, entries in ascending tag number, link.
+/// Returns the bytes of a directory with link 0 in a file of a kind: the number of entries, the
+/// entries in ascending order of tag numbers, the link.
 #[tactic(auto, unfolding(crate::specs::FileBytes::directory_bytes), using(crate::proofs::Listing::le_count, crate::proofs::Listing::le_zero))]
 pub fn list_directory(
     alloc: Global,
@@ -57,7 +58,7 @@ pub fn list_directory(
     Ok(out)
 }
 
-// Whether a field has more values than a file of a kind can count.
+// Returns whether a field has more values than a file of a kind can count.
 fn has_far_count(kind: FileKind, directory: &Directory) -> bool
     ensures { result ≡ list_any (λ entry. is_past kind entry.1.count) (map.entries directory.now.entries) }
 {
@@ -69,7 +70,7 @@ fn has_far_count(kind: FileKind, directory: &Directory) -> bool
     false
 }
 
-// Whether there are more entries than a directory of a kind can count.
+// Returns whether there are more entries than a directory of a kind of file can count.
 fn is_past_entries(kind: FileKind, count: usize) -> bool
     ensures { result ≡ is_past_count kind count }
 {
@@ -79,8 +80,10 @@ fn is_past_entries(kind: FileKind, count: usize) -> bool
     }
 }
 
-/// Whether a directory can end here. The first cause that holds: more entries or values than the kind can count, or a
-/// offset past its bytes: `IntSizeError`; a parent's link that isn't within the file: `UsageError(ParentNotWritten)`.
+/// Checks whether a directory can end at the end of a file of `end` bytes. Returns the first error
+/// that applies: `IntSizeError` if there are more entries or a field has more values than the kind
+/// of file can count, or if the offset of the directory exceeds the bytes of an offset;
+/// `UsageError(ParentNotWritten)` if the parent's link isn't within the file.
 #[tactic(auto, unfolding(crate::specs::Placing::end_test))]
 pub fn check_end(kind: FileKind, end: u64, fields: &Fields) -> TiffResult<()>
     ensures { Checks (end_test kind end fields.now) result }

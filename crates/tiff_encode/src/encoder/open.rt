@@ -1,4 +1,4 @@
-//! What a directory has that is open.
+//! The state of an open directory.
 
 ghost use Rattle.std.specs.Prelude.{◌≡◌, ◌^◌, ◌<◌, MatchResult, Some};
 ghost use Rattle.std.specs.FinMap as map;
@@ -13,8 +13,8 @@ use tiff_base::directory::{Directory, Entry};
 use tiff_base::error::{TiffError, TiffResult};
 use tiff_base::tags::Tag;
 
-/// A directory that is open: its fields, where the link stands that is to point to it, and whether its own link becomes
-/// the chain's last.
+/// An open directory: its fields, the offset of the link that points to it when it ends, and
+/// whether it is in the IFD chain, so that its own link becomes the last link of the chain.
 #[derive(Drop)]
 pub struct Fields {
     pub(crate) directory: Directory,
@@ -34,37 +34,40 @@ impl Model for Fields {
     ghost view = { λ d. record { fields = d.directory.entries; parent = d.parent; chained = d.chained } };
 }
 
-/// What is open in an encoder's file: a directory, alone or with what an image has (this project's).
+/// What is open in the file of an encoder: a directory, alone or with the state of an image (this
+/// project's).
 pub trait HasDirectory {
     ghost use Rattle.std.specs.Prelude.{◌≡◌};
     ghost use Rattle.tiff_encode.specs.Machine.{OpenDirectory};
 
-    // Its directory.
+    // The open directory.
     ghost open_directory: { Self → OpenDirectory };
 
-    // The same with another directory.
+    // The same state with another directory.
     ghost with_directory: { Self → OpenDirectory → Self };
 
-    /// Takes room for the field of a tag, before any byte of its value is written: whether there is some.
+    /// Reserves memory for the field of a tag, before a byte of its value is written. Returns
+    /// whether the memory is available.
     fn make_room(&mut self, tag: Tag) -> bool
         ensures { self.new ≡ self.old };
 
-    /// Sets the field of a tag, in place of one that it had. Its only error is `OutOfMemory`, and then nothing is done.
+    /// Sets the field of a tag. It replaces an earlier field of that tag. The only error is
+    /// `OutOfMemory`; then the fields don't change.
     fn set(&mut self, tag: Tag, entry: Entry) -> TiffResult<()>
         ensures { MatchResult result
             (λ _. self.new ≡ with_directory self.old (with_field (open_directory self.old) tag entry))
             (λ e. (e ≡ OutOfMemory) × (self.new ≡ self.old)) };
 
-    /// Sets each field of a directory in turn, in place of one that it had for its tag. Its only error is `OutOfMemory`, and
-    /// then those that came before are set.
+    /// Sets each field of a directory in turn. Each field replaces an earlier field of its tag. The
+    /// only error is `OutOfMemory`; then the fields before the one that failed are set.
     fn extend_from(&mut self, directory: &Directory) -> TiffResult<()>
         ensures set { Extends (map.entries directory.now.entries) (open_directory self.old) (open_directory self.new) result }
         ensures rest { self.new ≡ with_directory self.old (open_directory self.new) };
 
-    // It has the directory that it was given.
+    // A state with a given directory has that directory.
     ghost given_directory: { (s : Self) (d : OpenDirectory) → open_directory (with_directory s d) ≡ d };
 
-    // With its own directory it is what it was.
+    // A state with its own directory doesn't change.
     ghost with_its_own: { (s : Self) → with_directory s (open_directory s) ≡ s };
 }
 
@@ -103,21 +106,21 @@ impl HasDirectory for Fields {
 }
 
 impl Fields {
-    /// Sets where the link stands that is to point to it.
+    /// Sets the offset of the link that points to the directory when it ends.
     pub(crate) fn set_parent(&mut self, link: u64)
         ensures { self.new ≡ record self.old { parent = Some link } }
     {
         self.parent = Some(link);
     }
 
-    /// Takes the field of a tag away.
+    /// Removes the field of a tag.
     pub(crate) fn remove(&mut self, tag: Tag)
         ensures { self.new ≡ without_field self.old tag }
     {
         let _taken = self.directory.remove(tag);
     }
 
-    /// Another directory that is as this one is. Its only error is `OutOfMemory`.
+    /// Returns a copy of the directory. The only error is `OutOfMemory`.
     pub(crate) fn copy(&self, alloc: Global) -> TiffResult<Fields>
         ensures { MatchResult result (λ d. d ≡ self.now) (λ e. e ≡ OutOfMemory) }
     {
@@ -130,7 +133,8 @@ impl Fields {
         Ok(copy)
     }
 
-    /// Its fields are entries that a directory can have, and fewer than 2^64.
+    /// States that the fields are entries that a directory can have, and that they are fewer than
+    /// 2^64.
     pub(crate) fn fits(&self)
         ensures entries { AreEntries self.now.fields }
         ensures few { map.len self.now.fields < 2 ^ 64 }

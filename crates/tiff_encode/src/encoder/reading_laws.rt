@@ -1,38 +1,43 @@
-//! The laws of reading what was written, each the contract of a function with no work.
+//! The laws of reading what the encoder wrote. Each law is the contract of a function that does
+//! nothing.
 
 ghost use Rattle.tiff_encode.specs.ReadsBack.{ReadsShown, ReadsBack, WrittenReadsBack, ShownInOrder, AllShown, ShownIsRead, WrittenIsRead};
 
-/// Whatever is read of a page that shows an image are the samples that were handed in.
+/// States that the samples that the reader returns for a page that shows an image are the samples
+/// of that image.
 pub fn reads_shown()
     ensures { ReadsShown }
 {}
 
-/// A page that shows an image is read, and the samples that were handed in are the answer.
+/// States that the reader reads a page that shows an image, and returns the samples of that image.
 pub fn reads_back()
     ensures { ReadsBack }
 {}
 
-/// So is each page that an encoder made of an image.
+/// States that the reader reads each page that an encoder writes for an image, and returns the
+/// samples of that image.
 pub fn written_reads_back()
     ensures { WrittenReadsBack }
 {}
 
-/// The samples of an image that was handed in whole are in the order in which they were handed in.
+/// States that the samples of an image that was passed as one list are in the order of that list.
 pub fn shown_in_order()
     ensures { ShownInOrder }
 {}
 
-/// A chunky image without extra samples shows all samples of a pixel.
+/// States that a chunky page of an image without extra samples shows all samples of a pixel.
 pub fn all_shown()
     ensures { AllShown }
 {}
 
-/// A chunky image without extra samples, which was handed in whole, is read as it was handed in.
+/// States that the reader returns the samples of a chunky image without extra samples, which was
+/// passed as one list, as they were passed.
 pub fn shown_is_read()
     ensures { ShownIsRead }
 {}
 
-/// What `write_image` wrote, of a named color type and of as many samples as the image has, is read as it was handed in.
+/// States that the reader returns the samples that `write_image` wrote, of a named color type and
+/// as many as the image has, as they were passed.
 pub fn written_is_read()
     ensures { WrittenIsRead }
 {}

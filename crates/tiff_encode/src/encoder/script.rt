@@ -1,4 +1,4 @@
-//! Lists of the writer's calls, and what they answer.
+//! Lists of calls of the encoder, and the replies to them.
 
 ghost use Rattle.std.specs.Prelude.{◌≡◌, ◌+◌, ◌++◌, ◌∷◌, [], ◌<◌, ◌≤◌, length, vec_capacity, vec_len, MatchResult};
 ghost use Rattle.tiff_base.specs.declared.error.TiffError.TheVariants.{OutOfMemory};
@@ -21,7 +21,7 @@ use tiff_base::tags::{
 use tiff_value::encoder::colortype::ColorTypeName;
 use tiff_value::encoder::tiff_value::{Ifd, Ifd8, Rational, SRational};
 
-/// A value that is written: some scalars of one type, or a text.
+/// A value for a field: several scalars of one type, or a text.
 #[derive(Drop)]
 pub enum JobValue {
     U8(Vec<u8>),
@@ -48,7 +48,7 @@ pub enum JobValue {
     Text(String),
 }
 
-/// Values as bytes, in an order.
+/// Values as bytes, in a byte order.
 #[derive(Drop)]
 pub struct JobBuffer {
     pub data_type: Type,
@@ -56,7 +56,7 @@ pub struct JobBuffer {
     pub bytes: Vec<u8>,
 }
 
-/// A call of a directory that is open.
+/// A call of an open directory.
 #[derive(Drop)]
 pub enum DirectoryStep {
     WriteTag(Tag, JobValue),
@@ -69,10 +69,11 @@ pub enum DirectoryStep {
     ExtendFrom(Directory),
 }
 
-/// A call of an image that is open. Samples are cut to the width of the color type's numbers.
+/// A call of an open image. Each number of a list of samples is cut to the lowest bits, as many as
+/// a sample of the color type has.
 #[derive(Drop)]
 pub enum ImageStep {
-    /// A call of its directory.
+    /// A call of the image's directory.
     Directory(DirectoryStep),
     ExtraSamples(Vec<ExtraSamples>),
     Tiles(u32, u32),
@@ -88,14 +89,14 @@ pub enum ImageStep {
     RowsPerStrip(u32),
 }
 
-/// How a directory ends: by `finish_with_offsets`, or by `discard`.
+/// How a directory ends: `Finish` means `finish_with_offsets`, and `Discard` means `discard`.
 #[derive(Clone, Copy, Drop)]
 pub enum DirectoryEnd {
     Finish,
     Discard,
 }
 
-/// How an image ends.
+/// How an image ends: by `write_data`, `finish` or `discard`.
 #[derive(Drop)]
 pub enum ImageEnd {
     WriteData(Vec<u64>),
@@ -103,7 +104,8 @@ pub enum ImageEnd {
     Discard,
 }
 
-/// A directory: in the chain or not, and linked from that of an earlier job, by its number.
+/// A job that writes a directory, in the IFD chain or outside it. `parent` is the number of an
+/// earlier job, counted from 0: the link of the directory of that job points to this directory.
 #[derive(Drop)]
 pub struct DirectoryJob {
     pub chained: bool,
@@ -112,7 +114,7 @@ pub struct DirectoryJob {
     pub end: DirectoryEnd,
 }
 
-/// An image.
+/// A job that writes an image, with its color type and its size in pixels.
 #[derive(Drop)]
 pub struct ImageJob {
     pub color: ColorTypeName,
@@ -122,7 +124,7 @@ pub struct ImageJob {
     pub end: ImageEnd,
 }
 
-/// What is written next, or how the images after it are.
+/// A job: a directory, an image, or a setting for the images after it.
 #[derive(Drop)]
 pub enum Job {
     Predictor(Predictor),
@@ -131,7 +133,7 @@ pub enum Job {
     Image(ImageJob),
 }
 
-/// What a step answers: a number is an offset or a count of samples.
+/// The reply to a step. A number is an offset in bytes or a number of samples.
 #[derive(Drop)]
 pub enum StepReply {
     Nothing,
@@ -139,21 +141,22 @@ pub enum StepReply {
     Written(Entry),
 }
 
-/// What the end of a job answers: nothing, or where its directory and that one's link stand.
+/// The reply to the end of a job: nothing, or the offset of its directory and the offset of that
+/// directory's link.
 #[derive(Drop)]
 pub enum EndReply {
     Nothing,
     Offsets { pointer: u64, link: u64 },
 }
 
-/// What a job answers: its steps in their order, and its end.
+/// The reply to a job: the replies to its steps in their order, and the reply to its end.
 #[derive(Drop)]
 pub struct JobReply {
     pub steps: Vec<TiffResult<StepReply>>,
     pub last: TiffResult<EndReply>,
 }
 
-// How many steps a job has.
+// Returns the number of steps of a job.
 fn step_count(job: &Job) -> usize
     ensures { result ≡ step_count job.now }
 {
@@ -165,7 +168,8 @@ fn step_count(job: &Job) -> usize
     }
 }
 
-// For each job a list with room for the replies of its steps, that of the last job first.
+// Returns for each job an empty list with room for the replies to its steps. The list of the last
+// job is the first.
 fn rooms<T: Drop>(alloc: Global, jobs: &[Job]) -> TiffResult<Vec<Vec<T>>>
     ensures count { MatchResult result (λ v. vec_len v ≡ length jobs.now) (λ e. e ≡ OutOfMemory) }
     ensures rooms { MatchResult result (λ v. AreRooms jobs.now v.items) (λ e. e ≡ OutOfMemory) }
@@ -179,7 +183,7 @@ fn rooms<T: Drop>(alloc: Global, jobs: &[Job]) -> TiffResult<Vec<Vec<T>>>
     Ok(rooms)
 }
 
-// The last of some items, which is taken off.
+// Removes the last item of a list, and returns it.
 fn take_last<T: Drop>(items: &mut Vec<T>) -> T
     requires { 0 < vec_len items.old }
     ensures items { items.old.items ≡ items.new.items ++ result ∷ [] }
@@ -191,10 +195,11 @@ fn take_last<T: Drop>(items: &mut Vec<T>) -> T
     }
 }
 
-// Lets a value go. A list of replies is let go here: where a function isn't generic, that is long to prove.
+// Drops a value. A list of replies is dropped here, because in a function that isn't generic the
+// drop takes long to prove.
 fn let_go<T: Drop>(_value: T) {}
 
-// Jobs one after another; there is room for their replies.
+// Runs jobs one after another. `replies` has room for their replies.
 fn run_all<W: Sink, K: TiffKind>(
     encoder: &mut TiffEncoder<W, K>,
     jobs: &[Job],
@@ -214,7 +219,7 @@ fn run_all<W: Sink, K: TiffKind>(
     }
 }
 
-// A new encoder, and jobs by it; there is room for their replies.
+// Makes an encoder, and runs jobs with it. `replies` has room for their replies.
 fn run_new<W: Sink, K: TiffKind>(
     alloc: Global,
     sink: W,
@@ -232,9 +237,11 @@ fn run_new<W: Sink, K: TiffKind>(
     Ok(encoder.into_inner())
 }
 
-/// Writes a header of a kind at a sink's end, and runs jobs one after another; the reply of each, a fault too, is put behind those in
-/// `replies`. It answers the sink. Room for all replies is taken first, by steps that don't have the sink: where that is refused,
-/// `OutOfMemory`; a fault of the sink in the header: `IoError(Device)` or `OutOfMemory`. After an error `replies` holds what it held.
+/// Appends a header of the kind `K` to the sink, runs jobs one after another, and returns the sink.
+/// It appends the reply to each job to `replies`, also if the job fails. It allocates the room for
+/// all replies before it uses the sink. Errors: `OutOfMemory` if that allocation fails; the error
+/// of the sink, `IoError(Device)` or `OutOfMemory`, if the write of the header fails. After an
+/// error `replies` has the same items as before.
 pub fn run_jobs<W: Sink, K: TiffKind>(
     alloc: Global,
     sink: W,

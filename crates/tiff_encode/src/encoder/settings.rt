@@ -1,11 +1,11 @@
-//! What images are written by.
+//! The settings of images.
 
-/// How the samples of a strip are packed.
+/// The compression of the chunks of an image.
 #[derive(Clone, Copy, PartialEq, Drop)]
 pub enum Compression {
-    /// They stand as they are.
+    /// No compression: the file contains the bytes as they are.
     Uncompressed,
-    /// By PackBits (TIFF 6.0 section 9).
+    /// PackBits compression (TIFF 6.0 section 9).
     Packbits,
 }
 
@@ -15,7 +15,7 @@ impl Default for Compression {
 
     ghost is_default = { λ c. c ≡ compression.Uncompressed };
 
-    /// They stand as they are.
+    /// No compression: the file contains the bytes as they are.
     fn default() -> Self {
         Compression::Uncompressed
     }

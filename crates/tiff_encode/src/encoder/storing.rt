@@ -1,4 +1,4 @@
-//! Chunks are written.
+//! Writes chunks.
 
 ghost use Rattle.std.specs.Prelude.{◌≡◌, ℕ, ◌-◌, ◌*◌, ◌^◌, ◌<◌, ◌≤◌, length, map, IfSome, MatchResult, None, Some};
 ghost use Rattle.tiff_base.specs.Types.{type_size};
@@ -27,7 +27,8 @@ use tiff_base::tags::{FileKind, Predictor};
 use tiff_value::encoder::colortype::ColorType;
 use tiff_value::encoder::differences::Sample;
 
-// How many bytes so many samples have. Its only error is `OutOfMemory`: more than a number can tell are in no memory.
+// Returns the number of bytes of `count` samples. The only error is `OutOfMemory`, if `count` is
+// `usize::MAX` or the number of bytes exceeds it: no memory holds so many samples.
 fn byte_count<T: Sample>(count: usize) -> TiffResult<usize>
     ensures { MatchResult result (λ n. (n ≡ count * type_size T.value_type) × (count < 2 ^ 64 - 1)) (λ e. e ≡ TiffError.OutOfMemory) }
 {
@@ -42,7 +43,8 @@ fn byte_count<T: Sample>(count: usize) -> TiffResult<usize>
 }
 
 impl<C: ColorType> Drawing<C> {
-    // How many samples a row of a chunk has, and a pixel there.
+    // Returns the number of samples of a row of a chunk, and the number of samples of a pixel in a
+    // chunk.
     fn row_and_stride(&self) -> (usize, usize)
         ensures row { result.0 ≡ row_samples (image_page self.now) }
         ensures stride { result.1 ≡ stored_samples (image_page self.now) }
@@ -52,8 +54,8 @@ impl<C: ColorType> Drawing<C> {
         (self.form.chunk_width as usize * stride, stride)
     }
 
-    // Packs the samples of the next chunk. Its only error is `OutOfMemory`: so many samples as a number can tell are in no
-    // memory.
+    // Compresses the samples of the next chunk. The only error is `OutOfMemory`, also if the number
+    // of bytes exceeds `usize`: no memory holds so many samples.
     fn pack_samples(&self, samples: &[C::Inner], rooms: &mut ChunkRooms) -> TiffResult<()>
         requires { length samples.now ≡ next_chunk_sample_count self.now }
         ensures { MatchResult result
@@ -65,8 +67,8 @@ impl<C: ColorType> Drawing<C> {
         rooms.pack(samples, self.predictor, row, stride)
     }
 
-    // The bytes that are stored for the samples of the next chunk, without a copy: those of 8 bits, where they are neither
-    // packed nor written as differences.
+    // Returns the bytes to store for the samples of the next chunk, without a copy. Returns `None`
+    // unless the samples have 8 bits and are neither compressed nor stored as differences.
     fn lent_bytes<'a>(&self, samples: &'a [C::Inner]) -> Option<&'a [u8]>
         ensures { IfSome result (λ b. IsStored self.now.method b.now (stored.unpacked_chunk self.now
             (map (sample_number (type_size C.Inner.value_type) C.Inner.bits) samples.now))) }
@@ -80,7 +82,8 @@ impl<C: ColorType> Drawing<C> {
         }
     }
 
-    // Whether a chunk of so many samples may be written at the end of a file: the causes that no packing changes.
+    // Checks whether a chunk of `count` samples can be written at the end of a file of `end` bytes.
+    // Returns the first error that doesn't depend on the compressed bytes.
     fn check_chunk(&self, kind: FileKind, end: u64, count: usize) -> TiffResult<()>
         ensures { Checks (chunk_test kind end self.now count) result }
     {
@@ -98,8 +101,9 @@ impl<C: ColorType> Drawing<C> {
 }
 
 impl<W: Sink, K: TiffKind> TiffEncoder<W, K> {
-    // Whether a chunk of so many samples, stored as so many bytes, may be written at the end, which is answered: else the
-    // first cause of `write_chunk`.
+    // Checks whether a chunk of `count` samples, stored as `stored` bytes, can be written at the
+    // end of the file. Returns the end of the file, or the first error of `write_chunk` that
+    // applies.
     #[tactic(auto, unfolding(crate::specs::Causes::write_chunk_cause))]
     fn chunk_offset<C: ColorType>(
         &self,
@@ -119,7 +123,7 @@ impl<W: Sink, K: TiffKind> TiffEncoder<W, K> {
         Ok(end)
     }
 
-    // A chunk of so many samples, which is stored as these bytes.
+    // Appends a chunk of `count` samples, which is stored as the bytes `stored`.
     fn append_chunk<C: ColorType>(
         &mut self,
         image: &mut Drawing<C>,
@@ -140,7 +144,8 @@ impl<W: Sink, K: TiffKind> TiffEncoder<W, K> {
         Ok(())
     }
 
-    // The next chunk of an image that isn't packed, whose bytes are made on their way to the sink.
+    // Appends the next chunk of an image that isn't compressed. It converts the samples to bytes
+    // while it writes them to the sink.
     fn append_samples<C: ColorType>(
         &mut self,
         image: &mut Drawing<C>,
@@ -165,7 +170,7 @@ impl<W: Sink, K: TiffKind> TiffEncoder<W, K> {
         Ok(())
     }
 
-    // The next chunk of an image that is packed, by way of these lists.
+    // Appends the next chunk of an image that is compressed, with the given buffers.
     fn append_packed<C: ColorType>(
         &mut self,
         image: &mut Drawing<C>,
@@ -181,7 +186,8 @@ impl<W: Sink, K: TiffKind> TiffEncoder<W, K> {
         self.append_chunk(image, samples.len(), &rooms.packed)
     }
 
-    // The same by way of the image's own lists, which it has again behind the chunk.
+    // Appends the next chunk of an image that is compressed, with the image's own buffers. The
+    // image has its buffers again after the call.
     fn put_packed<C: ColorType>(
         &mut self,
         image: &mut Drawing<C>,
@@ -198,8 +204,9 @@ impl<W: Sink, K: TiffKind> TiffEncoder<W, K> {
         result
     }
 
-    /// The next chunk, of as many samples as it has. Where it isn't packed, no list is made of its bytes: samples of 8 bits that are
-    /// stored as they lie are lent to the sink. Where it is, the lists are those of the chunk before.
+    /// Appends the next chunk. `samples` has as many samples as this chunk. If the image isn't
+    /// compressed, no list of bytes is allocated: samples of 8 bits that are stored as they are go
+    /// to the sink directly. If it is compressed, the buffers of the previous chunk are used again.
     pub(crate) fn put_chunk<C: ColorType>(
         &mut self,
         image: &mut Drawing<C>,
@@ -218,7 +225,8 @@ impl<W: Sink, K: TiffKind> TiffEncoder<W, K> {
         }
     }
 
-    /// `write_chunk`: what no packing changes is told before the samples are packed.
+    /// `write_chunk`. It returns the errors that don't depend on the compressed bytes before it
+    /// compresses the samples.
     pub(crate) fn store_chunk<C: ColorType>(
         &mut self,
         image: &mut Drawing<C>,
@@ -231,7 +239,7 @@ impl<W: Sink, K: TiffKind> TiffEncoder<W, K> {
         self.put_chunk(image, samples)
     }
 
-    // `write_strip`: a tile is none
+    // `write_strip`. For an image of tiles it returns `UsageError(InvalidChunkType)`.
     pub(crate) fn store_strip<C: ColorType>(
         &mut self,
         image: &mut Drawing<C>,

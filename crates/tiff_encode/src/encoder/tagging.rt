@@ -1,4 +1,4 @@
-//! Tags are written one after another.
+//! Writes tags one after another.
 
 ghost use Rattle.std.specs.Prelude.{◌≡◌, ℕ, ◌≤◌, ◌/◌, ◌%◌, ◌++◌, [], ◌∷◌, length, IfErr, OnErr, Ok};
 ghost use Rattle.tiff_base.specs.Types.{type_size};
@@ -17,7 +17,7 @@ use tiff_base::io::Sink;
 use tiff_base::tags::{Tag, Type};
 use tiff_value::encoder::tiff_value::TiffValue;
 
-// The bytes of two numbers of 2 bytes.
+// Returns the bytes of two numbers of 2 bytes each.
 fn join_shorts(a: [u8; 2], b: [u8; 2]) -> [u8; 4]
     ensures { result ≡ a ++ b }
 {
@@ -27,7 +27,7 @@ fn join_shorts(a: [u8; 2], b: [u8; 2]) -> [u8; 4]
     bytes
 }
 
-// The bytes of two numbers of 4 bytes.
+// Returns the bytes of two numbers of 4 bytes each.
 fn join_longs(a: [u8; 4], b: [u8; 4]) -> [u8; 8]
     ensures { result ≡ a ++ b }
 {
@@ -37,7 +37,7 @@ fn join_longs(a: [u8; 4], b: [u8; 4]) -> [u8; 8]
     bytes
 }
 
-/// A tag and its value, of at most eight bytes.
+/// A tag and its value, of at most 8 bytes.
 #[derive(Clone, Copy, Drop)]
 pub(crate) struct TagValue {
     tag: Tag,
@@ -57,7 +57,7 @@ impl Model for TagValue {
 
     ghost view = { λ v. (v.tag, record { field_type = v.field_type; count = v.len / type_size v.field_type; bytes = take v.len v.bytes }) };
 
-    // The bytes behind the value are zeros.
+    // The bytes after the value are zeros.
     ghost invariant = { λ v. (v.len ≤ 8) × (v.len % type_size v.field_type ≡ 0) × (length (take v.len v.bytes) ≡ v.len) × (filled_field (take v.len v.bytes) ≡ v.bytes) };
 
     ghost inverse = { λ d. record { tag = d.0; field_type = d.1.field_type; len = length d.1.bytes; bytes = filled_field d.1.bytes } };
@@ -66,7 +66,7 @@ impl Model for TagValue {
 }
 
 impl TagValue {
-    // Some whole values of a type.
+    // Returns a tag with whole values of a type.
     fn of(tag: Tag, field_type: Type, bytes: &[u8]) -> Self
         requires short { length bytes.now ≤ 8 }
         requires whole { length bytes.now % type_size field_type ≡ 0 }
@@ -80,21 +80,21 @@ impl TagValue {
         }
     }
 
-    /// One number of 4 bytes.
+    /// Returns a tag with one number of 4 bytes.
     pub(crate) fn long(tag: Tag, n: u32) -> Self
         ensures { result ≡ (tag, data_of (u32s (n ∷ []))) }
     {
         TagValue::of(tag, Type::LONG, &n.to_le_bytes())
     }
 
-    /// One number of 2 bytes.
+    /// Returns a tag with one number of 2 bytes.
     pub(crate) fn short(tag: Tag, n: u16) -> Self
         ensures { result ≡ (tag, data_of (u16s (n ∷ []))) }
     {
         TagValue::of(tag, Type::SHORT, &n.to_le_bytes())
     }
 
-    /// Two numbers of 2 bytes.
+    /// Returns a tag with two numbers of 2 bytes each.
     pub(crate) fn shorts(tag: Tag, a: u16, b: u16) -> Self
         ensures { result ≡ (tag, data_of (u16s (a ∷ b ∷ []))) }
     {
@@ -105,7 +105,7 @@ impl TagValue {
         )
     }
 
-    /// One fraction.
+    /// Returns a tag with one fraction.
     pub(crate) fn rational(tag: Tag, n: u32, d: u32) -> Self
         ensures { result ≡ (tag, data_of (rationals ((n, d) ∷ []))) }
     {
@@ -118,7 +118,8 @@ impl TagValue {
 }
 
 impl<W: Sink, K: TiffKind> TiffEncoder<W, K> {
-    // `write_tag`: a value is handed in, and then the field of its tag is set. After an error the fields are as they were.
+    // `write_tag`: writes a value, and then sets the field of its tag. After an error the fields
+    // don't change.
     pub(crate) fn set_tag<T: TiffValue>(
         &mut self,
         fields: &mut Fields,
@@ -135,7 +136,8 @@ impl<W: Sink, K: TiffKind> TiffEncoder<W, K> {
         Ok(())
     }
 
-    // The same, of a value that takes no memory (but for the directory's).
+    // Writes a value of at most 8 bytes, and then sets the field of its tag. It allocates memory
+    // for the directory only. After an error the fields don't change.
     fn set_value(&mut self, fields: &mut Fields, value: &TagValue) -> TiffResult<()>
         ensures stays { OnErr result (fields.new ≡ fields.old) }
         ensures answer { Ends (λ _. fields.new) (calls.write_tag fields.old value.now.0 (Ok value.now.1) self.old) result
@@ -148,7 +150,8 @@ impl<W: Sink, K: TiffKind> TiffEncoder<W, K> {
         Ok(())
     }
 
-    // Tags one after another, of values that take no memory (but for the directory's). After an error the first ones are set.
+    // Writes tags one after another, each with a value of at most 8 bytes. It allocates memory for
+    // the directory only. After an error the tags before the one that failed are set.
     pub(crate) fn set_tags(&mut self, fields: &mut Fields, values: &[TagValue]) -> TiffResult<()>
         ensures part { IfErr result (λ e. StopsInPart fields.old values.now e self.old self.new fields.new) }
         ensures answer { Ends (λ _. fields.new) (write_fields fields.old values.now self.old) result self.old self.new }

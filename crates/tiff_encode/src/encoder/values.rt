@@ -1,4 +1,4 @@
-//! Values are handed in: for a field, or alone.
+//! Writes values: for a field, or alone.
 
 ghost use Rattle.std.specs.Prelude.{◌≡◌, ℕ, ◌^◌, ◌<◌, length, IsSome, OnOk, MatchResult, None};
 ghost use Rattle.tiff_base.specs.declared.tags.«Type».{«Type»};
@@ -19,7 +19,7 @@ use tiff_base::tags::{ByteOrder, FileKind, Type};
 use tiff_value::buffer::ValueBuffer;
 use tiff_value::encoder::tiff_value::TiffValue;
 
-// Bytes that are handed in have to be little-endian: else `UsageError(ByteOrderMismatch)`.
+// Returns `UsageError(ByteOrderMismatch)` unless the byte order is little-endian.
 fn check_order(order: ByteOrder) -> TiffResult<()>
     ensures { Checks (order_cause order None) result }
 {
@@ -30,7 +30,8 @@ fn check_order(order: ByteOrder) -> TiffResult<()>
 }
 
 impl<W: Sink, K: TiffKind> TiffEncoder<W, K> {
-    // The file's end, where the next bytes are appended. After a fault of the sink: `UsageError(WriterFailed)`.
+    // Returns the end of the file, where the next bytes are appended. Returns
+    // `UsageError(WriterFailed)` if an earlier write to the sink failed.
     pub(crate) fn end(&self) -> TiffResult<u64>
         ensures { MatchResult result
             (λ end. (self.now.fault ≡ None) × (end ≡ end_of self.now))
@@ -42,7 +43,7 @@ impl<W: Sink, K: TiffKind> TiffEncoder<W, K> {
         Ok(self.writer.offset())
     }
 
-    // The kind of the file.
+    // Returns the kind of the file.
     pub(crate) fn file_kind(&self) -> FileKind
         ensures { result ≡ self.now.kind }
     {
@@ -50,7 +51,7 @@ impl<W: Sink, K: TiffKind> TiffEncoder<W, K> {
         K::file_kind()
     }
 
-    // A value is handed in for a field: its bytes are appended, where they don't fit into the entry.
+    // Writes a value for a field: appends its bytes if they don't fit into the entry.
     fn place_entry(&mut self, field_type: Type, count: u64, bytes: &[u8]) -> TiffResult<Entry>
         requires { self.old.fault ≡ None }
         ensures { Places (record { field_type = field_type; count = count; bytes = bytes.now }) self.old self.new result }
@@ -63,7 +64,8 @@ impl<W: Sink, K: TiffKind> TiffEncoder<W, K> {
         Ok(Entry::new_u64(field_type, count, offset.to_le_bytes()))
     }
 
-    // `write_entry`. Where there is no room for the entry: `OutOfMemory`, and nothing is appended.
+    // `write_entry`. It returns `OutOfMemory` and appends nothing if there is no room for the
+    // entry.
     pub(crate) fn place_value<T: TiffValue>(
         &mut self,
         value: &T,
@@ -83,7 +85,7 @@ impl<W: Sink, K: TiffKind> TiffEncoder<W, K> {
         self.place_entry(field_type, count, &data)
     }
 
-    // Bytes are handed in for a field, as values of a type; a ragged end is left out.
+    // Writes bytes for a field, as values of a type. It omits the bytes after the last whole value.
     fn place_data(
         &mut self,
         end: u64,
@@ -106,7 +108,7 @@ impl<W: Sink, K: TiffKind> TiffEncoder<W, K> {
         self.place_entry(field_type, count as u64, whole)
     }
 
-    // `write_entry_buf`, of values of a type as bytes in an order
+    // `write_entry_buf` of values of a type, as bytes in a byte order.
     pub(crate) fn place_ordered(
         &mut self,
         order: ByteOrder,
@@ -122,7 +124,7 @@ impl<W: Sink, K: TiffKind> TiffEncoder<W, K> {
         self.place_data(end, field_type, bytes, has_room)
     }
 
-    // The same of a buffer.
+    // `write_entry_buf` of a buffer.
     pub(crate) fn place_buffer(&mut self, buffer: &ValueBuffer, has_room: bool) -> TiffResult<Entry>
         ensures { Ends (λ e. e) (calls.write_entry_buf buffer.now self.old) result self.old self.new }
     {
@@ -161,7 +163,7 @@ impl<W: Sink, K: TiffKind> TiffEncoder<W, K> {
         Ok(end)
     }
 
-    // `write_data_buf`, of bytes in an order: they are written as they are, whatever their type
+    // `write_data_buf` of bytes in a byte order. It writes them as they are, of any type.
     pub(crate) fn append_ordered(&mut self, order: ByteOrder, bytes: &[u8]) -> TiffResult<u64>
         ensures { (data_type : «Type») → Ends (λ n. n) (calls.write_data_buf
             (record { order = order; data_type = data_type; bytes = bytes.now }) self.old) result self.old self.new }
@@ -172,7 +174,7 @@ impl<W: Sink, K: TiffKind> TiffEncoder<W, K> {
         Ok(end)
     }
 
-    // The same of a buffer.
+    // `write_data_buf` of a buffer.
     pub(crate) fn append_buffer(&mut self, buffer: &ValueBuffer) -> TiffResult<u64>
         ensures { Ends (λ n. n) (calls.write_data_buf buffer.now self.old) result self.old self.new }
     {

@@ -1,4 +1,4 @@
-//! The bytes of a chunk of samples: appended to a list, or written without one; and packed.
+//! The bytes of a chunk of samples: appended to a list, written without a list, or packed.
 
 ghost use Rattle.std.specs.Prelude.{◌≡◌, ◌<◌, ◌≤◌, ◌%◌, ◌^◌, ◌++◌, false, length, map, MatchResult};
 ghost use Rattle.std.specs.List.{flat_map};
@@ -16,9 +16,10 @@ use tiff_base::error::{TiffError, TiffResult};
 use tiff_base::io::Sink;
 use tiff_base::tags::Predictor;
 
-/// Appends the bytes of a chunk before it is packed: rows of `row` samples, `stride` a pixel; with `Predictor::Horizontal`
-/// each row as differences (TIFF 6.0 section 14), else as they are; of each number the least byte first. Its only error
-/// is `OutOfMemory`.
+/// Appends the bytes of a chunk before compression. The samples are rows of `row` samples, with
+/// `stride` samples a pixel. With `Predictor::Horizontal` each row is stored as differences (TIFF
+/// 6.0 section 14), else as it is. The least significant byte of each number comes first. The only
+/// error is `OutOfMemory`.
 pub fn push_chunk<T: Sample>(
     samples: &[T],
     predictor: Predictor,
@@ -40,9 +41,10 @@ pub fn push_chunk<T: Sample>(
     }
 }
 
-/// Writes the bytes that `push_chunk` appends, at the writer's offset. They are made some at a time: it takes no memory for the
-/// samples. After an earlier fault: `UsageError(WriterFailed)`, and nothing is done. A fault of the sink: `IoError(Device)` or
-/// `OutOfMemory`, and a beginning of the bytes is written.
+/// Writes the bytes that `push_chunk` appends, at the writer's offset. It computes them part by
+/// part, and allocates no memory for the samples. Returns `UsageError(WriterFailed)` if an earlier
+/// write failed, and does nothing. Returns `IoError(Device)` or `OutOfMemory` if the sink fails; a
+/// part of the bytes, from the front, is then written.
 pub fn write_chunk<W: Sink, T: Sample>(
     writer: &mut TiffWriter<W>,
     samples: &[T],
@@ -57,7 +59,7 @@ pub fn write_chunk<W: Sink, T: Sample>(
     writer.write_samples(samples, predictor, row, stride)
 }
 
-// Each row as differences.
+// Appends the bytes of each row as differences.
 fn push_rows<T: Sample>(
     samples: &[T],
     row: usize,
@@ -78,9 +80,10 @@ fn push_rows<T: Sample>(
     Ok(())
 }
 
-/// Makes a list the bytes packed by PackBits (TIFF 6.0 section 9), in place of what it held. Room is asked for as many bytes as
-/// they may take, so that a list takes no more memory for as many bytes again. Its only error is `OutOfMemory`, after which the
-/// list may hold anything.
+/// Replaces the contents of a list by the bytes packed by PackBits (TIFF 6.0 section 9). It
+/// reserves room for the largest possible number of packed bytes. The list then takes no further
+/// memory for another chunk of as many bytes. The only error is `OutOfMemory`, after which the list
+/// may contain anything.
 pub fn pack_chunk(bytes: &[u8], out: &mut Vec<u8>) -> TiffResult<()>
     ensures { MatchResult result (λ _. IsPacked bytes.now out.new.items) (λ e. e ≡ TiffError.OutOfMemory) }
 {

@@ -1,4 +1,4 @@
-//! The color types that are not gray, named as in the Rust crate.
+//! The color types other than gray, named as in the Rust crate.
 
 ghost use Rattle.std.proofs.Common.{refl, lit<};
 ghost use Rattle.tiff_base.specs.declared.tags.PhotometricInterpretation.TheVariants as interpretation;
@@ -10,7 +10,7 @@ ghost use Rattle.tiff_value.specs.ColorTypes.{color_type, inner_type, samples_of
 use super::colortype::{ColorType, NamedColorType};
 use tiff_base::tags::{Bits32, Bits64, PhotometricInterpretation, SampleFormat};
 
-/// Red, green and blue, of 8 bits.
+/// Red, green and blue, 8 bits each.
 pub struct RGB8;
 
 impl ColorType for RGB8 {
@@ -47,7 +47,7 @@ impl NamedColorType for RGB8 {
     ghost in_memory = { unfold inner_type in refl };
 }
 
-/// Red, green and blue, of 16 bits.
+/// Red, green and blue, 16 bits each.
 pub struct RGB16;
 
 impl ColorType for RGB16 {
@@ -84,7 +84,7 @@ impl NamedColorType for RGB16 {
     ghost in_memory = { unfold inner_type in refl };
 }
 
-/// Red, green and blue, of 32 bits.
+/// Red, green and blue, 32 bits each.
 pub struct RGB32;
 
 impl ColorType for RGB32 {
@@ -121,7 +121,7 @@ impl NamedColorType for RGB32 {
     ghost in_memory = { unfold inner_type in refl };
 }
 
-/// Red, green and blue, of 64 bits.
+/// Red, green and blue, 64 bits each.
 pub struct RGB64;
 
 impl ColorType for RGB64 {
@@ -158,7 +158,7 @@ impl NamedColorType for RGB64 {
     ghost in_memory = { unfold inner_type in refl };
 }
 
-/// Red, green and blue, of floating numbers of 32 bits.
+/// Red, green and blue, floating-point numbers of 32 bits each.
 pub struct RGB32Float;
 
 impl ColorType for RGB32Float {
@@ -195,7 +195,7 @@ impl NamedColorType for RGB32Float {
     ghost in_memory = { unfold inner_type in refl };
 }
 
-/// Red, green and blue, of floating numbers of 64 bits.
+/// Red, green and blue, floating-point numbers of 64 bits each.
 pub struct RGB64Float;
 
 impl ColorType for RGB64Float {
@@ -232,7 +232,7 @@ impl NamedColorType for RGB64Float {
     ghost in_memory = { unfold inner_type in refl };
 }
 
-/// Red, green, blue and alpha, of 8 bits.
+/// Red, green, blue and alpha, 8 bits each.
 pub struct RGBA8;
 
 impl ColorType for RGBA8 {
@@ -269,7 +269,7 @@ impl NamedColorType for RGBA8 {
     ghost in_memory = { unfold inner_type in refl };
 }
 
-/// Red, green, blue and alpha, of 16 bits.
+/// Red, green, blue and alpha, 16 bits each.
 pub struct RGBA16;
 
 impl ColorType for RGBA16 {
@@ -306,7 +306,7 @@ impl NamedColorType for RGBA16 {
     ghost in_memory = { unfold inner_type in refl };
 }
 
-/// Red, green, blue and alpha, of 32 bits.
+/// Red, green, blue and alpha, 32 bits each.
 pub struct RGBA32;
 
 impl ColorType for RGBA32 {
@@ -343,7 +343,7 @@ impl NamedColorType for RGBA32 {
     ghost in_memory = { unfold inner_type in refl };
 }
 
-/// Red, green, blue and alpha, of 64 bits.
+/// Red, green, blue and alpha, 64 bits each.
 pub struct RGBA64;
 
 impl ColorType for RGBA64 {
@@ -380,7 +380,7 @@ impl NamedColorType for RGBA64 {
     ghost in_memory = { unfold inner_type in refl };
 }
 
-/// Red, green, blue and alpha, of floating numbers of 32 bits.
+/// Red, green, blue and alpha, floating-point numbers of 32 bits each.
 pub struct RGBA32Float;
 
 impl ColorType for RGBA32Float {
@@ -417,7 +417,7 @@ impl NamedColorType for RGBA32Float {
     ghost in_memory = { unfold inner_type in refl };
 }
 
-/// Red, green, blue and alpha, of floating numbers of 64 bits.
+/// Red, green, blue and alpha, floating-point numbers of 64 bits each.
 pub struct RGBA64Float;
 
 impl ColorType for RGBA64Float {
@@ -454,7 +454,7 @@ impl NamedColorType for RGBA64Float {
     ghost in_memory = { unfold inner_type in refl };
 }
 
-/// Cyan, magenta, yellow and black, of 8 bits.
+/// Cyan, magenta, yellow and black, 8 bits each.
 pub struct CMYK8;
 
 impl ColorType for CMYK8 {
@@ -491,7 +491,7 @@ impl NamedColorType for CMYK8 {
     ghost in_memory = { unfold inner_type in refl };
 }
 
-/// Cyan, magenta, yellow and black, of 16 bits.
+/// Cyan, magenta, yellow and black, 16 bits each.
 pub struct CMYK16;
 
 impl ColorType for CMYK16 {
@@ -528,7 +528,7 @@ impl NamedColorType for CMYK16 {
     ghost in_memory = { unfold inner_type in refl };
 }
 
-/// Cyan, magenta, yellow and black, of 32 bits.
+/// Cyan, magenta, yellow and black, 32 bits each.
 pub struct CMYK32;
 
 impl ColorType for CMYK32 {
@@ -565,7 +565,7 @@ impl NamedColorType for CMYK32 {
     ghost in_memory = { unfold inner_type in refl };
 }
 
-/// Cyan, magenta, yellow and black, of 64 bits.
+/// Cyan, magenta, yellow and black, 64 bits each.
 pub struct CMYK64;
 
 impl ColorType for CMYK64 {
@@ -602,7 +602,7 @@ impl NamedColorType for CMYK64 {
     ghost in_memory = { unfold inner_type in refl };
 }
 
-/// Cyan, magenta, yellow and black, of floating numbers of 32 bits.
+/// Cyan, magenta, yellow and black, floating-point numbers of 32 bits each.
 pub struct CMYK32Float;
 
 impl ColorType for CMYK32Float {
@@ -639,7 +639,7 @@ impl NamedColorType for CMYK32Float {
     ghost in_memory = { unfold inner_type in refl };
 }
 
-/// Cyan, magenta, yellow and black, of floating numbers of 64 bits.
+/// Cyan, magenta, yellow and black, floating-point numbers of 64 bits each.
 pub struct CMYK64Float;
 
 impl ColorType for CMYK64Float {
@@ -676,7 +676,7 @@ impl NamedColorType for CMYK64Float {
     ghost in_memory = { unfold inner_type in refl };
 }
 
-/// Brightness and two color differences, of 8 bits.
+/// Luminance and two chrominances, 8 bits each.
 pub struct YCbCr8;
 
 impl ColorType for YCbCr8 {
@@ -713,7 +713,7 @@ impl NamedColorType for YCbCr8 {
     ghost in_memory = { unfold inner_type in refl };
 }
 
-/// Cyan, magenta, yellow, black and alpha, of 8 bits.
+/// Cyan, magenta, yellow, black and alpha, 8 bits each.
 pub struct CMYKA8;
 
 impl ColorType for CMYKA8 {

@@ -1,4 +1,4 @@
-//! Color types: what a page says of its samples.
+//! Color types: what a page says about its samples.
 
 ghost use Rattle.std.specs.Prelude.{◌≡◌};
 ghost use Rattle.tiff_value.specs.ColorType.{ColorTypeRecord};
@@ -14,7 +14,7 @@ pub use super::grays::{
 use tiff_base::error::TiffResult;
 use tiff_base::tags::{PhotometricInterpretation, SampleFormat};
 
-/// What a page says of its samples.
+/// A color type: what a page says about its samples.
 pub trait ColorType {
     ghost use Rattle.std.specs.Prelude.{◌≡◌, length, map};
     ghost use Rattle.tiff_base.specs.declared.tags.PhotometricInterpretation.{PhotometricInterpretation};
@@ -25,31 +25,34 @@ pub trait ColorType {
     /// The type of a sample in memory.
     type Inner: Sample;
 
-    /// All that the page says of its samples.
+    /// All that the page says about its samples.
     ghost described: { ColorTypeRecord };
 
     ghost TIFF_VALUE: { PhotometricInterpretation };
 
-    /// How the samples are read.
+    /// The photometric interpretation of the samples.
     const TIFF_VALUE: PhotometricInterpretation;
 
-    /// The bits of each sample of a pixel.
+    /// The number of bits of each sample of a pixel.
     const BITS_PER_SAMPLE: &'static [u16];
 
-    /// The format of each sample of a pixel.
+    /// The sample format of each sample of a pixel.
     const SAMPLE_FORMAT: &'static [SampleFormat];
 
-    /// `BITS_PER_SAMPLE`, as contracts know it (this project's).
+    /// Returns `BITS_PER_SAMPLE`, with a contract that defines its value. This project adds this
+    /// function.
     fn sample_bits() -> &'static [u16]
         ensures { result.now ≡ described.bits };
 
-    /// `SAMPLE_FORMAT`, as contracts know it (this project's).
+    /// Returns `SAMPLE_FORMAT`, with a contract that defines its value. This project adds this
+    /// function.
     fn sample_formats() -> &'static [SampleFormat]
         ensures { result.now ≡ described.formats };
 
-    /// Appends a row's first `stride` samples, then each less, modulo its width, the one `stride` before it (this
-    /// project's). Nothing is appended for a stride of 0, or a row shorter than it. Floating samples:
-    /// `UsageError(PredictorIncompatible)`.
+    /// Appends the first `stride` samples of a row, and then each further sample minus the sample
+    /// `stride` before it, modulo its width. Appends nothing for a stride of 0 or for a row shorter
+    /// than the stride. Returns `UsageError(PredictorIncompatible)` for floating-point samples.
+    /// This project adds this function.
     final fn horizontal_predict_stride(
         row: &[Self::Inner],
         stride: usize,
@@ -60,7 +63,8 @@ pub trait ColorType {
         Self::Inner::predict_row(row, stride, out)
     }
 
-    /// The same with a stride of a pixel's samples.
+    /// Appends the differences of a row, as `horizontal_predict_stride` does, with a stride of the
+    /// number of samples of a pixel.
     final fn horizontal_predict(row: &[Self::Inner], out: &mut Vec<Self::Inner>) -> TiffResult<()>
         ensures { AppendsRow Self.Inner.bits (row_of_type Self.Inner.value_type (length described.bits) (map Self.Inner.bits row.now)) out.old.items out.new.items result }
     {
@@ -69,26 +73,26 @@ pub trait ColorType {
 
     ghost interpreted: { TIFF_VALUE ≡ described.interpretation };
 
-    // What it says is what a page can say of such samples.
+    // What the color type says is what a page can say about such samples.
     ghost lawful: { IsColorType (type_size Self.Inner.value_type) described };
 }
 
-/// A color type that the Rust crate has (this project's).
+/// A color type that the Rust crate has. This project adds this trait.
 pub trait NamedColorType: ColorType {
     ghost use Rattle.std.specs.Prelude.{◌≡◌};
     ghost use Rattle.tiff_value.specs.ColorTypes.{color_type, inner_type};
     ghost use Rattle.tiff_value.specs.declared.encoder.colortype.ColorTypeName.{ColorTypeName};
 
-    // Its name.
+    // The name of the color type.
     ghost name: { ColorTypeName };
 
-    // It is what its name says.
+    // The color type says what `color_type` defines for its name.
     ghost named: { Self.described ≡ color_type name };
 
     ghost in_memory: { Self.Inner.value_type ≡ inner_type name };
 }
 
-/// Gray, of 8 bits.
+/// Gray, 8 bits.
 pub struct Gray8;
 
 impl ColorType for Gray8 {
@@ -134,7 +138,7 @@ impl NamedColorType for Gray8 {
     ghost in_memory = { unfold inner_type in refl };
 }
 
-/// The name of each color type of a page that is written.
+/// The name of each color type of a written page.
 #[derive(Clone, Copy, Debug, PartialEq, Eq)]
 pub enum ColorTypeName {
     Gray8,

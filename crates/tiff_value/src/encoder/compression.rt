@@ -1,4 +1,4 @@
-//! How the bytes of a strip are stored.
+//! Compressors: how the bytes of a strip are stored.
 
 ghost use Rattle.std.specs.Prelude.{◌≡◌};
 ghost use Rattle.tiff_value.specs.Compressors.{compressor_method};
@@ -14,16 +14,17 @@ use tiff_base::error::{TiffError, TiffResult, UsageError};
 use tiff_base::io::{IoKind, Sink};
 use tiff_base::tags::CompressionMethod;
 
-/// What stores bytes by a method.
+/// A compressor: it stores bytes by a compression method.
 pub trait CompressionAlgorithm {
     ghost use Rattle.tiff_base.specs.declared.tags.CompressionMethod.{CompressionMethod};
 
-    // The method that it stores bytes by.
+    // The method of the compressor.
     ghost method: { Self → CompressionMethod };
 
-    /// Writes what stands for the bytes at the writer's offset, and answers how many bytes that is. After an earlier
-    /// fault: `UsageError(WriterFailed)`; no bytes that are to be packed: `IoError(WriteZero)`; no memory to pack
-    /// them: `OutOfMemory`; and nothing is done. Further errors are those of `write_plain`.
+    /// Writes the stored form of the bytes at the writer's offset, and returns its number of bytes.
+    /// Returns `UsageError(WriterFailed)` if an earlier write failed; else `IoError(WriteZero)` if
+    /// the method packs bytes and there are none; else `OutOfMemory` if there is no memory to pack
+    /// them. After each of these errors nothing is done. Further errors are those of `write_plain`.
     fn write_to<W: Sink>(
         &mut self,
         alloc: Global,
@@ -34,25 +35,25 @@ pub trait CompressionAlgorithm {
         ensures same_method { method self.new ≡ method self.old };
 }
 
-/// What stores bytes by one method.
+/// A compressor with one fixed method.
 pub trait Compression: CompressionAlgorithm {
     ghost use Rattle.std.specs.Prelude.{◌≡◌};
     ghost use Rattle.tiff_base.specs.declared.tags.CompressionMethod.{CompressionMethod};
 
     ghost COMPRESSION_METHOD: { CompressionMethod };
 
-    /// The method.
+    /// The compression method.
     const COMPRESSION_METHOD: CompressionMethod;
 
-    /// A compressor that stores bytes by this method.
+    /// Returns a compressor that stores bytes by this method.
     fn get_algorithm(&self) -> Compressor
         ensures { compressor_method result ≡ COMPRESSION_METHOD };
 
-    // It stores bytes by this method.
+    // The compressor stores bytes by this method.
     ghost by_method: { (x : Self) → Self.method x ≡ COMPRESSION_METHOD };
 }
 
-/// Bytes are stored as they are.
+/// The compressor that stores bytes as they are.
 #[derive(Clone, Copy, Debug, PartialEq, Eq, Default)]
 pub struct Uncompressed;
 
@@ -87,7 +88,7 @@ impl Compression for Uncompressed {
     ghost by_method = { λ x. refl };
 }
 
-/// Bytes are packed by PackBits (TIFF 6.0 section 9).
+/// The compressor that packs bytes by PackBits (TIFF 6.0 section 9).
 #[derive(Clone, Copy, Debug, PartialEq, Eq, Default)]
 pub struct Packbits;
 
@@ -129,7 +130,7 @@ impl Compression for Packbits {
     ghost by_method = { λ x. refl };
 }
 
-/// One of the two.
+/// One of the two compressors.
 #[derive(Drop)]
 #[non_exhaustive]
 pub enum Compressor {
@@ -142,7 +143,7 @@ impl Default for Compressor {
 
     ghost is_default = { λ c. c ≡ compressor.Uncompressed (record {}) };
 
-    /// Bytes are stored as they are.
+    /// Returns the compressor that stores bytes as they are.
     fn default() -> Self {
         Compressor::Uncompressed(Uncompressed)
     }

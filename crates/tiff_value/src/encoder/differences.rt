@@ -1,4 +1,4 @@
-//! Rows of samples as differences: each sample less the one a stride before it.
+//! Rows of samples as differences: each sample minus the sample one stride before it.
 
 ghost use Rattle.std.specs.Int.{w8, w16, w32, w64, cast_unsigned};
 ghost use Rattle.std.specs.Prelude.{◌≡◌, ◌+◌, ◌-◌, ◌*◌, ◌^◌, ◌%◌, ◌<◌, ◌≤◌, ◌++◌, ℕ, get_or, length, map, Ok, IfSome, MatchBool, MatchResult, refl};
@@ -14,7 +14,7 @@ use std::simd::prelude::*;
 use tiff_base::error::{TiffError, TiffResult, UsageError};
 use tiff_base::tags::{Bits32, Bits64};
 
-/// A number that a sample is in memory (this project's).
+/// The number type of a sample in memory. This project adds this trait.
 pub trait Sample: TiffScalar + Copy {
     ghost use Rattle.std.specs.Prelude.{◌≡◌, ◌≤◌, ◌++◌, ◌-◌, ◌*◌, ◌^◌, ◌%◌, ℕ, length, map, MatchResult};
     ghost use Rattle.std.specs.List.{flat_map};
@@ -24,46 +24,51 @@ pub trait Sample: TiffScalar + Copy {
     ghost use Rattle.tiff_value.specs.Differences.{predicted_part, predicted_row, IsPart};
     ghost use Rattle.tiff_value.specs.Predicted.{row_of_type};
 
-    // Its bits, as a number from 0 on.
+    // The bits of a sample, as a natural number.
     ghost bits: { Self → ℕ };
 
-    /// The sample of zeros.
+    /// Returns the sample whose bits are all zero.
     fn zero() -> Self
         ensures { bits result ≡ 0 };
 
-    /// The sample of the lowest bits of a number, as many as it has.
+    /// Returns the sample with the lowest bits of a number, as many as the sample has.
     fn cut(number: u64) -> Self
         ensures { sample_number (type_size Self.value_type) bits result ≡ number % 256 ^ type_size Self.value_type };
 
-    /// Appends a row's first `stride` samples, then each less, modulo its width, the one `stride` before it. Nothing is
-    /// appended for a stride of 0, or a row shorter than it. Floating numbers: `UsageError(PredictorIncompatible)`.
+    /// Appends the first `stride` samples of a row, and then each further sample minus the sample
+    /// `stride` before it, modulo its width. Appends nothing for a stride of 0 or for a row shorter
+    /// than the stride. Returns `UsageError(PredictorIncompatible)` for floating-point numbers.
     fn predict_row(row: &[Self], stride: usize, out: &mut Vec<Self>) -> TiffResult<()>
         ensures { AppendsRow bits (row_of_type Self.value_type stride (map bits row.now)) out.old.items out.new.items result };
 
-    /// Appends the bytes of a row's differences, of the bits of floating numbers too: of each number the lowest first.
-    /// Nothing is appended for a stride of 0, or a row shorter than it. Its only error is `OutOfMemory`, after which `out`
-    /// may hold anything.
+    /// Appends the bytes of the differences of a row, the lowest byte of each number first.
+    /// Floating-point numbers count as their bits. Appends nothing for a stride of 0 or for a row
+    /// shorter than the stride. The only error is `OutOfMemory`, after which `out` may contain
+    /// anything.
     fn push_row(row: &[Self], stride: usize, out: &mut Vec<u8>) -> TiffResult<()>
         ensures { MatchResult result
             (λ _. out.new.items ≡ out.old.items ++ flat_map (le (type_size Self.value_type)) (predicted_row (256 ^ type_size Self.value_type) stride (map (sample_number (type_size Self.value_type) bits) row.now)))
             (λ e. e ≡ TiffError.OutOfMemory) };
 
-    /// Makes bytes those of the differences of a row from sample `at` up to `end`, of the bits of floating numbers too: of each
-    /// number the lowest first. Samples before `stride` are left as they are, so that a row no longer than it stands plain. The
-    /// bytes stay where these samples aren't all in the row, or take more or fewer bytes.
+    /// Fills `out` with the bytes of the differences of a row, from sample `at` up to `end`, the
+    /// lowest byte of each number first. Floating-point numbers count as their bits. Samples before
+    /// `stride` are stored as they are, also all samples of a row no longer than `stride`. `out`
+    /// stays unchanged if these samples are not all in the row, or if their number of bytes is not
+    /// the length of `out`.
     fn put_part(row: &[Self], at: usize, end: usize, stride: usize, out: &mut [u8])
         ensures part { IsPart (length row.now) at end (type_size Self.value_type) (length out.old) → out.new ≡ flat_map (le (type_size Self.value_type)) (predicted_part (256 ^ type_size Self.value_type) stride at end (map (sample_number (type_size Self.value_type) bits) row.now)) }
         ensures other { (IsPart (length row.now) at end (type_size Self.value_type) (length out.old) → ⊥) → out.new ≡ out.old };
 
-    /// The bytes that samples are written as, without a copy, where each is one byte from 0 on (`u8`); else nothing.
+    /// Returns the bytes that the samples are written as, without a copy, if each sample is one
+    /// unsigned byte (`u8`). Returns `None` for other samples.
     fn as_bytes(samples: &[Self]) -> Option<&[u8]>
         ensures { IfSome result (λ b. b.now ≡ flat_map (le (type_size Self.value_type)) (map (sample_number (type_size Self.value_type) bits) samples.now)) };
 
-    // It is written as the bytes of its bits, the lowest first.
+    // A sample is written as the bytes of its bits, the lowest byte first.
     ghost by_bits: { (x : Self) → Self.spelled x ≡ le (type_size Self.value_type) (bits x) };
 }
 
-// A number of so many bits.
+// A number with a fixed number of bits.
 trait Whole: TiffScalar + Copy {
     ghost use Rattle.std.specs.Prelude.{◌≡◌, ◌+◌, ◌-◌, ◌%◌, ◌<◌, ◌≤◌, ℕ, length, map};
     ghost use Rattle.tiff_value.specs.Lanes.{less_from};
@@ -71,16 +76,18 @@ trait Whole: TiffScalar + Copy {
 
     ghost bits: { Self → ℕ };
 
-    // How many such numbers there are.
+    // The number of different values of the type.
     ghost modulus: { ℕ };
 
-    // This less the other, modulo; the bits of both are below the modulus.
+    // Returns this number minus the other, modulo the modulus. The bits of both numbers are below
+    // the modulus.
     fn less(self, other: Self) -> Self
         ensures difference { bits result ≡ (bits self + modulus - bits other) % modulus }
         ensures own { bits self < modulus }
         ensures others { bits other < modulus };
 
-    // The same of sixteen numbers of a row, from number `at` on, each less the one from number `before` on.
+    // Stores sixteen differences of a row: each number from number `at` on, minus the number at the
+    // same distance from number `before` on, modulo the modulus.
     fn less_lanes(row: &[Self], at: usize, before: usize, out: &mut [Self])
         requires order { before ≤ at }
         requires row { at + 16 ≤ length row.now }
@@ -92,20 +99,20 @@ trait Whole: TiffScalar + Copy {
         }
     }
 
-    // Makes bytes its own, the lowest first.
+    // Fills `out` with the bytes of this number, the lowest byte first.
     fn put(self, out: &mut [u8])
         requires { length out.old ≡ type_size Self.value_type }
         ensures { out.new ≡ le (type_size Self.value_type) (bits self) };
 
-    // It is written as the bytes of its bits, the lowest first.
+    // A number is written as the bytes of its bits, the lowest byte first.
     ghost by_bits: { (x : Self) → Self.spelled x ≡ le (type_size Self.value_type) (bits x) };
 
-    // There are as many as its bytes can tell.
+    // The type has as many values as its bytes can encode.
     ghost all: { modulus ≡ 256 ^ type_size Self.value_type };
 }
 
-// The bits of each sample are below their modulus, which nothing else says of signed numbers in a slice. The loop does
-// nothing else, and the compiler leaves it out.
+// The contract states that the bits of each sample are below the modulus. Nothing else states this
+// of signed numbers in a slice. The loop has no effect, and the compiler removes it.
 fn all_below<T: Whole>(row: &[T])
     ensures { (k : ℕ) → k < length row.now → get_or (map T.bits row.now) k 0 < T.modulus }
 {
@@ -114,7 +121,7 @@ fn all_below<T: Whole>(row: &[T])
     }
 }
 
-// Puts the differences of a row, but those of its first pixel, in the place of its copy.
+// Replaces the copy of a row by its differences. The numbers of the first pixel stay as they are.
 fn less_all<T: Whole>(row: &[T], stride: usize, out: &mut [T])
     requires some { 0 < stride }
     requires whole { stride ≤ length row.now }
@@ -132,8 +139,8 @@ fn less_all<T: Whole>(row: &[T], stride: usize, out: &mut [T])
     }
 }
 
-// Makes bytes those of a part of a row as differences; samples before `stride` are left as they are. Where the type is known, its
-// loops are compiled for it.
+// Fills `out` with the bytes of a part of a row as differences. Samples before `stride` are stored
+// as they are. If the type is known, the compiler builds the loops for this type.
 fn put_row_part<T: Whole>(row: &[T], at: usize, end: usize, stride: usize, out: &mut [u8])
     requires order { (at ≤ end) × (end ≤ length row.now) }
     requires room { length out.old ≡ (end - at) * type_size T.value_type }
@@ -152,7 +159,8 @@ fn put_row_part<T: Whole>(row: &[T], at: usize, end: usize, stride: usize, out: 
     }
 }
 
-// Whether samples of `width` bytes, from `at` up to `end`, are all in a row of `long`, and take `room` bytes.
+// Returns whether the samples from `at` up to `end`, of `width` bytes each, are all in a row of
+// `long` samples, and have `room` bytes in all.
 fn is_part(long: usize, at: usize, end: usize, width: usize, room: usize) -> bool
     ensures { MatchBool result (IsPart long at end width room) (IsPart long at end width room → ⊥) }
 {
@@ -165,7 +173,8 @@ fn is_part(long: usize, at: usize, end: usize, width: usize, room: usize) -> boo
     bytes == room
 }
 
-// Makes bytes those of a part of a row as differences, where it is one and takes as many bytes; else they stay.
+// Fills `out` with the bytes of a part of a row as differences, if the part is in the row and has
+// as many bytes as `out`. Otherwise `out` stays unchanged.
 fn put_fitting_part<T: Whole>(row: &[T], at: usize, end: usize, stride: usize, out: &mut [u8])
     ensures part { IsPart (length row.now) at end (type_size T.value_type) (length out.old) → out.new ≡ flat_map (le (type_size T.value_type)) (predicted_part T.modulus stride at end (map (sample_number (type_size T.value_type) T.bits) row.now)) }
     ensures other { (IsPart (length row.now) at end (type_size T.value_type) (length out.old) → ⊥) → out.new ≡ out.old }
@@ -176,7 +185,7 @@ fn put_fitting_part<T: Whole>(row: &[T], at: usize, end: usize, stride: usize, o
     }
 }
 
-// Appends a row, and then its differences in its place.
+// Appends a row to `out`, and then replaces it by its differences.
 fn push_differences<T: Whole>(row: &[T], stride: usize, out: &mut Vec<T>) -> TiffResult<()>
     ensures { AppendsRow T.bits (Ok (predicted_row T.modulus stride (map T.bits row.now))) out.old.items out.new.items result }
 {
@@ -189,7 +198,8 @@ fn push_differences<T: Whole>(row: &[T], stride: usize, out: &mut Vec<T>) -> Tif
     Ok(())
 }
 
-// The same as bytes, of each number the lowest first: zeros are appended, and made these in their place.
+// Appends the differences of a row as bytes, the lowest byte of each number first. The function
+// appends zeros, and then replaces them by these bytes.
 fn push_row_differences<T: Whole>(row: &[T], stride: usize, out: &mut Vec<u8>) -> TiffResult<()>
     ensures { MatchResult result
         (λ _. out.new.items ≡ out.old.items ++ flat_map (le (type_size T.value_type)) (predicted_row T.modulus stride (map (sample_number (type_size T.value_type) T.bits) row.now)))
@@ -246,7 +256,7 @@ impl Sample for u8 {
         push_differences(row, stride, out)
     }
 
-    // the differences are the bytes
+    // the differences are the bytes that are appended
     fn push_row(row: &[u8], stride: usize, out: &mut Vec<u8>) -> TiffResult<()> {
         push_differences(row, stride, out)
     }

@@ -1,4 +1,4 @@
-//! Fractions that are written: two numbers each.
+//! Fractions as values that are written: each is two numbers.
 
 ghost use Rattle.std.specs.Int.{w32};
 ghost use Rattle.std.specs.Prelude.{◌≡◌, [], ◌∷◌, ◌++◌, map, Ok, refl};

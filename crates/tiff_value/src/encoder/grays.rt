@@ -1,4 +1,4 @@
-//! Gray color types beside `Gray8`, named as in the Rust crate.
+//! The gray color types other than `Gray8`, named as in the Rust crate.
 
 ghost use Rattle.std.proofs.Common.{refl, lit<};
 ghost use Rattle.tiff_base.specs.declared.tags.PhotometricInterpretation.TheVariants as interpretation;
@@ -10,7 +10,7 @@ ghost use Rattle.tiff_value.specs.ColorTypes.{color_type, inner_type, samples_of
 use super::colortype::{ColorType, NamedColorType};
 use tiff_base::tags::{Bits32, Bits64, PhotometricInterpretation, SampleFormat};
 
-/// Gray, of 16 bits.
+/// Gray, 16 bits.
 pub struct Gray16;
 
 impl ColorType for Gray16 {
@@ -47,7 +47,7 @@ impl NamedColorType for Gray16 {
     ghost in_memory = { unfold inner_type in refl };
 }
 
-/// Gray, of 32 bits.
+/// Gray, 32 bits.
 pub struct Gray32;
 
 impl ColorType for Gray32 {
@@ -84,7 +84,7 @@ impl NamedColorType for Gray32 {
     ghost in_memory = { unfold inner_type in refl };
 }
 
-/// Gray, of 64 bits.
+/// Gray, 64 bits.
 pub struct Gray64;
 
 impl ColorType for Gray64 {
@@ -121,7 +121,7 @@ impl NamedColorType for Gray64 {
     ghost in_memory = { unfold inner_type in refl };
 }
 
-/// Gray, of signed numbers of 8 bits.
+/// Gray, signed numbers of 8 bits.
 pub struct GrayI8;
 
 impl ColorType for GrayI8 {
@@ -158,7 +158,7 @@ impl NamedColorType for GrayI8 {
     ghost in_memory = { unfold inner_type in refl };
 }
 
-/// Gray, of signed numbers of 16 bits.
+/// Gray, signed numbers of 16 bits.
 pub struct GrayI16;
 
 impl ColorType for GrayI16 {
@@ -195,7 +195,7 @@ impl NamedColorType for GrayI16 {
     ghost in_memory = { unfold inner_type in refl };
 }
 
-/// Gray, of signed numbers of 32 bits.
+/// Gray, signed numbers of 32 bits.
 pub struct GrayI32;
 
 impl ColorType for GrayI32 {
@@ -232,7 +232,7 @@ impl NamedColorType for GrayI32 {
     ghost in_memory = { unfold inner_type in refl };
 }
 
-/// Gray, of signed numbers of 64 bits.
+/// Gray, signed numbers of 64 bits.
 pub struct GrayI64;
 
 impl ColorType for GrayI64 {
@@ -269,7 +269,7 @@ impl NamedColorType for GrayI64 {
     ghost in_memory = { unfold inner_type in refl };
 }
 
-/// Gray, of floating numbers of 32 bits.
+/// Gray, floating-point numbers of 32 bits.
 pub struct Gray32Float;
 
 impl ColorType for Gray32Float {
@@ -306,7 +306,7 @@ impl NamedColorType for Gray32Float {
     ghost in_memory = { unfold inner_type in refl };
 }
 
-/// Gray, of floating numbers of 64 bits.
+/// Gray, floating-point numbers of 64 bits.
 pub struct Gray64Float;
 
 impl ColorType for Gray64Float {

@@ -1,4 +1,4 @@
-//! The enums of tags that are written: each is its number.
+//! The enums of tags as values that are written: each is its number.
 
 ghost use Rattle.std.specs.Prelude.{◌≡◌, [], ◌∷◌, Ok, refl};
 ghost use Rattle.tiff_base.specs.Number.{le};

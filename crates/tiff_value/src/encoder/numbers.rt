@@ -1,4 +1,4 @@
-//! Numbers that are written, and offsets, each a number.
+//! Numbers and offsets as values that are written: each is a number.
 
 ghost use Rattle.std.specs.Int.{w8, w16, w32, w64};
 ghost use Rattle.std.specs.Prelude.{◌≡◌, [], ◌∷◌, map, Ok, refl};
@@ -49,7 +49,7 @@ impl TiffScalar for u8 {
 
     ghost spelled = { le 1 };
 
-    // one copy
+    // one copy for all bytes
     fn push_all(items: &[u8], out: &mut Vec<u8>) -> TiffResult<()> {
         out.extend_from_slice(items)?;
         Ok(())

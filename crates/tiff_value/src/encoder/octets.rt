@@ -1,4 +1,4 @@
-//! Numbers go into lists of bytes, many at once.
+//! Conversion of numbers to bytes in a list, many numbers at once.
 
 ghost use Rattle.std.specs.Prelude.{◌≡◌, ◌++◌, map, IfOk, MatchResult, refl};
 ghost use Rattle.std.specs.Io.{StartsWith};
@@ -11,21 +11,22 @@ use std::alloc::{AllocError, Global};
 use tiff_base::error::{TiffError, TiffResult};
 use tiff_base::tags::{Bits32, Bits64};
 
-// How many numbers are turned into bytes before these are appended: few enough to stay near the processor.
+// The number of numbers that are converted to bytes before these are appended. It is small, so that
+// the bytes stay in the processor's cache.
 const BLOCK: usize = 2048;
 
-/// A number that is written as so many bytes.
+/// A number that is written as `N` bytes.
 pub(crate) trait Octets<const N: usize>: Copy {
     ghost use Rattle.std.specs.Prelude.{◌≡◌, ◌+◌, ◌-◌, ℕ, List};
 
-    // Its bytes, as they are written.
+    // The bytes of the number, as they are written.
     ghost written: { Self → List ℕ };
 
-    /// Its bytes, as they are written.
+    /// Returns the bytes of the number, as they are written.
     fn octets(self) -> [u8; N]
         ensures { result ≡ written self };
 
-    // It has at most eight bytes.
+    // A number has at most eight bytes.
     ghost small: { N + (8 - N) ≡ 8 };
 }
 
@@ -119,7 +120,7 @@ impl Octets<8> for Bits64 {
     ghost small = { refl };
 }
 
-// The bytes of each of some numbers.
+// Returns the bytes of each number.
 fn octets_of<T: Octets<N>, const N: usize>(
     alloc: Global,
     numbers: &[T],
@@ -136,7 +137,7 @@ fn octets_of<T: Octets<N>, const N: usize>(
         .collect(alloc)
 }
 
-// Appends the bytes of some numbers at once.
+// Appends the bytes of the numbers at once.
 #[tactic(auto, using(crate::proofs::Bytes::flattened, crate::proofs::Bytes::front_appended))]
 fn push_block<T: Octets<N>, const N: usize>(numbers: &[T], out: &mut Vec<u8>) -> TiffResult<()>
     ensures answer { MatchResult result (λ _. out.new.items ≡ out.old.items ++ flat_map T.written numbers.now) (λ e. e ≡ TiffError.OutOfMemory) }
@@ -147,7 +148,8 @@ fn push_block<T: Octets<N>, const N: usize>(numbers: &[T], out: &mut Vec<u8>) ->
     Ok(())
 }
 
-/// Appends the bytes of numbers. Its only error is `OutOfMemory`, after which `out` begins with what it held.
+/// Appends the bytes of the numbers. The only error is `OutOfMemory`, after which `out` begins with
+/// its earlier contents.
 #[tactic(auto, using(crate::proofs::Bytes::front_kept, crate::proofs::Bytes::pieces_all))]
 pub(crate) fn push_numbers<T: Octets<N>, const N: usize>(
     numbers: &[T],

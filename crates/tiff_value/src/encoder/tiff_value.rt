@@ -1,4 +1,4 @@
-//! The values that are written.
+//! The values that a writer puts into fields.
 
 ghost use Rattle.std.specs.Prelude.{◌≡◌, ◌+◌, ◌++◌, length, Err, MatchResult};
 ghost use Rattle.std.specs.Io.{StartsWith};
@@ -14,7 +14,7 @@ use tiff_base::error::{TiffError, TiffFormatError, TiffResult, UsageError};
 use tiff_base::io::Sink;
 use tiff_base::tags::Type;
 
-/// What a field can be given: values of one type.
+/// The value of a field: values of one type.
 pub trait TiffValue: Drop {
     ghost use Rattle.std.specs.Prelude.{ℕ, Result};
     ghost use Rattle.tiff_base.specs.declared.error.TiffError.{TiffError};
@@ -22,31 +22,32 @@ pub trait TiffValue: Drop {
     ghost use Rattle.tiff_value.specs.Data.{FieldData};
     ghost use Rattle.tiff_value.specs.Values.{IsValue};
 
-    // The type of its values.
+    // The type of the values.
     ghost value_type: { «Type» };
 
-    // How many values it has.
+    // The number of values.
     ghost value_count: { Self → ℕ };
 
-    // What a field is given, or why it can't be.
+    // The field's data, or the error of a value that no field can have.
     ghost field_data: { Self → Result FieldData TiffError };
 
-    /// How many bytes a value of its type has.
+    /// The number of bytes of one value of this type.
     const BYTE_LEN: u8;
 
-    /// The type of its values.
+    /// The type of the values.
     const FIELD_TYPE: Type;
 
-    /// `FIELD_TYPE` and `BYTE_LEN`, as contracts know them (this project's).
+    /// Returns `FIELD_TYPE` and `BYTE_LEN`, with a contract that defines their values. This project
+    /// adds this function.
     fn type_and_len() -> (Type, u8)
         ensures kind { result.0 ≡ value_type }
         ensures len { result.1 ≡ type_size value_type };
 
-    /// How many values it has.
+    /// Returns the number of values.
     fn count(&self) -> usize
         ensures { result ≡ value_count self.now };
 
-    /// How many bytes it has; `usize::MAX` where that doesn't fit.
+    /// Returns the number of bytes of the values, or `usize::MAX` if that number is larger.
     final fn bytes(&self) -> usize
         ensures { result ≡ byte_count (value_count self.now) value_type }
     {
@@ -54,19 +55,22 @@ pub trait TiffValue: Drop {
         self.count().saturating_mul(usize::from(len))
     }
 
-    /// Whether a field can be given it (this project's); it takes no memory. A text that can't be written:
-    /// `FormatError(InvalidTag)`.
+    /// Checks whether a field can have this value. The check allocates nothing. Returns
+    /// `FormatError(InvalidTag)` for a text that can't be written. This project adds this function.
     fn check(&self) -> TiffResult<()>
         ensures { MatchResult result (λ _. IsWritable (field_data self.now)) (λ e. field_data self.now ≡ Err e) };
 
-    /// Appends its bytes, the least of each number first. A text that can't be written: `FormatError(InvalidTag)`. Its other
-    /// error is `OutOfMemory`, only of a value that can be written, after which `out` begins with what it held.
+    /// Appends the bytes of the values, the least significant byte of each number first. Returns
+    /// `FormatError(InvalidTag)` for a text that can't be written. The other error is
+    /// `OutOfMemory`, only for a value that can be written. After it, `out` begins with its earlier
+    /// contents.
     fn push_to(&self, out: &mut Vec<u8>) -> TiffResult<()>
         ensures answer { Pushes (field_data self.now) out.old.items out.new.items result }
         ensures front { StartsWith out.new.items out.old.items };
 
-    /// Its bytes, the least of each number first. A text that can't be written: `FormatError(InvalidTag)`. Its other error
-    /// is `OutOfMemory`, only of a value that can be written.
+    /// Returns the bytes of the values, the least significant byte of each number first. Returns
+    /// `FormatError(InvalidTag)` for a text that can't be written. The other error is
+    /// `OutOfMemory`, only for a value that can be written.
     #[tactic(auto, using(crate::proofs::Values::value_made))]
     final fn data(&self, alloc: Global) -> TiffResult<Vec<u8>>
         ensures { AnswersBut (IsWritable (field_data self.now)) ⊥ (λ v. values_in value_type (value_count self.now) v.items) result (field_data self.now) }
@@ -77,8 +81,9 @@ pub trait TiffValue: Drop {
         Ok(bytes)
     }
 
-    /// Writes its bytes at the writer's offset, as they are. After an earlier fault: `UsageError(WriterFailed)`. Further
-    /// errors are those of `data` and of `write_plain`.
+    /// Writes the bytes of the values at the writer's offset, as they are. Returns
+    /// `UsageError(WriterFailed)` if an earlier write failed. Further errors are those of `data`
+    /// and of `write_plain`.
     #[tactic(auto, using(crate::proofs::Values::value_written, crate::proofs::Values::value_stopped, crate::proofs::Values::value_wanting, crate::proofs::Values::value_refused))]
     final fn write<W: Sink>(&self, alloc: Global, writer: &mut TiffWriter<W>) -> TiffResult<()>
         ensures { WritesValue (field_data self.now) writer.old writer.new result }
@@ -90,23 +95,26 @@ pub trait TiffValue: Drop {
         writer.write_plain(&data)
     }
 
-    // Its bytes are as many as its count and its type say; all that it can be refused as is no text.
+    // The number of bytes is that of the count and the type. The only refusal is that of a text
+    // that can't be written.
     ghost sized: { (x : Self) → IsValue value_type (value_count x) (field_data x) };
 }
 
-/// A single value that can always be written (this project's); a `Slice` is several of them.
+/// A single value that can always be written. A `Slice` is several of them. This project adds this
+/// trait.
 pub trait TiffScalar: TiffValue + Sized {
     ghost use Rattle.std.specs.Io.{StartsWith};
     ghost use Rattle.std.specs.Prelude.{◌≡◌, ℕ, List, [], ◌∷◌, Ok};
     ghost use Rattle.tiff_value.specs.Data.{Scalars, data_by, data_of};
 
-    // Values of this type, as they are written.
+    // Values of this type, as a writer writes them.
     ghost scalars: { List Self → Scalars };
 
-    // The bytes of one.
+    // The bytes of one value.
     ghost spelled: { Self → List ℕ };
 
-    /// Appends the bytes of several values. Its only error is `OutOfMemory`, after which `out` begins with what it held.
+    /// Appends the bytes of several values. The only error is `OutOfMemory`, after which `out`
+    /// begins with its earlier contents.
     #[tactic(auto, using(crate::proofs::Bytes::front_kept, crate::proofs::Values::scalar_pushed))]
     fn push_all(items: &[Self], out: &mut Vec<u8>) -> TiffResult<()>
         ensures answer { MatchResult result (λ _. out.new.items ≡ out.old.items ++ flat_map spelled items.now) (λ e. e ≡ TiffError.OutOfMemory) }
@@ -118,13 +126,13 @@ pub trait TiffScalar: TiffValue + Sized {
         Ok(())
     }
 
-    // A value is written as a list of it alone.
+    // A value is written as the list that contains it alone.
     ghost alone: { (x : Self) → Self.field_data x ≡ Ok (data_of (scalars (x ∷ []))) };
 
-    // It is one value.
+    // A single value counts as one value.
     ghost one: { (x : Self) → Self.value_count x ≡ 1 };
 
-    // The bytes of several are those of each.
+    // The bytes of several values are the bytes of each, in order.
     ghost listed: { (xs : List Self) → data_of (scalars xs) ≡ data_by Self.value_type spelled xs };
 }
 
@@ -203,7 +211,8 @@ impl<'a, T: TiffScalar> TiffValue for Slice<'a, T> {
     ghost sized = { λ s. several T.value_type T.spelled T.scalars T.listed T.value_count T.field_data T.sized T.alone s.0.now };
 }
 
-/// A text of ASCII without a zero; a zero is appended. It stands in place of the Rust crate's `str`.
+/// A text of ASCII without a zero byte. The written value has a zero byte after it. This type is in
+/// place of the Rust crate's `str`.
 #[derive(Drop)]
 pub struct Text<'a>(pub &'a str);
 
@@ -254,29 +263,29 @@ impl<'a> TiffValue for Text<'a> {
     ghost sized = { λ t. text_value t.0.now };
 }
 
-// Whether bytes are ASCII without a zero.
+// Returns whether the bytes are ASCII without a zero byte.
 fn is_text(bytes: &[u8]) -> bool
     ensures { result ≡ list_all is_letter bytes.now }
 {
     bytes.iter().all(|b| *b < 128 && *b != 0)
 }
 
-/// The offset of a directory, of 4 bytes.
+/// The offset of a directory, 4 bytes.
 #[derive(Clone, Drop)]
 pub struct Ifd(pub u32);
 
-/// The offset of a directory, of 8 bytes.
+/// The offset of a directory, 8 bytes.
 #[derive(Clone, Drop)]
 pub struct Ifd8(pub u64);
 
-/// A fraction.
+/// A fraction of unsigned numbers: numerator `n` and denominator `d`.
 #[derive(Clone, Drop)]
 pub struct Rational {
     pub n: u32,
     pub d: u32,
 }
 
-/// A fraction of signed numbers.
+/// A fraction of signed numbers: numerator `n` and denominator `d`.
 #[derive(Clone, Drop)]
 pub struct SRational {
     pub n: i32,

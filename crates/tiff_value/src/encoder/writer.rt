@@ -1,4 +1,4 @@
-//! Numbers and bytes are written at an offset of a sink.
+//! A writer of numbers and bytes at an offset of a sink.
 
 ghost use Rattle.std.specs.Int.{w8, w16, w32, w64};
 ghost use Rattle.std.specs.Prelude.{◌≡◌, ℕ, ◌+◌, ◌-◌, ◌%◌, ◌^◌, ◌<◌, ◌≤◌, List, [], ◌∷◌, length, replicate, take, is_some, IsSome, IfOk, IfErr, MatchResult, None};
@@ -18,7 +18,8 @@ use tiff_base::error::{TiffError, TiffResult, UsageError};
 use tiff_base::io::{IoKind, Sink, SinkFault};
 use tiff_base::tags::{Bits32, Bits64};
 
-/// Writes bytes at an offset of a sink. After a fault of the sink each write answers `UsageError(WriterFailed)`.
+/// Writes bytes at an offset of a sink. After an error of the sink each write returns
+/// `UsageError(WriterFailed)`.
 #[derive(Drop)]
 pub struct TiffWriter<W: Sink> {
     sink: W,
@@ -35,7 +36,7 @@ impl<W: Sink> Model for TiffWriter<W> {
 
     ghost Value = { Written };
 
-    // The fault is the one that the sink told last.
+    // The field `fault` is the last error of the sink.
     ghost view = { λ w. record {
       bytes = W.told w.sink;
       at = w.at;
@@ -49,7 +50,7 @@ impl<W: Sink> Model for TiffWriter<W> {
 }
 
 impl<W: Sink> TiffWriter<W> {
-    /// A writer that stands at the sink's end, and packs nothing.
+    /// Makes a writer at the end of the sink, without compression.
     pub fn new(sink: W) -> Self
         ensures { result ≡ new_writer (W.told sink) (W.failures sink) }
     {
@@ -63,21 +64,21 @@ impl<W: Sink> TiffWriter<W> {
         }
     }
 
-    /// From here on `write_bytes` stores bytes by this compressor.
+    /// Makes `write_bytes` store bytes by this compressor from now on.
     pub fn set_compression(&mut self, compressor: Compressor)
         ensures { self.new ≡ record self.old { method = compressor_method compressor } }
     {
         self.compressor = compressor;
     }
 
-    /// From here on `write_bytes` stores bytes as they are.
+    /// Makes `write_bytes` store bytes as they are from now on.
     pub fn reset_compression(&mut self)
         ensures { self.new ≡ record self.old { method = method.None } }
     {
         self.compressor = Compressor::Uncompressed(Uncompressed);
     }
 
-    /// The offset that is written next, at most the count of bytes.
+    /// Returns the offset of the next write. It is at most the number of bytes in the sink.
     pub fn offset(&self) -> u64
         ensures offset { result ≡ self.now.at }
         ensures within { result ≤ length self.now.bytes }
@@ -86,29 +87,29 @@ impl<W: Sink> TiffWriter<W> {
         self.at
     }
 
-    /// How many bytes the sink has (this project's).
+    /// Returns the number of bytes in the sink. This project adds this function.
     pub fn len(&self) -> u64
         ensures { result ≡ length self.now.bytes }
     {
         self.sink.len()
     }
 
-    /// How many bytes the last whole write had.
+    /// Returns the number of bytes of the last complete write.
     pub fn last_written(&self) -> u64
         ensures { result ≡ self.now.last }
     {
         self.last
     }
 
-    /// Whether a write failed earlier.
+    /// Returns whether an earlier write failed.
     pub fn has_failed(&self) -> bool
         ensures { result ≡ is_some self.now.fault }
     {
         self.failed
     }
 
-    /// Goes to an offset, from where bytes are written over and then added. An offset past the bytes:
-    /// `IoError(InvalidInput)`, and nothing is done.
+    /// Moves to an offset. Writes from there overwrite bytes, and then append. Returns
+    /// `IoError(InvalidInput)` for an offset past the end of the bytes, and does nothing.
     pub fn goto_offset(&mut self, offset: u64) -> TiffResult<()>
         ensures { MatchResult result
             (λ _. (offset ≤ length self.old.bytes) × (self.new ≡ record self.old { at = offset }))
@@ -121,7 +122,7 @@ impl<W: Sink> TiffWriter<W> {
         Ok(())
     }
 
-    // One call of the sink.
+    // Writes some of the bytes by one call of the sink.
     fn write_some(&mut self, bytes: &[u8]) -> TiffResult<usize>
         requires some { 0 < length bytes.now }
         requires fresh { self.old.fault ≡ None }
@@ -151,7 +152,7 @@ impl<W: Sink> TiffWriter<W> {
         }
     }
 
-    // All of the bytes, with no count for `last_written`.
+    // Writes all of the bytes, without an update of `last_written`.
     fn write_raw(&mut self, bytes: &[u8]) -> TiffResult<()>
         ensures { WritesRaw bytes.now self.old self.new result }
     {
@@ -166,7 +167,7 @@ impl<W: Sink> TiffWriter<W> {
         Ok(())
     }
 
-    /// Stores bytes by the compressor that was set. Errors are those of its `write_to`.
+    /// Stores bytes by the current compressor. Its errors are those of the compressor's `write_to`.
     pub fn write_bytes(&mut self, alloc: Global, bytes: &[u8]) -> TiffResult<()>
         ensures { StoresBytes self.old.method bytes.now self.old self.new result }
     {
@@ -181,8 +182,9 @@ impl<W: Sink> TiffWriter<W> {
         Ok(())
     }
 
-    /// Writes bytes as they are (this project's). After an earlier fault: `UsageError(WriterFailed)`, and nothing is
-    /// done. A fault of the sink: `IoError(Device)` or `OutOfMemory`, and a beginning of the bytes is written.
+    /// Writes bytes as they are. Returns `UsageError(WriterFailed)` if an earlier write failed, and
+    /// does nothing. Returns `IoError(Device)` or `OutOfMemory` if the sink fails; a part of the
+    /// bytes, from the front, is then written. This project adds this function.
     pub fn write_plain(&mut self, bytes: &[u8]) -> TiffResult<()>
         ensures { WritesCounted bytes.now self.old self.new result }
     {
@@ -191,78 +193,86 @@ impl<W: Sink> TiffWriter<W> {
         Ok(())
     }
 
-    /// Writes a byte. Errors are those of `write_plain`.
+    /// Writes a byte. Its errors are those of `write_plain`.
     pub fn write_u8(&mut self, n: u8) -> TiffResult<()>
         ensures { WritesCounted (le 1 n) self.old self.new result }
     {
         self.write_plain(&n.to_le_bytes())
     }
 
-    /// Writes a signed byte. Errors are those of `write_plain`.
+    /// Writes a signed byte. Its errors are those of `write_plain`.
     pub fn write_i8(&mut self, n: i8) -> TiffResult<()>
         ensures { WritesCounted (signed_le w8 n) self.old self.new result }
     {
         self.write_plain(&n.to_le_bytes())
     }
 
-    /// Writes 2 bytes, the least first. Errors are those of `write_plain`.
+    /// Writes an unsigned number of 2 bytes, the least significant byte first. Its errors are those
+    /// of `write_plain`.
     pub fn write_u16(&mut self, n: u16) -> TiffResult<()>
         ensures { WritesCounted (le 2 n) self.old self.new result }
     {
         self.write_plain(&n.to_le_bytes())
     }
 
-    /// Writes a signed number of 2 bytes, the least byte first. Errors are those of `write_plain`.
+    /// Writes a signed number of 2 bytes, the least significant byte first. Its errors are those of
+    /// `write_plain`.
     pub fn write_i16(&mut self, n: i16) -> TiffResult<()>
         ensures { WritesCounted (signed_le w16 n) self.old self.new result }
     {
         self.write_plain(&n.to_le_bytes())
     }
 
-    /// Writes 4 bytes, the least first. Errors are those of `write_plain`.
+    /// Writes an unsigned number of 4 bytes, the least significant byte first. Its errors are those
+    /// of `write_plain`.
     pub fn write_u32(&mut self, n: u32) -> TiffResult<()>
         ensures { WritesCounted (le 4 n) self.old self.new result }
     {
         self.write_plain(&n.to_le_bytes())
     }
 
-    /// Writes a signed number of 4 bytes, the least byte first. Errors are those of `write_plain`.
+    /// Writes a signed number of 4 bytes, the least significant byte first. Its errors are those of
+    /// `write_plain`.
     pub fn write_i32(&mut self, n: i32) -> TiffResult<()>
         ensures { WritesCounted (signed_le w32 n) self.old self.new result }
     {
         self.write_plain(&n.to_le_bytes())
     }
 
-    /// Writes 8 bytes, the least first. Errors are those of `write_plain`.
+    /// Writes an unsigned number of 8 bytes, the least significant byte first. Its errors are those
+    /// of `write_plain`.
     pub fn write_u64(&mut self, n: u64) -> TiffResult<()>
         ensures { WritesCounted (le 8 n) self.old self.new result }
     {
         self.write_plain(&n.to_le_bytes())
     }
 
-    /// Writes a signed number of 8 bytes, the least byte first. Errors are those of `write_plain`.
+    /// Writes a signed number of 8 bytes, the least significant byte first. Its errors are those of
+    /// `write_plain`.
     pub fn write_i64(&mut self, n: i64) -> TiffResult<()>
         ensures { WritesCounted (signed_le w64 n) self.old self.new result }
     {
         self.write_plain(&n.to_le_bytes())
     }
 
-    /// Writes the bits of a floating number of 4 bytes, the least byte first. Errors are those of `write_plain`.
+    /// Writes the bits of a floating-point number of 4 bytes, the least significant byte first. Its
+    /// errors are those of `write_plain`.
     pub fn write_f32(&mut self, n: Bits32) -> TiffResult<()>
         ensures { WritesCounted (le 4 n.0) self.old self.new result }
     {
         self.write_plain(&n.0.to_le_bytes())
     }
 
-    /// Writes the bits of a floating number of 8 bytes, the least byte first. Errors are those of `write_plain`.
+    /// Writes the bits of a floating-point number of 8 bytes, the least significant byte first. Its
+    /// errors are those of `write_plain`.
     pub fn write_f64(&mut self, n: Bits64) -> TiffResult<()>
         ensures { WritesCounted (le 8 n.0) self.old self.new result }
     {
         self.write_plain(&n.0.to_le_bytes())
     }
 
-    /// Writes zeros up to the next offset that is a multiple of 4; `last_written` doesn't count them. Errors are those
-    /// of `write_plain`.
+    /// Writes zeros up to the next offset that is a multiple of 4. `last_written` does not count
+    /// them. Its errors are those of `write_plain`.
     pub fn pad_word_boundary(&mut self) -> TiffResult<()>
         ensures { WritesRaw (replicate ((4 - self.old.at % 4) % 4) 0) self.old self.new result }
     {
@@ -270,7 +280,7 @@ impl<W: Sink> TiffWriter<W> {
         self.write_raw(&[0, 0, 0][..count as usize])
     }
 
-    /// The sink.
+    /// Returns the sink.
     pub fn into_inner(self) -> W
         ensures bytes { W.told result ≡ self.bytes }
         ensures failures { W.failures result ≡ self.failures }
@@ -287,16 +297,18 @@ impl<W: Sink> TiffWriter<W> {
     }
 }
 
-/// Writes the first bytes of a classic little-endian file, before the offset of its first directory; `last_written` doesn't count
-/// them. Errors are those of `TiffWriter::write_plain`.
+/// Writes the first bytes of a classic little-endian file, before the offset of its first
+/// directory. `last_written` does not count them. Its errors are those of
+/// `TiffWriter::write_plain`.
 pub fn write_tiff_header<W: Sink>(writer: &mut TiffWriter<W>) -> TiffResult<()>
     ensures { WritesRaw (73 ∷ 73 ∷ 42 ∷ 0 ∷ []) writer.old writer.new result }
 {
     writer.write_raw(&[73, 73, 42, 0])
 }
 
-/// Writes the first bytes of a little-endian BigTIFF file, before the offset of its first directory; `last_written` doesn't count
-/// them. Errors are those of `TiffWriter::write_plain`.
+/// Writes the first bytes of a little-endian BigTIFF file, before the offset of its first
+/// directory. `last_written` does not count them. Its errors are those of
+/// `TiffWriter::write_plain`.
 pub fn write_bigtiff_header<W: Sink>(writer: &mut TiffWriter<W>) -> TiffResult<()>
     ensures { WritesRaw (73 ∷ 73 ∷ 43 ∷ 0 ∷ 8 ∷ 0 ∷ 0 ∷ 0 ∷ []) writer.old writer.new result }
 {

@@ -2,7 +2,7 @@ use Rattle.std.proofs.Common.{◌≡◌, ◌≤◌, ◌+◌}
 use Rattle.tiff_ifd.specs.Unpacking.{unpacked_at}
 use Rattle.tiff_ifd.proofs.packbits.next_block.Given as goal
 
--- the rest of the packed bytes gives what they give
+-- the rest of the packed bytes unpacks to the same bytes as all of them
 abbrev pub invariant-loop-len : goal.invariant-loop-len
 invariant-loop-len g l =
     let bytes = (g.R.Source.told l.fn.source).bytes in

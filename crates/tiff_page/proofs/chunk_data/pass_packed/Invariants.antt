@@ -2,7 +2,7 @@ use Rattle.std.proofs.Common.{◌≡◌, ◌-◌, ◌≤◌, length, drop}
 use Rattle.tiff_ifd.specs.Unpacking.{IsLastPart, left_at}
 use Rattle.tiff_page.proofs.chunk_data.pass_packed.Given as goal
 
--- what is left, but for the bytes that were passed
+-- what is left after the bytes that were skipped
 abbrev pub invariant-loop-left : goal.invariant-loop-left
 invariant-loop-left g l =
     let bytes = (g.R.Source.told l.fn.source).bytes in

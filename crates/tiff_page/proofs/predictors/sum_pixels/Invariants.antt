@@ -4,7 +4,8 @@ use Rattle.tiff_page.specs.Pixels.{summed_number}
 use Rattle.tiff_page.proofs.Sums.{CarriesTo}
 use Rattle.tiff_page.proofs.predictors.sum_pixels.Given as goal
 
--- the pixels before the next are summed, the rest is as it was, and the last sums give those of the next
+-- the pixels before the next are summed, the rest is unchanged, and the last sums are those for the
+-- next pixel
 abbrev pub invariant-loop-k : goal.invariant-loop-k
 invariant-loop-k g l = record {
   done : (i : ℕ) → i < l.k * g.row.N → get_or l.row i 0 ≡ summed_number LittleEndian 1 g.row.N l.fn.row i;

@@ -17,7 +17,7 @@ sides_of p = record { wide = p.wide; high = p.high; chunk_wide = p.chunk_wide; c
 abbrev pub layout : PlaneLayout → LayoutRecord
 layout l = record { color = l.color; row_bytes = l.row_bytes; plane_stride = l.plane_stride }
 
--- the rectangle, as the definition has it
+-- the rectangle, as the specification defines it
 abbrev record_of : ChunkRect → RectRecord
 record_of r = record { plane = r.plane; x = r.x; y = r.y; width = r.width; height = r.height }
 

@@ -1,4 +1,4 @@
-//! PackBits: bytes as literals and runs.
+//! PackBits: bytes packed as literals and runs.
 
 ghost use Rattle.std.specs.Prelude.{◌≡◌, ◌≢◌, ◌<◌, [], length, slice_index, MatchResult};
 ghost use Rattle.tiff_value.specs.Packed.{IsPacked};
@@ -7,10 +7,10 @@ ghost use Rattle.tiff_value.specs.Packing.{IsRun, IsVariedFront, PacksAtEnd};
 use std::alloc::Global;
 use tiff_base::error::{TiffError, TiffResult};
 
-// The most bytes that one block stands for.
+// The largest number of bytes that one block encodes.
 const MOST: usize = 128;
 
-// How often the first byte comes at the front, up to 128.
+// Returns how often the first byte is repeated at the front, up to 128.
 fn run_len(bytes: &[u8]) -> usize
     requires { 0 < length bytes.now }
     ensures { IsRun bytes.now result }
@@ -22,7 +22,7 @@ fn run_len(bytes: &[u8]) -> usize
     count
 }
 
-// How many bytes stand at the front before three equal ones, up to 128.
+// Returns the number of bytes at the front before three equal bytes, up to 128.
 fn literal_len(bytes: &[u8]) -> usize
     requires some { 0 < length bytes.now }
     requires no_run { 1 < length bytes.now → slice_index bytes.now 0 ≢ slice_index bytes.now 1 }
@@ -40,7 +40,8 @@ fn literal_len(bytes: &[u8]) -> usize
     limit
 }
 
-// Appends one block, and answers how many bytes it stands for: a run where two equal bytes begin, else a literal.
+// Appends one block, and returns the number of bytes that it encodes. The block is a run if the
+// bytes begin with two equal bytes, else a literal.
 fn pack_block(bytes: &[u8], out: &mut Vec<u8>) -> TiffResult<usize>
     requires { 0 < length bytes.now }
     ensures { MatchResult result (λ n. PacksAtEnd out.old.items bytes.now n out.new.items) (λ e. e ≡ TiffError.OutOfMemory) }
@@ -57,7 +58,7 @@ fn pack_block(bytes: &[u8], out: &mut Vec<u8>) -> TiffResult<usize>
     Ok(count)
 }
 
-// Appends all blocks to a list that is empty.
+// Appends all blocks to an empty list.
 pub(crate) fn push_packed(bytes: &[u8], out: &mut Vec<u8>) -> TiffResult<()>
     requires { out.old.items ≡ [] }
     ensures { MatchResult result (λ _. IsPacked bytes.now out.new.items) (λ e. e ≡ TiffError.OutOfMemory) }
@@ -69,8 +70,8 @@ pub(crate) fn push_packed(bytes: &[u8], out: &mut Vec<u8>) -> TiffResult<()>
     Ok(())
 }
 
-/// Bytes packed by PackBits (TIFF 6.0 section 9), with at most one byte more for each 128 or part of 128. Its only error is
-/// `OutOfMemory`.
+/// Returns the bytes packed by PackBits (TIFF 6.0 section 9). The packed bytes have at most one
+/// byte more for each 128 bytes or part of 128. The only error is `OutOfMemory`.
 pub fn pack_bits(alloc: Global, bytes: &[u8]) -> TiffResult<Vec<u8>>
     ensures { MatchResult result (λ packed. IsPacked bytes.now packed.items) (λ e. e ≡ TiffError.OutOfMemory) }
 {

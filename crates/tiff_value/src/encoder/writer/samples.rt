@@ -1,4 +1,4 @@
-//! Samples are written, without a list of their bytes.
+//! Writes samples without a list of their bytes.
 
 ghost use Rattle.std.specs.List.{flat_map};
 ghost use Rattle.std.specs.Prelude.{◌≡◌, ◌%◌, ◌^◌, ◌<◌, ◌≤◌, length, map, MatchResult, None};
@@ -14,11 +14,13 @@ use tiff_base::error::{TiffError, TiffResult, UsageError};
 use tiff_base::io::Sink;
 use tiff_base::tags::Predictor;
 
-// How many bytes are made before they go to the sink: few enough to stay near the processor.
+// The number of bytes that are computed before they go to the sink. It is small, so that the bytes
+// stay in the processor's cache.
 const BAND: usize = 8192;
 
 impl<W: Sink> TiffWriter<W> {
-    // The bytes of a row of differences, by way of a room for some of them; samples before `stride` go out as they are.
+    // Writes the bytes of the differences of a row, by way of the buffer `room`, part by part.
+    // Samples before `stride` are written as they are.
     fn write_row<T: Sample>(&mut self, row: &[T], stride: usize, room: &mut [u8]) -> TiffResult<()>
         requires stride { (0 < stride) × (stride ≤ length row.now) }
         requires room { length room.old ≡ BAND }
@@ -42,7 +44,7 @@ impl<W: Sink> TiffWriter<W> {
         Ok(())
     }
 
-    // The same of several rows.
+    // Writes the bytes of the differences of several rows of `row` samples each, part by part.
     fn write_rows<T: Sample>(&mut self, samples: &[T], row: usize, stride: usize) -> TiffResult<()>
         requires stride { (0 < stride) × (stride ≤ row) }
         requires whole { length samples.now % row ≡ 0 }
@@ -61,7 +63,8 @@ impl<W: Sink> TiffWriter<W> {
         Ok(())
     }
 
-    // All samples, with no count for `last_written`. Where nothing is predicted they are one row of which no difference is taken.
+    // Writes all samples, without an update of `last_written`. Without the horizontal predictor the
+    // samples are one row, without differences.
     fn write_predicted<T: Sample>(
         &mut self,
         samples: &[T],
@@ -85,7 +88,7 @@ impl<W: Sink> TiffWriter<W> {
         }
     }
 
-    // All samples, as `write_chunk` writes them.
+    // Writes all samples, as `write_chunk` does.
     pub(crate) fn write_samples<T: Sample>(
         &mut self,
         samples: &[T],

@@ -55,7 +55,7 @@ returns-in-Err-clause-follows g c =
     (stands_told (record d.state { more = false }) d _ _ c.enter_behind.ensures.kept.told
     (unfailed c.in-Err.fault _ _ (sym c.keeps_state.ensures ∙ c.if-keeps_state.false) c.in-Err.ensures.kept.swallowed)))
 
--- ---- what is asked for
+-- ---- the bytes that the call reads
 
 pub returns-in-Some-clause-asked : goal.returns-in-Some-clause-asked
 returns-in-Some-clause-asked g c =

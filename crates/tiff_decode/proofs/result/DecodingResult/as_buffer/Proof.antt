@@ -1,4 +1,5 @@
--- `as_buffer` hands self on to the function of its number type, and makes that function's slice into the variant.
+-- `as_buffer` passes `self` to the function of its number type, and makes the variant from that
+-- function's slice.
 use mathlib.Core.Path.{◌≡◌, refl, sym, ap, ◌∙◌}
 use mathlib.Core.List.{List, [], ◌∷◌}
 use Prim.Native.Nat.{ℕ, ◌≤◌}

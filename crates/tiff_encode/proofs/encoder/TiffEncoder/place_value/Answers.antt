@@ -51,7 +51,7 @@ returns-in_err-data g c =
     (wanting (λ f. f) (placed_field d.0 old) e old c.in_ok-end.ensures.0 (wants given e c.in_ok-check.ensures c.in_err-data.ensures) tt) in
     search rules
 
--- the data that was made is what the field is given
+-- the data made for the field are those that the field has
 made : (given : Result FieldData TiffError) (type field_type : «Type») (count n : ℕ) (items now : List ℕ)
     → given ≡ Ok (values_in type count items) → field_type ≡ type → n ≡ count → now ≡ items
     → given ≡ Ok (record { field_type = field_type; count = n; bytes = now })

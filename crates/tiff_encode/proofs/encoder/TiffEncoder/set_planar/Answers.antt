@@ -9,7 +9,7 @@ use Rattle.tiff_encode.specs.Calls.{planar}
 use Rattle.tiff_encode.proofs.Settings.{set_refused, set_fails, set_so, one_tag, one_adds}
 use Rattle.tiff_encode.proofs.encoder.TiffEncoder.set_planar.Goals as goal
 
--- what the tag is given
+-- the value of the tag
 abbrev value : Scalars
 value = planars (Planar ∷ [])
 

@@ -8,7 +8,7 @@ use Rattle.tiff_encode.specs.Calls.{strips_of, set_rows_per_strip}
 use Rattle.tiff_encode.proofs.Settings.{set_refused, set_fails, set_so, one_tag, one_adds}
 use Rattle.tiff_encode.proofs.encoder.TiffEncoder.set_rows_per_strip.Goals as goal
 
--- what the tag is given
+-- the value of the tag
 abbrev value : ℕ → Scalars
 value rows = u32s (rows ∷ [])
 

@@ -3,6 +3,6 @@ use Rattle.tiff_encode.specs.Ends.{IsTold}
 use Rattle.tiff_encode.specs.Tagging.{write_fields}
 use Rattle.tiff_encode.proofs.encoder.TiffEncoder.set_tags.Given as goal
 
--- the first ones are set
+-- the first tags are set
 abbrev pub invariant-loop-value : goal.invariant-loop-value
 invariant-loop-value g l = IsTold (write_fields l.fn.fields (take l.value-index l.values) l.fn.self) (Ok l.fields) l.self

@@ -5,7 +5,7 @@ use Rattle.tiff_encode.specs.Chunks.{parts_left}
 use Rattle.tiff_encode.proofs.Data.Written.{HasWritten}
 use Rattle.tiff_encode.proofs.encoder.TiffEncoder.write_chunks_left.Given as goal
 
--- the first ones are written
+-- the first chunks are written
 abbrev pub invariant-loop-written : goal.invariant-loop-written
 invariant-loop-written g l =
     let numbers = map (sample_number (type_size g.C.Inner.TiffValue.value_type) g.C.Inner.Sample.bits) l.samples in

@@ -2,7 +2,7 @@ use Rattle.std.proofs.Common.{◌≡◌, ◌+◌, ◌-◌, ◌≤◌, length, ta
 use Rattle.tiff_encode.specs.Running.{AreRooms, JobsMove}
 use Rattle.tiff_encode.proofs.encoder.script.run_all.Given as goal
 
--- the first ones are run, and there is room for the replies of the others
+-- the first jobs are run, and there is room for the replies of the others
 abbrev pub invariant-loop-job : goal.invariant-loop-job
 invariant-loop-job g l = record {
   moved : JobsMove (take l.job-index l.jobs) l.fn.replies.items l.replies.items l.fn.encoder l.encoder;

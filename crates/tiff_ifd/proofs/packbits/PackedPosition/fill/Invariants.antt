@@ -3,7 +3,7 @@ use Rattle.tiff_base.specs.Runs.{with_front}
 use Rattle.tiff_ifd.specs.Unpacking.{IsLastPart, left_at}
 use Rattle.tiff_ifd.proofs.packbits.PackedPosition.fill.Given as goal
 
--- what was read, then what is left, is what was left
+-- the bytes that the call has read, followed by those that are left, are the bytes at its start
 abbrev pub invariant-loop-done : goal.invariant-loop-done
 invariant-loop-done g l =
     let bytes = (g.R.Source.told l.fn.source).bytes in

@@ -8,7 +8,7 @@ use Rattle.tiff_page.specs.PageView as view
 use Rattle.tiff_page.proofs.Reach.{StandsAt}
 use Rattle.tiff_page.proofs.chunk_rows.ChunkReader.read_contiguous.Given as goal
 
--- the rows so far are in the buffer, and the data hold them; the next one stands at the position
+-- the rows so far are in the buffer, and the data contain them; the next row is at the position
 abbrev pub invariant-loop-row : goal.invariant-loop-row
 invariant-loop-row g l =
     let bytes = (g.R.Source.told l.fn.source).bytes in

@@ -6,7 +6,7 @@ use Rattle.tiff_page.specs.Rect.{chunks_of_plane}
 use Rattle.tiff_page.specs.PageView as view
 use Rattle.tiff_page.proofs.read_chunks.PageReader.fill_chunk.Given as goal
 
--- the chunk of the planes so far has no fault, and is in the buffer
+-- the chunks of the planes so far have no error, and are in the buffer
 abbrev pub invariant-loop-plane : goal.invariant-loop-plane
 invariant-loop-plane g l =
     let bytes = (g.R.Source.told l.fn.source).bytes in

@@ -6,7 +6,7 @@ use Rattle.tiff_page.specs.Rect.{chunks_of_plane}
 use Rattle.tiff_page.specs.PageView as view
 use Rattle.tiff_page.proofs.read_chunks.PageReader.fill_image.Given as goal
 
--- the chunks so far have no fault, and are in the buffer
+-- the chunks so far have no error, and are in the buffer
 abbrev pub invariant-loop-chunk : goal.invariant-loop-chunk
 invariant-loop-chunk g l =
     let bytes = (g.R.Source.told l.fn.source).bytes in

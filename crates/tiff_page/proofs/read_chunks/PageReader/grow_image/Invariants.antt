@@ -8,7 +8,7 @@ use Rattle.tiff_page.specs.PageView as view
 use Rattle.tiff_page.proofs.Growing.{filled_to}
 use Rattle.tiff_page.proofs.read_chunks.PageReader.grow_image.Given as goal
 
--- the chunks so far have no fault, and are in the list, filled up with zeros
+-- the chunks so far have no error, and are in the list, filled up with zeros
 abbrev pub invariant-loop-chunk : goal.invariant-loop-chunk
 invariant-loop-chunk g l =
     let bytes = (g.R.Source.told l.fn.source).bytes in

@@ -14,7 +14,7 @@ use Rattle.tiff_encode.proofs.Image.Steps.{CallDraws, asked, extra_draws, rows_d
 use Rattle.tiff_encode.proofs.Image.StepsDirected.{directed}
 use Rattle.tiff_encode.proofs.encoder.image_job_steps.DirectoryEncoder+W+K+Drawing+C.image_step.Goals as goal
 
--- the step that it is, and what it replies
+-- equal steps with equal replies do the same
 so : (i j : OpenImage) (old new : FileState) (step one : ImageStep) (r said : Result StepReply TiffError) → step ≡ one → r ≡ said
     → StepDraws i one said old new j → StepDraws i step r old new j
 so i j old new step one r said s q d =

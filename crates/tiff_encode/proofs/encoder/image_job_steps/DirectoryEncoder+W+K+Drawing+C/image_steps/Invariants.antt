@@ -2,7 +2,7 @@ use Rattle.std.proofs.Common.{◌≡◌, ◌≤◌, take, vec_len, vec_capacity}
 use Rattle.tiff_encode.specs.Stepping.{StepsDraw}
 use Rattle.tiff_encode.proofs.encoder.image_job_steps.DirectoryEncoder+W+K+Drawing+C.image_steps.Given as goal
 
--- the first ones are made, and there is room for the others
+-- the first steps are done, and there is room for the replies of the others
 abbrev pub invariant-loop-step : goal.invariant-loop-step
 invariant-loop-step g l = record {
   same : l.self.encoder.ghost_name ≡ l.fn.self.encoder.ghost_name;

@@ -3,7 +3,7 @@ use Rattle.tiff_encode.specs.Jobs.{AllStepped, DirectoryStepped}
 use Rattle.tiff_encode.specs.Stepping.{Moves}
 use Rattle.tiff_encode.proofs.encoder.job_steps.DirectoryEncoder+W+K+Fields.steps.Given as goal
 
--- the first ones are made, and there is room for the others
+-- the first steps are done, and there is room for the replies of the others
 abbrev pub invariant-loop-step : goal.invariant-loop-step
 invariant-loop-step g l = record {
   same : l.self.encoder.ghost_name ≡ l.fn.self.encoder.ghost_name;

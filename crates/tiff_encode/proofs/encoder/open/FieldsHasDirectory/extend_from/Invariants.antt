@@ -5,7 +5,7 @@ use Rattle.tiff_encode.specs.Calls as calls
 use Rattle.tiff_encode.specs.Machine.{OpenDirectory}
 use Rattle.tiff_encode.proofs.encoder.open.FieldsHasDirectory.extend_from.Given as goal
 
--- some of the fields were set, and the others come
+-- the first fields are set, and the others follow
 abbrev pub invariant-loop-tag : goal.invariant-loop-tag
 invariant-loop-tag l =
     let now : OpenDirectory = record {
