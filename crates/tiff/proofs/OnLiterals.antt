@@ -15,7 +15,7 @@ use Rattle.tiff_value.specs.Data.{data_of, text_data}
 use Rattle.tiff_value.specs.Differences.{differences}
 use Rattle.tiff_ifd.specs.Chain.{chain}
 use Rattle.tiff_ifd.specs.FieldValue.{field_value}
-use Rattle.tiff_ifd.specs.Look.{look_in, find, require}
+use Rattle.tiff_ifd.specs.TagLookup.{look_in, find, require}
 use Rattle.tiff_ifd.specs.TagQueries.{find_unsigned, find_unsigned_vec, get_unsigned, tag_items, buffer_of, part_of_field}
 use Rattle.tiff_page.specs.Buffers.{planes_layout, image_buffer_layout, image_chunk_buffer_layout, image_coding_unit_layout, resized_samples}
 use Rattle.tiff_page.specs.Checks.{size_in, interpretation_in, method_in, samples_in, extra_in, format_in, depth_in, predictor_in, planar_in, subsampling_in, chunk_type_in, chunks_counted, strips_in, tiles_in, page_of}

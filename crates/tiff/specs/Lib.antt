@@ -6,7 +6,7 @@ pub use Rattle.tiff_decode.specs.Machine
 pub use Rattle.tiff_decode.specs.Outcome
 pub use Rattle.tiff_decode.specs.DefaultLimits
 pub use Rattle.tiff_decode.specs.Promise
-pub use Rattle.tiff_decode.specs.Sight
+pub use Rattle.tiff_decode.specs.ReplyView
 pub use Rattle.tiff_decode.specs.Step
 pub use Rattle.tiff_decode.specs.Steps
 pub use Rattle.tiff_decode.specs.Result

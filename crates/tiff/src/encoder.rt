@@ -3,8 +3,7 @@
 pub use tiff_base::tags::Predictor;
 pub use tiff_encode::encoder::{
     Compression, DirectoryEncoder, DirectoryOffset, ImageEncoder, OffsetNumber, TiffEncoder,
-    TiffKind, TiffKindBig, TiffKindStandard, data_laws, fit_laws, image_laws, laws, reading_laws,
-    script,
+    TiffKind, TiffKindBig, TiffKindStandard, laws, script,
 };
 pub use tiff_value::encoder::differences::Sample;
 pub use tiff_value::encoder::tiff_value::{

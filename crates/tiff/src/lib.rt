@@ -1,5 +1,7 @@
-//! TIFF files are read and written: the names of the Rust crate `tiff`, proved. The decoder answers what a file's
-//! definition gives, or the first fault; the encoder leaves a file whose definition gives what was handed in.
+//! TIFF files are read and written: the names of the Rust crate `tiff`, proved. The decoder answers
+//! what a file's
+//! definition gives, or the first fault; the encoder leaves a file whose definition gives what was
+//! handed in.
 #![tactic(auto)]
 
 pub mod decoder;

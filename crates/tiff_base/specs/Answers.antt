@@ -13,21 +13,26 @@ IsCause wanting failed e given = given
 
 -- The result of a call, seen by `view`, is the defined result, except when memory or the device
 -- fails.
-abbrev pub AnswersBut : {X Y : Type 0} → Type 0 → Type 0 → (X → Y) → Result X TiffError → Result Y TiffError → Type 0
+abbrev pub AnswersBut : {X Y : Type 0} → Type 0 → Type 0 → (X → Y) → Result X TiffError
+    → Result Y TiffError → Type 0
 AnswersBut wanting failed view (Ok x) given = given ≡ Ok (view x)
 AnswersBut wanting failed view (Err e) given = IsCause wanting failed e (given ≡ Err e)
 
 -- The result of a call that reads a source, and may allocate. The source has `before` failures
 -- before the call and `after` failures after it.
-abbrev pub Answers : {X Y : Type 0} → (X → Y) → Result X TiffError → Result Y TiffError → ℕ → ℕ → Type 0
+abbrev pub Answers : {X Y : Type 0} → (X → Y) → Result X TiffError → Result Y TiffError → ℕ → ℕ
+    → Type 0
 Answers view result given before after = AnswersBut (Unit {0}) (before < after) view result given
 
 -- The result of a call that reads a source and allocates nothing.
-abbrev pub AnswersWithoutMemory : {X Y : Type 0} → (X → Y) → Result X TiffError → Result Y TiffError → ℕ → ℕ → Type 0
-AnswersWithoutMemory view result given before after = AnswersBut ⊥ (before < after) view result given
+abbrev pub AnswersWithoutMemory : {X Y : Type 0} → (X → Y) → Result X TiffError → Result Y TiffError
+    → ℕ → ℕ → Type 0
+AnswersWithoutMemory view result given before after =
+    AnswersBut ⊥ (before < after) view result given
 
 -- The result of a call that reads no source, and may allocate.
-abbrev pub AnswersWithoutSource : {X Y : Type 0} → (X → Y) → Result X TiffError → Result Y TiffError → Type 0
+abbrev pub AnswersWithoutSource : {X Y : Type 0} → (X → Y) → Result X TiffError → Result Y TiffError
+    → Type 0
 AnswersWithoutSource view result given = AnswersBut (Unit {0}) ⊥ view result given
 
 -- The result of a call that neither reads a source nor allocates.
@@ -36,7 +41,8 @@ Gives view result given = AnswersBut ⊥ ⊥ view result given
 
 -- one step, and the next step if the first returns no error
 infixl 10 ◌>>=◌
-abbrev pub ◌>>=◌ : {A B : Type 0} → Result A TiffError → (A → Result B TiffError) → Result B TiffError
+abbrev pub ◌>>=◌ : {A B : Type 0} → Result A TiffError → (A → Result B TiffError)
+    → Result B TiffError
 (Ok x) >>= f = f x
 (Err e) >>= f = Err e
 
@@ -61,7 +67,8 @@ AsksOnly readable (Err e) = readable → IsNotDevice e
 -- What a call that borrows a source leaves of it, with the result of the call: the contents of the
 -- source are the same, and its number of failures does not shrink. The number grows only with
 -- `IoError(Device)`.
-pub record IsKept {S W X : Type 0} (told_of : S → W) (failures_of : S → ℕ) (result : Result X TiffError) (old new : S) : Type 0 where
+pub record IsKept {S W X : Type 0} (told_of : S → W) (failures_of : S
+    → ℕ) (result : Result X TiffError) (old new : S) : Type 0 where
   pub told : told_of new ≡ told_of old
   pub failures : failures_of old ≤ failures_of new
   pub swallowed : NoneSwallowed result (failures_of old) (failures_of new)

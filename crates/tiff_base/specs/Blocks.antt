@@ -77,8 +77,10 @@ AreBytes (byte ∷ bytes) = (byte < 256) × AreBytes bytes
 
 -- each list of bytes unpacks to what `runs` says
 abbrev pub IsUnpacked : Type 0
-IsUnpacked = (bytes : List ℕ) (early : Bool) → AreBytes bytes → Unpacks bytes early (runs early bytes).out (runs early bytes).end
+IsUnpacked = (bytes : List ℕ) (early : Bool) → AreBytes bytes
+    → Unpacks bytes early (runs early bytes).out (runs early bytes).end
 
 -- each list of bytes unpacks to nothing else than what `runs` says
 abbrev pub IsOneUnpacked : Type 0
-IsOneUnpacked = (bytes : List ℕ) (early : Bool) (out : List ℕ) (end : End) → Unpacks bytes early out end → runs early bytes ≡ record { out = out; end = end }
+IsOneUnpacked = (bytes : List ℕ) (early : Bool) (out : List ℕ) (end : End)
+    → Unpacks bytes early out end → runs early bytes ≡ record { out = out; end = end }

@@ -17,7 +17,9 @@ unit_size type = type_size type
 -- the bytes of each of `count` numbers of `size` bytes in reverse order, followed by the remaining
 -- bytes unchanged
 abbrev pub turned_units : ℕ → ℕ → List ℕ → List ℕ
-turned_units size count bytes = flat_map (λ i. reverse (bytes_at bytes (size * i) size)) (range_with_len 0 count) ++ drop (size * count) bytes
+turned_units size count bytes =
+    flat_map (λ i. reverse (bytes_at bytes (size * i) size)) (range_with_len 0 count)
+    ++ drop (size * count) bytes
 
 -- the bytes of each whole number in reverse order; the bytes after the last whole number are
 -- unchanged
@@ -32,4 +34,5 @@ convert type from bytes to = bytes
 
 -- The law: a conversion there and back restores the bytes.
 abbrev pub TurnsBack : Type 0
-TurnsBack = (type : «Type») (from to : ByteOrder) (bytes : List ℕ) → convert type to (convert type from bytes to) from ≡ bytes
+TurnsBack = (type : «Type») (from to : ByteOrder) (bytes : List ℕ)
+    → convert type to (convert type from bytes to) from ≡ bytes

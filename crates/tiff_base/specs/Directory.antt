@@ -48,7 +48,8 @@ field_of kind order entry type = record {
 -- the tag number and the field that the bytes of an entry encode, if the type of the field is known
 unfoldable pub entry_of : FileKind → ByteOrder → List ℕ → Option (ℕ × Field)
 entry_of kind order entry =
-    option_map (λ type. (number order w16 (bytes_at entry 0 2), field_of kind order entry type)) (type_of (number order w16 (bytes_at entry 2 2)))
+    option_map (λ type. (number order w16 (bytes_at entry 0 2), field_of kind order entry type))
+    (type_of (number order w16 (bytes_at entry 2 2)))
 
 -- the entry at an offset, or none if its type is unknown
 abbrev pub entry_at : FileKind → ByteOrder → List ℕ → ℕ → Result (Option (ℕ × Field)) TiffError
@@ -59,7 +60,9 @@ entry_at kind order bytes at = do
 -- the entries of known type among the first `count` entries from an offset on
 unfoldable pub entries_from : FileKind → ByteOrder → List ℕ → ℕ → ℕ → List (ℕ × Field)
 entries_from kind order bytes first count =
-    filter_map (λ i. entry_of kind order (bytes_at bytes (first + entry_len kind * i) (entry_len kind))) (range_with_len 0 count)
+    filter_map
+    (λ i. entry_of kind order (bytes_at bytes (first + entry_len kind * i) (entry_len kind)))
+    (range_with_len 0 count)
 
 -- each tag number, with the last entry of the list that has this number
 unfoldable pub last_of_each : List (ℕ × Field) → FinMap nat_cmp Field
@@ -68,7 +71,8 @@ last_of_each entries = from_entries (reverse entries)
 -- a directory after fields are set in turn, each under the number of its tag: of several fields
 -- with one number the last remains
 abbrev pub with_entries : DirectoryRecord → List (Tag × Field) → DirectoryRecord
-with_entries d items = record d { entries = fold (λ m item. insert m (tag_number item.0) item.1) d.entries items }
+with_entries d items =
+    record d { entries = fold (λ m item. insert m (tag_number item.0) item.1) d.entries items }
 
 -- the fields whose tag numbers are above n
 abbrev pub fields_after : ℕ → List (ℕ × Field) → List (ℕ × Field)
@@ -90,10 +94,14 @@ unfoldable pub directory_at : FileKind → ByteOrder → List ℕ → ℕ → Re
 directory_at kind order bytes at = do
   count ← number_at order (count_width kind) bytes at
   next ← number_at order (offset_width kind) bytes (link_offset kind at count)
-  Ok (record { entries = last_of_each (entries_from kind order bytes (first_entry kind at) count); next = link next })
+  Ok (record {
+    entries = last_of_each (entries_from kind order bytes (first_entry kind at) count);
+    next = link next;
+  })
 
 -- The law: a directory that starts empty, and whose fields are set in turn, contains the last field
 -- of each tag number.
 abbrev pub LastOfEachStand : Type 0
 LastOfEachStand = (items : List (Tag × Field))
-    → (with_entries (record { entries = empty; next = None }) items).entries ≡ last_of_each (map (λ item. (tag_number item.0, item.1)) items)
+    → (with_entries (record { entries = empty; next = None }) items).entries
+    ≡ last_of_each (map (λ item. (tag_number item.0, item.1)) items)

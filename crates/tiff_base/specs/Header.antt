@@ -21,11 +21,13 @@ pub record Header : Type 0 where
 -- the byte order of the mark II or MM, read as a number
 abbrev pub order_of : ℕ → Result ByteOrder TiffError
 order_of mark =
-    if mark == 0x4949 then Ok LittleEndian else if mark == 0x4d4d then Ok BigEndian else Err (FormatError TiffSignatureNotFound)
+    if mark == 0x4949 then Ok LittleEndian else if mark == 0x4d4d then Ok BigEndian
+    else Err (FormatError TiffSignatureNotFound)
 
 abbrev pub order_at : List ℕ → Result ByteOrder TiffError
 order_at bytes =
-    if nat_le 2 (length bytes) then order_of (number LittleEndian w16 (bytes_at bytes 0 2)) else Err (FormatError TiffSignatureNotFound)
+    if nat_le 2 (length bytes) then order_of (number LittleEndian w16 (bytes_at bytes 0 2))
+    else Err (FormatError TiffSignatureNotFound)
 
 -- a number of the header of BigTIFF that must be equal to m
 abbrev pub required_number : ℕ → ℕ → Result ℕ TiffError
@@ -34,7 +36,8 @@ required_number n m = if n == m then Ok n else Err (FormatError TiffSignatureNot
 -- the header with the offset of its first directory, which must not be 0
 abbrev pub header_of : ByteOrder → FileKind → ℕ → Result Header TiffError
 header_of order kind first =
-    if first == 0 then Err (FormatError ImageFileDirectoryNotFound) else Ok (record { order = order; kind = kind; first = first })
+    if first == 0 then Err (FormatError ImageFileDirectoryNotFound)
+    else Ok (record { order = order; kind = kind; first = first })
 
 abbrev pub classic_at : ByteOrder → List ℕ → Result Header TiffError
 classic_at order bytes = do
@@ -52,7 +55,8 @@ big_at order bytes = do
 
 abbrev pub version_at : ByteOrder → List ℕ → ℕ → Result Header TiffError
 version_at order bytes version =
-    if version == 42 then classic_at order bytes else if version == 43 then big_at order bytes else Err (FormatError TiffSignatureInvalid)
+    if version == 42 then classic_at order bytes else if version == 43 then big_at order bytes
+    else Err (FormatError TiffSignatureInvalid)
 
 -- the header of a file; each number is tested before the next is read
 unfoldable pub header_at : List ℕ → Result Header TiffError

@@ -22,4 +22,5 @@ shortened s = (s.0, s.1 - 8191)
 -- A buffered source asks its source for 8192 bytes at once. A byte of it is readable if the byte
 -- and the 8191 bytes after it are in one readable stretch of its source.
 abbrev pub buffered : SourceRecord → SourceRecord
-buffered source = record { bytes = source.bytes; readable = option_map (map shortened) source.readable }
+buffered source =
+    record { bytes = source.bytes; readable = option_map (map shortened) source.readable }

@@ -19,12 +19,17 @@ pub record NumbersComeBack : Type 0 where
 
 -- A value that has a name is the value that its number names.
 pub record NamesComeBack : Type 0 where
-  pub tags : (tag named : Tag) → named_tag tag ≡ Some named → named_tag (tag_of (tag_number tag)) ≡ Some tag
+  pub tags : (tag named : Tag) → named_tag tag ≡ Some named
+      → named_tag (tag_of (tag_number tag)) ≡ Some tag
   pub types : (type : «Type») → type_of (type_number type) ≡ Some type
-  pub methods : (method named : CompressionMethod) → named_method method ≡ Some named → named_method (method_of (method_number method)) ≡ Some method
-  pub interpretations : (meaning : PhotometricInterpretation) → interpretation_of (interpretation_number meaning) ≡ Some meaning
+  pub methods : (method named : CompressionMethod) → named_method method ≡ Some named
+      → named_method (method_of (method_number method)) ≡ Some method
+  pub interpretations : (meaning : PhotometricInterpretation)
+      → interpretation_of (interpretation_number meaning) ≡ Some meaning
   pub planars : (planar : PlanarConfiguration) → planar_of (planar_number planar) ≡ Some planar
-  pub predictors : (predictor : Predictor) → predictor_of (predictor_number predictor) ≡ Some predictor
+  pub predictors : (predictor : Predictor)
+      → predictor_of (predictor_number predictor) ≡ Some predictor
   pub units : (unit : ResolutionUnit) → unit_of (unit_number unit) ≡ Some unit
-  pub formats : (format named : SampleFormat) → named_format format ≡ Some named → named_format (format_of (format_number format)) ≡ Some format
+  pub formats : (format named : SampleFormat) → named_format format ≡ Some named
+      → named_format (format_of (format_number format)) ≡ Some format
   pub extras : (extra : ExtraSamples) → extra_of (extra_number extra) ≡ Some extra

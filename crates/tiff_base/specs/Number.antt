@@ -26,4 +26,5 @@ le k n = bytes_low_first 0 k n
 -- what undoing the horizontal predictor returns (TIFF 6.0 section 14): the sum, modulo m, of number
 -- k of a row and the same sample of each pixel before it; a pixel has `stored` numbers
 abbrev pub sample_sum : ℕ → ℕ → (ℕ → ℕ) → ℕ → ℕ
-sample_sum m stored value k = sum_by (λ c. value (c * stored + k % stored)) (range_with_len 0 (k / stored + 1)) % m
+sample_sum m stored value k =
+    sum_by (λ c. value (c * stored + k % stored)) (range_with_len 0 (k / stored + 1)) % m

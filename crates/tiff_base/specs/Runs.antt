@@ -30,7 +30,8 @@ runs_after (suc n) early (byte ∷ packed) = runs_after n early packed
 runs_after zero early [] = record { out = []; end = if early then Broken else Plain }
 runs_after zero early (header ∷ packed) =
     if header == 128 then runs_after zero early packed
-    else if nat_lt header 128 then with_front (take (header + 1) packed) (runs_after (header + 1) early packed)
+    else if nat_lt header 128
+    then with_front (take (header + 1) packed) (runs_after (header + 1) early packed)
     else with_repeated (257 - header) packed (runs_after 1 early packed)
 
 -- what a packed list unpacks to

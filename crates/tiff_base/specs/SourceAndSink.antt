@@ -30,7 +30,8 @@ bytes_at bytes at len = take len (drop at bytes)
 -- the `len` bytes at an offset, if there are so many; zero bytes exist at every offset
 abbrev pub exactly_at : List ℕ → ℕ → ℕ → Result (List ℕ) TiffError
 exactly_at bytes at len =
-    if nat_le len (length bytes - at) then Ok (bytes_at bytes at len) else Err (IoError UnexpectedEof)
+    if nat_le len (length bytes - at) then Ok (bytes_at bytes at len)
+    else Err (IoError UnexpectedEof)
 
 -- each number of the list is below 256
 abbrev pub AreOctets : List ℕ → Type 0

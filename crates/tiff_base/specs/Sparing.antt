@@ -8,12 +8,15 @@ use Rattle.tiff_base.specs.Answers.{AnswersBut}
 
 -- The result of a call that reads a source: `OutOfMemory` only if the defined result is not an
 -- error.
-abbrev pub AnswersSparingly : {X Y : Type 0} → (X → Y) → Result X TiffError → Result Y TiffError → ℕ → ℕ → Type 0
-AnswersSparingly view result given before after = AnswersBut (IsOk given) (before < after) view result given
+abbrev pub AnswersSparingly : {X Y : Type 0} → (X → Y) → Result X TiffError → Result Y TiffError → ℕ
+    → ℕ → Type 0
+AnswersSparingly view result given before after =
+    AnswersBut (IsOk given) (before < after) view result given
 
 -- The result of a call that reads no source: `OutOfMemory` only if the defined result is not an
 -- error.
-abbrev pub GivesSparingly : {X Y : Type 0} → (X → Y) → Result X TiffError → Result Y TiffError → Type 0
+abbrev pub GivesSparingly : {X Y : Type 0} → (X → Y) → Result X TiffError → Result Y TiffError
+    → Type 0
 GivesSparingly view result given = AnswersBut (IsOk given) ⊥ view result given
 
 -- an error other than an exceeded limit and the end of the source
@@ -29,8 +32,10 @@ IsWithinLimits (Err e) = IsOfRead e
 
 -- The result of a call that reads a source and may refuse what it reads: `OutOfMemory` only if the
 -- defined result is neither an exceeded limit nor the end of the source.
-abbrev pub AnswersWithin : {X Y : Type 0} → (X → Y) → Result X TiffError → Result Y TiffError → ℕ → ℕ → Type 0
-AnswersWithin view result given before after = AnswersBut (IsWithinLimits given) (before < after) view result given
+abbrev pub AnswersWithin : {X Y : Type 0} → (X → Y) → Result X TiffError → Result Y TiffError → ℕ
+    → ℕ → Type 0
+AnswersWithin view result given before after =
+    AnswersBut (IsWithinLimits given) (before < after) view result given
 
 -- the defined result finds something, or is an error other than an exceeded limit and the end of
 -- the source

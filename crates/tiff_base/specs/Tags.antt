@@ -86,21 +86,29 @@ tag_number (t.Unknown n) = n
 unfoldable pub tag_of : ℕ → Tag
 tag_of n =
     if n == 254 then t.NewSubfileType else if n == 255 then t.SubfileType else
-    if n == 256 then t.ImageWidth else if n == 257 then t.ImageLength else if n == 258 then t.BitsPerSample else
+    if n == 256 then t.ImageWidth else if n == 257 then t.ImageLength else if n == 258
+    then t.BitsPerSample else
     if n == 259 then t.Compression else if n == 262 then t.PhotometricInterpretation else
-    if n == 263 then t.Threshholding else if n == 264 then t.CellWidth else if n == 265 then t.CellLength else
-    if n == 266 then t.FillOrder else if n == 270 then t.ImageDescription else if n == 271 then t.Make else
-    if n == 272 then t.Model else if n == 273 then t.StripOffsets else if n == 274 then t.Orientation else
+    if n == 263 then t.Threshholding else if n == 264 then t.CellWidth else if n == 265
+    then t.CellLength else
+    if n == 266 then t.FillOrder else if n == 270 then t.ImageDescription else if n == 271
+    then t.Make else
+    if n == 272 then t.Model else if n == 273 then t.StripOffsets else if n == 274
+    then t.Orientation else
     if n == 277 then t.SamplesPerPixel else if n == 278 then t.RowsPerStrip else
     if n == 279 then t.StripByteCounts else if n == 280 then t.MinSampleValue else
     if n == 281 then t.MaxSampleValue else if n == 282 then t.XResolution else
     if n == 283 then t.YResolution else if n == 284 then t.PlanarConfiguration else
     if n == 288 then t.FreeOffsets else if n == 289 then t.FreeByteCounts else
     if n == 290 then t.GrayResponseUnit else if n == 291 then t.GrayResponseCurve else
-    if n == 296 then t.ResolutionUnit else if n == 305 then t.Software else if n == 306 then t.DateTime else
-    if n == 315 then t.Artist else if n == 316 then t.HostComputer else if n == 317 then t.Predictor else
-    if n == 320 then t.ColorMap else if n == 322 then t.TileWidth else if n == 323 then t.TileLength else
-    if n == 324 then t.TileOffsets else if n == 325 then t.TileByteCounts else if n == 330 then t.SubIfd else
+    if n == 296 then t.ResolutionUnit else if n == 305 then t.Software else if n == 306
+    then t.DateTime else
+    if n == 315 then t.Artist else if n == 316 then t.HostComputer else if n == 317 then t.Predictor
+    else
+    if n == 320 then t.ColorMap else if n == 322 then t.TileWidth else if n == 323 then t.TileLength
+    else
+    if n == 324 then t.TileOffsets else if n == 325 then t.TileByteCounts else if n == 330
+    then t.SubIfd else
     if n == 338 then t.ExtraSamples else if n == 339 then t.SampleFormat else
     if n == 340 then t.SMinSampleValue else if n == 341 then t.SMaxSampleValue else
     if n == 347 then t.JPEGTables else if n == 530 then t.ChromaSubsampling else
@@ -140,11 +148,15 @@ type_number y.IFD8 = 18
 -- the type of a number, if there is one
 unfoldable pub type_of : ℕ → Option «Type»
 type_of n =
-    if n == 1 then Some y.BYTE else if n == 2 then Some y.ASCII else if n == 3 then Some y.SHORT else
-    if n == 4 then Some y.LONG else if n == 5 then Some y.RATIONAL else if n == 6 then Some y.SBYTE else
-    if n == 7 then Some y.UNDEFINED else if n == 8 then Some y.SSHORT else if n == 9 then Some y.SLONG else
+    if n == 1 then Some y.BYTE else if n == 2 then Some y.ASCII else if n == 3 then Some y.SHORT
+    else
+    if n == 4 then Some y.LONG else if n == 5 then Some y.RATIONAL else if n == 6 then Some y.SBYTE
+    else
+    if n == 7 then Some y.UNDEFINED else if n == 8 then Some y.SSHORT else if n == 9
+    then Some y.SLONG else
     if n == 10 then Some y.SRATIONAL else if n == 11 then Some y.FLOAT else
-    if n == 12 then Some y.DOUBLE else if n == 13 then Some y.IFD else if n == 16 then Some y.LONG8 else
+    if n == 12 then Some y.DOUBLE else if n == 13 then Some y.IFD else if n == 16 then Some y.LONG8
+    else
     if n == 17 then Some y.SLONG8 else if n == 18 then Some y.IFD8 else None
 
 -- The numbers of the compression methods of strips and tiles (TIFF 6.0 sections 3, 9 and later
@@ -169,8 +181,10 @@ unfoldable pub method_of : ℕ → CompressionMethod
 method_of n =
     if n == 1 then m.None else if n == 2 then m.Huffman else if n == 3 then m.Fax3 else
     if n == 4 then m.Fax4 else if n == 5 then m.LZW else if n == 6 then m.JPEG else
-    if n == 7 then m.ModernJPEG else if n == 8 then m.Deflate else if n == 32773 then m.PackBits else
-    if n == 32946 then m.OldDeflate else if n == 50000 then m.ZSTD else if n == 50001 then m.WebP else
+    if n == 7 then m.ModernJPEG else if n == 8 then m.Deflate else if n == 32773 then m.PackBits
+    else
+    if n == 32946 then m.OldDeflate else if n == 50000 then m.ZSTD else if n == 50001 then m.WebP
+    else
     m.Unknown n
 
 -- the compression method, if it has a name
@@ -198,7 +212,8 @@ interpretation_of n =
     if n == 0 then Some i.WhiteIsZero else if n == 1 then Some i.BlackIsZero else
     if n == 2 then Some i.RGB else if n == 3 then Some i.RGBPalette else
     if n == 4 then Some i.TransparencyMask else if n == 5 then Some i.CMYK else
-    if n == 6 then Some i.YCbCr else if n == 8 then Some i.CIELab else if n == 9 then Some i.IccLab else
+    if n == 6 then Some i.YCbCr else if n == 8 then Some i.CIELab else if n == 9 then Some i.IccLab
+    else
     if n == 10 then Some i.ItuLab else None
 
 -- The numbers of the planar configurations: whether the samples of a pixel lie together or in
@@ -234,7 +249,8 @@ unit_number u.Centimeter = 3
 -- the unit of a number, if there is one
 unfoldable pub unit_of : ℕ → Option ResolutionUnit
 unit_of n =
-    if n == 1 then Some u.None else if n == 2 then Some u.Inch else if n == 3 then Some u.Centimeter else None
+    if n == 1 then Some u.None else if n == 2 then Some u.Inch else if n == 3 then Some u.Centimeter
+    else None
 
 -- The numbers of the sample formats: what kind of number the bits of a sample are (TIFF 6.0 section
 -- 19).

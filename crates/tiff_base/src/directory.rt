@@ -44,7 +44,11 @@ impl Model for Entry {
 impl Entry {
     /// Makes a field from a value field of 4 bytes, followed by 4 zeros.
     pub fn new(field_type: Type, count: u32, value: [u8; 4]) -> Self
-        ensures { result ≡ record { field_type = field_type; count = count; value = value ++ (0 ∷ 0 ∷ 0 ∷ 0 ∷ []) } }
+        ensures { result ≡ record {
+          field_type = field_type;
+          count = count;
+          value = value ++ (0 ∷ 0 ∷ 0 ∷ 0 ∷ []);
+        } }
     {
         let mut wide = [0u8; 8];
         wide[..4].copy_from_slice(&value);
@@ -157,7 +161,8 @@ impl Directory {
     /// keeps the last. It has no next directory. Fields in strictly ascending number are taken as
     /// they are, and others are sorted.
     pub fn from_entries(entries: Vec<(u16, Entry)>) -> Result<Self, AllocError>
-        ensures { IfOk result (λ d. d ≡ record { entries = last_of_each entries.items; next = None }) }
+        ensures { IfOk result
+            (λ d. d ≡ record { entries = last_of_each entries.items; next = None }) }
     {
         Ok(Directory {
             entries: left_in_order(entries)?,
@@ -236,7 +241,8 @@ impl Directory {
     /// one look-up. This project adds this function.
     #[tactic(auto, using(crate::proofs::Places::none_behind, crate::proofs::Places::some_behind))]
     pub fn first_after(&self, number: u16) -> Option<(u16, &Entry)>
-        ensures { option_map (λ x. (x.0, x.1.now)) result ≡ slice_get (fields_after number (map.entries self.now.entries)) 0 }
+        ensures { option_map (λ x. (x.0, x.1.now)) result
+            ≡ slice_get (fields_after number (map.entries self.now.entries)) 0 }
     {
         let at = behind(&self.entries, number);
         if at >= self.entries.len() {
@@ -260,7 +266,8 @@ impl Directory {
     /// Sets the field of a tag number. After an error the directory is unchanged.
     #[tactic(auto, using(crate::proofs::Places::inserted_in_gap, crate::proofs::Places::replaced_at))]
     pub fn insert(&mut self, tag: u16, entry: Entry) -> Result<(), AllocError>
-        ensures ok { OnOk result (self.new ≡ record self.old { entries = map.insert self.old.entries tag entry }) }
+        ensures ok { OnOk result
+            (self.new ≡ record self.old { entries = map.insert self.old.entries tag entry }) }
         ensures err { OnErr result (self.new ≡ self.old) }
     {
         entry.fits();
@@ -288,7 +295,8 @@ impl Directory {
     pub fn extend<U: IntoIterator<Item = (Tag, Entry)>>(&mut self, iter: U) -> TiffResult<()>
         requires { (it : U.IntoIter) → U.into_iter_gives iter it
             → U.IntoIter.can_next it × IsFinite (U.IntoIter.remaining it) }
-        ensures ran { ExtendsWithItems U.into_iter_gives U.IntoIter.next_gives (λ d items n. n ≡ with_entries d items)
+        ensures ran { ExtendsWithItems U.into_iter_gives U.IntoIter.next_gives
+            (λ d items n. n ≡ with_entries d items)
             iter self.old self.new result }
         ensures err { IfErr result (λ e. e ≡ OutOfMemory) }
     {
@@ -308,8 +316,10 @@ impl Directory {
     ) -> TiffResult<Self>
         requires { (it : U.IntoIter) → U.into_iter_gives iter it
             → U.IntoIter.can_next it × IsFinite (U.IntoIter.remaining it) }
-        ensures ok { IfOk result (λ d. (it : U.IntoIter) × (items : List (Tag × Field)) × U.into_iter_gives iter it
-            × Drains U.IntoIter.next_gives it items × (d ≡ with_entries (record { entries = map.empty; next = None }) items)) }
+        ensures ok { IfOk result (λ d. (it : U.IntoIter) × (items : List (Tag × Field))
+            × U.into_iter_gives iter it
+            × Drains U.IntoIter.next_gives it items
+            × (d ≡ with_entries (record { entries = map.empty; next = None }) items)) }
         ensures err { IfErr result (λ e. e ≡ OutOfMemory) }
     {
         let mut directory = Directory::empty(alloc);
@@ -320,7 +330,8 @@ impl Directory {
     /// Sets the offset of the next directory. Both `None` and the offset 0 say that there is no
     /// next directory.
     pub fn set_next(&mut self, next: Option<IfdPointer>)
-        ensures { self.new ≡ record self.old { next = link (unwrap_or (option_map (λ p. p.0) next) 0) } }
+        ensures { self.new
+            ≡ record self.old { next = link (unwrap_or (option_map (λ p. p.0) next) 0) } }
     {
         self.next = match next {
             Some(pointer) => pointer.0,

@@ -92,7 +92,8 @@ pub trait Sink: Drop {
         ensures ok { IfOk result (λ n. Appends (told self.old) bytes.now n (told self.new)) }
         ensures err { OnErr result (told self.new ≡ told self.old) }
         ensures answered { OnOk result ((failures self.new ≡ failures self.old) × (fault self.new ≡ None)) }
-        ensures failed { IfErr result (λ e. (failures self.new ≡ failures self.old + 1) × (fault self.new ≡ Some e)) };
+        ensures failed { IfErr result (λ e. (failures self.new ≡ failures self.old + 1)
+            × (fault self.new ≡ Some e)) };
 
     /// Overwrites the bytes from offset `at` on, and returns how many of `bytes` it takes from the
     /// front. It takes none only if `bytes` is empty. After an error the bytes of the sink are
@@ -102,7 +103,8 @@ pub trait Sink: Drop {
         ensures ok { IfOk result (λ n. Overwrites (told self.old) at bytes.now n (told self.new)) }
         ensures err { OnErr result (told self.new ≡ told self.old) }
         ensures answered { OnOk result ((failures self.new ≡ failures self.old) × (fault self.new ≡ None)) }
-        ensures failed { IfErr result (λ e. (failures self.new ≡ failures self.old + 1) × (fault self.new ≡ Some e)) };
+        ensures failed { IfErr result (λ e. (failures self.new ≡ failures self.old + 1)
+            × (fault self.new ≡ Some e)) };
 
     /// A sink contains less than 2^63 bytes.
     ghost short: { (s : Self) → length (told s) < 2 ^ 63 };

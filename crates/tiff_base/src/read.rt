@@ -17,7 +17,9 @@ use std::alloc::Global;
 #[tactic(auto, using(crate::proofs::Bytes::next_read))]
 pub fn read_exact_at<R: Source>(source: &mut R, at: u64, buf: &mut [u8]) -> TiffResult<()>
     ensures kept { IsKept R.told R.failures result source.old source.new }
-    ensures answer { AnswersWithoutMemory (λ _. buf.new) result (exactly_at (R.told source.old).bytes at (length buf.old)) (R.failures source.old) (R.failures source.new) }
+    ensures answer { AnswersWithoutMemory (λ _. buf.new) result
+        (exactly_at (R.told source.old).bytes at (length buf.old)) (R.failures source.old)
+        (R.failures source.new) }
     ensures asked { AsksOnly (AreReadable (R.told source.old) at (length buf.old)) result }
 {
     let mut done = 0;
@@ -46,7 +48,8 @@ pub fn read_bytes_at<R: Source>(
     len: usize,
 ) -> TiffResult<Vec<u8>>
     ensures kept { IsKept R.told R.failures result source.old source.new }
-    ensures answer { AnswersSparingly (λ v. v.items) result (exactly_at (R.told source.old).bytes at len) (R.failures source.old) (R.failures source.new) }
+    ensures answer { AnswersSparingly (λ v. v.items) result (exactly_at (R.told source.old).bytes at len)
+        (R.failures source.old) (R.failures source.new) }
     ensures asked { AsksOnly (AreReadable (R.told source.old) at len) result }
 {
     if len > 0 {
@@ -150,7 +153,8 @@ pub fn u64_in(order: ByteOrder, bytes: &[u8], at: usize) -> u64
 /// if the source has fewer bytes there.
 pub fn read_u16_at<R: Source>(source: &mut R, at: u64, order: ByteOrder) -> TiffResult<u16>
     ensures kept { IsKept R.told R.failures result source.old source.new }
-    ensures answer { AnswersWithoutMemory (λ n. n) result (number_at order w16 (R.told source.old).bytes at) (R.failures source.old) (R.failures source.new) }
+    ensures answer { AnswersWithoutMemory (λ n. n) result (number_at order w16 (R.told source.old).bytes at)
+        (R.failures source.old) (R.failures source.new) }
     ensures asked { AsksOnly (AreReadable (R.told source.old) at 2) result }
 {
     let mut bytes = [0u8; 2];
@@ -162,7 +166,8 @@ pub fn read_u16_at<R: Source>(source: &mut R, at: u64, order: ByteOrder) -> Tiff
 /// if the source has fewer bytes there.
 pub fn read_u32_at<R: Source>(source: &mut R, at: u64, order: ByteOrder) -> TiffResult<u32>
     ensures kept { IsKept R.told R.failures result source.old source.new }
-    ensures answer { AnswersWithoutMemory (λ n. n) result (number_at order w32 (R.told source.old).bytes at) (R.failures source.old) (R.failures source.new) }
+    ensures answer { AnswersWithoutMemory (λ n. n) result (number_at order w32 (R.told source.old).bytes at)
+        (R.failures source.old) (R.failures source.new) }
     ensures asked { AsksOnly (AreReadable (R.told source.old) at 4) result }
 {
     let mut bytes = [0u8; 4];
@@ -174,7 +179,8 @@ pub fn read_u32_at<R: Source>(source: &mut R, at: u64, order: ByteOrder) -> Tiff
 /// if the source has fewer bytes there.
 pub fn read_u64_at<R: Source>(source: &mut R, at: u64, order: ByteOrder) -> TiffResult<u64>
     ensures kept { IsKept R.told R.failures result source.old source.new }
-    ensures answer { AnswersWithoutMemory (λ n. n) result (number_at order w64 (R.told source.old).bytes at) (R.failures source.old) (R.failures source.new) }
+    ensures answer { AnswersWithoutMemory (λ n. n) result (number_at order w64 (R.told source.old).bytes at)
+        (R.failures source.old) (R.failures source.new) }
     ensures asked { AsksOnly (AreReadable (R.told source.old) at 8) result }
 {
     let mut bytes = [0u8; 8];

@@ -203,7 +203,8 @@ pub extern "C" fn tiff_tag_bytes(
     buffer: &mut [u8],
     written: &mut usize,
 ) -> u32
-    ensures answer { StatusTells (calls.tag_bytes file.now page number at buffer.old) result (written.new, buffer.new) }
+    ensures answer { StatusTells (calls.tag_bytes file.now page number at buffer.old) result
+        (written.new, buffer.new) }
     ensures stays { (result ≡ 0) ⊎ (written.new ≡ written.old) }
 {
     tiff_statuses::tag_bytes(alloc, file, page, number, at, buffer, written)
@@ -223,7 +224,8 @@ pub extern "C" fn tiff_tag_numbers(
     numbers: &mut [u64],
     count: &mut usize,
 ) -> u32
-    ensures { StatusPuts (values.tag_numbers file.now page number numbers.old) result (count.old, numbers.old) (count.new, numbers.new) }
+    ensures { StatusPuts (values.tag_numbers file.now page number numbers.old) result
+        (count.old, numbers.old) (count.new, numbers.new) }
 {
     tiff_statuses::tag_numbers(alloc, file, page, number, numbers, count)
 }
@@ -242,7 +244,8 @@ pub extern "C" fn tiff_tag_floats(
     numbers: &mut [u64],
     count: &mut usize,
 ) -> u32
-    ensures { StatusPuts (values.tag_floats file.now page number numbers.old) result (count.old, numbers.old) (count.new, numbers.new) }
+    ensures { StatusPuts (values.tag_floats file.now page number numbers.old) result
+        (count.old, numbers.old) (count.new, numbers.new) }
 {
     tiff_statuses::tag_floats(alloc, file, page, number, numbers, count)
 }
@@ -261,7 +264,8 @@ pub extern "C" fn tiff_tag_text(
     text: &mut [u8],
     len: &mut usize,
 ) -> u32
-    ensures { StatusPuts (values.tag_text file.now page number text.old) result (len.old, text.old) (len.new, text.new) }
+    ensures { StatusPuts (values.tag_text file.now page number text.old) result (len.old, text.old)
+        (len.new, text.new) }
 {
     tiff_statuses::tag_text(alloc, file, page, number, text, len)
 }

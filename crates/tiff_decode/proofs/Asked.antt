@@ -13,9 +13,9 @@ use Rattle.tiff_base.specs.Field.{DirectoryRecord}
 use Rattle.tiff_base.specs.Header.{Header, header_at}
 use Rattle.tiff_base.specs.SourceAndSink.{SourceRecord}
 use Rattle.tiff_base.proofs.Common.{bind_ok}
-use Rattle.tiff_ifd.specs.Look.{ok_or_fault}
+use Rattle.tiff_ifd.specs.TagLookup.{ok_or_fault}
 use Rattle.tiff_ifd.specs.Stretches.{DirectoryReadable}
-use Rattle.tiff_ifd.specs.Walk.{ChainBegins, NextReadable, Walked, WayReadable}
+use Rattle.tiff_ifd.specs.IfdChainWalk.{ChainBegins, NextReadable, Walked, WayReadable}
 use Rattle.tiff_page.specs.Reach.{PageReadable}
 use Rattle.tiff_page.proofs.Reach.{asks_more}
 use Rattle.tiff_decode.specs.Asked.{EntryReadable, NextPageReadable, OpenReadable, SeekReadable}

@@ -15,7 +15,7 @@ use Rattle.tiff_decode.specs.Failures.{all_failures}
 use Rattle.tiff_decode.specs.Machine.{Decoding, Outcome, StandsAt, Follows, FollowsBut}
 use Rattle.tiff_decode.specs.Outcome as outcome
 use Rattle.tiff_decode.specs.Reader.{TagsRead}
-use Rattle.tiff_decode.specs.Sight.{items_of}
+use Rattle.tiff_decode.specs.ReplyView.{items_of}
 use Rattle.tiff_decode.specs.Step.{Step}
 use Rattle.tiff_decode.specs.Steps.{Steps, Ran}
 use Rattle.tiff_decode.proofs.NextState.{along}

@@ -16,7 +16,7 @@ use Rattle.tiff_base.specs.Directory.{directory_at}
 use Rattle.tiff_base.specs.Field.{DirectoryRecord}
 use Rattle.tiff_base.specs.SourceAndSink.{SourceRecord}
 use Rattle.tiff_ifd.specs.Chain.{Chain, chain}
-use Rattle.tiff_ifd.specs.Walk.{Walked, ChainBegins, ChainEnds}
+use Rattle.tiff_ifd.specs.IfdChainWalk.{Walked, ChainBegins, ChainEnds}
 use Rattle.tiff_ifd.proofs.Chain.{apart_chain}
 use Rattle.tiff_ifd.proofs.Begun.{offset_begun}
 use Rattle.tiff_decode.specs.ChainPosition.{IsAt, IsInChain}

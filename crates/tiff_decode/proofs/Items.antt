@@ -13,14 +13,14 @@ use Rattle.tiff_base.specs.Sparing.{IsWithinLimits}
 use Rattle.tiff_base.specs.Directory.{fields_after}
 use Rattle.tiff_base.specs.Field.{Field, DirectoryRecord}
 use Rattle.tiff_base.proofs.After.{after_first, after_head}
-use Rattle.tiff_ifd.specs.Datum.{Datum}
+use Rattle.tiff_ifd.specs.PlainValue.{PlainValue}
 use Rattle.tiff_ifd.specs.declared.value.Value.{Value}
 use Rattle.tiff_decode.specs.Items.{fields_left, item_of, items_left, NextItem}
 use Rattle.tiff_decode.specs.Machine.{Decoding}
 use Rattle.tiff_decode.specs.Step.{ItemIs}
 
 -- a value with an error makes an item with this error
-pub item_refused : (given : Result Datum TiffError) (make : Datum → Result (Tag × Datum) TiffError) (before after : ℕ) (e : TiffError)
+pub item_refused : (given : Result PlainValue TiffError) (make : PlainValue → Result (Tag × PlainValue) TiffError) (before after : ℕ) (e : TiffError)
     → IsCause (IsWithinLimits given) (before < after) e (given ≡ Err e) → NoneSwallowed {X = Value} (Err e) before after → ItemIs (given >>= make) (Err e) before after
 item_refused given make before after OutOfMemory c l = l
 item_refused given make before after (IoError Device) c l = c

@@ -6,7 +6,7 @@ use Rattle.tiff_base.specs.declared.error.TiffError.TheVariants.{IoError, OutOfM
 use Rattle.tiff_base.specs.declared.io.IoKind.TheVariants.{Device}
 use Rattle.tiff_base.specs.declared.tags.Tag.{Tag}
 use Rattle.tiff_ifd.specs.declared.value.Value.{Value}
-use Rattle.tiff_ifd.specs.Datum.{Datum}
+use Rattle.tiff_ifd.specs.PlainValue.{PlainValue}
 use Rattle.tiff_decode.specs.declared.script.Call.{Call}
 use Rattle.tiff_decode.specs.declared.script.Call.TheVariants as call
 use Rattle.tiff_decode.specs.declared.script.Reply.{Reply}
@@ -15,7 +15,7 @@ use Rattle.tiff_decode.specs.Machine.{State, Decoding, Outcome, StandsAt, Follow
 use Rattle.tiff_decode.specs.Outcome as outcome
 use Rattle.tiff_decode.specs.Failures.{fault_of, device_count, failed_items, failed_list, failures}
 use Rattle.tiff_decode.specs.Promise.{Promise, AnswerOf, reads, knows, describes, reads_tags, tells, sets, state_after, promise}
-use Rattle.tiff_decode.specs.Sight.{Sight, sees, sees_nothing, sight}
+use Rattle.tiff_decode.specs.ReplyView.{ReplyView, sees, sees_nothing, reply_view}
 use Rattle.tiff_decode.specs.Step.{Fulfils, Step, ItemIs, ItemsAre, Items}
 use Rattle.tiff_decode.specs.Reader.{TagsRead}
 use Rattle.tiff_decode.specs.NextState.{IsNamedFault, view_of_result, view_of_item, AreNamed, IsNamedList, IsNamed, LeavesNextState, next_state}
@@ -114,21 +114,21 @@ answer_of (tells y) = Ok y
 answer_of (sets s) = Ok tt
 
 -- the reply shows this result
-abbrev pub IsAnswer : {Y : Type 0} → Sight Y → Result Y TiffError → Type 0
+abbrev pub IsAnswer : {Y : Type 0} → ReplyView Y → Result Y TiffError → Type 0
 IsAnswer (sees view r) answer = view_of_result view r ≡ answer
 IsAnswer sees_nothing answer = ⊥
 
 -- the count of failed reads that a reply shows, and whether it is neither out of memory nor an
 -- error of the device; anything where the reply shows nothing
-abbrev count_in : {Y : Type 0} → Sight Y → ℕ → ℕ
+abbrev count_in : {Y : Type 0} → ReplyView Y → ℕ → ℕ
 count_in (sees view r) count = device_count (fault_of r)
 count_in sees_nothing count = count
 
-abbrev named_in : {Y : Type 0} → Sight Y → Type 0 → Type 0
+abbrev named_in : {Y : Type 0} → ReplyView Y → Type 0 → Type 0
 named_in (sees view r) named = IsNamedFault (fault_of r)
 named_in sees_nothing named = named
 
-told_by : (p : Promise) (s : Sight (AnswerOf p)) (count : ℕ) (named : Type 0) (old new : Decoding) → Fulfils p s old new
+told_by : (p : Promise) (s : ReplyView (AnswerOf p)) (count : ℕ) (named : Type 0) (old new : Decoding) → Fulfils p s old new
     → TellsOf (count_in s count) (named_in s named) (IsAnswer s (answer_of p)) (state_after old p) old new
 told_by (reads wanting o) (sees view r) count named old new h = told wanting view o r old new h
 told_by (knows o) (sees view r) count named old new h = told_here ⊥ view o r old new (inr (λ no. no)) h
@@ -140,23 +140,23 @@ told_by p s count named old new h = absurd h
 
 -- ---- the items of a page's tags
 
-item_grows : (given : Result (Tag × Datum) TiffError) (x : Result (Tag × Value) TiffError) (before after : ℕ) → ItemIs given x before after → before + device_count (fault_of x) ≤ after
+item_grows : (given : Result (Tag × PlainValue) TiffError) (x : Result (Tag × Value) TiffError) (before after : ℕ) → ItemIs given x before after → before + device_count (fault_of x) ≤ after
 item_grows given (Err (IoError Device)) before after h = omega (arith, h)
 item_grows given (Err OutOfMemory) before after h = omega (arith, h)
 item_grows given x before after h = omega (arith, h.1)
 
-items_grow : (gs : List (Result (Tag × Datum) TiffError)) (xs : List (Result (Tag × Value) TiffError)) (before after : ℕ) → ItemsAre gs xs before after → before + failed_items xs ≤ after
+items_grow : (gs : List (Result (Tag × PlainValue) TiffError)) (xs : List (Result (Tag × Value) TiffError)) (before after : ℕ) → ItemsAre gs xs before after → before + failed_items xs ≤ after
 items_grow [] [] before after h = omega (arith, h)
 items_grow [] (x ∷ xs) before after h = absurd h
 items_grow (g ∷ gs) [] before after h = absurd h
 items_grow (g ∷ gs) (x ∷ xs) before after h = omega (arith, item_grows g x before h.0 h.1, items_grow gs xs h.0 after h.2)
 
-item_told : (given : Result (Tag × Datum) TiffError) (x : Result (Tag × Value) TiffError) (before after : ℕ) → ItemIs given x before after → IsNamedFault (fault_of x) → view_of_item x ≡ given
+item_told : (given : Result (Tag × PlainValue) TiffError) (x : Result (Tag × Value) TiffError) (before after : ℕ) → ItemIs given x before after → IsNamedFault (fault_of x) → view_of_item x ≡ given
 item_told given (Err (IoError Device)) before after h n = absurd n
 item_told given (Err OutOfMemory) before after h n = absurd n
 item_told given x before after h n = sym h.0
 
-items_told : (gs : List (Result (Tag × Datum) TiffError)) (xs : List (Result (Tag × Value) TiffError)) (before after : ℕ) → ItemsAre gs xs before after → AreNamed xs → map view_of_item xs ≡ gs
+items_told : (gs : List (Result (Tag × PlainValue) TiffError)) (xs : List (Result (Tag × Value) TiffError)) (before after : ℕ) → ItemsAre gs xs before after → AreNamed xs → map view_of_item xs ≡ gs
 items_told [] [] before after h n = refl
 items_told [] (x ∷ xs) before after h n = absurd h
 items_told (g ∷ gs) [] before after h n = absurd h
@@ -166,7 +166,7 @@ items_told (g ∷ gs) (Err e ∷ xs) before after h n = λ i. item_told g (Err e
 no_wanting : (e : TiffError) → e ≡ OutOfMemory → IsNamedFault (Some e) → ⊥
 no_wanting e p n = (let P : TiffError → Type 0 = λ x. IsNamedFault (Some x) in subst P p n)
 
-list_told : (given : List (Result (Tag × Datum) TiffError)) (r : Result (Vec (Result (Tag × Value) TiffError) Global) TiffError) (old new : Decoding) → Items given r old new
+list_told : (given : List (Result (Tag × PlainValue) TiffError)) (r : Result (Vec (Result (Tag × Value) TiffError) Global) TiffError) (old new : Decoding) → Items given r old new
     → TellsOf (failed_list r) (IsNamedList r) (view_of_result (λ v. map view_of_item v.items) r ≡ Ok given) old.state old new
 list_told given (Ok v) old new h = record {
   file = at_file old.state old new h.0;
@@ -186,13 +186,13 @@ list_told given (Err e) old new h = record {
 -- The facts that a step shows. The clause of one reply repeats the last clause. With it, the last
 -- clause is checked for each call with each reply, where both tables compute.
 pub called : (old : Decoding) (which : Call) (reply : Reply) (new : Decoding) → Step old which reply new
-    → TellsOf (failures reply) (IsNamed reply) (IsAnswer (sight old which reply) (answer_of (promise old which))) (next_state old which) old new
+    → TellsOf (failures reply) (IsNamed reply) (IsAnswer (reply_view old which reply) (answer_of (promise old which))) (next_state old which) old new
 called old call.TagIter (reply.TagIter r) new h = list_told (outcome.tag_iter old) r old new h
 called old (call.FindTagBuf tag) (reply.FindTagBuf r b) new h =
-    told_by (promise old (call.FindTagBuf tag)) (sight old (call.FindTagBuf tag) (reply.FindTagBuf r b)) 0 ⊥ old new h.0
+    told_by (promise old (call.FindTagBuf tag)) (reply_view old (call.FindTagBuf tag) (reply.FindTagBuf r b)) 0 ⊥ old new h.0
 called old which reply.SetLimits new h =
-    told_by (promise old which) (sight old which reply.SetLimits) (failures reply.SetLimits) (IsNamed reply.SetLimits) old new h
-called old which reply new h = told_by (promise old which) (sight old which reply) (failures reply) (IsNamed reply) old new h
+    told_by (promise old which) (reply_view old which reply.SetLimits) (failures reply.SetLimits) (IsNamed reply.SetLimits) old new h
+called old which reply new h = told_by (promise old which) (reply_view old which reply) (failures reply) (IsNamed reply) old new h
 
 pub along : (old : Decoding) (which : Call) (reply : Reply) (new : Decoding) → Step old which reply new → LeavesNextState old which reply new
 along old which reply new h =

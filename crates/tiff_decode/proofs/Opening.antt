@@ -10,8 +10,8 @@ use Rattle.tiff_base.specs.Header.{Header, header_at}
 use Rattle.tiff_base.proofs.Causes.{cause_along}
 use Rattle.tiff_ifd.specs.declared.limits.Limits.{Limits}
 use Rattle.tiff_ifd.specs.Chain.{Chain, chain, walk, onto, enter_at, link_from}
-use Rattle.tiff_ifd.specs.Look.{ok_or_fault}
-use Rattle.tiff_ifd.specs.Walk.{Walked, Enters, NextIsRefused, WalkSteps}
+use Rattle.tiff_ifd.specs.TagLookup.{ok_or_fault}
+use Rattle.tiff_ifd.specs.IfdChainWalk.{Walked, Enters, NextIsRefused, WalkSteps}
 use Rattle.tiff_page.specs.Page.{PageRecord}
 use Rattle.tiff_decode.specs.Machine.{Decoding}
 use Rattle.tiff_decode.specs.Outcome.{decoder_of, chain_from, first_directory, first_state, page_in, end_fault}

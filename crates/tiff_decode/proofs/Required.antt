@@ -8,12 +8,12 @@ use Rattle.tiff_base.specs.declared.tags.Tag.{Tag}
 use Rattle.tiff_base.specs.Answers.{IsCause, ◌>>=◌}
 use Rattle.tiff_base.specs.Sparing.{IsFoundWithin}
 use Rattle.tiff_base.proofs.Causes.{cause_along}
-use Rattle.tiff_ifd.specs.Datum.{Datum}
+use Rattle.tiff_ifd.specs.PlainValue.{PlainValue}
 use Rattle.tiff_ifd.specs.Fitted.{fitted_numbers}
 use Rattle.tiff_ifd.specs.Into.{into_u64_vec}
 use Rattle.tiff_ifd.specs.TagQueries.{find_unsigned_vec}
 use Rattle.tiff_page.proofs.Found.{number_found, required_found}
-use Rattle.tiff_ifd.specs.Look.{Look, if_found, find, ok_or_fault, require}
+use Rattle.tiff_ifd.specs.TagLookup.{TagLookup, if_found, find, ok_or_fault, require}
 
 -- a value that is there is the required value
 there : {A : Type 0} (fault : TiffError) (x : Result A TiffError) → ((x >>= λ y. Ok (Some y)) >>= λ found. ok_or_fault found fault) ≡ x
@@ -21,20 +21,20 @@ there fault (Ok y) = refl
 there fault (Err e) = refl
 
 -- a conversion of a required value is what the value converts to
-by_value : {A : Type 0} (into : Datum → Result A TiffError) (fault : TiffError) (r : Result (Option Datum) TiffError)
+by_value : {A : Type 0} (into : PlainValue → Result A TiffError) (fault : TiffError) (r : Result (Option PlainValue) TiffError)
     → ((r >>= if_found into) >>= λ found. ok_or_fault found fault)
     ≡ (((r >>= if_found (λ d. Ok d)) >>= λ found. ok_or_fault found fault) >>= into)
 by_value into fault (Err e) = refl
 by_value into fault (Ok None) = refl
 by_value into fault (Ok (Some d)) = there fault (into d)
 
-pub required_by : {A : Type 0} (into : Datum → Result A TiffError) (look : Look) (tag : Tag)
+pub required_by : {A : Type 0} (into : PlainValue → Result A TiffError) (look : TagLookup) (tag : Tag)
     → require into look tag ≡ (require (λ d. Ok d) look tag >>= into)
 unfolding require find
 required_by into look tag = by_value into (FormatError (RequiredTagNotFound tag)) (look.value tag)
 
 -- a required value that is not found is not converted
-pub unconverted : {A : Type 0} (wanting failed : Type 0) (into : Datum → Result A TiffError) (look : Look) (tag : Tag) (e : TiffError)
+pub unconverted : {A : Type 0} (wanting failed : Type 0) (into : PlainValue → Result A TiffError) (look : TagLookup) (tag : Tag) (e : TiffError)
     → IsCause wanting failed e (require (λ d. Ok d) look tag ≡ Err e)
     → IsCause wanting failed e (require into look tag ≡ Err e)
 unconverted wanting failed into look tag e c =
@@ -43,7 +43,7 @@ unconverted wanting failed into look tag e c =
 -- ---- where memory is allocated
 
 -- a required value that the call reads is found
-pub value_found : (look : Look) (tag : Tag) (d : Datum) → require (λ d. Ok d) look tag ≡ Ok d → IsFoundWithin (look.value tag)
+pub value_found : (look : TagLookup) (tag : Tag) (d : PlainValue) → require (λ d. Ok d) look tag ≡ Ok d → IsFoundWithin (look.value tag)
 value_found look tag d h = required_found (λ d. Ok d) look tag d h
 
 found_before : {A B : Type 0} (r : Result (Option A) TiffError) (read : A → Result B TiffError) (y : B) → (r >>= if_found read) ≡ Ok (Some y) → (x : A) × (r ≡ Ok (Some x))
@@ -52,7 +52,7 @@ found_before (Ok None) read y h = absurd (cc)
 found_before (Err e) read y h = absurd (cc)
 
 -- numbers that the call finds belong to a tag that is found
-pub numbers_found : (limit : ℕ) (look : Look) (tag : Tag) (ns : List ℕ) → find_unsigned_vec limit look tag ≡ Ok (Some ns) → IsFoundWithin (look.value tag)
+pub numbers_found : (limit : ℕ) (look : TagLookup) (tag : Tag) (ns : List ℕ) → find_unsigned_vec limit look tag ≡ Ok (Some ns) → IsFoundWithin (look.value tag)
 unfolding find_unsigned_vec
 numbers_found limit look tag ns h =
     let numbers = found_before (find into_u64_vec look tag) (fitted_numbers tag limit) ns h in

@@ -4,7 +4,7 @@ use Rattle.std.specs.List.{slice_get}
 use Rattle.tiff_base.specs.declared.tags.ByteOrder.{ByteOrder}
 use Rattle.tiff_base.specs.declared.tags.FileKind.{FileKind}
 use Rattle.tiff_base.specs.declared.tags.IfdPointer.{IfdPointer}
-use Rattle.tiff_ifd.specs.Walk.{Walked, ChainBegins}
+use Rattle.tiff_ifd.specs.IfdChainWalk.{Walked, ChainBegins}
 
 -- the pointer is the offset of this index; a decoder may have no pointer only where `more` is false
 abbrev pub IsAt : List ℕ → Option IfdPointer → ℕ → Bool → Type 0
@@ -13,7 +13,8 @@ IsAt offsets None at more = more ≡ false
 
 -- The entered offsets are a beginning of the file's chain, at least its first offset, and the
 -- pointer is one of them.
-pub record IsInChain (kind : FileKind) (order : ByteOrder) (bytes : List ℕ) (first : ℕ) (walk : Walked) (pointer : Option IfdPointer) (at : ℕ) (more : Bool) : Type 0 where
+pub record IsInChain (kind : FileKind) (order : ByteOrder) (bytes : List ℕ) (first : ℕ)
+    (walk : Walked) (pointer : Option IfdPointer) (at : ℕ) (more : Bool) : Type 0 where
   pub begins : ChainBegins kind order bytes first walk
   pub some : 0 < length walk.offsets
   pub stands : IsAt walk.offsets pointer at more

@@ -78,14 +78,25 @@ with_i64 r n ws = r
 -- After the borrow ends, the result has its former samples before n, followed by those that were
 -- written last.
 abbrev pub lends_rest : MutBor DecodingResult → ℕ → DecodingBuffer → Fml
-lends_rest r n (buffer.U8 s) = follows the_row (Array u8 0) r.ghost_name s.ghost_name (with_u8 r.now n)
-lends_rest r n (buffer.U16 s) = follows the_row (Array u16 0) r.ghost_name s.ghost_name (with_u16 r.now n)
-lends_rest r n (buffer.U32 s) = follows the_row (Array u32 0) r.ghost_name s.ghost_name (with_u32 r.now n)
-lends_rest r n (buffer.U64 s) = follows the_row (Array u64 0) r.ghost_name s.ghost_name (with_u64 r.now n)
-lends_rest r n (buffer.F16 s) = follows the_row (Array F16s 0) r.ghost_name s.ghost_name (with_f16 r.now n)
-lends_rest r n (buffer.F32 s) = follows the_row (Array F32s 0) r.ghost_name s.ghost_name (with_f32 r.now n)
-lends_rest r n (buffer.F64 s) = follows the_row (Array F64s 0) r.ghost_name s.ghost_name (with_f64 r.now n)
-lends_rest r n (buffer.I8 s) = follows the_row (Array i8 0) r.ghost_name s.ghost_name (with_i8 r.now n)
-lends_rest r n (buffer.I16 s) = follows the_row (Array i16 0) r.ghost_name s.ghost_name (with_i16 r.now n)
-lends_rest r n (buffer.I32 s) = follows the_row (Array i32 0) r.ghost_name s.ghost_name (with_i32 r.now n)
-lends_rest r n (buffer.I64 s) = follows the_row (Array i64 0) r.ghost_name s.ghost_name (with_i64 r.now n)
+lends_rest r n (buffer.U8 s) =
+    follows the_row (Array u8 0) r.ghost_name s.ghost_name (with_u8 r.now n)
+lends_rest r n (buffer.U16 s) =
+    follows the_row (Array u16 0) r.ghost_name s.ghost_name (with_u16 r.now n)
+lends_rest r n (buffer.U32 s) =
+    follows the_row (Array u32 0) r.ghost_name s.ghost_name (with_u32 r.now n)
+lends_rest r n (buffer.U64 s) =
+    follows the_row (Array u64 0) r.ghost_name s.ghost_name (with_u64 r.now n)
+lends_rest r n (buffer.F16 s) =
+    follows the_row (Array F16s 0) r.ghost_name s.ghost_name (with_f16 r.now n)
+lends_rest r n (buffer.F32 s) =
+    follows the_row (Array F32s 0) r.ghost_name s.ghost_name (with_f32 r.now n)
+lends_rest r n (buffer.F64 s) =
+    follows the_row (Array F64s 0) r.ghost_name s.ghost_name (with_f64 r.now n)
+lends_rest r n (buffer.I8 s) =
+    follows the_row (Array i8 0) r.ghost_name s.ghost_name (with_i8 r.now n)
+lends_rest r n (buffer.I16 s) =
+    follows the_row (Array i16 0) r.ghost_name s.ghost_name (with_i16 r.now n)
+lends_rest r n (buffer.I32 s) =
+    follows the_row (Array i32 0) r.ghost_name s.ghost_name (with_i32 r.now n)
+lends_rest r n (buffer.I64 s) =
+    follows the_row (Array i64 0) r.ghost_name s.ghost_name (with_i64 r.now n)

@@ -6,7 +6,7 @@ pub mod Outcome
 pub mod Asked
 pub mod Failures
 pub mod Promise
-pub mod Sight
+pub mod ReplyView
 pub mod Step
 pub mod Steps
 pub mod NextState

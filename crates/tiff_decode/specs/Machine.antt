@@ -36,7 +36,8 @@ pub record Decoding : Type 0 where
   pub state : State
 
 -- a decoder from its parts
-abbrev pub decoding : SourceRecord → FileKind → ByteOrder → ℕ → ℕ → Option IfdPointer → Bool → PageRecord → DirectoryRecord → ℕ → Limits → Decoding
+abbrev pub decoding : SourceRecord → FileKind → ByteOrder → ℕ → ℕ → Option IfdPointer → Bool
+    → PageRecord → DirectoryRecord → ℕ → Limits → Decoding
 decoding source kind order first failures pointer more page directory offset limits = record {
   bytes = source.bytes;
   readable = source.readable;
@@ -44,7 +45,14 @@ decoding source kind order first failures pointer more page directory offset lim
   order = order;
   first = first;
   failures = failures;
-  state = record { pointer = pointer; more = more; page = page; directory = directory; offset = offset; limits = limits };
+  state = record {
+    pointer = pointer;
+    more = more;
+    page = page;
+    directory = directory;
+    offset = offset;
+    limits = limits;
+  };
 }
 
 -- the source of a decoder
@@ -68,7 +76,8 @@ pub record StandsAt (state : State) (old new : Decoding) : Type 0 where
   pub failures : old.failures ≤ new.failures
 
 -- The call returns the result of the outcome and leaves its state; no read fails.
-pub record GivesOutcome {Y : Type 0} (result : Result Y TiffError) (outcome : Outcome Y) (old new : Decoding) : Type 0 where
+pub record GivesOutcome {Y : Type 0} (result : Result Y TiffError) (outcome : Outcome Y)
+    (old new : Decoding) : Type 0 where
   pub answer : outcome.answer ≡ result
   pub at : new ≡ record old { state = outcome.next }
 
@@ -91,30 +100,38 @@ Refused wanting (IoError Device) outcome old new = ReadFailed old new
 Refused wanting e outcome old new = GivesOutcome (Err e) outcome old new
 
 -- the result of a call that reads the source, through a view, and the decoder before and after it
-abbrev pub FollowsBut : {X Y : Type 0} → Type 0 → (X → Y) → Outcome Y → Result X TiffError → Decoding → Decoding → Type 0
+abbrev pub FollowsBut : {X Y : Type 0} → Type 0 → (X → Y) → Outcome Y → Result X TiffError
+    → Decoding → Decoding → Type 0
 FollowsBut wanting view outcome (Ok x) old new = GivesOutcome (Ok (view x)) outcome old new
 FollowsBut wanting view outcome (Err e) old new = Refused wanting e outcome old new
 
 -- a call that reads the source and may run out of memory
-abbrev pub Follows : {X Y : Type 0} → (X → Y) → Outcome Y → Result X TiffError → Decoding → Decoding → Type 0
+abbrev pub Follows : {X Y : Type 0} → (X → Y) → Outcome Y → Result X TiffError → Decoding → Decoding
+    → Type 0
 Follows view outcome result old new = FollowsBut (Unit {0}) view outcome result old new
 
 -- a call that reads the source and allocates no memory
-abbrev pub FollowsWithoutMemory : {X Y : Type 0} → (X → Y) → Outcome Y → Result X TiffError → Decoding → Decoding → Type 0
+abbrev pub FollowsWithoutMemory : {X Y : Type 0} → (X → Y) → Outcome Y → Result X TiffError
+    → Decoding → Decoding → Type 0
 FollowsWithoutMemory view outcome result old new = FollowsBut ⊥ view outcome result old new
 
 -- a call that does not read the source, so that no read fails
-abbrev pub FollowsWithoutSourceBut : {X Y : Type 0} → Type 0 → (X → Y) → Outcome Y → Result X TiffError → Decoding → Decoding → Type 0
+abbrev pub FollowsWithoutSourceBut : {X Y : Type 0} → Type 0 → (X → Y) → Outcome Y
+    → Result X TiffError → Decoding → Decoding → Type 0
 FollowsWithoutSourceBut wanting view outcome result old new =
     AnswersBut wanting ⊥ view result outcome.answer × (new ≡ record old { state = outcome.next })
 
 -- a call that does not read the source and allocates no memory
-abbrev pub FollowsWithoutEither : {X Y : Type 0} → (X → Y) → Outcome Y → Result X TiffError → Decoding → Decoding → Type 0
-FollowsWithoutEither view outcome result old new = FollowsWithoutSourceBut ⊥ view outcome result old new
+abbrev pub FollowsWithoutEither : {X Y : Type 0} → (X → Y) → Outcome Y → Result X TiffError
+    → Decoding → Decoding → Type 0
+FollowsWithoutEither view outcome result old new =
+    FollowsWithoutSourceBut ⊥ view outcome result old new
 
 -- a call that does not read the source, and allocates memory only for an error that contains a list
-abbrev pub FollowsOrFaults : {X Y : Type 0} → (X → Y) → Outcome Y → Result X TiffError → Decoding → Decoding → Type 0
-FollowsOrFaults view outcome result old new = FollowsWithoutSourceBut (IsListFault outcome.answer) view outcome result old new
+abbrev pub FollowsOrFaults : {X Y : Type 0} → (X → Y) → Outcome Y → Result X TiffError → Decoding
+    → Decoding → Type 0
+FollowsOrFaults view outcome result old new =
+    FollowsWithoutSourceBut (IsListFault outcome.answer) view outcome result old new
 
 -- a call that never fails and leaves the state unchanged
 abbrev pub Tells : {Y : Type 0} → Y → Y → Decoding → Decoding → Type 0

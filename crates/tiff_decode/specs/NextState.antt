@@ -6,8 +6,8 @@ use Rattle.tiff_base.specs.declared.error.TiffError.TheVariants.{IoError, OutOfM
 use Rattle.tiff_base.specs.declared.io.IoKind.TheVariants.{Device}
 use Rattle.tiff_base.specs.declared.tags.Tag.{Tag}
 use Rattle.tiff_ifd.specs.declared.value.Value.{Value}
-use Rattle.tiff_ifd.specs.Datum.{Datum}
-use Rattle.tiff_ifd.specs.View.{datum}
+use Rattle.tiff_ifd.specs.PlainValue.{PlainValue}
+use Rattle.tiff_ifd.specs.View.{plain_value}
 use Rattle.tiff_decode.specs.declared.script.Call.{Call}
 use Rattle.tiff_decode.specs.declared.script.Reply.{Reply}
 use Rattle.tiff_decode.specs.declared.script.Reply.TheVariants as reply
@@ -31,8 +31,8 @@ abbrev pub view_of_result : {X Y : Type 0} → (X → Y) → Result X TiffError 
 view_of_result view (Ok x) = Ok (view x)
 view_of_result view (Err e) = Err e
 
-abbrev pub view_of_item : Result (Tag × Value) TiffError → Result (Tag × Datum) TiffError
-view_of_item item = view_of_result (λ x. (x.0, datum x.1)) item
+abbrev pub view_of_item : Result (Tag × Value) TiffError → Result (Tag × PlainValue) TiffError
+view_of_item item = view_of_result (λ x. (x.0, plain_value x.1)) item
 
 -- no item of a list is out of memory or an error of the device
 abbrev pub AreNamed : List (Result (Tag × Value) TiffError) → Type 0
@@ -52,8 +52,9 @@ IsNamed r = IsNamedFault (fault_in r)
 -- One step. The file stays the same, and each error of the device is a failed read. A reply without
 -- out of memory and errors of the device leaves the next state; another reply leaves the former
 -- state.
-pub record LeavesNextState (old : Decoding) (which : Call) (reply : Reply) (new : Decoding) : Type 0 where
-  pub file : new ≡ record old { failures = new.failures; state = new.state }
-  pub failed : old.failures + failures reply ≤ new.failures
-  pub next : IsNamed reply → new.state ≡ next_state old which
-  pub stays : (IsNamed reply → ⊥) → new.state ≡ old.state
+pub record LeavesNextState (old : Decoding) (which : Call) (reply : Reply) (new : Decoding) : Type 0
+  where
+    pub file : new ≡ record old { failures = new.failures; state = new.state }
+    pub failed : old.failures + failures reply ≤ new.failures
+    pub next : IsNamed reply → new.state ≡ next_state old which
+    pub stays : (IsNamed reply → ⊥) → new.state ≡ old.state

@@ -26,10 +26,10 @@ use Rattle.tiff_base.specs.SourceAndSink.{exactly_at}
 use Rattle.tiff_value.specs.Buffer.{BufferRecord}
 use Rattle.tiff_ifd.specs.declared.limits.Limits.{Limits}
 use Rattle.tiff_ifd.specs.Chain.{Chain, chain}
-use Rattle.tiff_ifd.specs.Datum.{Datum}
+use Rattle.tiff_ifd.specs.PlainValue.{PlainValue}
 use Rattle.tiff_ifd.specs.FieldValue.{placed_text}
 use Rattle.tiff_ifd.specs.Into as into
-use Rattle.tiff_ifd.specs.Look.{Look, look_in, require, ok_or_fault}
+use Rattle.tiff_ifd.specs.TagLookup.{TagLookup, look_in, require, ok_or_fault}
 use Rattle.tiff_ifd.specs.TagQueries.{find_unsigned, find_unsigned_vec, get_unsigned, tag_items, buffer_of, part_of_field}
 use Rattle.tiff_page.specs.declared.layout.BufferLayoutPreference.{BufferLayoutPreference}
 use Rattle.tiff_page.specs.Page.{PageRecord}
@@ -63,8 +63,10 @@ abbrev pub chain_of : Decoding → Chain
 chain_of d = chain d.kind d.order d.bytes d.first
 
 -- the page of a directory
-abbrev pub page_in : FileKind → ByteOrder → List ℕ → Limits → DirectoryRecord → Result PageRecord TiffError
-page_in kind order bytes limits directory = page_of (look_in kind order bytes limits directory.entries)
+abbrev pub page_in : FileKind → ByteOrder → List ℕ → Limits → DirectoryRecord
+    → Result PageRecord TiffError
+page_in kind order bytes limits directory =
+    page_of (look_in kind order bytes limits directory.entries)
 
 -- the offset where the low-level reads begin: after the header
 abbrev pub header_end : FileKind → ℕ
@@ -76,7 +78,8 @@ header_end Big = 16
 unfoldable pub first_directory : List ℕ → Result (Header × ℕ × DirectoryRecord) TiffError
 first_directory bytes = do
   header ← header_at bytes
-  offset ← ok_or_fault (slice_get (chain_from header bytes).offsets 0) (end_fault (chain_from header bytes).end)
+  offset ← ok_or_fault (slice_get (chain_from header bytes).offsets 0)
+      (end_fault (chain_from header bytes).end)
   directory ← directory_at header.kind header.order bytes offset
   Ok (header, offset, directory)
 
@@ -111,12 +114,15 @@ decoder_of bytes failures = do
 -- the state with the page of a directory; or the error of the page, which leaves the state
 -- unchanged
 abbrev pub with_page : State → DirectoryRecord → Result PageRecord TiffError → Outcome (Unit {0})
-with_page s directory (Ok page) = record { answer = Ok tt; next = record s { page = page; directory = directory } }
+with_page s directory (Ok page) =
+    record { answer = Ok tt; next = record s { page = page; directory = directory } }
 with_page s directory (Err e) = record { answer = Err e; next = s }
 
 abbrev pub entry_outcome : Decoding → ℕ → Result DirectoryRecord TiffError → Outcome (Unit {0})
 entry_outcome d offset (Ok directory) =
-    with_page (record d.state { pointer = Some (record { 0 = offset }); more = is_some directory.next }) directory
+    with_page
+    (record d.state { pointer = Some (record { 0 = offset }); more = is_some directory.next })
+    directory
     (page_in d.kind d.order d.bytes d.state.limits directory)
 entry_outcome d offset (Err e) = stays d (Err e)
 
@@ -137,7 +143,8 @@ next_offset (Some pointer) offsets = offset_after pointer.0 offsets
 
 -- the outcome where no directory can be entered: the error that ends the chain, and `more` is false
 abbrev pub end_outcome : Decoding → Outcome (Unit {0})
-end_outcome d = record { answer = Err (end_fault (chain_of d).end); next = record d.state { more = false } }
+end_outcome d =
+    record { answer = Err (end_fault (chain_of d).end); next = record d.state { more = false } }
 
 abbrev pub next_outcome : Decoding → Option ℕ → Outcome (Unit {0})
 next_outcome d None = end_outcome d
@@ -147,7 +154,8 @@ next_outcome d (Some offset) = enter d offset
 -- `ImageFileDirectoryNotFound`
 unfoldable pub next_image : Decoding → Outcome (Unit {0})
 next_image d =
-    if d.state.more then next_outcome d (next_offset d.state.pointer (chain_of d).offsets) else stays d (Err not_found)
+    if d.state.more then next_outcome d (next_offset d.state.pointer (chain_of d).offsets)
+    else stays d (Err not_found)
 
 -- the last offset of the chain
 abbrev pub last_offset : Decoding → Option IfdPointer
@@ -158,7 +166,10 @@ last_offset d = option_map (λ offset. record { 0 = offset }) (last_or None (cha
 abbrev pub seek_past_end : Decoding → Outcome (Unit {0})
 seek_past_end d =
     if d.state.more
-    then record { answer = Err (end_fault (chain_of d).end); next = record d.state { pointer = last_offset d; more = false } }
+    then record {
+      answer = Err (end_fault (chain_of d).end);
+      next = record d.state { pointer = last_offset d; more = false };
+    }
     else record { answer = Err not_found; next = record d.state { pointer = None } }
 
 abbrev pub seek_outcome : Decoding → Option ℕ → Outcome (Unit {0})
@@ -196,7 +207,8 @@ read_directory d pointer = stays d (directory_at d.kind d.order d.bytes pointer.
 -- the page and the tags of a directory replace those of the decoder; an error leaves the state
 -- unchanged
 abbrev pub show_outcome : Decoding → Result DirectoryRecord TiffError → Outcome (Unit {0})
-show_outcome d (Ok directory) = with_page d.state directory (page_in d.kind d.order d.bytes d.state.limits directory)
+show_outcome d (Ok directory) =
+    with_page d.state directory (page_in d.kind d.order d.bytes d.state.limits directory)
 show_outcome d (Err e) = stays d (Err e)
 
 -- shows the directory at any offset, inside or outside the chain; the position in the chain stays
@@ -211,12 +223,14 @@ goto_offset d offset = record { answer = Ok tt; next = record d.state { offset =
 
 -- a read of `len` bytes moves the offset past them; an error leaves the offset unchanged
 abbrev pub read_outcome : {Y : Type 0} → Decoding → ℕ → Result Y TiffError → Outcome Y
-read_outcome d len (Ok y) = record { answer = Ok y; next = record d.state { offset = d.state.offset + len } }
+read_outcome d len (Ok y) =
+    record { answer = Ok y; next = record d.state { offset = d.state.offset + len } }
 read_outcome d len (Err e) = stays d (Err e)
 
 -- the number at the offset, through a view
 abbrev pub number_here : {Y : Type 0} → Decoding → Width → (ℕ → Y) → Outcome Y
-number_here d w view = read_outcome d (byte_len w) (number_at d.order w d.bytes d.state.offset >>= λ n. Ok (view n))
+number_here d w view =
+    read_outcome d (byte_len w) (number_at d.order w d.bytes d.state.offset >>= λ n. Ok (view n))
 
 -- an offset of 4 bytes, or of 8 bytes in BigTIFF
 unfoldable pub read_ifd_offset : Decoding → Outcome ℕ
@@ -252,7 +266,8 @@ read_double d = number_here d w64 (λ n. n)
 
 -- a text of `len` bytes, which ends before its first zero and has to be UTF-8
 unfoldable pub read_string : Decoding → ℕ → Outcome (List ℕ)
-read_string d len = read_outcome d len (exactly_at d.bytes d.state.offset len >>= placed_text >>= into.into_string)
+read_string d len =
+    read_outcome d len (exactly_at d.bytes d.state.offset len >>= placed_text >>= into.into_string)
 
 -- the bytes of a 4-byte offset as they are in the file; BigTIFF has no such offsets
 abbrev pub offset_bytes : FileKind → Decoding → Result (List ℕ) TiffError
@@ -297,17 +312,20 @@ unfoldable pub read_image : Decoding → Outcome Decoded
 read_image d = stays d (image_of d.bytes d.order d.state.page d.state.limits)
 
 unfoldable pub read_image_to_buffer : Decoding → Outcome (BufferLayoutPreference × Decoded)
-read_image_to_buffer d = stays d (pixels.read_image_to_buffer d.bytes d.order d.state.page d.state.limits)
+read_image_to_buffer d =
+    stays d (pixels.read_image_to_buffer d.bytes d.order d.state.page d.state.limits)
 
 -- the slice after the call
 unfoldable pub read_image_bytes : Decoding → List ℕ → Outcome (List ℕ)
-read_image_bytes d buf = stays d (pixels.read_image_bytes d.bytes d.order d.state.page d.state.limits buf)
+read_image_bytes d buf =
+    stays d (pixels.read_image_bytes d.bytes d.order d.state.page d.state.limits buf)
 
 unfoldable pub read_chunk : Decoding → ℕ → Outcome Decoded
 read_chunk d chunk = stays d (pixels.read_chunk d.bytes d.order d.state.page d.state.limits chunk)
 
 unfoldable pub read_chunk_bytes : Decoding → ℕ → List ℕ → Outcome (List ℕ)
-read_chunk_bytes d chunk buf = stays d (pixels.read_chunk_bytes d.bytes d.order d.state.page d.state.limits chunk buf)
+read_chunk_bytes d chunk buf =
+    stays d (pixels.read_chunk_bytes d.bytes d.order d.state.page d.state.limits chunk buf)
 
 unfoldable pub read_chunk_to_buffer : Decoding → ℕ → ℕ → Outcome Decoded
 read_chunk_to_buffer d chunk stride =
@@ -322,11 +340,11 @@ read_coding_unit_bytes d unit buf =
 abbrev pub page_fields : Decoding → FinMap nat_cmp Field
 page_fields d = d.state.directory.entries
 
-abbrev pub page_tags : Decoding → Look
+abbrev pub page_tags : Decoding → TagLookup
 page_tags d = look_in d.kind d.order d.bytes d.state.limits (page_fields d)
 
 -- the value of a tag, if the directory has the tag
-unfoldable pub find_tag : Decoding → Tag → Outcome (Option Datum)
+unfoldable pub find_tag : Decoding → Tag → Outcome (Option PlainValue)
 find_tag d tag = stays d ((page_tags d).value tag)
 
 -- Whether the call may run out of memory for a tag's value and its conversion: only where it finds
@@ -342,10 +360,11 @@ unfoldable pub find_tag_unsigned_vec : Decoding → Tag → Outcome (Option (Lis
 find_tag_unsigned_vec d tag = stays d (find_unsigned_vec (2 ^ 64) (page_tags d) tag)
 
 -- the converted value of a required tag
-abbrev pub required_value : {Y : Type 0} → Decoding → (Datum → Result Y TiffError) → Tag → Outcome Y
+abbrev pub required_value : {Y : Type 0} → Decoding → (PlainValue → Result Y TiffError) → Tag
+    → Outcome Y
 required_value d into tag = stays d (require into (page_tags d) tag)
 
-unfoldable pub get_tag : Decoding → Tag → Outcome Datum
+unfoldable pub get_tag : Decoding → Tag → Outcome PlainValue
 get_tag d tag = required_value d (λ value. Ok value) tag
 
 unfoldable pub get_tag_unsigned : Decoding → Tag → Outcome ℕ
@@ -385,7 +404,7 @@ unfoldable pub get_tag_ascii_string : Decoding → Tag → Outcome (List ℕ)
 get_tag_ascii_string d tag = required_value d into.into_string tag
 
 -- each tag with its value, or the error of the value, by ascending tag number
-unfoldable pub tag_iter : Decoding → List (Result (Tag × Datum) TiffError)
+unfoldable pub tag_iter : Decoding → List (Result (Tag × PlainValue) TiffError)
 tag_iter d = tag_items d.kind d.order d.bytes d.state.limits (page_fields d)
 
 abbrev pub find_entry : Decoding → Tag → Option Field
@@ -394,7 +413,8 @@ find_entry d tag = get (page_fields d) (tag_number tag)
 -- ---- raw bytes of values
 
 -- a field with its bytes, if there is a field; else the buffer stays the same
-abbrev pub field_in_buffer : Decoding → BufferRecord → Option Field → Result (Option Field × BufferRecord) TiffError
+abbrev pub field_in_buffer : Decoding → BufferRecord → Option Field
+    → Result (Option Field × BufferRecord) TiffError
 field_in_buffer d buf None = Ok (None, buf)
 field_in_buffer d buf (Some f) = do
   found ← buffer_of d.kind d.order d.bytes d.state.limits f
@@ -410,7 +430,8 @@ abbrev pub WantsBytes : Decoding → Tag → BufferRecord → Type 0
 WantsBytes d tag buf = IsSome (find_entry d tag) × IsOk (find_tag_buf d tag buf).answer
 
 -- the bytes of a field from an index on, as many as fit
-abbrev pub bytes_in_slice : Decoding → List ℕ → ℕ → Option Field → Result (Option ℕ × List ℕ) TiffError
+abbrev pub bytes_in_slice : Decoding → List ℕ → ℕ → Option Field
+    → Result (Option ℕ × List ℕ) TiffError
 bytes_in_slice d buf at None = Ok (None, buf)
 bytes_in_slice d buf at (Some f) = do
   found ← part_of_field d.kind d.order d.bytes f (length buf) at

@@ -18,12 +18,14 @@ directory_or own (Some other) = other
 
 -- the decoder that reads the tags of its page's directory, or of another directory
 abbrev pub reader_of : Decoding → Option DirectoryRecord → Decoding
-reader_of d other = record d { state = record d.state { directory = directory_or d.state.directory other } }
+reader_of d other =
+    record d { state = record d.state { directory = directory_or d.state.directory other } }
 
 -- A read of tags leaves the state unchanged. Its result, through a view, is the one of the outcome,
 -- or out of memory where that is allowed, or an error of the device. Only an error of the device
 -- increases the count of failed reads.
-pub record TagsRead {X Y : Type 0} (wanting : Type 0) (view : X → Y) (given : Outcome Y) (result : Result X TiffError) (old new : Decoding) : Type 0 where
+pub record TagsRead {X Y : Type 0} (wanting : Type 0) (view : X → Y) (given : Outcome Y)
+    (result : Result X TiffError) (old new : Decoding) : Type 0 where
   pub answer : AnswersBut wanting (old.failures < new.failures) view result given.answer
   pub state : new ≡ record old { failures = new.failures }
   pub failures : old.failures ≤ new.failures
@@ -43,38 +45,49 @@ reading reader = reader_of reader.decoder.now (option_map (λ d. d.now) reader.o
 
 -- The `IfdDecoder` keeps its decoder and its directory. At most the count of failed reads changes,
 -- and only with an error of the device.
-pub record KeepsReading {R X : Type 0} (result : Result X TiffError) (old new : IfdDecoder R) : Type 0 where
+pub record KeepsReading {R X : Type 0} (result : Result X TiffError) (old new : IfdDecoder R) : Type
+    0 where
   pub held : IsBorrowed old.decoder new.decoder
   pub other : new.other ≡ old.other
   pub swallowed : NoneSwallowed result old.decoder.now.failures new.decoder.now.failures
 
 -- The `IfdDecoder` returns the result of the outcome, through a view, or out of memory where that
 -- is allowed, or an error of the device. It keeps its decoder and its directory.
-pub record ReadsTags {R X Y : Type 0} (wanting : Type 0) (view : X → Y) (given : Outcome Y) (result : Result X TiffError) (old new : IfdDecoder R) : Type 0 where
-  pub answer : AnswersBut wanting (old.decoder.now.failures < new.decoder.now.failures) view result given.answer
+pub record ReadsTags {R X Y : Type 0} (wanting : Type 0) (view : X → Y) (given : Outcome Y)
+    (result : Result X TiffError) (old new : IfdDecoder R) : Type 0 where
+  pub answer : AnswersBut wanting (old.decoder.now.failures < new.decoder.now.failures) view result
+      given.answer
   pub kept : KeepsReading result old new
 
 -- ---- numbers of any type
 
 -- A tag's number as another type, where `gives` defines the conversion. A number that does not fit
 -- gives `InvalidTagValueType`.
-abbrev pub IsNumber : {X E : Type 0} → (ℕ → Result X E → Type 0) → Tag → ℕ → Result X TiffError → Type 0
+abbrev pub IsNumber : {X E : Type 0} → (ℕ → Result X E → Type 0) → Tag → ℕ → Result X TiffError
+    → Type 0
 IsNumber gives tag n (Ok x) = gives n (Ok x)
-IsNumber {E = E} gives tag n (Err e) = (f : E) × gives n (Err f) × (e ≡ FormatError (InvalidTagValueType tag))
+IsNumber {E = E} gives tag n (Err e) = (f : E) × gives n (Err f)
+    × (e ≡ FormatError (InvalidTagValueType tag))
 
 -- a number as another type, or out of memory where that is allowed, or an error of the device
-abbrev pub NumberAs : {X E : Type 0} → (ℕ → Result X E → Type 0) → Type 0 → Type 0 → Tag → Result ℕ TiffError → Result X TiffError → Type 0
-NumberAs gives wanting failed tag given (Ok x) = (n : ℕ) × (given ≡ Ok n) × IsNumber gives tag n (Ok x)
+abbrev pub NumberAs : {X E : Type 0} → (ℕ → Result X E → Type 0) → Type 0 → Type 0 → Tag
+    → Result ℕ TiffError → Result X TiffError → Type 0
+NumberAs gives wanting failed tag given (Ok x) = (n : ℕ) × (given ≡ Ok n)
+    × IsNumber gives tag n (Ok x)
 NumberAs gives wanting failed tag given (Err e) =
-    IsCause wanting failed e ((given ≡ Err e) ⊎ ((n : ℕ) × (given ≡ Ok n) × IsNumber gives tag n (Err e)))
+    IsCause wanting failed e
+    ((given ≡ Err e) ⊎ ((n : ℕ) × (given ≡ Ok n) × IsNumber gives tag n (Err e)))
 
 -- a number as another type, if there is such a tag, or out of memory where that is allowed, or an
 -- error of the device
-abbrev pub NumberIfAs : {X E : Type 0} → (ℕ → Result X E → Type 0) → Type 0 → Type 0 → Tag → Result (Option ℕ) TiffError → Result (Option X) TiffError → Type 0
+abbrev pub NumberIfAs : {X E : Type 0} → (ℕ → Result X E → Type 0) → Type 0 → Type 0 → Tag
+    → Result (Option ℕ) TiffError → Result (Option X) TiffError → Type 0
 NumberIfAs gives wanting failed tag given (Ok None) = given ≡ Ok None
-NumberIfAs gives wanting failed tag given (Ok (Some x)) = (n : ℕ) × (given ≡ Ok (Some n)) × IsNumber gives tag n (Ok x)
+NumberIfAs gives wanting failed tag given (Ok (Some x)) = (n : ℕ) × (given ≡ Ok (Some n))
+    × IsNumber gives tag n (Ok x)
 NumberIfAs gives wanting failed tag given (Err e) =
-    IsCause wanting failed e ((given ≡ Err e) ⊎ ((n : ℕ) × (given ≡ Ok (Some n)) × IsNumber gives tag n (Err e)))
+    IsCause wanting failed e
+    ((given ≡ Err e) ⊎ ((n : ℕ) × (given ≡ Ok (Some n)) × IsNumber gives tag n (Err e)))
 
 -- ---- lists of numbers of any type
 
@@ -86,7 +99,8 @@ EachGives gives (n ∷ ns) [] = ⊥
 EachGives gives (n ∷ ns) (x ∷ xs) = gives n (Ok x) × EachGives gives ns xs
 
 -- The first number of a list that does not fit the type, and its error.
-pub record FirstUnfit {X E : Type 0} (gives : ℕ → Result X E → Type 0) (tag : Tag) (ns : List ℕ) (e : TiffError) : Type 0 where
+pub record FirstUnfit {X E : Type 0} (gives : ℕ → Result X E → Type 0) (tag : Tag) (ns : List ℕ)
+    (e : TiffError) : Type 0 where
   pub before : List ℕ
   pub fitting : List X
   pub n : ℕ
@@ -97,14 +111,18 @@ pub record FirstUnfit {X E : Type 0} (gives : ℕ → Result X E → Type 0) (ta
 
 -- the numbers of a list as the other type, or the error of the first that does not fit, or out of
 -- memory
-abbrev pub NumbersAs : {X E : Type 0} → (ℕ → Result X E → Type 0) → Tag → List ℕ → Result (Vec X Global) TiffError → Type 0
+abbrev pub NumbersAs : {X E : Type 0} → (ℕ → Result X E → Type 0) → Tag → List ℕ
+    → Result (Vec X Global) TiffError → Type 0
 NumbersAs gives tag ns (Ok v) = EachGives gives ns v.items
 NumbersAs gives tag ns (Err e) = IsCause (Unit {0}) ⊥ e (FirstUnfit gives tag ns e)
 
 -- the numbers as the other type, if there is such a tag, or the error of the first that does not
 -- fit
-abbrev pub NumbersIfAs : {X E : Type 0} → (ℕ → Result X E → Type 0) → Type 0 → Type 0 → Tag → Result (Option (List ℕ)) TiffError → Result (Option (Vec X Global)) TiffError → Type 0
+abbrev pub NumbersIfAs : {X E : Type 0} → (ℕ → Result X E → Type 0) → Type 0 → Type 0 → Tag
+    → Result (Option (List ℕ)) TiffError → Result (Option (Vec X Global)) TiffError → Type 0
 NumbersIfAs gives wanting failed tag given (Ok None) = given ≡ Ok None
-NumbersIfAs gives wanting failed tag given (Ok (Some v)) = (ns : List ℕ) × (given ≡ Ok (Some ns)) × EachGives gives ns v.items
+NumbersIfAs gives wanting failed tag given (Ok (Some v)) = (ns : List ℕ) × (given ≡ Ok (Some ns))
+    × EachGives gives ns v.items
 NumbersIfAs gives wanting failed tag given (Err e) =
-    IsCause wanting failed e ((given ≡ Err e) ⊎ ((ns : List ℕ) × (given ≡ Ok (Some ns)) × FirstUnfit gives tag ns e))
+    IsCause wanting failed e
+    ((given ≡ Err e) ⊎ ((ns : List ℕ) × (given ≡ Ok (Some ns)) × FirstUnfit gives tag ns e))

@@ -21,10 +21,14 @@ decoded_as (result.U64 v) = record { sample_type = type.U64; numbers = v.items }
 decoded_as (result.F16 v) = record { sample_type = type.F16; numbers = map (λ b. b.0) v.items }
 decoded_as (result.F32 v) = record { sample_type = type.F32; numbers = map (λ b. b.0) v.items }
 decoded_as (result.F64 v) = record { sample_type = type.F64; numbers = map (λ b. b.0) v.items }
-decoded_as (result.I8 v) = record { sample_type = type.I8; numbers = map (cast_unsigned w8) v.items }
-decoded_as (result.I16 v) = record { sample_type = type.I16; numbers = map (cast_unsigned w16) v.items }
-decoded_as (result.I32 v) = record { sample_type = type.I32; numbers = map (cast_unsigned w32) v.items }
-decoded_as (result.I64 v) = record { sample_type = type.I64; numbers = map (cast_unsigned w64) v.items }
+decoded_as (result.I8 v) =
+    record { sample_type = type.I8; numbers = map (cast_unsigned w8) v.items }
+decoded_as (result.I16 v) =
+    record { sample_type = type.I16; numbers = map (cast_unsigned w16) v.items }
+decoded_as (result.I32 v) =
+    record { sample_type = type.I32; numbers = map (cast_unsigned w32) v.items }
+decoded_as (result.I64 v) =
+    record { sample_type = type.I64; numbers = map (cast_unsigned w64) v.items }
 
 -- a buffer as its number type and the bits of its numbers
 abbrev pub buffered_as : DecodingBuffer → Decoded
@@ -36,9 +40,12 @@ buffered_as (buffer.F16 s) = record { sample_type = type.F16; numbers = map (λ 
 buffered_as (buffer.F32 s) = record { sample_type = type.F32; numbers = map (λ b. b.0) s.now }
 buffered_as (buffer.F64 s) = record { sample_type = type.F64; numbers = map (λ b. b.0) s.now }
 buffered_as (buffer.I8 s) = record { sample_type = type.I8; numbers = map (cast_unsigned w8) s.now }
-buffered_as (buffer.I16 s) = record { sample_type = type.I16; numbers = map (cast_unsigned w16) s.now }
-buffered_as (buffer.I32 s) = record { sample_type = type.I32; numbers = map (cast_unsigned w32) s.now }
-buffered_as (buffer.I64 s) = record { sample_type = type.I64; numbers = map (cast_unsigned w64) s.now }
+buffered_as (buffer.I16 s) =
+    record { sample_type = type.I16; numbers = map (cast_unsigned w16) s.now }
+buffered_as (buffer.I32 s) =
+    record { sample_type = type.I32; numbers = map (cast_unsigned w32) s.now }
+buffered_as (buffer.I64 s) =
+    record { sample_type = type.I64; numbers = map (cast_unsigned w64) s.now }
 
 -- the little-endian bytes of all numbers
 abbrev pub bytes_of : Decoded → List ℕ
@@ -50,4 +57,5 @@ whole_numbers size bytes = bytes ++ replicate ((size - length bytes % size) % si
 
 -- the bytes of the numbers that are decoded from bytes are these bytes, completed with zeros
 abbrev pub BytesAgain : Type 0
-BytesAgain = (t : DecodingSampleType) (bytes : List ℕ) → AreOctets bytes → bytes_of (decoded_samples t bytes) ≡ whole_numbers (size_of t) bytes
+BytesAgain = (t : DecodingSampleType) (bytes : List ℕ) → AreOctets bytes
+    → bytes_of (decoded_samples t bytes) ≡ whole_numbers (size_of t) bytes

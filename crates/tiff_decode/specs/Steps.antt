@@ -11,11 +11,13 @@ abbrev pub Steps : Decoding → List Call → List Reply → Decoding → Type 0
 Steps old [] [] new = new ≡ old
 Steps old [] (r ∷ replies) new = ⊥
 Steps old (c ∷ calls) [] new = ⊥
-Steps old (c ∷ calls) (r ∷ replies) new = (next : Decoding) × Step old c r next × Steps next calls replies new
+Steps old (c ∷ calls) (r ∷ replies) new = (next : Decoding) × Step old c r next
+    × Steps next calls replies new
 
 -- The calls are made, and their replies are appended to earlier ones. Each error of the device in
 -- them is a separate failed read.
-pub record Ran (old : Decoding) (calls : List Call) (earlier all : List Reply) (new : Decoding) : Type 0 where
+pub record Ran (old : Decoding) (calls : List Call) (earlier all : List Reply) (new : Decoding)
+    : Type 0 where
   pub replies : List Reply
   pub added : all ≡ earlier ++ replies
   pub steps : Steps old calls replies new

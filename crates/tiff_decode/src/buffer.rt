@@ -31,7 +31,8 @@ pub enum DecodingBuffer<'a> {
 // The bytes of samples, in little-endian order.
 #[tactic(auto, using(crate::proofs::SampleBytes::lowest_bytes))]
 fn bytes_of<T: Number<N>, const N: usize>(alloc: Global, samples: &[T]) -> TiffResult<Vec<u8>>
-    ensures { AnswersWithoutSource (λ v. v.items) result (Ok (flat_map (le N) (map T.bits samples.now))) }
+    ensures { AnswersWithoutSource (λ v. v.items) result
+        (Ok (flat_map (le N) (map T.bits samples.now))) }
 {
     let mut bytes = Vec::with_capacity(alloc, samples.len().saturating_mul(N))?;
     for sample in samples {
@@ -43,7 +44,8 @@ fn bytes_of<T: Number<N>, const N: usize>(alloc: Global, samples: &[T]) -> TiffR
 impl DecodingBuffer<'_> {
     /// The number of bytes of the samples.
     pub fn byte_len(&self) -> usize
-        ensures { result ≡ length (buffered_as self.now).numbers * size_of (buffered_as self.now).sample_type }
+        ensures { result ≡ length (buffered_as self.now).numbers
+            * size_of (buffered_as self.now).sample_type }
     {
         match self {
             DecodingBuffer::U8(samples) => samples.len(),

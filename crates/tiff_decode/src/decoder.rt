@@ -8,7 +8,7 @@ ghost use Rattle.tiff_base.specs.declared.color.ColorType.{ColorType};
 ghost use Rattle.tiff_page.specs.Layout.{color_of};
 ghost use Rattle.tiff_page.specs.PageView.{page as page_record};
 ghost use Rattle.tiff_ifd.specs.Stretches.{DirectoryReadable};
-ghost use Rattle.tiff_ifd.specs.Walk.{ChainBegins, ChainEnds, NextReadable};
+ghost use Rattle.tiff_ifd.specs.IfdChainWalk.{ChainBegins, ChainEnds, NextReadable};
 ghost use Rattle.tiff_page.specs.Reach.{PageReadable};
 ghost use Rattle.tiff_decode.specs.Asked.{EntryReadable, NextPageReadable, OpenReadable, SeekReadable};
 ghost use Rattle.tiff_decode.specs.ChainPosition.{IsInChain, IsAt};
@@ -29,7 +29,7 @@ use tiff_ifd::decode::read_directory;
 use tiff_ifd::header::{FileHeader, read_header};
 use tiff_ifd::limits::Limits;
 use tiff_ifd::value_reader::ValueReader;
-use tiff_ifd::walk::Walk;
+use tiff_ifd::walk::IfdChainWalk;
 use tiff_page::layout::color_of as page_color;
 use tiff_page::page::Page;
 use tiff_page::read_page::read_page;
@@ -67,16 +67,18 @@ fn keeps_state(fault: &TiffError) -> bool
 fn read_first_directory<R: Source>(
     alloc: Global,
     source: &mut R,
-) -> TiffResult<(FileHeader, Walk, Directory)>
+) -> TiffResult<(FileHeader, IfdChainWalk, Directory)>
     ensures kept { IsKept R.told R.failures result source.old source.new }
-    ensures answer { Answers (λ r. (record { order = r.0.order; kind = r.0.kind; first = r.0.first }, r.0.first, r.2)) result
+    ensures answer { Answers
+        (λ r. (record { order = r.0.order; kind = r.0.kind; first = r.0.first }, r.0.first, r.2))
+        result
         (first_directory (R.told source.old).bytes) (R.failures source.old) (R.failures source.new) }
     ensures walk { IfOk result (λ r. IsInChain r.0.kind r.0.order (R.told source.old).bytes r.0.first r.1
         (Some (record { 0 = r.0.first })) 0 (is_some r.2.next)) }
     ensures asked { AsksOnly (OpenReadable (R.told source.old)) result }
 {
     let header = read_header(source)?;
-    let mut walk = Walk::new(alloc, header.first);
+    let mut walk = IfdChainWalk::new(alloc, header.first);
     match walk.enter_next(alloc, source, header.kind, header.order)? {
         Some(directory) => return Ok((header, walk, directory)),
         None => return Err(TiffFormatError::ImageFileDirectoryNotFound.into()),
@@ -86,7 +88,7 @@ fn read_first_directory<R: Source>(
 // The position of a decoder in the chain: the offset of the directory that it entered last, the
 // number of directories before it, and whether another directory follows it.
 #[derive(Drop)]
-pub(crate) struct Standing {
+pub(crate) struct CurrentDirectory {
     pointer: Option<IfdPointer>,
     at: usize,
     more: bool,
@@ -102,12 +104,16 @@ fn pointer_to(offset: Option<u64>) -> Option<IfdPointer>
     }
 }
 
-impl Standing {
+impl CurrentDirectory {
     // The position at a directory that was read.
     fn at_directory(at: usize, offset: u64, directory: &Directory) -> Self
-        ensures { result ≡ record { pointer = Some (record { 0 = offset }); at = at; more = is_some directory.now.next } }
+        ensures { result ≡ record {
+          pointer = Some (record { 0 = offset });
+          at = at;
+          more = is_some directory.now.next;
+        } }
     {
-        Standing {
+        CurrentDirectory {
             pointer: Some(IfdPointer(offset)),
             at,
             more: links_on(directory),
@@ -117,20 +123,20 @@ impl Standing {
     // The position past the end of the chain, of which all offsets are entered. It is at the last
     // offset where another directory followed the decoder's position before, else at no offset.
     #[tactic(auto, using(crate::proofs::ChainPosition::last_pointed, crate::proofs::ChainPosition::stands_last))]
-    fn past(walk: &Walk, was_open: bool) -> Self
+    fn past(walk: &IfdChainWalk, was_open: bool) -> Self
         ensures pointer { result.pointer ≡ (if was_open then option_map (λ offset. record { 0 = offset })
             (last_or None walk.now.offsets) else None) }
         ensures more { result.more ≡ false }
         ensures stands { IsAt walk.now.offsets result.pointer result.at false }
     {
         if !was_open {
-            return Standing {
+            return CurrentDirectory {
                 pointer: None,
                 at: 0,
                 more: false,
             };
         }
-        return Standing {
+        return CurrentDirectory {
             pointer: pointer_to(walk.last()),
             at: walk.len().saturating_sub(1),
             more: false,
@@ -139,7 +145,7 @@ impl Standing {
 
     // The index of the directory that follows the position, where one follows it.
     #[tactic(auto, using(crate::proofs::ChainPosition::within))]
-    fn following(&self, walk: &Walk) -> usize
+    fn following(&self, walk: &IfdChainWalk) -> usize
         requires stands { IsAt walk.now.offsets self.now.pointer self.now.at self.now.more }
         requires more { self.now.more ≡ true }
         ensures number { result ≡ self.now.at + 1 }
@@ -161,11 +167,13 @@ fn replace_directory<R: Source>(
     ensures kind { tags.new.kind ≡ tags.old.kind }
     ensures order { tags.new.order ≡ tags.old.order }
     ensures limits { tags.new.limits ≡ tags.old.limits }
-    ensures answer { Answers page_record result (page_in tags.old.kind tags.old.order (R.told tags.old.source).bytes tags.old.limits
+    ensures answer { Answers page_record result
+        (page_in tags.old.kind tags.old.order (R.told tags.old.source).bytes tags.old.limits
         directory) (R.failures tags.old.source) (R.failures tags.new.source) }
     ensures replaced { OnOk result (tags.new.directory ≡ directory) }
     ensures stays { OnErr result (tags.new.directory ≡ tags.old.directory) }
-    ensures asked { AsksOnly (PageReadable (R.told tags.old.source) tags.old.kind tags.old.order directory) result }
+    ensures asked { AsksOnly (PageReadable (R.told tags.old.source) tags.old.kind tags.old.order directory)
+        result }
 {
     let former = std::mem::replace(&mut tags.directory, directory);
     match read_page(tags, alloc) {
@@ -184,7 +192,7 @@ fn enter_directory<R: Source>(
     alloc: Global,
     tags: &mut ValueReader<R>,
     page: &mut Page,
-    standing: &mut Standing,
+    standing: &mut CurrentDirectory,
     at: usize,
     offset: u64,
     directory: Directory,
@@ -193,17 +201,22 @@ fn enter_directory<R: Source>(
     ensures kind { tags.new.kind ≡ tags.old.kind }
     ensures order { tags.new.order ≡ tags.old.order }
     ensures follows { (first here : ℕ) → Follows (λ x. x) (outcome.entry_outcome
-        (decoding (R.told tags.old.source) tags.old.kind tags.old.order first (R.failures tags.old.source) standing.old.pointer
+        (decoding (R.told tags.old.source) tags.old.kind tags.old.order first
+        (R.failures tags.old.source) standing.old.pointer
         standing.old.more (page_record page.old) tags.old.directory here tags.old.limits) offset (Ok directory)) result
-        (decoding (R.told tags.old.source) tags.old.kind tags.old.order first (R.failures tags.old.source) standing.old.pointer
+        (decoding (R.told tags.old.source) tags.old.kind tags.old.order first
+        (R.failures tags.old.source) standing.old.pointer
         standing.old.more (page_record page.old) tags.old.directory here tags.old.limits)
-        (decoding (R.told tags.new.source) tags.new.kind tags.new.order first (R.failures tags.new.source) standing.new.pointer
+        (decoding (R.told tags.new.source) tags.new.kind tags.new.order first
+        (R.failures tags.new.source) standing.new.pointer
         standing.new.more (page_record page.new) tags.new.directory here tags.new.limits) }
-    ensures stands { (offsets : List ℕ) → IsAt offsets standing.old.pointer standing.old.at standing.old.more → slice_get offsets
+    ensures stands { (offsets : List ℕ)
+        → IsAt offsets standing.old.pointer standing.old.at standing.old.more → slice_get offsets
         at ≡ Some offset → IsAt offsets standing.new.pointer standing.new.at standing.new.more }
-    ensures asked { AsksOnly (PageReadable (R.told tags.old.source) tags.old.kind tags.old.order directory) result }
+    ensures asked { AsksOnly (PageReadable (R.told tags.old.source) tags.old.kind tags.old.order directory)
+        result }
 {
-    let to = Standing::at_directory(at, offset, &directory);
+    let to = CurrentDirectory::at_directory(at, offset, &directory);
     match replace_directory(alloc, tags, directory) {
         Ok(found) => {
             *page = found;
@@ -226,7 +239,7 @@ fn enter_offset<R: Source>(
     alloc: Global,
     tags: &mut ValueReader<R>,
     page: &mut Page,
-    standing: &mut Standing,
+    standing: &mut CurrentDirectory,
     at: usize,
     offset: u64,
 ) -> TiffResult<()>
@@ -234,15 +247,20 @@ fn enter_offset<R: Source>(
     ensures kind { tags.new.kind ≡ tags.old.kind }
     ensures order { tags.new.order ≡ tags.old.order }
     ensures follows { (first here : ℕ) → Follows (λ x. x) (outcome.enter
-        (decoding (R.told tags.old.source) tags.old.kind tags.old.order first (R.failures tags.old.source) standing.old.pointer
+        (decoding (R.told tags.old.source) tags.old.kind tags.old.order first
+        (R.failures tags.old.source) standing.old.pointer
         standing.old.more (page_record page.old) tags.old.directory here tags.old.limits) offset) result
-        (decoding (R.told tags.old.source) tags.old.kind tags.old.order first (R.failures tags.old.source) standing.old.pointer
+        (decoding (R.told tags.old.source) tags.old.kind tags.old.order first
+        (R.failures tags.old.source) standing.old.pointer
         standing.old.more (page_record page.old) tags.old.directory here tags.old.limits)
-        (decoding (R.told tags.new.source) tags.new.kind tags.new.order first (R.failures tags.new.source) standing.new.pointer
+        (decoding (R.told tags.new.source) tags.new.kind tags.new.order first
+        (R.failures tags.new.source) standing.new.pointer
         standing.new.more (page_record page.new) tags.new.directory here tags.new.limits) }
-    ensures stands { (offsets : List ℕ) → IsAt offsets standing.old.pointer standing.old.at standing.old.more → slice_get offsets
+    ensures stands { (offsets : List ℕ)
+        → IsAt offsets standing.old.pointer standing.old.at standing.old.more → slice_get offsets
         at ≡ Some offset → IsAt offsets standing.new.pointer standing.new.at standing.new.more }
-    ensures asked { AsksOnly (EntryReadable (R.told tags.old.source) tags.old.kind tags.old.order offset) result }
+    ensures asked { AsksOnly (EntryReadable (R.told tags.old.source) tags.old.kind tags.old.order offset)
+        result }
 {
     let (kind, order) = (tags.kind, tags.order);
     let directory = read_directory(alloc, &mut tags.source, offset, kind, order)?;
@@ -260,14 +278,19 @@ fn show_read<R: Source>(
     ensures kept { IsKept R.told R.failures result tags.old.source tags.new.source }
     ensures kind { tags.new.kind ≡ tags.old.kind }
     ensures order { tags.new.order ≡ tags.old.order }
-    ensures follows { (first here : ℕ) (pointer : Option IfdPointer) (more : Bool) → Follows (λ x. x) (outcome.show_outcome
-        (decoding (R.told tags.old.source) tags.old.kind tags.old.order first (R.failures tags.old.source) pointer more
+    ensures follows { (first here : ℕ) (pointer : Option IfdPointer) (more : Bool)
+        → Follows (λ x. x) (outcome.show_outcome
+        (decoding (R.told tags.old.source) tags.old.kind tags.old.order first
+        (R.failures tags.old.source) pointer more
         (page_record page.old) tags.old.directory here tags.old.limits) (Ok directory)) result
-        (decoding (R.told tags.old.source) tags.old.kind tags.old.order first (R.failures tags.old.source) pointer more
+        (decoding (R.told tags.old.source) tags.old.kind tags.old.order first
+        (R.failures tags.old.source) pointer more
         (page_record page.old) tags.old.directory here tags.old.limits)
-        (decoding (R.told tags.new.source) tags.new.kind tags.new.order first (R.failures tags.new.source) pointer more
+        (decoding (R.told tags.new.source) tags.new.kind tags.new.order first
+        (R.failures tags.new.source) pointer more
         (page_record page.new) tags.new.directory here tags.new.limits) }
-    ensures asked { AsksOnly (PageReadable (R.told tags.old.source) tags.old.kind tags.old.order directory) result }
+    ensures asked { AsksOnly (PageReadable (R.told tags.old.source) tags.old.kind tags.old.order directory)
+        result }
 {
     match replace_directory(alloc, tags, directory) {
         Ok(found) => {
@@ -289,12 +312,16 @@ fn show_offset<R: Source>(
     ensures kept { IsKept R.told R.failures result tags.old.source tags.new.source }
     ensures kind { tags.new.kind ≡ tags.old.kind }
     ensures order { tags.new.order ≡ tags.old.order }
-    ensures follows { (first here : ℕ) (pointer : Option IfdPointer) (more : Bool) → Follows (λ x. x) (outcome.show_directory
-        (decoding (R.told tags.old.source) tags.old.kind tags.old.order first (R.failures tags.old.source) pointer more
+    ensures follows { (first here : ℕ) (pointer : Option IfdPointer) (more : Bool)
+        → Follows (λ x. x) (outcome.show_directory
+        (decoding (R.told tags.old.source) tags.old.kind tags.old.order first
+        (R.failures tags.old.source) pointer more
         (page_record page.old) tags.old.directory here tags.old.limits) at) result
-        (decoding (R.told tags.old.source) tags.old.kind tags.old.order first (R.failures tags.old.source) pointer more
+        (decoding (R.told tags.old.source) tags.old.kind tags.old.order first
+        (R.failures tags.old.source) pointer more
         (page_record page.old) tags.old.directory here tags.old.limits)
-        (decoding (R.told tags.new.source) tags.new.kind tags.new.order first (R.failures tags.new.source) pointer more
+        (decoding (R.told tags.new.source) tags.new.kind tags.new.order first
+        (R.failures tags.new.source) pointer more
         (page_record page.new) tags.new.directory here tags.new.limits) }
     ensures asked { AsksOnly (EntryReadable (R.told tags.old.source) tags.old.kind tags.old.order at.0) result }
 {
@@ -306,21 +333,27 @@ fn show_offset<R: Source>(
 // Enters the next offset of a walk. Returns the offset and its directory.
 fn enter_behind<R: Source>(
     alloc: Global,
-    walk: &mut Walk,
+    walk: &mut IfdChainWalk,
     source: &mut R,
     kind: FileKind,
     order: ByteOrder,
 ) -> TiffResult<Option<(u64, Directory)>>
     ensures kept { IsKept R.told R.failures result source.old source.new }
-    ensures begins { (first : ℕ) → ChainBegins kind order (R.told source.old).bytes first walk.old → ChainBegins kind order (R.told source.old).bytes
+    ensures begins { (first : ℕ) → ChainBegins kind order (R.told source.old).bytes first walk.old
+        → ChainBegins kind order (R.told source.old).bytes
         first walk.new }
-    ensures entered { IfOk result (λ found. IfSome found (λ f. (walk.new.offsets ≡ walk.old.offsets ++ f.0 ∷ []) ×
+    ensures entered { IfOk result
+        (λ found. IfSome found (λ f. (walk.new.offsets ≡ walk.old.offsets ++ f.0 ∷ []) ×
         (directory_at kind order (R.told source.old).bytes f.0 ≡ Ok f.1))) }
-    ensures end { IfOk result (λ found. IfNone found ((walk.new ≡ walk.old) × ((first : ℕ) → ChainBegins kind order (R.told source.old).bytes first walk.old
+    ensures end { IfOk result
+        (λ found.
+        IfNone found ((walk.new ≡ walk.old)
+        × ((first : ℕ) → ChainBegins kind order (R.told source.old).bytes first walk.old
         → ChainEnds kind order (R.told source.old).bytes first walk.old None))) }
     ensures stays { OnErr result (walk.new ≡ walk.old) }
     ensures cut { IfErr result (λ e. IsCause (Unit {0}) (R.failures source.old < R.failures source.new) e
-        ((first : ℕ) → ChainBegins kind order (R.told source.old).bytes first walk.old → ChainEnds kind order (R.told source.old).bytes first walk.old (Some e))) }
+        ((first : ℕ) → ChainBegins kind order (R.told source.old).bytes first walk.old
+        → ChainEnds kind order (R.told source.old).bytes first walk.old (Some e))) }
     ensures asked { AsksOnly (NextReadable (R.told source.old) kind order walk.old) result }
 {
     let Some(offset) = walk.next() else {
@@ -339,8 +372,8 @@ pub struct Decoder<R: Source> {
     pub(crate) tags: ValueReader<R>,
     pub(crate) page: Page,
     pub(crate) first: u64,
-    pub(crate) walk: Walk,
-    pub(crate) standing: Standing,
+    pub(crate) walk: IfdChainWalk,
+    pub(crate) standing: CurrentDirectory,
     pub(crate) offset: u64,
 }
 
@@ -372,7 +405,8 @@ impl<R: Source> Model for Decoder<R> {
       };
     } };
 
-    ghost invariant = { λ d. IsInChain d.tags.kind d.tags.order (R.told d.tags.source).bytes d.first d.walk d.standing.pointer d.standing.at d.standing.more };
+    ghost invariant = { λ d. IsInChain d.tags.kind d.tags.order (R.told d.tags.source).bytes d.first d.walk
+        d.standing.pointer d.standing.at d.standing.more };
 }
 
 /// Shows what the decoder knows of the file and the page. Does not read the source.
@@ -417,7 +451,7 @@ impl<R: Source> Decoder<R> {
             page,
             first: header.first,
             walk,
-            standing: Standing {
+            standing: CurrentDirectory {
                 pointer: Some(IfdPointer(header.first)),
                 at: 0,
                 more,
@@ -450,7 +484,8 @@ impl<R: Source> Decoder<R> {
     /// The width and the height of the page, in pixels.
     #[tactic(auto, unfolding(crate::specs::Outcome::dimensions))]
     pub fn dimensions(&mut self) -> TiffResult<(u32, u32)>
-        ensures { FollowsWithoutEither (λ s. s) (outcome.dimensions self.old) result self.old self.new }
+        ensures { FollowsWithoutEither (λ s. s) (outcome.dimensions self.old) result self.old
+            self.new }
     {
         Ok((self.page.width, self.page.height))
     }
@@ -518,7 +553,8 @@ impl<R: Source> Decoder<R> {
     /// `more_images` is true.
     #[tactic(auto, unfolding(crate::specs::Outcome::next_image))]
     pub fn next_image(&mut self) -> TiffResult<()>
-        ensures follows { FollowsBut (self.old.state.more ≡ true) (λ x. x) (outcome.next_image self.old) result self.old self.new }
+        ensures follows { FollowsBut (self.old.state.more ≡ true) (λ x. x) (outcome.next_image self.old) result
+            self.old self.new }
         ensures asked { AsksOnly (NextPageReadable self.old) result }
     {
         if !self.standing.more {
@@ -572,7 +608,7 @@ impl<R: Source> Decoder<R> {
                 return enter_offset(alloc, tags, page, &mut self.standing, ifd_index, offset);
             }
             Ok(None) => {
-                self.standing = Standing::past(&self.walk, self.standing.more);
+                self.standing = CurrentDirectory::past(&self.walk, self.standing.more);
                 return Err(TiffFormatError::ImageFileDirectoryNotFound.into());
             }
             Err(fault) => {
@@ -580,7 +616,7 @@ impl<R: Source> Decoder<R> {
                     return Err(fault);
                 }
                 let was_open = self.standing.more;
-                self.standing = Standing::past(&self.walk, was_open);
+                self.standing = CurrentDirectory::past(&self.walk, was_open);
                 if was_open {
                     return Err(fault);
                 }
@@ -594,7 +630,8 @@ impl<R: Source> Decoder<R> {
     #[tactic(auto, unfolding(crate::specs::Outcome::read_directory))]
     pub fn read_directory(&mut self, pointer: IfdPointer) -> TiffResult<Directory>
         ensures follows { Follows (λ d. d) (outcome.read_directory self.old pointer) result self.old self.new }
-        ensures asked { AsksOnly (DirectoryReadable (source_of self.old) self.old.kind self.old.order pointer.0) result }
+        ensures asked { AsksOnly
+            (DirectoryReadable (source_of self.old) self.old.kind self.old.order pointer.0) result }
     {
         let (kind, order) = (self.tags.kind, self.tags.order);
         read_directory(self.alloc, &mut self.tags.source, pointer.0, kind, order)
@@ -608,7 +645,8 @@ impl<R: Source> Decoder<R> {
     #[tactic(auto, unfolding(crate::specs::Outcome::show_directory))]
     pub fn show_directory(&mut self, pointer: IfdPointer) -> TiffResult<()>
         ensures follows { Follows (λ x. x) (outcome.show_directory self.old pointer) result self.old self.new }
-        ensures asked { AsksOnly (EntryReadable (source_of self.old) self.old.kind self.old.order pointer.0) result }
+        ensures asked { AsksOnly (EntryReadable (source_of self.old) self.old.kind self.old.order pointer.0)
+            result }
     {
         show_offset(self.alloc, &mut self.tags, &mut self.page, pointer)
     }

@@ -3,11 +3,11 @@
 ghost use Rattle.std.specs.Prelude.{◌≡◌, ◌<◌, ◌≤◌, ◌^◌, None, Some, Ok, map, option_map, string_bytes};
 ghost use Rattle.tiff_base.specs.Answers.{AnswersWithoutMemory, NoneSwallowed};
 ghost use Rattle.tiff_ifd.specs.Fitted.{fitted_numbers};
-ghost use Rattle.tiff_ifd.specs.View.{datum};
+ghost use Rattle.tiff_ifd.specs.View.{plain_value};
 ghost use Rattle.tiff_decode.specs.Asked.{AsksForTag};
 ghost use Rattle.tiff_decode.specs.Outcome as outcome;
 ghost use Rattle.tiff_decode.specs.Reader.{directory_or, reader_of, reading, KeepsReading, ReadsTags, IsNumber, NumberAs, NumberIfAs, NumbersAs, NumbersIfAs, TagsRead};
-ghost use Rattle.tiff_decode.specs.Sight.{bits_32, bits_64};
+ghost use Rattle.tiff_decode.specs.ReplyView.{bits_32, bits_64};
 ghost use Rattle.tiff_decode.specs.Step.{BufferLeft};
 
 use crate::decoder::Decoder;
@@ -112,11 +112,15 @@ impl<R: Source> Decoder<R> {
     }
 
     // Reads the value of a tag of the page's directory, or of another directory.
-    #[tactic(auto, using(tiff_ifd::proofs::Within::look_within), unfolding(crate::specs::Outcome::find_tag, tiff_ifd::specs::Look::look_in))]
+    #[tactic(auto, using(tiff_ifd::proofs::Within::look_within), unfolding(crate::specs::Outcome::find_tag, tiff_ifd::specs::TagLookup::look_in))]
     fn value_in(&mut self, other: Option<&Directory>, tag: Tag) -> TiffResult<Option<Value>>
-        ensures read { TagsRead (outcome.WantsTag (reader_of self.old (option_map (λ d. d.now) other.entry)) tag) (option_map datum)
-            (outcome.find_tag (reader_of self.old (option_map (λ d. d.now) other.entry)) tag) result self.old self.new }
-        ensures none { outcome.find_entry (reader_of self.old (option_map (λ d. d.now) other.entry)) tag ≡ None → result ≡ Ok None }
+        ensures read { TagsRead
+            (outcome.WantsTag (reader_of self.old (option_map (λ d. d.now) other.entry)) tag)
+            (option_map plain_value)
+            (outcome.find_tag (reader_of self.old (option_map (λ d. d.now) other.entry)) tag) result
+            self.old self.new }
+        ensures none { outcome.find_entry (reader_of self.old (option_map (λ d. d.now) other.entry)) tag
+            ≡ None → result ≡ Ok None }
         ensures asked { AsksForTag (reader_of self.old (option_map (λ d. d.now) other.entry)) tag result }
     {
         let tags = &mut self.tags;
@@ -134,7 +138,8 @@ impl<R: Source> Decoder<R> {
 
     // The page's directory, or another directory.
     fn directory_of<'x>(&'x self, other: Option<&'x Directory>) -> &'x Directory
-        ensures { result.now ≡ directory_or self.now.state.directory (option_map (λ d. d.now) other.entry) }
+        ensures { result.now ≡ directory_or self.now.state.directory
+            (option_map (λ d. d.now) other.entry) }
     {
         chosen(&self.tags.directory, other)
     }
@@ -142,7 +147,8 @@ impl<R: Source> Decoder<R> {
     // The field of a tag of the page's directory, or of another directory.
     #[tactic(auto, unfolding(crate::specs::Outcome::find_entry))]
     pub(crate) fn entry_in(&self, other: Option<&Directory>, tag: Tag) -> Option<Entry>
-        ensures { result ≡ outcome.find_entry (reader_of self.now (option_map (λ d. d.now) other.entry)) tag }
+        ensures { result
+            ≡ outcome.find_entry (reader_of self.now (option_map (λ d. d.now) other.entry)) tag }
     {
         match chosen(&self.tags.directory, other).get(tag) {
             None => None,
@@ -158,9 +164,14 @@ impl<R: Source> Decoder<R> {
         tag: Tag,
         buf: &mut ValueBuffer,
     ) -> TiffResult<Option<Entry>>
-        ensures read { TagsRead (outcome.WantsBytes (reader_of self.old (option_map (λ d. d.now) other.entry)) tag buf.old)
-            (λ e. (e, buf.new)) (outcome.find_tag_buf (reader_of self.old (option_map (λ d. d.now) other.entry)) tag buf.old) result self.old self.new }
-        ensures left { BufferLeft self.old.order (outcome.find_entry (reader_of self.old (option_map (λ d. d.now) other.entry))
+        ensures read { TagsRead
+            (outcome.WantsBytes (reader_of self.old (option_map (λ d. d.now) other.entry)) tag
+            buf.old)
+            (λ e. (e, buf.new))
+            (outcome.find_tag_buf (reader_of self.old (option_map (λ d. d.now) other.entry)) tag
+            buf.old) result self.old self.new }
+        ensures left { BufferLeft self.old.order
+            (outcome.find_entry (reader_of self.old (option_map (λ d. d.now) other.entry))
             tag) buf.old result buf.new }
         ensures asked { AsksForTag (reader_of self.old (option_map (λ d. d.now) other.entry)) tag result }
     {
@@ -199,7 +210,8 @@ impl<R: Source> Decoder<R> {
         at: u64,
     ) -> TiffResult<Option<usize>>
         ensures answer { AnswersWithoutMemory (λ n. (n, buf.new)) result
-            (outcome.find_tag_bytes (reader_of self.old (option_map (λ d. d.now) other.entry)) tag buf.old at).answer
+            (outcome.find_tag_bytes (reader_of self.old (option_map (λ d. d.now) other.entry)) tag
+            buf.old at).answer
             self.old.failures self.new.failures }
         ensures state { self.new ≡ record self.old { failures = self.new.failures } }
         ensures count { self.old.failures ≤ self.new.failures }
@@ -220,7 +232,8 @@ impl<R: Source> Decoder<R> {
     /// Returns `IoError(UnexpectedEof)` for values past the end of the source, and `InvalidTag` for
     /// bytes that are no text. Allocates no memory where the page does not have the tag.
     pub fn find_tag(&mut self, tag: Tag) -> TiffResult<Option<Value>>
-        ensures read { TagsRead (outcome.WantsTag self.old tag) (option_map datum) (outcome.find_tag self.old tag) result self.old self.new }
+        ensures read { TagsRead (outcome.WantsTag self.old tag) (option_map plain_value)
+            (outcome.find_tag self.old tag) result self.old self.new }
         ensures none { outcome.find_entry self.old tag ≡ None → result ≡ Ok None }
         ensures asked { AsksForTag self.old tag result }
     {
@@ -228,14 +241,16 @@ impl<R: Source> Decoder<R> {
     }
 
     // Reads the number of a tag of the page's directory, or of another directory.
-    #[tactic(auto, unfolding(crate::specs::Outcome::find_tag, crate::specs::Outcome::find_tag_unsigned, tiff_ifd::specs::TagQueries::find_unsigned, tiff_ifd::specs::Look::find))]
+    #[tactic(auto, unfolding(crate::specs::Outcome::find_tag, crate::specs::Outcome::find_tag_unsigned, tiff_ifd::specs::TagQueries::find_unsigned, tiff_ifd::specs::TagLookup::find))]
     pub(crate) fn number_in(
         &mut self,
         other: Option<&Directory>,
         tag: Tag,
     ) -> TiffResult<Option<u64>>
-        ensures read { TagsRead (outcome.WantsTag (reader_of self.old (option_map (λ d. d.now) other.entry)) tag)
-            (λ n. n) (outcome.find_tag_unsigned (reader_of self.old (option_map (λ d. d.now) other.entry)) tag)
+        ensures read { TagsRead
+            (outcome.WantsTag (reader_of self.old (option_map (λ d. d.now) other.entry)) tag)
+            (λ n. n) (outcome.find_tag_unsigned
+            (reader_of self.old (option_map (λ d. d.now) other.entry)) tag)
             result self.old self.new }
         ensures asked { AsksForTag (reader_of self.old (option_map (λ d. d.now) other.entry)) tag result }
     {
@@ -246,14 +261,17 @@ impl<R: Source> Decoder<R> {
     }
 
     // Reads the numbers of a tag of the page's directory, or of another directory.
-    #[tactic(auto, unfolding(crate::specs::Outcome::find_tag, crate::specs::Outcome::find_tag_unsigned_vec, tiff_ifd::specs::TagQueries::find_unsigned_vec, tiff_ifd::specs::Look::find))]
+    #[tactic(auto, unfolding(crate::specs::Outcome::find_tag, crate::specs::Outcome::find_tag_unsigned_vec, tiff_ifd::specs::TagQueries::find_unsigned_vec, tiff_ifd::specs::TagLookup::find))]
     pub(crate) fn numbers_in(
         &mut self,
         other: Option<&Directory>,
         tag: Tag,
     ) -> TiffResult<Option<Vec<u64>>>
-        ensures read { TagsRead (outcome.WantsTag (reader_of self.old (option_map (λ d. d.now) other.entry)) tag) (λ o. option_map (λ v. v.items) o)
-            (outcome.find_tag_unsigned_vec (reader_of self.old (option_map (λ d. d.now) other.entry)) tag) result self.old
+        ensures read { TagsRead
+            (outcome.WantsTag (reader_of self.old (option_map (λ d. d.now) other.entry)) tag)
+            (λ o. option_map (λ v. v.items) o)
+            (outcome.find_tag_unsigned_vec
+            (reader_of self.old (option_map (λ d. d.now) other.entry)) tag) result self.old
             self.new }
         ensures asked { AsksForTag (reader_of self.old (option_map (λ d. d.now) other.entry)) tag result }
     {
@@ -271,8 +289,10 @@ impl<R: Source> Decoder<R> {
     // Reads the number of a required tag of the page's directory, or of another directory.
     #[tactic(auto, unfolding(crate::specs::Outcome::find_tag_unsigned, crate::specs::Outcome::get_tag_unsigned, tiff_ifd::specs::TagQueries::get_unsigned))]
     pub(crate) fn required_in(&mut self, other: Option<&Directory>, tag: Tag) -> TiffResult<u64>
-        ensures read { TagsRead (outcome.WantsTag (reader_of self.old (option_map (λ d. d.now) other.entry)) tag)
-            (λ n. n) (outcome.get_tag_unsigned (reader_of self.old (option_map (λ d. d.now) other.entry)) tag)
+        ensures read { TagsRead
+            (outcome.WantsTag (reader_of self.old (option_map (λ d. d.now) other.entry)) tag)
+            (λ n. n) (outcome.get_tag_unsigned
+            (reader_of self.old (option_map (λ d. d.now) other.entry)) tag)
             result self.old self.new }
         ensures asked { AsksForTag (reader_of self.old (option_map (λ d. d.now) other.entry)) tag result }
     {
@@ -288,7 +308,8 @@ impl<R: Source> Decoder<R> {
     pub fn find_tag_unsigned<T: TryFrom<u64>>(&mut self, tag: Tag) -> TiffResult<Option<T>>
     where
         T::Error: Drop,
-        ensures answer { NumberIfAs T.try_from_gives (outcome.WantsTag self.old tag) (self.old.failures < self.new.failures) tag
+        ensures answer { NumberIfAs T.try_from_gives (outcome.WantsTag self.old tag)
+            (self.old.failures < self.new.failures) tag
             (outcome.find_tag_unsigned self.old tag).answer result }
         ensures state { self.new ≡ record self.old { failures = self.new.failures } }
         ensures count { self.old.failures ≤ self.new.failures }
@@ -311,7 +332,8 @@ impl<R: Source> Decoder<R> {
     ) -> TiffResult<Option<Vec<T>>>
     where
         T::Error: Drop,
-        ensures answer { NumbersIfAs T.try_from_gives (outcome.WantsTag self.old tag) (self.old.failures < self.new.failures) tag
+        ensures answer { NumbersIfAs T.try_from_gives (outcome.WantsTag self.old tag)
+            (self.old.failures < self.new.failures) tag
             (outcome.find_tag_unsigned_vec self.old tag).answer result }
         ensures state { self.new ≡ record self.old { failures = self.new.failures } }
         ensures count { self.old.failures ≤ self.new.failures }
@@ -330,7 +352,8 @@ impl<R: Source> Decoder<R> {
     pub fn get_tag_unsigned<T: TryFrom<u64>>(&mut self, tag: Tag) -> TiffResult<T>
     where
         T::Error: Drop,
-        ensures answer { NumberAs T.try_from_gives (outcome.WantsTag self.old tag) (self.old.failures < self.new.failures) tag
+        ensures answer { NumberAs T.try_from_gives (outcome.WantsTag self.old tag)
+            (self.old.failures < self.new.failures) tag
             (outcome.get_tag_unsigned self.old tag).answer result }
         ensures state { self.new ≡ record self.old { failures = self.new.failures } }
         ensures count { self.old.failures ≤ self.new.failures }
@@ -342,9 +365,10 @@ impl<R: Source> Decoder<R> {
 
     /// Reads the value of a required tag of the page. Returns `RequiredTagNotFound` if the page
     /// does not have the tag, else the errors of `find_tag`.
-    #[tactic(auto, unfolding(crate::specs::Outcome::get_tag, crate::specs::Outcome::find_tag, tiff_ifd::specs::Look::require, tiff_ifd::specs::Look::find))]
+    #[tactic(auto, unfolding(crate::specs::Outcome::get_tag, crate::specs::Outcome::find_tag, tiff_ifd::specs::TagLookup::require, tiff_ifd::specs::TagLookup::find))]
     pub fn get_tag(&mut self, tag: Tag) -> TiffResult<Value>
-        ensures read { TagsRead (outcome.WantsTag self.old tag) datum (outcome.get_tag self.old tag) result self.old self.new }
+        ensures read { TagsRead (outcome.WantsTag self.old tag) plain_value (outcome.get_tag self.old tag)
+            result self.old self.new }
         ensures asked { AsksForTag self.old tag result }
     {
         match self.find_tag(tag)? {
@@ -357,7 +381,8 @@ impl<R: Source> Decoder<R> {
     /// directory does not have the tag, else the errors of `find_tag` and of `Value::into_u32`.
     #[tactic(auto, using(crate::proofs::Required::unconverted, crate::proofs::Required::required_by, crate::proofs::Required::value_found), unfolding(crate::specs::Outcome::get_tag_u32, crate::specs::Outcome::get_tag))]
     pub fn get_tag_u32(&mut self, tag: Tag) -> TiffResult<u32>
-        ensures read { TagsRead (outcome.WantsTag self.old tag) (λ n. n) (outcome.get_tag_u32 self.old tag) result self.old self.new }
+        ensures read { TagsRead (outcome.WantsTag self.old tag) (λ n. n) (outcome.get_tag_u32 self.old tag)
+            result self.old self.new }
         ensures asked { AsksForTag self.old tag result }
     {
         self.get_tag(tag)?.into_u32()
@@ -367,7 +392,8 @@ impl<R: Source> Decoder<R> {
     /// directory does not have the tag, else the errors of `find_tag` and of `Value::into_u64`.
     #[tactic(auto, using(crate::proofs::Required::unconverted, crate::proofs::Required::required_by, crate::proofs::Required::value_found), unfolding(crate::specs::Outcome::get_tag_u64, crate::specs::Outcome::get_tag))]
     pub fn get_tag_u64(&mut self, tag: Tag) -> TiffResult<u64>
-        ensures read { TagsRead (outcome.WantsTag self.old tag) (λ n. n) (outcome.get_tag_u64 self.old tag) result self.old self.new }
+        ensures read { TagsRead (outcome.WantsTag self.old tag) (λ n. n) (outcome.get_tag_u64 self.old tag)
+            result self.old self.new }
         ensures asked { AsksForTag self.old tag result }
     {
         self.get_tag(tag)?.into_u64()
@@ -378,7 +404,8 @@ impl<R: Source> Decoder<R> {
     /// and of `Value::into_f32`.
     #[tactic(auto, using(crate::proofs::Required::unconverted, crate::proofs::Required::required_by, crate::proofs::Required::value_found), unfolding(crate::specs::Outcome::get_tag_f32, crate::specs::Outcome::get_tag))]
     pub fn get_tag_f32(&mut self, tag: Tag) -> TiffResult<Bits32>
-        ensures read { TagsRead (outcome.WantsTag self.old tag) (bits_32) (outcome.get_tag_f32 self.old tag) result self.old self.new }
+        ensures read { TagsRead (outcome.WantsTag self.old tag) (bits_32) (outcome.get_tag_f32 self.old tag)
+            result self.old self.new }
         ensures asked { AsksForTag self.old tag result }
     {
         self.get_tag(tag)?.into_f32()
@@ -389,7 +416,8 @@ impl<R: Source> Decoder<R> {
     /// and of `Value::into_f64`.
     #[tactic(auto, using(crate::proofs::Required::unconverted, crate::proofs::Required::required_by, crate::proofs::Required::value_found), unfolding(crate::specs::Outcome::get_tag_f64, crate::specs::Outcome::get_tag))]
     pub fn get_tag_f64(&mut self, tag: Tag) -> TiffResult<Bits64>
-        ensures read { TagsRead (outcome.WantsTag self.old tag) (bits_64) (outcome.get_tag_f64 self.old tag) result self.old self.new }
+        ensures read { TagsRead (outcome.WantsTag self.old tag) (bits_64) (outcome.get_tag_f64 self.old tag)
+            result self.old self.new }
         ensures asked { AsksForTag self.old tag result }
     {
         self.get_tag(tag)?.into_f64()
@@ -399,7 +427,8 @@ impl<R: Source> Decoder<R> {
     /// directory does not have the tag, else the errors of `find_tag` and of `Value::into_u32_vec`.
     #[tactic(auto, using(crate::proofs::Required::unconverted, crate::proofs::Required::required_by, crate::proofs::Required::value_found), unfolding(crate::specs::Outcome::get_tag_u32_vec, crate::specs::Outcome::get_tag))]
     pub fn get_tag_u32_vec(&mut self, tag: Tag) -> TiffResult<Vec<u32>>
-        ensures read { TagsRead (outcome.WantsTag self.old tag) (λ v. v.items) (outcome.get_tag_u32_vec self.old tag) result self.old self.new }
+        ensures read { TagsRead (outcome.WantsTag self.old tag) (λ v. v.items)
+            (outcome.get_tag_u32_vec self.old tag) result self.old self.new }
         ensures asked { AsksForTag self.old tag result }
     {
         let alloc = self.alloc;
@@ -410,7 +439,8 @@ impl<R: Source> Decoder<R> {
     /// directory does not have the tag, else the errors of `find_tag` and of `Value::into_u16_vec`.
     #[tactic(auto, using(crate::proofs::Required::unconverted, crate::proofs::Required::required_by, crate::proofs::Required::value_found), unfolding(crate::specs::Outcome::get_tag_u16_vec, crate::specs::Outcome::get_tag))]
     pub fn get_tag_u16_vec(&mut self, tag: Tag) -> TiffResult<Vec<u16>>
-        ensures read { TagsRead (outcome.WantsTag self.old tag) (λ v. v.items) (outcome.get_tag_u16_vec self.old tag) result self.old self.new }
+        ensures read { TagsRead (outcome.WantsTag self.old tag) (λ v. v.items)
+            (outcome.get_tag_u16_vec self.old tag) result self.old self.new }
         ensures asked { AsksForTag self.old tag result }
     {
         let alloc = self.alloc;
@@ -421,7 +451,8 @@ impl<R: Source> Decoder<R> {
     /// directory does not have the tag, else the errors of `find_tag` and of `Value::into_u64_vec`.
     #[tactic(auto, using(crate::proofs::Required::unconverted, crate::proofs::Required::required_by, crate::proofs::Required::value_found), unfolding(crate::specs::Outcome::get_tag_u64_vec, crate::specs::Outcome::get_tag))]
     pub fn get_tag_u64_vec(&mut self, tag: Tag) -> TiffResult<Vec<u64>>
-        ensures read { TagsRead (outcome.WantsTag self.old tag) (λ v. v.items) (outcome.get_tag_u64_vec self.old tag) result self.old self.new }
+        ensures read { TagsRead (outcome.WantsTag self.old tag) (λ v. v.items)
+            (outcome.get_tag_u64_vec self.old tag) result self.old self.new }
         ensures asked { AsksForTag self.old tag result }
     {
         let alloc = self.alloc;
@@ -433,7 +464,8 @@ impl<R: Source> Decoder<R> {
     /// and of `Value::into_f32_vec`.
     #[tactic(auto, using(crate::proofs::Required::unconverted, crate::proofs::Required::required_by, crate::proofs::Required::value_found), unfolding(crate::specs::Outcome::get_tag_f32_vec, crate::specs::Outcome::get_tag))]
     pub fn get_tag_f32_vec(&mut self, tag: Tag) -> TiffResult<Vec<Bits32>>
-        ensures read { TagsRead (outcome.WantsTag self.old tag) (λ v. map bits_32 v.items) (outcome.get_tag_f32_vec self.old tag) result self.old self.new }
+        ensures read { TagsRead (outcome.WantsTag self.old tag) (λ v. map bits_32 v.items)
+            (outcome.get_tag_f32_vec self.old tag) result self.old self.new }
         ensures asked { AsksForTag self.old tag result }
     {
         let alloc = self.alloc;
@@ -445,7 +477,8 @@ impl<R: Source> Decoder<R> {
     /// and of `Value::into_f64_vec`.
     #[tactic(auto, using(crate::proofs::Required::unconverted, crate::proofs::Required::required_by, crate::proofs::Required::value_found), unfolding(crate::specs::Outcome::get_tag_f64_vec, crate::specs::Outcome::get_tag))]
     pub fn get_tag_f64_vec(&mut self, tag: Tag) -> TiffResult<Vec<Bits64>>
-        ensures read { TagsRead (outcome.WantsTag self.old tag) (λ v. map bits_64 v.items) (outcome.get_tag_f64_vec self.old tag) result self.old self.new }
+        ensures read { TagsRead (outcome.WantsTag self.old tag) (λ v. map bits_64 v.items)
+            (outcome.get_tag_f64_vec self.old tag) result self.old self.new }
         ensures asked { AsksForTag self.old tag result }
     {
         let alloc = self.alloc;
@@ -456,7 +489,8 @@ impl<R: Source> Decoder<R> {
     /// have the tag, else the errors of `find_tag` and of `Value::into_u8_vec`.
     #[tactic(auto, using(crate::proofs::Required::unconverted, crate::proofs::Required::required_by, crate::proofs::Required::value_found), unfolding(crate::specs::Outcome::get_tag_u8_vec, crate::specs::Outcome::get_tag))]
     pub fn get_tag_u8_vec(&mut self, tag: Tag) -> TiffResult<Vec<u8>>
-        ensures read { TagsRead (outcome.WantsTag self.old tag) (λ v. v.items) (outcome.get_tag_u8_vec self.old tag) result self.old self.new }
+        ensures read { TagsRead (outcome.WantsTag self.old tag) (λ v. v.items)
+            (outcome.get_tag_u8_vec self.old tag) result self.old self.new }
         ensures asked { AsksForTag self.old tag result }
     {
         let alloc = self.alloc;
@@ -467,7 +501,8 @@ impl<R: Source> Decoder<R> {
     /// have the tag, else the errors of `find_tag` and of `Value::into_string`.
     #[tactic(auto, using(crate::proofs::Required::unconverted, crate::proofs::Required::required_by, crate::proofs::Required::value_found), unfolding(crate::specs::Outcome::get_tag_ascii_string, crate::specs::Outcome::get_tag))]
     pub fn get_tag_ascii_string(&mut self, tag: Tag) -> TiffResult<String>
-        ensures read { TagsRead (outcome.WantsTag self.old tag) (string_bytes) (outcome.get_tag_ascii_string self.old tag) result self.old self.new }
+        ensures read { TagsRead (outcome.WantsTag self.old tag) (string_bytes)
+            (outcome.get_tag_ascii_string self.old tag) result self.old self.new }
         ensures asked { AsksForTag self.old tag result }
     {
         self.get_tag(tag)?.into_string()
@@ -477,7 +512,8 @@ impl<R: Source> Decoder<R> {
 impl<'a, R: Source> IfdDecoder<'a, R> {
     /// The directory whose tags the calls read.
     pub fn directory(&self) -> &Directory
-        ensures { result.now ≡ directory_or self.now.decoder.now.state.directory (option_map (λ d. d.now) self.now.other) }
+        ensures { result.now ≡ directory_or self.now.decoder.now.state.directory
+            (option_map (λ d. d.now) self.now.other) }
     {
         self.decoder.directory_of(self.other)
     }
@@ -496,8 +532,10 @@ impl<'a, R: Source> IfdDecoder<'a, R> {
     /// values past the end of the source. After any error other than `LimitsExceeded` the buffer
     /// has the type of the field and no values.
     pub fn find_tag_buf(&mut self, tag: Tag, buf: &mut ValueBuffer) -> TiffResult<Option<Entry>>
-        ensures read { ReadsTags (outcome.WantsBytes (reading self.old) tag buf.old) (λ e. (e, buf.new)) (outcome.find_tag_buf (reading self.old) tag buf.old) result self.old self.new }
-        ensures left { BufferLeft self.old.decoder.now.order (outcome.find_entry (reading self.old) tag) buf.old result buf.new }
+        ensures read { ReadsTags (outcome.WantsBytes (reading self.old) tag buf.old) (λ e. (e, buf.new))
+            (outcome.find_tag_buf (reading self.old) tag buf.old) result self.old self.new }
+        ensures left { BufferLeft self.old.decoder.now.order (outcome.find_entry (reading self.old) tag)
+            buf.old result buf.new }
         ensures asked { AsksForTag (reading self.old) tag result }
     {
         self.decoder.buf_in(self.other, tag, buf)
@@ -516,7 +554,8 @@ impl<'a, R: Source> IfdDecoder<'a, R> {
     ) -> TiffResult<Option<usize>>
         ensures kept { KeepsReading result self.old self.new }
         ensures answer { AnswersWithoutMemory (λ n. (n, buf.new)) result
-            (outcome.find_tag_bytes (reading self.old) tag buf.old offset).answer self.old.decoder.now.failures
+            (outcome.find_tag_bytes (reading self.old) tag buf.old offset).answer
+            self.old.decoder.now.failures
             self.new.decoder.now.failures }
         ensures asked { AsksForTag (reading self.old) tag result }
     {
@@ -526,7 +565,8 @@ impl<'a, R: Source> IfdDecoder<'a, R> {
     /// Reads the value of a tag. Returns `None` if the directory does not have the tag. Returns the
     /// errors of `Decoder::find_tag`.
     pub fn find_tag(&mut self, tag: Tag) -> TiffResult<Option<Value>>
-        ensures read { ReadsTags (outcome.WantsTag (reading self.old) tag) (option_map datum) (outcome.find_tag (reading self.old) tag) result self.old self.new }
+        ensures read { ReadsTags (outcome.WantsTag (reading self.old) tag) (option_map plain_value)
+            (outcome.find_tag (reading self.old) tag) result self.old self.new }
         ensures none { outcome.find_entry (reading self.old) tag ≡ None → result ≡ Ok None }
         ensures asked { AsksForTag (reading self.old) tag result }
     {
@@ -590,9 +630,10 @@ impl<'a, R: Source> IfdDecoder<'a, R> {
 
     /// Reads the value of a required tag. Returns `RequiredTagNotFound` if the directory does not
     /// have the tag, else the errors of `find_tag`.
-    #[tactic(auto, unfolding(crate::specs::Outcome::get_tag, crate::specs::Outcome::find_tag, tiff_ifd::specs::Look::require, tiff_ifd::specs::Look::find))]
+    #[tactic(auto, unfolding(crate::specs::Outcome::get_tag, crate::specs::Outcome::find_tag, tiff_ifd::specs::TagLookup::require, tiff_ifd::specs::TagLookup::find))]
     pub fn get_tag(&mut self, tag: Tag) -> TiffResult<Value>
-        ensures read { ReadsTags (outcome.WantsTag (reading self.old) tag) datum (outcome.get_tag (reading self.old) tag) result self.old self.new }
+        ensures read { ReadsTags (outcome.WantsTag (reading self.old) tag) plain_value
+            (outcome.get_tag (reading self.old) tag) result self.old self.new }
         ensures asked { AsksForTag (reading self.old) tag result }
     {
         match self.find_tag(tag)? {
@@ -605,7 +646,8 @@ impl<'a, R: Source> IfdDecoder<'a, R> {
     /// directory does not have the tag, else the errors of `find_tag` and of `Value::into_u32`.
     #[tactic(auto, using(crate::proofs::Required::unconverted, crate::proofs::Required::required_by, crate::proofs::Required::value_found), unfolding(crate::specs::Outcome::get_tag_u32, crate::specs::Outcome::get_tag))]
     pub fn get_tag_u32(&mut self, tag: Tag) -> TiffResult<u32>
-        ensures read { ReadsTags (outcome.WantsTag (reading self.old) tag) (λ n. n) (outcome.get_tag_u32 (reading self.old) tag) result self.old self.new }
+        ensures read { ReadsTags (outcome.WantsTag (reading self.old) tag) (λ n. n)
+            (outcome.get_tag_u32 (reading self.old) tag) result self.old self.new }
         ensures asked { AsksForTag (reading self.old) tag result }
     {
         self.get_tag(tag)?.into_u32()
@@ -615,7 +657,8 @@ impl<'a, R: Source> IfdDecoder<'a, R> {
     /// directory does not have the tag, else the errors of `find_tag` and of `Value::into_u64`.
     #[tactic(auto, using(crate::proofs::Required::unconverted, crate::proofs::Required::required_by, crate::proofs::Required::value_found), unfolding(crate::specs::Outcome::get_tag_u64, crate::specs::Outcome::get_tag))]
     pub fn get_tag_u64(&mut self, tag: Tag) -> TiffResult<u64>
-        ensures read { ReadsTags (outcome.WantsTag (reading self.old) tag) (λ n. n) (outcome.get_tag_u64 (reading self.old) tag) result self.old self.new }
+        ensures read { ReadsTags (outcome.WantsTag (reading self.old) tag) (λ n. n)
+            (outcome.get_tag_u64 (reading self.old) tag) result self.old self.new }
         ensures asked { AsksForTag (reading self.old) tag result }
     {
         self.get_tag(tag)?.into_u64()
@@ -626,7 +669,8 @@ impl<'a, R: Source> IfdDecoder<'a, R> {
     /// and of `Value::into_f32`.
     #[tactic(auto, using(crate::proofs::Required::unconverted, crate::proofs::Required::required_by, crate::proofs::Required::value_found), unfolding(crate::specs::Outcome::get_tag_f32, crate::specs::Outcome::get_tag))]
     pub fn get_tag_f32(&mut self, tag: Tag) -> TiffResult<Bits32>
-        ensures read { ReadsTags (outcome.WantsTag (reading self.old) tag) bits_32 (outcome.get_tag_f32 (reading self.old) tag) result self.old self.new }
+        ensures read { ReadsTags (outcome.WantsTag (reading self.old) tag) bits_32
+            (outcome.get_tag_f32 (reading self.old) tag) result self.old self.new }
         ensures asked { AsksForTag (reading self.old) tag result }
     {
         self.get_tag(tag)?.into_f32()
@@ -637,7 +681,8 @@ impl<'a, R: Source> IfdDecoder<'a, R> {
     /// and of `Value::into_f64`.
     #[tactic(auto, using(crate::proofs::Required::unconverted, crate::proofs::Required::required_by, crate::proofs::Required::value_found), unfolding(crate::specs::Outcome::get_tag_f64, crate::specs::Outcome::get_tag))]
     pub fn get_tag_f64(&mut self, tag: Tag) -> TiffResult<Bits64>
-        ensures read { ReadsTags (outcome.WantsTag (reading self.old) tag) bits_64 (outcome.get_tag_f64 (reading self.old) tag) result self.old self.new }
+        ensures read { ReadsTags (outcome.WantsTag (reading self.old) tag) bits_64
+            (outcome.get_tag_f64 (reading self.old) tag) result self.old self.new }
         ensures asked { AsksForTag (reading self.old) tag result }
     {
         self.get_tag(tag)?.into_f64()
@@ -647,7 +692,8 @@ impl<'a, R: Source> IfdDecoder<'a, R> {
     /// directory does not have the tag, else the errors of `find_tag` and of `Value::into_u32_vec`.
     #[tactic(auto, using(crate::proofs::Required::unconverted, crate::proofs::Required::required_by, crate::proofs::Required::value_found), unfolding(crate::specs::Outcome::get_tag_u32_vec, crate::specs::Outcome::get_tag))]
     pub fn get_tag_u32_vec(&mut self, tag: Tag) -> TiffResult<Vec<u32>>
-        ensures read { ReadsTags (outcome.WantsTag (reading self.old) tag) (λ v. v.items) (outcome.get_tag_u32_vec (reading self.old) tag) result self.old self.new }
+        ensures read { ReadsTags (outcome.WantsTag (reading self.old) tag) (λ v. v.items)
+            (outcome.get_tag_u32_vec (reading self.old) tag) result self.old self.new }
         ensures asked { AsksForTag (reading self.old) tag result }
     {
         let alloc = self.alloc;
@@ -658,7 +704,8 @@ impl<'a, R: Source> IfdDecoder<'a, R> {
     /// directory does not have the tag, else the errors of `find_tag` and of `Value::into_u16_vec`.
     #[tactic(auto, using(crate::proofs::Required::unconverted, crate::proofs::Required::required_by, crate::proofs::Required::value_found), unfolding(crate::specs::Outcome::get_tag_u16_vec, crate::specs::Outcome::get_tag))]
     pub fn get_tag_u16_vec(&mut self, tag: Tag) -> TiffResult<Vec<u16>>
-        ensures read { ReadsTags (outcome.WantsTag (reading self.old) tag) (λ v. v.items) (outcome.get_tag_u16_vec (reading self.old) tag) result self.old self.new }
+        ensures read { ReadsTags (outcome.WantsTag (reading self.old) tag) (λ v. v.items)
+            (outcome.get_tag_u16_vec (reading self.old) tag) result self.old self.new }
         ensures asked { AsksForTag (reading self.old) tag result }
     {
         let alloc = self.alloc;
@@ -669,7 +716,8 @@ impl<'a, R: Source> IfdDecoder<'a, R> {
     /// directory does not have the tag, else the errors of `find_tag` and of `Value::into_u64_vec`.
     #[tactic(auto, using(crate::proofs::Required::unconverted, crate::proofs::Required::required_by, crate::proofs::Required::value_found), unfolding(crate::specs::Outcome::get_tag_u64_vec, crate::specs::Outcome::get_tag))]
     pub fn get_tag_u64_vec(&mut self, tag: Tag) -> TiffResult<Vec<u64>>
-        ensures read { ReadsTags (outcome.WantsTag (reading self.old) tag) (λ v. v.items) (outcome.get_tag_u64_vec (reading self.old) tag) result self.old self.new }
+        ensures read { ReadsTags (outcome.WantsTag (reading self.old) tag) (λ v. v.items)
+            (outcome.get_tag_u64_vec (reading self.old) tag) result self.old self.new }
         ensures asked { AsksForTag (reading self.old) tag result }
     {
         let alloc = self.alloc;
@@ -681,7 +729,8 @@ impl<'a, R: Source> IfdDecoder<'a, R> {
     /// and of `Value::into_f32_vec`.
     #[tactic(auto, using(crate::proofs::Required::unconverted, crate::proofs::Required::required_by, crate::proofs::Required::value_found), unfolding(crate::specs::Outcome::get_tag_f32_vec, crate::specs::Outcome::get_tag))]
     pub fn get_tag_f32_vec(&mut self, tag: Tag) -> TiffResult<Vec<Bits32>>
-        ensures read { ReadsTags (outcome.WantsTag (reading self.old) tag) (λ v. map bits_32 v.items) (outcome.get_tag_f32_vec (reading self.old) tag) result self.old self.new }
+        ensures read { ReadsTags (outcome.WantsTag (reading self.old) tag) (λ v. map bits_32 v.items)
+            (outcome.get_tag_f32_vec (reading self.old) tag) result self.old self.new }
         ensures asked { AsksForTag (reading self.old) tag result }
     {
         let alloc = self.alloc;
@@ -693,7 +742,8 @@ impl<'a, R: Source> IfdDecoder<'a, R> {
     /// and of `Value::into_f64_vec`.
     #[tactic(auto, using(crate::proofs::Required::unconverted, crate::proofs::Required::required_by, crate::proofs::Required::value_found), unfolding(crate::specs::Outcome::get_tag_f64_vec, crate::specs::Outcome::get_tag))]
     pub fn get_tag_f64_vec(&mut self, tag: Tag) -> TiffResult<Vec<Bits64>>
-        ensures read { ReadsTags (outcome.WantsTag (reading self.old) tag) (λ v. map bits_64 v.items) (outcome.get_tag_f64_vec (reading self.old) tag) result self.old self.new }
+        ensures read { ReadsTags (outcome.WantsTag (reading self.old) tag) (λ v. map bits_64 v.items)
+            (outcome.get_tag_f64_vec (reading self.old) tag) result self.old self.new }
         ensures asked { AsksForTag (reading self.old) tag result }
     {
         let alloc = self.alloc;
@@ -704,7 +754,8 @@ impl<'a, R: Source> IfdDecoder<'a, R> {
     /// have the tag, else the errors of `find_tag` and of `Value::into_u8_vec`.
     #[tactic(auto, using(crate::proofs::Required::unconverted, crate::proofs::Required::required_by, crate::proofs::Required::value_found), unfolding(crate::specs::Outcome::get_tag_u8_vec, crate::specs::Outcome::get_tag))]
     pub fn get_tag_u8_vec(&mut self, tag: Tag) -> TiffResult<Vec<u8>>
-        ensures read { ReadsTags (outcome.WantsTag (reading self.old) tag) (λ v. v.items) (outcome.get_tag_u8_vec (reading self.old) tag) result self.old self.new }
+        ensures read { ReadsTags (outcome.WantsTag (reading self.old) tag) (λ v. v.items)
+            (outcome.get_tag_u8_vec (reading self.old) tag) result self.old self.new }
         ensures asked { AsksForTag (reading self.old) tag result }
     {
         let alloc = self.alloc;
@@ -715,7 +766,8 @@ impl<'a, R: Source> IfdDecoder<'a, R> {
     /// have the tag, else the errors of `find_tag` and of `Value::into_string`.
     #[tactic(auto, using(crate::proofs::Required::unconverted, crate::proofs::Required::required_by, crate::proofs::Required::value_found), unfolding(crate::specs::Outcome::get_tag_ascii_string, crate::specs::Outcome::get_tag))]
     pub fn get_tag_ascii_string(&mut self, tag: Tag) -> TiffResult<String>
-        ensures read { ReadsTags (outcome.WantsTag (reading self.old) tag) string_bytes (outcome.get_tag_ascii_string (reading self.old) tag) result self.old self.new }
+        ensures read { ReadsTags (outcome.WantsTag (reading self.old) tag) string_bytes
+            (outcome.get_tag_ascii_string (reading self.old) tag) result self.old self.new }
         ensures asked { AsksForTag (reading self.old) tag result }
     {
         self.get_tag(tag)?.into_string()

@@ -36,7 +36,8 @@ impl<R: Source> Decoder<R> {
     /// `u32::MAX`.
     #[tactic(auto, unfolding(crate::specs::Outcome::strip_count))]
     pub fn strip_count(&mut self) -> TiffResult<u32>
-        ensures { FollowsWithoutEither (λ n. n) (outcome.strip_count self.old) result self.old self.new }
+        ensures { FollowsWithoutEither (λ n. n) (outcome.strip_count self.old) result self.old
+            self.new }
     {
         counts::strip_count(&self.page)
     }
@@ -45,7 +46,8 @@ impl<R: Source> Decoder<R> {
     /// strips.
     #[tactic(auto, unfolding(crate::specs::Outcome::tile_count))]
     pub fn tile_count(&mut self) -> TiffResult<u32>
-        ensures { FollowsWithoutEither (λ n. n) (outcome.tile_count self.old) result self.old self.new }
+        ensures { FollowsWithoutEither (λ n. n) (outcome.tile_count self.old) result self.old
+            self.new }
     {
         counts::tile_count(&self.page)
     }
@@ -75,7 +77,8 @@ impl<R: Source> Decoder<R> {
     /// `None`.
     #[tactic(auto, unfolding(crate::specs::Outcome::image_buffer_layout))]
     pub fn image_buffer_layout(&mut self) -> TiffResult<BufferLayoutPreference>
-        ensures follows { FollowsOrFaults (λ l. l) (outcome.image_buffer_layout self.old) result self.old self.new }
+        ensures follows { FollowsOrFaults (λ l. l) (outcome.image_buffer_layout self.old) result self.old
+            self.new }
         ensures rows { IfOk result (λ l. IfSome l.row_stride (λ n. 0 < n)) }
         ensures plane { IfOk result (λ l. IfSome l.plane_stride (λ n. 0 < n)) }
     {
@@ -91,7 +94,8 @@ impl<R: Source> Decoder<R> {
         &mut self,
         chunk_index: u32,
     ) -> TiffResult<BufferLayoutPreference>
-        ensures follows { FollowsOrFaults (λ l. l) (outcome.image_chunk_buffer_layout self.old chunk_index) result self.old self.new }
+        ensures follows { FollowsOrFaults (λ l. l) (outcome.image_chunk_buffer_layout self.old chunk_index)
+            result self.old self.new }
         ensures rows { IfOk result (λ l. IfSome l.row_stride (λ n. 0 < n)) }
         ensures plane { IfOk result (λ l. IfSome l.plane_stride (λ n. 0 < n)) }
     {
@@ -107,7 +111,8 @@ impl<R: Source> Decoder<R> {
         &mut self,
         unit: TiffCodingUnit,
     ) -> TiffResult<BufferLayoutPreference>
-        ensures follows { FollowsOrFaults (λ l. l) (outcome.image_coding_unit_layout self.old unit.0) result self.old self.new }
+        ensures follows { FollowsOrFaults (λ l. l) (outcome.image_coding_unit_layout self.old unit.0) result
+            self.old self.new }
         ensures rows { IfOk result (λ l. IfSome l.row_stride (λ n. 0 < n)) }
         ensures plane { IfOk result (λ l. IfSome l.plane_stride (λ n. 0 < n)) }
     {

@@ -10,7 +10,7 @@ ghost use Rattle.tiff_base.specs.Sparing.{IsWithinLimits};
 ghost use Rattle.tiff_decode.specs.Asked.{AsksHere};
 ghost use Rattle.tiff_decode.specs.Machine.{FollowsBut, FollowsWithoutMemory, FollowsWithoutEither};
 ghost use Rattle.tiff_decode.specs.Outcome as outcome;
-ghost use Rattle.tiff_decode.specs.Sight.{bits_32, bits_64};
+ghost use Rattle.tiff_decode.specs.ReplyView.{bits_32, bits_64};
 
 use crate::decoder::Decoder;
 use tiff_base::error::{TiffFormatError, TiffResult};
@@ -25,7 +25,8 @@ use tiff_ifd::read_value::read_text_at;
 #[tactic(auto, unfolding(tiff_base::specs::Number::number))]
 fn read_u8_at<R: Source>(source: &mut R, at: u64, order: ByteOrder) -> TiffResult<u8>
     ensures kept { IsKept R.told R.failures result source.old source.new }
-    ensures answer { AnswersWithoutMemory (λ n. n) result (number_at order w8 (R.told source.old).bytes at) (R.failures source.old)
+    ensures answer { AnswersWithoutMemory (λ n. n) result (number_at order w8 (R.told source.old).bytes at)
+        (R.failures source.old)
         (R.failures source.new) }
     ensures asked { AsksOnly (AreReadable (R.told source.old) at 1) result }
 {
@@ -44,7 +45,8 @@ impl<R: Source> Decoder<R> {
     /// Moves the low-level reads to an offset. Accepts any offset.
     #[tactic(auto, unfolding(crate::specs::Outcome::goto_offset))]
     pub fn goto_offset(&mut self, offset: u32) -> TiffResult<()>
-        ensures { FollowsWithoutEither (λ x. x) (outcome.goto_offset self.old offset) result self.old self.new }
+        ensures { FollowsWithoutEither (λ x. x) (outcome.goto_offset self.old offset) result
+            self.old self.new }
     {
         self.offset = u64::from(offset);
         Ok(())
@@ -53,7 +55,8 @@ impl<R: Source> Decoder<R> {
     /// Moves the low-level reads to an offset. Accepts any offset.
     #[tactic(auto, unfolding(crate::specs::Outcome::goto_offset))]
     pub fn goto_offset_u64(&mut self, offset: u64) -> TiffResult<()>
-        ensures { FollowsWithoutEither (λ x. x) (outcome.goto_offset self.old offset) result self.old self.new }
+        ensures { FollowsWithoutEither (λ x. x) (outcome.goto_offset self.old offset) result
+            self.old self.new }
     {
         self.offset = offset;
         Ok(())
@@ -62,7 +65,8 @@ impl<R: Source> Decoder<R> {
     /// Reads the next offset: a number of 4 bytes, or of 8 bytes in BigTIFF.
     #[tactic(auto, unfolding(crate::specs::Outcome::read_ifd_offset))]
     pub fn read_ifd_offset(&mut self) -> TiffResult<u64>
-        ensures follows { FollowsWithoutMemory (λ x. x) (outcome.read_ifd_offset self.old) result self.old self.new }
+        ensures follows { FollowsWithoutMemory (λ x. x) (outcome.read_ifd_offset self.old) result self.old
+            self.new }
         ensures asked { AsksHere self.old (byte_len (offset_width self.old.kind)) result }
     {
         let kind = self.tags.kind;
@@ -194,7 +198,8 @@ impl<R: Source> Decoder<R> {
     /// Reads the next eight bytes as they are in the file.
     #[tactic(auto, unfolding(crate::specs::Outcome::read_offset_u64))]
     pub fn read_offset_u64(&mut self) -> TiffResult<[u8; 8]>
-        ensures follows { FollowsWithoutMemory (λ x. x) (outcome.read_offset_u64 self.old) result self.old self.new }
+        ensures follows { FollowsWithoutMemory (λ x. x) (outcome.read_offset_u64 self.old) result self.old
+            self.new }
         ensures asked { AsksHere self.old 8 result }
     {
         let mut bytes = [0u8; 8];

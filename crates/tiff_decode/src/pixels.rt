@@ -35,7 +35,8 @@ impl<R: Source> Decoder<R> {
     #[tactic(auto, unfolding(crate::specs::Outcome::read_image))]
     pub fn read_image(&mut self) -> TiffResult<DecodingResult>
         ensures follows { Follows decoded_as (outcome.read_image self.old) result self.old self.new }
-        ensures memory { WantsAfter (image_early self.old.bytes self.old.state.page self.old.state.limits) result }
+        ensures memory { WantsAfter (image_early self.old.bytes self.old.state.page self.old.state.limits)
+            result }
         ensures asked { AsksOnly (ImageReadable (source_of self.old) self.old.state.page (λ l. 1)) result }
     {
         let (alloc, order) = (self.alloc, self.tags.order);
@@ -55,9 +56,13 @@ impl<R: Source> Decoder<R> {
         &mut self,
         samples: &mut DecodingResult,
     ) -> TiffResult<BufferLayoutPreference>
-        ensures follows { Follows (λ layout. (layout, decoded_as samples.new)) (outcome.read_image_to_buffer self.old) result self.old self.new }
-        ensures memory { WantsAfter (planes_early self.old.bytes self.old.state.page self.old.state.limits) result }
-        ensures asked { AsksOnly (ImageReadable (source_of self.old) self.old.state.page (λ l. planes_within self.old.state.page self.old.state.limits l)) result }
+        ensures follows { Follows (λ layout. (layout, decoded_as samples.new))
+            (outcome.read_image_to_buffer self.old) result self.old self.new }
+        ensures memory { WantsAfter (planes_early self.old.bytes self.old.state.page self.old.state.limits)
+            result }
+        ensures asked { AsksOnly
+            (ImageReadable (source_of self.old) self.old.state.page
+            (λ l. planes_within self.old.state.page self.old.state.limits l)) result }
     {
         let (alloc, order) = (self.alloc, self.tags.order);
         let source = &mut self.tags.source;
@@ -77,9 +82,13 @@ impl<R: Source> Decoder<R> {
     /// than one plane. After an error the contents of the slice are unspecified.
     #[tactic(auto, unfolding(crate::specs::Outcome::read_image_bytes))]
     pub fn read_image_bytes(&mut self, buffer: &mut [u8]) -> TiffResult<()>
-        ensures follows { Follows (λ _. buffer.new) (outcome.read_image_bytes self.old buffer.old) result self.old self.new }
-        ensures memory { WantsAfter (image_bytes_early self.old.state.page self.old.state.limits (length buffer.old)) result }
-        ensures asked { AsksOnly (ImageReadable (source_of self.old) self.old.state.page (λ l. planes_used self.old.state.page l (length buffer.old))) result }
+        ensures follows { Follows (λ _. buffer.new) (outcome.read_image_bytes self.old buffer.old) result
+            self.old self.new }
+        ensures memory { WantsAfter
+            (image_bytes_early self.old.state.page self.old.state.limits (length buffer.old)) result }
+        ensures asked { AsksOnly
+            (ImageReadable (source_of self.old) self.old.state.page
+            (λ l. planes_used self.old.state.page l (length buffer.old))) result }
     {
         let (alloc, order) = (self.alloc, self.tags.order);
         let source = &mut self.tags.source;
@@ -92,8 +101,11 @@ impl<R: Source> Decoder<R> {
     #[tactic(auto, unfolding(crate::specs::Outcome::read_chunk))]
     pub fn read_chunk(&mut self, chunk_index: u32) -> TiffResult<DecodingResult>
         ensures follows { Follows decoded_as (outcome.read_chunk self.old chunk_index) result self.old self.new }
-        ensures memory { WantsAfter (chunk_early self.old.bytes self.old.state.page self.old.state.limits chunk_index) result }
-        ensures asked { AsksOnly (ChunksReadable (source_of self.old) self.old.state.page chunk_index (λ l. 1)) result }
+        ensures memory { WantsAfter
+            (chunk_early self.old.bytes self.old.state.page self.old.state.limits chunk_index)
+            result }
+        ensures asked { AsksOnly
+            (ChunksReadable (source_of self.old) self.old.state.page chunk_index (λ l. 1)) result }
     {
         let (alloc, order) = (self.alloc, self.tags.order);
         let (source, limits) = (&mut self.tags.source, &self.tags.limits);
@@ -106,10 +118,12 @@ impl<R: Source> Decoder<R> {
     /// the chunk. After an error the contents of the slice are unspecified.
     #[tactic(auto, unfolding(crate::specs::Outcome::read_chunk_bytes))]
     pub fn read_chunk_bytes(&mut self, chunk_index: u32, buffer: &mut [u8]) -> TiffResult<()>
-        ensures follows { Follows (λ _. buffer.new) (outcome.read_chunk_bytes self.old chunk_index buffer.old) result self.old self.new }
+        ensures follows { Follows (λ _. buffer.new) (outcome.read_chunk_bytes self.old chunk_index buffer.old)
+            result self.old self.new }
         ensures memory { WantsAfter (chunk_bytes_early self.old.state.page self.old.state.limits chunk_index
             (length buffer.old)) result }
-        ensures asked { AsksOnly (ChunksReadable (source_of self.old) self.old.state.page chunk_index (λ l. 1)) result }
+        ensures asked { AsksOnly
+            (ChunksReadable (source_of self.old) self.old.state.page chunk_index (λ l. 1)) result }
     {
         let (alloc, order) = (self.alloc, self.tags.order);
         let (source, limits) = (&mut self.tags.source, &self.tags.limits);
@@ -137,11 +151,14 @@ impl<R: Source> Decoder<R> {
         chunk_index: u32,
         output_width: usize,
     ) -> TiffResult<()>
-        ensures follows { Follows (λ _. decoded_as buffer.new) (outcome.read_chunk_to_buffer self.old chunk_index output_width)
+        ensures follows { Follows (λ _. decoded_as buffer.new)
+            (outcome.read_chunk_to_buffer self.old chunk_index output_width)
             result self.old self.new }
-        ensures memory { WantsAfter (strided_early self.old.bytes self.old.state.page self.old.state.limits chunk_index
+        ensures memory { WantsAfter
+            (strided_early self.old.bytes self.old.state.page self.old.state.limits chunk_index
             output_width) result }
-        ensures asked { AsksOnly (ChunksReadable (source_of self.old) self.old.state.page chunk_index (λ l. 1)) result }
+        ensures asked { AsksOnly
+            (ChunksReadable (source_of self.old) self.old.state.page chunk_index (λ l. 1)) result }
     {
         let (alloc, order) = (self.alloc, self.tags.order);
         let (source, limits) = (&mut self.tags.source, &self.tags.limits);
@@ -169,10 +186,14 @@ impl<R: Source> Decoder<R> {
         slice: TiffCodingUnit,
         buffer: &mut [u8],
     ) -> TiffResult<()>
-        ensures follows { Follows (λ _. buffer.new) (outcome.read_coding_unit_bytes self.old slice.0 buffer.old) result self.old self.new }
-        ensures memory { WantsAfter (unit_bytes_early self.old.state.page self.old.state.limits slice.0 (length buffer.old))
+        ensures follows { Follows (λ _. buffer.new) (outcome.read_coding_unit_bytes self.old slice.0 buffer.old)
+            result self.old self.new }
+        ensures memory { WantsAfter
+            (unit_bytes_early self.old.state.page self.old.state.limits slice.0 (length buffer.old))
             result }
-        ensures asked { AsksOnly (ChunksReadable (source_of self.old) self.old.state.page slice.0 (λ l. planes_used self.old.state.page l (length buffer.old))) result }
+        ensures asked { AsksOnly
+            (ChunksReadable (source_of self.old) self.old.state.page slice.0
+            (λ l. planes_used self.old.state.page l (length buffer.old))) result }
     {
         let (alloc, order) = (self.alloc, self.tags.order);
         let (source, limits) = (&mut self.tags.source, &self.tags.limits);

@@ -41,7 +41,8 @@ pub enum DecodingResult {
 // The items of a list from an index on.
 fn rest<T>(list: &mut Vec<T>, start: usize) -> &mut [T]
     requires within { start ≤ length list.old.items }
-    ensures* writes_back { sem 𝓛 (Lends (vec_row T.row) (Array T.row 0) list.entry result (with_items_from list.old start)) }
+    ensures* writes_back { sem 𝓛 (Lends (vec_row T.row) (Array T.row 0) list.entry result
+        (with_items_from list.old start)) }
     ensures value { result.now ≡ drop start list.old.items }
 {
     list.slice_mut(start..)
@@ -54,7 +55,8 @@ fn zeros(
     sample_type: DecodingSampleType,
     len: usize,
 ) -> Result<DecodingResult, AllocError>
-    ensures { IfOk result (λ r. decoded_as r ≡ record { sample_type = sample_type; numbers = replicate len 0 }) }
+    ensures { IfOk result
+        (λ r. decoded_as r ≡ record { sample_type = sample_type; numbers = replicate len 0 }) }
 {
     match sample_type {
         DecodingSampleType::U8 => vec![in alloc; 0; len].map(DecodingResult::U8),
@@ -114,7 +116,8 @@ impl DecodingResult {
     /// only after these checks. After an error, `OutOfMemory` too, the result is unchanged.
     #[tactic(auto, unfolding(tiff_page::specs::Buffers::resized_samples))]
     pub fn resize_to(&mut self, layout: &BufferLayoutPreference, limits: &Limits) -> TiffResult<()>
-        ensures resized { GivesSparingly (λ _. decoded_as self.new) result (resized_samples layout.now limits.now) }
+        ensures resized { GivesSparingly (λ _. decoded_as self.new) result
+            (resized_samples layout.now limits.now) }
         ensures stays { OnErr result (self.new ≡ self.old) }
     {
         let Some(sample_type) = layout.sample_type else {
@@ -181,7 +184,8 @@ impl DecodingResult {
     pub fn u16_rest(&mut self, start: usize) -> &mut [u16]
         requires sample_type { type.U16 ≡ (decoded_as self.old).sample_type }
         requires within { start ≤ length (decoded_as self.old).numbers }
-        ensures* writes_back { sem 𝓛 (Lends the_row (Array u16 0) self.entry result (lending.with_u16 self.old start)) }
+        ensures* writes_back { sem 𝓛 (Lends the_row (Array u16 0) self.entry result
+            (lending.with_u16 self.old start)) }
         ensures sample_type { (buffered_as (buffer.U16 result)).sample_type ≡ (decoded_as self.old).sample_type }
         ensures numbers { (buffered_as (buffer.U16 result)).numbers ≡ drop start (decoded_as self.old).numbers }
     {
@@ -198,7 +202,8 @@ impl DecodingResult {
     pub fn u32_rest(&mut self, start: usize) -> &mut [u32]
         requires sample_type { type.U32 ≡ (decoded_as self.old).sample_type }
         requires within { start ≤ length (decoded_as self.old).numbers }
-        ensures* writes_back { sem 𝓛 (Lends the_row (Array u32 0) self.entry result (lending.with_u32 self.old start)) }
+        ensures* writes_back { sem 𝓛 (Lends the_row (Array u32 0) self.entry result
+            (lending.with_u32 self.old start)) }
         ensures sample_type { (buffered_as (buffer.U32 result)).sample_type ≡ (decoded_as self.old).sample_type }
         ensures numbers { (buffered_as (buffer.U32 result)).numbers ≡ drop start (decoded_as self.old).numbers }
     {
@@ -215,7 +220,8 @@ impl DecodingResult {
     pub fn u64_rest(&mut self, start: usize) -> &mut [u64]
         requires sample_type { type.U64 ≡ (decoded_as self.old).sample_type }
         requires within { start ≤ length (decoded_as self.old).numbers }
-        ensures* writes_back { sem 𝓛 (Lends the_row (Array u64 0) self.entry result (lending.with_u64 self.old start)) }
+        ensures* writes_back { sem 𝓛 (Lends the_row (Array u64 0) self.entry result
+            (lending.with_u64 self.old start)) }
         ensures sample_type { (buffered_as (buffer.U64 result)).sample_type ≡ (decoded_as self.old).sample_type }
         ensures numbers { (buffered_as (buffer.U64 result)).numbers ≡ drop start (decoded_as self.old).numbers }
     {
@@ -232,7 +238,8 @@ impl DecodingResult {
     pub fn f16_rest(&mut self, start: usize) -> &mut [Bits16]
         requires sample_type { type.F16 ≡ (decoded_as self.old).sample_type }
         requires within { start ≤ length (decoded_as self.old).numbers }
-        ensures* writes_back { sem 𝓛 (Lends the_row (Array lending.F16s 0) self.entry result (lending.with_f16 self.old start)) }
+        ensures* writes_back { sem 𝓛 (Lends the_row (Array lending.F16s 0) self.entry result
+            (lending.with_f16 self.old start)) }
         ensures sample_type { (buffered_as (buffer.F16 result)).sample_type ≡ (decoded_as self.old).sample_type }
         ensures numbers { (buffered_as (buffer.F16 result)).numbers ≡ drop start (decoded_as self.old).numbers }
     {
@@ -249,7 +256,8 @@ impl DecodingResult {
     pub fn f32_rest(&mut self, start: usize) -> &mut [Bits32]
         requires sample_type { type.F32 ≡ (decoded_as self.old).sample_type }
         requires within { start ≤ length (decoded_as self.old).numbers }
-        ensures* writes_back { sem 𝓛 (Lends the_row (Array lending.F32s 0) self.entry result (lending.with_f32 self.old start)) }
+        ensures* writes_back { sem 𝓛 (Lends the_row (Array lending.F32s 0) self.entry result
+            (lending.with_f32 self.old start)) }
         ensures sample_type { (buffered_as (buffer.F32 result)).sample_type ≡ (decoded_as self.old).sample_type }
         ensures numbers { (buffered_as (buffer.F32 result)).numbers ≡ drop start (decoded_as self.old).numbers }
     {
@@ -266,7 +274,8 @@ impl DecodingResult {
     pub fn f64_rest(&mut self, start: usize) -> &mut [Bits64]
         requires sample_type { type.F64 ≡ (decoded_as self.old).sample_type }
         requires within { start ≤ length (decoded_as self.old).numbers }
-        ensures* writes_back { sem 𝓛 (Lends the_row (Array lending.F64s 0) self.entry result (lending.with_f64 self.old start)) }
+        ensures* writes_back { sem 𝓛 (Lends the_row (Array lending.F64s 0) self.entry result
+            (lending.with_f64 self.old start)) }
         ensures sample_type { (buffered_as (buffer.F64 result)).sample_type ≡ (decoded_as self.old).sample_type }
         ensures numbers { (buffered_as (buffer.F64 result)).numbers ≡ drop start (decoded_as self.old).numbers }
     {
@@ -298,7 +307,8 @@ impl DecodingResult {
     pub fn i16_rest(&mut self, start: usize) -> &mut [i16]
         requires sample_type { type.I16 ≡ (decoded_as self.old).sample_type }
         requires within { start ≤ length (decoded_as self.old).numbers }
-        ensures* writes_back { sem 𝓛 (Lends the_row (Array i16 0) self.entry result (lending.with_i16 self.old start)) }
+        ensures* writes_back { sem 𝓛 (Lends the_row (Array i16 0) self.entry result
+            (lending.with_i16 self.old start)) }
         ensures sample_type { (buffered_as (buffer.I16 result)).sample_type ≡ (decoded_as self.old).sample_type }
         ensures numbers { (buffered_as (buffer.I16 result)).numbers ≡ drop start (decoded_as self.old).numbers }
     {
@@ -314,7 +324,8 @@ impl DecodingResult {
     pub fn i32_rest(&mut self, start: usize) -> &mut [i32]
         requires sample_type { type.I32 ≡ (decoded_as self.old).sample_type }
         requires within { start ≤ length (decoded_as self.old).numbers }
-        ensures* writes_back { sem 𝓛 (Lends the_row (Array i32 0) self.entry result (lending.with_i32 self.old start)) }
+        ensures* writes_back { sem 𝓛 (Lends the_row (Array i32 0) self.entry result
+            (lending.with_i32 self.old start)) }
         ensures sample_type { (buffered_as (buffer.I32 result)).sample_type ≡ (decoded_as self.old).sample_type }
         ensures numbers { (buffered_as (buffer.I32 result)).numbers ≡ drop start (decoded_as self.old).numbers }
     {
@@ -330,7 +341,8 @@ impl DecodingResult {
     pub fn i64_rest(&mut self, start: usize) -> &mut [i64]
         requires sample_type { type.I64 ≡ (decoded_as self.old).sample_type }
         requires within { start ≤ length (decoded_as self.old).numbers }
-        ensures* writes_back { sem 𝓛 (Lends the_row (Array i64 0) self.entry result (lending.with_i64 self.old start)) }
+        ensures* writes_back { sem 𝓛 (Lends the_row (Array i64 0) self.entry result
+            (lending.with_i64 self.old start)) }
         ensures sample_type { (buffered_as (buffer.I64 result)).sample_type ≡ (decoded_as self.old).sample_type }
         ensures numbers { (buffered_as (buffer.I64 result)).numbers ≡ drop start (decoded_as self.old).numbers }
     {

@@ -10,7 +10,7 @@ ghost use Rattle.tiff_decode.specs.Machine.{Follows, FollowsBut};
 ghost use Rattle.tiff_decode.specs.Outcome as outcome;
 ghost use Rattle.tiff_decode.specs.Reader.{TagsRead};
 ghost use Rattle.tiff_decode.specs.Result.{decoded_as};
-ghost use Rattle.tiff_decode.specs.Sight.{items_of};
+ghost use Rattle.tiff_decode.specs.ReplyView.{items_of};
 ghost use Rattle.tiff_decode.specs.Step.{BufferLeft, Step};
 ghost use Rattle.tiff_decode.specs.Steps.{Ran};
 
@@ -181,7 +181,10 @@ fn zeros(alloc: Global, len: usize) -> TiffResult<Vec<u8>>
 fn image_samples<R: Source>(
     decoder: &mut Decoder<R>,
 ) -> (TiffResult<BufferLayoutPreference>, DecodingResult)
-    ensures { FollowsBut (IsOkOrList (planes_early decoder.old.bytes decoder.old.state.page decoder.old.state.limits)) (λ x. (x, decoded_as result.1))
+    ensures { FollowsBut
+        (IsOkOrList
+        (planes_early decoder.old.bytes decoder.old.state.page decoder.old.state.limits))
+        (λ x. (x, decoded_as result.1))
         (outcome.read_image_to_buffer decoder.old) result.0 decoder.old decoder.new }
 {
     let mut samples = DecodingResult::U8(Vec::new(decoder.alloc));
@@ -196,7 +199,10 @@ fn chunk_samples<R: Source>(
     chunk: u32,
     stride: usize,
 ) -> (TiffResult<()>, DecodingResult)
-    ensures { FollowsBut (IsOkOrList (strided_early decoder.old.bytes decoder.old.state.page decoder.old.state.limits chunk stride)) (λ _. decoded_as result.1)
+    ensures { FollowsBut
+        (IsOkOrList
+        (strided_early decoder.old.bytes decoder.old.state.page decoder.old.state.limits chunk
+        stride)) (λ _. decoded_as result.1)
         (outcome.read_chunk_to_buffer decoder.old chunk stride) result.0 decoder.old decoder.new }
 {
     let mut samples = DecodingResult::U8(Vec::new(decoder.alloc));
@@ -207,7 +213,8 @@ fn chunk_samples<R: Source>(
 // Reads the image into a slice of zeros.
 #[tactic(auto, using(crate::proofs::CallsMade::stands_here, crate::proofs::CallsMade::image_bytes))]
 fn image_bytes<R: Source>(decoder: &mut Decoder<R>, len: usize) -> (TiffResult<()>, Vec<u8>)
-    ensures { Follows (λ _. items_of result.1) (outcome.read_image_bytes decoder.old (replicate len 0)) result.0 decoder.old decoder.new }
+    ensures { Follows (λ _. items_of result.1)
+        (outcome.read_image_bytes decoder.old (replicate len 0)) result.0 decoder.old decoder.new }
 {
     let alloc = decoder.alloc;
     let Ok(mut bytes) = zeros(alloc, len) else {
@@ -224,7 +231,8 @@ fn chunk_bytes<R: Source>(
     chunk: u32,
     len: usize,
 ) -> (TiffResult<()>, Vec<u8>)
-    ensures { Follows (λ _. items_of result.1) (outcome.read_chunk_bytes decoder.old chunk (replicate len 0)) result.0
+    ensures { Follows (λ _. items_of result.1)
+        (outcome.read_chunk_bytes decoder.old chunk (replicate len 0)) result.0
         decoder.old decoder.new }
 {
     let alloc = decoder.alloc;
@@ -242,7 +250,8 @@ fn unit_bytes<R: Source>(
     unit: TiffCodingUnit,
     len: usize,
 ) -> (TiffResult<()>, Vec<u8>)
-    ensures { Follows (λ _. items_of result.1) (outcome.read_coding_unit_bytes decoder.old unit.0 (replicate len 0)) result.0
+    ensures { Follows (λ _. items_of result.1)
+        (outcome.read_coding_unit_bytes decoder.old unit.0 (replicate len 0)) result.0
         decoder.old decoder.new }
 {
     let alloc = decoder.alloc;
@@ -258,9 +267,11 @@ fn tag_buffer<R: Source>(
     decoder: &mut Decoder<R>,
     tag: Tag,
 ) -> (TiffResult<Option<Entry>>, ValueBuffer)
-    ensures read { TagsRead (outcome.WantsBytes decoder.old tag (empty_buffer BYTE)) (λ x. (x, result.1)) (outcome.find_tag_buf decoder.old tag (empty_buffer BYTE)) result.0 decoder.old
+    ensures read { TagsRead (outcome.WantsBytes decoder.old tag (empty_buffer BYTE)) (λ x. (x, result.1))
+        (outcome.find_tag_buf decoder.old tag (empty_buffer BYTE)) result.0 decoder.old
         decoder.new }
-    ensures left { BufferLeft decoder.old.order (outcome.find_entry decoder.old tag) (empty_buffer BYTE) result.0 result.1 }
+    ensures left { BufferLeft decoder.old.order (outcome.find_entry decoder.old tag) (empty_buffer BYTE)
+        result.0 result.1 }
 {
     let mut buffer = ValueBuffer::empty(decoder.alloc, Type::BYTE);
     let result = decoder.buf_in(None, tag, &mut buffer);
@@ -275,7 +286,8 @@ fn tag_bytes<R: Source>(
     len: usize,
     at: u64,
 ) -> (TiffResult<Option<usize>>, Vec<u8>)
-    ensures { TagsRead (Unit {0}) (λ x. (x, items_of result.1)) (outcome.find_tag_bytes decoder.old tag (replicate len 0) at) result.0
+    ensures { TagsRead (Unit {0}) (λ x. (x, items_of result.1))
+        (outcome.find_tag_bytes decoder.old tag (replicate len 0) at) result.0
         decoder.old decoder.new }
 {
     let alloc = decoder.alloc;
@@ -408,7 +420,8 @@ pub fn run_calls<R: Source>(
     replies: &mut Vec<Reply>,
 ) -> TiffResult<()>
     ensures made { OnOk result (Ran decoder.old calls.now replies.old.items replies.new.items decoder.new) }
-    ensures refused { IfErr result (λ e. (e ≡ OutOfMemory) × (decoder.new ≡ decoder.old) × (replies.new.items ≡ replies.old.items)) }
+    ensures refused { IfErr result (λ e. (e ≡ OutOfMemory) × (decoder.new ≡ decoder.old)
+        × (replies.new.items ≡ replies.old.items)) }
 {
     replies.try_reserve(calls.len())?;
     for call in calls {

@@ -23,7 +23,8 @@ use tiff_ifd::value::Value;
 
 // The field after a tag number, or the first field, with its tag number.
 fn next_field(directory: &Directory, last: Option<u16>) -> Option<(u16, &Entry)>
-    ensures { option_map (λ x. (x.0, x.1.now)) result ≡ slice_get (fields_left last (entries directory.now.entries)) 0 }
+    ensures { option_map (λ x. (x.0, x.1.now)) result
+        ≡ slice_get (fields_left last (entries directory.now.entries)) 0 }
 {
     match last {
         None => directory
@@ -46,7 +47,8 @@ fn read_item<R: Source>(
     entry: &Entry,
 ) -> TiffResult<(Tag, Value)>
     ensures kept { IsKept R.told R.failures result source.old source.new }
-    ensures item { ItemIs (item_of kind order (R.told source.old).bytes limits.now (number, entry.now)) result (R.failures source.old)
+    ensures item { ItemIs (item_of kind order (R.told source.old).bytes limits.now (number, entry.now))
+        result (R.failures source.old)
         (R.failures source.new) }
 {
     let value = read_value(alloc, source, kind, order, limits, entry)?;
@@ -73,8 +75,10 @@ impl<R: Source> Decoder<R> {
     ) -> Option<TiffResult<(Tag, Value)>>
         ensures state { self.new ≡ record self.old { failures = self.new.failures } }
         ensures count { self.old.failures ≤ self.new.failures }
-        ensures item { NextItem (items_left (reader_of self.old (option_map (λ d. d.now) other.entry)) last.old) result
-            (items_left (reader_of self.old (option_map (λ d. d.now) other.entry)) last.new) self.old.failures self.new.failures }
+        ensures item { NextItem
+            (items_left (reader_of self.old (option_map (λ d. d.now) other.entry)) last.old) result
+            (items_left (reader_of self.old (option_map (λ d. d.now) other.entry)) last.new)
+            self.old.failures self.new.failures }
     {
         let alloc = self.alloc;
         let tags = &mut self.tags;
@@ -130,7 +134,9 @@ impl<'a, R: Source> IfdDecoder<'a, R> {
         ensures same_reference { result.reader.decoder.ghost_name ≡ self.entry.decoder.ghost_name }
         ensures decoder { result.reader.decoder.now ≡ self.entry.decoder.now }
         ensures other { result.reader.other ≡ self.entry.other }
-        ensures left { items_left (reader_of self.entry.decoder.now (option_map (λ d. d.now) self.entry.other)) result.last ≡
+        ensures left { items_left
+            (reader_of self.entry.decoder.now (option_map (λ d. d.now) self.entry.other))
+            result.last ≡
             outcome.tag_iter (reader_of self.entry.decoder.now (option_map (λ d. d.now) self.entry.other)) }
     {
         TagIter {
@@ -153,7 +159,10 @@ impl<'a, R: Source> Iterator for TagIter<'a, R> {
 
     // Keeps the decoder that it borrows and the directory, and returns the next item, if one is
     // left.
-    ghost next_gives = { λ s r t. IsBorrowed s.reader.decoder t.reader.decoder × (t.reader.other ≡ s.reader.other) × NextItem (tags_left s.reader.decoder s.reader.other s.last) r (tags_left t.reader.decoder t.reader.other t.last) s.reader.decoder.now.failures t.reader.decoder.now.failures };
+    ghost next_gives = { λ s r t. IsBorrowed s.reader.decoder t.reader.decoder × (t.reader.other ≡ s.reader.other)
+        × NextItem (tags_left s.reader.decoder s.reader.other s.last) r
+        (tags_left t.reader.decoder t.reader.other t.last) s.reader.decoder.now.failures
+        t.reader.decoder.now.failures };
 
     ghost remaining = { λ s. at_most (length (tags_left s.reader.decoder s.reader.other s.last)) };
 

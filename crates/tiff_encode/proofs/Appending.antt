@@ -9,14 +9,14 @@ use Rattle.tiff_base.specs.SourceAndSink.{put}
 use Rattle.tiff_value.specs.ColorType.{ColorTypeRecord}
 use Rattle.tiff_encode.specs.FileBytes.{offset_len, directory_bytes}
 use Rattle.tiff_encode.specs.FileWrites.{file_with_bytes}
-use Rattle.tiff_encode.specs.Deeds.{Deed, Listed, all_appended}
-use Rattle.tiff_encode.specs.Machine.{FileState, OpenDirectory, OpenImage, WriteOutcome, Writing, does, by_cause, and_then, ◌>>=◌}
+use Rattle.tiff_encode.specs.WriteOps.{WriteOp, Listed, all_appended}
+use Rattle.tiff_encode.specs.Machine.{FileState, OpenDirectory, OpenImage, WriteOutcome, WriteCall, does, by_cause, and_then, ◌>>=◌}
 use Rattle.tiff_encode.specs.Causes.{finish_cause, write_image_data_cause}
 use Rattle.tiff_encode.specs.Calls.{Offsets, offsets_of, links_to, chains, finish, write_tags, last_tags, finish_image, write_chunks, write_image_data, new_image, write_image}
 use Rattle.tiff_encode.specs.Chunks.{parts_left}
 use Rattle.tiff_encode.specs.AppendLaws.{DirectoryCallsAppend, ImageCallsAppend, linked_by, LinksParent, EndsLinkParent}
 use Rattle.tiff_encode.proofs.Joining.{IsAdding, appended_both, begin_adds, extra_adds, entry_adds, entry_bytes_adds, tag_adds}
-use Rattle.tiff_encode.proofs.DirectoryMoves.{entry_buf_adds, tag_buf_adds, data_adds, data_buf_adds}
+use Rattle.tiff_encode.proofs.Joining.{entry_buf_adds, tag_buf_adds, data_adds, data_buf_adds}
 use Rattle.tiff_encode.proofs.Open.Tags.{tags_adding}
 use Rattle.tiff_encode.proofs.Image.Steps.{extra_adding, rows_adding, tiles_adding, planar_adding, resolution_adding, x_adding, y_adding, unit_adding}
 use Rattle.tiff_encode.proofs.Data.Strips.{strip_adding}
@@ -73,21 +73,21 @@ directory_links d file =
     finish_links (finish_cause file d) d.parent d.chained d.fields (offsets_of file.kind (length file.bytes) (len d.fields)) file refl
 
 -- a call that only appends, followed by the end of a directory, changes no other link
-module _ {A : Type 0} (parent : Option ℕ) (rest : A → Writing Offsets) where
-  joined_links : (r : Result A TiffError) (deeds : List Deed) (next file : FileState) → next ≡ file_with_bytes file (all_appended file.kind deeds)
-      → ((x : A) → r ≡ Ok x → LinksParent parent (rest x next) next) → LinksParent parent (and_then r deeds next rest) file
-  joined_links (Err e) deeds next file n l = ap (λ f. f.bytes) n
-  joined_links (Ok x) deeds next file n l =
+module _ {A : Type 0} (parent : Option ℕ) (rest : A → WriteCall Offsets) where
+  joined_links : (r : Result A TiffError) (ops : List WriteOp) (next file : FileState) → next ≡ file_with_bytes file (all_appended file.kind ops)
+      → ((x : A) → r ≡ Ok x → LinksParent parent (rest x next) next) → LinksParent parent (and_then r ops next rest) file
+  joined_links (Err e) ops next file n l = ap (λ f. f.bytes) n
+  joined_links (Ok x) ops next file n l =
       let second : WriteOutcome Offsets = rest x next in
-      let grown : LinksParent parent second (file_with_bytes file (all_appended file.kind deeds)) = subst (λ f. LinksParent parent second f) n (l x refl) in
-      grown ∙ ap (linked_by second.answer file.kind parent) (appended_both file.kind file.bytes deeds second.deeds)
+      let grown : LinksParent parent second (file_with_bytes file (all_appended file.kind ops)) = subst (λ f. LinksParent parent second f) n (l x refl) in
+      grown ∙ ap (linked_by second.answer file.kind parent) (appended_both file.kind file.bytes ops second.ops)
 
-bind_links : {A : Type 0} (parent : Option ℕ) (call : Writing A) (rest : A → Writing Offsets) (file : FileState) → IsAdding (call file) file
+bind_links : {A : Type 0} (parent : Option ℕ) (call : WriteCall A) (rest : A → WriteCall Offsets) (file : FileState) → IsAdding (call file) file
     → ((x : A) → (call file).answer ≡ Ok x → LinksParent parent (rest x (call file).next) (call file).next)
     → LinksParent parent ((call >>= rest) file) file
-bind_links parent call rest file a l = joined_links parent rest (call file).answer (call file).deeds (call file).next file a.next l
+bind_links parent call rest file a l = joined_links parent rest (call file).answer (call file).ops (call file).next file a.next l
 
-caused_links : (parent : Option ℕ) (cause : Option TiffError) (call : Writing Offsets) (file : FileState) → LinksParent parent (call file) file
+caused_links : (parent : Option ℕ) (cause : Option TiffError) (call : WriteCall Offsets) (file : FileState) → LinksParent parent (call file) file
     → LinksParent parent (by_cause cause call file) file
 caused_links parent None call file l = l
 caused_links parent (Some e) call file l = sym (append-nil file.bytes)
@@ -95,7 +95,7 @@ caused_links parent (Some e) call file l = sym (append-nil file.bytes)
 image_links : (i : OpenImage) (file : FileState) → LinksParent i.directory.parent (finish_image i file) file
 unfolding finish_image
 image_links i file =
-    let call : Writing OpenDirectory = write_tags i.directory (last_tags file.kind i) in
+    let call : WriteCall OpenDirectory = write_tags i.directory (last_tags file.kind i) in
     let mid : FileState = (call file).next in
     bind_links i.directory.parent call finish file (tags_adding i.directory (last_tags file.kind i) file)
     (λ d h. subst (λ p. LinksParent p (finish d mid) mid) (tags_placed i.directory d (last_tags file.kind i) file h).parent (directory_links d mid))
@@ -104,7 +104,7 @@ data_links : (i : OpenImage) (samples : List ℕ) (stored : List (List ℕ)) (fi
     → LinksParent i.directory.parent (write_image_data i samples stored file) file
 unfolding write_image_data
 data_links i samples stored file =
-    let call : Writing OpenImage = write_chunks i (parts_left i samples) stored in
+    let call : WriteCall OpenImage = write_chunks i (parts_left i samples) stored in
     let mid : FileState = (call file).next in
     caused_links i.directory.parent (write_image_data_cause file i (length samples)) (call >>= finish_image) file
     (bind_links i.directory.parent call finish_image file (chunks_adding i (parts_left i samples) stored file)
@@ -115,7 +115,7 @@ whole_links : (color : ColorTypeRecord) (size width height : ℕ) (samples : Lis
     → LinksParent (Some file.chain) (write_image color size width height samples stored file) file
 unfolding write_image
 whole_links color size width height samples stored file =
-    let call : Writing OpenImage = new_image color size width height in
+    let call : WriteCall OpenImage = new_image color size width height in
     let mid : FileState = (call file).next in
     bind_links (Some file.chain) call (λ i. write_image_data i samples stored) file (new_adding color size width height file)
     (λ i h.

@@ -15,42 +15,42 @@ use Rattle.tiff_base.specs.Number.{number, le}
 use Rattle.tiff_value.specs.Data.{FieldData, IsWhole}
 use Rattle.tiff_encode.specs.FileBytes.{offset_len}
 use Rattle.tiff_encode.specs.Model.{ByteRegion, Model, IsLink}
-use Rattle.tiff_encode.specs.Deeds.{Deed, Appended, Handed, Listed, bytes_after, model_after}
-use Rattle.tiff_encode.specs.Laws.{AreListable, DeedsFit}
+use Rattle.tiff_encode.specs.WriteOps.{WriteOp, Appended, Supplied, Listed, bytes_after, model_after}
+use Rattle.tiff_encode.specs.Laws.{AreListable, OpsFit}
 use Rattle.tiff_encode.specs.Value.{is_long, filled_field}
-use Rattle.tiff_encode.specs.Machine.{FileState, OpenDirectory, Writing, gives, does, by_cause, and_then, ◌>>=◌}
+use Rattle.tiff_encode.specs.Machine.{FileState, OpenDirectory, WriteCall, gives, does, by_cause, and_then, ◌>>=◌}
 use Rattle.tiff_encode.specs.Causes.{is_past, end_of, finish_cause}
 use Rattle.tiff_encode.specs.Calls.{Offsets, links_to, chains, offsets_of, finish}
 use Rattle.tiff_encode.specs.CallLaws.{PlacedFits, FinishFits}
 use Rattle.tiff_encode.proofs.Slices.{number-le}
-use Rattle.tiff_encode.proofs.Deeds.{fits_joined}
+use Rattle.tiff_encode.proofs.WriteOps.{fits_joined}
 use Rattle.tiff_encode.proofs.Runs.{near}
 use Rattle.std.specs.FinMap.{len}
 
 -- ---- calls
 
 -- the changes of two calls in sequence
-going_on_fits : {A B : Type 0} (r : Result A TiffError) (deeds : List Deed) (next : FileState) (rest : A → Writing B)
-    (kind : FileKind) (bytes : List ℕ) (m : Model) → DeedsFit kind bytes m deeds
-    → ((x : A) → r ≡ Ok x → DeedsFit kind (bytes_after kind bytes deeds) (model_after kind bytes m deeds) (rest x next).deeds)
-    → DeedsFit kind bytes m (and_then r deeds next rest).deeds
-going_on_fits (Ok x) deeds next rest kind bytes m f g = fits_joined kind bytes m deeds (rest x next).deeds f (g x refl)
-going_on_fits (Err e) deeds next rest kind bytes m f g = f
+going_on_fits : {A B : Type 0} (r : Result A TiffError) (ops : List WriteOp) (next : FileState) (rest : A → WriteCall B)
+    (kind : FileKind) (bytes : List ℕ) (m : Model) → OpsFit kind bytes m ops
+    → ((x : A) → r ≡ Ok x → OpsFit kind (bytes_after kind bytes ops) (model_after kind bytes m ops) (rest x next).ops)
+    → OpsFit kind bytes m (and_then r ops next rest).ops
+going_on_fits (Ok x) ops next rest kind bytes m f g = fits_joined kind bytes m ops (rest x next).ops f (g x refl)
+going_on_fits (Err e) ops next rest kind bytes m f g = f
 
 -- the changes of two calls in sequence fit if the changes of each call fit
-pub followed_fits : {A B : Type 0} (call : Writing A) (rest : A → Writing B) (file : FileState) (m : Model)
-    → DeedsFit file.kind file.bytes m (call file).deeds
+pub followed_fits : {A B : Type 0} (call : WriteCall A) (rest : A → WriteCall B) (file : FileState) (m : Model)
+    → OpsFit file.kind file.bytes m (call file).ops
     → ((x : A) → (call file).answer ≡ Ok x
-    → DeedsFit file.kind (bytes_after file.kind file.bytes (call file).deeds)
-    (model_after file.kind file.bytes m (call file).deeds) (rest x (call file).next).deeds)
-    → DeedsFit file.kind file.bytes m ((call >>= rest) file).deeds
+    → OpsFit file.kind (bytes_after file.kind file.bytes (call file).ops)
+    (model_after file.kind file.bytes m (call file).ops) (rest x (call file).next).ops)
+    → OpsFit file.kind file.bytes m ((call >>= rest) file).ops
 followed_fits call rest file m f g =
-    going_on_fits (call file).answer (call file).deeds (call file).next rest file.kind file.bytes m f g
+    going_on_fits (call file).answer (call file).ops (call file).next rest file.kind file.bytes m f g
 
 -- a call that is refused makes no change
-pub caused_fits : {A : Type 0} (cause : Option TiffError) (call : Writing A) (file : FileState) (m : Model)
-    → (cause ≡ None → DeedsFit file.kind file.bytes m (call file).deeds)
-    → DeedsFit file.kind file.bytes m (by_cause cause call file).deeds
+pub caused_fits : {A : Type 0} (cause : Option TiffError) (call : WriteCall A) (file : FileState) (m : Model)
+    → (cause ≡ None → OpsFit file.kind file.bytes m (call file).ops)
+    → OpsFit file.kind file.bytes m (by_cause cause call file).ops
 caused_fits None call file m f = f refl
 caused_fits (Some e) call file m f = tt
 
@@ -82,16 +82,16 @@ field_by long offset value = record {
 }
 
 -- the changes that write a value, by whether the value is too long for the entry
-abbrev deeds_by : Bool → ℕ → FieldData → List Deed
-deeds_by long offset value =
-    let handed : Deed = Handed (record { field = field_by long offset value; bytes = value.bytes }) in
-    cond long (Appended value.bytes ∷ handed ∷ []) (handed ∷ [])
+abbrev ops_by : Bool → ℕ → FieldData → List WriteOp
+ops_by long offset value =
+    let supplied : WriteOp = Supplied (record { field = field_by long offset value; bytes = value.bytes }) in
+    cond long (Appended value.bytes ∷ supplied ∷ []) (supplied ∷ [])
 
 -- the changes that write a value fit
-handed_fits : (kind : FileKind) (bytes : List ℕ) (m : Model) (value : FieldData) (long : Bool) → is_long kind value ≡ long
+supplied_fits : (kind : FileKind) (bytes : List ℕ) (m : Model) (value : FieldData) (long : Bool) → is_long kind value ≡ long
     → IsWhole value → length value.bytes < 2 ^ 64 → (long ≡ true → length bytes < 256 ^ offset_len kind)
-    → DeedsFit kind bytes m (deeds_by long (length bytes) value)
-handed_fits kind bytes m value true t w s p =
+    → OpsFit kind bytes m (ops_by long (length bytes) value)
+supplied_fits kind bytes m value true t w s p =
     let n : ℕ = length bytes in
     let r : ByteRegion = record { offset = n; bytes = value.bytes } in
     let above = ltb-true (offset_len kind) (length value.bytes) t in (
@@ -113,7 +113,7 @@ handed_fits kind bytes m value true t w s p =
         tt,
       ),
     )
-handed_fits kind bytes m value false t w s p =
+supplied_fits kind bytes m value false t w s p =
     let v : List ℕ = value.bytes in
     let n : ℕ = length v in
     let below = ltb-false (offset_len kind) n t in
@@ -133,9 +133,9 @@ tests false false c e h t = absurd cc
 pub placed_fits : PlacedFits
 placed_fits file m value w h l s =
     let long : Bool = is_long file.kind value in
-    let deeds : List Deed = deeds_by long (end_of file) value in
-    followed_fits (does deeds) (λ _. gives (field_by long (end_of file) value)) file m
-    (handed_fits file.kind file.bytes m value long refl w s
+    let ops : List WriteOp = ops_by long (end_of file) value in
+    followed_fits (does ops) (λ _. gives (field_by long (end_of file) value)) file m
+    (supplied_fits file.kind file.bytes m value long refl w s
     (λ t. offset_fits file.kind (end_of file) (tests _ long _ IntSizeError h t) l))
     (λ _ _. tt)
 
@@ -144,7 +144,7 @@ placed_fits file m value w h l s =
 -- appending a directory and pointing its parent's link to it fits
 listed_fits : (kind : FileKind) (bytes : List ℕ) (m : Model) (d : OpenDirectory) (parent : Option ℕ) → AreListable kind d.fields
     → ((offset : ℕ) → parent ≡ Some offset → IsLink kind m offset) → length bytes < 256 ^ offset_len kind
-    → DeedsFit kind bytes m (Listed d.fields ∷ links_to parent (length bytes))
+    → OpsFit kind bytes m (Listed d.fields ∷ links_to parent (length bytes))
 listed_fits kind bytes m d None a p l = (a, tt)
 listed_fits kind bytes m d (Some offset) a p l =
     (a, ((elim (p offset refl) [ inl x ↦ inl x | inr y ↦ inr (y.0, (inr y.1.0, y.1.1)) ], l), tt))
@@ -152,8 +152,8 @@ listed_fits kind bytes m d (Some offset) a p l =
 pub finish_fits : FinishFits
 unfolding finish
 finish_fits file m d a p l =
-    let deeds : List Deed = Listed d.fields ∷ links_to d.parent (end_of file) in
-    let rest : Unit {0} → Writing Offsets = λ _. chains d.chained (offsets_of file.kind (end_of file) (len d.fields)) in
-    caused_fits (finish_cause file d) (does deeds >>= rest) file m
-    (λ h. followed_fits (does deeds) rest file m
+    let ops : List WriteOp = Listed d.fields ∷ links_to d.parent (end_of file) in
+    let rest : Unit {0} → WriteCall Offsets = λ _. chains d.chained (offsets_of file.kind (end_of file) (len d.fields)) in
+    caused_fits (finish_cause file d) (does ops >>= rest) file m
+    (λ h. followed_fits (does ops) rest file m
     (listed_fits file.kind file.bytes m d d.parent a p (offset_fits file.kind (end_of file) (near file d h) l)) (λ _ _. tt))

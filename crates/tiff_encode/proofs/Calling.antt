@@ -22,13 +22,13 @@ use Rattle.tiff_value.specs.Data.{FieldData}
 use Rattle.tiff_value.specs.Values.{IsValue, IsWritable, byte_count}
 use Rattle.tiff_encode.specs.FileBytes.{offset_len}
 use Rattle.tiff_encode.specs.Value.{is_long, filled_field, field_at, data_in, buffer_data}
-use Rattle.tiff_encode.specs.Deeds.{Deed, Appended, Handed, all_appended}
-use Rattle.tiff_encode.specs.Machine.{FileState, WriteOutcome, Writing, gives, does, by_cause, answers, ◌>>=◌}
+use Rattle.tiff_encode.specs.WriteOps.{WriteOp, Appended, Supplied, all_appended}
+use Rattle.tiff_encode.specs.Machine.{FileState, WriteOutcome, WriteCall, gives, does, by_cause, answers, ◌>>=◌}
 use Rattle.tiff_encode.specs.Encoder.{AppendIsCut, AppendIsStopped}
 use Rattle.tiff_encode.specs.FileWrites.{file_with_bytes}
 use Rattle.tiff_encode.specs.Causes.{is_past, end_of, unless_ended, data_cause, order_cause, field_cause, write_tag_cause, write_buf_cause, write_entry_bytes_cause, write_data_cause, write_data_buf_cause}
 use Rattle.tiff_encode.specs.Calls.{placed_field, appends, write_entry, write_entry_buf, write_entry_bytes, write_data, write_data_buf}
-use Rattle.tiff_encode.specs.Ends.{IsTold, IsCutOff, HasBegun, CallFails, Ends}
+use Rattle.tiff_encode.specs.Ends.{EndsAsDefined, IsCutOff, HasBegun, CallFails, Ends}
 use Rattle.tiff_encode.specs.Placing.{field_test, appended_for, Places}
 
 -- ---- errors that refuse a call
@@ -45,28 +45,28 @@ fresh_cause fault c f = ap (λ x. unless_ended x c) f
 -- ---- ends
 
 -- a sink that fails while it appends writes a prefix of the appended bytes
-pub cut_off : (deeds : List Deed) (e : TiffError) (old new : FileState) → AppendIsCut (all_appended old.kind deeds) e old new
-    → IsCutOff deeds e old new
-cut_off deeds e old new c =
+pub cut_off : (ops : List WriteOp) (e : TiffError) (old new : FileState) → AppendIsCut (all_appended old.kind ops) e old new
+    → IsCutOff ops e old new
+cut_off ops e old new c =
     record { fresh = c.fresh; fault = c.fault; answer = c.answer; count = c.count; within = c.within; state = c.state }
 
 module _ {X Y : Type 0} (view : X → Y) where
   -- a call that is refused ends with the error that refuses it
-  pub refused : (cause : Option TiffError) (call : Writing Y) (file : FileState) (e : TiffError) → cause ≡ Some e
+  pub refused : (cause : Option TiffError) (call : WriteCall Y) (file : FileState) (e : TiffError) → cause ≡ Some e
       → Ends view (by_cause cause call file) (Err e) file file
   refused cause call file e c =
       let P : Option TiffError → Type 0 = λ k. Ends view (by_cause k call file) (Err e) file file in
       subst P (sym c) (inl (record { answer = refl; state = refl }))
 
   -- a call that is not refused ends as its body ends
-  pub uncaused : (cause : Option TiffError) (call : Writing Y) (r : Result X TiffError) (old new : FileState) → cause ≡ None
+  pub uncaused : (cause : Option TiffError) (call : WriteCall Y) (r : Result X TiffError) (old new : FileState) → cause ≡ None
       → Ends view (call old) r old new → Ends view (by_cause cause call old) r old new
   uncaused cause call r old new c h =
       let P : Option TiffError → Type 0 = λ k. Ends view (by_cause k call old) r old new in subst P (sym c) h
 
   -- a call that runs out of memory and changes nothing ends with that error
   pub wanting : (told : WriteOutcome Y) (e : TiffError) (file : FileState) → file.fault ≡ None → e ≡ OutOfMemory
-      → HasBegun told.answer told.deeds → Ends view told (Err e) file file
+      → HasBegun told.answer told.ops → Ends view told (Err e) file file
   wanting told e file f q b = inr (inr (inr (record {
     fresh = f;
     fault = q;
@@ -79,11 +79,11 @@ module _ {X Y : Type 0} (view : X → Y) where
 -- ---- a value that a call writes
 
 -- the outcome of writing a value, by whether it is too long for the entry
-abbrev placed_by : Bool → FieldData → Writing Field
+abbrev placed_by : Bool → FieldData → WriteCall Field
 placed_by long value file =
     let field : Field = record { field_type = value.field_type; count = value.count; value = cond long (le 8 (end_of file)) (filled_field value.bytes) } in
-    let handed : Deed = Handed (record { field = field; bytes = value.bytes }) in
-    (does (cond long (Appended value.bytes ∷ handed ∷ []) (handed ∷ [])) >>= (λ _. gives field)) file
+    let supplied : WriteOp = Supplied (record { field = field; bytes = value.bytes }) in
+    (does (cond long (Appended value.bytes ∷ supplied ∷ []) (supplied ∷ [])) >>= (λ _. gives field)) file
 
 -- the field of a value, by whether it is too long for the entry
 abbrev field_by : Bool → ℕ → FieldData → Field
@@ -92,16 +92,16 @@ field_by long end value =
 
 -- writing a value succeeds
 done_by : (long : Bool) (value : FieldData) (field : Field) (old new : FileState) → field ≡ field_by long (end_of old) value
-    → new ≡ file_with_bytes old (cond long value.bytes []) → IsTold (placed_by long value old) (Ok field) new
+    → new ≡ file_with_bytes old (cond long value.bytes []) → EndsAsDefined (placed_by long value old) (Ok field) new
 done_by true value field old new f n = record { answer = ap Ok (sym f); state = n }
 done_by false value field old new f n =
     record { answer = ap Ok (sym f); state = n ∙ ap (λ bytes. record old { bytes = bytes }) (append-nil old.bytes) }
 
 -- the sink fails while it writes a value
 cut_by : (long : Bool) (value : FieldData) (e : TiffError) (old new : FileState) → AppendIsCut (cond long value.bytes []) e old new
-    → IsCutOff (placed_by long value old).deeds e old new
+    → IsCutOff (placed_by long value old).ops e old new
 cut_by true value e old new c =
-    cut_off (placed_by true value old).deeds e old new (subst (λ xs. AppendIsCut xs e old new) (sym (append-nil value.bytes)) c)
+    cut_off (placed_by true value old).ops e old new (subst (λ xs. AppendIsCut xs e old new) (sym (append-nil value.bytes)) c)
 cut_by false value e old new c = absurd (let w : c.count < 0 = c.within in omega (arith, w))
 
 pub placed_ends : (value : FieldData) (r : Result Field TiffError) (old new : FileState) → Places value old new r
@@ -200,7 +200,7 @@ order_none BigEndian rest h = absurd cc
 
 module _ {X Y : Type 0} (view : X → Y) where
   -- a call ends in the same way if an equal check refuses it
-  pub recaused : (c k : Option TiffError) (call : Writing Y) (r : Result X TiffError) (old new : FileState) → c ≡ k
+  pub recaused : (c k : Option TiffError) (call : WriteCall Y) (r : Result X TiffError) (old new : FileState) → c ≡ k
       → Ends view (by_cause k call old) r old new → Ends view (by_cause c call old) r old new
   recaused c k call r old new q h =
       let P : Option TiffError → Type 0 = λ x. Ends view (by_cause x call old) r old new in subst P (sym q) h
@@ -262,7 +262,7 @@ module _ {X : Type 0} (view : X → Field) where
 
 -- ---- bytes that a call only appends
 
-pub appends_done : (bytes : List ℕ) (n : ℕ) (old new : FileState) → n ≡ end_of old → new ≡ file_with_bytes old bytes → IsTold (appends bytes old) (Ok n) new
+pub appends_done : (bytes : List ℕ) (n : ℕ) (old new : FileState) → n ≡ end_of old → new ≡ file_with_bytes old bytes → EndsAsDefined (appends bytes old) (Ok n) new
 appends_done bytes n old new at h = record { answer = ap Ok (sym at); state = h }
 
 pub none_some : (o : Option SinkFault) → o ≡ None → IsSome o → ⊥
@@ -273,7 +273,7 @@ pub appends_fails : (bytes : List ℕ) (e : TiffError) (old new : FileState) →
     → AppendIsStopped e old new ⊎ AppendIsCut bytes e old new → CallFails (appends bytes old) e old new
 appends_fails bytes e old new f h = elim h as (λ _. CallFails (appends bytes old) e old new) [
   | inl s ↦ absurd (none_some old.fault f s.failed)
-  | inr c ↦ inr (inl (cut_off (appends bytes old).deeds e old new (subst (λ xs. AppendIsCut xs e old new) (sym (append-nil bytes)) c)))
+  | inr c ↦ inr (inl (cut_off (appends bytes old).ops e old new (subst (λ xs. AppendIsCut xs e old new) (sym (append-nil bytes)) c)))
 ]
 
 module _ {X : Type 0} (view : X → ℕ) where

@@ -15,13 +15,13 @@ use Rattle.tiff_base.specs.Field.{Field, In, IsEntry, AreEntries}
 use Rattle.tiff_base.specs.Number.{le}
 use Rattle.tiff_base.specs.SourceAndSink.{put}
 use Rattle.tiff_encode.specs.FileBytes.{offset_len, count_len, entry_bytes, directory_bytes}
-use Rattle.tiff_encode.specs.Machine.{FileState, OpenDirectory, Writing, does, ◌>>=◌}
-use Rattle.tiff_encode.specs.Deeds.{Deed, Listed, bytes_after, all_appended}
+use Rattle.tiff_encode.specs.Machine.{FileState, OpenDirectory, WriteCall, does, ◌>>=◌}
+use Rattle.tiff_encode.specs.WriteOps.{WriteOp, Listed, bytes_after, all_appended}
 use Rattle.tiff_encode.specs.Encoder.{AppendIsCut, IsTorn}
 use Rattle.tiff_encode.specs.FileWrites.{file_with_bytes}
 use Rattle.tiff_encode.specs.Causes.{is_past, is_past_count, end_of, parent_cause, finish_cause}
 use Rattle.tiff_encode.specs.Calls.{Offsets, offsets_of, links_to, chain_after, chains, finish}
-use Rattle.tiff_encode.specs.Ends.{IsTold, IsTornOff, Ends}
+use Rattle.tiff_encode.specs.Ends.{EndsAsDefined, IsTornOff, Ends}
 use Rattle.tiff_encode.specs.Placing.{parent_test, end_test}
 use Rattle.tiff_encode.proofs.Calling.{stopped_cause, fresh_cause, refused, uncaused, wanting, cut_off}
 use Rattle.tiff_encode.proofs.Slices.{length-le}
@@ -147,11 +147,11 @@ module _ {X : Type 0} (view : X → Offsets) (d : OpenDirectory) (old : FileStat
   abbrev offsets : Offsets
   offsets = offsets_of old.kind (end_of old) (len d.fields)
 
-  abbrev deeds : List Deed
-  deeds = Listed d.fields ∷ links_to d.parent (end_of old)
+  abbrev ops : List WriteOp
+  ops = Listed d.fields ∷ links_to d.parent (end_of old)
 
-  abbrev call : Writing Offsets
-  call = does deeds >>= (λ _. chains d.chained offsets)
+  abbrev call : WriteCall Offsets
+  call = does ops >>= (λ _. chains d.chained offsets)
 
   pub end_refused : (e : TiffError) → finish_cause old d ≡ Some e → Ends view (finish d old) (Err e) old old
   unfolding finish
@@ -166,7 +166,7 @@ module _ {X : Type 0} (view : X → Offsets) (d : OpenDirectory) (old : FileStat
       → Ends view (finish d old) (Err e) old new
   end_cut e new c cut =
       uncaused_end (Err e) new c
-      (inr (inl (cut_off (call old).deeds e old new
+      (inr (inl (cut_off (call old).ops e old new
       (subst (λ xs. AppendIsCut xs e old new) (sym (appended_is old.kind d.fields d.parent (end_of old))) cut))))
 
   pub end_wanting : (e : TiffError) → finish_cause old d ≡ None → old.fault ≡ None → e ≡ OutOfMemory
@@ -189,7 +189,7 @@ module _ {X : Type 0} (view : X → Offsets) (d : OpenDirectory) (old : FileStat
       → Ends view (finish d old) (Err e) old new
   end_torn e mid new target parent c f a s q (offset, (p, t)) =
       let D : List ℕ = directory_bytes old.kind d.fields in
-      let torn : IsTornOff (call old).deeds e old new = record {
+      let torn : IsTornOff (call old).ops e old new = record {
         fresh = f;
         fault = t.fault;
         answer = t.answer;
@@ -223,9 +223,9 @@ module _ {X : Type 0} (view : X → Offsets) (d : OpenDirectory) (old : FileStat
       → Ends view (finish d old) (Ok x) old new
   end_done x mid linked new target link parent chained c a s l q b k v n =
       let found : view x ≡ offsets = v ∙ λ i. record { pointer = a i; link = k i } in
-      let all : linked ≡ record old { bytes = bytes_after old.kind old.bytes deeds } =
+      let all : linked ≡ record old { bytes = bytes_after old.kind old.bytes ops } =
       l ∙ λ i. record (s i) { bytes = bytes_after (s i).kind (s i).bytes (links_to (q i) (a i)) } in
-      let told : IsTold (call old) (Ok (view x)) new = record {
+      let told : EndsAsDefined (call old) (Ok (view x)) new = record {
         answer = ap Ok (sym found);
         state = n ∙ (λ i. cond (b i) (record (all i) { chain = k i }) (all i)) ∙ chain_is _ d.chained offsets;
       } in

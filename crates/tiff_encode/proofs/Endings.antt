@@ -15,11 +15,11 @@ use Rattle.tiff_base.specs.declared.tags.Tag.TheVariants as tag
 use Rattle.tiff_base.specs.Number.{le}
 use Rattle.tiff_value.specs.Data.{FieldData, Scalars, u16s, formats, data_by, data_of}
 use Rattle.tiff_value.specs.Values.{Pushes}
-use Rattle.tiff_encode.specs.declared.encoder.endings.Part.TheVariants.{Offset, Stored}
+use Rattle.tiff_encode.specs.declared.encoder.image.finish.ChunkListKind.TheVariants.{OffsetList, ByteCountList}
 use Rattle.tiff_encode.specs.Calls.{Offsets, extended_by_first, chunk_tags, last_tags, write_tag, write_tags, finish, finish_image}
-use Rattle.tiff_encode.specs.Ends.{IsTold, CallFails, Ends}
+use Rattle.tiff_encode.specs.Ends.{EndsAsDefined, CallFails, Ends}
 use Rattle.tiff_encode.specs.LastTags.{count_tags, bits_tags, samples_tags, number_of_part, list_tags_of, list_tags, offset_type}
-use Rattle.tiff_encode.specs.Machine.{Chunk, FileState, OpenDirectory, OpenImage, Writing}
+use Rattle.tiff_encode.specs.Machine.{Chunk, FileState, OpenDirectory, OpenImage, WriteCall}
 use Rattle.tiff_encode.specs.Tagging.{write_fields, fields_of}
 use Rattle.tiff_encode.specs.Value.{offset_values}
 use Rattle.tiff_encode.specs.FileBytes.{offset_len}
@@ -46,27 +46,27 @@ module _ (d : OpenDirectory) (t : Tag) (v : FieldData) where
   pub first_fails : (rest : List (Tag × FieldData)) (e : TiffError) (old new : FileState) → CallFails (write_tag d t (Ok v) old) e old new
       → CallFails (write_fields d ((t, v) ∷ rest) old) e old new
   first_fails rest e old new h =
-      let others : OpenDirectory → Writing OpenDirectory = λ next. write_fields next rest in
+      let others : OpenDirectory → WriteCall OpenDirectory = λ next. write_fields next rest in
       bind_fails (write_tag d t (Ok v)) others e old new (tag_adds d t (Ok v) old) h
 
   -- if the first tag is written and the second fails, all tags fail
   pub second_fails : (next : OpenDirectory) (u : Tag) (w : FieldData) (e : TiffError) (old mid new : FileState)
-      → IsTold (write_tag d t (Ok v) old) (Ok next) mid → CallFails (write_tag next u (Ok w) mid) e mid new
+      → EndsAsDefined (write_tag d t (Ok v) old) (Ok next) mid → CallFails (write_tag next u (Ok w) mid) e mid new
       → CallFails (write_fields d ((t, v) ∷ (u, w) ∷ []) old) e old new
   second_fails next u w e old mid new h f =
-      let others : OpenDirectory → Writing OpenDirectory = λ n. write_fields n ((u, w) ∷ []) in
-      let last : OpenDirectory → Writing OpenDirectory = λ n. write_fields n [] in
+      let others : OpenDirectory → WriteCall OpenDirectory = λ n. write_fields n ((u, w) ∷ []) in
+      let last : OpenDirectory → WriteCall OpenDirectory = λ n. write_fields n [] in
       let view : OpenDirectory → OpenDirectory = λ x. x in
       bind_ends view (write_tag d t (Ok v)) others next (Err e) old mid new (tag_adds d t (Ok v) old) h
       (bind_fails (write_tag next u (Ok w)) last e mid new (tag_adds next u (Ok w) mid) f)
 
   -- both tags are written
   pub second_told : (next after : OpenDirectory) (u : Tag) (w : FieldData) (old mid new : FileState)
-      → IsTold (write_tag d t (Ok v) old) (Ok next) mid → IsTold (write_tag next u (Ok w) mid) (Ok after) new
-      → IsTold (write_fields d ((t, v) ∷ (u, w) ∷ []) old) (Ok after) new
+      → EndsAsDefined (write_tag d t (Ok v) old) (Ok next) mid → EndsAsDefined (write_tag next u (Ok w) mid) (Ok after) new
+      → EndsAsDefined (write_fields d ((t, v) ∷ (u, w) ∷ []) old) (Ok after) new
   second_told next after u w old mid new h f =
-      let others : OpenDirectory → Writing OpenDirectory = λ n. write_fields n ((u, w) ∷ []) in
-      let last : OpenDirectory → Writing OpenDirectory = λ n. write_fields n [] in
+      let others : OpenDirectory → WriteCall OpenDirectory = λ n. write_fields n ((u, w) ∷ []) in
+      let last : OpenDirectory → WriteCall OpenDirectory = λ n. write_fields n [] in
       bind_told (write_tag d t (Ok v)) others next (Ok after) old mid new h
       (bind_told (write_tag next u (Ok w)) last after (Ok after) mid new new f (record { answer = refl; state = refl }))
 
@@ -91,7 +91,7 @@ bits_unwritten d bits said extra e old new q h =
 -- the bits are written, and writing the number of samples fails
 pub count_unwritten : (d next : OpenDirectory) (bits said : List ℕ) (extra : ℕ) (e : TiffError) (old mid new : FileState)
     → said ≡ extended_by_first bits extra → (extra ≡ 0 → ⊥)
-    → IsTold (write_tag d tag.BitsPerSample (Ok (data_of (u16s said))) old) (Ok next) mid
+    → EndsAsDefined (write_tag d tag.BitsPerSample (Ok (data_of (u16s said))) old) (Ok next) mid
     → CallFails (write_tag next tag.SamplesPerPixel (Ok (data_of (u16s ((length bits + extra) ∷ [])))) mid) e mid new
     → CallFails (write_fields d (fields_of (bits_tags bits extra)) old) e old new
 count_unwritten d next bits said extra e old mid new q some h f =
@@ -99,7 +99,7 @@ count_unwritten d next bits said extra e old mid new q some h f =
     subst (λ b. CallFails (write_fields d (fields_of ((tag.BitsPerSample, u16s (extended_by_first bits extra)) ∷ cond b [] (count ∷ []))) old) e old new)
     (sym (ne_eqb extra 0 some))
     (second_fails d tag.BitsPerSample (bits_data bits extra) next tag.SamplesPerPixel (data_of count.1) e old mid new
-    (subst (λ xs. IsTold (write_tag d tag.BitsPerSample (Ok (data_of (u16s xs))) old) (Ok next) mid) q h) f)
+    (subst (λ xs. EndsAsDefined (write_tag d tag.BitsPerSample (Ok (data_of (u16s xs))) old) (Ok next) mid) q h) f)
 
 module _ (d : OpenDirectory) (bits : List ℕ) (kinds : List SampleFormat) (extra : ℕ) where
   -- the tag with the sample formats, and the tags before it
@@ -119,7 +119,7 @@ module _ (d : OpenDirectory) (bits : List ℕ) (kinds : List SampleFormat) (extr
 
   -- writing the sample formats fails
   pub formats_fail : (said : List SampleFormat) (next : OpenDirectory) (e : TiffError) (old mid new : FileState) → said ≡ extended_by_first kinds extra
-      → IsTold (write_fields d (fields_of (bits_tags bits extra)) old) (Ok next) mid
+      → EndsAsDefined (write_fields d (fields_of (bits_tags bits extra)) old) (Ok next) mid
       → CallFails (write_tag next tag.SampleFormat (Ok (data_of (formats said))) mid) e mid new
       → CallFails (write_fields d (fields_of (samples_tags bits kinds extra)) old) e old new
   formats_fail said next e old mid new q h f =
@@ -139,15 +139,15 @@ lists_split Tile a b = refl
 
 module _ (kind : FileKind) (type : ChunkType) (chunks : List Chunk) (tags : Tag × Tag) (q : tags ≡ list_tags_of type) where
   abbrev at_offsets : FieldData
-  at_offsets = data_of (offset_values kind (map (number_of_part Offset) chunks))
+  at_offsets = data_of (offset_values kind (map (number_of_part OffsetList) chunks))
 
   abbrev stored_there : FieldData
-  stored_there = data_of (offset_values kind (map (number_of_part Stored) chunks))
+  stored_there = data_of (offset_values kind (map (number_of_part ByteCountList) chunks))
 
   lists_are : (tags.0, at_offsets) ∷ (tags.1, stored_there) ∷ [] ≡ fields_of (list_tags kind type chunks)
   lists_are =
       ap (λ ts. (ts.0, at_offsets) ∷ (ts.1, stored_there) ∷ []) q
-      ∙ lists_split type (offset_values kind (map (number_of_part Offset) chunks)) (offset_values kind (map (number_of_part Stored) chunks))
+      ∙ lists_split type (offset_values kind (map (number_of_part OffsetList) chunks)) (offset_values kind (map (number_of_part ByteCountList) chunks))
 
   -- writing the first list fails
   pub offsets_fail : (d : OpenDirectory) (e : TiffError) (old new : FileState) → CallFails (write_tag d tags.0 (Ok at_offsets) old) e old new
@@ -158,7 +158,7 @@ module _ (kind : FileKind) (type : ChunkType) (chunks : List Chunk) (tags : Tag 
 
   -- writing the second list fails
   pub counts_fail : (d next : OpenDirectory) (e : TiffError) (old mid new : FileState)
-      → IsTold (write_tag d tags.0 (Ok at_offsets) old) (Ok next) mid → CallFails (write_tag next tags.1 (Ok stored_there) mid) e mid new
+      → EndsAsDefined (write_tag d tags.0 (Ok at_offsets) old) (Ok next) mid → CallFails (write_tag next tags.1 (Ok stored_there) mid) e mid new
       → CallFails (write_fields d (fields_of (list_tags kind type chunks)) old) e old new
   counts_fail d next e old mid new h f =
       subst (λ vs. CallFails (write_fields d vs old) e old new) lists_are
@@ -166,10 +166,10 @@ module _ (kind : FileKind) (type : ChunkType) (chunks : List Chunk) (tags : Tag 
 
   -- both lists are written
   pub lists_told : (d next after : OpenDirectory) (old mid new : FileState)
-      → IsTold (write_tag d tags.0 (Ok at_offsets) old) (Ok next) mid → IsTold (write_tag next tags.1 (Ok stored_there) mid) (Ok after) new
-      → IsTold (write_fields d (fields_of (list_tags kind type chunks)) old) (Ok after) new
+      → EndsAsDefined (write_tag d tags.0 (Ok at_offsets) old) (Ok next) mid → EndsAsDefined (write_tag next tags.1 (Ok stored_there) mid) (Ok after) new
+      → EndsAsDefined (write_fields d (fields_of (list_tags kind type chunks)) old) (Ok after) new
   lists_told d next after old mid new h f =
-      subst (λ vs. IsTold (write_fields d vs old) (Ok after) new) lists_are
+      subst (λ vs. EndsAsDefined (write_fields d vs old) (Ok after) new) lists_are
       (second_told d tags.0 at_offsets next after tags.1 stored_there old mid new h f)
 
 -- ---- all last tags
@@ -210,14 +210,14 @@ module _ (kind : FileKind) (i : OpenImage) where
     -- the tags of the samples are written, and then the lists
     pub last_set : {X : Type 0} (view : X → OpenDirectory) (next : OpenDirectory) (k : FileKind) (type : ChunkType) (chunks : List Chunk)
         (r : Result X TiffError) (old mid new : FileState) → kind ≡ k → type ≡ i.form.chunk_type → chunks ≡ i.chunks
-        → IsTold (write_fields d (fields_of (samples_tags bits kinds extra)) old) (Ok next) mid
+        → EndsAsDefined (write_fields d (fields_of (samples_tags bits kinds extra)) old) (Ok next) mid
         → Ends view (write_fields next (fields_of (list_tags k type chunks)) mid) r mid new
         → Ends view (write_fields i.directory (fields_of (last_tags kind i)) old) r old new
     last_set view next k type chunks r old mid new q t c h e =
         let lists : fields_of (list_tags k type chunks) ≡ fields_of last_part = λ j. fields_of (list_tags (sym q j) (t j) (c j)) in
         subst (λ vs. Ends view (write_fields i.directory vs old) r old new) last_split
         (fields_end view i.directory next (fields_of first_part) (fields_of last_part) r old mid new
-        (subst (λ told. IsTold told (Ok next) mid) (first_given old) h)
+        (subst (λ told. EndsAsDefined told (Ok next) mid) (first_given old) h)
         (subst (λ vs. Ends view (write_fields next vs mid) r mid new) lists e))
 
 -- ---- `finish` of an image
@@ -245,10 +245,10 @@ module _ (i : OpenImage) (old : FileState) where
 
   -- `finish` writes the last tags and ends the directory
   pub image_ends : {X : Type 0} (view : X → Offsets) (last given : OpenDirectory) (r : Result X TiffError) (mid new : FileState)
-      → IsTold (write_fields i.directory (fields_of tags_last) old) (Ok last) mid → given ≡ last → Ends view (finish given mid) r mid new
+      → EndsAsDefined (write_fields i.directory (fields_of tags_last) old) (Ok last) mid → given ≡ last → Ends view (finish given mid) r mid new
       → Ends view (finish_image i old) r old new
   unfolding finish_image
   image_ends view last given r mid new h q e =
       bind_ends view (write_tags i.directory tags_last) finish last r old mid new last_add
-      (subst (λ told. IsTold told (Ok last) mid) (sym (tags_are_fields i.directory tags_last old)) h)
+      (subst (λ told. EndsAsDefined told (Ok last) mid) (sym (tags_are_fields i.directory tags_last old)) h)
       (subst (λ d. Ends view (finish d mid) r mid new) q e)

@@ -15,14 +15,14 @@ use Rattle.tiff_base.specs.SourceAndSink.{exactly_at}
 use Rattle.tiff_base.specs.Number.{number_at, le}
 use Rattle.tiff_base.specs.Directory.{count_width, offset_width, entry_len, entries_from, last_of_each, link, first_entry, directory_at}
 use Rattle.tiff_encode.specs.FileBytes.{offset_len, count_len, entry_bytes, directory_bytes}
-use Rattle.tiff_encode.specs.Model.{BytesAreApart, In, FinishedDirectory, HandedField, ByteRegion, Model, header_link, own_link, IsLink, IsClear, body_len, whole_len, IsApart, Stands, with_directory, with_handed}
+use Rattle.tiff_encode.specs.Model.{BytesAreApart, In, FinishedDirectory, SuppliedField, ByteRegion, Model, header_link, own_link, IsLink, IsClear, body_len, whole_len, IsApart, Stands, with_directory, with_supplied}
 use Rattle.tiff_encode.specs.Laws.{GrownByRegion, GrownByInline, GrownByPlaced, GrownByListing, FinishStep}
-use Rattle.tiff_encode.specs.Deeds.{standing_fields}
+use Rattle.tiff_encode.specs.WriteOps.{standing_fields}
 use Rattle.tiff_encode.proofs.Slices.{is_exact, exact_end, length-le, number_mid, is_offset_width, is_count_width}
 use Rattle.tiff_encode.proofs.Kept.{directory_from, directory_within, kept_by_appending, kept_by_patching}
 use Rattle.tiff_encode.proofs.Header.{zero_fits}
 use Rattle.tiff_encode.proofs.Entries.{AllWritable, length-entries, entries_read, last_of_entries}
-use Rattle.tiff_encode.proofs.Standing.{len_standing, bytes_standing, standing_writable}
+use Rattle.tiff_encode.proofs.FileAndModel.{len_standing, bytes_standing, standing_writable}
 
 -- ---- bytes
 
@@ -37,7 +37,7 @@ grown_by_region kind m file more h =
       first = g.first;
       directories = g.directories;
       counts = g.counts;
-      handed = g.handed;
+      supplied = g.supplied;
       regions = λ r i. elim i [
         | inl e ↦ (let P : ByteRegion → Type 0 = λ x. exactly_at (file ++ more) x.offset (length x.bytes) ≡ Ok x.bytes in
             subst P (sym e) (exact_end file more))
@@ -76,7 +76,7 @@ grown_by_region kind m file more h =
             header = a.header;
             within = a.within;
             directories = a.directories;
-            handed = a.handed;
+            supplied = a.supplied;
             regions = λ r i. elim i [
               | inl e ↦ (let P : ByteRegion → Type 0 = λ x. IsClear kind q x.offset (length x.bytes) in
                   subst P (sym e) (inr f))
@@ -89,21 +89,21 @@ grown_by_region kind m file more h =
 -- ---- fields
 
 -- the model grows by a field whose bytes are readable and overlap no link
-grown_by_handed : (kind : FileKind) (m : Model) (file : List ℕ) (new : HandedField)
+grown_by_supplied : (kind : FileKind) (m : Model) (file : List ℕ) (new : SuppliedField)
     → field_bytes kind LittleEndian file new.field ≡ Ok new.bytes
     → ((q : ℕ) → IsLink kind m q
     → (field_len new.field ≤ offset_len kind)
     ⊎ IsClear kind q (field_offset kind LittleEndian new.field) (field_len new.field))
-    → Stands kind file m → Stands kind file (with_handed m new)
-grown_by_handed kind m file new b c h = record {
+    → Stands kind file m → Stands kind file (with_supplied m new)
+grown_by_supplied kind m file new b c h = record {
   header = h.header;
   first = h.first;
   directories = h.directories;
   counts = h.counts;
-  handed = λ y i. elim i [
-    | inl e ↦ (let P : HandedField → Type 0 = λ x. field_bytes kind LittleEndian file x.field ≡ Ok x.bytes in
+  supplied = λ y i. elim i [
+    | inl e ↦ (let P : SuppliedField → Type 0 = λ x. field_bytes kind LittleEndian file x.field ≡ Ok x.bytes in
         subst P (sym e) b)
-    | inr j ↦ h.handed y j
+    | inr j ↦ h.supplied y j
   ];
   regions = h.regions;
   within = h.within;
@@ -117,12 +117,12 @@ grown_by_handed kind m file new b c h = record {
         header = a.header;
         within = a.within;
         directories = a.directories;
-        handed = λ y i. elim i [
-          | inl e ↦ (let P : HandedField → Type 0 =
+        supplied = λ y i. elim i [
+          | inl e ↦ (let P : SuppliedField → Type 0 =
               λ x. (field_len x.field ≤ offset_len kind)
               ⊎ IsClear kind q (field_offset kind LittleEndian x.field) (field_len x.field) in
               subst P (sym e) (c q l))
-          | inr j ↦ a.handed y j
+          | inr j ↦ a.supplied y j
         ];
         regions = a.regions;
         links = a.links;
@@ -160,7 +160,7 @@ offset_short Big = lit< tt
 pub grown_by_inline : GrownByInline
 grown_by_inline kind m file f l h =
     let s = offset_short kind in
-    grown_by_handed kind m file (record { field = f; bytes = take (field_len f) f.value })
+    grown_by_supplied kind m file (record { field = f; bytes = take (field_len f) f.value })
     (inline_bytes kind file f l (omega (arith, s))) (λ q i. inl l) h
 
 -- the model grows by a field whose bytes are a region
@@ -173,7 +173,7 @@ grown_by_placed kind m file f r i p n l b h =
     let P : ℕ → Type 0 = λ x. IsClear kind q x (field_len f) in
     let Q : ℕ → Type 0 = λ x. IsClear kind q r.offset x in
     inr (subst P (sym p) (subst Q (sym n) ((h.apart q j).regions r i))) in
-    grown_by_handed kind m file (record { field = f; bytes = r.bytes }) (placed_bytes kind file f l b ∙ e) c h
+    grown_by_supplied kind m file (record { field = f; bytes = r.bytes }) (placed_bytes kind file f l b ∙ e) c h
 
 -- ---- directories
 
@@ -315,7 +315,7 @@ module _ (kind : FileKind) (m : Model) (file : List ℕ) (fields : FinMap nat_cm
               subst P (sym s) (inr f))
           | inr j ↦ a.directories d j
         ];
-        handed = a.handed;
+        supplied = a.supplied;
         regions = a.regions;
         links = λ p l. elim (links_of p l) [
           | inl o ↦ a.links p o
@@ -333,9 +333,9 @@ module _ (kind : FileKind) (m : Model) (file : List ℕ) (fields : FinMap nat_cm
           subst P (sym s) (inl (omega arith)))
       | inr j ↦ inl (let x = directory_within kind m file d j h in omega (arith, x))
     ];
-    handed = λ y i. elim (cases_Bool (leb (field_len y.field) (offset_len kind))) [
+    supplied = λ y i. elim (cases_Bool (leb (field_len y.field) (offset_len kind))) [
       | inl t ↦ inl (leb-true _ _ t)
-      | inr f ↦ inr (inl (let x = placed_within kind file y.field y.bytes (leb-false _ _ f) (h.handed y i) in
+      | inr f ↦ inr (inl (let x = placed_within kind file y.field y.bytes (leb-false _ _ f) (h.supplied y i) in
           omega (arith, x)))
     ];
     regions = λ r i. inl (let x = h.within r i in omega (arith, x));
@@ -409,7 +409,7 @@ module _ (kind : FileKind) (m : Model) (file : List ℕ) (fields : FinMap nat_cm
               subst P (sym s) count_at)
           | inr j ↦ g.counts d j
         ];
-        handed = g.handed;
+        supplied = g.supplied;
         regions = g.regions;
         within = g.within;
         disjoint = g.disjoint;

@@ -20,25 +20,29 @@ use Rattle.tiff_value.specs.Data.{FieldData}
 use Rattle.tiff_value.specs.Values.{IsValue}
 use Rattle.tiff_encode.specs.FileBytes.{offset_len, padding}
 use Rattle.tiff_encode.specs.Value.{data_in, buffer_data, is_long, field_at}
-use Rattle.tiff_encode.specs.Model.{HandedField, Model, IsLink, Stands}
-use Rattle.tiff_encode.specs.Deeds.{Deed, Appended, Handed, Listed, all_appended, model_after}
-use Rattle.tiff_encode.specs.Machine.{FileState, OpenDirectory, WriteOutcome, Writing, answers, gives, does, by_cause, and_then, ◌>>=◌}
+use Rattle.tiff_encode.specs.Model.{SuppliedField, Model, IsLink, Stands}
+use Rattle.tiff_encode.specs.WriteOps.{WriteOp, Appended, Supplied, Listed, all_appended, model_after}
+use Rattle.tiff_encode.specs.Laws.{OpsFit}
+use Rattle.tiff_encode.specs.Machine.{FileState, OpenDirectory, WriteOutcome, WriteCall, answers, gives, does, by_cause, and_then, ◌>>=◌}
 use Rattle.tiff_encode.specs.Encoder.{AppendIsStopped, AppendIsCut}
 use Rattle.tiff_encode.specs.FileWrites.{file_with_bytes}
-use Rattle.tiff_encode.specs.Causes.{unless_ended, end_of, begin_cause, write_tag_cause, write_buf_cause, write_entry_bytes_cause, finish_cause}
-use Rattle.tiff_encode.specs.Calls.{Offsets, offsets_of, links_to, chains, new_directory, pad, image_directory, extra_directory, with_field, placed_field, write_entry, write_tag, write_entry_buf, write_entry_bytes, write_tag_buf, extend_from, finish}
-use Rattle.tiff_encode.specs.Ends.{IsTold, IsCutOff, IsTornOff, CallFails, Ends}
-use Rattle.tiff_encode.specs.Leaves.{IsGiven, LeavesTorn, LeavesLinked}
+use Rattle.tiff_encode.specs.Causes.{unless_ended, end_of, begin_cause, field_cause, write_tag_cause, write_buf_cause, write_entry_bytes_cause, write_data_cause, write_data_buf_cause, finish_cause}
+use Rattle.tiff_encode.specs.Calls.{Offsets, offsets_of, links_to, chains, new_directory, pad, image_directory, extra_directory, with_field, placed_field, write_entry, write_tag, write_entry_buf, write_entry_bytes, write_tag_buf, appends, write_data, write_data_buf, extend_from, finish}
+use Rattle.tiff_encode.specs.Ends.{EndsAsDefined, IsCutOff, IsTornOff, CallFails, Ends}
+use Rattle.tiff_encode.specs.Leaves.{IsGiven, Leaves, LeavesTorn, LeavesLinked}
 use Rattle.tiff_encode.proofs.Calling.{cut_off, refused, uncaused, stopped_cause, fresh_cause}
-use Rattle.tiff_encode.proofs.Leaving.{IsPlain, count_last, refused_leaves, begun_leaves, ok_err, begin_leaves, extra_leaves, entry_leaves, entry_buf_leaves, entry_bytes_leaves, tag_leaves, tag_buf_leaves, finish_plain, finish_leaves}
+use Rattle.tiff_encode.proofs.CallFits.{caused_fits, followed_fits, placed_fits}
+use Rattle.tiff_encode.proofs.Joining.{Adds, begin_adds, bind_ends, bind_fails, bind_told, data_adds, data_buf_adds, entry_adds, entry_buf_adds, entry_bytes_adds, extra_adds, tag_adds, tag_buf_adds}
+use Rattle.tiff_encode.proofs.Keeping.{adds_leaves}
+use Rattle.tiff_encode.proofs.Leaving.{refused_leaves, ok_err, unended, in_order, passed, data_whole, data_short, finish_plain, finish_leaves}
 
 -- ---- a directory is opened
 
-abbrev opens : OpenDirectory → Writing OpenDirectory
+abbrev opens : OpenDirectory → WriteCall OpenDirectory
 opens d = pad >>= (λ _. gives d)
 
 opens_told : (d : OpenDirectory) (old new : FileState) → old.fault ≡ None → new ≡ file_with_bytes old (padding (end_of old))
-    → IsTold (by_cause (begin_cause old) (opens d) old) (Ok d) new
+    → EndsAsDefined (by_cause (begin_cause old) (opens d) old) (Ok d) new
 unfolding begin_cause
 opens_told d old new f s =
     let view : OpenDirectory → OpenDirectory = λ x. x in
@@ -62,11 +66,11 @@ opens_fails d e old new h =
 -- `image_directory` succeeds
 pub begun_told : (old new : FileState) (fields : FinMap nat_cmp Field) (chain : ℕ)
     → (old.fault ≡ None) × (new ≡ file_with_bytes old (padding (end_of old))) → fields ≡ empty → chain ≡ new.chain
-    → IsTold (image_directory old) (Ok (record { fields = fields; parent = Some chain; chained = true })) new
+    → EndsAsDefined (image_directory old) (Ok (record { fields = fields; parent = Some chain; chained = true })) new
 unfolding image_directory
 begun_told old new fields chain h f c =
     let last : chain ≡ old.chain = c ∙ ap (λ s. s.chain) h.1 in
-    subst (λ d. IsTold (image_directory old) (Ok d) new)
+    subst (λ d. EndsAsDefined (image_directory old) (Ok d) new)
     (sym (λ i. record { fields = f i; parent = Some (last i); chained = true }))
     (opens_told (new_directory (Some old.chain) true) old new h.0 h.1)
 
@@ -78,10 +82,10 @@ begun_fails e old new h = opens_fails (new_directory (Some old.chain) true) e ol
 -- `extra_directory` succeeds
 pub extra_told : (old new : FileState) (fields : FinMap nat_cmp Field)
     → (old.fault ≡ None) × (new ≡ file_with_bytes old (padding (end_of old))) → fields ≡ empty
-    → IsTold (extra_directory old) (Ok (record { fields = fields; parent = None; chained = false })) new
+    → EndsAsDefined (extra_directory old) (Ok (record { fields = fields; parent = None; chained = false })) new
 unfolding extra_directory
 extra_told old new fields h f =
-    subst (λ d. IsTold (extra_directory old) (Ok d) new) (sym (λ i. record { fields = f i; parent = None; chained = false }))
+    subst (λ d. EndsAsDefined (extra_directory old) (Ok d) new) (sym (λ i. record { fields = f i; parent = None; chained = false }))
     (opens_told (new_directory None false) old new h.0 h.1)
 
 pub extra_fails : (e : TiffError) (old new : FileState) → AppendIsStopped e old new ⊎ AppendIsCut (padding (end_of old)) e old new
@@ -91,104 +95,32 @@ extra_fails e old new h = opens_fails (new_directory None false) e old new h
 
 -- ---- a call, and a result made of its value
 
-module _ {A B : Type 0} (g : A → B) where
-  abbrev viewed : Result A TiffError → List Deed → FileState → WriteOutcome B
-  viewed r deeds next = and_then r deeds next (λ x. gives (g x))
+module _ {A B : Type 0} (g : A → B) (call : WriteCall A) where
+  -- if the call succeeds, the result is made of its value
+  given_told : (x : A) (old new : FileState) → EndsAsDefined (call old) (Ok x) new
+      → EndsAsDefined ((call >>= (λ y. gives (g y))) old) (Ok (g x)) new
+  given_told x old new h =
+      bind_told call (λ y. gives (g y)) x (Ok (g x)) old new new h (record { answer = refl; state = refl })
 
-  viewed_told : (r : Result A TiffError) (deeds : List Deed) (next : FileState) (x : A) (new : FileState) → r ≡ Ok x
-      → new ≡ next → IsTold (viewed r deeds next) (Ok (g x)) new
-  viewed_told r deeds next x new h s =
-      subst (λ q. IsTold (viewed q deeds next) (Ok (g x)) new) (sym h) (record { answer = refl; state = s })
-
-  -- the same error as the result of another call
-  abbrev other_fault : Result A TiffError → Result B TiffError
-  other_fault (Ok x) = Ok (g x)
-  other_fault (Err e) = Err e
-
-  viewed_fails : (r : Result A TiffError) (deeds : List Deed) (next : FileState) (e : TiffError) (old new : FileState)
-      → (let told : WriteOutcome A = record { answer = r; deeds = deeds; next = next } in CallFails told e old new)
-      → CallFails (viewed r deeds next) e old new
-  viewed_fails (Err f) deeds next e old new h =
-      let told : WriteOutcome B = viewed (Err f) deeds next in
-      elim h as (λ _. CallFails told e old new) [
-        | inl t ↦ inl (record { answer = ap other_fault t.answer; state = t.state })
-        | inr h ↦ elim h [
-          | inl c ↦ inr (inl c)
-          | inr h ↦ elim h [
-            | inl t ↦ inr (inr (inl t))
-            | inr s ↦ inr (inr (inr (record {
-              fresh = s.fresh;
-              fault = s.fault;
-              begun = s.begun;
-              count = s.count;
-              within = s.within;
-              state = s.state;
-            })))
-          ]
-        ]
-      ]
-  viewed_fails (Ok x) deeds next e old new h =
-      let told : WriteOutcome B = viewed (Ok x) deeds next in
-      let same : deeds ≡ deeds ++ [] = sym (append-nil deeds) in
-      elim h as (λ _. CallFails told e old new) [
-        | inl t ↦ absurd (ok_err t.answer)
-        | inr h ↦ elim h [
-          | inl c ↦ inr (inl (subst (λ ds. IsCutOff ds e old new) same c))
-          | inr h ↦ elim h [
-            | inl t ↦ inr (inr (inl (subst (λ ds. IsTornOff ds e old new) same t)))
-            | inr s ↦ inr (inr (inr (record {
-              fresh = s.fresh;
-              fault = s.fault;
-              begun = tt;
-              count = s.count;
-              within = subst (λ ds. s.count ≤ length (all_appended old.kind ds)) same s.within;
-              state = s.state ∙ ap (λ ds. file_with_bytes old (take s.count (all_appended old.kind ds))) same;
-            })))
-          ]
-        ]
-      ]
-
-  viewed_short : (r : Result A TiffError) (deeds : List Deed) (next : FileState) (x : A) (e : TiffError) (old new : FileState)
-      → r ≡ Ok x → new ≡ next → old.fault ≡ None → next ≡ file_with_bytes old (all_appended old.kind deeds) → e ≡ OutOfMemory
-      → CallFails (viewed r deeds next) e old new
-  viewed_short r deeds next x e old new h s f n q =
-      let all : List ℕ = all_appended old.kind (deeds ++ []) in
-      let same : all_appended old.kind deeds ≡ all = ap (all_appended old.kind) (sym (append-nil deeds)) in
-      subst (λ q. CallFails (viewed q deeds next) e old new) (sym h)
-      (inr (inr (inr (record {
-        fresh = f;
+  -- memory runs out after the call
+  given_short : (x : A) (e : TiffError) (old new : FileState) → Adds (call old) old → old.fault ≡ None
+      → EndsAsDefined (call old) (Ok x) new → e ≡ OutOfMemory → CallFails ((call >>= (λ y. gives (g y))) old) e old new
+  given_short x e old new a f h q =
+      let view : B → B = λ y. y in
+      let r : Result B TiffError = Err e in
+      bind_ends view call (λ y. gives (g y)) x r old new new a h (inr (inr (inr (record {
+        fresh = ap (λ s. s.fault) (h.state ∙ a.next) ∙ f;
         fault = q;
         begun = tt;
-        count = length all;
+        count = 0;
         within = omega arith;
-        state = s ∙ n ∙ ap (file_with_bytes old) (same ∙ sym (take-length all));
+        state = ap (λ bytes. record new { bytes = bytes }) (sym (append-nil new.bytes));
       }))))
 
 -- ---- a call writes a value
 
--- The appended bytes are all that the call changes in the file.
-record IsGrowing {A : Type 0} (told : WriteOutcome A) (file : FileState) : Type 0 where
-  pub next : told.next ≡ file_with_bytes file (all_appended file.kind told.deeds)
-
-caused_growing : {A : Type 0} (cause : Option TiffError) (call : Writing A) (file : FileState) → IsGrowing (call file) file
-    → IsGrowing (by_cause cause call file) file
-caused_growing None call file g = g
-caused_growing (Some e) call file g = record { next = ap (λ bytes. record file { bytes = bytes }) (sym (append-nil file.bytes)) }
-
--- the changes that write a value only append
-handed_growing : (long : Bool) (bytes : List ℕ) (h : HandedField) (field : Field) (file : FileState)
-    → IsGrowing ((does (cond long (Appended bytes ∷ Handed h ∷ []) (Handed h ∷ [])) >>= (λ _. gives field)) file) file
-handed_growing true bytes h field file = record { next = ap (file_with_bytes file) (sym (append-nil bytes)) }
-handed_growing false bytes h field file =
-    record { next = ap (λ bytes. record file { bytes = bytes }) (sym (append-nil file.bytes)) }
-
-placed_growing : (value : FieldData) (file : FileState) → IsGrowing (placed_field value file) file
-placed_growing value file =
-    let field : Field = field_at file.kind (end_of file) value in
-    handed_growing (is_long file.kind value) value.bytes (record { field = field; bytes = value.bytes }) field file
-
 -- nothing refuses a call that succeeds
-pub uncaused_by : {A : Type 0} (cause : Option TiffError) (call : Writing A) (file : FileState) (x : A)
+pub uncaused_by : {A : Type 0} (cause : Option TiffError) (call : WriteCall A) (file : FileState) (x : A)
     → (by_cause cause call file).answer ≡ Ok x → cause ≡ None
 uncaused_by None call file x h = refl
 uncaused_by (Some e) call file x h = absurd (ok_err (sym h))
@@ -198,14 +130,6 @@ pub fresh_by : (fault : Option SinkFault) (cause : Option TiffError) → unless_
 fresh_by None cause h = refl
 fresh_by (Some f) cause h = absurd cc
 
-entry_growing : (value : Result FieldData TiffError) (file : FileState) → IsGrowing (write_entry value file) file
-unfolding write_entry
-entry_growing (Ok value) file =
-    caused_growing (write_tag_cause file (Ok value)) (answers (Ok value) >>= placed_field) file (placed_growing value file)
-entry_growing (Err e) file =
-    caused_growing (write_tag_cause file (Err e)) (answers (Err e) >>= placed_field) file
-    (record { next = ap (λ bytes. record file { bytes = bytes }) (sym (append-nil file.bytes)) })
-
 entry_fresh : (value : Result FieldData TiffError) (file : FileState) (field : Field)
     → (write_entry value file).answer ≡ Ok field → file.fault ≡ None
 unfolding write_entry write_tag_cause
@@ -214,43 +138,26 @@ entry_fresh value file field h =
 
 -- `write_tag` succeeds
 pub tag_told : (d : OpenDirectory) (t : Tag) (value : Result FieldData TiffError) (field : Field) (old new : FileState)
-    → IsTold (write_entry value old) (Ok field) new → IsTold (write_tag d t value old) (Ok (with_field d t field)) new
+    → EndsAsDefined (write_entry value old) (Ok field) new → EndsAsDefined (write_tag d t value old) (Ok (with_field d t field)) new
 unfolding write_tag
-tag_told d t value field old new h =
-    let told : WriteOutcome Field = write_entry value old in
-    viewed_told (with_field d t) told.answer told.deeds told.next field new h.answer h.state
+tag_told d t value field old new h = given_told (with_field d t) (write_entry value) field old new h
 
 pub tag_fails : (d : OpenDirectory) (t : Tag) (value : Result FieldData TiffError) (e : TiffError) (old new : FileState)
     → CallFails (write_entry value old) e old new → CallFails (write_tag d t value old) e old new
 unfolding write_tag
 tag_fails d t value e old new h =
-    let told : WriteOutcome Field = write_entry value old in
-    viewed_fails (with_field d t) told.answer told.deeds told.next e old new h
+    bind_fails (write_entry value) (λ field. gives (with_field d t field)) e old new (entry_adds value old) h
 
 pub tag_short : (d : OpenDirectory) (t : Tag) (value : Result FieldData TiffError) (field : Field) (e : TiffError) (old new : FileState)
-    → IsTold (write_entry value old) (Ok field) new → e ≡ OutOfMemory → CallFails (write_tag d t value old) e old new
+    → EndsAsDefined (write_entry value old) (Ok field) new → e ≡ OutOfMemory → CallFails (write_tag d t value old) e old new
 unfolding write_tag
 tag_short d t value field e old new h q =
-    let told : WriteOutcome Field = write_entry value old in
-    viewed_short (with_field d t) told.answer told.deeds told.next field e old new h.answer h.state
-    (entry_fresh value old field h.answer) (entry_growing value old).next q
+    given_short (with_field d t) (write_entry value) field e old new (entry_adds value old) (entry_fresh value old field h.answer) h q
 
--- `write_entry_buf`, `write_entry_bytes`: the calls only append
-placed_call_growing : (cause : Option TiffError) (value : FieldData) (file : FileState)
-    → IsGrowing (by_cause cause (placed_field value) file) file
-placed_call_growing cause value file = caused_growing cause (placed_field value) file (placed_growing value file)
-
-buf_growing : (b : BufferRecord) (file : FileState) → IsGrowing (write_entry_buf b file) file
-unfolding write_entry_buf
-buf_growing b file = placed_call_growing (write_buf_cause file b) (buffer_data b) file
-
+-- `write_entry_buf`, `write_entry_bytes`: no sink error precedes a success
 buf_fresh : (b : BufferRecord) (file : FileState) (field : Field) → (write_entry_buf b file).answer ≡ Ok field → file.fault ≡ None
 unfolding write_entry_buf write_buf_cause
 buf_fresh b file field h = fresh_by file.fault _ (uncaused_by (write_buf_cause file b) (placed_field (buffer_data b)) file field h)
-
-bytes_growing : (type : «Type») (bytes : List ℕ) (file : FileState) → IsGrowing (write_entry_bytes type bytes file) file
-unfolding write_entry_bytes
-bytes_growing type bytes file = placed_call_growing (write_entry_bytes_cause file type bytes) (data_in type bytes) file
 
 bytes_fresh : (type : «Type») (bytes : List ℕ) (file : FileState) (field : Field)
     → (write_entry_bytes type bytes file).answer ≡ Ok field → file.fault ≡ None
@@ -260,54 +167,117 @@ bytes_fresh type bytes file field h =
 
 -- `write_tag_buf` succeeds
 pub tag_buf_told : (d : OpenDirectory) (t : Tag) (b : BufferRecord) (field : Field) (old new : FileState)
-    → IsTold (write_entry_buf b old) (Ok field) new → IsTold (write_tag_buf d t b old) (Ok (with_field d t field)) new
+    → EndsAsDefined (write_entry_buf b old) (Ok field) new → EndsAsDefined (write_tag_buf d t b old) (Ok (with_field d t field)) new
 unfolding write_tag_buf
-tag_buf_told d t b field old new h =
-    let told : WriteOutcome Field = write_entry_buf b old in
-    viewed_told (with_field d t) told.answer told.deeds told.next field new h.answer h.state
+tag_buf_told d t b field old new h = given_told (with_field d t) (write_entry_buf b) field old new h
 
 pub tag_buf_fails : (d : OpenDirectory) (t : Tag) (b : BufferRecord) (e : TiffError) (old new : FileState)
     → CallFails (write_entry_buf b old) e old new → CallFails (write_tag_buf d t b old) e old new
 unfolding write_tag_buf
 tag_buf_fails d t b e old new h =
-    let told : WriteOutcome Field = write_entry_buf b old in
-    viewed_fails (with_field d t) told.answer told.deeds told.next e old new h
+    bind_fails (write_entry_buf b) (λ field. gives (with_field d t field)) e old new (entry_buf_adds b old) h
 
 pub tag_buf_short : (d : OpenDirectory) (t : Tag) (b : BufferRecord) (field : Field) (e : TiffError) (old new : FileState)
-    → IsTold (write_entry_buf b old) (Ok field) new → e ≡ OutOfMemory → CallFails (write_tag_buf d t b old) e old new
+    → EndsAsDefined (write_entry_buf b old) (Ok field) new → e ≡ OutOfMemory → CallFails (write_tag_buf d t b old) e old new
 unfolding write_tag_buf
 tag_buf_short d t b field e old new h q =
-    let told : WriteOutcome Field = write_entry_buf b old in
-    viewed_short (with_field d t) told.answer told.deeds told.next field e old new h.answer h.state
-    (buf_fresh b old field h.answer) (buf_growing b old).next q
+    given_short (with_field d t) (write_entry_buf b) field e old new (entry_buf_adds b old) (buf_fresh b old field h.answer) h q
 
 -- ---- the earlier content of the file
 
--- a call that appends and fails keeps the earlier content of the file
-pub failed_leaves : {Y : Type 0} (told : WriteOutcome Y) (e : TiffError) (old new : FileState) (m : Model) → IsPlain 0 told old
-    → CallFails told e old new → Stands old.kind old.bytes m → Stands old.kind new.bytes m
-failed_leaves told e old new m p h s =
-    elim h as (λ _. Stands old.kind new.bytes m) [
-      | inl t ↦ refused_leaves 0 told e old new m p s t
-      | inr h ↦ elim h [
-        | inl c ↦ begun_leaves told.deeds c.count old new.bytes m (ap (λ f. f.bytes) c.state) s
-        | inr h ↦ elim h [
-          | inl t ↦ (let l = p.links in absurd (omega (arith, l, count_last told.deeds t.before t.offset t.target t.last)))
-          | inr c ↦ begun_leaves told.deeds c.count old new.bytes m (ap (λ f. f.bytes) c.state) s
-        ]
-      ]
-    ]
+-- what the opening of a directory leaves
+opens_fits : (cause : Option TiffError) (d : OpenDirectory) (file : FileState) (m : Model)
+    → OpsFit file.kind file.bytes m (by_cause cause (opens d) file).ops
+opens_fits cause d file m = caused_fits cause (opens d) file m (λ _. (tt, tt))
+
+pub begin_leaves : {X : Type 0} (view : X → OpenDirectory) (r : Result X TiffError) (old new : FileState) (m : Model)
+    → Stands old.kind old.bytes m → Ends view (image_directory old) r old new → Leaves (image_directory old) r old new m
+unfolding image_directory
+begin_leaves view r old new m s e =
+    let d : OpenDirectory = new_directory (Some old.chain) true in
+    adds_leaves view (by_cause (begin_cause old) (opens d) old) r old new m (begin_adds old) (opens_fits (begin_cause old) d old m) s e
+
+pub extra_leaves : {X : Type 0} (view : X → OpenDirectory) (r : Result X TiffError) (old new : FileState) (m : Model)
+    → Stands old.kind old.bytes m → Ends view (extra_directory old) r old new → Leaves (extra_directory old) r old new m
+unfolding extra_directory
+extra_leaves view r old new m s e =
+    let d : OpenDirectory = new_directory None false in
+    adds_leaves view (by_cause (begin_cause old) (opens d) old) r old new m (extra_adds old) (opens_fits (begin_cause old) d old m) s e
+
+-- what `write_data` and `write_data_buf` leave
+data_fits : (value : Result FieldData TiffError) (file : FileState) (m : Model)
+    → OpsFit file.kind file.bytes m (write_data value file).ops
+unfolding write_data
+data_fits (Ok value) file m =
+    caused_fits (write_data_cause file (Ok value)) (answers (Ok value) >>= (λ (known : FieldData). appends known.bytes)) file m
+    (λ _. (tt, tt))
+data_fits (Err e) file m =
+    caused_fits (write_data_cause file (Err e)) (answers (Err e) >>= (λ (known : FieldData). appends known.bytes)) file m (λ _. tt)
+
+pub data_leaves : {X : Type 0} (view : X → ℕ) (r : Result X TiffError) (old new : FileState) (m : Model)
+    (value : Result FieldData TiffError) → Stands old.kind old.bytes m
+    → Ends view (write_data value old) r old new → Leaves (write_data value old) r old new m
+data_leaves view r old new m value s e =
+    adds_leaves view (write_data value old) r old new m (data_adds value old) (data_fits value old m) s e
+
+data_buf_fits : (b : BufferRecord) (file : FileState) (m : Model) → OpsFit file.kind file.bytes m (write_data_buf b file).ops
+unfolding write_data_buf
+data_buf_fits b file m = caused_fits (write_data_buf_cause file b) (appends b.bytes) file m (λ _. (tt, tt))
+
+pub data_buf_leaves : {X : Type 0} (view : X → ℕ) (r : Result X TiffError) (old new : FileState) (m : Model)
+    (b : BufferRecord) → Stands old.kind old.bytes m
+    → Ends view (write_data_buf b old) r old new → Leaves (write_data_buf b old) r old new m
+data_buf_leaves view r old new m b s e =
+    adds_leaves view (write_data_buf b old) r old new m (data_buf_adds b old) (data_buf_fits b old m) s e
+
+-- ---- the changes of a call that writes a value fit
+
+entry_fits : (value : Result FieldData TiffError) (file : FileState) (m : Model) → IsGiven value → end_of file < 2 ^ 64
+    → OpsFit file.kind file.bytes m (write_entry value file).ops
+unfolding write_entry write_tag_cause
+entry_fits (Ok value) file m g l =
+    caused_fits (write_tag_cause file (Ok value)) (answers (Ok value) >>= placed_field) file m
+    (λ h. placed_fits file m value g.0 (unended file.fault (field_cause file value) h) l g.1)
+entry_fits (Err e) file m g l =
+    caused_fits (write_tag_cause file (Err e)) (answers (Err e) >>= placed_field) file m (λ _. tt)
+
+buf_fits : (b : BufferRecord) (file : FileState) (m : Model) → length b.bytes < 2 ^ 64 → end_of file < 2 ^ 64
+    → OpsFit file.kind file.bytes m (write_entry_buf b file).ops
+unfolding write_entry_buf write_buf_cause
+buf_fits b file m n l =
+    caused_fits (write_buf_cause file b) (placed_field (buffer_data b)) file m
+    (λ h. placed_fits file m (buffer_data b) (data_whole b.data_type b.bytes)
+    (in_order b.order (field_cause file (buffer_data b)) (unended file.fault _ h)) l (data_short b.data_type b.bytes n))
+
+bytes_fit : (type : «Type») (bytes : List ℕ) (file : FileState) (m : Model) → length bytes < 2 ^ 64 → end_of file < 2 ^ 64
+    → OpsFit file.kind file.bytes m (write_entry_bytes type bytes file).ops
+unfolding write_entry_bytes write_entry_bytes_cause
+bytes_fit type bytes file m n l =
+    let value : FieldData = data_in type bytes in
+    caused_fits (write_entry_bytes_cause file type bytes) (placed_field value) file m
+    (λ h. placed_fits file m value (data_whole type bytes) (passed _ _ _ (unended file.fault _ h)).1 l (data_short type bytes n))
+
+-- the changes of a call that sets a tag are those of the call that writes its value
+tag_fit : (d : OpenDirectory) (t : Tag) (value : Result FieldData TiffError) (file : FileState) (m : Model)
+    → OpsFit file.kind file.bytes m (write_entry value file).ops → OpsFit file.kind file.bytes m (write_tag d t value file).ops
+unfolding write_tag
+tag_fit d t value file m f = followed_fits (write_entry value) (λ field. gives (with_field d t field)) file m f (λ _ _. tt)
+
+tag_buf_fit : (d : OpenDirectory) (t : Tag) (b : BufferRecord) (file : FileState) (m : Model)
+    → OpsFit file.kind file.bytes m (write_entry_buf b file).ops → OpsFit file.kind file.bytes m (write_tag_buf d t b file).ops
+unfolding write_tag_buf
+tag_buf_fit d t b file m f = followed_fits (write_entry_buf b) (λ field. gives (with_field d t field)) file m f (λ _ _. tt)
 
 -- The end of the file is a 64-bit number, unless a write failed.
 abbrev EndFits : FileState → Type 0
 EndFits file = file.fault ≡ None → end_of file < 2 ^ 64
 
 -- if the end of a file after an append is a 64-bit number, the end before it is one
-module _ {A : Type 0} (told : WriteOutcome A) (old new : FileState) (g : IsGrowing told old) (s : new ≡ told.next) (f : old.fault ≡ None)
+module _ {A : Type 0} (told : WriteOutcome A) (old new : FileState) (g : Adds told old) (s : new ≡ told.next) (f : old.fault ≡ None)
     (fits : EndFits new) where
-  grown_short : end_of old + length (all_appended old.kind told.deeds) < 2 ^ 64
+  grown_short : end_of old + length (all_appended old.kind told.ops) < 2 ^ 64
   grown_short =
-      let all : List ℕ = all_appended old.kind told.deeds in
+      let all : List ℕ = all_appended old.kind told.ops in
       let same : new ≡ file_with_bytes old all = s ∙ g.next in
       let sum : end_of new ≡ end_of old + length all = ap end_of same ∙ length-append old.bytes all in
       let short = fits (ap (λ file. file.fault) same ∙ f) in
@@ -322,8 +292,8 @@ offset_len_8 Classic = lit≤ tt
 offset_len_8 Big = lit≤ tt
 
 -- the number of bytes of a written value is a 64-bit number
-value_short : (kind : FileKind) (long : Bool) (bytes : List ℕ) (h : HandedField) → nat_lt (offset_len kind) (length bytes) ≡ long
-    → length (all_appended kind (cond long (Appended bytes ∷ Handed h ∷ []) (Handed h ∷ []) ++ [])) < 2 ^ 64
+value_short : (kind : FileKind) (long : Bool) (bytes : List ℕ) (h : SuppliedField) → nat_lt (offset_len kind) (length bytes) ≡ long
+    → length (all_appended kind (cond long (Appended bytes ∷ Supplied h ∷ []) (Supplied h ∷ []) ++ [])) < 2 ^ 64
     → length bytes < 2 ^ 64
 value_short kind true bytes h t l = subst (λ xs. length xs < 2 ^ 64) (append-nil bytes) l
 value_short kind false bytes h t l =
@@ -333,81 +303,86 @@ value_short kind false bytes h t l =
 
 -- a value that a call writes is valid data
 entry_given : (value : Result FieldData TiffError) (type : «Type») (count : ℕ) (field : Field) (old new : FileState)
-    → IsValue type count value → EndFits new → IsTold (write_entry value old) (Ok field) new → IsGiven value × (end_of old < 2 ^ 64)
+    → IsValue type count value → EndFits new → EndsAsDefined (write_entry value old) (Ok field) new → IsGiven value × (end_of old < 2 ^ 64)
 unfolding write_entry
 entry_given (Err e) type count field old new v fits h =
     let told : WriteOutcome Field = write_entry (Err e) old in
-    (tt, old_short told old new (entry_growing (Err e) old) h.state (entry_fresh (Err e) old field h.answer) fits)
+    (tt, old_short told old new (entry_adds (Err e) old) h.state (entry_fresh (Err e) old field h.answer) fits)
 entry_given (Ok d) type count field old new v fits h =
     let told : WriteOutcome Field = write_entry (Ok d) old in
     let fresh : old.fault ≡ None = entry_fresh (Ok d) old field h.answer in
-    let short = grown_short told old new (entry_growing (Ok d) old) h.state fresh fits in
-    let call : Writing Field = answers (Ok d) >>= placed_field in
+    let short = grown_short told old new (entry_adds (Ok d) old) h.state fresh fits in
+    let call : WriteCall Field = answers (Ok d) >>= placed_field in
     let done : told ≡ placed_field d old =
     ap (λ c. by_cause c call old) (uncaused_by (write_tag_cause old (Ok d)) call old field h.answer) in
-    let appended : length (all_appended old.kind (placed_field d old).deeds) < 2 ^ 64 =
-    subst (λ t. length (all_appended old.kind t.deeds) < 2 ^ 64) done (omega (arith, short)) in (
+    let appended : length (all_appended old.kind (placed_field d old).ops) < 2 ^ 64 =
+    subst (λ t. length (all_appended old.kind t.ops) < 2 ^ 64) done (omega (arith, short)) in (
       (
         v.2,
         value_short old.kind (is_long old.kind d) d.bytes (record { field = field_at old.kind (end_of old) d; bytes = d.bytes }) refl appended,
       ),
-      old_short told old new (entry_growing (Ok d) old) h.state fresh fits,
+      old_short told old new (entry_adds (Ok d) old) h.state fresh fits,
     )
 
 -- what `write_entry` leaves
 pub entry_left : (value : Result FieldData TiffError) (type : «Type») (count : ℕ) (field : Field) (old new : FileState) (m : Model)
-    → IsValue type count value → EndFits new → IsTold (write_entry value old) (Ok field) new → Stands old.kind old.bytes m
-    → Stands old.kind new.bytes (model_after old.kind old.bytes m (write_entry value old).deeds)
+    → IsValue type count value → EndFits new → EndsAsDefined (write_entry value old) (Ok field) new → Stands old.kind old.bytes m
+    → Stands old.kind new.bytes (model_after old.kind old.bytes m (write_entry value old).ops)
 entry_left value type count field old new m v fits h s =
     let x = entry_given value type count field old new v fits h in
-    let view : Field → Field = λ f. f in entry_leaves view (Ok field) old new m value x.0 x.1 s h
+    let view : Field → Field = λ f. f in
+    adds_leaves view (write_entry value old) (Ok field) old new m (entry_adds value old) (entry_fits value old m x.0 x.1) s h
 
 -- what `write_tag` leaves
 pub tag_left : (d : OpenDirectory) (t : Tag) (value : Result FieldData TiffError) (type : «Type») (count : ℕ) (field : Field)
     (old new : FileState) (m : Model)
-    → IsValue type count value → EndFits new → IsTold (write_entry value old) (Ok field) new → Stands old.kind old.bytes m
-    → Stands old.kind new.bytes (model_after old.kind old.bytes m (write_tag d t value old).deeds)
+    → IsValue type count value → EndFits new → EndsAsDefined (write_entry value old) (Ok field) new → Stands old.kind old.bytes m
+    → Stands old.kind new.bytes (model_after old.kind old.bytes m (write_tag d t value old).ops)
 tag_left d t value type count field old new m v fits h s =
     let x = entry_given value type count field old new v fits h in
     let view : OpenDirectory → OpenDirectory = λ f. f in
-    tag_leaves view (Ok (with_field d t field)) old new m d t value x.0 x.1 s (tag_told d t value field old new h)
+    adds_leaves view (write_tag d t value old) (Ok (with_field d t field)) old new m (tag_adds d t value old)
+    (tag_fit d t value old m (entry_fits value old m x.0 x.1)) s (tag_told d t value field old new h)
 
 -- what `write_entry_buf` leaves
 pub entry_buf_left : (b : BufferRecord) (field : Field) (old new : FileState) (m : Model) → length b.bytes < 2 ^ 64 → EndFits new
-    → IsTold (write_entry_buf b old) (Ok field) new → Stands old.kind old.bytes m
-    → Stands old.kind new.bytes (model_after old.kind old.bytes m (write_entry_buf b old).deeds)
+    → EndsAsDefined (write_entry_buf b old) (Ok field) new → Stands old.kind old.bytes m
+    → Stands old.kind new.bytes (model_after old.kind old.bytes m (write_entry_buf b old).ops)
 entry_buf_left b field old new m n fits h s =
-    let short = old_short (write_entry_buf b old) old new (buf_growing b old) h.state (buf_fresh b old field h.answer) fits in
-    let view : Field → Field = λ f. f in entry_buf_leaves view (Ok field) old new m b n short s h
+    let short = old_short (write_entry_buf b old) old new (entry_buf_adds b old) h.state (buf_fresh b old field h.answer) fits in
+    let view : Field → Field = λ f. f in
+    adds_leaves view (write_entry_buf b old) (Ok field) old new m (entry_buf_adds b old) (buf_fits b old m n short) s h
 
 -- what `write_tag_buf` leaves
 pub tag_buf_left : (d : OpenDirectory) (t : Tag) (b : BufferRecord) (field : Field) (old new : FileState) (m : Model)
     → length b.bytes < 2 ^ 64 → EndFits new
-    → IsTold (write_entry_buf b old) (Ok field) new → Stands old.kind old.bytes m
-    → Stands old.kind new.bytes (model_after old.kind old.bytes m (write_tag_buf d t b old).deeds)
+    → EndsAsDefined (write_entry_buf b old) (Ok field) new → Stands old.kind old.bytes m
+    → Stands old.kind new.bytes (model_after old.kind old.bytes m (write_tag_buf d t b old).ops)
 tag_buf_left d t b field old new m n fits h s =
-    let short = old_short (write_entry_buf b old) old new (buf_growing b old) h.state (buf_fresh b old field h.answer) fits in
+    let short = old_short (write_entry_buf b old) old new (entry_buf_adds b old) h.state (buf_fresh b old field h.answer) fits in
     let view : OpenDirectory → OpenDirectory = λ f. f in
-    tag_buf_leaves view (Ok (with_field d t field)) old new m d t b n short s (tag_buf_told d t b field old new h)
+    adds_leaves view (write_tag_buf d t b old) (Ok (with_field d t field)) old new m (tag_buf_adds d t b old)
+    (tag_buf_fit d t b old m (buf_fits b old m n short)) s (tag_buf_told d t b field old new h)
 
 -- what `write_entry_bytes` leaves
 pub entry_bytes_left : (type : «Type») (bytes : List ℕ) (field : Field) (old new : FileState) (m : Model) → length bytes < 2 ^ 64
-    → EndFits new → IsTold (write_entry_bytes type bytes old) (Ok field) new → Stands old.kind old.bytes m
-    → Stands old.kind new.bytes (model_after old.kind old.bytes m (write_entry_bytes type bytes old).deeds)
+    → EndFits new → EndsAsDefined (write_entry_bytes type bytes old) (Ok field) new → Stands old.kind old.bytes m
+    → Stands old.kind new.bytes (model_after old.kind old.bytes m (write_entry_bytes type bytes old).ops)
 entry_bytes_left type bytes field old new m n fits h s =
     let short =
-    old_short (write_entry_bytes type bytes old) old new (bytes_growing type bytes old) h.state
+    old_short (write_entry_bytes type bytes old) old new (entry_bytes_adds type bytes old) h.state
     (bytes_fresh type bytes old field h.answer) fits in
-    let view : Field → Field = λ f. f in entry_bytes_leaves view (Ok field) old new m type bytes n short s h
+    let view : Field → Field = λ f. f in
+    adds_leaves view (write_entry_bytes type bytes old) (Ok field) old new m (entry_bytes_adds type bytes old) (bytes_fit type bytes old m n short) s h
 
 -- ---- a directory after its opening
 
-pub begun_left : (old new : FileState) (d : OpenDirectory) (m : Model) → IsTold (image_directory old) (Ok d) new
-    → Stands old.kind old.bytes m → Stands old.kind new.bytes (model_after old.kind old.bytes m (image_directory old).deeds)
+pub begun_left : (old new : FileState) (d : OpenDirectory) (m : Model) → EndsAsDefined (image_directory old) (Ok d) new
+    → Stands old.kind old.bytes m → Stands old.kind new.bytes (model_after old.kind old.bytes m (image_directory old).ops)
 begun_left old new d m h s = let view : OpenDirectory → OpenDirectory = λ f. f in begin_leaves view (Ok d) old new m s h
 
-pub extra_left : (old new : FileState) (d : OpenDirectory) (m : Model) → IsTold (extra_directory old) (Ok d) new
-    → Stands old.kind old.bytes m → Stands old.kind new.bytes (model_after old.kind old.bytes m (extra_directory old).deeds)
+pub extra_left : (old new : FileState) (d : OpenDirectory) (m : Model) → EndsAsDefined (extra_directory old) (Ok d) new
+    → Stands old.kind old.bytes m → Stands old.kind new.bytes (model_after old.kind old.bytes m (extra_directory old).ops)
 extra_left old new d m h s = let view : OpenDirectory → OpenDirectory = λ f. f in extra_leaves view (Ok d) old new m s h
 
 -- ---- the end of a directory
@@ -415,8 +390,8 @@ extra_left old new d m h s = let view : OpenDirectory → OpenDirectory = λ f. 
 finish_fresh : (d : OpenDirectory) (file : FileState) (offsets : Offsets) → (finish d file).answer ≡ Ok offsets → file.fault ≡ None
 unfolding finish finish_cause
 finish_fresh d file offsets h =
-    let deeds : List Deed = Listed d.fields ∷ links_to d.parent (end_of file) in
-    let call : Writing Offsets = does deeds >>= (λ _. chains d.chained (offsets_of file.kind (end_of file) (len d.fields))) in
+    let ops : List WriteOp = Listed d.fields ∷ links_to d.parent (end_of file) in
+    let call : WriteCall Offsets = does ops >>= (λ _. chains d.chained (offsets_of file.kind (end_of file) (len d.fields))) in
     fresh_by file.fault _ (uncaused_by (finish_cause file d) call file offsets h)
 
 -- a sink error differs from no error
@@ -432,7 +407,7 @@ module _ (old new : FileState) (m : Model) (d : OpenDirectory) (a : AreEntries d
   ended_left view (Some fault) (Ok x) f h = absurd (no_fault (sym f ∙ finish_fresh d old (view x) h.answer))
   ended_left view (Some fault) (Err e) f h =
       elim h as (λ _. Stands old.kind new.bytes m ⊎ LeavesTorn (finish d old) e old new m) [
-        | inl t ↦ inl (refused_leaves 1 (finish d old) e old new m (finish_plain d old) s t)
+        | inl t ↦ inl (refused_leaves (finish d old) e old new m (finish_plain d old) s t)
         | inr h ↦ elim h [
           | inl c ↦ absurd (no_fault (sym f ∙ c.fresh))
           | inr h ↦ elim h [ inl t ↦ absurd (no_fault (sym f ∙ t.fresh)) | inr c ↦ absurd (no_fault (sym f ∙ c.fresh)) ]

@@ -33,7 +33,7 @@ header_stands kind =
       first = first;
       directories = λ d i. absurd i;
       counts = λ d i. absurd i;
-      handed = λ h i. absurd i;
+      supplied = λ h i. absurd i;
       regions = λ r i. absurd i;
       within = λ r i. absurd i;
       disjoint = λ r s i j. absurd i;
@@ -46,7 +46,7 @@ header_stands kind =
             header = omega (arith, e);
             within = omega (arith, e, length-append mark (le k 0), length-le 0 k 0);
             directories = λ d i. absurd i;
-            handed = λ h i. absurd i;
+            supplied = λ h i. absurd i;
             regions = λ r i. absurd i;
             links = λ p j. inl (only_link kind p j ∙ sym e);
           };

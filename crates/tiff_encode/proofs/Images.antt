@@ -12,11 +12,11 @@ use Rattle.tiff_base.specs.declared.tags.Tag.{Tag}
 use Rattle.tiff_base.specs.declared.tags.Tag.TheVariants as tag
 use Rattle.tiff_value.specs.ColorType.{ColorTypeRecord}
 use Rattle.tiff_value.specs.Data.{FieldData, Scalars, u32s, data_of}
-use Rattle.tiff_encode.specs.Machine.{FileState, OpenDirectory, OpenImage, Writing, gives, ◌>>=◌}
+use Rattle.tiff_encode.specs.Machine.{FileState, OpenDirectory, OpenImage, WriteCall, gives, ◌>>=◌}
 use Rattle.tiff_encode.specs.Encoder.{AppendIsStopped, AppendIsCut}
 use Rattle.tiff_encode.specs.FileWrites.{file_with_bytes}
 use Rattle.tiff_encode.specs.FileBytes.{padding}
-use Rattle.tiff_encode.specs.Ends.{IsTold, CallFails, Ends}
+use Rattle.tiff_encode.specs.Ends.{EndsAsDefined, CallFails, Ends}
 use Rattle.tiff_encode.specs.Calls.{new_directory, pad, image_directory, write_tags, meaning_tags, chroma_tags, layout_tags, first_tags, image_in, new_image}
 use Rattle.tiff_encode.specs.Causes.{begin_cause, end_of, image_cause, new_image_cause}
 use Rattle.tiff_encode.specs.Tagging.{write_fields, fields_of}
@@ -76,13 +76,13 @@ module _ (color : ColorTypeRecord) (size width height : ℕ) (old : FileState) w
   abbrev tags_in : OpenDirectory → List (Tag × Scalars)
   tags_in d = first_tags (image_in old d color size width height)
 
-  abbrev ends_with : OpenDirectory → Writing OpenImage
+  abbrev ends_with : OpenDirectory → WriteCall OpenImage
   ends_with last = gives (image_in old last color size width height)
 
-  abbrev tagged : OpenDirectory → Writing OpenImage
+  abbrev tagged : OpenDirectory → WriteCall OpenImage
   tagged d = write_tags d (tags_in d) >>= ends_with
 
-  abbrev begun_image : Writing OpenImage
+  abbrev begun_image : WriteCall OpenImage
   begun_image = image_directory >>= tagged
 
   uncaused_image : (r : Result OpenImage TiffError) (new : FileState) → new_image_cause old color width height ≡ None
@@ -107,7 +107,7 @@ module _ (color : ColorTypeRecord) (size width height : ℕ) (old : FileState) w
   directory_short : (e : TiffError) → old.fault ≡ None → e ≡ OutOfMemory → CallFails (image_directory old) e old old
   unfolding image_directory begin_cause
   directory_short e f q =
-      let opens : Writing OpenDirectory = pad >>= (λ _. gives blank) in
+      let opens : WriteCall OpenDirectory = pad >>= (λ _. gives blank) in
       let d : OpenDirectory → OpenDirectory = λ d. d in
       uncaused d (begin_cause old) opens (Err e) old old (fresh_cause old.fault None f) (wanting d (opens old) e old f q tt)
 
@@ -127,7 +127,7 @@ module _ (color : ColorTypeRecord) (size width height : ℕ) (old : FileState) w
       → old.fault ≡ None → mid ≡ file_with_bytes old (padding (end_of old)) → Ends (λ i. i) (tagged blank mid) r mid new
       → Ends (λ i. i) (new_image color size width height old) r old new
   image_padded r mid new c f s h =
-      let told : IsTold (image_directory old) (Ok blank) mid = begun_told old mid empty old.chain (f, s) refl (sym (ap (λ n. n.chain) s)) in
+      let told : EndsAsDefined (image_directory old) (Ok blank) mid = begun_told old mid empty old.chain (f, s) refl (sym (ap (λ n. n.chain) s)) in
       uncaused_image r new c (bind_ends (λ i. i) image_directory tagged blank r old mid new (begin_adds old) told h)
 
   -- `new_image` fails at the tags
@@ -142,10 +142,10 @@ module _ (color : ColorTypeRecord) (size width height : ℕ) (old : FileState) w
   -- `new_image` succeeds
   pub image_begun : (values : List (Tag × FieldData)) (last : OpenDirectory) (i : OpenImage) (mid new : FileState)
       → new_image_cause old color width height ≡ None → old.fault ≡ None → mid ≡ file_with_bytes old (padding (end_of old))
-      → values ≡ fields_of (tags_in blank) → IsTold (write_fields blank values mid) (Ok last) new
+      → values ≡ fields_of (tags_in blank) → EndsAsDefined (write_fields blank values mid) (Ok last) new
       → i ≡ image_in old last color size width height → Ends (λ i. i) (new_image color size width height old) (Ok i) old new
   image_begun values last i mid new c f s v h q =
-      let tagged_so : IsTold (write_tags blank (tags_in blank) mid) (Ok last) new =
-      subst (λ told. IsTold told (Ok last) new) (ap (λ xs. write_fields blank xs mid) v ∙ sym (tags_are_fields blank (tags_in blank) mid)) h in
+      let tagged_so : EndsAsDefined (write_tags blank (tags_in blank) mid) (Ok last) new =
+      subst (λ told. EndsAsDefined told (Ok last) new) (ap (λ xs. write_fields blank xs mid) v ∙ sym (tags_are_fields blank (tags_in blank) mid)) h in
       image_padded (Ok i) mid new c f s
       (bind_told (write_tags blank (tags_in blank)) ends_with last (Ok i) mid new new tagged_so (record { answer = ap Ok (sym q); state = refl }))

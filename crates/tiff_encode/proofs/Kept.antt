@@ -154,13 +154,13 @@ tests_kept true false x y new e z h k = elim k as (λ _. new ≡ Ok z) [ inl t �
 tests_kept false b x y new e z h k = absurd cc
 
 -- the bytes of a field stay the same, in its entry or at its offset
-handed_kept : (kind : FileKind) (file new : List ℕ) (f : Field) (b : List ℕ)
+supplied_kept : (kind : FileKind) (file new : List ℕ) (f : Field) (b : List ℕ)
     → field_bytes kind LittleEndian file f ≡ Ok b
     → (field_len f ≤ offset_len kind) ⊎ (exactly_at file (field_offset kind LittleEndian f) (field_len f) ≡ Ok b
     → exactly_at new (field_offset kind LittleEndian f) (field_len f) ≡ Ok b)
     → field_bytes kind LittleEndian new f ≡ Ok b
 unfolding field_bytes
-handed_kept kind file new f b e c =
+supplied_kept kind file new f b e c =
     let n : ℕ = field_len f in
     let p : ℕ = field_offset kind LittleEndian f in
     tests_kept _ (leb n (offset_len kind)) (Ok (take n f.value)) (exactly_at file p n)
@@ -202,7 +202,7 @@ kept_by_appending kind m file more h =
           (omega (arith, w)) o.0)
           (number_kept file new (offset_width kind) _ _ (exact_append file more _ _) o.1);
       counts = λ d i. number_kept file new (count_width kind) _ _ (exact_append file more _ _) (h.counts d i);
-      handed = λ y i. handed_kept kind file new y.field y.bytes (h.handed y i)
+      supplied = λ y i. supplied_kept kind file new y.field y.bytes (h.supplied y i)
           (inr (exact_append file more _ _ y.bytes));
       regions = λ r i. exact_append file more _ _ _ (h.regions r i);
       within = λ r i. let w = h.within r i in omega (arith, w, length-append file more);
@@ -217,7 +217,7 @@ kept_by_appending kind m file more h =
             header = a.header;
             within = omega (arith, w, length-append file more);
             directories = a.directories;
-            handed = a.handed;
+            supplied = a.supplied;
             regions = a.regions;
             links = a.links;
           };
@@ -284,8 +284,8 @@ module _ (kind : FileKind) (file : List ℕ) (q : ℕ) (over : List ℕ) (t : �
     counts = λ d i. number_kept file patched (count_width kind) _ _
         (λ z. clear_kept _ _ z
         (front_clear d.offset (body_len kind d) (count_len kind) (omega arith) (a.directories d i))) (h.counts d i);
-    handed = λ y i. handed_kept kind file patched y.field y.bytes (h.handed y i)
-        (elim (a.handed y i) [
+    supplied = λ y i. supplied_kept kind file patched y.field y.bytes (h.supplied y i)
+        (elim (a.supplied y i) [
           | inl x ↦ inl x
           | inr c ↦
               inr (clear_kept (field_offset kind LittleEndian y.field) (field_len y.field) y.bytes c)
@@ -305,7 +305,7 @@ module _ (kind : FileKind) (file : List ℕ) (q : ℕ) (over : List ℕ) (t : �
           header = z.header;
           within = omega (arith, w, length_put file q over (omega arith));
           directories = z.directories;
-          handed = z.handed;
+          supplied = z.supplied;
           regions = z.regions;
           links = z.links;
         };

@@ -11,7 +11,7 @@ use Rattle.tiff_base.specs.declared.tags.CompressionMethod.{CompressionMethod}
 use Rattle.tiff_base.specs.declared.tags.FileKind.{FileKind}
 use Rattle.tiff_base.specs.Directory.{link_offset}
 use Rattle.tiff_base.specs.Field.{Field}
-use Rattle.tiff_encode.specs.Machine.{FileState, OpenDirectory, OpenImage, Writing, by_cause}
+use Rattle.tiff_encode.specs.Machine.{FileState, OpenDirectory, OpenImage, WriteCall, by_cause}
 use Rattle.tiff_encode.specs.Causes.{is_past, end_of, unless_ended, finish_cause, offset_cause}
 use Rattle.tiff_encode.specs.Calls.{Offsets, offsets_of, result_by, finish, new_offset}
 use Rattle.tiff_encode.specs.Stored.{unpacked_chunk}
@@ -43,7 +43,7 @@ some_none : {e : TiffError} → let a : Option TiffError = Some e in a ≡ None 
 some_none h = cc
 
 -- nothing refuses a call that succeeds
-pub uncaused : {A : Type 0} (c : Option TiffError) (call : Writing A) (file : FileState) (x : A) → (by_cause c call file).answer ≡ Ok x
+pub uncaused : {A : Type 0} (c : Option TiffError) (call : WriteCall A) (file : FileState) (x : A) → (by_cause c call file).answer ≡ Ok x
     → (c ≡ None) × ((call file).answer ≡ Ok x)
 uncaused None call file x h = (refl, h)
 uncaused (Some e) call file x h = absurd (err_ok h)

@@ -21,12 +21,12 @@ use Rattle.tiff_base.specs.Tags.{extra_number}
 use Rattle.tiff_value.specs.Data.{FieldData, Scalars, extras, rationals, u32s, data_of}
 use Rattle.tiff_value.specs.ValueLaws.{each_whole}
 use Rattle.tiff_value.specs.Values.{IsValue}
-use Rattle.tiff_encode.specs.Machine.{FileState, OpenDirectory, OpenImage, Writing, gives, by_cause, ◌>>=◌}
+use Rattle.tiff_encode.specs.Machine.{FileState, OpenDirectory, OpenImage, WriteCall, gives, by_cause, ◌>>=◌}
 use Rattle.tiff_encode.specs.Placing.{field_test}
 use Rattle.tiff_encode.specs.Chunks.{is_begun}
 use Rattle.tiff_encode.specs.Causes.{end_of, field_cause, extra_samples_cause, tiles_cause}
 use Rattle.tiff_encode.specs.Calls.{placed_field, write_tag, write_tags, extend_from}
-use Rattle.tiff_encode.specs.Ends.{IsTold, CallFails}
+use Rattle.tiff_encode.specs.Ends.{EndsAsDefined, CallFails}
 use Rattle.tiff_encode.specs.Tagging.{write_fields, StopsInPart, fields_of}
 use Rattle.tiff_encode.proofs.Calling.{refused, uncaused, wanting, entry_uncaused}
 use Rattle.tiff_encode.proofs.Entries.{last_of_entries}
@@ -80,9 +80,9 @@ copied d now next none s n h =
 
 -- ---- a setting, unless the checks refuse it
 
-module _ (cause : Option TiffError) (call : OpenDirectory → Writing OpenDirectory) (g : OpenDirectory → OpenImage) (d : OpenDirectory) (old : FileState) where
+module _ (cause : Option TiffError) (call : OpenDirectory → WriteCall OpenDirectory) (g : OpenDirectory → OpenImage) (d : OpenDirectory) (old : FileState) where
   -- the call writes to the directory, and the image has that directory
-  abbrev set_in : Writing OpenImage
+  abbrev set_in : WriteCall OpenImage
   set_in = call d >>= (λ x. gives (g x))
 
   abbrev view : OpenImage → OpenImage
@@ -100,17 +100,17 @@ module _ (cause : Option TiffError) (call : OpenDirectory → Writing OpenDirect
       (bind_fails (call d) (λ x. gives (g x)) e old new a (subst (λ x. CallFails (call x old) e old new) s h))
 
   -- the setting succeeds
-  pub set_so : (b next : OpenDirectory) (i : OpenImage) (new : FileState) → cause ≡ None → b ≡ d → IsTold (call b old) (Ok next) new
-      → i ≡ g next → IsTold (by_cause cause set_in old) (Ok i) new
+  pub set_so : (b next : OpenDirectory) (i : OpenImage) (new : FileState) → cause ≡ None → b ≡ d → EndsAsDefined (call b old) (Ok next) new
+      → i ≡ g next → EndsAsDefined (by_cause cause set_in old) (Ok i) new
   set_so b next i new c s h q =
       uncaused view cause set_in (Ok i) old new c
-      (bind_told (call d) (λ x. gives (g x)) next (Ok i) old new new (subst (λ x. IsTold (call x old) (Ok next) new) s h)
+      (bind_told (call d) (λ x. gives (g x)) next (Ok i) old new new (subst (λ x. EndsAsDefined (call x old) (Ok next) new) s h)
       (record { answer = ap Ok (sym q); state = refl }))
 
 -- ---- tags
 
 module _ (t : Tag) (value : Scalars) where
-  abbrev pub one_tag : OpenDirectory → Writing OpenDirectory
+  abbrev pub one_tag : OpenDirectory → WriteCall OpenDirectory
   one_tag d = write_tag d t (Ok (data_of value))
 
   pub one_adds : (d : OpenDirectory) (file : FileState) → Adds (one_tag d file) file
@@ -129,8 +129,8 @@ module _ (t : Tag) (value : Scalars) where
       → CallFails (write_tags d ((t, value) ∷ []) old) e old new
   tags_of_one d e old new h = bind_fails (one_tag d) (λ next. gives next) e old new (one_adds d old) h
 
-  pub tags_are_one : (d next : OpenDirectory) (old new : FileState) → IsTold (one_tag d old) (Ok next) new
-      → IsTold (write_tags d ((t, value) ∷ []) old) (Ok next) new
+  pub tags_are_one : (d next : OpenDirectory) (old new : FileState) → EndsAsDefined (one_tag d old) (Ok next) new
+      → EndsAsDefined (write_tags d ((t, value) ∷ []) old) (Ok next) new
   tags_are_one d next old new h =
       bind_told (one_tag d) (λ next. gives next) next (Ok next) old new new h (record { answer = refl; state = refl })
 
@@ -146,10 +146,10 @@ module _ (values : List (Tag × FieldData)) (tags : List (Tag × Scalars)) (same
   tags_fail d e old new h =
       subst (λ told. CallFails told e old new) (ap (λ vs. write_fields d vs old) same ∙ sym (tags_are_fields d tags old)) h
 
-  pub tags_so : (d next : OpenDirectory) (old new : FileState) → IsTold (write_fields d values old) (Ok next) new
-      → IsTold (write_tags d tags old) (Ok next) new
+  pub tags_so : (d next : OpenDirectory) (old new : FileState) → EndsAsDefined (write_fields d values old) (Ok next) new
+      → EndsAsDefined (write_tags d tags old) (Ok next) new
   tags_so d next old new h =
-      subst (λ told. IsTold told (Ok next) new) (ap (λ vs. write_fields d vs old) same ∙ sym (tags_are_fields d tags old)) h
+      subst (λ told. EndsAsDefined told (Ok next) new) (ap (λ vs. write_fields d vs old) same ∙ sym (tags_are_fields d tags old)) h
 
   pub stops_so : (d b next : OpenDirectory) (e : TiffError) (old new : FileState) → b ≡ d → StopsInPart b values e old new next
       → StopsInPart d (fields_of tags) e old new next
@@ -195,7 +195,7 @@ tiles_fresh file i width length c = fresh_by file.fault _ c
 pub tiles_short : (file : FileState) (i : OpenImage) (width length : ℕ) (e : TiffError) → tiles_cause file i width length ≡ None
     → e ≡ OutOfMemory → CallFails (write_tags i.directory (side_tags width length) file) e file file
 tiles_short file i width length e c q =
-    let first : Writing OpenDirectory = one_tag tag.TileWidth (u32s (width ∷ [])) i.directory in
-    let rest : OpenDirectory → Writing OpenDirectory = λ d. write_tags d ((tag.TileLength, u32s (length ∷ [])) ∷ []) in
+    let first : WriteCall OpenDirectory = one_tag tag.TileWidth (u32s (width ∷ [])) i.directory in
+    let rest : OpenDirectory → WriteCall OpenDirectory = λ d. write_tags d ((tag.TileLength, u32s (length ∷ [])) ∷ []) in
     bind_fails first rest e file file (one_adds tag.TileWidth (u32s (width ∷ [])) i.directory file)
     (one_short tag.TileWidth (u32s (width ∷ [])) i.directory e file (tiles_fresh file i width length c) (long_uncaused file width) q)

@@ -16,12 +16,12 @@ use Rattle.tiff_page.specs.Pixels.{stored_samples}
 use Rattle.tiff_base.specs.declared.tags.Predictor.{Predictor}
 use Rattle.tiff_value.specs.Differences.{stored_difference, differences}
 use Rattle.tiff_value.specs.Packed.{IsStored}
-use Rattle.tiff_encode.specs.Machine.{FileState, OpenImage, WriteOutcome, Writing, by_cause}
+use Rattle.tiff_encode.specs.Machine.{FileState, OpenImage, WriteOutcome, WriteCall, by_cause}
 use Rattle.tiff_encode.specs.Chunks.{image_page, row_samples, chunk_rows, is_left, next_chunk_sample_count}
 use Rattle.tiff_encode.specs.Causes.{is_past, is_past_chunks, unless_ended, end_of, write_chunk_cause}
 use Rattle.tiff_encode.specs.Calls.{with_chunk, appends_chunk, write_chunk}
 use Rattle.tiff_encode.specs.Encoder.{AppendIsStopped, AppendIsCut}
-use Rattle.tiff_encode.specs.Ends.{IsTold, IsCutOff}
+use Rattle.tiff_encode.specs.Ends.{EndsAsDefined, IsCutOff}
 use Rattle.tiff_encode.specs.FileWrites.{file_with_bytes}
 use Rattle.tiff_encode.specs.Stored.{unpacked_chunk}
 use Rattle.tiff_encode.specs.Storing.{AppendsChunk, StoresChunk, WritesStoredChunk}
@@ -42,10 +42,10 @@ whole_rows i n row h l r =
 -- ---- a chunk stored as given bytes
 
 -- a refused call has an outcome with its error
-refused_told : {A : Type 0} (cause : Option TiffError) (call : Writing A) (file : FileState) (e : TiffError) → cause ≡ Some e
-    → IsTold (by_cause cause call file) (Err e) file
+refused_told : {A : Type 0} (cause : Option TiffError) (call : WriteCall A) (file : FileState) (e : TiffError) → cause ≡ Some e
+    → EndsAsDefined (by_cause cause call file) (Err e) file
 refused_told cause call file e c =
-    let P : Option TiffError → Type 0 = λ k. IsTold (by_cause k call file) (Err e) file in
+    let P : Option TiffError → Type 0 = λ k. EndsAsDefined (by_cause k call file) (Err e) file in
     subst P (sym c) (record { answer = refl; state = refl })
 
 module _ (old : FileState) (i : OpenImage) (n : ℕ) (stored : List ℕ) where
@@ -84,9 +84,9 @@ module _ (old : FileState) (i : OpenImage) (n : ℕ) (stored : List ℕ) where
   append_cut m e new next l f c h q =
       by_none m (Err e) new next l c (
         q,
-        inr (inl (elim h as (λ _. IsCutOff (told_by None).deeds e old new) [
+        inr (inl (elim h as (λ _. IsCutOff (told_by None).ops e old new) [
           | inl s ↦ absurd (none_some old.fault f s.failed)
-          | inr x ↦ cut_off (told_by None).deeds e old new (subst (λ xs. AppendIsCut xs e old new) (sym (append-nil stored)) x)
+          | inr x ↦ cut_off (told_by None).ops e old new (subst (λ xs. AppendIsCut xs e old new) (sym (append-nil stored)) x)
         ])),
       )
 
@@ -146,14 +146,14 @@ module _ (old : FileState) (i : OpenImage) (samples : List ℕ) (new : FileState
       → IsStored i.method stored (unpacked_chunk i samples) → AppendsChunk (write_chunk i count stored old) i r old new next
       → StoresChunk write_chunk i samples r old new next
   chunk_stored count stored (Ok x) counted is_stored h =
-      (stored, (is_stored, subst (λ t. IsTold t (Ok next) new) (ap (λ k. write_chunk i k stored old) counted) h))
+      (stored, (is_stored, subst (λ t. EndsAsDefined t (Ok next) new) (ap (λ k. write_chunk i k stored old) counted) h))
   chunk_stored count stored (Err e) counted is_stored h =
       let same : write_chunk i count stored old ≡ write_chunk i (length samples) stored old = ap (λ k. write_chunk i k stored old) counted in (
         h.0,
-        elim h.1 as (λ _. ((e ≡ OutOfMemory) × (new ≡ old)) ⊎ ((xs : List ℕ) × (IsStored i.method xs (unpacked_chunk i samples) × (IsTold (write_chunk i (length samples) xs old) (Err e) new ⊎ IsCutOff (write_chunk i (length samples) xs old).deeds e old new)))) [
-          | inl t ↦ inr (stored, (is_stored, inl (subst (λ t. IsTold t (Err e) new) same t)))
+        elim h.1 as (λ _. ((e ≡ OutOfMemory) × (new ≡ old)) ⊎ ((xs : List ℕ) × (IsStored i.method xs (unpacked_chunk i samples) × (EndsAsDefined (write_chunk i (length samples) xs old) (Err e) new ⊎ IsCutOff (write_chunk i (length samples) xs old).ops e old new)))) [
+          | inl t ↦ inr (stored, (is_stored, inl (subst (λ t. EndsAsDefined t (Err e) new) same t)))
           | inr h ↦ elim h [
-            | inl c ↦ inr (stored, (is_stored, inr (subst (λ (t : WriteOutcome OpenImage). IsCutOff t.deeds e old new) same c)))
+            | inl c ↦ inr (stored, (is_stored, inr (subst (λ (t : WriteOutcome OpenImage). IsCutOff t.ops e old new) same c)))
             | inr w ↦ inl w
           ]
         ],

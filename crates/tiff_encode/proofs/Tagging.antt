@@ -17,11 +17,11 @@ use Rattle.tiff_base.specs.Number.{le}
 use Rattle.tiff_base.specs.Types.{type_size}
 use Rattle.tiff_value.specs.Data.{FieldData, Scalars, u16s, u32s, rationals, data_of}
 use Rattle.tiff_encode.specs.Value.{data_in, filled_field}
-use Rattle.tiff_encode.specs.Deeds.{Deed}
-use Rattle.tiff_encode.specs.Machine.{FileState, OpenDirectory, WriteOutcome, Writing, gives, after_deeds, by_cause, and_then, ◌>>=◌}
+use Rattle.tiff_encode.specs.WriteOps.{WriteOp}
+use Rattle.tiff_encode.specs.Machine.{FileState, OpenDirectory, WriteOutcome, WriteCall, gives, after_ops, by_cause, and_then, ◌>>=◌}
 use Rattle.tiff_encode.specs.Causes.{unless_ended, field_cause, write_tag_cause, write_entry_bytes_cause}
 use Rattle.tiff_encode.specs.Calls.{placed_field, write_entry, write_entry_bytes, write_tag, write_tags}
-use Rattle.tiff_encode.specs.Ends.{IsTold, CallFails, Ends}
+use Rattle.tiff_encode.specs.Ends.{EndsAsDefined, CallFails, Ends}
 use Rattle.tiff_encode.specs.Tagging.{write_fields, StopsInPart, fields_of}
 use Rattle.tiff_encode.proofs.Listing.{filled_whole}
 use Rattle.tiff_encode.proofs.Joining.{IsAdding, Adds, adding, answers_adding, tag_adds, bind_told, bind_ends_adding, bind_fails, bind_adding, bind_adds}
@@ -29,28 +29,28 @@ use Rattle.tiff_encode.proofs.Joining.{IsAdding, Adds, adding, answers_adding, t
 -- ---- equal calls
 
 -- two calls in sequence have the same outcome if their second calls have the same outcome
-pub going_alike : {A B : Type 0} (r : Result A TiffError) (deeds : List Deed) (next : FileState) (rest other : A → Writing B)
-    → ((x : A) (file : FileState) → rest x file ≡ other x file) → and_then r deeds next rest ≡ and_then r deeds next other
-going_alike (Ok x) deeds next rest other h = ap (after_deeds deeds) (h x next)
-going_alike (Err e) deeds next rest other h = refl
+pub going_alike : {A B : Type 0} (r : Result A TiffError) (ops : List WriteOp) (next : FileState) (rest other : A → WriteCall B)
+    → ((x : A) (file : FileState) → rest x file ≡ other x file) → and_then r ops next rest ≡ and_then r ops next other
+going_alike (Ok x) ops next rest other h = ap (after_ops ops) (h x next)
+going_alike (Err e) ops next rest other h = refl
 
-module _ {A B : Type 0} (deeds : List Deed) (rest : A → Writing B) where
+module _ {A B : Type 0} (ops : List WriteOp) (rest : A → WriteCall B) where
   -- the changes of two calls before a third call are those of both in sequence
-  behind_on : (r : Result A TiffError) (more : List Deed) (next : FileState)
-      → after_deeds deeds (and_then r more next rest) ≡ and_then r (deeds ++ more) next rest
+  behind_on : (r : Result A TiffError) (more : List WriteOp) (next : FileState)
+      → after_ops ops (and_then r more next rest) ≡ and_then r (ops ++ more) next rest
   behind_on (Err e) more next = refl
   behind_on (Ok x) more next =
       let third : WriteOutcome B = rest x next in
-      ap (λ ds. record { answer = third.answer; deeds = ds; next = third.next }) (sym (append_assoc deeds more third.deeds))
+      ap (λ ds. record { answer = third.answer; ops = ds; next = third.next }) (sym (append_assoc ops more third.ops))
 
 -- three calls in sequence have the same outcome in each grouping
-pub going_further : {A B C : Type 0} (r : Result A TiffError) (deeds : List Deed) (next : FileState) (second : A → Writing B)
-    (third : B → Writing C)
-    → and_then r deeds next (λ x. second x >>= third)
-    ≡ (let both : WriteOutcome B = and_then r deeds next second in and_then both.answer both.deeds both.next third)
-going_further (Err e) deeds next second third = refl
-going_further (Ok x) deeds next second third =
-    let told = second x next in behind_on deeds third told.answer told.deeds told.next
+pub going_further : {A B C : Type 0} (r : Result A TiffError) (ops : List WriteOp) (next : FileState) (second : A → WriteCall B)
+    (third : B → WriteCall C)
+    → and_then r ops next (λ x. second x >>= third)
+    ≡ (let both : WriteOutcome B = and_then r ops next second in and_then both.answer both.ops both.next third)
+going_further (Err e) ops next second third = refl
+going_further (Ok x) ops next second third =
+    let told = second x next in behind_on ops third told.answer told.ops told.next
 
 -- ---- fields
 
@@ -59,7 +59,7 @@ pub tags_are_fields : (d : OpenDirectory) (values : List (Tag × Scalars)) (file
 tags_are_fields d [] file = refl
 tags_are_fields d (value ∷ values) file =
     let first : WriteOutcome OpenDirectory = write_tag d value.0 (Ok (data_of value.1)) file in
-    going_alike first.answer first.deeds first.next (λ next. write_tags next values) (λ next. write_fields next (fields_of values))
+    going_alike first.answer first.ops first.next (λ next. write_tags next values) (λ next. write_fields next (fields_of values))
     (λ next now. tags_are_fields next values now)
 
 -- some fields, followed by other fields
@@ -68,16 +68,16 @@ pub fields_joined : (d : OpenDirectory) (xs ys : List (Tag × FieldData)) (file 
 fields_joined d [] ys file = refl
 fields_joined d (x ∷ xs) ys file =
     let first : WriteOutcome OpenDirectory = write_tag d x.0 (Ok x.1) file in
-    let rest : OpenDirectory → Writing OpenDirectory = λ next. write_fields next ys in
-    going_alike first.answer first.deeds first.next (λ next. write_fields next (xs ++ ys)) (λ next. write_fields next xs >>= rest)
+    let rest : OpenDirectory → WriteCall OpenDirectory = λ next. write_fields next ys in
+    going_alike first.answer first.ops first.next (λ next. write_fields next (xs ++ ys)) (λ next. write_fields next xs >>= rest)
     (λ next now. fields_joined next xs ys now)
-    ∙ going_further first.answer first.deeds first.next (λ next. write_fields next xs) rest
+    ∙ going_further first.answer first.ops first.next (λ next. write_fields next xs) rest
 
 -- writing fields only appends
 pub fields_adding : (d : OpenDirectory) (values : List (Tag × FieldData)) (file : FileState) → IsAdding (write_fields d values file) file
 fields_adding d [] file = answers_adding (Ok d) file
 fields_adding d (value ∷ values) file =
-    let call : Writing OpenDirectory = write_tag d value.0 (Ok value.1) in
+    let call : WriteCall OpenDirectory = write_tag d value.0 (Ok value.1) in
     bind_adding call (λ next. write_fields next values) file
     (adding (call file) file (tag_adds d value.0 (Ok value.1) file))
     (λ next _. fields_adding next values (call file).next)
@@ -86,32 +86,32 @@ fields_adding d (value ∷ values) file =
 pub fields_adds : (d : OpenDirectory) (value : Tag × FieldData) (values : List (Tag × FieldData)) (file : FileState)
     → Adds (write_fields d (value ∷ values) file) file
 fields_adds d value values file =
-    let call : Writing OpenDirectory = write_tag d value.0 (Ok value.1) in
+    let call : WriteCall OpenDirectory = write_tag d value.0 (Ok value.1) in
     bind_adds call (λ next. write_fields next values) file (tag_adds d value.0 (Ok value.1) file)
     (λ next _. fields_adding next values (call file).next)
 
 -- The first fields are written, and all fields end as the others end.
 pub fields_end : {X : Type 0} (view : X → OpenDirectory) (d next : OpenDirectory) (xs ys : List (Tag × FieldData)) (r : Result X TiffError)
-    (old mid new : FileState) → IsTold (write_fields d xs old) (Ok next) mid → Ends view (write_fields next ys mid) r mid new
+    (old mid new : FileState) → EndsAsDefined (write_fields d xs old) (Ok next) mid → Ends view (write_fields next ys mid) r mid new
     → Ends view (write_fields d (xs ++ ys) old) r old new
 fields_end view d next xs ys r old mid new h e =
-    let rest : OpenDirectory → Writing OpenDirectory = λ n. write_fields n ys in
+    let rest : OpenDirectory → WriteCall OpenDirectory = λ n. write_fields n ys in
     subst (λ told. Ends view told r old new) (sym (fields_joined d xs ys old))
     (bind_ends_adding view (write_fields d xs) rest next r old mid new (fields_adding d xs old) h e)
 
 pub fields_told : (d next : OpenDirectory) (xs ys : List (Tag × FieldData)) (r : Result OpenDirectory TiffError)
-    (old mid new : FileState) → IsTold (write_fields d xs old) (Ok next) mid → IsTold (write_fields next ys mid) r new
-    → IsTold (write_fields d (xs ++ ys) old) r new
+    (old mid new : FileState) → EndsAsDefined (write_fields d xs old) (Ok next) mid → EndsAsDefined (write_fields next ys mid) r new
+    → EndsAsDefined (write_fields d (xs ++ ys) old) r new
 fields_told d next xs ys r old mid new h e =
-    let rest : OpenDirectory → Writing OpenDirectory = λ n. write_fields n ys in
-    subst (λ told. IsTold told r new) (sym (fields_joined d xs ys old))
+    let rest : OpenDirectory → WriteCall OpenDirectory = λ n. write_fields n ys in
+    subst (λ told. EndsAsDefined told r new) (sym (fields_joined d xs ys old))
     (bind_told (write_fields d xs) rest next r old mid new h e)
 
 -- The first fields, at least one, fail, and all fields fail.
 pub fields_fail : (d : OpenDirectory) (x : Tag × FieldData) (xs ys : List (Tag × FieldData)) (e : TiffError) (old new : FileState)
     → CallFails (write_fields d (x ∷ xs) old) e old new → CallFails (write_fields d ((x ∷ xs) ++ ys) old) e old new
 fields_fail d x xs ys e old new h =
-    let rest : OpenDirectory → Writing OpenDirectory = λ n. write_fields n ys in
+    let rest : OpenDirectory → WriteCall OpenDirectory = λ n. write_fields n ys in
     subst (λ told. CallFails told e old new) (sym (fields_joined d (x ∷ xs) ys old))
     (bind_fails (write_fields d (x ∷ xs)) rest e old new (fields_adds d x xs old) h)
 
@@ -119,20 +119,20 @@ fields_fail d x xs ys e old new h =
 
 -- one more field is written
 pub one_more : (d now next : OpenDirectory) (done : List (Tag × FieldData)) (value : Tag × FieldData) (old mid new : FileState)
-    → IsTold (write_fields d done old) (Ok now) mid → IsTold (write_tag now value.0 (Ok value.1) mid) (Ok next) new
-    → IsTold (write_fields d (done ++ value ∷ []) old) (Ok next) new
+    → EndsAsDefined (write_fields d done old) (Ok now) mid → EndsAsDefined (write_tag now value.0 (Ok value.1) mid) (Ok next) new
+    → EndsAsDefined (write_fields d (done ++ value ∷ []) old) (Ok next) new
 one_more d now next done value old mid new h t =
-    let last : OpenDirectory → Writing OpenDirectory = λ n. gives n in
+    let last : OpenDirectory → WriteCall OpenDirectory = λ n. gives n in
     fields_told d now done (value ∷ []) (Ok next) old mid new h
     (bind_told (write_tag now value.0 (Ok value.1)) last next (Ok next) mid new new t (record { answer = refl; state = refl }))
 
 -- one more field fails after the first fields are written
 pub one_fails : (d now : OpenDirectory) (done rest all : List (Tag × FieldData)) (value : Tag × FieldData) (e : TiffError)
-    (old mid new : FileState) → done ++ value ∷ rest ≡ all → IsTold (write_fields d done old) (Ok now) mid
+    (old mid new : FileState) → done ++ value ∷ rest ≡ all → EndsAsDefined (write_fields d done old) (Ok now) mid
     → CallFails (write_tag now value.0 (Ok value.1) mid) e mid new → CallFails (write_fields d all old) e old new
 one_fails d now done rest all value e old mid new q h f =
     let view : OpenDirectory → OpenDirectory = λ x. x in
-    let others : OpenDirectory → Writing OpenDirectory = λ n. write_fields n rest in
+    let others : OpenDirectory → WriteCall OpenDirectory = λ n. write_fields n rest in
     subst (λ vs. CallFails (write_fields d vs old) e old new) q
     (fields_end view d now done (value ∷ rest) (Err e) old mid new h
     (bind_fails (write_tag now value.0 (Ok value.1)) others e mid new (tag_adds now value.0 (Ok value.1) mid) f))
@@ -141,16 +141,16 @@ one_fails d now done rest all value e old mid new q h f =
 
 -- the field after the first ones is set
 pub next_set : (d now next : OpenDirectory) (values : List (Tag × FieldData)) (value : Tag × FieldData) (n : ℕ) (old mid new : FileState)
-    → n < length values → value ≡ get_or values n value → IsTold (write_fields d (take n values) old) (Ok now) mid
-    → IsTold (write_tag now value.0 (Ok value.1) mid) (Ok next) new → IsTold (write_fields d (take (n + 1) values) old) (Ok next) new
+    → n < length values → value ≡ get_or values n value → EndsAsDefined (write_fields d (take n values) old) (Ok now) mid
+    → EndsAsDefined (write_tag now value.0 (Ok value.1) mid) (Ok next) new → EndsAsDefined (write_fields d (take (n + 1) values) old) (Ok next) new
 next_set d now next values value n old mid new l v h t =
     let more : take (n + 1) values ≡ take n values ++ value ∷ [] =
     take_more values n value l ∙ ap (λ x. take n values ++ x ∷ []) (sym v) in
-    subst (λ vs. IsTold (write_fields d vs old) (Ok next) new) (sym more) (one_more d now next (take n values) value old mid new h t)
+    subst (λ vs. EndsAsDefined (write_fields d vs old) (Ok next) new) (sym more) (one_more d now next (take n values) value old mid new h t)
 
 -- the field after the first ones fails
 pub next_fails : (d now : OpenDirectory) (values : List (Tag × FieldData)) (value : Tag × FieldData) (n : ℕ) (e : TiffError)
-    (old mid new : FileState) → n < length values → value ≡ get_or values n value → IsTold (write_fields d (take n values) old) (Ok now) mid
+    (old mid new : FileState) → n < length values → value ≡ get_or values n value → EndsAsDefined (write_fields d (take n values) old) (Ok now) mid
     → CallFails (write_tag now value.0 (Ok value.1) mid) e mid new → CallFails (write_fields d values old) e old new
 next_fails d now values value n e old mid new l v h f =
     let rest : List (Tag × FieldData) = drop (n + 1) values in
@@ -162,11 +162,11 @@ next_fails d now values value n e old mid new l v h f =
 
 -- the first fields are set, and the others fail
 pub next_stops : (d now next : OpenDirectory) (values : List (Tag × FieldData)) (value : Tag × FieldData) (n : ℕ) (e : TiffError)
-    (old mid new : FileState) → n < length values → value ≡ get_or values n value → IsTold (write_fields d (take n values) old) (Ok now) mid
+    (old mid new : FileState) → n < length values → value ≡ get_or values n value → EndsAsDefined (write_fields d (take n values) old) (Ok now) mid
     → CallFails (write_tag now value.0 (Ok value.1) mid) e mid new → next ≡ now → StopsInPart d values e old new next
 next_stops d now next values value n e old mid new l v h f s =
     let rest : List (Tag × FieldData) = drop (n + 1) values in
-    let others : OpenDirectory → Writing OpenDirectory = λ x. write_fields x rest in
+    let others : OpenDirectory → WriteCall OpenDirectory = λ x. write_fields x rest in
     let more : take (n + 1) values ≡ take n values ++ value ∷ [] =
     take_more values n value l ∙ ap (λ x. take n values ++ x ∷ []) (sym v) in
     let whole : take n values ++ value ∷ rest ≡ values =
@@ -247,8 +247,8 @@ module _ (v : Tag × FieldData) (tag : Tag) (type : «Type») (len : ℕ) (bytes
       whole_entry type (take len bytes) file (ap (λ n. n % type_size type) all ∙ m) ∙ ap (λ d. write_entry (Ok d) file) same
 
   pub kept_told : (field : Field) (old new : FileState) → len ≤ 8 → length bytes ≡ 8 → len % type_size type ≡ 0 → kept ≡ v
-      → IsTold (write_entry_bytes type (take len bytes) old) (Ok field) new → IsTold (write_entry (Ok v.1) old) (Ok field) new
-  kept_told field old new l w m h t = subst (λ told. IsTold told (Ok field) new) (kept_entry old l w m h) t
+      → EndsAsDefined (write_entry_bytes type (take len bytes) old) (Ok field) new → EndsAsDefined (write_entry (Ok v.1) old) (Ok field) new
+  kept_told field old new l w m h t = subst (λ told. EndsAsDefined told (Ok field) new) (kept_entry old l w m h) t
 
   pub kept_fails : (e : TiffError) (old new : FileState) → len ≤ 8 → length bytes ≡ 8 → len % type_size type ≡ 0 → kept ≡ v
       → CallFails (write_entry_bytes type (take len bytes) old) e old new → CallFails (write_entry (Ok v.1) old) e old new

@@ -69,7 +69,8 @@ field_cause file value =
     else None
 
 -- the error of a value; a text can have an error that says that it can't be written
-abbrev pub data_cause : Result FieldData TiffError → (FieldData → Option TiffError) → Option TiffError
+abbrev pub data_cause : Result FieldData TiffError → (FieldData → Option TiffError)
+    → Option TiffError
 data_cause (Ok value) rest = rest value
 data_cause (Err e) rest = Some e
 
@@ -90,7 +91,8 @@ write_buf_cause file b = unless_failed file (order_cause b.order (field_cause fi
 unfoldable pub write_entry_bytes_cause : FileState → «Type» → List ℕ → Option TiffError
 write_entry_bytes_cause file type bytes =
     unless_failed file
-    (if not (length bytes % type_size type == 0) then Some (UsageError (MismatchedEntryLength type (length bytes)))
+    (if not (length bytes % type_size type == 0)
+    then Some (UsageError (MismatchedEntryLength type (length bytes)))
     else field_cause file (data_in type bytes))
 
 -- the error of `write_data` of a directory, if any
@@ -107,7 +109,8 @@ write_data_buf_cause file b = unless_failed file (order_cause b.order None)
 abbrev pub parent_cause : FileState → Option ℕ → Option TiffError
 parent_cause file None = None
 parent_cause file (Some offset) =
-    if nat_lt (end_of file) (offset + offset_len file.kind) then Some (UsageError ParentNotWritten) else None
+    if nat_lt (end_of file) (offset + offset_len file.kind) then Some (UsageError ParentNotWritten)
+    else None
 
 -- the error of `finish`, `finish_with_offsets` and `discard`, if any, in the order: the number of
 -- entries, the count of a field, the offset of the directory, the parent's link
@@ -115,7 +118,8 @@ unfoldable pub finish_cause : FileState → OpenDirectory → Option TiffError
 finish_cause file d =
     unless_failed file
     (if is_past_count file.kind (len d.fields)
-    || (list_any (λ entry. is_past file.kind entry.1.count) (entries d.fields) || is_past file.kind (end_of file))
+    || (list_any (λ entry. is_past file.kind entry.1.count) (entries d.fields) || is_past file.kind
+    (end_of file))
     then Some IntSizeError
     else parent_cause file d.parent)
 
@@ -124,7 +128,8 @@ finish_cause file d =
 unfoldable pub offset_cause : FileKind → ℕ → ℕ → Option TiffError
 offset_cause kind pointer count =
     if is_past kind pointer then Some IntSizeError
-    else if pointer == 0 || nat_le (2 ^ 64) (link_offset kind pointer count) then Some (UsageError ZeroIfdPointer)
+    else if pointer == 0 || nat_le (2 ^ 64) (link_offset kind pointer count)
+    then Some (UsageError ZeroIfdPointer)
     else None
 
 -- ---- images
@@ -140,7 +145,8 @@ is_not_whole (format ∷ formats) = false
 -- are the same
 abbrev pub predictor_cause : Predictor → List SampleFormat → Option TiffError → Option TiffError
 predictor_cause predictor.None formats rest = rest
-predictor_cause predictor.Horizontal formats rest = if is_not_whole formats then Some (UsageError PredictorIncompatible) else rest
+predictor_cause predictor.Horizontal formats rest = if is_not_whole formats
+    then Some (UsageError PredictorIncompatible) else rest
 predictor_cause predictor.FloatingPoint formats rest = Some (UsageError PredictorUnavailable)
 
 -- the error of an image of a width and a height at the end of a file of a length, in the order: the
@@ -149,12 +155,14 @@ predictor_cause predictor.FloatingPoint formats rest = Some (UsageError Predicto
 unfoldable pub image_cause : FileKind → ℕ → Predictor → List SampleFormat → ℕ → ℕ → Option TiffError
 image_cause kind end predictor formats width height =
     if width == 0 || height == 0 then Some (FormatError (InvalidDimensions width height))
-    else predictor_cause predictor formats (if is_past kind (resolutions_offset end + 8) then Some IntSizeError else None)
+    else predictor_cause predictor formats (if is_past kind (resolutions_offset end + 8)
+    then Some IntSizeError else None)
 
 -- the error of `new_image`, if any
 unfoldable pub new_image_cause : FileState → ColorTypeRecord → ℕ → ℕ → Option TiffError
 new_image_cause file color width height =
-    unless_failed file (image_cause file.kind (end_of file) file.predictor color.formats width height)
+    unless_failed file
+    (image_cause file.kind (end_of file) file.predictor color.formats width height)
 
 -- the error of `extra_samples`, if any
 unfoldable pub extra_samples_cause : FileState → OpenImage → List ExtraSamples → Option TiffError
@@ -167,7 +175,8 @@ extra_samples_cause file i extra =
 -- the error of `rows_per_strip`, if any; it refuses an image of tiles
 unfoldable pub rows_per_strip_cause : FileState → OpenImage → ℕ → Option TiffError
 rows_per_strip_cause file i rows =
-    unless_failed file (if rows == 0 || (is_begun i || is_tile i.form.chunk_type) then Some (IoError InvalidInput) else None)
+    unless_failed file (if rows == 0 || (is_begun i || is_tile i.form.chunk_type)
+    then Some (IoError InvalidInput) else None)
 
 -- whether a number can't be the width or the length of a tile, which is a multiple of 16 and not 0
 abbrev pub is_no_side : ℕ → Bool
@@ -183,17 +192,20 @@ tiles_cause file i width length =
 
 -- the error of `planar`, if any
 unfoldable pub planar_cause : FileState → OpenImage → Option TiffError
-planar_cause file i = unless_failed file (if is_begun i then Some (UsageError ReconfiguredAfterImageWrite) else None)
+planar_cause file i =
+    unless_failed file (if is_begun i then Some (UsageError ReconfiguredAfterImageWrite) else None)
 
 -- the error of `resolution`, if any: the offsets of both resolutions are checked before one is
 -- written
 unfoldable pub resolution_cause : FileState → Option TiffError
-resolution_cause file = unless_failed file (if is_past file.kind (end_of file + 8) then Some IntSizeError else None)
+resolution_cause file =
+    unless_failed file (if is_past file.kind (end_of file + 8) then Some IntSizeError else None)
 
 -- the error of `x_resolution` and `y_resolution`, if any; each rational number has the same number
 -- of bytes
 unfoldable pub one_resolution_cause : FileState → Option TiffError
-one_resolution_cause file = unless_failed file (field_cause file (data_of (rationals ((1, 1) ∷ []))))
+one_resolution_cause file =
+    unless_failed file (field_cause file (data_of (rationals ((1, 1) ∷ []))))
 
 -- the error of `resolution_unit`, if any
 unfoldable pub resolution_unit_cause : FileState → Option TiffError
@@ -207,7 +219,8 @@ is_past_chunks i = nat_le (2 ^ 32) (all_chunks (image_page i))
 abbrev pub chunk_cause : FileState → OpenImage → ℕ → ℕ → Option TiffError
 chunk_cause file i count stored =
     if is_past_chunks i then Some IntSizeError
-    else if not (is_left i) || not (count == next_chunk_sample_count i) then Some (IoError InvalidData)
+    else if not (is_left i) || not (count == next_chunk_sample_count i)
+    then Some (IoError InvalidData)
     else if is_past file.kind (end_of file) || is_past file.kind stored then Some IntSizeError
     else None
 
@@ -219,7 +232,8 @@ write_chunk_cause file i count stored = unless_failed file (chunk_cause file i c
 unfoldable pub write_strip_cause : FileState → OpenImage → ℕ → ℕ → Option TiffError
 write_strip_cause file i count stored =
     unless_failed file
-    (if is_tile i.form.chunk_type then Some (UsageError (InvalidChunkType Strip Tile)) else chunk_cause file i count stored)
+    (if is_tile i.form.chunk_type then Some (UsageError (InvalidChunkType Strip Tile))
+    else chunk_cause file i count stored)
 
 -- the number of samples of an image
 abbrev pub image_samples : OpenImage → ℕ
@@ -230,7 +244,8 @@ image_samples i = i.width * i.height * all_samples i
 unfoldable pub write_image_data_cause : FileState → OpenImage → ℕ → Option TiffError
 write_image_data_cause file i count =
     unless_failed file
-    (if nat_le (2 ^ 64) (image_samples i) || (is_begun i && not (is_in_order i.form)) then Some (IoError InvalidInput)
+    (if nat_le (2 ^ 64) (image_samples i) || (is_begun i && not (is_in_order i.form))
+    then Some (IoError InvalidInput)
     else if nat_lt count (image_samples i) then Some (IoError InvalidData)
     else if is_past_chunks i then Some IntSizeError
     else None)

@@ -1,4 +1,5 @@
--- The chunks of an open image: how many there are, and the samples of each (TIFF 6.0 sections 3, 15; PlanarConfiguration).
+-- The chunks of an open image: how many there are, and the samples of each (TIFF 6.0 sections 3,
+-- 15; PlanarConfiguration).
 use Rattle.std.specs.Prelude.{ℕ, ◌+◌, ◌-◌, ◌*◌, ◌/◌, ◌%◌, ◌^◌, ◌&&◌, Bool, true, false, not, List, [], length, map, take, drop, get_or, slice_index, min, nat_lt, if◌then◌else◌}
 use Rattle.tiff_base.specs.declared.color.ChunkType.{ChunkType}
 use Rattle.tiff_base.specs.declared.color.ChunkType.TheVariants.{Strip, Tile}
@@ -122,4 +123,5 @@ parts_left i samples = tabulate (chunks_left i) (part i samples)
 unfoldable pub sample_in : PageRecord → List (List ℕ) → ℕ → ℕ → ℕ → ℕ
 sample_in p chunks x y sample =
     slice_index (get_or chunks (chunk_of_pixel p (planar_or p.planar sample 0) x y) [])
-    ((y % p.chunk_height * p.chunk_width + x % p.chunk_width) * stored_samples p + planar_or p.planar 0 sample)
+    ((y % p.chunk_height * p.chunk_width + x % p.chunk_width) * stored_samples p
+    + planar_or p.planar 0 sample)

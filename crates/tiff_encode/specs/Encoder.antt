@@ -13,7 +13,8 @@ use Rattle.tiff_encode.specs.FileBytes.{offset_len, header_bytes}
 
 -- The sink failed while the header was written: it has the first bytes of the header, one more
 -- failure, and the cause of that failure.
-pub record HeaderFails {S : Type 0} (kind : FileKind) (told : S → List ℕ) (failures : S → ℕ) (fault : S → Option SinkFault)
+pub record HeaderFails {S : Type 0} (kind : FileKind) (told : S → List ℕ) (failures : S
+    → ℕ) (fault : S → Option SinkFault)
     (sink : S) (e : TiffError) : Type 0 where
   pub last : S
   pub count : ℕ
@@ -50,7 +51,8 @@ pub record AppendIsCut (appended : List ℕ) (e : TiffError) (old new : FileStat
 
 -- All bytes were appended, and the sink failed while the link at an offset was written: the link
 -- has the first of the new bytes.
-pub record IsTorn (appended : List ℕ) (parent directory : ℕ) (e : TiffError) (old new : FileState) : Type 0 where
+pub record IsTorn (appended : List ℕ) (parent directory : ℕ) (e : TiffError) (old new : FileState)
+    : Type 0 where
   pub fresh : old.fault ≡ None
   pub fault : SinkFault
   pub answer : e ≡ sink_error fault

@@ -9,7 +9,8 @@ use Rattle.tiff_encode.specs.Calls.{extend_from}
 module _ {A : Type 0} where
   -- The directory has all given fields, which replace its own fields of the same tags; or memory is
   -- out, and it has the fields before the one that failed.
-  abbrev pub Extends : List (ℕ × Field) → OpenDirectory → OpenDirectory → Result A TiffError → Type 0
+  abbrev pub Extends : List (ℕ × Field) → OpenDirectory → OpenDirectory → Result A TiffError
+      → Type 0
   Extends given old new r =
       MatchResult r
       (λ _. new ≡ extend_from old given)

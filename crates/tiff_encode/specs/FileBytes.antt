@@ -36,12 +36,15 @@ header_bytes kind = header_mark kind ++ le (offset_len kind) 0
 -- an entry: tag number, type number, count of values, value field
 abbrev pub entry_bytes : FileKind → ℕ × Field → List ℕ
 entry_bytes kind entry =
-    le 2 entry.0 ++ (le 2 (type_number entry.1.field_type) ++ (le (offset_len kind) entry.1.count ++ take (offset_len kind) entry.1.value))
+    le 2 entry.0
+    ++ (le 2 (type_number entry.1.field_type)
+    ++ (le (offset_len kind) entry.1.count ++ take (offset_len kind) entry.1.value))
 
 -- a directory: number of entries, entries in ascending order of tag numbers, link 0
 unfoldable pub directory_bytes : FileKind → FinMap nat_cmp Field → List ℕ
 directory_bytes kind fields =
-    le (count_len kind) (len fields) ++ (flat_map (entry_bytes kind) (entries fields) ++ le (offset_len kind) 0)
+    le (count_len kind) (len fields)
+    ++ (flat_map (entry_bytes kind) (entries fields) ++ le (offset_len kind) 0)
 
 -- zeros up to the next multiple of 4
 abbrev pub padding : ℕ → List ℕ

@@ -38,11 +38,14 @@ module _ {A : Type 0} where
   -- bytes are appended; or an earlier write failed; or the sink fails
   abbrev pub AppendsToFile : List ℕ → FileState → FileState → Result A TiffError → Type 0
   AppendsToFile xs old new r =
-      MatchResult r (λ _. (old.fault ≡ None) × (new ≡ file_with_bytes old xs)) (λ e. AppendIsStopped e old new ⊎ AppendIsCut xs e old new)
+      MatchResult r (λ _. (old.fault ≡ None) × (new ≡ file_with_bytes old xs))
+      (λ e. AppendIsStopped e old new ⊎ AppendIsCut xs e old new)
 
   -- the link at an offset points to a directory; or an earlier write failed; or the sink fails
   abbrev pub PointsLink : ℕ → ℕ → FileState → FileState → Result A TiffError → Type 0
   PointsLink parent directory old new r =
       MatchResult r
-      (λ _. (old.fault ≡ None) × (new ≡ record old { bytes = put old.bytes parent (le (offset_len old.kind) directory) }))
+      (λ _. (old.fault ≡ None)
+      × (new ≡ record old
+      { bytes = put old.bytes parent (le (offset_len old.kind) directory) }))
       (λ e. AppendIsStopped e old new ⊎ IsTorn [] parent directory e old new)

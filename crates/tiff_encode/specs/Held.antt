@@ -33,7 +33,7 @@ use Rattle.tiff_page.specs.Pixels.{is_short, shown_sample}
 use Rattle.tiff_encode.specs.FileBytes.{offset_len}
 use Rattle.tiff_encode.specs.Value.{offset_values}
 use Rattle.tiff_encode.specs.Model.{In, FinishedDirectory, Model, Stands}
-use Rattle.tiff_encode.specs.Deeds.{standing_fields}
+use Rattle.tiff_encode.specs.WriteOps.{standing_fields}
 use Rattle.tiff_encode.specs.Machine.{Chunk, OpenImage}
 use Rattle.tiff_encode.specs.Drawn.{IsSide, IsForm}
 use Rattle.tiff_encode.specs.Chunks.{all_samples, image_page, chunk_samples, sample_in}
@@ -43,10 +43,12 @@ use Rattle.tiff_encode.specs.Shows.{Image, Shows, page_at}
 
 -- the tags that describe a page
 abbrev pub page_tag_numbers : List ℕ
-page_tag_numbers = map tag_number (tag.ImageWidth ∷ tag.ImageLength ∷ tag.BitsPerSample ∷ tag.Compression
+page_tag_numbers =
+    map tag_number (tag.ImageWidth ∷ tag.ImageLength ∷ tag.BitsPerSample ∷ tag.Compression
     ∷ tag.PhotometricInterpretation ∷ tag.StripOffsets ∷ tag.SamplesPerPixel ∷ tag.RowsPerStrip
     ∷ tag.StripByteCounts ∷ tag.PlanarConfiguration ∷ tag.Predictor ∷ tag.TileWidth ∷ tag.TileLength
-    ∷ tag.TileOffsets ∷ tag.TileByteCounts ∷ tag.ExtraSamples ∷ tag.SampleFormat ∷ tag.ChromaSubsampling ∷ [])
+    ∷ tag.TileOffsets ∷ tag.TileByteCounts ∷ tag.ExtraSamples ∷ tag.SampleFormat
+    ∷ tag.ChromaSubsampling ∷ [])
 
 abbrev pub is_page_tag : ℕ → Bool
 is_page_tag n = list_any (λ m. m == n) page_tag_numbers
@@ -62,7 +64,7 @@ pub record HasValues (m : Model) (f : Field) (values : Scalars) : Type 0 where
   pub field_type : f.field_type ≡ (data_of values).field_type
   pub count : f.count ≡ (data_of values).count
   pub whole : length f.value ≡ 8
-  pub handed : In (record { field = f; bytes = (data_of values).bytes }) m.handed
+  pub supplied : In (record { field = f; bytes = (data_of values).bytes }) m.supplied
 
 -- a tag has a field with the values passed for it, or it has neither field nor values
 abbrev pub HoldsAt : Model → Option Field → Option Scalars → Type 0
@@ -94,8 +96,10 @@ ExtraGiven extra given = (given ≡ Some (extras extra)) ⊎ ((extra ≡ []) × 
 -- tiles
 pub record TellsStrips (kind : FileKind) (i : OpenImage) (given : Given) : Type 0 where
   pub rows : given (tag_number tag.RowsPerStrip) ≡ Some (u32s (i.form.chunk_height ∷ []))
-  pub offsets : given (tag_number tag.StripOffsets) ≡ Some (offset_values kind (map (λ chunk. chunk.offset) i.chunks))
-  pub byte_counts : given (tag_number tag.StripByteCounts) ≡ Some (offset_values kind (map (λ chunk. chunk.stored) i.chunks))
+  pub offsets : given (tag_number tag.StripOffsets)
+      ≡ Some (offset_values kind (map (λ chunk. chunk.offset) i.chunks))
+  pub byte_counts : given (tag_number tag.StripByteCounts)
+      ≡ Some (offset_values kind (map (λ chunk. chunk.stored) i.chunks))
   pub no_offsets : given (tag_number tag.TileOffsets) ≡ None
   pub no_byte_counts : given (tag_number tag.TileByteCounts) ≡ None
 
@@ -104,8 +108,10 @@ pub record TellsStrips (kind : FileKind) (i : OpenImage) (given : Given) : Type 
 pub record TellsTiles (kind : FileKind) (i : OpenImage) (given : Given) : Type 0 where
   pub width : given (tag_number tag.TileWidth) ≡ Some (u32s (i.form.chunk_width ∷ []))
   pub height : given (tag_number tag.TileLength) ≡ Some (u32s (i.form.chunk_height ∷ []))
-  pub offsets : given (tag_number tag.TileOffsets) ≡ Some (offset_values kind (map (λ chunk. chunk.offset) i.chunks))
-  pub byte_counts : given (tag_number tag.TileByteCounts) ≡ Some (offset_values kind (map (λ chunk. chunk.stored) i.chunks))
+  pub offsets : given (tag_number tag.TileOffsets)
+      ≡ Some (offset_values kind (map (λ chunk. chunk.offset) i.chunks))
+  pub byte_counts : given (tag_number tag.TileByteCounts)
+      ≡ Some (offset_values kind (map (λ chunk. chunk.stored) i.chunks))
   pub no_offsets : given (tag_number tag.StripOffsets) ≡ None
   pub no_byte_counts : given (tag_number tag.StripByteCounts) ≡ None
 
@@ -117,14 +123,17 @@ TellsChunks Tile kind i given = TellsTiles kind i given
 pub record TellsImage (kind : FileKind) (i : OpenImage) (given : Given) : Type 0 where
   pub width : given (tag_number tag.ImageWidth) ≡ Some (u32s (i.width ∷ []))
   pub height : given (tag_number tag.ImageLength) ≡ Some (u32s (i.height ∷ []))
-  pub bits : given (tag_number tag.BitsPerSample) ≡ Some (u16s (extended_by_first i.color.bits (length i.extra)))
+  pub bits : given (tag_number tag.BitsPerSample)
+      ≡ Some (u16s (extended_by_first i.color.bits (length i.extra)))
   pub packed_by : given (tag_number tag.Compression) ≡ Some (methods (i.method ∷ []))
-  pub interpretation : given (tag_number tag.PhotometricInterpretation) ≡ Some (interpretations (i.color.interpretation ∷ []))
+  pub interpretation : given (tag_number tag.PhotometricInterpretation)
+      ≡ Some (interpretations (i.color.interpretation ∷ []))
   pub samples : given (tag_number tag.SamplesPerPixel) ≡ Some (u16s (all_samples i ∷ []))
   pub predicted_by : given (tag_number tag.Predictor) ≡ Some (predictors (i.predictor ∷ []))
   pub planar : given (tag_number tag.PlanarConfiguration) ≡ planar_given i.form.planar
   pub extra : ExtraGiven i.extra (given (tag_number tag.ExtraSamples))
-  pub sample_formats : given (tag_number tag.SampleFormat) ≡ Some (formats (extended_by_first i.color.formats (length i.extra)))
+  pub sample_formats : given (tag_number tag.SampleFormat)
+      ≡ Some (formats (extended_by_first i.color.formats (length i.extra)))
   pub subsampling : given (tag_number tag.ChromaSubsampling) ≡ chroma_given i.color.interpretation
   pub chunks : TellsChunks i.form.chunk_type kind i given
 
@@ -146,7 +155,8 @@ pub record IsWholeImage (kind : FileKind) (i : OpenImage) : Type 0 where
   pub form : IsForm i.width i.form
   pub chunks : length i.chunks ≡ all_chunks (image_page i)
   pub count : all_chunks (image_page i) < 2 ^ 32
-  pub fit : (c : Chunk) → In c i.chunks → (c.offset < 256 ^ offset_len kind) × (c.stored < 256 ^ offset_len kind)
+  pub fit : (c : Chunk) → In c i.chunks → (c.offset < 256 ^ offset_len kind)
+      × (c.stored < 256 ^ offset_len kind)
 
 -- ---- the samples of its chunks
 
@@ -156,8 +166,9 @@ samples_of_chunk samples k = get_or samples k []
 
 -- Each chunk of an image has its number of samples, and each sample is a number of the bytes of a
 -- sample.
-pub record AreHanded (i : OpenImage) (samples : List (List ℕ)) : Type 0 where
-  pub lengths : (k : ℕ) → k < all_chunks (image_page i) → length (samples_of_chunk samples k) ≡ chunk_samples (image_page i) k
+pub record AreSupplied (i : OpenImage) (samples : List (List ℕ)) : Type 0 where
+  pub lengths : (k : ℕ) → k < all_chunks (image_page i)
+      → length (samples_of_chunk samples k) ≡ chunk_samples (image_page i) k
   pub small : (k n : ℕ) → get_or (samples_of_chunk samples k) n 0 < 256 ^ i.size
 
 -- these bytes store the samples of a chunk
@@ -170,13 +181,17 @@ StandsFor i samples k stored =
 abbrev pub HasChunks : List ℕ → OpenImage → List (List ℕ) → Type 0
 HasChunks file i samples =
     (k : ℕ) → k < all_chunks (image_page i)
-    → (stored : List ℕ) × ((exactly_at file (slice_index (image_page i).offsets k) (length stored) ≡ Ok stored) × StandsFor i samples k stored)
+    → (stored : List ℕ)
+    × ((exactly_at file (slice_index (image_page i).offsets k) (length stored) ≡ Ok stored)
+    × StandsFor i samples k stored)
 
 -- the model has a region that stores the samples of each chunk
 abbrev pub RegionsHaveChunks : Model → OpenImage → List (List ℕ) → Type 0
 RegionsHaveChunks m i samples =
     (k : ℕ) → k < all_chunks (image_page i)
-    → (stored : List ℕ) × (In (record { offset = slice_index (image_page i).offsets k; bytes = stored }) m.regions × StandsFor i samples k stored)
+    → (stored : List ℕ)
+    × (In (record { offset = slice_index (image_page i).offsets k; bytes = stored }) m.regions
+    × StandsFor i samples k stored)
 
 -- an image with these samples
 abbrev pub image_with : OpenImage → List (List ℕ) → Image
@@ -186,29 +201,38 @@ image_with i samples = record { page = image_page i; sample_at = sample_in (imag
 
 -- The page has a color, no chunk of it has too few data, and each sample that its color shows is
 -- the given one.
-pub record ShowsSamples (file : List ℕ) (page : PageRecord) (sample_at : ℕ → ℕ → ℕ → ℕ) : Type 0 where
+pub record ShowsSamples (file : List ℕ) (page : PageRecord) (sample_at : ℕ → ℕ → ℕ
+    → ℕ) : Type 0 where
   pub color : ColorType
   pub is_color : color_of page ≡ Ok color
-  pub whole : (chunk : ℕ) → chunk < all_chunks page → is_short file LittleEndian page color chunk ≡ false
+  pub whole : (chunk : ℕ) → chunk < all_chunks page
+      → is_short file LittleEndian page color chunk ≡ false
   pub shows : (x y sample : ℕ) → x < page.width → y < page.height → sample < num_samples color
       → shown_sample file LittleEndian page x y sample ≡ sample_at x y sample
 
 -- a directory with the values that describe an image is the page of that image
 abbrev pub PageTold : Type 0
-PageTold = (kind : FileKind) (file : List ℕ) (m : Model) (d : FinishedDirectory) (fields : FinMap nat_cmp Field) (given : Given) (i : OpenImage)
-    → Stands kind file m → In d m.directories → d.fields ≡ standing_fields kind fields → HoldsValues m fields given
+PageTold =
+    (kind : FileKind) (file : List ℕ) (m : Model) (d : FinishedDirectory)
+    (fields : FinMap nat_cmp Field) (given : Given) (i : OpenImage)
+    → Stands kind file m → In d m.directories → d.fields ≡ standing_fields kind fields
+    → HoldsValues m fields given
     → IsWholeImage kind i → TellsImage kind i given
     → page_at kind file d.offset unlimited ≡ Ok (image_page i)
 
 -- chunks that store samples show these samples
 abbrev pub ChunksShow : Type 0
 ChunksShow = (kind : FileKind) (file : List ℕ) (i : OpenImage) (samples : List (List ℕ))
-    → IsWholeImage kind i → AreHanded i samples → HasChunks file i samples
+    → IsWholeImage kind i → AreSupplied i samples → HasChunks file i samples
     → ShowsSamples file (image_page i) (sample_in (image_page i) samples)
 
 -- a file that contains a model with an image shows that image
 abbrev pub ImagesShow : Type 0
-ImagesShow = (kind : FileKind) (file : List ℕ) (m : Model) (d : FinishedDirectory) (fields : FinMap nat_cmp Field) (given : Given) (i : OpenImage) (samples : List (List ℕ))
-    → Stands kind file m → In d m.directories → d.fields ≡ standing_fields kind fields → HoldsValues m fields given
-    → IsWholeImage kind i → TellsImage kind i given → AreHanded i samples → RegionsHaveChunks m i samples
+ImagesShow =
+    (kind : FileKind) (file : List ℕ) (m : Model) (d : FinishedDirectory)
+    (fields : FinMap nat_cmp Field) (given : Given) (i : OpenImage) (samples : List (List ℕ))
+    → Stands kind file m → In d m.directories → d.fields ≡ standing_fields kind fields
+    → HoldsValues m fields given
+    → IsWholeImage kind i → TellsImage kind i given → AreSupplied i samples
+    → RegionsHaveChunks m i samples
     → Shows kind file d.offset (image_with i samples)

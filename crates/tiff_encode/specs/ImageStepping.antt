@@ -15,17 +15,25 @@ reply_to (Ok x) = Ok reply.Nothing
 reply_to (Err e) = Err e
 
 -- `write_strip` and `write_chunk` of samples, each of which is the lowest bits of a number
-abbrev pub StripDraws : OpenImage → List ℕ → Result StepReply TiffError → FileState → FileState → OpenImage → Type 0
+abbrev pub StripDraws : OpenImage → List ℕ → Result StepReply TiffError → FileState → FileState
+    → OpenImage → Type 0
 StripDraws i numbers r =
-    DrawMoves i (λ s before t after. jobs.StripStepIfFound before (cut_to before.image.size numbers) r s t after) true
+    DrawMoves i
+    (λ s before t after.
+    jobs.StripStepIfFound before (cut_to before.image.size numbers) r s t after) true
 
-abbrev pub ChunkDraws : OpenImage → List ℕ → Result StepReply TiffError → FileState → FileState → OpenImage → Type 0
+abbrev pub ChunkDraws : OpenImage → List ℕ → Result StepReply TiffError → FileState → FileState
+    → OpenImage → Type 0
 ChunkDraws i numbers r =
-    DrawMoves i (λ s before t after. jobs.ChunkStepIfFound before (cut_to before.image.size numbers) r s t after) true
+    DrawMoves i
+    (λ s before t after.
+    jobs.ChunkStepIfFound before (cut_to before.image.size numbers) r s t after) true
 
 -- `resolution`
-abbrev pub ResolutionDraws : OpenImage → ResolutionUnit → ℕ × ℕ → Result StepReply TiffError → FileState → FileState → OpenImage → Type 0
+abbrev pub ResolutionDraws : OpenImage → ResolutionUnit → ℕ × ℕ → Result StepReply TiffError
+    → FileState → FileState → OpenImage → Type 0
 ResolutionDraws i u value r =
     DrawMoves i
-    (λ s before t after. (after.samples ≡ before.samples) × jobs.Resolves before.image u value r s t after.image)
+    (λ s before t after. (after.samples ≡ before.samples)
+    × jobs.Resolves before.image u value r s t after.image)
     true

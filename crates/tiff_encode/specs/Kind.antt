@@ -8,7 +8,8 @@ use Rattle.tiff_encode.specs.FileBytes.{offset_len, header_bytes}
 
 -- a number is written as these bytes; a number that exceeds its bytes returns `IntSizeError`, and
 -- nothing is written
-abbrev pub WritesWithin : {A : Type 0} → Bool → List ℕ → Written → Written → Result A TiffError → Type 0
+abbrev pub WritesWithin : {A : Type 0} → Bool → List ℕ → Written → Written → Result A TiffError
+    → Type 0
 WritesWithin true bytes old new result = (result ≡ Err IntSizeError) × (new ≡ old)
 WritesWithin false bytes old new result = WritesCounted bytes old new result
 
@@ -16,5 +17,6 @@ WritesWithin false bytes old new result = WritesCounted bytes old new result
 abbrev pub WritesHeader : {A : Type 0} → FileKind → Written → Written → Result A TiffError → Type 0
 WritesHeader kind old new result =
     MatchResult result
-    (λ _. (old.fault ≡ None) × (new ≡ record (writer_after old (header_bytes kind)) { last = offset_len kind }))
+    (λ _. (old.fault ≡ None)
+    × (new ≡ record (writer_after old (header_bytes kind)) { last = offset_len kind }))
     (λ e. IsStopped e old new ⊎ IsCut (header_bytes kind) e old new)

@@ -5,7 +5,7 @@ pub mod Encoder
 pub mod FileWrites
 pub mod Shows
 pub mod Value
-pub mod Deeds
+pub mod WriteOps
 pub mod Machine
 pub mod Drawn
 pub mod Chunks

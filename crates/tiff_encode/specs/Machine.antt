@@ -15,10 +15,10 @@ use Rattle.tiff_base.specs.Field.{Field}
 use Rattle.tiff_value.specs.ColorType.{ColorTypeRecord}
 use Rattle.tiff_encode.specs.declared.encoder.settings.Compression.{Compression}
 use Rattle.tiff_encode.specs.declared.encoder.settings.Compression.TheVariants.{Uncompressed, Packbits}
-pub use Rattle.tiff_encode.specs.declared.encoder.drawing.ChunkLayout.{ChunkLayout}
-pub use Rattle.tiff_encode.specs.declared.encoder.drawing.Chunk.{Chunk}
+pub use Rattle.tiff_encode.specs.declared.encoder.image.state.ChunkLayout.{ChunkLayout}
+pub use Rattle.tiff_encode.specs.declared.encoder.image.state.Chunk.{Chunk}
 use Rattle.tiff_encode.specs.FileBytes.{header_mark, header_bytes}
-use Rattle.tiff_encode.specs.Deeds.{Deed, bytes_after}
+use Rattle.tiff_encode.specs.WriteOps.{WriteOp, bytes_after}
 
 -- the compression method of the chunks
 abbrev pub compression_method : Compression → CompressionMethod
@@ -75,39 +75,45 @@ begun_file kind told failures = record {
 -- of the device nor `OutOfMemory`
 pub record WriteOutcome (A : Type 0) : Type 0 where
   pub answer : Result A TiffError
-  pub deeds : List Deed
+  pub ops : List WriteOp
   pub next : FileState
 
 -- the specification of a call: its outcome, depending on the file before it
-abbrev pub Writing : Type 0 → Type 0
-Writing A = FileState → WriteOutcome A
+abbrev pub WriteCall : Type 0 → Type 0
+WriteCall A = FileState → WriteOutcome A
 
 -- returns a result, and does nothing
-abbrev pub answers : {A : Type 0} → Result A TiffError → Writing A
-answers answer file = record { answer = answer; deeds = []; next = file }
+abbrev pub answers : {A : Type 0} → Result A TiffError → WriteCall A
+answers answer file = record { answer = answer; ops = []; next = file }
 
-abbrev pub gives : {A : Type 0} → A → Writing A
+abbrev pub gives : {A : Type 0} → A → WriteCall A
 gives x = answers (Ok x)
 
 -- makes some writes
-abbrev pub does : List Deed → Writing (Unit {0})
-does deeds file = record { answer = Ok tt; deeds = deeds; next = record file { bytes = bytes_after file.kind file.bytes deeds } }
+abbrev pub does : List WriteOp → WriteCall (Unit {0})
+does ops file =
+    record {
+      answer = Ok tt;
+      ops = ops;
+      next = record file { bytes = bytes_after file.kind file.bytes ops };
+    }
 
 -- an outcome with additional writes before its own
-abbrev pub after_deeds : {A : Type 0} → List Deed → WriteOutcome A → WriteOutcome A
-after_deeds deeds told = record { answer = told.answer; deeds = deeds ++ told.deeds; next = told.next }
+abbrev pub after_ops : {A : Type 0} → List WriteOp → WriteOutcome A → WriteOutcome A
+after_ops ops told = record { answer = told.answer; ops = ops ++ told.ops; next = told.next }
 
 -- an outcome continues with the next call, unless its result is an error
-abbrev pub and_then : {A B : Type 0} → Result A TiffError → List Deed → FileState → (A → Writing B) → WriteOutcome B
-and_then (Ok x) deeds next rest = after_deeds deeds (rest x next)
-and_then (Err e) deeds next rest = record { answer = Err e; deeds = deeds; next = next }
+abbrev pub and_then : {A B : Type 0} → Result A TiffError → List WriteOp → FileState
+    → (A → WriteCall B) → WriteOutcome B
+and_then (Ok x) ops next rest = after_ops ops (rest x next)
+and_then (Err e) ops next rest = record { answer = Err e; ops = ops; next = next }
 
 -- a call, and then another call unless the first returns an error
 infixl 10 ◌>>=◌
-abbrev pub ◌>>=◌ : {A B : Type 0} → Writing A → (A → Writing B) → Writing B
-(call >>= rest) file = and_then (call file).answer (call file).deeds (call file).next rest
+abbrev pub ◌>>=◌ : {A B : Type 0} → WriteCall A → (A → WriteCall B) → WriteCall B
+(call >>= rest) file = and_then (call file).answer (call file).ops (call file).next rest
 
 -- a call that returns an error if one applies, and otherwise does its work
-abbrev pub by_cause : {A : Type 0} → Option TiffError → Writing A → Writing A
+abbrev pub by_cause : {A : Type 0} → Option TiffError → WriteCall A → WriteCall A
 by_cause None call = call
 by_cause (Some e) call = answers (Err e)

@@ -22,7 +22,7 @@ pub record FinishedDirectory : Type 0 where
   pub fields : FinMap nat_cmp Field
 
 -- a field, with the bytes that the caller passed for it
-pub record HandedField : Type 0 where
+pub record SuppliedField : Type 0 where
   pub field : Field
   pub bytes : List ℕ
 
@@ -34,7 +34,7 @@ pub record ByteRegion : Type 0 where
 -- the model of what a file contains; `links` has the target of the link at each offset
 pub record Model : Type 0 where
   pub directories : List FinishedDirectory
-  pub handed : List HandedField
+  pub supplied : List SuppliedField
   pub regions : List ByteRegion
   pub links : ℕ → ℕ
 
@@ -48,7 +48,8 @@ module _ (kind : FileKind) where
 
   -- the offset of a link: the header's link, or the link of a finished directory
   abbrev pub IsLink : Model → ℕ → Type 0
-  IsLink m q = (q ≡ header_link) ⊎ ((d : FinishedDirectory) × (In d m.directories × (q ≡ own_link d)))
+  IsLink m q =
+      (q ≡ header_link) ⊎ ((d : FinishedDirectory) × (In d m.directories × (q ≡ own_link d)))
 
   -- the link at q doesn't overlap the n bytes at p
   abbrev pub IsClear : ℕ → ℕ → ℕ → Type 0
@@ -67,7 +68,9 @@ module _ (kind : FileKind) where
     pub header : header_link ≤ q
     pub within : q + offset_len kind ≤ length file
     pub directories : (d : FinishedDirectory) → In d m.directories → IsClear q d.offset (body_len d)
-    pub handed : (h : HandedField) → In h m.handed → (field_len h.field ≤ offset_len kind) ⊎ IsClear q (field_offset kind LittleEndian h.field) (field_len h.field)
+    pub supplied : (h : SuppliedField) → In h m.supplied
+        → (field_len h.field ≤ offset_len kind) ⊎ IsClear q (field_offset kind LittleEndian h.field)
+        (field_len h.field)
     pub regions : (r : ByteRegion) → In r m.regions → IsClear q r.offset (length r.bytes)
     pub links : (p : ℕ) → IsLink m p → (p ≡ q) ⊎ IsClear q p (offset_len kind)
 
@@ -77,25 +80,32 @@ module _ (kind : FileKind) where
   -- and no two of them overlap. No link overlaps anything else.
   pub record Stands (file : List ℕ) (m : Model) : Type 0 where
     pub header : exactly_at file 0 header_link ≡ Ok (header_mark kind)
-    pub first : number_at LittleEndian (offset_width kind) file header_link ≡ Ok (m.links header_link)
+    pub first : number_at LittleEndian (offset_width kind) file header_link
+        ≡ Ok (m.links header_link)
     pub directories : (d : FinishedDirectory) → In d m.directories
-        → directory_at kind LittleEndian file d.offset ≡ Ok (record { entries = d.fields; next = link (m.links (own_link d)) })
-    pub counts : (d : FinishedDirectory) → In d m.directories → number_at LittleEndian (count_width kind) file d.offset ≡ Ok (len d.fields)
-    pub handed : (h : HandedField) → In h m.handed → field_bytes kind LittleEndian file h.field ≡ Ok h.bytes
-    pub regions : (r : ByteRegion) → In r m.regions → exactly_at file r.offset (length r.bytes) ≡ Ok r.bytes
+        → directory_at kind LittleEndian file d.offset
+        ≡ Ok (record { entries = d.fields; next = link (m.links (own_link d)) })
+    pub counts : (d : FinishedDirectory) → In d m.directories
+        → number_at LittleEndian (count_width kind) file d.offset ≡ Ok (len d.fields)
+    pub supplied : (h : SuppliedField) → In h m.supplied
+        → field_bytes kind LittleEndian file h.field ≡ Ok h.bytes
+    pub regions : (r : ByteRegion) → In r m.regions
+        → exactly_at file r.offset (length r.bytes) ≡ Ok r.bytes
     pub within : (r : ByteRegion) → In r m.regions → r.offset + length r.bytes ≤ length file
     pub disjoint : (r s : ByteRegion) → In r m.regions → In s m.regions
         → (r ≡ s) ⊎ BytesAreApart r.offset (length r.bytes) s.offset (length s.bytes)
-    pub directories_within : (d : FinishedDirectory) → In d m.directories → d.offset + whole_len d ≤ length file
+    pub directories_within : (d : FinishedDirectory) → In d m.directories
+        → d.offset + whole_len d ≤ length file
     pub directories_apart : (d e : FinishedDirectory) → In d m.directories → In e m.directories
         → (d ≡ e) ⊎ BytesAreApart d.offset (whole_len d) e.offset (whole_len e)
-    pub regions_apart : (d : FinishedDirectory) (r : ByteRegion) → In d m.directories → In r m.regions
+    pub regions_apart : (d : FinishedDirectory) (r : ByteRegion) → In d m.directories
+        → In r m.regions
         → BytesAreApart d.offset (whole_len d) r.offset (length r.bytes)
     pub apart : (q : ℕ) → IsLink m q → IsApart file m q
 
   -- the model of a header alone, with link 0
   abbrev pub header_model : Model
-  header_model = record { directories = []; handed = []; regions = []; links = λ p. 0 }
+  header_model = record { directories = []; supplied = []; regions = []; links = λ p. 0 }
 
   -- the model with target t of the link at q
   abbrev pub with_link : Model → ℕ → ℕ → Model
@@ -103,18 +113,23 @@ module _ (kind : FileKind) where
 
   -- the model with another finished directory, with link 0
   abbrev pub with_directory : Model → FinishedDirectory → Model
-  with_directory m d = record m { directories = d ∷ m.directories; links = λ p. if p == own_link d then 0 else m.links p }
+  with_directory m d =
+      record m {
+        directories = d ∷ m.directories;
+        links = λ p. if p == own_link d then 0
+            else m.links p;
+      }
 
 -- the model with another region of appended bytes
 abbrev pub with_region : Model → ByteRegion → Model
 with_region m r = record m { regions = r ∷ m.regions }
 
 -- the model with another field and the bytes that the caller passed for it
-abbrev pub with_handed : Model → HandedField → Model
-with_handed m h = record m { handed = h ∷ m.handed }
+abbrev pub with_supplied : Model → SuppliedField → Model
+with_supplied m h = record m { supplied = h ∷ m.supplied }
 
 -- n has everything that m has
 pub record Grows (m n : Model) : Type 0 where
   pub directories : (d : FinishedDirectory) → In d m.directories → In d n.directories
-  pub handed : (h : HandedField) → In h m.handed → In h n.handed
+  pub supplied : (h : SuppliedField) → In h m.supplied → In h n.supplied
   pub regions : (r : ByteRegion) → In r m.regions → In r n.regions

@@ -24,8 +24,8 @@ use Rattle.tiff_value.specs.Packed.{IsStored}
 use Rattle.tiff_page.specs.Counts.{all_chunks}
 use Rattle.tiff_encode.specs.FileBytes.{offset_len}
 use Rattle.tiff_encode.specs.Model.{In, Model, Stands, Grows}
-use Rattle.tiff_encode.specs.Deeds.{model_after, standing_fields}
-use Rattle.tiff_encode.specs.Machine.{FileState, OpenDirectory, Chunk, OpenImage, WriteOutcome, Writing}
+use Rattle.tiff_encode.specs.WriteOps.{model_after, standing_fields}
+use Rattle.tiff_encode.specs.Machine.{FileState, OpenDirectory, Chunk, OpenImage, WriteOutcome, WriteCall}
 use Rattle.tiff_encode.specs.Drawn.{IsSide, IsForm}
 use Rattle.tiff_encode.specs.Chunks.{all_samples, image_page, chunk_samples, is_left}
 use Rattle.tiff_encode.specs.Causes.{end_of}
@@ -33,13 +33,14 @@ use Rattle.tiff_encode.specs.Calls as calls
 use Rattle.tiff_encode.specs.Calls.{Offsets}
 use Rattle.tiff_encode.specs.Stored.{unpacked_chunk}
 use Rattle.tiff_encode.specs.Shows.{Shows}
-use Rattle.tiff_encode.specs.Held.{is_page_tag, Given, HoldsValues, chroma_given, planar_given, ExtraGiven, samples_of_chunk, StandsFor, TellsImage, IsWholeImage, AreHanded, RegionsHaveChunks, image_with}
+use Rattle.tiff_encode.specs.Held.{is_page_tag, Given, HoldsValues, chroma_given, planar_given, ExtraGiven, samples_of_chunk, StandsFor, TellsImage, IsWholeImage, AreSupplied, RegionsHaveChunks, image_with}
 
 -- ---- the properties of an open image
 
 -- the tags of the layout of the chunks
 abbrev pub TellsForm : ChunkType → OpenImage → Given → Type 0
-TellsForm Strip i given = given (tag_number tag.RowsPerStrip) ≡ Some (u32s (i.form.chunk_height ∷ []))
+TellsForm Strip i given =
+    given (tag_number tag.RowsPerStrip) ≡ Some (u32s (i.form.chunk_height ∷ []))
 TellsForm Tile i given =
     (given (tag_number tag.TileWidth) ≡ Some (u32s (i.form.chunk_width ∷ [])))
     × (given (tag_number tag.TileLength) ≡ Some (u32s (i.form.chunk_height ∷ [])))
@@ -51,7 +52,8 @@ pub record TellsOpen (i : OpenImage) (given : Given) : Type 0 where
   pub width : given (tag_number tag.ImageWidth) ≡ Some (u32s (i.width ∷ []))
   pub height : given (tag_number tag.ImageLength) ≡ Some (u32s (i.height ∷ []))
   pub packed_by : given (tag_number tag.Compression) ≡ Some (methods (i.method ∷ []))
-  pub interpretation : given (tag_number tag.PhotometricInterpretation) ≡ Some (interpretations (i.color.interpretation ∷ []))
+  pub interpretation : given (tag_number tag.PhotometricInterpretation)
+      ≡ Some (interpretations (i.color.interpretation ∷ []))
   pub samples : given (tag_number tag.SamplesPerPixel) ≡ Some (u16s (length i.color.bits ∷ []))
   pub predicted_by : given (tag_number tag.Predictor) ≡ Some (predictors (i.predictor ∷ []))
   pub planar : given (tag_number tag.PlanarConfiguration) ≡ planar_given i.form.planar
@@ -78,18 +80,24 @@ pub record IsOpen (i : OpenImage) : Type 0 where
 
 -- The chunks of an image so far have these samples: each chunk has its number of samples, each
 -- sample is a number of the bytes of a sample, and the model has regions that store them.
-pub record HoldsChunks (kind : FileKind) (m : Model) (i : OpenImage) (samples : List (List ℕ)) : Type 0 where
+pub record HoldsChunks (kind : FileKind) (m : Model) (i : OpenImage) (samples : List (List ℕ))
+    : Type 0 where
   pub as_many : length samples ≡ length i.chunks
   pub within : length i.chunks ≤ all_chunks (image_page i)
   pub few : 0 < length i.chunks → all_chunks (image_page i) < 2 ^ 32
-  pub lengths : (k : ℕ) → k < length i.chunks → length (samples_of_chunk samples k) ≡ chunk_samples (image_page i) k
+  pub lengths : (k : ℕ) → k < length i.chunks
+      → length (samples_of_chunk samples k) ≡ chunk_samples (image_page i) k
   pub small : (k n : ℕ) → get_or (samples_of_chunk samples k) n 0 < 256 ^ i.size
   pub regions : (k : ℕ) → k < length i.chunks
-      → (stored : List ℕ) × (In (record { offset = slice_index (image_page i).offsets k; bytes = stored }) m.regions × StandsFor i samples k stored)
-  pub fit : (c : Chunk) → In c i.chunks → (c.offset < 256 ^ offset_len kind) × (c.stored < 256 ^ offset_len kind)
+      → (stored : List ℕ)
+      × (In (record { offset = slice_index (image_page i).offsets k; bytes = stored }) m.regions
+      × StandsFor i samples k stored)
+  pub fit : (c : Chunk) → In c i.chunks → (c.offset < 256 ^ offset_len kind)
+      × (c.stored < 256 ^ offset_len kind)
 
 -- The model records an open image whose chunks so far have these samples.
-pub record HoldsOpen (kind : FileKind) (m : Model) (i : OpenImage) (samples : List (List ℕ)) : Type 0 where
+pub record HoldsOpen (kind : FileKind) (m : Model) (i : OpenImage) (samples : List (List ℕ)) : Type
+    0 where
   pub given : Given
   pub holds : HoldsValues m i.directory.fields given
   pub tells : TellsOpen i given
@@ -99,28 +107,33 @@ pub record HoldsOpen (kind : FileKind) (m : Model) (i : OpenImage) (samples : Li
 -- The model records an image that ended with all its chunks: it has a directory at an offset with
 -- the values of the tags that describe a page, which are those of the image; the chunks have these
 -- samples, and the model has regions that store them.
-pub record HoldsEnded (kind : FileKind) (m : Model) (i : OpenImage) (samples : List (List ℕ)) (offset : ℕ) : Type 0 where
+pub record HoldsEnded (kind : FileKind) (m : Model) (i : OpenImage) (samples : List (List ℕ))
+    (offset : ℕ) : Type 0 where
   pub fields : FinMap nat_cmp Field
   pub given : Given
   pub listed : In (record { offset = offset; fields = standing_fields kind fields }) m.directories
   pub holds : HoldsValues m fields given
   pub whole : IsWholeImage kind i
   pub tells : TellsImage kind i given
-  pub handed : AreHanded i samples
+  pub supplied : AreSupplied i samples
   pub regions : RegionsHaveChunks m i samples
 
 -- ---- the laws
 
 -- the model after a call
 abbrev pub model_by : {A : Type 0} → FileState → Model → WriteOutcome A → Model
-model_by file m told = model_after file.kind file.bytes m told.deeds
+model_by file m told = model_after file.kind file.bytes m told.ops
 
 -- the model after `new_image` records the image
 abbrev pub BeginsOpen : Type 0
-BeginsOpen = (file : FileState) (m : Model) (name : ColorTypeName) (width height : ℕ) (i : OpenImage)
-    → width < 2 ^ 32 → height < 2 ^ 32 → (file.method ≡ method.None) ⊎ (file.method ≡ method.PackBits)
+BeginsOpen =
+    (file : FileState) (m : Model) (name : ColorTypeName) (width height : ℕ) (i : OpenImage)
+    → width < 2 ^ 32 → height < 2 ^ 32
+    → (file.method ≡ method.None) ⊎ (file.method ≡ method.PackBits)
     → (calls.new_image (color_type name) (inner_size name) width height file).answer ≡ Ok i
-    → HoldsOpen file.kind (model_by file m (calls.new_image (color_type name) (inner_size name) width height file)) i []
+    → HoldsOpen file.kind
+    (model_by file m (calls.new_image (color_type name) (inner_size name) width height file)) i
+    []
 
 -- a model that records an open image still records it after more is written
 abbrev pub GrownOpen : Type 0
@@ -128,7 +141,7 @@ GrownOpen = (kind : FileKind) (m n : Model) (i : OpenImage) (samples : List (Lis
     → HoldsOpen kind m i samples → Grows m n → HoldsOpen kind n i samples
 
 -- after a call of an image that succeeds, the model still records the image
-abbrev pub KeepsOpen : (OpenImage → Writing OpenImage) → Type 0
+abbrev pub KeepsOpen : (OpenImage → WriteCall OpenImage) → Type 0
 KeepsOpen call = (file : FileState) (m : Model) (i next : OpenImage) (samples : List (List ℕ))
     → HoldsOpen file.kind m i samples → (call i file).answer ≡ Ok next
     → HoldsOpen file.kind (model_by file m (call i file)) next samples
@@ -137,7 +150,8 @@ abbrev pub SettingsKeepOpen : Type 0
 SettingsKeepOpen =
     ((extra : List ExtraSamples) → KeepsOpen (λ i. calls.extra_samples i extra))
     × (((rows : ℕ) → rows < 2 ^ 32 → KeepsOpen (λ i. calls.set_rows_per_strip i rows))
-    × (((width length : ℕ) → width < 2 ^ 32 → length < 2 ^ 32 → KeepsOpen (λ i. calls.tiles i width length))
+    × (((width length : ℕ) → width < 2 ^ 32 → length < 2 ^ 32
+    → KeepsOpen (λ i. calls.tiles i width length))
     × KeepsOpen calls.planar))
 
 abbrev pub ResolutionsKeepOpen : Type 0
@@ -149,33 +163,47 @@ ResolutionsKeepOpen =
 
 -- the model still records an image after its directory gets a tag that doesn't describe a page
 abbrev pub TagsKeepOpen : Type 0
-TagsKeepOpen = (file : FileState) (m : Model) (i : OpenImage) (samples : List (List ℕ)) (t : Tag) (d : OpenDirectory)
+TagsKeepOpen =
+    (file : FileState) (m : Model) (i : OpenImage) (samples : List (List ℕ)) (t : Tag)
+    (d : OpenDirectory)
     → HoldsOpen file.kind m i samples → is_page_tag (tag_number t) ≡ false
-    → (((value : Result FieldData TiffError) → (calls.write_tag i.directory t value file).answer ≡ Ok d
-    → HoldsOpen file.kind (model_by file m (calls.write_tag i.directory t value file)) (calls.with_directory_of i d) samples)
+    → (((value : Result FieldData TiffError)
+    → (calls.write_tag i.directory t value file).answer ≡ Ok d
+    → HoldsOpen file.kind (model_by file m (calls.write_tag i.directory t value file))
+    (calls.with_directory_of i d) samples)
     × ((b : BufferRecord) → (calls.write_tag_buf i.directory t b file).answer ≡ Ok d
-    → HoldsOpen file.kind (model_by file m (calls.write_tag_buf i.directory t b file)) (calls.with_directory_of i d) samples))
+    → HoldsOpen file.kind (model_by file m (calls.write_tag_buf i.directory t b file))
+    (calls.with_directory_of i d) samples))
 
 -- the model still records an image after its directory gets fields of tags that don't describe a
 -- page
 abbrev pub FieldsKeepOpen : Type 0
-FieldsKeepOpen = (kind : FileKind) (m : Model) (i : OpenImage) (samples : List (List ℕ)) (fields : List (ℕ × Field))
+FieldsKeepOpen =
+    (kind : FileKind) (m : Model) (i : OpenImage) (samples : List (List ℕ))
+    (fields : List (ℕ × Field))
     → HoldsOpen kind m i samples → list_any (λ entry. is_page_tag entry.0) fields ≡ false
     → HoldsOpen kind m (calls.with_directory_of i (calls.extend_from i.directory fields)) samples
 
 -- after a chunk is written, the model records the image with the samples of that chunk
 abbrev pub ChunksKeepOpen : Type 0
-ChunksKeepOpen = (file : FileState) (m : Model) (i next : OpenImage) (samples : List (List ℕ)) (numbers stored : List ℕ)
-    → HoldsOpen file.kind m i samples → ((n : ℕ) → get_or numbers n 0 < 256 ^ i.size) → length numbers < 2 ^ 64 - 1
-    → IsStored i.method stored (unpacked_chunk i numbers) → end_of file < 2 ^ 64 → length stored < 2 ^ 64
+ChunksKeepOpen =
+    (file : FileState) (m : Model) (i next : OpenImage) (samples : List (List ℕ))
+    (numbers stored : List ℕ)
+    → HoldsOpen file.kind m i samples → ((n : ℕ) → get_or numbers n 0 < 256 ^ i.size)
+    → length numbers < 2 ^ 64 - 1
+    → IsStored i.method stored (unpacked_chunk i numbers) → end_of file < 2 ^ 64
+    → length stored < 2 ^ 64
     → (((calls.write_chunk i (length numbers) stored file).answer ≡ Ok next
-    → HoldsOpen file.kind (model_by file m (calls.write_chunk i (length numbers) stored file)) next (samples ++ numbers ∷ []))
+    → HoldsOpen file.kind (model_by file m (calls.write_chunk i (length numbers) stored file)) next
+    (samples ++ numbers ∷ []))
     × ((calls.write_strip i (length numbers) stored file).answer ≡ Ok next
-    → HoldsOpen file.kind (model_by file m (calls.write_strip i (length numbers) stored file)) next (samples ++ numbers ∷ [])))
+    → HoldsOpen file.kind (model_by file m (calls.write_strip i (length numbers) stored file)) next
+    (samples ++ numbers ∷ [])))
 
 -- the model records an image that ends with all its chunks as an ended image
 abbrev pub EndsHeld : Type 0
-EndsHeld = (file : FileState) (m : Model) (i : OpenImage) (samples : List (List ℕ)) (offsets : Offsets)
+EndsHeld =
+    (file : FileState) (m : Model) (i : OpenImage) (samples : List (List ℕ)) (offsets : Offsets)
     → HoldsOpen file.kind m i samples → is_left i ≡ false
     → (calls.finish_image i file).answer ≡ Ok offsets
     → HoldsEnded file.kind (model_by file m (calls.finish_image i file)) i samples offsets.pointer
@@ -187,13 +215,18 @@ GrownEnded = (kind : FileKind) (m n : Model) (i : OpenImage) (samples : List (Li
 
 -- a file that contains a model shows each ended image that the model records
 abbrev pub EndedShown : Type 0
-EndedShown = (kind : FileKind) (file : List ℕ) (m : Model) (i : OpenImage) (samples : List (List ℕ)) (offset : ℕ)
-    → Stands kind file m → HoldsEnded kind m i samples offset → Shows kind file offset (image_with i samples)
+EndedShown =
+    (kind : FileKind) (file : List ℕ) (m : Model) (i : OpenImage) (samples : List (List ℕ))
+    (offset : ℕ)
+    → Stands kind file m → HoldsEnded kind m i samples offset
+    → Shows kind file offset (image_with i samples)
 
 -- the file shows an image that the model records and that ends with all its chunks
 abbrev pub EndsShown : Type 0
-EndsShown = (file : FileState) (m : Model) (i : OpenImage) (samples : List (List ℕ)) (offsets : Offsets)
+EndsShown =
+    (file : FileState) (m : Model) (i : OpenImage) (samples : List (List ℕ)) (offsets : Offsets)
     → HoldsOpen file.kind m i samples → is_left i ≡ false
     → (calls.finish_image i file).answer ≡ Ok offsets
-    → Stands file.kind (calls.finish_image i file).next.bytes (model_by file m (calls.finish_image i file))
+    → Stands file.kind (calls.finish_image i file).next.bytes
+    (model_by file m (calls.finish_image i file))
     → Shows file.kind (calls.finish_image i file).next.bytes offsets.pointer (image_with i samples)

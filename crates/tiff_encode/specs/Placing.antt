@@ -15,7 +15,7 @@ use Rattle.tiff_encode.specs.Encoder.{AppendIsCut, IsTorn}
 use Rattle.tiff_encode.specs.FileWrites.{file_with_bytes}
 use Rattle.tiff_encode.specs.Causes.{is_past, is_past_count, end_of}
 use Rattle.tiff_encode.specs.Value.{is_long, field_at}
-use Rattle.tiff_encode.specs.Deeds.{bytes_after}
+use Rattle.tiff_encode.specs.WriteOps.{bytes_after}
 use Rattle.tiff_encode.specs.Calls.{links_to}
 
 -- the error of a field of a number of values and a number of bytes, at the end of a file of a
@@ -39,7 +39,8 @@ module _ {A : Type 0} where
 abbrev pub Places : FieldData → FileState → FileState → Result Field TiffError → Type 0
 Places value old new r =
     MatchResult r
-    (λ field. (field ≡ field_at old.kind (end_of old) value) × (new ≡ file_with_bytes old (appended_for old.kind value)))
+    (λ field. (field ≡ field_at old.kind (end_of old) value)
+    × (new ≡ file_with_bytes old (appended_for old.kind value)))
     (λ e. AppendIsCut (appended_for old.kind value) e old new)
 
 -- ---- the end of a directory
@@ -47,7 +48,8 @@ Places value old new r =
 -- the error of a parent's link that isn't within a file of a length
 abbrev pub parent_test : FileKind → ℕ → Option ℕ → Option TiffError
 parent_test kind end None = None
-parent_test kind end (Some offset) = if nat_lt end (offset + offset_len kind) then Some (UsageError ParentNotWritten) else None
+parent_test kind end (Some offset) = if nat_lt end (offset + offset_len kind)
+    then Some (UsageError ParentNotWritten) else None
 
 -- the error of the end of a directory, at the end of a file of a length
 unfoldable pub end_test : FileKind → ℕ → OpenDirectory → Option TiffError
@@ -62,11 +64,14 @@ end_test kind end d =
 abbrev pub Lists : OpenDirectory → FileState → FileState → Result ℕ TiffError → Type 0
 Lists d old new r =
     MatchResult r
-    (λ link. (link ≡ link_offset old.kind (end_of old) (len d.fields)) × (new ≡ file_with_bytes old (directory_bytes old.kind d.fields)))
-    (λ e. AppendIsCut (directory_bytes old.kind d.fields) e old new ⊎ ((e ≡ OutOfMemory) × (new ≡ old)))
+    (λ link. (link ≡ link_offset old.kind (end_of old) (len d.fields))
+    × (new ≡ file_with_bytes old (directory_bytes old.kind d.fields)))
+    (λ e. AppendIsCut (directory_bytes old.kind d.fields) e old new ⊎ ((e ≡ OutOfMemory)
+    × (new ≡ old)))
 
 -- the parent's link points to a directory, if there is a parent; or the sink fails
-abbrev pub LinksFrom : {A : Type 0} → Option ℕ → ℕ → FileState → FileState → Result A TiffError → Type 0
+abbrev pub LinksFrom : {A : Type 0} → Option ℕ → ℕ → FileState → FileState → Result A TiffError
+    → Type 0
 LinksFrom parent directory old new r =
     MatchResult r
     (λ _. new ≡ record old { bytes = bytes_after old.kind old.bytes (links_to parent directory) })

@@ -34,8 +34,10 @@ samples_shown i p color =
 -- if a plane shows all samples of a pixel, the samples of an image that was passed as one list are
 -- in the order of that list
 abbrev pub ShownInOrder : Type 0
-ShownInOrder = (i : OpenImage) (samples : List ℕ) (p : PageRecord) (color : ColorType) → p.width ≡ i.width → samples_in_chunk p.planar color ≡ all_samples i
-    → length samples ≡ p.height * p.width * all_samples i → samples_shown (image_of_samples i samples) p color ≡ samples
+ShownInOrder = (i : OpenImage) (samples : List ℕ) (p : PageRecord) (color : ColorType)
+    → p.width ≡ i.width → samples_in_chunk p.planar color ≡ all_samples i
+    → length samples ≡ p.height * p.width * all_samples i
+    → samples_shown (image_of_samples i samples) p color ≡ samples
 
 -- Each sample of an image has `size` bytes, and is a number of these bytes.
 pub record HasSamplesOf (i : Image) (size : ℕ) : Type 0 where
@@ -60,50 +62,74 @@ pub record LetsPass (limits : Limits) (p : PageRecord) (color : ColorType) : Typ
   pub rows : row_bytes p color p.width * p.chunk_height < 2 ^ 64
   pub whole : row_bytes p color p.width * p.height * planes p.planar color < 2 ^ 64
   pub image : row_bytes p color p.width * p.height ≤ limits.decoding_buffer_size
-  pub chunks : (k : ℕ) → k < chunks_of_plane p → slice_index p.byte_counts k ≤ limits.intermediate_buffer_size
+  pub chunks : (k : ℕ) → k < chunks_of_plane p
+      → slice_index p.byte_counts k ≤ limits.intermediate_buffer_size
 
 -- the samples that the reader returns for a page that shows an image are those of the image
 abbrev pub ReadsShown : Type 0
-ReadsShown = (kind : FileKind) (file : List ℕ) (offset : ℕ) (i : Image) (size : ℕ) (limits : Limits) (d : Decoded) → (s : Shows kind file offset i)
+ReadsShown =
+    (kind : FileKind) (file : List ℕ) (offset : ℕ) (i : Image) (size : ℕ) (limits : Limits)
+    (d : Decoded) → (s : Shows kind file offset i)
     → HasSamplesOf i size → image_of file LittleEndian s.page limits ≡ Ok d
     → (d.numbers ≡ samples_shown i s.page s.color) × (sample_type_of s.page ≡ Ok d.sample_type)
 
 -- the reader reads a page that shows an image, if it supports the page and the limits permit it,
 -- and returns the samples of the image
 abbrev pub ReadsBack : Type 0
-ReadsBack = (kind : FileKind) (file : List ℕ) (offset : ℕ) (i : Image) (size : ℕ) (limits : Limits) (type : DecodingSampleType) → (s : Shows kind file offset i)
-    → HasSamplesOf i size → sample_type_of s.page ≡ Ok type → IsReadable s.page s.color → LetsPass limits s.page s.color
-    → image_of file LittleEndian s.page limits ≡ Ok (record { sample_type = type; numbers = samples_shown i s.page s.color })
+ReadsBack =
+    (kind : FileKind) (file : List ℕ) (offset : ℕ) (i : Image) (size : ℕ) (limits : Limits)
+    (type : DecodingSampleType) → (s : Shows kind file offset i)
+    → HasSamplesOf i size → sample_type_of s.page ≡ Ok type → IsReadable s.page s.color
+    → LetsPass limits s.page s.color
+    → image_of file LittleEndian s.page limits
+    ≡ Ok (record { sample_type = type; numbers = samples_shown i s.page s.color })
 
 -- the reader reads each page of an image that an encoder can make, if the page shows samples of the
 -- bytes of the color type and the limits permit it, and returns these samples
 abbrev pub WrittenReadsBack : Type 0
-WrittenReadsBack = (kind : FileKind) (file : List ℕ) (offset : ℕ) (i : OpenImage) (sample_at : ℕ → ℕ → ℕ → ℕ) (limits : Limits)
+WrittenReadsBack = (kind : FileKind) (file : List ℕ) (offset : ℕ) (i : OpenImage) (sample_at : ℕ → ℕ
+    → ℕ → ℕ) (limits : Limits)
     → IsOpen i → ((x y sample : ℕ) → sample_at x y sample < 256 ^ i.size)
-    → (s : Shows kind file offset (record { page = image_page i; sample_at = sample_at })) → LetsPass limits s.page s.color
+    → (s : Shows kind file offset (record { page = image_page i; sample_at = sample_at }))
+    → LetsPass limits s.page s.color
     → (type : DecodingSampleType) × ((sample_type_of s.page ≡ Ok type)
     × (image_of file LittleEndian s.page limits
-    ≡ Ok (record { sample_type = type; numbers = samples_shown (record { page = image_page i; sample_at = sample_at }) s.page s.color })))
+    ≡ Ok (record {
+      sample_type = type;
+      numbers = samples_shown (record { page = image_page i; sample_at = sample_at })
+          s.page s.color;
+    })))
 
 -- a chunky page of an image that an encoder can make, without extra samples, shows all samples of a
 -- pixel
 abbrev pub AllShown : Type 0
-AllShown = (i : OpenImage) (p : PageRecord) (color : ColorType) → IsOpen i → i.extra ≡ [] → i.form.planar ≡ Chunky
-    → p ≡ record (image_page i) { offsets = p.offsets; byte_counts = p.byte_counts } → color_of p ≡ Ok color
+AllShown = (i : OpenImage) (p : PageRecord) (color : ColorType) → IsOpen i → i.extra ≡ []
+    → i.form.planar ≡ Chunky
+    → p ≡ record (image_page i) { offsets = p.offsets; byte_counts = p.byte_counts }
+    → color_of p ≡ Ok color
     → samples_in_chunk p.planar color ≡ all_samples i
 
 -- For a chunky page that shows an image that an encoder can make, without extra samples and passed
 -- as one list, the reader returns nothing but the samples of that list, in their order.
 abbrev pub ShownIsRead : Type 0
-ShownIsRead = (kind : FileKind) (file : List ℕ) (offset : ℕ) (i : OpenImage) (samples : List ℕ) (limits : Limits) (d : Decoded)
-    → (s : Shows kind file offset (image_of_samples i samples)) → IsOpen i → i.extra ≡ [] → i.form.planar ≡ Chunky → AreNumbers i.size samples
-    → length samples ≡ i.height * i.width * all_samples i → image_of file LittleEndian s.page limits ≡ Ok d → d.numbers ≡ samples
+ShownIsRead =
+    (kind : FileKind) (file : List ℕ) (offset : ℕ) (i : OpenImage) (samples : List ℕ)
+    (limits : Limits) (d : Decoded)
+    → (s : Shows kind file offset (image_of_samples i samples)) → IsOpen i → i.extra ≡ []
+    → i.form.planar ≡ Chunky → AreNumbers i.size samples
+    → length samples ≡ i.height * i.width * all_samples i
+    → image_of file LittleEndian s.page limits ≡ Ok d → d.numbers ≡ samples
 
 -- For a page that `write_image` wrote, of a named color type and as many samples as the image has,
 -- the reader returns nothing but the samples that were passed, in their order.
 abbrev pub WrittenIsRead : Type 0
-WrittenIsRead = (color : ColorTypeRecord) (size width height : ℕ) (samples : List ℕ) (old new : FileState) (m : Model)
-    (l : LeavesImage color size width height samples old new m) (name : ColorTypeName) (offset : ℕ) (limits : Limits) (d : Decoded)
-    → (s : Shows old.kind new.bytes offset (image_of_samples l.image samples)) → color ≡ color_type name → size ≡ inner_size name
-    → AreNumbers size samples → length samples ≡ height * width * length color.bits → image_of new.bytes LittleEndian s.page limits ≡ Ok d
+WrittenIsRead =
+    (color : ColorTypeRecord) (size width height : ℕ) (samples : List ℕ) (old new : FileState)
+    (m : Model)
+    (l : LeavesImage color size width height samples old new m) (name : ColorTypeName) (offset : ℕ)
+    (limits : Limits) (d : Decoded)
+    → (s : Shows old.kind new.bytes offset (image_of_samples l.image samples))
+    → color ≡ color_type name → size ≡ inner_size name
+    → AreNumbers size samples → length samples ≡ height * width * length color.bits
+    → image_of new.bytes LittleEndian s.page limits ≡ Ok d
     → d.numbers ≡ samples

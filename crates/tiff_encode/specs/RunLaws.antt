@@ -7,25 +7,29 @@ use Rattle.tiff_base.specs.Field.{Field}
 use Rattle.tiff_encode.specs.Machine.{FileState, OpenDirectory, OpenImage, WriteOutcome}
 use Rattle.tiff_encode.specs.Calls.{Offsets, finish, new_offset}
 use Rattle.tiff_encode.specs.Stored.{unpacked_chunk}
-use Rattle.tiff_encode.specs.Jobs.{Standing, IsDone}
+use Rattle.tiff_encode.specs.Jobs.{FileAndModel, IsDone}
 use Rattle.tiff_value.specs.Packed.{IsStored}
 
 -- a call that doesn't fail has one result, and leaves one file and one model
 abbrev pub IsOneStep : Type 0 → Type 0
-IsOneStep A = (told : WriteOutcome A) (r s : Result A TiffError) (old new other : Standing)
+IsOneStep A = (told : WriteOutcome A) (r s : Result A TiffError) (old new other : FileAndModel)
     → IsDone told r old new → IsDone told s old other → (r ≡ s) × (new ≡ other)
 
 -- a call has one result, of each type: a field, an offset, an open directory or image, offsets
 abbrev pub OneStep : Type 0
-OneStep = IsOneStep Field × (IsOneStep ℕ × (IsOneStep OpenDirectory × (IsOneStep OpenImage × IsOneStep Offsets)))
+OneStep = IsOneStep Field
+    × (IsOneStep ℕ × (IsOneStep OpenDirectory × (IsOneStep OpenImage × IsOneStep Offsets)))
 
 -- a chunk that isn't compressed is stored in one way
 abbrev pub OneStored : Type 0
 OneStored = (i : OpenImage) (samples stored other : List ℕ) → i.method ≡ method.None
-    → IsStored i.method stored (unpacked_chunk i samples) → IsStored i.method other (unpacked_chunk i samples) → stored ≡ other
+    → IsStored i.method stored (unpacked_chunk i samples)
+    → IsStored i.method other (unpacked_chunk i samples) → stored ≡ other
 
 -- `DirectoryOffset::new`, of the offset and the number of entries of a finished directory, returns
 -- the offsets that the end of the directory returned
 abbrev pub OffsetsAgree : Type 0
-OffsetsAgree = (file : FileState) (d : OpenDirectory) (offsets : Offsets) → (finish d file).answer ≡ Ok offsets
-    → 0 < offsets.pointer → offsets.link < 2 ^ 64 → new_offset file.kind offsets.pointer (len d.fields) ≡ Ok offsets
+OffsetsAgree = (file : FileState) (d : OpenDirectory) (offsets : Offsets)
+    → (finish d file).answer ≡ Ok offsets
+    → 0 < offsets.pointer → offsets.link < 2 ^ 64
+    → new_offset file.kind offsets.pointer (len d.fields) ≡ Ok offsets

@@ -12,7 +12,7 @@ use Rattle.tiff_encode.specs.Model.{In, IsLink, Grows}
 use Rattle.tiff_encode.specs.Machine.{FileState, OpenDirectory, OpenImage}
 use Rattle.tiff_encode.specs.Calls.{Offsets}
 use Rattle.tiff_encode.specs.Open.{HoldsOpen}
-use Rattle.tiff_encode.specs.Jobs.{Standing, Drawn, Run, FinishedImage, DirectoryStepped, ImageStepped, AllStepped, DirectoryEnds, ImageEnds, DirectoryRan, ImageRan, JobsRun, named_parent, job_images, offsets_in}
+use Rattle.tiff_encode.specs.Jobs.{FileAndModel, Drawn, Run, FinishedImage, DirectoryStepped, ImageStepped, AllStepped, DirectoryEnds, ImageEnds, DirectoryRan, ImageRan, JobsRun, named_parent, job_images, offsets_in}
 use Rattle.tiff_encode.specs.Stepping.{StandsIfKnown, HasLink, IsHeld, IsSound, offsets_answered}
 
 -- the number of steps of a job
@@ -35,50 +35,60 @@ linked_from (Some link) d = record d { parent = Some link }
 
 -- the offset of the link of the directory of an earlier job, or the error if there is none
 abbrev pub NamesLink : List (Option Offsets) → Option ℕ → Result (Option ℕ) TiffError → Type 0
-NamesLink offsets parent (Ok link) = (o : Option Offsets) × ((named_parent offsets parent ≡ Ok o) × (link ≡ link_in o))
+NamesLink offsets parent (Ok link) = (o : Option Offsets)
+    × ((named_parent offsets parent ≡ Ok o) × (link ≡ link_in o))
 NamesLink offsets parent (Err e) = named_parent offsets parent ≡ Err e
 
 -- ---- open directories and images
 
 -- The steps of an open directory are run, and it ends.
-pub record DirectoryGoes (first : OpenDirectory) (j : DirectoryJob) (r : JobReply) (known : Bool) (s : Standing) (new : FileState) : Type 0 where
+pub record DirectoryGoes (first : OpenDirectory) (j : DirectoryJob) (r : JobReply) (known : Bool)
+    (s : FileAndModel) (new : FileState) : Type 0 where
   pub final : OpenDirectory
-  pub after_steps : Standing
+  pub after_steps : FileAndModel
   pub steps : AllStepped DirectoryStepped s first j.steps.items r.steps.items after_steps final
   pub offset : Option Offsets
-  pub after_end : Standing
+  pub after_end : FileAndModel
   pub ends : DirectoryEnds after_steps final j.end r.last after_end offset
   pub file : after_end.file ≡ new
   pub stands : StandsIfKnown known after_end
   pub grows : Grows s.model after_end.model
   pub own : (o : Offsets) → offset ≡ Some o → IsLink after_end.file.kind after_end.model o.link
-  pub chain : IsLink s.file.kind s.model s.file.chain → IsLink after_end.file.kind after_end.model after_end.file.chain
+  pub chain : IsLink s.file.kind s.model s.file.chain
+      → IsLink after_end.file.kind after_end.model after_end.file.chain
 
 -- the steps of an open directory are run, and it ends, from each standing in which its parent's
 -- link is a link of the model
-abbrev pub DirectoryGoesOn : OpenDirectory → DirectoryJob → JobReply → FileState → FileState → Type 0
+abbrev pub DirectoryGoesOn : OpenDirectory → DirectoryJob → JobReply → FileState → FileState
+    → Type 0
 DirectoryGoesOn first j r old new =
-    (known : Bool) (s : Standing) → s.file ≡ old → StandsIfKnown known s → HasLink known s first.parent → DirectoryGoes first j r known s new
+    (known : Bool) (s : FileAndModel) → s.file ≡ old → StandsIfKnown known s
+    → HasLink known s first.parent → DirectoryGoes first j r known s new
 
 -- The steps of an open image are run, and it ends. If it is finished with all its chunks, the model
 -- records it.
-pub record ImageGoes (first : OpenImage) (j : ImageJob) (r : JobReply) (known : Bool) (s : Standing) (new : FileState) : Type 0 where
+pub record ImageGoes (first : OpenImage) (j : ImageJob) (r : JobReply) (known : Bool)
+    (s : FileAndModel) (new : FileState) : Type 0 where
   pub final : Drawn
-  pub after_steps : Standing
-  pub steps : AllStepped ImageStepped s (record { image = first; samples = [] }) j.steps.items r.steps.items after_steps final
+  pub after_steps : FileAndModel
+  pub steps : AllStepped ImageStepped s (record { image = first; samples = [] }) j.steps.items
+      r.steps.items after_steps final
   pub offset : Option Offsets
-  pub after_end : Standing
+  pub after_end : FileAndModel
   pub ends : ImageEnds after_steps final.image j.end r.last after_end offset
   pub file : after_end.file ≡ new
   pub stands : StandsIfKnown known after_end
   pub grows : Grows s.model after_end.model
-  pub chain : IsLink s.file.kind s.model s.file.chain → IsLink after_end.file.kind after_end.model after_end.file.chain
+  pub chain : IsLink s.file.kind s.model s.file.chain
+      → IsLink after_end.file.kind after_end.model after_end.file.chain
   pub held : HoldsOpen s.file.kind s.model first []
-      → (f : FinishedImage) → In f (job_images j.steps.items r.steps.items j.end final offset) → IsHeld after_end f
+      → (f : FinishedImage) → In f (job_images j.steps.items r.steps.items j.end final offset)
+      → IsHeld after_end f
 
 abbrev pub ImageGoesOn : OpenImage → ImageJob → JobReply → FileState → FileState → Type 0
 ImageGoesOn first j r old new =
-    (known : Bool) (s : Standing) → s.file ≡ old → StandsIfKnown known s → HasLink known s first.directory.parent → ImageGoes first j r known s new
+    (known : Bool) (s : FileAndModel) → s.file ≡ old → StandsIfKnown known s
+    → HasLink known s first.directory.parent → ImageGoes first j r known s new
 
 -- ---- jobs
 
@@ -97,7 +107,8 @@ ImageRunsOn j r = RunsOn (λ run after. ImageRan run j r after) r
 -- sound run with the offsets that its end returns
 abbrev pub DirectoryRunsOn : Option ℕ → DirectoryJob → JobReply → FileState → FileState → Type 0
 DirectoryRunsOn link j r old new =
-    new.kind ≡ old.kind → (known : Bool) (run : Run) (parent : Option Offsets) → run.standing.file ≡ old → IsSound known run
+    new.kind ≡ old.kind → (known : Bool) (run : Run) (parent : Option Offsets)
+    → run.standing.file ≡ old → IsSound known run
     → link ≡ link_in parent → HasLink known run.standing link
     → (after : Run) × ((after.standing.file ≡ new) × (DirectoryRan run parent j r after
     × (IsSound known after × (after.offsets ≡ run.offsets ++ offsets_in r.last ∷ []))))
@@ -119,5 +130,6 @@ IsEmptyWithRoom count list = (list.items ≡ []) × (count ≤ vec_capacity list
 -- empty lists with room for the replies to the steps of each job, that of the last job first
 abbrev pub AreRooms : {A : Type 0} → List Job → List (Vec A Global) → Type 0
 AreRooms {A = A} jobs rooms =
-    (k : ℕ) (j : Job) (room : Vec A Global) → slice_get rooms k ≡ Some room → slice_get jobs (length jobs - (k + 1)) ≡ Some j
+    (k : ℕ) (j : Job) (room : Vec A Global) → slice_get rooms k ≡ Some room
+    → slice_get jobs (length jobs - (k + 1)) ≡ Some j
     → IsEmptyWithRoom (step_count j) room

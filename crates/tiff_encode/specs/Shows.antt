@@ -18,7 +18,7 @@ use Rattle.tiff_base.specs.Directory.{directory_at}
 use Rattle.tiff_base.specs.Header.{header_at}
 use Rattle.tiff_ifd.specs.declared.limits.Limits.{Limits}
 use Rattle.tiff_ifd.specs.Limits.{unlimited}
-use Rattle.tiff_ifd.specs.Look.{look_in}
+use Rattle.tiff_ifd.specs.TagLookup.{look_in}
 use Rattle.tiff_page.specs.Page.{PageRecord}
 use Rattle.tiff_page.specs.Checks.{page_of}
 use Rattle.tiff_page.specs.Layout.{color_of}
@@ -48,7 +48,8 @@ pub record Shows (kind : FileKind) (file : List ℕ) (offset : ℕ) (i : Image) 
   pub is_image : page ≡ record i.page { offsets = page.offsets; byte_counts = page.byte_counts }
   pub color : ColorType
   pub is_color : color_of page ≡ Ok color
-  pub whole : (chunk : ℕ) → chunk < all_chunks page → is_short file LittleEndian page color chunk ≡ false
+  pub whole : (chunk : ℕ) → chunk < all_chunks page
+      → is_short file LittleEndian page color chunk ≡ false
   pub shows : (x y sample : ℕ) → x < page.width → y < page.height → sample < num_samples color
       → shown_sample file LittleEndian page x y sample ≡ i.sample_at x y sample
 

@@ -13,10 +13,12 @@ use Rattle.tiff_encode.specs.Chunks.{image_page, row_samples}
 unfoldable pub unpacked_chunk : OpenImage → List ℕ → List ℕ
 unpacked_chunk i samples =
     let p = image_page i in
-    flat_map (le i.size) (differences i.predictor (256 ^ i.size) (row_samples p) (stored_samples p) samples)
+    flat_map (le i.size)
+    (differences i.predictor (256 ^ i.size) (row_samples p) (stored_samples p) samples)
 
 -- the first of these chunks, each with bytes that can store it
 abbrev pub AreStored : OpenImage → List (List ℕ) → List (List ℕ) → Type 0
 AreStored i samples [] = Unit {0}
 AreStored i [] (stored ∷ others) = ⊥
-AreStored i (chunk ∷ more) (stored ∷ others) = IsStored i.method stored (unpacked_chunk i chunk) × AreStored i more others
+AreStored i (chunk ∷ more) (stored ∷ others) = IsStored i.method stored (unpacked_chunk i chunk)
+    × AreStored i more others

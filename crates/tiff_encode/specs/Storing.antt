@@ -5,10 +5,10 @@ use Rattle.tiff_base.specs.declared.error.TiffError.TheVariants.{IoError, IntSiz
 use Rattle.tiff_base.specs.declared.io.IoKind.TheVariants.{InvalidData}
 use Rattle.tiff_base.specs.declared.tags.FileKind.{FileKind}
 use Rattle.tiff_value.specs.Packed.{IsStored}
-use Rattle.tiff_encode.specs.Machine.{FileState, OpenImage, WriteOutcome, Writing}
+use Rattle.tiff_encode.specs.Machine.{FileState, OpenImage, WriteOutcome, WriteCall}
 use Rattle.tiff_encode.specs.Chunks.{is_left, next_chunk_sample_count}
 use Rattle.tiff_encode.specs.Causes.{is_past, is_past_chunks}
-use Rattle.tiff_encode.specs.Ends.{IsTold, IsCutOff}
+use Rattle.tiff_encode.specs.Ends.{EndsAsDefined, IsCutOff}
 use Rattle.tiff_encode.specs.Stored.{unpacked_chunk}
 
 -- the error of a chunk that doesn't depend on the compressed bytes, at the end of a file of a
@@ -16,33 +16,41 @@ use Rattle.tiff_encode.specs.Stored.{unpacked_chunk}
 abbrev pub chunk_test : FileKind → ℕ → OpenImage → ℕ → Option TiffError
 chunk_test kind end i count =
     if is_past_chunks i then Some IntSizeError
-    else if not (is_left i) || not (count == next_chunk_sample_count i) then Some (IoError InvalidData)
+    else if not (is_left i) || not (count == next_chunk_sample_count i)
+    then Some (IoError InvalidData)
     else if is_past kind end then Some IntSizeError
     else None
 
 -- A chunk that is stored as given bytes has the specified outcome; or it is refused, or the sink
 -- fails; or memory is out, and nothing is done. After an error the image doesn't change.
-abbrev pub AppendsChunk : {A : Type 0} → WriteOutcome OpenImage → OpenImage → Result A TiffError → FileState → FileState → OpenImage → Type 0
-AppendsChunk told i (Ok x) old new next = IsTold told (Ok next) new
+abbrev pub AppendsChunk : {A : Type 0} → WriteOutcome OpenImage → OpenImage → Result A TiffError
+    → FileState → FileState → OpenImage → Type 0
+AppendsChunk told i (Ok x) old new next = EndsAsDefined told (Ok next) new
 AppendsChunk told i (Err e) old new next =
-    (next ≡ i) × (IsTold told (Err e) new
-    ⊎ (IsCutOff told.deeds e old new ⊎ ((e ≡ OutOfMemory) × (new ≡ old))))
+    (next ≡ i) × (EndsAsDefined told (Err e) new
+    ⊎ (IsCutOff told.ops e old new ⊎ ((e ≡ OutOfMemory) × (new ≡ old))))
 
 -- `write_strip` or `write_chunk`, of a given number of samples that are stored as some bytes
-module _ {A : Type 0} (call : OpenImage → ℕ → List ℕ → Writing OpenImage) where
+module _ {A : Type 0} (call : OpenImage → ℕ → List ℕ → WriteCall OpenImage) where
   -- A chunk of samples is stored as bytes that can store it; or the call with such bytes is
   -- refused, or the sink fails; or memory is out, and nothing is done. After an error the image
   -- doesn't change.
-  abbrev pub StoresChunk : OpenImage → List ℕ → Result A TiffError → FileState → FileState → OpenImage → Type 0
+  abbrev pub StoresChunk : OpenImage → List ℕ → Result A TiffError → FileState → FileState
+      → OpenImage → Type 0
   StoresChunk i samples (Ok x) old new next =
-      (stored : List ℕ) × (IsStored i.method stored (unpacked_chunk i samples) × IsTold (call i (length samples) stored old) (Ok next) new)
+      (stored : List ℕ)
+      × (IsStored i.method stored (unpacked_chunk i samples)
+      × EndsAsDefined (call i (length samples) stored old) (Ok next) new)
   StoresChunk i samples (Err e) old new next =
       (next ≡ i) × (((e ≡ OutOfMemory) × (new ≡ old))
       ⊎ ((stored : List ℕ) × (IsStored i.method stored (unpacked_chunk i samples)
-      × (IsTold (call i (length samples) stored old) (Err e) new ⊎ IsCutOff (call i (length samples) stored old).deeds e old new))))
+      × (EndsAsDefined (call i (length samples) stored old) (Err e) new
+      ⊎ IsCutOff (call i (length samples) stored old).ops e old new))))
 
   -- the call returns an error that doesn't depend on the compressed bytes, and does nothing; or the
   -- chunk is stored
-  abbrev pub WritesStoredChunk : Option TiffError → OpenImage → List ℕ → Result A TiffError → FileState → FileState → OpenImage → Type 0
-  WritesStoredChunk (Some cause) i samples r old new next = (r ≡ Err cause) × ((next ≡ i) × (new ≡ old))
+  abbrev pub WritesStoredChunk : Option TiffError → OpenImage → List ℕ → Result A TiffError
+      → FileState → FileState → OpenImage → Type 0
+  WritesStoredChunk (Some cause) i samples r old new next = (r ≡ Err cause)
+      × ((next ≡ i) × (new ≡ old))
   WritesStoredChunk None i samples r old new next = StoresChunk i samples r old new next

@@ -1,33 +1,13 @@
 //! Writes TIFF files.
 
-mod chunk_rooms;
-pub mod data_laws;
-mod directory_encoder;
-mod drawing;
-mod drawn_data;
-mod endings;
-mod ends;
-pub mod fit_laws;
-mod image_encoder;
-mod image_job_steps;
-pub mod image_laws;
-mod image_settings;
-mod images;
-mod job_ends;
-mod job_steps;
-mod job_values;
+mod directory;
+mod image;
 mod jobs;
 mod kind;
 pub mod laws;
 mod limits;
-mod listing;
-mod open;
-pub mod reading_laws;
 pub mod script;
 mod settings;
-mod storing;
-mod tagging;
-mod values;
 
 ghost use Rattle.std.specs.List.{flat_map};
 ghost use Rattle.std.specs.Prelude.{◌≡◌, ℕ, ◌+◌, ◌%◌, ◌^◌, ◌<◌, ◌≤◌, [], length, map, IfOk, IsSome, MatchResult, false};
@@ -44,8 +24,8 @@ ghost use Rattle.tiff_encode.specs.Machine.{begun_file};
 ghost use Rattle.tiff_encode.specs.Shows.{LeavesHeader};
 ghost use Rattle.tiff_encode.specs.FileWrites.{AppendsToFile, PointsLink};
 
-pub use self::directory_encoder::DirectoryEncoder;
-pub use self::image_encoder::ImageEncoder;
+pub use self::directory::encoder::DirectoryEncoder;
+pub use self::image::encoder::ImageEncoder;
 pub use self::kind::{DirectoryOffset, OffsetNumber, TiffKind, TiffKindBig, TiffKindStandard};
 pub use self::settings::Compression;
 use std::alloc::Global;
@@ -90,7 +70,8 @@ impl<W: Sink> TiffEncoder<W, TiffKindStandard> {
             (λ e. HeaderFails Classic W.told W.failures W.fault sink e) }
 
         // If the sink is empty, the file contains the header.
-        ensures leaves { W.told sink ≡ [] → IfOk result (λ e. LeavesHeader Classic e.bytes e.chain) }
+        ensures leaves { W.told sink ≡ []
+            → IfOk result (λ e. LeavesHeader Classic e.bytes e.chain) }
     {
         TiffEncoder::new_generic(alloc, sink)
     }
@@ -203,7 +184,11 @@ impl<W: Sink, K: TiffKind> TiffEncoder<W, K> {
     ) -> TiffResult<()>
         requires stride { (0 < stride) × (stride ≤ row) }
         requires whole { length samples.now % row ≡ 0 }
-        ensures { AppendsToFile (flat_map (le (type_size T.value_type)) (differences predictor (256 ^ type_size T.value_type) row stride (map (sample_number (type_size T.value_type) T.bits) samples.now))) self.old self.new result }
+        ensures { AppendsToFile
+            (flat_map (le (type_size T.value_type))
+            (differences predictor (256 ^ type_size T.value_type) row stride
+            (map (sample_number (type_size T.value_type) T.bits) samples.now))) self.old
+            self.new result }
     {
         write_chunk(&mut self.writer, samples, predictor, row, stride)
     }

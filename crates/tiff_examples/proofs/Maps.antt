@@ -9,12 +9,12 @@ none_long [] e = refl
 none_long (x ∷ es) e = absurd (omega arith)
 
 module _ {X : Type 0} where
-  -- entries put into a list one by one, the last first
+  -- the entries of a list, put one by one into a sorted list, the last entry first
   abbrev pub puts : List (ℕ × X) → List (ℕ × X)
   puts [] = []
   puts (e ∷ es) = put nat_cmp e.0 e.1 (puts es)
 
-  -- the entries of a map that is made of a list
+  -- `puts` gives the entries of a map that is made from a list
   pub entries_puts : (es : List (ℕ × X)) → entries (from_entries {R = nat_cmp} es) ≡ puts es
   entries_puts [] =
       none_long (entries (empty {X = X} {R = nat_cmp}))
@@ -22,6 +22,6 @@ module _ {X : Type 0} where
   entries_puts (e ∷ es) =
       entries-insert nat_cmp_total (from_entries es) e.0 e.1 ∙ ap (put nat_cmp e.0 e.1) (entries_puts es)
 
-  -- how many they are
+  -- `puts` gives the number of entries of a map that is made from a list
   pub len_puts : (es : List (ℕ × X)) → len (from_entries {R = nat_cmp} es) ≡ length (puts es)
   len_puts es = len-entries (from_entries {R = nat_cmp} es) ∙ ap length (entries_puts es)

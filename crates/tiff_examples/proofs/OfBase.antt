@@ -1,4 +1,4 @@
--- What the definitions of `tiff_base` give, worked out.
+-- Proofs of the worked examples of `tiff_base`.
 pub mod Runs
 pub mod Directory
 pub mod SourceAndSink

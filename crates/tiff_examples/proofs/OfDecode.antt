@@ -1,4 +1,4 @@
--- What the definitions of `tiff_decode` give, worked out.
+-- Proofs of the worked examples of `tiff_decode`.
 pub mod Outcome
 pub mod Machine
 pub mod OutcomeQueries

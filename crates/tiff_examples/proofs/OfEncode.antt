@@ -1,4 +1,4 @@
--- What the definitions of `tiff_encode` give, worked out.
+-- Proofs of the worked examples of `tiff_encode`.
 pub mod FileBytes
 pub mod Causes
 pub mod Calls

@@ -1,7 +1,7 @@
--- What the definitions of `tiff_ifd` give, worked out.
-pub mod Look
+-- Proofs of the worked examples of `tiff_ifd`.
+pub mod TagLookup
 pub mod Chain
 pub mod TagQueries
 pub mod View
-pub mod Walk
+pub mod IfdChainWalk
 pub mod Stretches

@@ -1,3 +1,3 @@
--- What the definitions of `tiff_page` give, worked out.
+-- Proofs of the worked examples of `tiff_page`.
 pub mod Reach
 pub mod Row

@@ -1,3 +1,3 @@
--- What the definitions of `tiff_value` give, worked out.
+-- Proofs of the worked examples of `tiff_value`.
 pub mod Packed
 pub mod Values

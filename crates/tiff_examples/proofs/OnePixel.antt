@@ -1,4 +1,4 @@
--- The image of one gray pixel: what its calls do, what stands then, and what is shown.
+-- The image of one gray pixel: what its calls do, what the file contains then, and what it shows.
 use Rattle.std.specs.Prelude.{refl, get_or}
 use Rattle.std.specs.Ordering.{nat_cmp}
 use Rattle.std.specs.FinMap.{from_entries}
@@ -18,9 +18,9 @@ use Rattle.tiff_page.specs.Layout.{color_of}
 use Rattle.tiff_page.specs.Page.{PageRecord}
 use Rattle.tiff_page.specs.Pixels.{shown_sample}
 use Rattle.tiff_page.specs.Rect.{rect}
-use Rattle.tiff_encode.specs.Model.{In, HandedField, Model, Stands, Grows, header_model}
-use Rattle.tiff_encode.specs.Laws.{AreListable, DeedsFit, IsListable}
-use Rattle.tiff_encode.specs.Deeds.{Deed, Appended, Handed, Listed, Linked, bytes_after, model_after}
+use Rattle.tiff_encode.specs.Model.{In, SuppliedField, Model, Stands, Grows, header_model}
+use Rattle.tiff_encode.specs.Laws.{AreListable, OpsFit, IsListable}
+use Rattle.tiff_encode.specs.WriteOps.{WriteOp, Appended, Supplied, Listed, Linked, bytes_after, model_after}
 use Rattle.tiff_encode.specs.Shows.{Image, Shows}
 use Rattle.tiff_encode.specs.Machine.{FileState}
 use Rattle.tiff_encode.specs.Chunks.{is_left, next_chunk_sample_count, sample_in}
@@ -29,7 +29,7 @@ use Rattle.tiff_encode.specs.Calls.{finish, finish_image, first_tags, image_dire
 use Rattle.tiff_encode.specs.Held.{image_with}
 use Rattle.tiff_encode.specs.Open.{HoldsOpen, HoldsEnded}
 use Rattle.tiff_encode.specs.Stored.{unpacked_chunk}
-use Rattle.tiff_encode.proofs.Deeds.{deeds_stand}
+use Rattle.tiff_encode.proofs.WriteOps.{ops_stand}
 use Rattle.tiff_encode.proofs.Header.{header_stands}
 use Rattle.tiff_encode.proofs.Shown.Images.{images_show_by}
 use Rattle.tiff_encode.proofs.Open.Begun.{begins_open}
@@ -48,18 +48,18 @@ use Rattle.tiff_examples.proofs.OfEncode.Chunks as images
 use Rattle.tiff_examples.proofs.Maps.{puts, entries_puts, len_puts}
 use Rattle.tiff_examples.proofs.OfEncode.FileBytes.{directory_by}
 
--- one number that is handed in
-abbrev pub handed_short : ℕ → HandedField
-handed_short n = record { field = short_field n; bytes = le 2 n }
+-- a supplied field of one number
+abbrev pub supplied_short : ℕ → SuppliedField
+supplied_short n = record { field = short_field n; bytes = le 2 n }
 
-abbrev pub handed_long : ℕ → HandedField
-handed_long n = record { field = long_field n; bytes = le 4 n }
+abbrev pub supplied_long : ℕ → SuppliedField
+supplied_long n = record { field = long_field n; bytes = le 4 n }
 
--- ---- what it does
+-- ---- what the image does
 
--- what it does behind its resolutions, and the file then
-abbrev pub image_deeds : List Deed
-image_deeds = Appended (7 ∷ []) ∷ Handed (handed_short 8) ∷ Handed (handed_short 1) ∷ Handed (handed_long 24) ∷ Handed (handed_long 1)
+-- what the image writes after its resolutions, and the file then
+abbrev pub image_ops : List WriteOp
+image_ops = Appended (7 ∷ []) ∷ Supplied (supplied_short 8) ∷ Supplied (supplied_short 1) ∷ Supplied (supplied_long 24) ∷ Supplied (supplied_long 1)
     ∷ Listed (from_entries all_fields) ∷ Linked 4 25 ∷ []
 
 abbrev pub image_file : FileState
@@ -72,9 +72,9 @@ pub finishes : finish (with_fields (new_directory (Some 4) true) all_fields) beh
     ≡ finish_told_by behind_strip (with_fields (new_directory (Some 4) true) all_fields) 14 (puts all_fields)
 finishes = finish_told behind_strip (with_fields (new_directory (Some 4) true) all_fields) 14 (puts all_fields) (len_puts all_fields) (entries_puts all_fields)
 
--- ---- what stands
+-- ---- what the file contains
 
--- fields that can be a directory, one by one
+-- each of the fields can be written in a directory
 abbrev EachListable : List (ℕ × Field) → Type 0
 EachListable [] = Unit {0}
 EachListable (e ∷ es) = IsListable Classic e.0 e.1 × EachListable es
@@ -86,7 +86,7 @@ each_of (x ∷ es) t e (inl p) =
     subst P (sym p) t.0
 each_of (x ∷ es) t e (inr h) = each_of es t.1 e h
 
--- of a map that is made of a list
+-- the fields of a map that is made from a list can be written
 pub listable : (es : List (ℕ × Field)) → EachListable (puts es) → length (puts es) < 256 ^ 2 → AreListable Classic (from_entries es)
 listable es t l =
     let P : List (ℕ × Field) → Type 0 = λ xs. (e : ℕ × Field) → In e xs → IsListable Classic e.0 e.1 in
@@ -95,7 +95,7 @@ listable es t l =
       few = subst (λ n. n < 256 ^ 2) (sym (len_puts es)) l;
     }
 
--- the image's
+-- the fields of the image can be written
 all_listable : AreListable Classic (from_entries {R = nat_cmp} all_fields)
 all_listable =
     let e256 : EachListable (puts all_fields) = (
@@ -139,12 +139,12 @@ all_listable =
       ),
     ) in listable all_fields e256 (lit< tt)
 
--- where the model stands then
+-- the model after the image
 abbrev pub image_model : Model
-image_model = model_after Classic (header ++ resolutions) tasks.after_begin.model image_deeds
+image_model = model_after Classic (header ++ resolutions) tasks.after_begin.model image_ops
 
--- behind the resolutions
-begun_fits : DeedsFit Classic header (header_model Classic) (new_image gray 1 1 1 (new_file Classic)).deeds
+-- the writes of the resolutions fit
+begun_fits : OpsFit Classic header (header_model Classic) (new_image gray 1 1 1 (new_file Classic)).ops
 unfolding new_image new_image_cause image_cause image_directory begin_cause first_tags write_tag write_entry write_tag_cause data_of number
 begun_fits = (
   tt,
@@ -189,10 +189,10 @@ begun_fits = (
 
 pub begun_stands : Stands Classic (header ++ resolutions) tasks.after_begin.model
 unfolding new_image new_image_cause image_cause image_directory begin_cause first_tags write_tag write_entry write_tag_cause data_of
-begun_stands = deeds_stand Classic header (header_model Classic) (new_image gray 1 1 1 (new_file Classic)).deeds (header_stands Classic) begun_fits
+begun_stands = ops_stand Classic header (header_model Classic) (new_image gray 1 1 1 (new_file Classic)).ops (header_stands Classic) begun_fits
 
--- behind the image
-image_fits : DeedsFit Classic (header ++ resolutions) tasks.after_begin.model image_deeds
+-- the writes of the image after the resolutions fit
+image_fits : OpsFit Classic (header ++ resolutions) tasks.after_begin.model image_ops
 image_fits = (
   tt,
   (
@@ -210,17 +210,17 @@ image_fits = (
   ),
 )
 
-image_bytes : bytes_after Classic (header ++ resolutions) image_deeds ≡ gray_file
+image_bytes : bytes_after Classic (header ++ resolutions) image_ops ≡ gray_file
 image_bytes = ap (λ d. bytes.put ((header ++ resolutions) ++ (7 ∷ []) ++ d) 4 (le 4 25)) (directory_by Classic all_fields)
 
 pub image_stands : Stands Classic gray_file image_model
 image_stands =
     subst (λ file. Stands Classic file image_model) image_bytes
-    (deeds_stand Classic (header ++ resolutions) tasks.after_begin.model image_deeds begun_stands image_fits)
+    (ops_stand Classic (header ++ resolutions) tasks.after_begin.model image_ops begun_stands image_fits)
 
--- ---- what is held
+-- ---- what the model holds
 
--- its samples
+-- the samples of the image
 abbrev sevens : List (List ℕ)
 sevens = (7 ∷ []) ∷ []
 
@@ -228,12 +228,12 @@ octets : (k : ℕ) → get_or (7 ∷ []) k 0 < 256
 octets zero = lit< tt
 octets (suc k) = lit< tt
 
--- behind its resolutions
+-- the model holds the open image after its resolutions
 pub begin_held : HoldsOpen Classic tasks.after_begin.model new_pixel []
 unfolding color_type inner_type
 begin_held = begins_open (new_file Classic) (header_model Classic) name.Gray8 1 1 new_pixel (lit< tt) (lit< tt) (inl refl) images.gray_begun.0
 
--- behind its strip
+-- the image after its strip
 strip_is : (write_strip new_pixel 1 (7 ∷ []) tasks.after_begin.file).answer ≡ Ok pixel_in_file
 unfolding write_strip write_strip_cause next_chunk_sample_count rect
 strip_is = refl
@@ -244,7 +244,7 @@ strip_held =
     (chunks_keep_open tasks.after_begin.file tasks.after_begin.model new_pixel pixel_in_file [] (7 ∷ []) (7 ∷ []) begin_held octets (lit< tt) refl (lit< tt) (lit< tt)).1
     strip_is
 
--- at its end
+-- no chunk is left at the image's end
 none_left : is_left pixel_in_file ≡ false
 none_left = refl
 
@@ -255,14 +255,14 @@ end_is : tasks.after_end.model ≡ image_model
 unfolding finish_image last_tags write_tag write_entry write_tag_cause data_of
 end_is =
     ap (λ t. model_after Classic tasks.after_strip.file.bytes tasks.after_strip.model
-    (Handed (handed_short 8) ∷ Handed (handed_short 1) ∷ Handed (handed_long 24) ∷ Handed (handed_long 1) ∷ t.deeds)) finishes
+    (Supplied (supplied_short 8) ∷ Supplied (supplied_short 1) ∷ Supplied (supplied_long 24) ∷ Supplied (supplied_long 1) ∷ t.ops)) finishes
 
 image_held : HoldsEnded Classic image_model pixel_in_file sevens 25
 image_held = subst (λ m. HoldsEnded Classic m pixel_in_file sevens 25) end_is end_held
 
--- ---- what is shown
+-- ---- what the file shows
 
--- it is shown where what stands has grown
+-- a file that contains the image's model shows the image, even if it grew since
 abbrev pub pixel_image : Image
 pixel_image = image_with pixel_in_file sevens
 
@@ -270,7 +270,7 @@ pub pixel_shown : (file : List ℕ) (m : Model) → Grows image_model m → Stan
 pixel_shown file m g t =
     ended_shown_by (images_show_by page_told) Classic file m pixel_in_file sevens 25 t (grown_ended Classic image_model m pixel_in_file sevens 25 g image_held)
 
--- a page, wherever its chunks stand
+-- a page without the places of its chunks
 abbrev pub bare : PageRecord → PageRecord
 bare page = record page { offsets = []; byte_counts = [] }
 
@@ -279,7 +279,7 @@ unfolding sample_in
 is_seven = refl
 
 module _ (file : List ℕ) (t : Shows Classic file 25 pixel_image) where
-  -- its page, and its color
+  -- the page of the image, and its color
   page_is : record pixel_image.page { offsets = t.page.offsets; byte_counts = t.page.byte_counts } ≡ t.page
   page_is = sym t.is_image
 
@@ -287,7 +287,7 @@ module _ (file : List ℕ) (t : Shows Classic file 25 pixel_image) where
   unfolding color_of
   color_is = ok_inj (Gray 8) t.color (ap color_of page_is ∙ t.is_color)
 
-  -- so is each image of that page whose first sample is 7
+  -- each image of the page of `pixel_image` is shown if its first sample is 7
   pub shown_alike : (i : Image) → bare pixel_image.page ≡ bare i.page → i.sample_at 0 0 0 ≡ 7 → Shows Classic file 25 i
   shown_alike i p q = record {
     page = t.page;
@@ -308,7 +308,7 @@ module _ (file : List ℕ) (t : Shows Classic file 25 pixel_image) where
         subst (λ x. Q x y sample) column (subst (λ y. Q 0 y sample) row (subst (λ n. Q 0 0 n) one (first ∙ is_seven ∙ sym q)));
   }
 
-  -- and no other image is
+  -- an image with another page isn't shown
   pub page_alike : (i : Image) → Shows Classic file 25 i → bare pixel_image.page ≡ bare i.page
   page_alike i u =
       ap bare (page_is ∙ ok_inj t.page u.page (sym t.is_page ∙ u.is_page) ∙ u.is_image)
@@ -323,6 +323,6 @@ module _ (file : List ℕ) (t : Shows Classic file 25 pixel_image) where
       sym (u.shows 0 0 0 (subst (λ page. 0 < page.width) same wide) (subst (λ page. 0 < page.height) same high) (subst (λ k. 0 < num_samples k) hue some))
       ∙ ap (λ page. shown_sample file LittleEndian page 0 0 0) (sym same) ∙ t.shows 0 0 0 wide high some ∙ is_seven
 
--- the file of the page shows it
+-- `gray_file` shows the image
 pub gray_shown : Shows Classic gray_file 25 pixel_image
-gray_shown = pixel_shown gray_file image_model (record { directories = λ d h. h; handed = λ x h. h; regions = λ r h. h }) image_stands
+gray_shown = pixel_shown gray_file image_model (record { directories = λ d h. h; supplied = λ x h. h; regions = λ r h. h }) image_stands

@@ -1,4 +1,4 @@
--- Which bytes the values of a directory's tags take, in a classic little-endian file.
+-- The bytes that the values of a directory's tags take, in a classic little-endian file.
 use Rattle.std.proofs.Common.{◌≡◌, ℕ, Bool, true, List, [], ◌∷◌, Option, None, Some, arith, sym, ◌∙◌, subst}
 use Rattle.std.proofs.lemmas.Bool.{leb-true, and_parts}
 use Rattle.std.specs.Cmp.{nat_cmp_total}
@@ -16,12 +16,12 @@ use Rattle.tiff_base.specs.Tags.{tag_number}
 use Rattle.tiff_ifd.specs.Stretches.{FieldReadable, TagReadable}
 use Rattle.tiff_page.specs.Reach.{PageReadable}
 
--- a source answers for the values of a field, if there is one
+-- the values of a field are readable in a source, if there is a field
 abbrev pub IsHeld : SourceRecord → Option Field → Type 0
 IsHeld source None = Unit {0}
 IsHeld source (Some f) = FieldReadable source Classic LittleEndian f
 
--- they stand in the entry
+-- the values of a field are in its entry
 abbrev pub fits : Option Field → Bool
 fits None = true
 fits (Some f) = nat_le (field_len f) 4
@@ -30,19 +30,19 @@ fits_held : (source : SourceRecord) (f : Option Field) → fits f ≡ true → I
 fits_held source None e = tt
 fits_held source (Some f) e = record { placed = λ w. absurd (omega (arith, w, leb-true (field_len f) 4 e)) }
 
--- those of each of some tags
+-- the values of each of some tags are in their entries
 abbrev pub each_fits : List (ℕ × Field) → List Tag → Bool
 each_fits fields [] = true
 each_fits fields (t ∷ ts) = fits (find nat_cmp (tag_number t) fields) && each_fits fields ts
 
--- the tags that the checks of a page read, but for the offsets of its strips
+-- the tags that the checks of a page read, except the offsets of its strips
 abbrev pub other_tags : List Tag
 other_tags =
     tag.ImageWidth ∷ tag.ImageLength ∷ tag.PhotometricInterpretation ∷ tag.Compression ∷ tag.SamplesPerPixel ∷ tag.ExtraSamples
     ∷ tag.SampleFormat ∷ tag.BitsPerSample ∷ tag.Predictor ∷ tag.PlanarConfiguration ∷ tag.ChromaSubsampling ∷ tag.StripByteCounts
     ∷ tag.RowsPerStrip ∷ tag.TileWidth ∷ tag.TileLength ∷ tag.TileOffsets ∷ tag.TileByteCounts ∷ []
 
--- of a directory that is made of a list
+-- a directory that is made from a list
 module _ (source : SourceRecord) (fields : List (ℕ × Field)) (next : Option ℕ) where
   abbrev directory : DirectoryRecord
   directory = record { entries = from_entries fields; next = next }
@@ -85,7 +85,7 @@ module _ (source : SourceRecord) (fields : List (ℕ × Field)) (next : Option �
         tile_byte_counts = h.1.1.1.1.1.1.1.1.1.1.1.1.1.1.1.1.0;
       }
 
-  -- where a source doesn't answer for the field of a tag, it doesn't for the tag
+  -- if the field of a tag isn't readable in a source, the tag isn't either
   pub tag_unheld : (t : Tag) (f : Field) → find nat_cmp (tag_number t) fields ≡ Some f → (FieldReadable source Classic LittleEndian f → ⊥)
       → TagReadable source Classic LittleEndian directory t → ⊥
   tag_unheld t f e not r = not (r.field f (get-from_entries nat_cmp_total fields (tag_number t) ∙ e))

@@ -1,4 +1,4 @@
--- What the definitions of `tiff_base` give.
+-- Worked examples of the definitions of `tiff_base`.
 pub mod Number
 pub mod Header
 pub mod Tags

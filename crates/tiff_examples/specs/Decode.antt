@@ -1,4 +1,4 @@
--- What the definitions of `tiff_decode` give.
+-- Worked examples of the definitions of `tiff_decode`.
 pub mod Outcome
 pub mod Machine
 pub mod OutcomeQueries

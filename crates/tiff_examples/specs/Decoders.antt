@@ -14,11 +14,11 @@ use Rattle.tiff_examples.specs.Page.Pixels.{pixel_page}
 abbrev pub at : ℕ → IfdPointer
 at offset = record { 0 = offset }
 
--- the directory of the file of one gray pixel, with a next one
+-- the directory of the file of one gray pixel
 abbrev pub gray_fields : DirectoryRecord
 gray_fields = record { entries = from_entries (reverse gray_entries); next = None }
 
--- where its decoder stands first
+-- the state of the decoder of `gray_file` after opening
 abbrev pub gray_state : State
 gray_state = record {
   pointer = Some (at 25);
@@ -29,37 +29,49 @@ gray_state = record {
   limits = default_limits;
 }
 
--- the decoder of some bytes of a classic little-endian file whose first directory stands at an offset
+-- the decoder of a classic little-endian file with these bytes and this first directory
 abbrev pub decoder_at : List ℕ → ℕ → State → Decoding
 decoder_at bytes first state =
-    record { bytes = bytes; readable = None; kind = Classic; order = LittleEndian; first = first; failures = 0; state = state }
+    record {
+      bytes = bytes;
+      readable = None;
+      kind = Classic;
+      order = LittleEndian;
+      first = first;
+      failures = 0;
+      state = state;
+    }
 
 abbrev pub gray_decoder : Decoding
 gray_decoder = decoder_at gray_file 25 gray_state
 
--- the file with a second directory behind it at 199, of no entries, whose link is given
+-- `gray_file` with a second directory at 199, which has no entries and this link
 abbrev pub two_file : List ℕ → List ℕ
 two_file link = put gray_file 195 (0xc7 ∷ 0x00 ∷ 0x00 ∷ 0x00 ∷ []) ++ (0x00 ∷ 0x00 ∷ link)
 
--- its decoder at the first page
+-- the decoder at the first page of the file with two directories
 abbrev pub two_decoder : List ℕ → Decoding
-two_decoder link = decoder_at (two_file link) 25 (record gray_state { more = true; directory = record gray_fields { next = Some 199 } })
+two_decoder link =
+    decoder_at (two_file link) 25
+    (record gray_state { more = true; directory = record gray_fields { next = Some 199 } })
 
--- three directories of no entries, at 8, 14 and 20
+-- three directories without entries, at 8, 14 and 20
 abbrev pub three_file : List ℕ
 three_file = 0x49 ∷ 0x49 ∷ 0x2a ∷ 0x00 ∷ 0x08 ∷ 0x00 ∷ 0x00 ∷ 0x00
     ∷ 0x00 ∷ 0x00 ∷ 0x0e ∷ 0x00 ∷ 0x00 ∷ 0x00
     ∷ 0x00 ∷ 0x00 ∷ 0x14 ∷ 0x00 ∷ 0x00 ∷ 0x00
     ∷ 0x00 ∷ 0x00 ∷ 0x00 ∷ 0x00 ∷ 0x00 ∷ 0x00 ∷ []
 
--- a decoder of it at the first one
+-- a decoder at the first of the three directories
 abbrev pub three_decoder : Decoding
 three_decoder = decoder_at three_file 8 (record gray_state { pointer = Some (at 8); more = true })
 
--- a decoder of some bytes that stands at an offset
+-- a decoder of these bytes at an offset
 abbrev pub bytes_decoder : List ℕ → ℕ → Decoding
 bytes_decoder bytes offset = decoder_at bytes 8 (record gray_state { offset = offset })
 
 -- a decoder whose page has these fields
 abbrev pub fields_decoder : List ℕ → List (ℕ × Field) → Decoding
-fields_decoder bytes fields = decoder_at bytes 8 (record gray_state { directory = record { entries = from_entries fields; next = None } })
+fields_decoder bytes fields =
+    decoder_at bytes 8
+    (record gray_state { directory = record { entries = from_entries fields; next = None } })

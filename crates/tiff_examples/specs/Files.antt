@@ -3,12 +3,15 @@ use Rattle.std.specs.Prelude.{ℕ, List, [], ◌∷◌, ◌++◌}
 use Rattle.tiff_base.specs.declared.tags.«Type».TheVariants.{SHORT, LONG, RATIONAL}
 use Rattle.tiff_base.specs.Field.{Field}
 
--- the head of a file of one gray pixel 7: a header whose first directory stands at 25, two resolutions, and the pixel
+-- the front of a file of one gray pixel 7: a header whose first directory is at 25, two
+-- resolutions, and the pixel
 abbrev pub gray_head : List ℕ
-gray_head = (0x49 ∷ 0x49 ∷ 0x2a ∷ 0x00 ∷ 0x19 ∷ 0x00 ∷ 0x00 ∷ 0x00 ∷ 0x01 ∷ 0x00 ∷ 0x00 ∷ 0x00 ∷ 0x01 ∷ 0x00 ∷ 0x00
+gray_head =
+    (0x49 ∷ 0x49 ∷ 0x2a ∷ 0x00 ∷ 0x19 ∷ 0x00 ∷ 0x00 ∷ 0x00 ∷ 0x01 ∷ 0x00 ∷ 0x00 ∷ 0x00 ∷ 0x01 ∷ 0x00
+    ∷ 0x00
     ∷ 0x00 ∷ 0x01 ∷ 0x00 ∷ 0x00 ∷ 0x00 ∷ 0x01 ∷ 0x00 ∷ 0x00 ∷ 0x00 ∷ 0x07 ∷ [])
 
--- its directory: 14 entries and the link 0
+-- the directory of a file of one gray pixel: 14 entries and the link 0
 abbrev pub gray_directory : List ℕ
 gray_directory =
     (0x0e ∷ 0x00 ∷ [])
@@ -28,22 +31,22 @@ gray_directory =
     ++ (0x53 ∷ 0x01 ∷ 0x03 ∷ 0x00 ∷ 0x01 ∷ 0x00 ∷ 0x00 ∷ 0x00 ∷ 0x01 ∷ 0x00 ∷ 0x00 ∷ 0x00 ∷ [])
     ++ (0x00 ∷ 0x00 ∷ 0x00 ∷ 0x00 ∷ [])
 
--- the file of 199 bytes
+-- the file of one gray pixel, with 199 bytes
 abbrev pub gray_file : List ℕ
 gray_file = gray_head ++ gray_directory
 
--- a field of one number that stands in its entry, by that number's bytes
+-- a field of one number in its entry, given by the bytes of the number
 abbrev pub one_short : List ℕ → Field
 one_short value = record { field_type = SHORT; count = 1; value = value }
 
 abbrev pub one_long : List ℕ → Field
 one_long value = record { field_type = LONG; count = 1; value = value }
 
--- a field of one rational, by the bytes of its offset
+-- a field of one rational, given by the bytes of its offset
 abbrev pub one_rational : List ℕ → Field
 one_rational value = record { field_type = RATIONAL; count = 1; value = value }
 
--- the fields of the file's directory
+-- the fields of the directory of `gray_file`
 abbrev pub gray_entries : List (ℕ × Field)
 gray_entries =
     (256, one_long (0x01 ∷ 0x00 ∷ 0x00 ∷ 0x00 ∷ 0x00 ∷ 0x00 ∷ 0x00 ∷ 0x00 ∷ []))

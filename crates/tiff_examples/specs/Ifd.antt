@@ -1,11 +1,11 @@
--- What the definitions of `tiff_ifd` give.
+-- Worked examples of the definitions of `tiff_ifd`.
 pub mod FieldValue
-pub mod Look
+pub mod TagLookup
 pub mod Chain
 pub mod Into
 pub mod TagQueries
 pub mod View
 pub mod Stream
-pub mod Walk
+pub mod IfdChainWalk
 pub mod Unpacking
 pub mod Stretches

@@ -4,7 +4,7 @@ use Rattle.tiff_base.specs.declared.tags.«Type».TheVariants.{SHORT, LONG, RATI
 use Rattle.tiff_base.specs.Field.{Field}
 use Rattle.tiff_base.specs.Number.{le}
 
--- of 2 or 4 bytes, which stands in the entry, or of a fraction that stands at an offset
+-- a field of one number of 2 or 4 bytes in its entry, or of one rational at an offset
 abbrev pub short_field : ℕ → Field
 short_field n = record { field_type = SHORT; count = 1; value = le 8 n }
 
@@ -14,6 +14,6 @@ long_field n = record { field_type = LONG; count = 1; value = le 8 n }
 abbrev pub rational_field : ℕ → Field
 rational_field offset = record { field_type = RATIONAL; count = 1; value = le 8 offset }
 
--- the resolution 1/1
+-- the bytes of the resolution 1/1
 abbrev pub one_to_one : List ℕ
 one_to_one = le 4 1 ++ le 4 1

@@ -1,4 +1,4 @@
--- What the definitions of `tiff_page` give.
+-- Worked examples of the definitions of `tiff_page`.
 pub mod Layout
 pub mod Pixels
 pub mod Buffers

@@ -1,4 +1,4 @@
--- What the definitions of `tiff_value` give.
+-- Worked examples of the definitions of `tiff_value`.
 pub mod Data
 pub mod Packed
 pub mod Values

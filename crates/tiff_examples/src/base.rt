@@ -1,4 +1,5 @@
-//! What the definitions of `tiff_base` give: numbers, headers, directories, fields and packed lists.
+//! Worked examples of the definitions of `tiff_base`: numbers, headers, directories, fields and
+//! PackBits lists.
 
 pub mod answers;
 pub mod directory;

@@ -1,4 +1,4 @@
-//! What the definitions of `tiff_decode` give: outcomes of calls, and lists of them.
+//! Worked examples of the definitions of `tiff_decode`: results of calls, and lists of calls.
 
 pub mod asked;
 pub mod machine;

@@ -1,4 +1,5 @@
-//! What the definitions of `tiff_encode` give: calls of the writer, their causes, what they leave, and lists of jobs.
+//! Worked examples of the definitions of `tiff_encode`: calls of the writer, their errors, what
+//! they leave, and lists of jobs.
 
 pub mod calls;
 pub mod causes;

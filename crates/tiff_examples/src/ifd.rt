@@ -1,4 +1,5 @@
-//! What the definitions of `tiff_ifd` give: values of fields, chains, conversions and questions to tags.
+//! Worked examples of the definitions of `tiff_ifd`: values of fields, chains, conversions and tag
+//! queries.
 
 pub mod chain;
 pub mod field_value;

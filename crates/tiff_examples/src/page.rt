@@ -1,4 +1,5 @@
-//! What the definitions of `tiff_page` give: the checks and the layout of a page, its samples and their rows, and how far they are read.
+//! Worked examples of the definitions of `tiff_page`: the checks and the layout of a page, its
+//! samples and their rows, and the bytes that reads need.
 
 pub mod buffers;
 pub mod checks;

@@ -1,4 +1,4 @@
-//! What the definitions of `tiff_value` give: values that are written, and packed bytes.
+//! Worked examples of the definitions of `tiff_value`: values that are written, and PackBits lists.
 
 pub mod data;
 pub mod packed;

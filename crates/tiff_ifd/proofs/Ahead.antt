@@ -6,7 +6,7 @@ use lib.ListN.{replicate}
 use Rattle.tiff_base.specs.Runs.{Unpacked, with_front, runs}
 use Rattle.tiff_base.specs.SourceAndSink.{bytes_at, Reads}
 use Rattle.tiff_base.proofs.Blocks.{runs_after_drop, runs_literal, runs_no_op, runs_run}
-use Rattle.tiff_ifd.specs.declared.packbits.PackedPosition.{PackedPosition}
+use Rattle.tiff_ifd.specs.declared.packbits.PackBitsCursor.{PackBitsCursor}
 use Rattle.tiff_ifd.specs.Unpacking.{left_at, count_of, GivesNext, UnpacksFront}
 use Rattle.tiff_ifd.proofs.Unpacking.{before_before, early_next, packed_next, read_behind, used_up}
 
@@ -117,7 +117,7 @@ ahead_told s zeros part at most held m r =
       w,
     )
 
-pub front_gives : (s packed old new : List ℕ) (offset : PackedPosition) (held used n : ℕ) → count_of offset.block ≡ 0 → packed ≡ bytes_at s offset.at held → held ≤ offset.len
+pub front_gives : (s packed old new : List ℕ) (offset : PackBitsCursor) (held used n : ℕ) → count_of offset.block ≡ 0 → packed ≡ bytes_at s offset.at held → held ≤ offset.len
     → held ≤ length s - offset.at → UnpacksFront packed old used n new → 0 < n
     → GivesNext (left_at s offset) old n new (left_at s (record offset { at = offset.at + used; len = offset.len - used }))
 front_gives s packed old new offset held used n c t w i u some =

@@ -16,7 +16,7 @@ use Rattle.tiff_base.specs.Field.{DirectoryRecord}
 use Rattle.tiff_base.specs.Directory.{directory_at, link}
 use Rattle.tiff_base.proofs.Causes.{cause_along}
 use Rattle.tiff_ifd.specs.Chain.{link_from, unless_met, enter_at, IsChain, Chain, chain}
-use Rattle.tiff_ifd.specs.Walk.{Walked, Enters, NextIsRefused, WalkSteps, ChainBegins, ChainEnds, link_behind}
+use Rattle.tiff_ifd.specs.IfdChainWalk.{Walked, Enters, NextIsRefused, WalkSteps, ChainBegins, ChainEnds, link_behind}
 use Rattle.tiff_ifd.proofs.Chain.{IsFalseBit, not_both, same_ok, same_err, the_chain}
 use Rattle.tiff_ifd.proofs.Links.{here}
 

@@ -4,8 +4,8 @@ use Rattle.std.specs.List.{range_with_len}
 use Rattle.std.proofs.Math.Nat.{suc-mul}
 use Rattle.std.proofs.lemmas.List.{map-append, drop-drop}
 use Rattle.tiff_base.specs.SourceAndSink.{bytes_at}
-use Rattle.tiff_ifd.specs.Datum.{Datum}
-use Rattle.tiff_ifd.specs.View.{datum, datum_list}
+use Rattle.tiff_ifd.specs.PlainValue.{PlainValue}
+use Rattle.tiff_ifd.specs.View.{plain_value, plain_values}
 use Rattle.tiff_ifd.specs.declared.value.Value.{Value}
 use Rattle.tiff_ifd.specs.Item.{items}
 
@@ -37,9 +37,9 @@ pub less_one : (k width : ℕ) → 0 < k → k * width ≡ (k - 1) * width + wid
 less_one zero width h = absurd (omega arith)
 less_one (suc k) width h = let e : suc k - 1 ≡ k = omega arith in rw e (suc-mul k width)
 
-pub read_one_more : (read : List ℕ → Datum) (width k : ℕ) (bs front back : List ℕ) (all after : List Value) (v : Value) (whole : List Datum)
-    → whole ≡ datum_list all ++ items read width k bs → 0 < k → front ≡ take width bs → back ≡ drop width bs
-    → datum v ≡ read front → after ≡ all ++ v ∷ []
-    → whole ≡ datum_list after ++ items read width (k - 1) back
+pub read_one_more : (read : List ℕ → PlainValue) (width k : ℕ) (bs front back : List ℕ) (all after : List Value) (v : Value) (whole : List PlainValue)
+    → whole ≡ plain_values all ++ items read width k bs → 0 < k → front ≡ take width bs → back ≡ drop width bs
+    → plain_value v ≡ read front → after ≡ all ++ v ∷ []
+    → whole ≡ plain_values after ++ items read width (k - 1) back
 read_one_more read width k bs front back all after v whole ih h f b e p =
-    cc (items-step read width k bs h, map-append datum all (v ∷ []), append_assoc (datum_list all) (datum v ∷ []) (items read width (k - 1) (drop width bs)))
+    cc (items-step read width k bs h, map-append plain_value all (v ∷ []), append_assoc (plain_values all) (plain_value v ∷ []) (items read width (k - 1) (drop width bs)))

@@ -17,7 +17,7 @@ use Rattle.tiff_ifd.proofs.Begun.{begins_entered, cut_unread, cut_unentered, gro
 use Rattle.tiff_ifd.proofs.Chain.{IsFalseBit}
 use Rattle.tiff_ifd.proofs.Entries.{number_past, some_bytes}
 use Rattle.tiff_ifd.specs.Chain.{Chain, IsLinkOfDirectory, chain, link_of, unless_met}
-use Rattle.tiff_ifd.specs.Walk.{ChainBegins, ChainEnds, NextIsRefused, NextLinkReadable, StepsOver, Walked, WalkSteps, WayReadable}
+use Rattle.tiff_ifd.specs.IfdChainWalk.{ChainBegins, ChainEnds, NextIsRefused, NextLinkReadable, StepsOver, Walked, WalkSteps, WayReadable}
 
 -- ---- the law
 

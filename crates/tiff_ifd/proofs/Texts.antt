@@ -9,7 +9,7 @@ use Rattle.std.proofs.lemmas.Str.{is_utf8-from_IsUtf8, IsUtf8-from_is_utf8, IsUt
 use Rattle.std.proofs.lemmas.Str.Ascii.{IsAscii-from_all}
 use Rattle.tiff_base.specs.declared.error.TiffError.TheVariants.{FormatError}
 use Rattle.tiff_base.specs.declared.error.TiffFormatError.TheVariants.{InvalidTag}
-use Rattle.tiff_ifd.specs.Datum as f
+use Rattle.tiff_ifd.specs.PlainValue as f
 use Rattle.tiff_ifd.specs.FieldValue.{is_ascii_byte, inline_text, without_zeros, is_zero}
 
 pub ruleset utf8 = (is_utf8-from_IsUtf8, IsUtf8-from_is_utf8)

@@ -16,7 +16,7 @@ use Rattle.tiff_base.proofs.Bytes.{missing}
 use Rattle.tiff_base.proofs.Causes.{cause_along}
 use Rattle.tiff_ifd.specs.declared.packbits.Block.{Block}
 use Rattle.tiff_ifd.specs.declared.packbits.Block.TheVariants.{Literal, Run}
-use Rattle.tiff_ifd.specs.declared.packbits.PackedPosition.{PackedPosition}
+use Rattle.tiff_ifd.specs.declared.packbits.PackBitsCursor.{PackBitsCursor}
 use Rattle.tiff_ifd.specs.Unpacking.{unpacked_at, nothing_left, left_in, left_at, count_of, GivesNext, IsBroken, HasTooFew}
 
 -- ---- a byte of the source
@@ -124,7 +124,7 @@ used_in : (block : Block) (early : Bool) (P : List ℕ) → count_of block ≡ 0
 used_in (Literal n) early P e = ap (λ (m : ℕ). left_in (Literal m) early P) e
 used_in (Run value n) early P e = ap (λ (m : ℕ). left_in (Run value m) early P) e
 
-pub used_up : (s : List ℕ) (offset : PackedPosition) → count_of offset.block ≡ 0 → left_at s offset ≡ unpacked_at s offset.at offset.len
+pub used_up : (s : List ℕ) (offset : PackBitsCursor) → count_of offset.block ≡ 0 → left_at s offset ≡ unpacked_at s offset.at offset.len
 used_up s offset e = used_in offset.block (ltb (length s - offset.at) offset.len) (bytes_at s offset.at offset.len) e
 
 literal_nil : (n : ℕ) (early : Bool) → 0 < n → left_in (Literal n) early [] ≡ nothing_left Plain
@@ -168,7 +168,7 @@ gives left rest old xs part n most a b p l g z =
       none = λ _ h. z h;
     }
 
-block_is : (s : List ℕ) (offset : PackedPosition) (block : Block) → offset.block ≡ block → left_at s offset ≡ left_at s (record offset { block = block })
+block_is : (s : List ℕ) (offset : PackBitsCursor) (block : Block) → offset.block ≡ block → left_at s offset ≡ left_at s (record offset { block = block })
 block_is s offset block e = ap (λ (b : Block). left_in b (ltb (length s - offset.at) offset.len) (bytes_at s offset.at offset.len)) e
 
 no_byte : (s old part : List ℕ) (at len most n : ℕ) → 0 < length old → most ≤ length old → (most ≡ 0 → len ≡ 0) → Reads s at (take most old) n part → n ≡ 0
@@ -179,7 +179,7 @@ no_byte s old part at len most n o b z r e (inl h) =
     (λ (m : 1 ≤ most). absurd (let f : 0 < n = r.some (omega (arith, length-take-le most old b, m)) h in omega (arith, f, e)))
     (cases_lt most 1)
 
-pub literal_gives : (s old part : List ℕ) (offset : PackedPosition) (count most n : ℕ) → offset.block ≡ Literal count → 0 < count → 0 < length old
+pub literal_gives : (s old part : List ℕ) (offset : PackBitsCursor) (count most n : ℕ) → offset.block ≡ Literal count → 0 < count → 0 < length old
     → most ≤ count → most ≤ length old → most ≤ offset.len → (most ≡ 0 → offset.len ≡ 0) → Reads s offset.at (take most old) n part
     → GivesNext (left_at s offset) old n (part ++ drop most old) (left_at s (record { block = Literal (count - n); at = offset.at + n; len = offset.len - n }))
 literal_gives s old part offset count most n e c o a b d z r =
@@ -189,7 +189,7 @@ literal_gives s old part offset count most n e c o a b d z r =
     (block_is s offset (Literal count) e ∙ literal_part s offset.at offset.len count n (omega (arith, l, a)) (omega (arith, l, d)) r.in_bytes)
     (λ h. block_is s offset (Literal count) e ∙ literal_cut s offset.at offset.len count c (no_byte s old part offset.at offset.len most n o b z r h (cases_lt offset.at (length s))))
 
-run_part : (s : List ℕ) (offset : PackedPosition) (value c n : ℕ) → n ≤ c
+run_part : (s : List ℕ) (offset : PackBitsCursor) (value c n : ℕ) → n ≤ c
     → left_at s (record offset { block = Run value c }) ≡ with_front (replicate n value) (left_at s (record offset { block = Run value (c - n) }))
 run_part s offset value c n a =
     let f : c ≡ n + (c - n) = omega (arith, a) in
@@ -197,7 +197,7 @@ run_part s offset value c n a =
     ∙ rw (← replicate-append-replicate n (c - n) value)
     (sym (before_before (replicate n value) (replicate (c - n) value) (unpacked_at s offset.at offset.len)))
 
-pub run_gives : (s old part : List ℕ) (offset : PackedPosition) (value count n : ℕ) → offset.block ≡ Run value count → n ≤ count → n ≤ length old → 0 < n → part ≡ replicate n value
+pub run_gives : (s old part : List ℕ) (offset : PackBitsCursor) (value count n : ℕ) → offset.block ≡ Run value count → n ≤ count → n ≤ length old → 0 < n → part ≡ replicate n value
     → GivesNext (left_at s offset) old n (part ++ drop n old) (left_at s (record { block = Run value (count - n); at = offset.at; len = offset.len }))
 run_gives s old part offset value count n e a b o p =
     let w : n ≤ n = omega arith in
@@ -223,7 +223,7 @@ more_read first mid last buf part old done k n h l e r =
     ∙ ap (λ (xs : List ℕ). with_front xs last) (sym (read_behind buf part done k n h (omega (arith, r.in_buffer, l))))
 
 -- the front of a buffer, for a source whose bytes are unchanged
-pub more_read_at : (s t u : List ℕ) (first mid last : PackedPosition) (buf part old : List ℕ) (done k n : ℕ) → t ≡ s → u ≡ s → done ≤ length buf → length part ≡ length old
+pub more_read_at : (s t u : List ℕ) (first mid last : PackBitsCursor) (buf part old : List ℕ) (done k n : ℕ) → t ≡ s → u ≡ s → done ≤ length buf → length part ≡ length old
     → left_at s first ≡ with_front (take done buf) (left_at s mid) → GivesNext (left_at t mid) old n part (left_at u last)
     → left_at s first ≡ with_front (take (done + n) (put_mid done k buf part)) (left_at s last)
 more_read_at s t u first mid last buf part old done k n e f h l g r =

@@ -19,7 +19,7 @@ use Rattle.tiff_base.specs.Answers.{◌>>=◌}
 use Rattle.tiff_base.specs.Number.{number}
 use Rattle.tiff_base.specs.SourceAndSink.{bytes_at}
 use Rattle.tiff_base.specs.Types.{type_size}
-use Rattle.tiff_ifd.specs.Datum.{Datum, datum_list_of}
+use Rattle.tiff_ifd.specs.PlainValue.{PlainValue, plain_value_list_of}
 use Rattle.tiff_ifd.specs.FieldValue.{is_allowed, placed_value, value_from}
 use Rattle.tiff_ifd.specs.declared.limits.Limits.{Limits}
 use Rattle.tiff_ifd.specs.Into.{each_item, into_u64, into_u64_vec}
@@ -27,20 +27,20 @@ use Rattle.tiff_ifd.specs.Item.{items, list_item}
 use Rattle.tiff_ifd.specs.Unsigned.{IsUnsigned, numbers_from, placed_numbers, unsigned_width}
 
 -- values that are one number each
-each_mapped : (f : ℕ → Datum) (g : ℕ → ℕ) → ((i : ℕ) → into_u64 (f i) ≡ Ok (g i)) → (xs : List ℕ) → each_item into_u64 (datum_list_of (map f xs)) ≡ Ok (map g xs)
+each_mapped : (f : ℕ → PlainValue) (g : ℕ → ℕ) → ((i : ℕ) → into_u64 (f i) ≡ Ok (g i)) → (xs : List ℕ) → each_item into_u64 (plain_value_list_of (map f xs)) ≡ Ok (map g xs)
 each_mapped f g h [] = refl
 each_mapped f g h (x ∷ xs) = rw (h x, each_mapped f g h xs) refl
 
 shorts : (order : ByteOrder) (n : ℕ) (bs : List ℕ)
-    → each_item into_u64 (datum_list_of (items (list_item false t.SHORT order) 2 n bs)) ≡ Ok (items (number order w16) 2 n bs)
+    → each_item into_u64 (plain_value_list_of (items (list_item false t.SHORT order) 2 n bs)) ≡ Ok (items (number order w16) 2 n bs)
 shorts order n bs = each_mapped _ _ (λ i. refl) (range_with_len 0 n)
 
 longs : (order : ByteOrder) (n : ℕ) (bs : List ℕ)
-    → each_item into_u64 (datum_list_of (items (list_item false t.LONG order) 4 n bs)) ≡ Ok (items (number order w32) 4 n bs)
+    → each_item into_u64 (plain_value_list_of (items (list_item false t.LONG order) 4 n bs)) ≡ Ok (items (number order w32) 4 n bs)
 longs order n bs = each_mapped _ _ (λ i. refl) (range_with_len 0 n)
 
 longs_8 : (order : ByteOrder) (n : ℕ) (bs : List ℕ)
-    → each_item into_u64 (datum_list_of (items (list_item false t.LONG8 order) 8 n bs)) ≡ Ok (items (number order w64) 8 n bs)
+    → each_item into_u64 (plain_value_list_of (items (list_item false t.LONG8 order) 8 n bs)) ≡ Ok (items (number order w64) 8 n bs)
 longs_8 order n bs = each_mapped _ _ (λ i. refl) (range_with_len 0 n)
 
 several : (n : ℕ) → (suc (suc n) == 1) ≡ false
@@ -86,7 +86,7 @@ unsigned_value type order n bs (inr (inl e)) l = absurd (cc)
 unsigned_value type order n bs (inr (inr e)) l = absurd (cc)
 
 -- one step, or two steps, to check the limits, read the bytes and convert them
-converted : {B : Type 0} (b : Bool) (found : Result (List ℕ) TiffError) (e : TiffError) (f : List ℕ → Result Datum TiffError) (g : Datum → Result B TiffError)
+converted : {B : Type 0} (b : Bool) (found : Result (List ℕ) TiffError) (e : TiffError) (f : List ℕ → Result PlainValue TiffError) (g : PlainValue → Result B TiffError)
     → ((if b then (found >>= f) else Err e) >>= g) ≡ (if b then (found >>= λ x. f x >>= g) else Err e)
 converted true (Ok x) e f g = refl
 converted true (Err d) e f g = refl

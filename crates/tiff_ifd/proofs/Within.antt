@@ -12,10 +12,10 @@ use Rattle.tiff_base.specs.Answers.{IsCause, ◌>>=◌}
 use Rattle.tiff_base.specs.Field.{Field}
 use Rattle.tiff_base.specs.Sparing.{IsFoundWithin, IsWithinLimits}
 use Rattle.tiff_base.proofs.Causes.{cause_along}
-use Rattle.tiff_ifd.specs.Datum.{Datum, DatumList, none, more, list, byte, ascii}
+use Rattle.tiff_ifd.specs.PlainValue.{PlainValue, PlainValueList, none, more, list, byte, ascii}
 use Rattle.tiff_ifd.specs.FieldValue.{WantsFound, WantsValue, placed_text, stands_in_entry, value_from}
 use Rattle.tiff_ifd.specs.Into.{each_item, into_string, into_u64, into_u64_vec}
-use Rattle.tiff_ifd.specs.Look.{if_found}
+use Rattle.tiff_ifd.specs.TagLookup.{if_found}
 use Rattle.tiff_ifd.specs.Unsigned.{numbers_from}
 
 text_within : {Y : Type 0} (b : Bool) (y : Y) → IsWithinLimits (if b then Ok y else Err (FormatError InvalidTag))
@@ -60,7 +60,7 @@ text_read_within (Err e) h = absurd (cc)
 -- ---- where memory is allocated
 
 -- a value that the look-up finds
-pub found_wanted : (inline : Bool) (given : Result Datum TiffError) → WantsValue inline given → WantsValue inline (given >>= λ d. Ok (Some d))
+pub found_wanted : (inline : Bool) (given : Result PlainValue TiffError) → WantsValue inline given → WantsValue inline (given >>= λ d. Ok (Some d))
 found_wanted true (Ok d) h = h
 found_wanted true (Err e) h = h
 found_wanted false (Ok d) h = tt
@@ -71,16 +71,16 @@ wanted_within true (Ok y) h = tt
 wanted_within true (Err e) h = absurd (cc)
 wanted_within false given h = h
 
-unfound : (given : Result Datum TiffError) → IsWithinLimits (given >>= λ d. Ok (Some d)) → IsWithinLimits given
+unfound : (given : Result PlainValue TiffError) → IsWithinLimits (given >>= λ d. Ok (Some d)) → IsWithinLimits given
 unfound (Ok d) h = tt
 unfound (Err e) h = h
 
-there_within : (given : Result Datum TiffError) → IsWithinLimits given → IsFoundWithin (given >>= λ d. Ok (Some d))
+there_within : (given : Result PlainValue TiffError) → IsWithinLimits given → IsFoundWithin (given >>= λ d. Ok (Some d))
 there_within (Ok d) h = tt
 there_within (Err e) h = h
 
 -- a value that the look-up finds is within the limits and the source
-pub look_within : (kind : FileKind) (value : Field → Result Datum TiffError) (field : Option Field) → WantsFound kind field (if_found value field)
+pub look_within : (kind : FileKind) (value : Field → Result PlainValue TiffError) (field : Option Field) → WantsFound kind field (if_found value field)
     → IsFoundWithin (if_found value field)
 look_within kind value None h = absurd h
 look_within kind value (Some e) h = there_within (value e) (unfound (value e) (wanted_within (stands_in_entry kind e) (if_found value (Some e)) h))
@@ -92,23 +92,23 @@ bound_within : {A B : Type 0} (found : Result A TiffError) (next : A → Result 
 bound_within (Ok x) next h n = n x
 bound_within (Err e) next h n = h
 
-number_within : (d : Datum) → IsWithinLimits (into_u64 d)
+number_within : (d : PlainValue) → IsWithinLimits (into_u64 d)
 number_within (byte n) = tt
 number_within _ = tt
 
-each_within : (ds : DatumList) → IsWithinLimits (each_item into_u64 ds)
+each_within : (ds : PlainValueList) → IsWithinLimits (each_item into_u64 ds)
 each_within none = tt
 each_within (more d ds) =
     bound_within (into_u64 d) (λ x. each_item into_u64 ds >>= λ xs. Ok (x ∷ xs)) (number_within d)
     (λ x. bound_within (each_item into_u64 ds) (λ xs. Ok (x ∷ xs)) (each_within ds) (λ xs. tt))
 
 -- an error of the numbers of a value is not `LimitsExceeded`
-pub numbers_within : (d : Datum) → IsWithinLimits (into_u64_vec d)
+pub numbers_within : (d : PlainValue) → IsWithinLimits (into_u64_vec d)
 numbers_within (list ds) = each_within ds
 numbers_within _ = tt
 
 -- an error of the numbers of a value that is read is not `LimitsExceeded`
-pub field_numbers_within : (inline : Bool) (given : Result Datum TiffError) → WantsValue inline given → IsWithinLimits (given >>= into_u64_vec)
+pub field_numbers_within : (inline : Bool) (given : Result PlainValue TiffError) → WantsValue inline given → IsWithinLimits (given >>= into_u64_vec)
 field_numbers_within inline given h = bound_within given into_u64_vec (wanted_within inline given h) numbers_within
 
 -- the numbers of bytes that are in the source
@@ -118,7 +118,7 @@ placed_within type order count (Ok bytes) h = bound_within (value_from false typ
 placed_within type order count (Err e) h = absurd (cc)
 
 -- the numbers of a value that the look-up finds
-pub numbers_found : (given : Result Datum TiffError) → IsWithinLimits (given >>= into_u64_vec) → IsFoundWithin (given >>= λ d. Ok (Some d))
+pub numbers_found : (given : Result PlainValue TiffError) → IsWithinLimits (given >>= into_u64_vec) → IsFoundWithin (given >>= λ d. Ok (Some d))
 numbers_found (Ok d) h = tt
 numbers_found (Err e) h = h
 

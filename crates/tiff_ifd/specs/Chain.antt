@@ -27,7 +27,8 @@ link_of kind order bytes at = do
 -- a link, or `CycleInOffsets` where it is one of these offsets
 abbrev pub unless_met : List ℕ → Option ℕ → Result (Option ℕ) TiffError
 unless_met met None = Ok None
-unless_met met (Some next) = if list_any (nat_eq next) met then Err (FormatError CycleInOffsets) else Ok (Some next)
+unless_met met (Some next) = if list_any (nat_eq next) met then Err (FormatError CycleInOffsets)
+    else Ok (Some next)
 
 module _ (link : ℕ → Result (Option ℕ) TiffError) where
   -- the link of the directory at an offset that is entered after these others, or the error: the
@@ -39,7 +40,8 @@ module _ (link : ℕ → Result (Option ℕ) TiffError) where
   abbrev pub AreEntered : List ℕ → Option ℕ → List ℕ → Type 0
   AreEntered met next [] = Unit {0}
   AreEntered met None (offset ∷ offsets) = ⊥
-  AreEntered met (Some next) (offset ∷ offsets) = (offset ≡ next) × (after : Option ℕ) × (enter_at met next ≡ Ok after) × AreEntered (next ∷ met) after offsets
+  AreEntered met (Some next) (offset ∷ offsets) = (offset ≡ next) × (after : Option ℕ)
+      × (enter_at met next ≡ Ok after) × AreEntered (next ∷ met) after offsets
 
   -- The list of all offsets that are entered from the next one on, after the offsets of `met`, and
   -- the end of the chain: none at a link of 0, else the error of the directory that cannot be
@@ -48,7 +50,8 @@ module _ (link : ℕ → Result (Option ℕ) TiffError) where
   IsChain met None [] end = end ≡ None
   IsChain met None (offset ∷ offsets) end = ⊥
   IsChain met (Some next) [] end = (e : TiffError) × (enter_at met next ≡ Err e) × (end ≡ Some e)
-  IsChain met (Some next) (offset ∷ offsets) end = (offset ≡ next) × (after : Option ℕ) × (enter_at met next ≡ Ok after) × IsChain (next ∷ met) after offsets end
+  IsChain met (Some next) (offset ∷ offsets) end = (offset ≡ next) × (after : Option ℕ)
+      × (enter_at met next ≡ Ok after) × IsChain (next ∷ met) after offsets end
 
 -- the offsets of a chain, and its end: none at a link of 0, else the error of the directory that
 -- cannot be entered
@@ -58,14 +61,17 @@ pub record Chain : Type 0 where
 
 -- a chain with one more offset at its front, or a chain that ends here with an error
 abbrev pub onto : ℕ → Result (Option ℕ) TiffError → (Option ℕ → Chain) → Chain
-onto offset (Ok after) rest = record { offsets = offset ∷ (rest after).offsets; end = (rest after).end }
+onto offset (Ok after) rest =
+    record { offsets = offset ∷ (rest after).offsets; end = (rest after).end }
 onto offset (Err e) rest = record { offsets = []; end = Some e }
 
 -- the chain from a next offset on, after the offsets of `met`, in at most `steps` steps
 abbrev pub walk : (ℕ → Result (Option ℕ) TiffError) → ℕ → List ℕ → Option ℕ → Chain
 walk link steps met None = record { offsets = []; end = None }
-walk link zero met (Some next) = onto next (enter_at link met next) (λ _. record { offsets = []; end = None })
-walk link (suc steps) met (Some next) = onto next (enter_at link met next) (walk link steps (next ∷ met))
+walk link zero met (Some next) =
+    onto next (enter_at link met next) (λ _. record { offsets = []; end = None })
+walk link (suc steps) met (Some next) =
+    onto next (enter_at link met next) (walk link steps (next ∷ met))
 
 -- the chain of a file from its first offset on; no chain has more offsets than the file has bytes
 unfoldable pub chain : FileKind → ByteOrder → List ℕ → ℕ → Chain
@@ -75,24 +81,31 @@ chain kind order bytes first = walk (link_from kind order bytes) (length bytes) 
 
 -- the count and the link of a directory decide its link, and whether the directory is readable
 abbrev pub IsLinkOfDirectory : Type 0
-IsLinkOfDirectory = (kind : FileKind) (order : ByteOrder) (bytes : List ℕ) (at : ℕ) → link_of kind order bytes at ≡ link_from kind order bytes at
+IsLinkOfDirectory = (kind : FileKind) (order : ByteOrder) (bytes : List ℕ) (at : ℕ)
+    → link_of kind order bytes at ≡ link_from kind order bytes at
 
 -- the result of `chain` is a chain
 abbrev pub IsTheChain : Type 0
 IsTheChain = (kind : FileKind) (order : ByteOrder) (bytes : List ℕ) (first : ℕ)
-    → IsChain (link_from kind order bytes) [] (Some first) (chain kind order bytes first).offsets (chain kind order bytes first).end
+    → IsChain (link_from kind order bytes) [] (Some first) (chain kind order bytes first).offsets
+    (chain kind order bytes first).end
 
 -- a file has at most one chain from an offset
 abbrev pub IsOneChain : Type 0
-IsOneChain = (kind : FileKind) (order : ByteOrder) (bytes : List ℕ) (met : List ℕ) (next : Option ℕ) (ps qs : List ℕ) (e f : Option TiffError)
-    → IsChain (link_from kind order bytes) met next ps e → IsChain (link_from kind order bytes) met next qs f → (ps ≡ qs) × (e ≡ f)
+IsOneChain =
+    (kind : FileKind) (order : ByteOrder) (bytes : List ℕ) (met : List ℕ) (next : Option ℕ)
+    (ps qs : List ℕ) (e f : Option TiffError)
+    → IsChain (link_from kind order bytes) met next ps e
+    → IsChain (link_from kind order bytes) met next qs f → (ps ≡ qs) × (e ≡ f)
 
 -- The longest list of offsets that is empty or begins with the first offset. Each offset of the
 -- list has a readable directory, whose link is 0 or differs from this offset and all before it.
 -- Each next offset is that link, which is not 0.
-pub record IsLongest (kind : FileKind) (order : ByteOrder) (bytes : List ℕ) (first : ℕ) (offsets : List ℕ) : Type 0 where
+pub record IsLongest (kind : FileKind) (order : ByteOrder) (bytes : List ℕ) (first : ℕ)
+    (offsets : List ℕ) : Type 0 where
   pub entered : AreEntered (link_from kind order bytes) [] (Some first) offsets
-  pub longest : (others : List ℕ) → AreEntered (link_from kind order bytes) [] (Some first) others → (rest : List ℕ) × (offsets ≡ others ++ rest)
+  pub longest : (others : List ℕ) → AreEntered (link_from kind order bytes) [] (Some first) others
+      → (rest : List ℕ) × (offsets ≡ others ++ rest)
 
 abbrev pub IsLongestChain : Type 0
 IsLongestChain = (kind : FileKind) (order : ByteOrder) (bytes : List ℕ) (first : ℕ)

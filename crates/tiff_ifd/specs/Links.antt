@@ -50,9 +50,12 @@ module _ (links : Links) where
 -- accepted links: it adds this link.
 abbrev pub Inserts : Links → ℕ → Option ℕ → Result Bool TiffError → Links → Type 0
 Inserts links from to (Ok false) after = (get links from ≡ Some (link_target to)) × (after ≡ links)
-Inserts links from to (Ok true) after = IsNew links from (link_target to) × (after ≡ insert links from (link_target to))
+Inserts links from to (Ok true) after = IsNew links from (link_target to)
+    × (after ≡ insert links from (link_target to))
 Inserts links from to (Err e) after =
-    (e ≡ FormatError CycleInOffsets) × (HasAnother links from (link_target to) ⊎ IsClosing links from (link_target to)) × (after ≡ links)
+    (e ≡ FormatError CycleInOffsets)
+    × (HasAnother links from (link_target to) ⊎ IsClosing links from (link_target to))
+    × (after ≡ links)
 
 -- ---- its laws
 
@@ -63,5 +66,8 @@ IsAnswered = (links : Links) (from : ℕ) (to : Option ℕ)
 
 -- each link that is offered has at most one result, and one set of accepted links after it
 abbrev pub IsOneAnswer : Type 0
-IsOneAnswer = (links : Links) (from : ℕ) (to : Option ℕ) (answer other : Result Bool TiffError) (after last : Links)
-    → Inserts links from to answer after → Inserts links from to other last → (answer ≡ other) × (after ≡ last)
+IsOneAnswer =
+    (links : Links) (from : ℕ) (to : Option ℕ) (answer other : Result Bool TiffError)
+    (after last : Links)
+    → Inserts links from to answer after → Inserts links from to other last → (answer ≡ other)
+    × (after ≡ last)

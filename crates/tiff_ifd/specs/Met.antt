@@ -7,7 +7,8 @@ use Rattle.std.specs.Ordering.{nat_cmp}
 -- The keys of a tree are exactly the first `count` offsets.
 pub record HasFirst (offsets keys : List ℕ) (count : ℕ) : Type 0 where
   pub within : count ≤ length offsets
-  pub same : (offset : ℕ) → list_any (is_at (nat_cmp offset)) keys ≡ list_any (nat_eq offset) (take count offsets)
+  pub same : (offset : ℕ)
+      → list_any (is_at (nat_cmp offset)) keys ≡ list_any (nat_eq offset) (take count offsets)
 
 -- No offset is above `highest`, and the keys of a tree are the first `count` offsets.
 pub record AreMet (offsets : List ℕ) (highest : ℕ) (keys : List ℕ) (count : ℕ) : Type 0 where

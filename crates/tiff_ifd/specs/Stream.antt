@@ -22,9 +22,16 @@ offset_behind (Ok x) len offset = offset + len
 offset_behind (Err e) len offset = offset
 
 -- The call reads the number of this width at the offset, and returns it as `as_number` converts it.
-pub record NumberRead {X : Type 0} (w : Width) (as_number : ℕ → X) (result : Result X TiffError) (old new : Reading) : Type 0 where
-  pub answer : AnswersWithoutMemory (λ x. x) result (number_at old.order w old.bytes old.offset >>= λ n. Ok (as_number n)) old.failures new.failures
-  pub stands : new ≡ record old { failures = new.failures; offset = offset_behind result (byte_len w) old.offset }
+pub record NumberRead {X : Type 0} (w : Width) (as_number : ℕ → X) (result : Result X TiffError)
+    (old new : Reading) : Type 0 where
+  pub answer : AnswersWithoutMemory (λ x. x) result
+      (number_at old.order w old.bytes old.offset >>= λ n. Ok (as_number n)) old.failures
+      new.failures
+  pub stands : new
+      ≡ record old {
+        failures = new.failures;
+        offset = offset_behind result (byte_len w) old.offset;
+      }
   pub failures : old.failures ≤ new.failures
   pub swallowed : NoneSwallowed result old.failures new.failures
 

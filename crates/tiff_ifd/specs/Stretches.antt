@@ -30,21 +30,28 @@ abbrev pub HeaderReadable : SourceRecord → Type 0
 HeaderReadable source = AreReadable source 0 (header_len source.bytes)
 
 -- The source can read the entry count and the link of the directory at an offset.
-pub record LinkReadable (source : SourceRecord) (kind : FileKind) (order : ByteOrder) (at : ℕ) : Type 0 where
+pub record LinkReadable (source : SourceRecord) (kind : FileKind) (order : ByteOrder) (at : ℕ)
+    : Type 0 where
   pub count : AreReadable source at (byte_len (count_width kind))
   pub link : (n : ℕ) → number_at order (count_width kind) source.bytes at ≡ Ok n
       → AreReadable source (link_offset kind at n) (byte_len (offset_width kind))
 
 -- The source can read the whole directory at an offset: its count, its entries and its link.
-pub record DirectoryReadable (source : SourceRecord) (kind : FileKind) (order : ByteOrder) (at : ℕ) : Type 0 where
+pub record DirectoryReadable (source : SourceRecord) (kind : FileKind) (order : ByteOrder) (at : ℕ)
+    : Type 0 where
   pub count : AreReadable source at (byte_len (count_width kind))
   pub entries : (n : ℕ) → number_at order (count_width kind) source.bytes at ≡ Ok n
-      → AreReadable source (at + byte_len (count_width kind)) (entry_len kind * n + byte_len (offset_width kind))
+      → AreReadable source (at + byte_len (count_width kind))
+      (entry_len kind * n + byte_len (offset_width kind))
 
 -- The source can read the values of a field where they are outside the entry.
-pub record FieldReadable (source : SourceRecord) (kind : FileKind) (order : ByteOrder) (f : Field) : Type 0 where
-  pub placed : byte_len (offset_width kind) < field_len f → AreReadable source (field_offset kind order f) (field_len f)
+pub record FieldReadable (source : SourceRecord) (kind : FileKind) (order : ByteOrder) (f : Field)
+    : Type 0 where
+  pub placed : byte_len (offset_width kind) < field_len f
+      → AreReadable source (field_offset kind order f) (field_len f)
 
 -- The source can read the values of a tag, if the directory has the tag.
-pub record TagReadable (source : SourceRecord) (kind : FileKind) (order : ByteOrder) (directory : DirectoryRecord) (tag : Tag) : Type 0 where
-  pub field : (f : Field) → get directory.entries (tag_number tag) ≡ Some f → FieldReadable source kind order f
+pub record TagReadable (source : SourceRecord) (kind : FileKind) (order : ByteOrder)
+    (directory : DirectoryRecord) (tag : Tag) : Type 0 where
+  pub field : (f : Field) → get directory.entries (tag_number tag) ≡ Some f
+      → FieldReadable source kind order f

@@ -16,7 +16,8 @@ use Rattle.tiff_ifd.specs.Into.{into_u64_vec}
 use Rattle.tiff_ifd.specs.declared.limits.Limits.{Limits}
 
 -- the numbers of a field of any type
-abbrev pub field_numbers : FileKind → ByteOrder → List ℕ → Limits → Field → Result (List ℕ) TiffError
+abbrev pub field_numbers : FileKind → ByteOrder → List ℕ → Limits → Field
+    → Result (List ℕ) TiffError
 field_numbers kind order bytes limits e = field_value kind order bytes limits e >>= into_u64_vec
 
 -- the numbers of values outside the entry, from their bytes
@@ -24,7 +25,8 @@ abbrev pub numbers_from : «Type» → ByteOrder → ℕ → List ℕ → Result
 numbers_from type order n bs = value_from false type order n bs >>= into_u64_vec
 
 -- the numbers of a field whose values are outside the entry
-abbrev pub placed_numbers : FileKind → ByteOrder → List ℕ → Limits → Field → Result (List ℕ) TiffError
+abbrev pub placed_numbers : FileKind → ByteOrder → List ℕ → Limits → Field
+    → Result (List ℕ) TiffError
 placed_numbers kind order bytes limits e =
     if is_allowed limits e.field_type e.count
     then (field_bytes kind order bytes e >>= λ found. numbers_from e.field_type order e.count found)

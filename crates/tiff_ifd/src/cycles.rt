@@ -84,7 +84,8 @@ impl IfdCycles {
     #[tactic(auto, using(crate::proofs::Followed::still_here, crate::proofs::Followed::gone_on, crate::proofs::Followed::met, crate::proofs::Followed::ended, crate::proofs::Followed::too_far))]
     fn goes(&self, to: u64, from: u64) -> bool
         requires { map.get self.now from ≡ None }
-        ensures { MatchBool result (Closes self.now from (Some to)) (Closes self.now from (Some to) → ⊥) }
+        ensures { MatchBool result (Closes self.now from (Some to)) (Closes self.now from (Some to)
+            → ⊥) }
     {
         let mut offset = to;
         for _step in 0..self.len() {
@@ -102,9 +103,11 @@ impl IfdCycles {
     // Accepts the link of an offset without a link, unless the link closes a cycle.
     fn insert_new(&mut self, from: u64, to: Option<u64>) -> TiffResult<bool>
         requires { map.get self.old from ≡ None }
-        ensures ok { IfOk result (λ new. (new ≡ true) × IsNew self.old from to × (self.new ≡ map.insert self.old from to)) }
+        ensures ok { IfOk result (λ new. (new ≡ true) × IsNew self.old from to
+            × (self.new ≡ map.insert self.old from to)) }
         ensures err { IfErr result (λ e. IsCause (IsNew self.old from to × (self.new ≡ self.old)) ⊥ e
-            ((e ≡ tiff.FormatError format.CycleInOffsets) × IsClosing self.old from to × (self.new ≡ self.old))) }
+            ((e ≡ tiff.FormatError format.CycleInOffsets) × IsClosing self.old from to
+            × (self.new ≡ self.old))) }
     {
         if let Some(to) = to
             && self.goes(to, from)
@@ -121,8 +124,11 @@ impl IfdCycles {
     /// links lead from `to` to `from`. Returns `OutOfMemory` only for a link that it would
     /// otherwise accept. After an error the accepted links are unchanged.
     pub fn insert_next(&mut self, from: IfdPointer, to: Option<IfdPointer>) -> TiffResult<bool>
-        ensures ok { IfOk result (λ new. Inserts self.old from.0 (option_map (λ p. p.0) to) (Ok new) self.new) }
-        ensures err { IfErr result (λ e. IsCause (IsNew self.old from.0 (link_target (option_map (λ p. p.0) to)) × (self.new ≡ self.old)) ⊥ e
+        ensures ok { IfOk result
+            (λ new. Inserts self.old from.0 (option_map (λ p. p.0) to) (Ok new) self.new) }
+        ensures err { IfErr result
+            (λ e. IsCause (IsNew self.old from.0 (link_target (option_map (λ p. p.0) to))
+            × (self.new ≡ self.old)) ⊥ e
             (Inserts self.old from.0 (option_map (λ p. p.0) to) (Err e) self.new)) }
         ensures stays { OnErr result (self.new ≡ self.old) }
     {

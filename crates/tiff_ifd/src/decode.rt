@@ -78,7 +78,8 @@ fn read_entry_at<R: Source>(
     order: ByteOrder,
 ) -> TiffResult<Option<(u16, Entry)>>
     ensures kept { IsKept R.told R.failures result source.old source.new }
-    ensures answer { AnswersWithoutMemory (λ e. e) result (entry_at kind order (R.told source.old).bytes at) (R.failures source.old) (R.failures source.new) }
+    ensures answer { AnswersWithoutMemory (λ e. e) result (entry_at kind order (R.told source.old).bytes at)
+        (R.failures source.old) (R.failures source.new) }
     ensures asked { AsksOnly (AreReadable (R.told source.old) at (entry_len kind)) result }
 {
     let mut buf = [0u8; 20];
@@ -95,7 +96,9 @@ fn read_count_at<R: Source>(
     order: ByteOrder,
 ) -> TiffResult<u64>
     ensures kept { IsKept R.told R.failures result source.old source.new }
-    ensures answer { AnswersWithoutMemory (λ n. n) result (number_at order (count_width kind) (R.told source.old).bytes at) (R.failures source.old) (R.failures source.new) }
+    ensures answer { AnswersWithoutMemory (λ n. n) result
+        (number_at order (count_width kind) (R.told source.old).bytes at) (R.failures source.old)
+        (R.failures source.new) }
     ensures asked { AsksOnly (AreReadable (R.told source.old) at (byte_len (count_width kind))) result }
 {
     match kind {
@@ -113,7 +116,9 @@ pub fn read_link_at<R: Source>(
     order: ByteOrder,
 ) -> TiffResult<u64>
     ensures kept { IsKept R.told R.failures result source.old source.new }
-    ensures answer { AnswersWithoutMemory (λ n. n) result (number_at order (offset_width kind) (R.told source.old).bytes at) (R.failures source.old) (R.failures source.new) }
+    ensures answer { AnswersWithoutMemory (λ n. n) result
+        (number_at order (offset_width kind) (R.told source.old).bytes at) (R.failures source.old)
+        (R.failures source.new) }
     ensures asked { AsksOnly (AreReadable (R.told source.old) at (byte_len (offset_width kind))) result }
 {
     match kind {
@@ -144,10 +149,12 @@ fn read_entries<R: Source>(
     order: ByteOrder,
 ) -> TiffResult<(Vec<(u16, Entry)>, u64)>
     ensures kept { IsKept R.told R.failures result source.old source.new }
-    ensures fields { IfOk result (λ r. r.0.items ≡ entries_from kind order (R.told source.old).bytes first count) }
+    ensures fields { IfOk result
+        (λ r. r.0.items ≡ entries_from kind order (R.told source.old).bytes first count) }
     ensures offset { IfOk result (λ r. r.1 ≡ first + entry_len kind * count) }
     ensures cut { IfErr result (λ e. IsCause (Unit {0}) (R.failures source.old < R.failures source.new) e
-        ((e ≡ tiff.IoError io_kind.UnexpectedEof) × (length (R.told source.old).bytes ≤ first + entry_len kind * count))) }
+        ((e ≡ tiff.IoError io_kind.UnexpectedEof)
+        × (length (R.told source.old).bytes ≤ first + entry_len kind * count))) }
     ensures asked { AsksOnly (AreReadable (R.told source.old) first (entry_len kind * count)) result }
 {
     let mut entries = Vec::new(alloc);
@@ -171,7 +178,8 @@ pub fn read_directory<R: Source>(
     order: ByteOrder,
 ) -> TiffResult<Directory>
     ensures kept { IsKept R.told R.failures result source.old source.new }
-    ensures answer { Answers (λ d. d) result (directory_at kind order (R.told source.old).bytes at) (R.failures source.old) (R.failures source.new) }
+    ensures answer { Answers (λ d. d) result (directory_at kind order (R.told source.old).bytes at)
+        (R.failures source.old) (R.failures source.new) }
     ensures asked { AsksOnly (DirectoryReadable (R.told source.old) kind order at) result }
 {
     let count = read_count_at(source, at, kind, order)?;
@@ -205,7 +213,8 @@ pub fn read_link_of<R: Source>(
     order: ByteOrder,
 ) -> TiffResult<Option<u64>>
     ensures kept { IsKept R.told R.failures result source.old source.new }
-    ensures answer { AnswersWithoutMemory (λ n. n) result (link_of kind order (R.told source.old).bytes at) (R.failures source.old) (R.failures source.new) }
+    ensures answer { AnswersWithoutMemory (λ n. n) result (link_of kind order (R.told source.old).bytes at)
+        (R.failures source.old) (R.failures source.new) }
     ensures asked { AsksOnly (LinkReadable (R.told source.old) kind order at) result }
 {
     let count = read_count_at(source, at, kind, order)?;

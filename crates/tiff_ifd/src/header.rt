@@ -21,7 +21,8 @@ pub struct FileHeader {
 
 fn read_order<R: Source>(source: &mut R) -> TiffResult<ByteOrder>
     ensures kept { IsKept R.told R.failures result source.old source.new }
-    ensures answer { AnswersWithoutMemory (λ o. o) result (order_at (R.told source.old).bytes) (R.failures source.old) (R.failures source.new) }
+    ensures answer { AnswersWithoutMemory (λ o. o) result (order_at (R.told source.old).bytes)
+        (R.failures source.old) (R.failures source.new) }
     ensures asked { AsksOnly (AreReadable (R.told source.old) 0 2) result }
 {
     let mark = match read_u16_at(source, 0, ByteOrder::LittleEndian) {
@@ -46,7 +47,8 @@ fn read_order<R: Source>(source: &mut R) -> TiffResult<ByteOrder>
 #[tactic(auto, unfolding(tiff_base::specs::Header::header_at))]
 pub fn read_header<R: Source>(source: &mut R) -> TiffResult<FileHeader>
     ensures kept { IsKept R.told R.failures result source.old source.new }
-    ensures answer { AnswersWithoutMemory (λ h. record { order = h.order; kind = h.kind; first = h.first }) result (header_at (R.told source.old).bytes) (R.failures source.old) (R.failures source.new) }
+    ensures answer { AnswersWithoutMemory (λ h. record { order = h.order; kind = h.kind; first = h.first })
+        result (header_at (R.told source.old).bytes) (R.failures source.old) (R.failures source.new) }
     ensures asked { AsksOnly (HeaderReadable (R.told source.old)) result }
 {
     let order = read_order(source)?;

@@ -30,7 +30,11 @@ impl Limits {
 }
 
 impl Default for Limits {
-    ghost is_default = { λ l. l ≡ record { decoding_buffer_size = 268435456; ifd_value_size = 1048576; intermediate_buffer_size = 134217728 } };
+    ghost is_default = { λ l. l ≡ record {
+      decoding_buffer_size = 268435456;
+      ifd_value_size = 1048576;
+      intermediate_buffer_size = 134217728;
+    } };
 
     /// The default limits: 256 MiB, 1 MiB and 128 MiB.
     fn default() -> Self {

@@ -2,9 +2,9 @@
 
 ghost use Rattle.std.specs.Prelude.{◌≡◌, ℕ, ◌≤◌, ◌^◌, option_map};
 ghost use Rattle.tiff_base.specs.Answers.{IsKept};
-ghost use Rattle.tiff_ifd.specs.View.{datum};
+ghost use Rattle.tiff_ifd.specs.View.{plain_value};
 ghost use Rattle.tiff_ifd.specs.Into as into;
-ghost use Rattle.tiff_ifd.specs.Look.{AnswersFound, AsksForTag, find, require};
+ghost use Rattle.tiff_ifd.specs.TagLookup.{AnswersFound, AsksForTag, find, require};
 
 use crate::value::Value;
 use std::alloc::Global;
@@ -13,7 +13,7 @@ use tiff_base::tags::Tag;
 
 /// The tags of a directory, and their values.
 pub trait Tags {
-    ghost use Rattle.tiff_ifd.specs.Look.{DirectoryTags};
+    ghost use Rattle.tiff_ifd.specs.TagLookup.{DirectoryTags};
 
     /// The tags that the directory has, the value of each, and the file that they are from.
     ghost told: { Self → DirectoryTags };
@@ -29,22 +29,26 @@ pub trait Tags {
     /// memory only for a tag that the directory has, within the limits and the source.
     fn find(&mut self, alloc: Global, tag: Tag) -> TiffResult<Option<Value>>
         ensures kept { IsKept told failures result self.old self.new }
-        ensures answer { AnswersFound (λ v. option_map datum v) result ((told self.old).look.value tag) (told self.old).look tag (failures self.old) (failures self.new) }
+        ensures answer { AnswersFound (λ v. option_map plain_value v) result ((told self.old).look.value tag)
+            (told self.old).look tag (failures self.old) (failures self.new) }
         ensures asked { AsksForTag (told self.old) tag result };
 
     /// Reads the numbers of a tag, converted as by `Value::into_u64_vec`. Returns `None` if the
     /// directory does not have the tag.
     fn find_u64_vec(&mut self, alloc: Global, tag: Tag) -> TiffResult<Option<Vec<u64>>>
         ensures kept { IsKept told failures result self.old self.new }
-        ensures answer { AnswersFound (λ o. option_map (λ v. v.items) o) result (find into.into_u64_vec (told self.old).look tag) (told self.old).look tag (failures self.old) (failures self.new) }
+        ensures answer { AnswersFound (λ o. option_map (λ v. v.items) o) result
+            (find into.into_u64_vec (told self.old).look tag) (told self.old).look tag
+            (failures self.old) (failures self.new) }
         ensures asked { AsksForTag (told self.old) tag result };
 }
 
 /// Reads the number of a tag, below 2^16. Returns `None` if the directory does not have the tag.
-#[tactic(auto, unfolding(crate::specs::Look::find))]
+#[tactic(auto, unfolding(crate::specs::TagLookup::find))]
 pub fn find_u16<T: Tags>(tags: &mut T, alloc: Global, tag: Tag) -> TiffResult<Option<u16>>
     ensures kept { IsKept T.told T.failures result tags.old tags.new }
-    ensures answer { AnswersFound (λ n. n) result (find into.into_u16 (T.told tags.old).look tag) (T.told tags.old).look tag (T.failures tags.old) (T.failures tags.new) }
+    ensures answer { AnswersFound (λ n. n) result (find into.into_u16 (T.told tags.old).look tag)
+        (T.told tags.old).look tag (T.failures tags.old) (T.failures tags.new) }
     ensures asked { AsksForTag (T.told tags.old) tag result }
 {
     match tags.find(alloc, tag)? {
@@ -54,10 +58,11 @@ pub fn find_u16<T: Tags>(tags: &mut T, alloc: Global, tag: Tag) -> TiffResult<Op
 }
 
 /// Reads the number of a tag, below 2^32. Returns `None` if the directory does not have the tag.
-#[tactic(auto, unfolding(crate::specs::Look::find))]
+#[tactic(auto, unfolding(crate::specs::TagLookup::find))]
 pub fn find_u32<T: Tags>(tags: &mut T, alloc: Global, tag: Tag) -> TiffResult<Option<u32>>
     ensures kept { IsKept T.told T.failures result tags.old tags.new }
-    ensures answer { AnswersFound (λ n. n) result (find into.into_u32 (T.told tags.old).look tag) (T.told tags.old).look tag (T.failures tags.old) (T.failures tags.new) }
+    ensures answer { AnswersFound (λ n. n) result (find into.into_u32 (T.told tags.old).look tag)
+        (T.told tags.old).look tag (T.failures tags.old) (T.failures tags.new) }
     ensures asked { AsksForTag (T.told tags.old) tag result }
 {
     match tags.find(alloc, tag)? {
@@ -67,10 +72,12 @@ pub fn find_u32<T: Tags>(tags: &mut T, alloc: Global, tag: Tag) -> TiffResult<Op
 }
 
 /// Reads the numbers of a tag, below 2^16. Returns `None` if the directory does not have the tag.
-#[tactic(auto, unfolding(crate::specs::Look::find))]
+#[tactic(auto, unfolding(crate::specs::TagLookup::find))]
 pub fn find_u16_vec<T: Tags>(tags: &mut T, alloc: Global, tag: Tag) -> TiffResult<Option<Vec<u16>>>
     ensures kept { IsKept T.told T.failures result tags.old tags.new }
-    ensures answer { AnswersFound (λ o. option_map (λ v. v.items) o) result (find into.into_u16_vec (T.told tags.old).look tag) (T.told tags.old).look tag (T.failures tags.old) (T.failures tags.new) }
+    ensures answer { AnswersFound (λ o. option_map (λ v. v.items) o) result
+        (find into.into_u16_vec (T.told tags.old).look tag) (T.told tags.old).look tag
+        (T.failures tags.old) (T.failures tags.new) }
     ensures asked { AsksForTag (T.told tags.old) tag result }
 {
     match tags.find(alloc, tag)? {
@@ -81,10 +88,11 @@ pub fn find_u16_vec<T: Tags>(tags: &mut T, alloc: Global, tag: Tag) -> TiffResul
 
 /// Reads the number of a required tag, below 2^32. Returns `RequiredTagNotFound` if the directory
 /// does not have the tag.
-#[tactic(auto, unfolding(crate::specs::Look::require))]
+#[tactic(auto, unfolding(crate::specs::TagLookup::require))]
 pub fn require_u32<T: Tags>(tags: &mut T, alloc: Global, tag: Tag) -> TiffResult<u32>
     ensures kept { IsKept T.told T.failures result tags.old tags.new }
-    ensures answer { AnswersFound (λ n. n) result (require into.into_u32 (T.told tags.old).look tag) (T.told tags.old).look tag (T.failures tags.old) (T.failures tags.new) }
+    ensures answer { AnswersFound (λ n. n) result (require into.into_u32 (T.told tags.old).look tag)
+        (T.told tags.old).look tag (T.failures tags.old) (T.failures tags.new) }
     ensures asked { AsksForTag (T.told tags.old) tag result }
 {
     match find_u32(tags, alloc, tag)? {
@@ -95,10 +103,11 @@ pub fn require_u32<T: Tags>(tags: &mut T, alloc: Global, tag: Tag) -> TiffResult
 
 /// Reads the numbers of a required tag. Returns `RequiredTagNotFound` if the directory does not
 /// have the tag.
-#[tactic(auto, unfolding(crate::specs::Look::require))]
+#[tactic(auto, unfolding(crate::specs::TagLookup::require))]
 pub fn require_u64_vec<T: Tags>(tags: &mut T, alloc: Global, tag: Tag) -> TiffResult<Vec<u64>>
     ensures kept { IsKept T.told T.failures result tags.old tags.new }
-    ensures answer { AnswersFound (λ v. v.items) result (require into.into_u64_vec (T.told tags.old).look tag) (T.told tags.old).look tag (T.failures tags.old) (T.failures tags.new) }
+    ensures answer { AnswersFound (λ v. v.items) result (require into.into_u64_vec (T.told tags.old).look tag)
+        (T.told tags.old).look tag (T.failures tags.old) (T.failures tags.new) }
     ensures asked { AsksForTag (T.told tags.old) tag result }
 {
     match tags.find_u64_vec(alloc, tag)? {

@@ -26,7 +26,7 @@ enum Block {
 /// bytes behind it. A [`PackBitsReader`] is a position with its source. Each call on a position
 /// takes the source as an argument, and the caller passes the same source each time.
 #[derive(Clone, Copy, Debug)]
-pub struct PackedPosition {
+pub struct PackBitsCursor {
     block: Block,
     at: u64,
     len: u64,
@@ -47,7 +47,8 @@ impl Block {
 #[tactic(auto, using(crate::proofs::Unpacking::byte_there, crate::proofs::Unpacking::byte_missing))]
 fn read_byte<R: Source>(source: &mut R, at: u64) -> TiffResult<u8>
     ensures kept { IsKept R.told R.failures result source.old source.new }
-    ensures byte { ReadsByte (R.told source.old).bytes at (R.failures source.old < R.failures source.new) result }
+    ensures byte { ReadsByte (R.told source.old).bytes at (R.failures source.old < R.failures source.new)
+        result }
     ensures asked { AsksOnly (AreReadable (R.told source.old) at 1) result }
 {
     let mut byte = [0u8; 1];
@@ -56,9 +57,10 @@ fn read_byte<R: Source>(source: &mut R, at: u64) -> TiffResult<u8>
 }
 
 // Finds the next block of packed bytes. Skips headers of 128, which encode no bytes.
-fn next_block<R: Source>(source: &mut R, at: u64, len: u64) -> TiffResult<Option<PackedPosition>>
+fn next_block<R: Source>(source: &mut R, at: u64, len: u64) -> TiffResult<Option<PackBitsCursor>>
     ensures kept { IsKept R.told R.failures result source.old source.new }
-    ensures block { Finds (R.told source.old).bytes (unpacked_at (R.told source.old).bytes at len) (R.failures source.old < R.failures source.new) result }
+    ensures block { Finds (R.told source.old).bytes (unpacked_at (R.told source.old).bytes at len)
+        (R.failures source.old < R.failures source.new) result }
     ensures asked { AsksOnly (AreReadable (R.told source.old) at len) result }
     ensures rest { FindsLastPart at len result }
 {
@@ -70,14 +72,14 @@ fn next_block<R: Source>(source: &mut R, at: u64, len: u64) -> TiffResult<Option
         len -= 1;
         if header < 128 {
             let block = Block::Literal(usize::from(header) + 1);
-            return Ok(Some(PackedPosition { block, at, len }));
+            return Ok(Some(PackBitsCursor { block, at, len }));
         }
         if header > 128 {
             if len == 0 {
                 return Err(TiffError::IoError(IoKind::UnexpectedEof));
             }
             let value = read_byte(source, at)?;
-            return Ok(Some(PackedPosition {
+            return Ok(Some(PackBitsCursor {
                 block: Block::Run(value, 257 - usize::from(header)),
                 at: at + 1,
                 len: len - 1,
@@ -92,10 +94,11 @@ fn next_block<R: Source>(source: &mut R, at: u64, len: u64) -> TiffResult<Option
 #[tactic(auto, using(crate::proofs::Unpacking::used_up))]
 fn begun_block<R: Source>(
     source: &mut R,
-    offset: PackedPosition,
-) -> TiffResult<Option<PackedPosition>>
+    offset: PackBitsCursor,
+) -> TiffResult<Option<PackBitsCursor>>
     ensures kept { IsKept R.told R.failures result source.old source.new }
-    ensures block { Finds (R.told source.old).bytes (left_at (R.told source.old).bytes offset) (R.failures source.old < R.failures source.new) result }
+    ensures block { Finds (R.told source.old).bytes (left_at (R.told source.old).bytes offset)
+        (R.failures source.old < R.failures source.new) result }
     ensures asked { AsksOnly (PackedReadable (R.told source.old) offset) result }
     ensures rest { FindsLastPart offset.at offset.len result }
 {
@@ -109,15 +112,16 @@ fn begun_block<R: Source>(
 // packed bytes end.
 fn read_literal<R: Source>(
     source: &mut R,
-    offset: PackedPosition,
+    offset: PackBitsCursor,
     count: usize,
     buf: &mut [u8],
-) -> TiffResult<(usize, PackedPosition)>
+) -> TiffResult<(usize, PackBitsCursor)>
     requires literal { offset.block ≡ Literal count }
     requires begun { 0 < count }
     requires some { 0 < length buf.old }
     ensures kept { IsKept R.told R.failures result source.old source.new }
-    ensures bytes { ReadsBlock (R.told source.old).bytes offset (R.failures source.old < R.failures source.new) buf.old buf.new result }
+    ensures bytes { ReadsBlock (R.told source.old).bytes offset
+        (R.failures source.old < R.failures source.new) buf.old buf.new result }
     ensures asked { AsksOnly (PackedReadable (R.told source.old) offset) result }
     ensures rest { IfOk result (λ r. IsLastPart offset.at offset.len r.1) }
 {
@@ -125,7 +129,7 @@ fn read_literal<R: Source>(
     let n = source.read_at(offset.at, &mut buf[..most])?;
     Ok((
         n,
-        PackedPosition {
+        PackBitsCursor {
             block: Block::Literal(count - n),
             at: offset.at + n as u64,
             len: offset.len - n as u64,
@@ -135,22 +139,23 @@ fn read_literal<R: Source>(
 
 // Writes bytes of a run.
 fn repeat(
-    offset: PackedPosition,
+    offset: PackBitsCursor,
     value: u8,
     count: usize,
     buf: &mut [u8],
-) -> (usize, PackedPosition)
+) -> (usize, PackBitsCursor)
     requires run { offset.block ≡ Run value count }
     requires begun { 0 < count }
     requires some { 0 < length buf.old }
-    ensures bytes { (bytes : List ℕ) → GivesNext (left_at bytes offset) buf.old result.0 buf.new (left_at bytes result.1) }
+    ensures bytes { (bytes : List ℕ)
+        → GivesNext (left_at bytes offset) buf.old result.0 buf.new (left_at bytes result.1) }
     ensures rest { IsLastPart offset.at offset.len result.1 }
 {
     let n = count.min(buf.len());
     buf[..n].fill(value);
     (
         n,
-        PackedPosition {
+        PackBitsCursor {
             block: Block::Run(value, count - n),
             at: offset.at,
             len: offset.len,
@@ -161,13 +166,14 @@ fn repeat(
 // Reads bytes of a block that has some left.
 fn read_block<R: Source>(
     source: &mut R,
-    offset: PackedPosition,
+    offset: PackBitsCursor,
     buf: &mut [u8],
-) -> TiffResult<(usize, PackedPosition)>
+) -> TiffResult<(usize, PackBitsCursor)>
     requires begun { 0 < count_of offset.block }
     requires some { 0 < length buf.old }
     ensures kept { IsKept R.told R.failures result source.old source.new }
-    ensures bytes { ReadsBlock (R.told source.old).bytes offset (R.failures source.old < R.failures source.new) buf.old buf.new result }
+    ensures bytes { ReadsBlock (R.told source.old).bytes offset
+        (R.failures source.old < R.failures source.new) buf.old buf.new result }
     ensures asked { AsksOnly (PackedReadable (R.told source.old) offset) result }
     ensures rest { IfOk result (λ r. IsLastPart offset.at offset.len r.1) }
 {
@@ -226,14 +232,14 @@ fn unpack_blocks(packed: &[u8], buf: &mut [u8]) -> (usize, usize)
     (used, done)
 }
 
-impl PackedPosition {
+impl PackBitsCursor {
     /// A position before the `length` packed bytes from `at` on. The source may end before the last
     /// of them.
     pub fn new(at: u64, length: u64) -> Self
         ensures rest { (bytes : List ℕ) → left_at bytes result ≡ unpacked_at bytes at length }
         ensures stretch { (result.at ≡ at) × (result.len ≡ length) }
     {
-        PackedPosition {
+        PackBitsCursor {
             block: Block::Literal(0),
             at,
             len: length,
@@ -242,9 +248,11 @@ impl PackedPosition {
 
     /// Reads as [`PackBitsReader::read`] does, from a source that the caller lends.
     pub fn read<R: Source>(&mut self, source: &mut R, buf: &mut [u8]) -> TiffResult<usize>
-        ensures empty { length buf.old ≡ 0 → (result ≡ Ok 0) × ((self.new ≡ self.old) × (source.new ≡ source.old)) }
+        ensures empty { length buf.old ≡ 0 → (result ≡ Ok 0)
+            × ((self.new ≡ self.old) × (source.new ≡ source.old)) }
         ensures kept { IsKept R.told R.failures result source.old source.new }
-        ensures piece { PieceReads result (unpacking R.told R.failures source.old self.old) (unpacking R.told R.failures source.new self.new) buf.old buf.new }
+        ensures piece { PieceReads result (unpacking R.told R.failures source.old self.old)
+            (unpacking R.told R.failures source.new self.new) buf.old buf.new }
         ensures asked { AsksOnly (PackedReadable (R.told source.old) self.old) result }
         ensures behind { IsLastPart self.old.at self.old.len self.new }
     {
@@ -263,7 +271,8 @@ impl PackedPosition {
     // once.
     fn read_blocks<R: Source>(&mut self, source: &mut R, buf: &mut [u8]) -> TiffResult<usize>
         ensures kept { IsKept R.told R.failures result source.old source.new }
-        ensures piece { PieceReads result (unpacking R.told R.failures source.old self.old) (unpacking R.told R.failures source.new self.new) buf.old buf.new }
+        ensures piece { PieceReads result (unpacking R.told R.failures source.old self.old)
+            (unpacking R.told R.failures source.new self.new) buf.old buf.new }
         ensures asked { AsksOnly (PackedReadable (R.told source.old) self.old) result }
         ensures behind { IsLastPart self.old.at self.old.len self.new }
     {
@@ -287,8 +296,12 @@ impl PackedPosition {
     #[tactic(auto, using(crate::proofs::Unpacking::short_by, crate::proofs::Unpacking::short_cause))]
     fn fill<R: Source>(&mut self, source: &mut R, buf: &mut [u8]) -> TiffResult<()>
         ensures kept { IsKept R.told R.failures result source.old source.new }
-        ensures ok { OnOk result (left_at (R.told source.old).bytes self.old ≡ with_front buf.new (left_at (R.told source.old).bytes self.new)) }
-        ensures err { IfErr result (λ e. IsCause ⊥ (R.failures source.old < R.failures source.new) e (HasTooFew (left_at (R.told source.old).bytes self.old) (length buf.old) e)) }
+        ensures ok { OnOk result
+            (left_at (R.told source.old).bytes self.old
+            ≡ with_front buf.new (left_at (R.told source.old).bytes self.new)) }
+        ensures err { IfErr result
+            (λ e. IsCause ⊥ (R.failures source.old < R.failures source.new) e
+            (HasTooFew (left_at (R.told source.old).bytes self.old) (length buf.old) e)) }
         ensures asked { AsksOnly (PackedReadable (R.told source.old) self.old) result }
         ensures behind { IsLastPart self.old.at self.old.len self.new }
     {
@@ -306,7 +319,8 @@ impl PackedPosition {
     /// Reads as [`PackBitsReader::read_exact`] does, from a source that the caller lends.
     pub fn read_exact<R: Source>(&mut self, source: &mut R, buf: &mut [u8]) -> TiffResult<()>
         ensures kept { IsKept R.told R.failures result source.old source.new }
-        ensures filled { Fills result (unpacking R.told R.failures source.old self.old) (unpacking R.told R.failures source.new self.new) buf.new }
+        ensures filled { Fills result (unpacking R.told R.failures source.old self.old)
+            (unpacking R.told R.failures source.new self.new) buf.new }
         ensures asked { AsksOnly (PackedReadable (R.told source.old) self.old) result }
         ensures behind { IsLastPart self.old.at self.old.len self.new }
     {
@@ -322,7 +336,7 @@ impl PackedPosition {
 #[derive(Debug, Drop)]
 pub struct PackBitsReader<R: Source> {
     source: R,
-    offset: PackedPosition,
+    offset: PackBitsCursor,
 }
 
 impl<R: Source> Model for PackBitsReader<R> {
@@ -337,11 +351,15 @@ impl<R: Source> PackBitsReader<R> {
     /// A reader of the `length` packed bytes from `at` on. The source may end before the last of
     /// them.
     pub fn new(source: R, at: u64, length: u64) -> Self
-        ensures { result ≡ record { bytes = (R.told source).bytes; failures = R.failures source; rest = unpacked_at (R.told source).bytes at length } }
+        ensures { result ≡ record {
+          bytes = (R.told source).bytes;
+          failures = R.failures source;
+          rest = unpacked_at (R.told source).bytes at length;
+        } }
     {
         PackBitsReader {
             source,
-            offset: PackedPosition::new(at, length),
+            offset: PackBitsCursor::new(at, length),
         }
     }
 

@@ -53,8 +53,10 @@ pub fn read_field_bytes<R: Source>(
     entry: &Entry,
 ) -> TiffResult<Vec<u8>>
     ensures kept { IsKept R.told R.failures result source.old source.new }
-    ensures answer { AnswersSparingly (λ v. record { order = order; data_type = entry.now.field_type; bytes = v.items }) result
-        (buffer_of kind order (R.told source.old).bytes limits.now entry.now) (R.failures source.old) (R.failures source.new) }
+    ensures answer { AnswersSparingly
+        (λ v. record { order = order; data_type = entry.now.field_type; bytes = v.items }) result
+        (buffer_of kind order (R.told source.old).bytes limits.now entry.now)
+        (R.failures source.old) (R.failures source.new) }
     ensures asked { AsksOnly (FieldReadable (R.told source.old) kind order entry.now) result }
 {
     let size = u64::from(entry.field_type().byte_len());
@@ -87,7 +89,8 @@ pub fn read_part<R: Source>(
     buf: &mut [u8],
 ) -> TiffResult<usize>
     ensures kept { IsKept R.told R.failures result source.old source.new }
-    ensures answer { AnswersWithoutMemory (λ n. take n buf.new) result (part_of_field kind order (R.told source.old).bytes entry.now (length buf.old) at)
+    ensures answer { AnswersWithoutMemory (λ n. take n buf.new) result
+        (part_of_field kind order (R.told source.old).bytes entry.now (length buf.old) at)
         (R.failures source.old) (R.failures source.new) }
     ensures asked { AsksOnly (FieldReadable (R.told source.old) kind order entry.now) result }
     ensures rest { IfOk result (λ n. (n ≤ length buf.old) × (drop n buf.new ≡ drop n buf.old)) }

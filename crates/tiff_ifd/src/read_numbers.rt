@@ -12,7 +12,7 @@ ghost use Rattle.tiff_base.specs.SourceAndSink.{bytes_at};
 ghost use Rattle.tiff_base.specs.Tags.{tag_number};
 ghost use Rattle.tiff_base.specs.Types.{type_size};
 ghost use Rattle.tiff_ifd.specs.Into.{into_u64_vec};
-ghost use Rattle.tiff_ifd.specs.Look.{AnswersFound, find, look_in};
+ghost use Rattle.tiff_ifd.specs.TagLookup.{AnswersFound, find, look_in};
 ghost use Rattle.tiff_ifd.specs.Stretches.{FieldReadable, TagReadable};
 ghost use Rattle.tiff_ifd.specs.Unsigned.{IsUnsigned, field_numbers, numbers_from, placed_numbers, unsigned_width};
 
@@ -54,7 +54,9 @@ fn unsigned_of(field_type: Type, order: ByteOrder, bytes: &[u8]) -> u64
 fn fill_numbers(field_type: Type, order: ByteOrder, bytes: &[u8], numbers: &mut [u64])
     requires numbers { IsUnsigned field_type }
     requires whole { length bytes.now ≡ length numbers.old * type_size field_type }
-    ensures { EachIndex numbers.new (λ k. slice_index numbers.new k ≡ number order (unsigned_width field_type) (bytes_at bytes.now (k * type_size field_type) (type_size field_type))) }
+    ensures { EachIndex numbers.new
+        (λ k. slice_index numbers.new k ≡ number order (unsigned_width field_type)
+        (bytes_at bytes.now (k * type_size field_type) (type_size field_type))) }
 {
     let width = usize::from(field_type.byte_len());
     for k in 0..numbers.len() {
@@ -68,7 +70,9 @@ fn fill_numbers(field_type: Type, order: ByteOrder, bytes: &[u8], numbers: &mut 
 fn fill_by_type(field_type: Type, order: ByteOrder, bytes: &[u8], numbers: &mut [u64])
     requires numbers { IsUnsigned field_type }
     requires whole { length bytes.now ≡ length numbers.old * type_size field_type }
-    ensures { EachIndex numbers.new (λ k. slice_index numbers.new k ≡ number order (unsigned_width field_type) (bytes_at bytes.now (k * type_size field_type) (type_size field_type))) }
+    ensures { EachIndex numbers.new
+        (λ k. slice_index numbers.new k ≡ number order (unsigned_width field_type)
+        (bytes_at bytes.now (k * type_size field_type) (type_size field_type))) }
 {
     match (field_type, order) {
         (Type::SHORT, ByteOrder::LittleEndian) => {
@@ -120,7 +124,9 @@ fn read_placed<R: Source>(
     requires len { len ≡ field_len entry.now }
     requires elsewhere { byte_len (offset_width kind) < len }
     ensures kept { IsKept R.told R.failures result source.old source.new }
-    ensures answer { AnswersWithin (λ v. v.items) result (placed_numbers kind order (R.told source.old).bytes limits.now entry.now) (R.failures source.old) (R.failures source.new) }
+    ensures answer { AnswersWithin (λ v. v.items) result
+        (placed_numbers kind order (R.told source.old).bytes limits.now entry.now)
+        (R.failures source.old) (R.failures source.new) }
     ensures asked { AsksOnly (FieldReadable (R.told source.old) kind order entry.now) result }
 {
     let (field_type, count) = (entry.field_type(), entry.count());
@@ -145,7 +151,9 @@ pub fn read_numbers<R: Source>(
     entry: &Entry,
 ) -> TiffResult<Vec<u64>>
     ensures kept { IsKept R.told R.failures result source.old source.new }
-    ensures answer { AnswersWithin (λ v. v.items) result (field_numbers kind order (R.told source.old).bytes limits.now entry.now) (R.failures source.old) (R.failures source.new) }
+    ensures answer { AnswersWithin (λ v. v.items) result
+        (field_numbers kind order (R.told source.old).bytes limits.now entry.now)
+        (R.failures source.old) (R.failures source.new) }
     ensures asked { AsksOnly (FieldReadable (R.told source.old) kind order entry.now) result }
 {
     let field_type = entry.field_type();
@@ -159,7 +167,7 @@ pub fn read_numbers<R: Source>(
 }
 
 /// Reads the numbers of a tag. Returns `None` if the directory does not have the tag.
-#[tactic(auto, using(crate::proofs::Within::numbers_found), unfolding(crate::specs::Look::look_in, crate::specs::Look::find))]
+#[tactic(auto, using(crate::proofs::Within::numbers_found), unfolding(crate::specs::TagLookup::look_in, crate::specs::TagLookup::find))]
 pub fn find_numbers<R: Source>(
     alloc: Global,
     source: &mut R,
@@ -171,7 +179,8 @@ pub fn find_numbers<R: Source>(
 ) -> TiffResult<Option<Vec<u64>>>
     ensures kept { IsKept R.told R.failures result source.old source.new }
     ensures none { get directory.now.entries (tag_number tag) ≡ None → result ≡ Ok None }
-    ensures answer { let look = look_in kind order (R.told source.old).bytes limits.now directory.now.entries in
+    ensures answer { let look = look_in kind order (R.told source.old).bytes limits.now directory.now.entries
+        in
         AnswersFound (λ o. option_map (λ v. v.items) o) result (find into_u64_vec look tag) look tag (R.failures source.old) (R.failures source.new) }
     ensures asked { AsksOnly (TagReadable (R.told source.old) kind order directory.now tag) result }
 {

@@ -12,12 +12,12 @@ ghost use Rattle.std.specs.FinMap.{get};
 ghost use Rattle.tiff_base.specs.Tags.{tag_number};
 ghost use Rattle.tiff_base.specs.Number.{number};
 ghost use Rattle.tiff_base.specs.Types.{type_size};
-ghost use Rattle.tiff_ifd.specs.Datum as f;
-ghost use Rattle.tiff_ifd.specs.View.{datum, datum_list};
+ghost use Rattle.tiff_ifd.specs.PlainValue as f;
+ghost use Rattle.tiff_ifd.specs.View.{plain_value, plain_values};
 ghost use Rattle.tiff_ifd.specs.Item as spec;
 ghost use Rattle.tiff_ifd.specs.FieldValue as value;
 ghost use Rattle.tiff_base.specs.SourceAndSink.{AreReadable};
-ghost use Rattle.tiff_ifd.specs.Look.{look_in};
+ghost use Rattle.tiff_ifd.specs.TagLookup.{look_in};
 ghost use Rattle.tiff_ifd.specs.Stretches.{FieldReadable, TagReadable};
 
 use crate::limits::Limits;
@@ -75,7 +75,7 @@ pub(crate) fn u64_of(order: ByteOrder, bytes: &[u8]) -> u64
 // Decodes one value of a type from its bytes.
 fn item_from(field_type: Type, order: ByteOrder, bytes: &[u8]) -> Value
     requires { length bytes.now ≡ type_size field_type }
-    ensures { datum result ≡ spec.item field_type order bytes.now }
+    ensures { plain_value result ≡ spec.item field_type order bytes.now }
 {
     match field_type {
         Type::BYTE | Type::ASCII | Type::UNDEFINED => Value::Byte(u8_of(order, bytes)),
@@ -102,7 +102,7 @@ fn item_from(field_type: Type, order: ByteOrder, bytes: &[u8]) -> Value
 // Decodes one of several values in the entry itself. BYTE and SBYTE values become 32-bit numbers.
 fn inline_item(field_type: Type, order: ByteOrder, bytes: &[u8]) -> Value
     requires { length bytes.now ≡ type_size field_type }
-    ensures { datum result ≡ spec.inline_item field_type order bytes.now }
+    ensures { plain_value result ≡ spec.inline_item field_type order bytes.now }
 {
     match field_type {
         Type::BYTE => Value::Unsigned(u32::from(u8_of(order, bytes))),
@@ -114,7 +114,7 @@ fn inline_item(field_type: Type, order: ByteOrder, bytes: &[u8]) -> Value
 // Decodes one of several values, in the entry itself or elsewhere in the file.
 fn list_item(inline: bool, field_type: Type, order: ByteOrder, bytes: &[u8]) -> Value
     requires { length bytes.now ≡ type_size field_type }
-    ensures { datum result ≡ spec.list_item inline field_type order bytes.now }
+    ensures { plain_value result ≡ spec.list_item inline field_type order bytes.now }
 {
     if inline {
         inline_item(field_type, order, bytes)
@@ -133,7 +133,9 @@ fn list_from(
     bytes: &[u8],
 ) -> TiffResult<Vec<Value>>
     requires { length bytes.now ≡ count * type_size field_type }
-    ensures { AnswersWithoutSource (λ l. datum_list l.items) result (Ok (spec.items (spec.list_item inline field_type order) (type_size field_type) count bytes.now)) }
+    ensures { AnswersWithoutSource (λ l. plain_values l.items) result
+        (Ok (spec.items (spec.list_item inline field_type order) (type_size field_type) count
+        bytes.now)) }
 {
     let width = usize::from(field_type.byte_len());
     let mut all = Vec::new(alloc);
@@ -158,7 +160,8 @@ fn numbers_from(
     bytes: &[u8],
 ) -> TiffResult<Value>
     requires { length bytes.now ≡ count * type_size field_type }
-    ensures { AnswersWithoutSource datum result (Ok (value.numbers inline field_type order count bytes.now)) }
+    ensures { AnswersWithoutSource plain_value result
+        (Ok (value.numbers inline field_type order count bytes.now)) }
 {
     if count == 1 {
         Ok(item_from(field_type, order, bytes))
@@ -170,7 +173,8 @@ fn numbers_from(
 // Makes a text from UTF-8 bytes. Other bytes give `InvalidTag`.
 #[tactic(auto, using(crate::proofs::Texts::utf8))]
 fn text_from(alloc: Global, bytes: &[u8]) -> TiffResult<Value>
-    ensures { GivesSparingly datum result (if is_utf8 bytes.now then Ok (f.ascii bytes.now) else Err (tiff.FormatError format.InvalidTag)) }
+    ensures { GivesSparingly plain_value result (if is_utf8 bytes.now then Ok (f.ascii bytes.now)
+        else Err (tiff.FormatError format.InvalidTag)) }
 {
     match str::from_utf8(bytes) {
         Ok(text) => Ok(Value::Ascii(String::from_str(alloc, text)?)),
@@ -192,7 +196,7 @@ fn first_zero(bytes: &[u8]) -> usize
 
 // Decodes a text outside the entry: the bytes before the first zero.
 fn placed_text(alloc: Global, bytes: &[u8]) -> TiffResult<Value>
-    ensures { GivesSparingly datum result (value.placed_text bytes.now) }
+    ensures { GivesSparingly plain_value result (value.placed_text bytes.now) }
 {
     text_from(alloc, &bytes[..first_zero(bytes)])
 }
@@ -206,7 +210,9 @@ fn is_ascii(bytes: &[u8]) -> bool
 // Whether all bytes are ASCII and the last one is zero.
 fn is_inline_text(bytes: &[u8]) -> bool
     requires { 0 < length bytes.now }
-    ensures { result ≡ (list_all value.is_ascii_byte bytes.now && value.is_zero (slice_index bytes.now (length bytes.now - 1))) }
+    ensures { result
+        ≡ (list_all value.is_ascii_byte bytes.now && value.is_zero
+        (slice_index bytes.now (length bytes.now - 1))) }
 {
     is_ascii(bytes) && bytes[bytes.len() - 1] == 0
 }
@@ -245,7 +251,7 @@ fn without_zeros(bytes: &[u8]) -> &[u8]
 // Decodes a text in the entry itself.
 fn inline_text(alloc: Global, bytes: &[u8]) -> TiffResult<Value>
     requires { 0 < length bytes.now }
-    ensures { GivesSparingly datum result (value.inline_text bytes.now) }
+    ensures { GivesSparingly plain_value result (value.inline_text bytes.now) }
 {
     if !is_inline_text(bytes) {
         return Err(TiffError::FormatError(TiffFormatError::InvalidTag));
@@ -264,7 +270,8 @@ fn value_from(
 ) -> TiffResult<Value>
     requires whole { length bytes.now ≡ count * type_size field_type }
     requires some { 0 < count }
-    ensures { GivesSparingly datum result (value.value_from inline field_type order count bytes.now) }
+    ensures { GivesSparingly plain_value result
+        (value.value_from inline field_type order count bytes.now) }
 {
     match field_type {
         Type::ASCII if inline => inline_text(alloc, bytes),
@@ -284,7 +291,8 @@ pub fn read_text_at<R: Source>(
     len: usize,
 ) -> TiffResult<String>
     ensures kept { IsKept R.told R.failures result source.old source.new }
-    ensures answer { AnswersWithin string_bytes result (value.text_at (R.told source.old).bytes at len) (R.failures source.old) (R.failures source.new) }
+    ensures answer { AnswersWithin string_bytes result (value.text_at (R.told source.old).bytes at len)
+        (R.failures source.old) (R.failures source.new) }
     ensures asked { AsksOnly (AreReadable (R.told source.old) at len) result }
 {
     let bytes = read_bytes_at(alloc, source, at, len)?;
@@ -318,7 +326,7 @@ pub fn read_value<R: Source>(
 ) -> TiffResult<Value>
     ensures kept { IsKept R.told R.failures result source.old source.new }
     ensures answer { let given = value.field_value kind order (R.told source.old).bytes limits.now entry.now in
-        AnswersBut (value.WantsValue (value.stands_in_entry kind entry.now) given) (R.failures source.old < R.failures source.new) datum result given }
+        AnswersBut (value.WantsValue (value.stands_in_entry kind entry.now) given) (R.failures source.old < R.failures source.new) plain_value result given }
     ensures asked { AsksOnly (FieldReadable (R.told source.old) kind order entry.now) result }
 {
     let count = entry.count();
@@ -349,7 +357,7 @@ pub fn read_value<R: Source>(
 }
 
 /// Reads the value of a tag. Returns `None` if the directory does not have the tag.
-#[tactic(auto, using(crate::proofs::Within::found_wanted), unfolding(crate::specs::Look::look_in))]
+#[tactic(auto, using(crate::proofs::Within::found_wanted), unfolding(crate::specs::TagLookup::look_in))]
 pub fn find_value<R: Source>(
     alloc: Global,
     source: &mut R,
@@ -361,9 +369,11 @@ pub fn find_value<R: Source>(
 ) -> TiffResult<Option<Value>>
     ensures kept { IsKept R.told R.failures result source.old source.new }
     ensures none { get directory.now.entries (tag_number tag) ≡ None → result ≡ Ok None }
-    ensures answer { let given = (look_in kind order (R.told source.old).bytes limits.now directory.now.entries).value tag in
+    ensures answer { let given
+        = (look_in kind order (R.told source.old).bytes limits.now directory.now.entries).value tag
+        in
         AnswersBut (value.WantsFound kind (get directory.now.entries (tag_number tag)) given) (R.failures source.old < R.failures source.new)
-        (λ v. option_map datum v) result given }
+        (λ v. option_map plain_value v) result given }
     ensures asked { AsksOnly (TagReadable (R.told source.old) kind order directory.now tag) result }
 {
     match directory.get(tag) {

@@ -46,7 +46,12 @@ impl<R: Source> fmt::Debug for EndianReader<R> {
 impl<R: Source> EndianReader<R> {
     /// A reader at the start of the source.
     pub fn new(source: R, byte_order: ByteOrder) -> Self
-        ensures { result ≡ record { bytes = (R.told source).bytes; failures = R.failures source; order = byte_order; offset = 0 } }
+        ensures { result ≡ record {
+          bytes = (R.told source).bytes;
+          failures = R.failures source;
+          order = byte_order;
+          offset = 0;
+        } }
     {
         EndianReader {
             source,

@@ -1,12 +1,12 @@
 //! The values of fields.
 
 ghost use Rattle.std.specs.Prelude.{◌≡◌, ◌^◌, Ok, map, [], ◌∷◌, ◌++◌, IfOk, length, take, string_bytes};
-ghost use Rattle.tiff_ifd.specs.Datum.{datum_list_of};
+ghost use Rattle.tiff_ifd.specs.PlainValue.{plain_value_list_of};
 ghost use Rattle.tiff_ifd.specs.Into as spec;
 ghost use Rattle.tiff_ifd.specs.Same as equal;
 ghost use Rattle.std.specs.Str.{chars as letters};
 ghost use Rattle.tiff_base.specs.Answers.{AnswersWithoutSource, Gives};
-ghost use Rattle.tiff_ifd.specs.View.{datum, datum_list};
+ghost use Rattle.tiff_ifd.specs.View.{plain_value, plain_values};
 
 use std::alloc::{AllocError, Global};
 use tiff_base::error::{TiffError, TiffFormatError, TiffResult};
@@ -39,7 +39,7 @@ pub enum Value {
 impl Value {
     /// Returns a byte. Another kind of value gives `InvalidTypeForTag`.
     pub fn into_u8(self) -> TiffResult<u8>
-        ensures { Gives (λ n. n) result (spec.into_u8 (datum self)) }
+        ensures { Gives (λ n. n) result (spec.into_u8 (plain_value self)) }
     {
         match self {
             Value::Byte(n) => Ok(n),
@@ -49,7 +49,7 @@ impl Value {
 
     /// Returns a signed byte. Another kind of value gives `InvalidTypeForTag`.
     pub fn into_i8(self) -> TiffResult<i8>
-        ensures { Gives (λ n. n) result (spec.into_i8 (datum self)) }
+        ensures { Gives (λ n. n) result (spec.into_i8 (plain_value self)) }
     {
         match self {
             Value::SignedByte(n) => Ok(n),
@@ -60,7 +60,7 @@ impl Value {
     /// Returns a signed number of 16 bits. Another kind of value gives `InvalidTypeForTag`, and a
     /// number that does not fit gives `IntSizeError`.
     pub fn into_i16(self) -> TiffResult<i16>
-        ensures { Gives (λ n. n) result (spec.into_i16 (datum self)) }
+        ensures { Gives (λ n. n) result (spec.into_i16 (plain_value self)) }
     {
         match self {
             Value::SignedByte(n) => Ok(i16::from(n)),
@@ -74,7 +74,7 @@ impl Value {
     /// Returns a signed number of 32 bits. Another kind of value gives `InvalidTypeForTag`, and a
     /// number that does not fit gives `IntSizeError`.
     pub fn into_i32(self) -> TiffResult<i32>
-        ensures { Gives (λ n. n) result (spec.into_i32 (datum self)) }
+        ensures { Gives (λ n. n) result (spec.into_i32 (plain_value self)) }
     {
         match self {
             Value::SignedByte(n) => Ok(i32::from(n)),
@@ -87,7 +87,7 @@ impl Value {
 
     /// Returns a signed number. Another kind of value gives `InvalidTypeForTag`.
     pub fn into_i64(self) -> TiffResult<i64>
-        ensures { Gives (λ n. n) result (spec.into_i64 (datum self)) }
+        ensures { Gives (λ n. n) result (spec.into_i64 (plain_value self)) }
     {
         match self {
             Value::SignedByte(n) => Ok(i64::from(n)),
@@ -101,7 +101,7 @@ impl Value {
     /// Returns the bits of a 32-bit floating-point number. Another kind of value gives
     /// `InvalidTypeForTag`.
     pub fn into_f32(self) -> TiffResult<Bits32>
-        ensures { Gives (λ x. x.0) result (spec.into_f32 (datum self)) }
+        ensures { Gives (λ x. x.0) result (spec.into_f32 (plain_value self)) }
     {
         match self {
             Value::Float(x) => Ok(x),
@@ -112,7 +112,7 @@ impl Value {
     /// Returns the bits of a 64-bit floating-point number. Another kind of value gives
     /// `InvalidTypeForTag`.
     pub fn into_f64(self) -> TiffResult<Bits64>
-        ensures { Gives (λ x. x.0) result (spec.into_f64 (datum self)) }
+        ensures { Gives (λ x. x.0) result (spec.into_f64 (plain_value self)) }
     {
         match self {
             Value::Double(x) => Ok(x),
@@ -122,7 +122,7 @@ impl Value {
 
     /// Returns the offset of a directory. Another kind of value gives `InvalidTypeForTag`.
     pub fn into_ifd_pointer(self) -> TiffResult<IfdPointer>
-        ensures { Gives (λ x. x.0) result (spec.into_ifd_pointer (datum self)) }
+        ensures { Gives (λ x. x.0) result (spec.into_ifd_pointer (plain_value self)) }
     {
         match self {
             Value::Unsigned(n) => Ok(IfdPointer(u64::from(n))),
@@ -134,7 +134,7 @@ impl Value {
 
     /// Returns a text. Another kind of value gives `InvalidTypeForTag`.
     pub fn into_string(self) -> TiffResult<String>
-        ensures { Gives string_bytes result (spec.into_string (datum self)) }
+        ensures { Gives string_bytes result (spec.into_string (plain_value self)) }
     {
         match self {
             Value::Ascii(text) => Ok(text),
@@ -145,7 +145,7 @@ impl Value {
     /// Returns a number below 2^16. Another kind of value gives `InvalidTypeForTag`, and a larger
     /// number gives `IntSizeError`.
     pub fn into_u16(self) -> TiffResult<u16>
-        ensures { Gives (λ n. n) result (spec.into_u16 (datum self)) }
+        ensures { Gives (λ n. n) result (spec.into_u16 (plain_value self)) }
     {
         match self {
             Value::Byte(n) => Ok(n as u16),
@@ -159,7 +159,7 @@ impl Value {
     /// Returns a number below 2^32. Another kind of value gives `InvalidTypeForTag`, and a larger
     /// number gives `IntSizeError`.
     pub fn into_u32(self) -> TiffResult<u32>
-        ensures { Gives (λ n. n) result (spec.into_u32 (datum self)) }
+        ensures { Gives (λ n. n) result (spec.into_u32 (plain_value self)) }
     {
         match self {
             Value::Byte(n) => Ok(n as u32),
@@ -174,7 +174,7 @@ impl Value {
 
     /// Returns a number. Another kind of value gives `InvalidTypeForTag`.
     pub fn into_u64(self) -> TiffResult<u64>
-        ensures { Gives (λ n. n) result (spec.into_u64 (datum self)) }
+        ensures { Gives (λ n. n) result (spec.into_u64 (plain_value self)) }
     {
         match self {
             Value::Byte(n) => Ok(n as u64),
@@ -191,7 +191,7 @@ impl Value {
     /// fails.
     #[tactic(auto, using(crate::proofs::Joined::as_they_are))]
     pub fn into_u8_vec(self, alloc: Global) -> TiffResult<Vec<u8>>
-        ensures { AnswersWithoutSource (λ v. v.items) result (spec.into_u8_vec (datum self)) }
+        ensures { AnswersWithoutSource (λ v. v.items) result (spec.into_u8_vec (plain_value self)) }
     {
         match self {
             Value::List(list) => each::<u8>(alloc, list),
@@ -205,7 +205,7 @@ impl Value {
     /// fit gives `IntSizeError`.
     #[tactic(auto, using(crate::proofs::Joined::as_they_are))]
     pub fn into_u32_vec(self, alloc: Global) -> TiffResult<Vec<u32>>
-        ensures { AnswersWithoutSource (λ v. v.items) result (spec.into_u32_vec (datum self)) }
+        ensures { AnswersWithoutSource (λ v. v.items) result (spec.into_u32_vec (plain_value self)) }
     {
         match self {
             Value::List(list) => each::<u32>(alloc, list),
@@ -219,7 +219,8 @@ impl Value {
     /// Returns the bits of 32-bit floating-point numbers, of a list or of one value. Returns the
     /// error of the first item that fails.
     pub fn into_f32_vec(self, alloc: Global) -> TiffResult<Vec<Bits32>>
-        ensures { AnswersWithoutSource (λ v. map (λ n. n.0) v.items) result (spec.into_f32_vec (datum self)) }
+        ensures { AnswersWithoutSource (λ v. map (λ n. n.0) v.items) result
+            (spec.into_f32_vec (plain_value self)) }
     {
         match self {
             Value::List(list) => each::<Bits32>(alloc, list),
@@ -230,7 +231,8 @@ impl Value {
     /// Returns the bits of 64-bit floating-point numbers, of a list or of one value. Returns the
     /// error of the first item that fails.
     pub fn into_f64_vec(self, alloc: Global) -> TiffResult<Vec<Bits64>>
-        ensures { AnswersWithoutSource (λ v. map (λ n. n.0) v.items) result (spec.into_f64_vec (datum self)) }
+        ensures { AnswersWithoutSource (λ v. map (λ n. n.0) v.items) result
+            (spec.into_f64_vec (plain_value self)) }
     {
         match self {
             Value::List(list) => each::<Bits64>(alloc, list),
@@ -241,7 +243,8 @@ impl Value {
     /// Returns the offsets of directories, of a list or of one value. Returns the error of the
     /// first item that fails.
     pub fn into_ifd_vec(self, alloc: Global) -> TiffResult<Vec<IfdPointer>>
-        ensures { AnswersWithoutSource (λ v. map (λ n. n.0) v.items) result (spec.into_ifd_vec (datum self)) }
+        ensures { AnswersWithoutSource (λ v. map (λ n. n.0) v.items) result
+            (spec.into_ifd_vec (plain_value self)) }
     {
         match self {
             Value::List(list) => each::<IfdPointer>(alloc, list),
@@ -253,7 +256,7 @@ impl Value {
     /// numbers. Returns the error of the first item that fails; a number that does not fit gives
     /// `IntSizeError`.
     pub fn into_i32_vec(self, alloc: Global) -> TiffResult<Vec<i32>>
-        ensures { AnswersWithoutSource (λ v. v.items) result (spec.into_i32_vec (datum self)) }
+        ensures { AnswersWithoutSource (λ v. v.items) result (spec.into_i32_vec (plain_value self)) }
     {
         match self {
             Value::List(list) => each_joined::<i32>(alloc, list),
@@ -264,7 +267,7 @@ impl Value {
     /// Returns signed numbers, of a list or of one value. A signed rational gives two numbers.
     /// Returns the error of the first item that fails.
     pub fn into_i64_vec(self, alloc: Global) -> TiffResult<Vec<i64>>
-        ensures { AnswersWithoutSource (λ v. v.items) result (spec.into_i64_vec (datum self)) }
+        ensures { AnswersWithoutSource (λ v. v.items) result (spec.into_i64_vec (plain_value self)) }
     {
         match self {
             Value::List(list) => each_joined::<i64>(alloc, list),
@@ -276,7 +279,7 @@ impl Value {
     /// that fails.
     #[tactic(auto, using(crate::proofs::Joined::as_they_are))]
     pub fn into_u16_vec(self, alloc: Global) -> TiffResult<Vec<u16>>
-        ensures { AnswersWithoutSource (λ v. v.items) result (spec.into_u16_vec (datum self)) }
+        ensures { AnswersWithoutSource (λ v. v.items) result (spec.into_u16_vec (plain_value self)) }
     {
         match self {
             Value::List(list) => each::<u16>(alloc, list),
@@ -290,7 +293,7 @@ impl Value {
     /// text. Returns the error of the first item that fails.
     #[tactic(auto, using(crate::proofs::Joined::as_they_are))]
     pub fn into_u64_vec(self, alloc: Global) -> TiffResult<Vec<u64>>
-        ensures { AnswersWithoutSource (λ v. v.items) result (spec.into_u64_vec (datum self)) }
+        ensures { AnswersWithoutSource (λ v. v.items) result (spec.into_u64_vec (plain_value self)) }
     {
         match self {
             Value::List(list) => each::<u64>(alloc, list),
@@ -314,11 +317,11 @@ fn two<T: Drop>(alloc: Global, x: T, y: T) -> TiffResult<Vec<T>>
 impl PartialEq for Value {
     ghost use Rattle.std.specs.Cmp.{on_per};
     ghost use Rattle.tiff_ifd.specs.Same.{same, same_per};
-    ghost use Rattle.tiff_ifd.specs.View.{datum};
+    ghost use Rattle.tiff_ifd.specs.View.{plain_value};
 
-    ghost eq = { λ v w. same (datum v) (datum w) };
+    ghost eq = { λ v w. same (plain_value v) (plain_value w) };
 
-    ghost laws = { on_per datum same_per };
+    ghost laws = { on_per plain_value same_per };
 
     fn eq(&self, other: &Value) -> bool {
         same(self, other)
@@ -326,9 +329,9 @@ impl PartialEq for Value {
 }
 
 impl Clone for Value {
-    ghost use Rattle.tiff_ifd.specs.View.{datum};
+    ghost use Rattle.tiff_ifd.specs.View.{plain_value};
 
-    ghost is_clone = { λ v w. datum w ≡ datum v };
+    ghost is_clone = { λ v w. plain_value w ≡ plain_value v };
 
     fn clone(&self) -> Result<Value, AllocError> {
         copy(self)
@@ -337,7 +340,7 @@ impl Clone for Value {
 
 #[cycle(same)]
 fn same(a: &Value, b: &Value) -> bool
-    ensures { result ≡ equal.same (datum a.now) (datum b.now) }
+    ensures { result ≡ equal.same (plain_value a.now) (plain_value b.now) }
 {
     match a {
         Value::Byte(m) => matches!(b, Value::Byte(n) if m == n),
@@ -369,7 +372,8 @@ fn same(a: &Value, b: &Value) -> bool
 
 #[cycle(same)]
 fn all_same(a: &[Value], b: &[Value]) -> bool
-    ensures { result ≡ equal.all_same (datum_list_of (datum_list a.now)) (datum_list_of (datum_list b.now)) }
+    ensures { result ≡ equal.all_same (plain_value_list_of (plain_values a.now))
+        (plain_value_list_of (plain_values b.now)) }
 {
     if a.len() != b.len() {
         return false;
@@ -384,7 +388,7 @@ fn all_same(a: &[Value], b: &[Value]) -> bool
 
 #[cycle(copy)]
 fn copy(value: &Value) -> Result<Value, AllocError>
-    ensures { IfOk result (λ v. datum v ≡ datum value.now) }
+    ensures { IfOk result (λ v. plain_value v ≡ plain_value value.now) }
 {
     match value {
         Value::Byte(n) => Ok(Value::Byte(*n)),
@@ -410,7 +414,7 @@ fn copy(value: &Value) -> Result<Value, AllocError>
 
 #[cycle(copy)]
 fn copy_list(list: &Vec<Value>) -> Result<Vec<Value>, AllocError>
-    ensures { IfOk result (λ l. datum_list l.items ≡ datum_list list.now.items) }
+    ensures { IfOk result (λ l. plain_values l.items ≡ plain_values list.now.items) }
 {
     let mut items = Vec::with_capacity(*list.allocator(), list.len())?;
     for item in list {
@@ -423,15 +427,15 @@ fn copy_list(list: &Vec<Value>) -> Result<Vec<Value>, AllocError>
 pub trait FromValue: Sized {
     ghost use Rattle.std.specs.Prelude.{Result, ℕ};
     ghost use Rattle.tiff_base.specs.declared.error.TiffError.{TiffError};
-    ghost use Rattle.tiff_ifd.specs.Datum.{Datum};
+    ghost use Rattle.tiff_ifd.specs.PlainValue.{PlainValue};
 
     // The result of converting a value, and the number that an item of the type represents.
-    ghost into: { Datum → Result ℕ TiffError };
+    ghost into: { PlainValue → Result ℕ TiffError };
 
     ghost number: { Self → ℕ };
 
     fn from_value(value: Value) -> TiffResult<Self>
-        ensures { Gives number result (into (datum value)) };
+        ensures { Gives number result (into (plain_value value)) };
 }
 
 impl FromValue for u8 {
@@ -535,14 +539,15 @@ impl FromValue for IfdPointer {
 pub trait AppendValue: Sized {
     ghost use Rattle.std.specs.Prelude.{◌≡◌, Result, List, length, take};
     ghost use Rattle.tiff_base.specs.declared.error.TiffError.{TiffError};
-    ghost use Rattle.tiff_ifd.specs.Datum.{Datum};
+    ghost use Rattle.tiff_ifd.specs.PlainValue.{PlainValue};
 
     // The numbers that a value converts to.
-    ghost numbers: { Datum → Result (List Self) TiffError };
+    ghost numbers: { PlainValue → Result (List Self) TiffError };
 
     // Appends the numbers of a value. After an error too, `out` begins with its former items.
     fn append_value(value: Value, out: &mut Vec<Self>) -> TiffResult<()>
-        ensures answer { AnswersWithoutSource (λ _. out.new.items) result (spec.append_numbers out.old.items (numbers (datum value))) }
+        ensures answer { AnswersWithoutSource (λ _. out.new.items) result
+            (spec.append_numbers out.old.items (numbers (plain_value value))) }
         ensures front { take (length out.old.items) out.new.items ≡ out.old.items };
 }
 
@@ -599,7 +604,7 @@ fn append_two<T: Drop>(out: &mut Vec<T>, x: T, y: T) -> TiffResult<()>
 }
 
 fn all_of<T: AppendValue + Drop>(alloc: Global, value: Value) -> TiffResult<Vec<T>>
-    ensures { AnswersWithoutSource (λ v. v.items) result (T.numbers (datum value)) }
+    ensures { AnswersWithoutSource (λ v. v.items) result (T.numbers (plain_value value)) }
 {
     let mut all = Vec::new(alloc);
     T::append_value(value, &mut all)?;
@@ -607,7 +612,8 @@ fn all_of<T: AppendValue + Drop>(alloc: Global, value: Value) -> TiffResult<Vec<
 }
 
 fn each_joined<T: AppendValue + Drop>(alloc: Global, list: Vec<Value>) -> TiffResult<Vec<T>>
-    ensures { AnswersWithoutSource (λ v. v.items) result (spec.each_joined T.numbers (datum_list_of (datum_list list.items))) }
+    ensures { AnswersWithoutSource (λ v. v.items) result
+        (spec.each_joined T.numbers (plain_value_list_of (plain_values list.items))) }
 {
     let mut all = Vec::new(alloc);
     for item in list {
@@ -626,7 +632,8 @@ fn one<T: Drop>(alloc: Global, x: T) -> TiffResult<Vec<T>>
 
 #[tactic(auto, using(crate::proofs::Joined::one_seen))]
 fn each<T: FromValue + Drop>(alloc: Global, list: Vec<Value>) -> TiffResult<Vec<T>>
-    ensures { AnswersWithoutSource (λ v. map T.number v.items) result (spec.each_item T.into (datum_list_of (datum_list list.items))) }
+    ensures { AnswersWithoutSource (λ v. map T.number v.items) result
+        (spec.each_item T.into (plain_value_list_of (plain_values list.items))) }
 {
     let mut all = Vec::new(alloc);
     for item in list {

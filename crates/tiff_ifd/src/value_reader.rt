@@ -2,8 +2,8 @@
 
 ghost use Rattle.std.specs.Prelude.{◌≡◌, option_map};
 ghost use Rattle.tiff_base.specs.Answers.{IsKept};
-ghost use Rattle.tiff_ifd.specs.View.{datum};
-ghost use Rattle.tiff_ifd.specs.Look.{look_in};
+ghost use Rattle.tiff_ifd.specs.View.{plain_value};
+ghost use Rattle.tiff_ifd.specs.TagLookup.{look_in};
 
 use crate::limits::Limits;
 use crate::lookup::Tags;
@@ -38,12 +38,12 @@ impl<R: Source> Tags for ValueReader<R> {
 
     ghost failures = { λ t. R.failures t.source };
 
-    #[tactic(auto, unfolding(crate::specs::Look::look_in))]
+    #[tactic(auto, unfolding(crate::specs::TagLookup::look_in))]
     fn contains(&self, tag: Tag) -> bool {
         self.directory.contains(tag)
     }
 
-    #[tactic(auto, using(crate::proofs::Within::look_within), unfolding(crate::specs::Look::look_in))]
+    #[tactic(auto, using(crate::proofs::Within::look_within), unfolding(crate::specs::TagLookup::look_in))]
     fn find(&mut self, alloc: Global, tag: Tag) -> TiffResult<Option<Value>> {
         find_value(
             alloc,

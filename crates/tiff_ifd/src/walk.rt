@@ -6,7 +6,7 @@ ghost use Rattle.tiff_base.specs.Answers.{AsksOnly, IsCause, IsKept};
 ghost use Rattle.tiff_base.specs.declared.tags.ByteOrder.{ByteOrder};
 ghost use Rattle.tiff_base.specs.declared.tags.FileKind.{FileKind};
 ghost use Rattle.tiff_ifd.specs.Chain.{unless_met, chain};
-ghost use Rattle.tiff_ifd.specs.Walk.{StepsOver, WalkSteps, ChainBegins, ChainEnds, NextLinkReadable, NextReadable, WayReadable};
+ghost use Rattle.tiff_ifd.specs.IfdChainWalk.{StepsOver, WalkSteps, ChainBegins, ChainEnds, NextLinkReadable, NextReadable, WayReadable};
 
 use crate::decode::{read_directory, read_link_of};
 use crate::offsets::Offsets;
@@ -19,13 +19,13 @@ use tiff_base::tags::{ByteOrder, FileKind};
 
 /// The offsets of the directories that were entered so far, and the link of the last one.
 #[derive(Debug, Drop)]
-pub struct Walk {
+pub struct IfdChainWalk {
     offsets: Offsets,
     next: Option<u64>,
 }
 
-impl Model for Walk {
-    ghost use Rattle.tiff_ifd.specs.Walk.{Walked};
+impl Model for IfdChainWalk {
+    ghost use Rattle.tiff_ifd.specs.IfdChainWalk.{Walked};
 
     ghost Value = { Walked };
 
@@ -39,14 +39,15 @@ fn behind(directory: &Directory) -> Option<u64>
     directory.next().map(|pointer| pointer.0)
 }
 
-impl Walk {
+impl IfdChainWalk {
     /// A walk that has entered no offset. `first` is the next offset.
     #[tactic(auto, using(crate::proofs::Begun::none_begun))]
     pub fn new(alloc: Global, first: u64) -> Self
         ensures walked { result ≡ record { offsets = []; next = Some first } }
-        ensures begins { (kind : FileKind) (order : ByteOrder) (bytes : List ℕ) → ChainBegins kind order bytes first result }
+        ensures begins { (kind : FileKind) (order : ByteOrder) (bytes : List ℕ)
+            → ChainBegins kind order bytes first result }
     {
-        Walk {
+        IfdChainWalk {
             offsets: Offsets::new(alloc),
             next: Some(first),
         }
@@ -104,8 +105,11 @@ impl Walk {
     #[tactic(auto, using(crate::proofs::Begun::unmet, crate::proofs::Begun::none_met, crate::proofs::Begun::met))]
     fn add(&mut self, offset: u64, next: Option<u64>) -> TiffResult<()>
         ensures unmet { IfOk result (λ _. unless_met (offset ∷ reverse self.old.offsets) next ≡ Ok next) }
-        ensures added { IfOk result (λ _. self.new ≡ record { offsets = self.old.offsets ++ offset ∷ []; next = next }) }
-        ensures err { IfErr result (λ e. IsCause (Unit {0}) ⊥ e (unless_met (offset ∷ reverse self.old.offsets) next ≡ Err e)) }
+        ensures added { IfOk result
+            (λ _. self.new ≡ record { offsets = self.old.offsets ++ offset ∷ []; next = next }) }
+        ensures err { IfErr result
+            (λ e. IsCause (Unit {0}) ⊥ e
+            (unless_met (offset ∷ reverse self.old.offsets) next ≡ Err e)) }
         ensures stays { OnErr result (self.new ≡ self.old) }
     {
         if let Some(link) = next
@@ -131,14 +135,25 @@ impl Walk {
         order: ByteOrder,
     ) -> TiffResult<Option<Directory>>
         ensures kept { IsKept R.told R.failures result source.old source.new }
-        ensures ok { IfOk result (λ entered. WalkSteps kind order (R.told source.old).bytes self.old (Ok entered) self.new) }
-        ensures err { IfErr result (λ e. IsCause (self.new ≡ self.old) ((R.failures source.old < R.failures source.new) × (self.new ≡ self.old)) e
+        ensures ok { IfOk result
+            (λ entered.
+            WalkSteps kind order (R.told source.old).bytes self.old (Ok entered) self.new) }
+        ensures err { IfErr result
+            (λ e. IsCause (self.new ≡ self.old) ((R.failures source.old < R.failures source.new)
+            × (self.new ≡ self.old)) e
             (WalkSteps kind order (R.told source.old).bytes self.old (Err e) self.new)) }
-        ensures begins { (first : ℕ) → ChainBegins kind order (R.told source.old).bytes first self.old → ChainBegins kind order (R.told source.old).bytes first self.new }
-        ensures end { IfOk result (λ entered. IfNone entered ((first : ℕ) → ChainBegins kind order (R.told source.old).bytes first self.old
+        ensures begins { (first : ℕ)
+            → ChainBegins kind order (R.told source.old).bytes first self.old
+            → ChainBegins kind order (R.told source.old).bytes first self.new }
+        ensures end { IfOk result
+            (λ entered.
+            IfNone entered ((first : ℕ)
+            → ChainBegins kind order (R.told source.old).bytes first self.old
             → ChainEnds kind order (R.told source.old).bytes first self.old None)) }
-        ensures cut { IfErr result (λ e. IsCause (Unit {0}) (R.failures source.old < R.failures source.new) e
-            ((first : ℕ) → ChainBegins kind order (R.told source.old).bytes first self.old → ChainEnds kind order (R.told source.old).bytes first self.old (Some e))) }
+        ensures cut { IfErr result
+            (λ e. IsCause (Unit {0}) (R.failures source.old < R.failures source.new) e
+            ((first : ℕ) → ChainBegins kind order (R.told source.old).bytes first self.old
+            → ChainEnds kind order (R.told source.old).bytes first self.old (Some e))) }
         ensures asked { AsksOnly (NextReadable (R.told source.old) kind order self.old) result }
     {
         let Some(offset) = self.next else {
@@ -160,14 +175,22 @@ impl Walk {
         order: ByteOrder,
     ) -> TiffResult<bool>
         ensures kept { IsKept R.told R.failures result source.old source.new }
-        ensures ok { IfOk result (λ passed. StepsOver kind order (R.told source.old).bytes self.old passed self.new) }
-        ensures err { IfErr result (λ e. IsCause (self.new ≡ self.old) ((R.failures source.old < R.failures source.new) × (self.new ≡ self.old)) e
+        ensures ok { IfOk result
+            (λ passed. StepsOver kind order (R.told source.old).bytes self.old passed self.new) }
+        ensures err { IfErr result
+            (λ e. IsCause (self.new ≡ self.old) ((R.failures source.old < R.failures source.new)
+            × (self.new ≡ self.old)) e
             (WalkSteps kind order (R.told source.old).bytes self.old (Err e) self.new)) }
-        ensures begins { (first : ℕ) → ChainBegins kind order (R.told source.old).bytes first self.old → ChainBegins kind order (R.told source.old).bytes first self.new }
-        ensures end { IfOk result (λ passed. passed ≡ false → (first : ℕ) → ChainBegins kind order (R.told source.old).bytes first self.old
+        ensures begins { (first : ℕ)
+            → ChainBegins kind order (R.told source.old).bytes first self.old
+            → ChainBegins kind order (R.told source.old).bytes first self.new }
+        ensures end { IfOk result (λ passed. passed ≡ false → (first : ℕ)
+            → ChainBegins kind order (R.told source.old).bytes first self.old
             → ChainEnds kind order (R.told source.old).bytes first self.old None) }
-        ensures cut { IfErr result (λ e. IsCause (Unit {0}) (R.failures source.old < R.failures source.new) e
-            ((first : ℕ) → ChainBegins kind order (R.told source.old).bytes first self.old → ChainEnds kind order (R.told source.old).bytes first self.old (Some e))) }
+        ensures cut { IfErr result
+            (λ e. IsCause (Unit {0}) (R.failures source.old < R.failures source.new) e
+            ((first : ℕ) → ChainBegins kind order (R.told source.old).bytes first self.old
+            → ChainEnds kind order (R.told source.old).bytes first self.old (Some e))) }
         ensures asked { AsksOnly (NextLinkReadable (R.told source.old) kind order self.old) result }
     {
         let Some(offset) = self.next else {
@@ -194,16 +217,26 @@ impl Walk {
         ensures short { OnErr result (length self.new.offsets ≤ index) }
         ensures no_further { length self.old.offsets ≤ index → length self.new.offsets ≤ index + 1 }
         ensures longer { (more : List ℕ) × (self.new.offsets ≡ self.old.offsets ++ more) }
-        ensures known { index < length self.old.offsets → (self.new ≡ self.old) × (source.new ≡ source.old) }
-        ensures begins { (first : ℕ) → ChainBegins kind order (R.told source.old).bytes first self.old → ChainBegins kind order (R.told source.old).bytes first self.new }
-        ensures offset { IfOk result (λ offset. (first : ℕ) → ChainBegins kind order (R.told source.old).bytes first self.old
+        ensures known { index < length self.old.offsets → (self.new ≡ self.old)
+            × (source.new ≡ source.old) }
+        ensures begins { (first : ℕ)
+            → ChainBegins kind order (R.told source.old).bytes first self.old
+            → ChainBegins kind order (R.told source.old).bytes first self.new }
+        ensures offset { IfOk result (λ offset. (first : ℕ)
+            → ChainBegins kind order (R.told source.old).bytes first self.old
             → slice_get (chain kind order (R.told source.old).bytes first).offsets index ≡ offset) }
-        ensures end { IfOk result (λ offset. IfNone offset ((first : ℕ) → ChainBegins kind order (R.told source.old).bytes first self.old
+        ensures end { IfOk result
+            (λ offset.
+            IfNone offset ((first : ℕ)
+            → ChainBegins kind order (R.told source.old).bytes first self.old
             → ChainEnds kind order (R.told source.old).bytes first self.new None)) }
-        ensures cut { IfErr result (λ e. IsCause (Unit {0}) (R.failures source.old < R.failures source.new) e
+        ensures cut { IfErr result
+            (λ e. IsCause (Unit {0}) (R.failures source.old < R.failures source.new) e
             ((first : ℕ) → ChainBegins kind order (R.told source.old).bytes first self.old
-            → (slice_get (chain kind order (R.told source.old).bytes first).offsets index ≡ None) × ChainEnds kind order (R.told source.old).bytes first self.new (Some e))) }
-        ensures asked { (first : ℕ) → ChainBegins kind order (R.told source.old).bytes first self.old
+            → (slice_get (chain kind order (R.told source.old).bytes first).offsets index ≡ None)
+            × ChainEnds kind order (R.told source.old).bytes first self.new (Some e))) }
+        ensures asked { (first : ℕ)
+            → ChainBegins kind order (R.told source.old).bytes first self.old
             → AsksOnly (WayReadable (R.told source.old) kind order first index) result }
     {
         'way: while self.len() <= index {

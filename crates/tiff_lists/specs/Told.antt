@@ -14,7 +14,8 @@ use Rattle.tiff_encode.specs.Jobs.{RefusesJobs, RunsJobs}
 
 -- All calls were made, with some list of replies. The only error is out of memory; then no call was
 -- made, or all were.
-abbrev pub LinesOfCalls : {X : Type 0} → Decoding → List Call → Result X TiffError → Decoding → Type 0
+abbrev pub LinesOfCalls : {X : Type 0} → Decoding → List Call → Result X TiffError → Decoding
+    → Type 0
 LinesOfCalls old calls (Ok lines) new = (replies : List Reply) × Ran old calls [] replies new
 LinesOfCalls old calls (Err e) new =
     (e ≡ OutOfMemory) × ((new ≡ old) ⊎ ((replies : List Reply) × Ran old calls [] replies new))
@@ -24,6 +25,8 @@ LinesOfCalls old calls (Err e) new =
 module _ {W : Type 0} (told : W → List ℕ) (failures : W → ℕ) (fault : W → Option SinkFault) where
   -- All jobs were run, with some list of replies. The errors are out of memory, and that of a sink
   -- that failed while the header was written.
-  abbrev pub LinesOfJobs : {X : Type 0} → FileKind → List Job → W → Result (W × X) TiffError → Type 0
-  LinesOfJobs kind jobs sink (Ok last) = (replies : List JobReply) × RunsJobs told failures fault kind jobs sink [] replies (Ok last.0)
+  abbrev pub LinesOfJobs : {X : Type 0} → FileKind → List Job → W → Result (W × X) TiffError
+      → Type 0
+  LinesOfJobs kind jobs sink (Ok last) = (replies : List JobReply)
+      × RunsJobs told failures fault kind jobs sink [] replies (Ok last.0)
   LinesOfJobs kind jobs sink (Err e) = RefusesJobs told failures fault kind sink e

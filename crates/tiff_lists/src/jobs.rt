@@ -1,7 +1,7 @@
 //! Lists of jobs as lines of text.
 
 use crate::steps::{directory_step_of, image_step_of};
-use crate::words::{Unread, first_word, read, samples_of};
+use crate::words::{ParseError, first_word, read, samples_of};
 use std::alloc::{AllocError, Global};
 use std::mem;
 use tiff_encode::encoder::script::{
@@ -34,7 +34,7 @@ struct JobList {
 }
 
 // The beginning of a directory, whose parent may stand behind its name.
-fn directory_begun(chained: bool, words: &str) -> Result<Begun, Unread> {
+fn directory_begun(chained: bool, words: &str) -> Result<Begun, ParseError> {
     let parent = match words {
         "" => None,
         _ => Some(read(words)?),
@@ -43,7 +43,7 @@ fn directory_begun(chained: bool, words: &str) -> Result<Begun, Unread> {
 }
 
 // The beginning of an image: its color type, its width and its height.
-fn image_begun(words: &str) -> Result<Begun, Unread> {
+fn image_begun(words: &str) -> Result<Begun, ParseError> {
     let (color, words) = first_word(words);
     let (width, height) = first_word(words);
     Ok(Begun::Image {
@@ -54,7 +54,7 @@ fn image_begun(words: &str) -> Result<Begun, Unread> {
 }
 
 // Puts an item behind the others.
-fn put<T: Drop>(items: &mut Vec<T>, item: T) -> Result<(), Unread> {
+fn put<T: Drop>(items: &mut Vec<T>, item: T) -> Result<(), ParseError> {
     items.push(item)?;
     Ok(())
 }
@@ -77,7 +77,7 @@ impl JobList {
     }
 
     // Reads a line outside of jobs: a setting, or the beginning of a job.
-    fn begin(&mut self, name: &str, words: &str) -> Result<(), Unread> {
+    fn begin(&mut self, name: &str, words: &str) -> Result<(), ParseError> {
         match name {
             "predictor" => put(&mut self.jobs, Job::Predictor(read(words)?)),
             "compression" => put(&mut self.jobs, Job::Compression(read(words)?)),
@@ -93,7 +93,7 @@ impl JobList {
                 self.begun = Some(image_begun(words)?);
                 Ok(())
             }
-            _ => Err(Unread::Form),
+            _ => Err(ParseError::Form),
         }
     }
 
@@ -103,7 +103,7 @@ impl JobList {
         chained: bool,
         parent: Option<usize>,
         end: DirectoryEnd,
-    ) -> Result<(), Unread> {
+    ) -> Result<(), ParseError> {
         self.begun = None;
         let job = DirectoryJob {
             chained,
@@ -120,7 +120,7 @@ impl JobList {
         chained: bool,
         parent: Option<usize>,
         line: &str,
-    ) -> Result<(), Unread> {
+    ) -> Result<(), ParseError> {
         match line {
             "finish" => self.end_directory(chained, parent, DirectoryEnd::Finish),
             "discard" => self.end_directory(chained, parent, DirectoryEnd::Discard),
@@ -139,7 +139,7 @@ impl JobList {
         width: u32,
         height: u32,
         end: ImageEnd,
-    ) -> Result<(), Unread> {
+    ) -> Result<(), ParseError> {
         self.begun = None;
         let job = ImageJob {
             color,
@@ -152,13 +152,13 @@ impl JobList {
     }
 
     // Reads a step of an image.
-    fn add_image_step(&mut self, name: &str, words: &str) -> Result<(), Unread> {
+    fn add_image_step(&mut self, name: &str, words: &str) -> Result<(), ParseError> {
         let step = image_step_of(self.alloc, name, words)?;
         put(&mut self.image_steps, step)
     }
 
     // The end of an image that a line stands for, if it is one.
-    fn image_end(&self, line: &str) -> Result<Option<ImageEnd>, Unread> {
+    fn image_end(&self, line: &str) -> Result<Option<ImageEnd>, ParseError> {
         let (name, words) = first_word(line);
         match (name, words) {
             ("finish", "") => Ok(Some(ImageEnd::Finish)),
@@ -175,7 +175,7 @@ impl JobList {
         width: u32,
         height: u32,
         line: &str,
-    ) -> Result<(), Unread> {
+    ) -> Result<(), ParseError> {
         match self.image_end(line)? {
             Some(end) => self.end_image(color, width, height, end),
             None => {
@@ -186,7 +186,7 @@ impl JobList {
     }
 
     // Reads the next line, outside or inside of a job.
-    fn take(&mut self, line: &str) -> Result<(), Unread> {
+    fn take(&mut self, line: &str) -> Result<(), ParseError> {
         if line.is_empty() || line.starts_with('#') {
             return Ok(());
         }
@@ -226,8 +226,8 @@ pub fn jobs_of(alloc: Global, text: &str) -> Result<Result<Vec<Job>, usize>, All
     for line in text.lines() {
         match list.take(line) {
             Ok(()) => number = number.saturating_add(1),
-            Err(Unread::Form) => return Ok(Err(number)),
-            Err(Unread::OutOfMemory) => return Err(AllocError),
+            Err(ParseError::Form) => return Ok(Err(number)),
+            Err(ParseError::OutOfMemory) => return Err(AllocError),
         }
     }
     Ok(list.all().ok_or(number))

@@ -1,14 +1,18 @@
 //! The steps of jobs as words.
 
 use crate::values::{buffer_of, directory_of, tagged, typed_bytes, value_of};
-use crate::words::{Unread, first_word, list_of, pair_of, read, samples_of};
+use crate::words::{ParseError, first_word, list_of, pair_of, read, samples_of};
 use std::alloc::Global;
 use tiff_encode::encoder::script::{DirectoryStep, ImageStep};
 use tiff_value::encoder::tiff_value::Rational;
 
 /// The step of a directory that a name and the words behind it stand for. Words that aren't so:
 /// `Form`.
-pub fn directory_step_of(alloc: Global, name: &str, words: &str) -> Result<DirectoryStep, Unread> {
+pub fn directory_step_of(
+    alloc: Global,
+    name: &str,
+    words: &str,
+) -> Result<DirectoryStep, ParseError> {
     match name {
         "write_tag" => {
             let (tag, words) = tagged(words)?;
@@ -27,18 +31,18 @@ pub fn directory_step_of(alloc: Global, name: &str, words: &str) -> Result<Direc
             Ok(DirectoryStep::WriteEntryBytes(data_type, bytes))
         }
         "extend_from" => Ok(DirectoryStep::ExtendFrom(directory_of(alloc, words)?)),
-        _ => Err(Unread::Form),
+        _ => Err(ParseError::Form),
     }
 }
 
 // The fraction that two words are.
-fn fraction(words: &str) -> Result<Rational, Unread> {
+fn fraction(words: &str) -> Result<Rational, ParseError> {
     let (n, d) = pair_of(words)?;
     Ok(Rational { n, d })
 }
 
 // The step of an image, of those that allocate nothing.
-fn setting_step(name: &str, words: &str) -> Result<ImageStep, Unread> {
+fn setting_step(name: &str, words: &str) -> Result<ImageStep, ParseError> {
     match name {
         "tiles" => {
             let (width, height) = pair_of(words)?;
@@ -52,7 +56,7 @@ fn setting_step(name: &str, words: &str) -> Result<ImageStep, Unread> {
         "resolution_unit" => Ok(ImageStep::ResolutionUnit(read(words)?)),
         "x_resolution" => Ok(ImageStep::XResolution(fraction(words)?)),
         "y_resolution" => Ok(ImageStep::YResolution(fraction(words)?)),
-        _ => Err(Unread::Form),
+        _ => Err(ParseError::Form),
     }
 }
 
@@ -67,7 +71,7 @@ fn plain_step(name: &str) -> Option<ImageStep> {
 }
 
 // The step of an image that is a step of its directory.
-fn inner_step(alloc: Global, name: &str, words: &str) -> Result<ImageStep, Unread> {
+fn inner_step(alloc: Global, name: &str, words: &str) -> Result<ImageStep, ParseError> {
     let name = match name {
         "append_data" => "write_data",
         _ => name,
@@ -77,7 +81,7 @@ fn inner_step(alloc: Global, name: &str, words: &str) -> Result<ImageStep, Unrea
 
 /// The step of an image that a name and the words behind it stand for. Words that aren't so:
 /// `Form`.
-pub fn image_step_of(alloc: Global, name: &str, words: &str) -> Result<ImageStep, Unread> {
+pub fn image_step_of(alloc: Global, name: &str, words: &str) -> Result<ImageStep, ParseError> {
     match name {
         "write_strip" => Ok(ImageStep::WriteStrip(samples_of(alloc, words)?)),
         "write_chunk" => Ok(ImageStep::WriteChunk(samples_of(alloc, words)?)),
@@ -86,7 +90,7 @@ pub fn image_step_of(alloc: Global, name: &str, words: &str) -> Result<ImageStep
         "resolution" | "resolution_unit" => setting_step(name, words),
         "x_resolution" | "y_resolution" => setting_step(name, words),
         "planar" | "next_strip_sample_count" | "next_chunk_sample_count" if words.is_empty() => {
-            plain_step(name).ok_or(Unread::Form)
+            plain_step(name).ok_or(ParseError::Form)
         }
         _ => inner_step(alloc, name, words),
     }

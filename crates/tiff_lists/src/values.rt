@@ -1,24 +1,24 @@
 //! The values that jobs write, and the fields of directories, as words.
 
-use crate::words::{Unread, digits_of, first_word, list_of, read};
+use crate::words::{ParseError, digits_of, first_word, list_of, read};
 use std::alloc::Global;
 use tiff_base::directory::{Directory, Entry};
 use tiff_base::tags::{Tag, Type};
 use tiff_encode::encoder::script::{JobBuffer, JobValue};
 
 // A value of offsets or fractions.
-fn place_value(alloc: Global, name: &str, words: &str) -> Result<JobValue, Unread> {
+fn place_value(alloc: Global, name: &str, words: &str) -> Result<JobValue, ParseError> {
     match name {
         "ifd" => Ok(JobValue::Ifd(list_of(alloc, words)?)),
         "ifd8" => Ok(JobValue::Ifd8(list_of(alloc, words)?)),
         "rational" => Ok(JobValue::Rational(list_of(alloc, words)?)),
         "srational" => Ok(JobValue::SRational(list_of(alloc, words)?)),
-        _ => Err(Unread::Form),
+        _ => Err(ParseError::Form),
     }
 }
 
 // A value of what numbers stand for, as a compression method or a predictor.
-fn named_value(alloc: Global, name: &str, words: &str) -> Result<JobValue, Unread> {
+fn named_value(alloc: Global, name: &str, words: &str) -> Result<JobValue, ParseError> {
     match name {
         "method" => Ok(JobValue::CompressionMethod(list_of(alloc, words)?)),
         "interpretation" => Ok(JobValue::PhotometricInterpretation(list_of(alloc, words)?)),
@@ -32,7 +32,7 @@ fn named_value(alloc: Global, name: &str, words: &str) -> Result<JobValue, Unrea
 }
 
 // A value of numbers of 32 or 64 bits.
-fn wide_value(alloc: Global, name: &str, words: &str) -> Result<JobValue, Unread> {
+fn wide_value(alloc: Global, name: &str, words: &str) -> Result<JobValue, ParseError> {
     match name {
         "u32" => Ok(JobValue::U32(list_of(alloc, words)?)),
         "i32" => Ok(JobValue::I32(list_of(alloc, words)?)),
@@ -46,7 +46,7 @@ fn wide_value(alloc: Global, name: &str, words: &str) -> Result<JobValue, Unread
 
 /// The value that words stand for: the name of a type, and a word for each number; or `text`, and
 /// the text. Words that aren't so: `Form`.
-pub fn value_of(alloc: Global, words: &str) -> Result<JobValue, Unread> {
+pub fn value_of(alloc: Global, words: &str) -> Result<JobValue, ParseError> {
     let (name, words) = first_word(words);
     match name {
         "text" => Ok(JobValue::Text(String::from_str(alloc, words)?)),
@@ -60,7 +60,7 @@ pub fn value_of(alloc: Global, words: &str) -> Result<JobValue, Unread> {
 
 /// The bytes that words stand for: the number of a type, the byte order `little` or `big`, and the
 /// bytes as hexadecimal digits. Words that aren't so: `Form`.
-pub fn buffer_of(alloc: Global, words: &str) -> Result<JobBuffer, Unread> {
+pub fn buffer_of(alloc: Global, words: &str) -> Result<JobBuffer, ParseError> {
     let (data_type, words) = first_word(words);
     let (order, digits) = first_word(words);
     Ok(JobBuffer {
@@ -79,17 +79,17 @@ fn field_bytes(digits: &str) -> Option<[u8; 8]> {
 }
 
 // Both parts of `a:b`.
-fn parted(word: &str) -> Result<(&str, &str), Unread> {
-    word.split_once(':').ok_or(Unread::Form)
+fn parted(word: &str) -> Result<(&str, &str), ParseError> {
+    word.split_once(':').ok_or(ParseError::Form)
 }
 
 // Sets the field that a word stands for: the number of its tag, the number of its type, how many
 // values it has, and its eight bytes as digits, with `:` between them.
-fn set_field(directory: &mut Directory, word: &str) -> Result<(), Unread> {
+fn set_field(directory: &mut Directory, word: &str) -> Result<(), ParseError> {
     let (tag, word) = parted(word)?;
     let (data_type, word) = parted(word)?;
     let (count, digits) = parted(word)?;
-    let value = field_bytes(digits).ok_or(Unread::Form)?;
+    let value = field_bytes(digits).ok_or(ParseError::Form)?;
     let entry = Entry::new_u64(read::<Type>(data_type)?, read::<u64>(count)?, value);
     directory.insert(read::<u16>(tag)?, entry)?;
     Ok(())
@@ -98,7 +98,7 @@ fn set_field(directory: &mut Directory, word: &str) -> Result<(), Unread> {
 /// The directory of the fields that words stand for; no words are no fields. Each word is the
 /// number of a tag, the number of a type, the count of values and eight bytes as hexadecimal
 /// digits, with `:` between them. Words that aren't so: `Form`.
-pub fn directory_of(alloc: Global, words: &str) -> Result<Directory, Unread> {
+pub fn directory_of(alloc: Global, words: &str) -> Result<Directory, ParseError> {
     let mut directory = Directory::empty(alloc);
     if words.is_empty() {
         return Ok(directory);
@@ -110,14 +110,14 @@ pub fn directory_of(alloc: Global, words: &str) -> Result<Directory, Unread> {
 }
 
 /// The tag whose number is the first word, and the words behind it. Another word: `Form`.
-pub fn tagged(words: &str) -> Result<(Tag, &str), Unread> {
+pub fn tagged(words: &str) -> Result<(Tag, &str), ParseError> {
     let (tag, words) = first_word(words);
     Ok((read(tag)?, words))
 }
 
 /// The type whose number is the first word, and the bytes that the second word is as hexadecimal
 /// digits. Words that aren't so: `Form`.
-pub fn typed_bytes(alloc: Global, words: &str) -> Result<(Type, Vec<u8>), Unread> {
+pub fn typed_bytes(alloc: Global, words: &str) -> Result<(Type, Vec<u8>), ParseError> {
     let (data_type, digits) = first_word(words);
     Ok((read(data_type)?, digits_of(alloc, digits)?))
 }

@@ -12,21 +12,21 @@ use tiff_value::encoder::tiff_value::{Ifd, Ifd8, Rational, SRational};
 
 /// Why words stand for nothing.
 #[derive(Clone, Copy, Debug, Drop)]
-pub enum Unread {
+pub enum ParseError {
     /// The words don't have the form that they need.
     Form,
     OutOfMemory,
 }
 
-impl From<AllocError> for Unread {
-    fn from(_fault: AllocError) -> Unread {
-        Unread::OutOfMemory
+impl From<AllocError> for ParseError {
+    fn from(_fault: AllocError) -> ParseError {
+        ParseError::OutOfMemory
     }
 }
 
-impl<T: Drop> From<AllocFailed<T>> for Unread {
-    fn from(_fault: AllocFailed<T>) -> Unread {
-        Unread::OutOfMemory
+impl<T: Drop> From<AllocFailed<T>> for ParseError {
+    fn from(_fault: AllocFailed<T>) -> ParseError {
+        ParseError::OutOfMemory
     }
 }
 
@@ -272,8 +272,8 @@ impl FromWord for ColorTypeName {
 }
 
 /// What a word stands for; `Form` if it stands for nothing of this type.
-pub fn read<T: FromWord>(word: &str) -> Result<T, Unread> {
-    T::from_word(word).ok_or(Unread::Form)
+pub fn read<T: FromWord>(word: &str) -> Result<T, ParseError> {
+    T::from_word(word).ok_or(ParseError::Form)
 }
 
 /// The first word, and the words behind it.
@@ -282,20 +282,20 @@ pub fn first_word(words: &str) -> (&str, &str) {
 }
 
 /// What two words stand for; `Form` if one of them stands for nothing of its type.
-pub fn pair_of<A: FromWord + Drop, B: FromWord>(words: &str) -> Result<(A, B), Unread> {
+pub fn pair_of<A: FromWord + Drop, B: FromWord>(words: &str) -> Result<(A, B), ParseError> {
     let (first, second) = first_word(words);
     let first = read::<A>(first)?;
     Ok((first, read::<B>(second)?))
 }
 
 // A word, and how often it counts: `7` once, or `7*20` twenty times.
-fn repeated(word: &str) -> Result<(&str, usize), Unread> {
+fn repeated(word: &str) -> Result<(&str, usize), ParseError> {
     let (word, count) = word.split_once('*').unwrap_or((word, "1"));
     Ok((word, read(count)?))
 }
 
 // Adds what a word stands for, as often as it counts.
-fn push_items<T: FromWord + Drop>(list: &mut Vec<T>, word: &str) -> Result<(), Unread> {
+fn push_items<T: FromWord + Drop>(list: &mut Vec<T>, word: &str) -> Result<(), ParseError> {
     let (word, count) = repeated(word)?;
     for _ in 0..count {
         list.push(read::<T>(word)?)?;
@@ -305,7 +305,7 @@ fn push_items<T: FromWord + Drop>(list: &mut Vec<T>, word: &str) -> Result<(), U
 
 /// What each word stands for, as often as it counts; no words are an empty list. Words that aren't
 /// so: `Form`.
-pub fn list_of<T: FromWord + Drop>(alloc: Global, words: &str) -> Result<Vec<T>, Unread> {
+pub fn list_of<T: FromWord + Drop>(alloc: Global, words: &str) -> Result<Vec<T>, ParseError> {
     let mut list = Vec::new(alloc);
     if words.is_empty() {
         return Ok(list);
@@ -317,12 +317,12 @@ pub fn list_of<T: FromWord + Drop>(alloc: Global, words: &str) -> Result<Vec<T>,
 }
 
 /// The bytes that hexadecimal digits are; `Form` for anything else.
-pub fn digits_of(alloc: Global, word: &str) -> Result<Vec<u8>, Unread> {
-    bytes_of(alloc, word)?.ok_or(Unread::Form)
+pub fn digits_of(alloc: Global, word: &str) -> Result<Vec<u8>, ParseError> {
+    bytes_of(alloc, word)?.ok_or(ParseError::Form)
 }
 
 // Adds the samples from one number to another: for `0..ff` 256 samples, for `7` one.
-fn push_range(samples: &mut Vec<u64>, word: &str) -> Result<(), Unread> {
+fn push_range(samples: &mut Vec<u64>, word: &str) -> Result<(), ParseError> {
     let (first, last) = word.split_once("..").unwrap_or((word, word));
     let (first, last) = (read::<Bits64>(first)?, read::<Bits64>(last)?);
     for sample in first.0..=last.0 {
@@ -332,7 +332,7 @@ fn push_range(samples: &mut Vec<u64>, word: &str) -> Result<(), Unread> {
 }
 
 // Adds the samples of a word, as often as it counts.
-fn push_samples(samples: &mut Vec<u64>, word: &str) -> Result<(), Unread> {
+fn push_samples(samples: &mut Vec<u64>, word: &str) -> Result<(), ParseError> {
     let (word, count) = repeated(word)?;
     for _ in 0..count {
         push_range(samples, word)?;
@@ -342,7 +342,7 @@ fn push_samples(samples: &mut Vec<u64>, word: &str) -> Result<(), Unread> {
 
 /// The samples that words stand for: hexadecimal numbers, or ranges from one to another, each once
 /// or a decimal number of times. Words that aren't so: `Form`.
-pub fn samples_of(alloc: Global, words: &str) -> Result<Vec<u64>, Unread> {
+pub fn samples_of(alloc: Global, words: &str) -> Result<Vec<u64>, ParseError> {
     let mut samples = Vec::new(alloc);
     if words.is_empty() {
         return Ok(samples);

@@ -3,9 +3,9 @@ use Rattle.std.proofs.Common.{◌≡◌, ℕ, ◌+◌, ◌-◌, ◌<◌, ◌≤�
 use Rattle.std.proofs.lemmas.List.{drop_all, drop-append-le}
 use Rattle.tiff_base.specs.Runs.{Unpacked, with_front}
 use Rattle.tiff_ifd.specs.Unpacking.{left_at, unpacked_at}
-use Rattle.tiff_ifd.specs.declared.packbits.PackedPosition.{PackedPosition}
+use Rattle.tiff_ifd.specs.declared.packbits.PackBitsCursor.{PackBitsCursor}
 
-pub unpacked_out : (bytes : List ℕ) (position : PackedPosition) (at len : ℕ) → left_at bytes position ≡ unpacked_at bytes at len → (left_at bytes position).out ≡ (unpacked_at bytes at len).out
+pub unpacked_out : (bytes : List ℕ) (position : PackBitsCursor) (at len : ℕ) → left_at bytes position ≡ unpacked_at bytes at len → (left_at bytes position).out ≡ (unpacked_at bytes at len).out
 unpacked_out bytes position at len e = ap (λ (u : Unpacked). u.out) e
 
 -- there is nothing after the last byte of a source

@@ -90,11 +90,11 @@ from_stores meaning.TransparencyMask p = no_color_stores p
 from_stores meaning.CIELab p = no_color_stores p
 from_stores meaning.ItuLab p = no_color_stores p
 
-color_stores : (p : PageRecord) → Stores p.samples (color_of p)
+pub color_stores : (p : PageRecord) → Stores p.samples (color_of p)
 unfolding color_of
 color_stores p = from_stores p.interpretation p
 
-shown_stored : (planar : PlanarConfiguration) (p : PageRecord) (c : ColorType) → p.planar ≡ planar → num_samples c ≤ p.samples → samples_in_chunk p.planar c ≤ stored_samples p
+pub shown_stored : (planar : PlanarConfiguration) (p : PageRecord) (c : ColorType) → p.planar ≡ planar → num_samples c ≤ p.samples → samples_in_chunk p.planar c ≤ stored_samples p
 shown_stored Chunky p c e h = rw e h
 shown_stored Planar p c e h = rw e (omega arith)
 

@@ -11,7 +11,9 @@ use Rattle.tiff_page.specs.Pixels.{chunk_region, region_byte, image_region}
 abbrev pub Writes : (ℕ → Type 0) → (ℕ → ℕ) → List ℕ → List ℕ → Type 0
 Writes P value old new =
     (length new ≡ length old)
-    × ((i : ℕ) → i < length old → (P i × (slice_index new i ≡ value i)) ⊎ ((P i → ⊥) × (slice_index new i ≡ slice_index old i)))
+    × ((i : ℕ) → i < length old
+    → (P i × (slice_index new i ≡ value i)) ⊎ ((P i → ⊥)
+    × (slice_index new i ≡ slice_index old i)))
 
 -- a position of a rectangle of `rows` rows from row `top` on, with `len` bytes in each row from
 -- byte `left` on
@@ -27,13 +29,16 @@ in_rect value stride top left i = value (i / stride - top) (i % stride - left)
 
 -- a byte of a row of a chunk, as it is output
 abbrev pub chunk_byte : List ℕ → ByteOrder → PageRecord → ColorType → ℕ → ℕ → ℕ → ℕ
-chunk_byte file order p color k row b = region_byte file order p color (chunk_region p k) (rect p k).plane row b
+chunk_byte file order p color k row b =
+    region_byte file order p color (chunk_region p k) (rect p k).plane row b
 
 -- a buffer contains the rows of a chunk, a stride apart, from row `top` and byte `left` on, and is
 -- otherwise unchanged
-abbrev pub WritesChunk : List ℕ → ByteOrder → PageRecord → ColorType → ℕ → ℕ → ℕ → ℕ → List ℕ → List ℕ → Type 0
+abbrev pub WritesChunk : List ℕ → ByteOrder → PageRecord → ColorType → ℕ → ℕ → ℕ → ℕ → List ℕ
+    → List ℕ → Type 0
 WritesChunk file order p color k stride top left old new =
-    Writes (IsIn stride top (rect p k).height left (row_bytes p color (rect p k).width)) (in_rect (chunk_byte file order p color k) stride top left) old new
+    Writes (IsIn stride top (rect p k).height left (row_bytes p color (rect p k).width))
+    (in_rect (chunk_byte file order p color k) stride top left) old new
 
 -- planes of an image in a buffer
 module _ (p : PageRecord) (color : ColorType) (stride : ℕ) where
@@ -42,7 +47,9 @@ module _ (p : PageRecord) (color : ColorType) (stride : ℕ) where
 
   -- the chunk of a plane to which a position belongs
   abbrev pub chunk_of : ℕ → ℕ
-  chunk_of i = i / stride % p.height / p.chunk_height * across p + i % stride / row_bytes p color p.chunk_width
+  chunk_of i =
+      i / stride % p.height / p.chunk_height * across p + i % stride
+      / row_bytes p color p.chunk_width
 
   -- where the rows of a chunk of a plane begin
   abbrev pub top_of : ℕ → ℕ → ℕ
@@ -54,11 +61,13 @@ module _ (p : PageRecord) (color : ColorType) (stride : ℕ) where
   -- a position of a chunk of a plane
   abbrev pub IsInChunk : ℕ → ℕ → ℕ → Type 0
   IsInChunk plane j i =
-      IsIn stride (top_of plane j) (rect p (plane * chunks_of_plane p + j)).height (left_of plane j) (row_bytes p color (rect p (plane * chunks_of_plane p + j)).width) i
+      IsIn stride (top_of plane j) (rect p (plane * chunks_of_plane p + j)).height (left_of plane j)
+      (row_bytes p color (rect p (plane * chunks_of_plane p + j)).width) i
 
   -- `len` bytes hold the rows of the j-th chunk of each of n planes
   abbrev pub HoldsChunk : ℕ → ℕ → ℕ → Type 0
-  HoldsChunk n j len = (plane : ℕ) → plane < n → (top_of plane j + (rect p (plane * chunks_of_plane p + j)).height) * stride ≤ len
+  HoldsChunk n j len = (plane : ℕ) → plane < n
+      → (top_of plane j + (rect p (plane * chunks_of_plane p + j)).height) * stride ≤ len
 
   pub record IsOfChunk (plane j i : ℕ) : Type 0 where
     pub byte : i % stride < row_bytes p color p.width
@@ -74,18 +83,23 @@ module _ (p : PageRecord) (color : ColorType) (stride : ℕ) where
 
   -- the byte of the image at a position
   abbrev pub image_byte : List ℕ → ByteOrder → ℕ → ℕ
-  image_byte file order i = region_byte file order p color (image_region p) (plane_of i) (i / stride % p.height) (i % stride)
+  image_byte file order i =
+      region_byte file order p color (image_region p) (plane_of i) (i / stride % p.height)
+      (i % stride)
 
 -- A buffer contains these chunks of the image: of each of n planes the chunks below the j-th, and
 -- the j-th chunk of the planes below `plane`. The buffer is otherwise unchanged.
-abbrev pub WritesBefore : List ℕ → ByteOrder → PageRecord → ColorType → ℕ → ℕ → ℕ → ℕ → List ℕ → List ℕ → Type 0
+abbrev pub WritesBefore : List ℕ → ByteOrder → PageRecord → ColorType → ℕ → ℕ → ℕ → ℕ → List ℕ
+    → List ℕ → Type 0
 WritesBefore file order p color stride n j plane before new =
     Writes (IsBefore p color stride n j plane) (image_byte p color stride file order) before new
 
 -- the j-th chunk of each of n planes is written, after the chunks below it
-abbrev pub WritesNext : List ℕ → ByteOrder → PageRecord → ColorType → ℕ → ℕ → ℕ → List ℕ → List ℕ → Type 0
+abbrev pub WritesNext : List ℕ → ByteOrder → PageRecord → ColorType → ℕ → ℕ → ℕ → List ℕ → List ℕ
+    → Type 0
 WritesNext file order p color stride n j old new =
-    (before : List ℕ) → WritesBefore file order p color stride n j 0 before old → WritesBefore file order p color stride n j n before new
+    (before : List ℕ) → WritesBefore file order p color stride n j 0 before old
+    → WritesBefore file order p color stride n j n before new
 
 -- a position of a chunk in a buffer or of the chunks of further planes after it: n planes of `rows`
 -- rows of `len` bytes
@@ -94,9 +108,12 @@ pub record IsInPlanes (stride rows len n i : ℕ) : Type 0 where
   pub of_plane : i / stride / rows < n
 
 abbrev pub IsInUnit : PageRecord → ColorType → ℕ → ℕ → ℕ → ℕ → Type 0
-IsInUnit p color stride k n i = IsInPlanes stride (rect p k).height (row_bytes p color (rect p k).width) n i
+IsInUnit p color stride k n i =
+    IsInPlanes stride (rect p k).height (row_bytes p color (rect p k).width) n i
 
 -- the byte at a position of a chunk and the chunks of further planes after it
 abbrev pub unit_byte : List ℕ → ByteOrder → PageRecord → ColorType → ℕ → ℕ → ℕ → ℕ
 unit_byte file order p color stride k i =
-    region_byte file order p color (chunk_region p k) ((rect p k).plane + i / stride / (rect p k).height) (i / stride % (rect p k).height) (i % stride)
+    region_byte file order p color (chunk_region p k)
+    ((rect p k).plane + i / stride / (rect p k).height) (i / stride % (rect p k).height)
+    (i % stride)

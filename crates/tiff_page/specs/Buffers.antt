@@ -10,7 +10,7 @@ use Rattle.tiff_base.specs.declared.tags.PlanarConfiguration.{PlanarConfiguratio
 use Rattle.tiff_base.specs.declared.tags.PlanarConfiguration.TheVariants.{Chunky, Planar}
 use Rattle.tiff_base.specs.Answers.{◌>>=◌}
 use Rattle.tiff_ifd.specs.declared.limits.Limits.{Limits}
-use Rattle.tiff_ifd.specs.Look.{ok_or_fault}
+use Rattle.tiff_ifd.specs.TagLookup.{ok_or_fault}
 use Rattle.tiff_page.specs.declared.layout.BufferLayoutPreference.{BufferLayoutPreference}
 use Rattle.tiff_page.specs.declared.layout.DecodingSampleType.{DecodingSampleType}
 use Rattle.tiff_page.specs.Page.{PageRecord}
@@ -51,7 +51,8 @@ image_buffer_layout p = do
 
 -- a number of bytes, rounded up to whole samples, below 2^63
 abbrev pub rounded_size : ℕ → ℕ → Result ℕ TiffError
-rounded_size bytes size = if nat_lt (div_ceil bytes size * size) (2 ^ 63) then Ok (div_ceil bytes size * size) else Err LimitsExceeded
+rounded_size bytes size = if nat_lt (div_ceil bytes size * size) (2 ^ 63)
+    then Ok (div_ceil bytes size * size) else Err LimitsExceeded
 
 -- the layout of a buffer for a chunk: one plane, in whole samples; a page whose samples have no
 -- number type has none
@@ -72,9 +73,11 @@ image_chunk_buffer_layout p i = do
 
 -- a coding unit is one of the chunks of a plane
 abbrev pub unit_fault : PageRecord → ℕ → Result (Unit {0}) TiffError
-unit_fault p unit = if nat_lt unit (chunks_of_plane p) then Ok tt else Err (UsageError (InvalidCodingUnit unit (chunks_of_plane p)))
+unit_fault p unit = if nat_lt unit (chunks_of_plane p) then Ok tt
+    else Err (UsageError (InvalidCodingUnit unit (chunks_of_plane p)))
 
-abbrev pub unit_from : PlanarConfiguration → PageRecord → ℕ → Result BufferLayoutPreference TiffError
+abbrev pub unit_from : PlanarConfiguration → PageRecord → ℕ
+    → Result BufferLayoutPreference TiffError
 unit_from Chunky p unit = image_chunk_buffer_layout p unit
 unit_from Planar p unit = do
   layout ← planes_layout p (rect p unit).width (rect p unit).height
@@ -90,4 +93,7 @@ unfoldable pub resized_samples : BufferLayoutPreference → Limits → Result De
 resized_samples layout limits = do
   type ← ok_or_fault layout.sample_type (UnsupportedError UnknownInterpretation)
   _ ← limit_fault limits (size_of type) layout.complete_len
-  Ok (record { sample_type = type; numbers = replicate (div_ceil layout.complete_len (size_of type)) 0 })
+  Ok (record {
+    sample_type = type;
+    numbers = replicate (div_ceil layout.complete_len (size_of type)) 0;
+  })

@@ -20,7 +20,7 @@ use Rattle.tiff_base.specs.declared.color.ChunkType.TheVariants.{Strip, Tile}
 use Rattle.tiff_base.specs.Tags as kinds
 use Rattle.tiff_base.specs.Answers.{◌>>=◌}
 use Rattle.tiff_ifd.specs.Into.{into_u16, into_u32, into_u16_vec, into_u64_vec}
-use Rattle.tiff_ifd.specs.Look.{Look, find, find_or, ok_or_fault, require}
+use Rattle.tiff_ifd.specs.TagLookup.{TagLookup, find, find_or, ok_or_fault, require}
 use Rattle.tiff_ifd.specs.Fitted.{fitted_numbers}
 use Rattle.std.specs.List.{list_all}
 use Rattle.tiff_page.specs.Counts.{chunk_count, planes_of}
@@ -32,9 +32,10 @@ inconsistent = FormatError InconsistentSizesEncountered
 -- the width and the height of a page aren't 0
 abbrev pub sides : ℕ → ℕ → Result (ℕ × ℕ) TiffError
 sides width height =
-    if width == 0 || height == 0 then Err (FormatError (InvalidDimensions width height)) else Ok (width, height)
+    if width == 0 || height == 0 then Err (FormatError (InvalidDimensions width height))
+    else Ok (width, height)
 
-unfoldable pub size_in : Look → Result (ℕ × ℕ) TiffError
+unfoldable pub size_in : TagLookup → Result (ℕ × ℕ) TiffError
 size_in look = do
   width ← require into_u32 look tag.ImageWidth
   height ← require into_u32 look tag.ImageLength
@@ -43,14 +44,15 @@ size_in look = do
 -- the interpretation of a number that has one
 abbrev pub interpretation_named : Option ℕ → Result PhotometricInterpretation TiffError
 interpretation_named None = Err (UnsupportedError UnknownInterpretation)
-interpretation_named (Some n) = ok_or_fault (kinds.interpretation_of n) (UnsupportedError UnknownInterpretation)
+interpretation_named (Some n) =
+    ok_or_fault (kinds.interpretation_of n) (UnsupportedError UnknownInterpretation)
 
-unfoldable pub interpretation_in : Look → Result PhotometricInterpretation TiffError
+unfoldable pub interpretation_in : TagLookup → Result PhotometricInterpretation TiffError
 interpretation_in look = do
   number ← find into_u16 look tag.PhotometricInterpretation
   interpretation_named number
 
-unfoldable pub method_in : Look → Result CompressionMethod TiffError
+unfoldable pub method_in : TagLookup → Result CompressionMethod TiffError
 method_in look = do
   number ← find_or into_u16 look tag.Compression 1
   Ok (kinds.method_of number)
@@ -58,7 +60,7 @@ method_in look = do
 abbrev pub some_samples : ℕ → Result ℕ TiffError
 some_samples samples = if samples == 0 then Err (FormatError SamplesPerPixelIsZero) else Ok samples
 
-unfoldable pub samples_in : Look → Result ℕ TiffError
+unfoldable pub samples_in : TagLookup → Result ℕ TiffError
 samples_in look = do
   samples ← find_or into_u16 look tag.SamplesPerPixel 1
   some_samples samples
@@ -67,7 +69,7 @@ samples_in look = do
 abbrev pub within_samples : ℕ → List ExtraSamples → Result (List ExtraSamples) TiffError
 within_samples samples extra = if nat_le (length extra) samples then Ok extra else Err inconsistent
 
-unfoldable pub extra_in : Look → ℕ → Result (List ExtraSamples) TiffError
+unfoldable pub extra_in : TagLookup → ℕ → Result (List ExtraSamples) TiffError
 extra_in look samples = do
   numbers ← find_or into_u16_vec look tag.ExtraSamples []
   within_samples samples (map (λ (n : ℕ). unwrap_or (kinds.extra_of n) extra.Unspecified) numbers)
@@ -86,7 +88,7 @@ format_from (Some numbers) = do
   formats ← fitted_numbers tag.SampleFormat (2 ^ 16) numbers
   one_format formats
 
-unfoldable pub format_in : Look → Result SampleFormat TiffError
+unfoldable pub format_in : TagLookup → Result SampleFormat TiffError
 format_in look = do
   found ← find into_u64_vec look tag.SampleFormat
   format_from found
@@ -95,10 +97,12 @@ format_in look = do
 abbrev pub same_depth : List ℕ → Result ℕ TiffError
 same_depth [] = Err inconsistent
 same_depth (n ∷ ns) =
-    if list_all (λ m. m == n) (n ∷ ns) && not (n == 0) then Ok n else Err (UnsupportedError (InconsistentBitsPerSample (n ∷ ns)))
+    if list_all (λ m. m == n) (n ∷ ns) && not (n == 0) then Ok n
+    else Err (UnsupportedError (InconsistentBitsPerSample (n ∷ ns)))
 
 abbrev pub one_depth : ℕ → List ℕ → Result ℕ TiffError
-one_depth samples bits = if length bits == samples || length bits == 1 then same_depth bits else Err inconsistent
+one_depth samples bits = if length bits == samples || length bits == 1 then same_depth bits
+    else Err inconsistent
 
 abbrev pub depth_from : ℕ → Option (List ℕ) → Result ℕ TiffError
 depth_from samples None = Ok 1
@@ -106,7 +110,7 @@ depth_from samples (Some numbers) = do
   bits ← fitted_numbers tag.BitsPerSample (2 ^ 8) numbers
   one_depth samples bits
 
-unfoldable pub depth_in : Look → ℕ → Result ℕ TiffError
+unfoldable pub depth_in : TagLookup → ℕ → Result ℕ TiffError
 depth_in look samples = do
   found ← find into_u64_vec look tag.BitsPerSample
   depth_from samples found
@@ -115,7 +119,7 @@ abbrev pub predictor_from : Option ℕ → Result Predictor TiffError
 predictor_from None = Ok predictor.None
 predictor_from (Some n) = ok_or_fault (kinds.predictor_of n) (FormatError (UnknownPredictor n))
 
-unfoldable pub predictor_in : Look → Result Predictor TiffError
+unfoldable pub predictor_in : TagLookup → Result Predictor TiffError
 predictor_in look = do
   number ← find into_u16 look tag.Predictor
   predictor_from number
@@ -124,7 +128,7 @@ abbrev pub planar_from : Option ℕ → Result PlanarConfiguration TiffError
 planar_from None = Ok Chunky
 planar_from (Some n) = ok_or_fault (kinds.planar_of n) (FormatError (UnknownPlanarConfiguration n))
 
-unfoldable pub planar_in : Look → Result PlanarConfiguration TiffError
+unfoldable pub planar_in : TagLookup → Result PlanarConfiguration TiffError
 planar_in look = do
   number ← find into_u16 look tag.PlanarConfiguration
   planar_from number
@@ -139,7 +143,7 @@ subsampling_from (Some numbers) = do
   sizes ← fitted_numbers tag.ChromaSubsampling (2 ^ 16) numbers
   number_pair sizes
 
-unfoldable pub subsampling_in : Look → Result (ℕ × ℕ) TiffError
+unfoldable pub subsampling_in : TagLookup → Result (ℕ × ℕ) TiffError
 subsampling_in look = do
   found ← find into_u64_vec look tag.ChromaSubsampling
   subsampling_from found
@@ -150,33 +154,41 @@ chunk_kind true true false false = Ok Strip
 chunk_kind false false true true = Ok Tile
 chunk_kind _ _ _ _ = Err (FormatError StripTileTagConflict)
 
-unfoldable pub chunk_type_in : Look → Result ChunkType TiffError
+unfoldable pub chunk_type_in : TagLookup → Result ChunkType TiffError
 chunk_type_in look =
-    chunk_kind (look.has tag.StripOffsets) (look.has tag.StripByteCounts) (look.has tag.TileOffsets) (look.has tag.TileByteCounts)
+    chunk_kind (look.has tag.StripOffsets) (look.has tag.StripByteCounts) (look.has tag.TileOffsets)
+    (look.has tag.TileByteCounts)
 
 -- there are as many offsets and byte counts as chunks, and fewer than 2^32
 unfoldable pub chunks_counted : ℕ → ℕ → ℕ → Chunks → Result Chunks TiffError
 chunks_counted width height planes chunks =
     let count = chunk_count width height chunks.chunk_width chunks.chunk_height planes in
-    if (length chunks.offsets == length chunks.byte_counts) && (length chunks.offsets == count) && nat_lt count (2 ^ 32)
+    if (length chunks.offsets == length chunks.byte_counts) && (length chunks.offsets == count) &&
+    nat_lt count (2 ^ 32)
     then Ok chunks
     else Err inconsistent
 
 abbrev pub some_rows : ℕ → Result ℕ TiffError
 some_rows rows = if rows == 0 then Err inconsistent else Ok rows
 
-unfoldable pub strips_in : Look → ℕ → ℕ → ℕ → Result Chunks TiffError
+unfoldable pub strips_in : TagLookup → ℕ → ℕ → ℕ → Result Chunks TiffError
 strips_in look width height planes = do
   offsets ← require into_u64_vec look tag.StripOffsets
   byte_counts ← require into_u64_vec look tag.StripByteCounts
   rows ← find_or into_u32 look tag.RowsPerStrip height
   _ ← some_rows rows
-  chunks_counted width height planes (record { chunk_width = width; chunk_height = rows; offsets = offsets; byte_counts = byte_counts })
+  chunks_counted width height planes
+      (record {
+        chunk_width = width;
+        chunk_height = rows;
+        offsets = offsets;
+        byte_counts = byte_counts;
+      })
 
 abbrev pub some_side : ℕ → TiffError → Result ℕ TiffError
 some_side n fault = if n == 0 then Err fault else Ok n
 
-unfoldable pub tiles_in : Look → ℕ → ℕ → ℕ → Result Chunks TiffError
+unfoldable pub tiles_in : TagLookup → ℕ → ℕ → ℕ → Result Chunks TiffError
 tiles_in look width height planes = do
   tile_width ← require into_u32 look tag.TileWidth
   tile_height ← require into_u32 look tag.TileLength
@@ -184,14 +196,20 @@ tiles_in look width height planes = do
   _ ← some_side tile_height (FormatError (InvalidTagValueType tag.TileLength))
   offsets ← require into_u64_vec look tag.TileOffsets
   byte_counts ← require into_u64_vec look tag.TileByteCounts
-  chunks_counted width height planes (record { chunk_width = tile_width; chunk_height = tile_height; offsets = offsets; byte_counts = byte_counts })
+  chunks_counted width height planes
+      (record {
+        chunk_width = tile_width;
+        chunk_height = tile_height;
+        offsets = offsets;
+        byte_counts = byte_counts;
+      })
 
-abbrev pub chunks_in : Look → ChunkType → ℕ → ℕ → ℕ → Result Chunks TiffError
+abbrev pub chunks_in : TagLookup → ChunkType → ℕ → ℕ → ℕ → Result Chunks TiffError
 chunks_in look Strip width height planes = strips_in look width height planes
 chunks_in look Tile width height planes = tiles_in look width height planes
 
 -- the page that the tags define
-unfoldable pub page_of : Look → Result PageRecord TiffError
+unfoldable pub page_of : TagLookup → Result PageRecord TiffError
 page_of look = do
   size ← size_in look
   interpretation ← interpretation_in look

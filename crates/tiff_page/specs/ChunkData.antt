@@ -20,9 +20,12 @@ pub record IsTooShort (left : List ℕ) (wanted : ℕ) (e : TiffError) : Type 0 
   pub short : length left < wanted
 
 -- a buffer was filled with the next bytes, or fewer are left
-abbrev pub Takes : List ℕ → ChunkCursor → Type 0 → Type 0 → ℕ → List ℕ → Result ChunkCursor TiffError → Type 0
-Takes bytes stored wanting failed len filled (Ok rest) = (bytes_left bytes stored ≡ filled ++ bytes_left bytes rest) × (length filled ≡ len)
-Takes bytes stored wanting failed len filled (Err e) = IsCause wanting failed e (IsTooShort (bytes_left bytes stored) len e)
+abbrev pub Takes : List ℕ → ChunkCursor → Type 0 → Type 0 → ℕ → List ℕ
+    → Result ChunkCursor TiffError → Type 0
+Takes bytes stored wanting failed len filled (Ok rest) =
+    (bytes_left bytes stored ≡ filled ++ bytes_left bytes rest) × (length filled ≡ len)
+Takes bytes stored wanting failed len filled (Err e) =
+    IsCause wanting failed e (IsTooShort (bytes_left bytes stored) len e)
 
 -- n bytes were skipped, or all that are left if there are fewer
 abbrev pub Passes : List ℕ → ChunkCursor → Type 0 → ℕ → Result ChunkCursor TiffError → Type 0

@@ -15,7 +15,8 @@ parts length size = (length + size - 1) / size
 
 -- the number of chunks of all planes
 abbrev pub chunk_count : ℕ → ℕ → ℕ → ℕ → ℕ → ℕ
-chunk_count width height chunk_width chunk_height planes = parts width chunk_width * parts height chunk_height * planes
+chunk_count width height chunk_width chunk_height planes =
+    parts width chunk_width * parts height chunk_height * planes
 
 -- how often chunks cover the image
 abbrev pub planes_of : PlanarConfiguration → ℕ → ℕ
@@ -24,7 +25,8 @@ planes_of Planar samples = samples
 
 -- the number of chunks of all planes of a page
 abbrev pub all_chunks : PageRecord → ℕ
-all_chunks p = chunk_count p.width p.height p.chunk_width p.chunk_height (planes_of p.planar p.samples)
+all_chunks p =
+    chunk_count p.width p.height p.chunk_width p.chunk_height (planes_of p.planar p.samples)
 
 -- the width and the height of a chunk as the tags define them, not cut to the image
 abbrev pub chunk_dimensions : PageRecord → ℕ × ℕ
@@ -33,7 +35,8 @@ chunk_dimensions p = (p.chunk_width, p.chunk_height)
 -- the number of strips of all planes; the height plus the rows of a strip, less one, is below 2^32
 -- (as in the Rust crate)
 abbrev pub strips_from : ChunkType → PageRecord → Result ℕ TiffError
-strips_from Strip p = if nat_lt (p.height + p.chunk_height - 1) (2 ^ 32) then Ok (all_chunks p) else Err IntSizeError
+strips_from Strip p = if nat_lt (p.height + p.chunk_height - 1) (2 ^ 32) then Ok (all_chunks p)
+    else Err IntSizeError
 strips_from Tile p = Err (UsageError (InvalidChunkType Strip Tile))
 
 unfoldable pub strip_count : PageRecord → Result ℕ TiffError

@@ -29,17 +29,20 @@ least_stored m n = if is_packed m then div_ceil n 64 else n
 
 -- how many bytes a file has from an offset on; of PackBits data at most `count`
 abbrev pub bytes_held : List ℕ → CompressionMethod → ℕ → ℕ → ℕ
-bytes_held file m offset count = if is_packed m then min count (length file - offset) else length file - offset
+bytes_held file m offset count = if is_packed m then min count (length file - offset)
+    else length file - offset
 
 -- a file has fewer bytes of a chunk than the data of the chunk take at least
 abbrev pub is_cut : List ℕ → PageRecord → ColorType → ℕ → Bool
 is_cut file p color i =
-    nat_lt (bytes_held file p.method (slice_index p.offsets i) (slice_index p.byte_counts i)) (least_stored p.method (needed_bytes p color i))
+    nat_lt (bytes_held file p.method (slice_index p.offsets i) (slice_index p.byte_counts i))
+    (least_stored p.method (needed_bytes p color i))
 
 -- the error that is found before memory is allocated for samples of `len` bytes: more samples than
 -- fit into the limit, or the errors of the first chunk, whose data are too few if the file has too
 -- few bytes for them
-abbrev pub early_fault : List ℕ → PageRecord → Limits → ColorType → DecodingSampleType → ℕ → ℕ → Result (Unit {0}) TiffError
+abbrev pub early_fault : List ℕ → PageRecord → Limits → ColorType → DecodingSampleType → ℕ → ℕ
+    → Result (Unit {0}) TiffError
 early_fault file p limits color type first len = do
   _ ← limit_fault limits (size_of type) len
   chunk_fault p limits (is_cut file p color) color first
@@ -60,7 +63,8 @@ WantsAfter early result = WantsWhere (IsOkOrList early) result
 
 -- the error that is found before memory is allocated for samples of `len` bytes, of a color and
 -- from a first chunk on
-abbrev pub samples_early : List ℕ → PageRecord → Limits → ColorType → ℕ → ℕ → Result (Unit {0}) TiffError
+abbrev pub samples_early : List ℕ → PageRecord → Limits → ColorType → ℕ → ℕ
+    → Result (Unit {0}) TiffError
 samples_early file p limits color first len = do
   type ← sample_type_of p
   early_fault file p limits color type first len

@@ -10,4 +10,5 @@ pub record Decoded : Type 0 where
   pub numbers : List ℕ
 
 abbrev pub decoded_samples : DecodingSampleType → List ℕ → Decoded
-decoded_samples type bytes = record { sample_type = type; numbers = numbers_in (size_of type) bytes }
+decoded_samples type bytes =
+    record { sample_type = type; numbers = numbers_in (size_of type) bytes }

@@ -63,7 +63,9 @@ NoFault = (fault : ℕ → Result (Unit {0}) TiffError) (n : ℕ)
 -- a buffer in which a region is placed keeps its length, and has at each position the region's byte
 -- or its own
 abbrev pub PlacedEach : Type 0
-PlacedEach = (file : List ℕ) (order : ByteOrder) (p : PageRecord) (color : ColorType) (region : Region) (stride planes : ℕ) (buf : List ℕ)
+PlacedEach =
+    (file : List ℕ) (order : ByteOrder) (p : PageRecord) (color : ColorType) (region : Region)
+    (stride planes : ℕ) (buf : List ℕ)
     → (length (bytes_with_region file order p color region stride planes buf) ≡ length buf)
     × ((i : ℕ) → i < length buf
     → slice_index (bytes_with_region file order p color region stride planes buf) i
@@ -71,30 +73,38 @@ PlacedEach = (file : List ℕ) (order : ByteOrder) (p : PageRecord) (color : Col
 
 -- the rows and the planes of a layout of a page have at least one byte
 abbrev pub SomeBytes : Type 0
-SomeBytes = (p : PageRecord) (width height : ℕ) (layout : LayoutRecord) → 0 < width → 0 < height → 0 < p.depth → 0 < p.samples
+SomeBytes = (p : PageRecord) (width height : ℕ) (layout : LayoutRecord) → 0 < width → 0 < height
+    → 0 < p.depth → 0 < p.samples
     → layout_of p width height ≡ Ok layout → (0 < layout.row_bytes) × (0 < layout.plane_stride)
 
 -- a page whose samples are of whole bytes or below 8 bits, and whose chunks have rows of whole
 -- bytes if several lie side by side: other layouts are refused
 pub record HasWholeRows (p : PageRecord) (color : ColorType) : Type 0 where
   pub depth : (p.depth < 8) ⊎ (p.depth ≡ p.depth / 8 * 8)
-  pub rows : (across p ≤ 1) ⊎ (row_bits p color p.chunk_width ≡ row_bits p color p.chunk_width / 8 * 8)
+  pub rows : (across p ≤ 1)
+      ⊎ (row_bits p color p.chunk_width ≡ row_bits p color p.chunk_width / 8 * 8)
 
 -- the rows of a chunk are parts of the rows of the image, after the bytes of the columns to the
 -- left of the chunk
 abbrev pub ImageOfChunks : Type 0
-ImageOfChunks = (file : List ℕ) (order : ByteOrder) (p : PageRecord) (color : ColorType) (i row k : ℕ) → HasSides p → HasWholeRows p color
+ImageOfChunks =
+    (file : List ℕ) (order : ByteOrder) (p : PageRecord) (color : ColorType) (i row k : ℕ)
+    → HasSides p → HasWholeRows p color
     → row < (rect p i).height → k < row_bytes p color (rect p i).width
-    → region_byte file order p color (image_region p) (rect p i).plane ((rect p i).y + row) (row_bits p color (rect p i).x / 8 + k)
+    → region_byte file order p color (image_region p) (rect p i).plane ((rect p i).y + row)
+    (row_bits p color (rect p i).x / 8 + k)
     ≡ region_byte file order p color (chunk_region p i) (rect p i).plane row k
 
 -- a page whose image has a layout, and whose depth and color are supported, has rows of whole bytes
 abbrev pub WholeRows : Type 0
-WholeRows = (p : PageRecord) (layout : LayoutRecord) → layout_of p p.width p.height ≡ Ok layout → depth_fault p layout.color ≡ Ok tt
+WholeRows = (p : PageRecord) (layout : LayoutRecord) → layout_of p p.width p.height ≡ Ok layout
+    → depth_fault p layout.color ≡ Ok tt
     → HasWholeRows p layout.color
 
 -- a coding unit contains the chunk of each plane
 abbrev pub UnitOfChunks : Type 0
-UnitOfChunks = (file : List ℕ) (order : ByteOrder) (p : PageRecord) (color : ColorType) (unit plane row k : ℕ) → unit < chunks_of_plane p
+UnitOfChunks =
+    (file : List ℕ) (order : ByteOrder) (p : PageRecord) (color : ColorType) (unit plane row k : ℕ)
+    → unit < chunks_of_plane p
     → region_byte file order p color (chunk_region p unit) plane row k
     ≡ region_byte file order p color (chunk_region p (plane * chunks_of_plane p + unit)) plane row k

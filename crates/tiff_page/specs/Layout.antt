@@ -30,7 +30,8 @@ first_is_alpha (UnassociatedAlpha ∷ _) = true
 first_is_alpha _ = false
 
 unfoldable pub no_color : PageRecord → Result ColorType TiffError
-no_color p = Err (UnsupportedError (InterpretationWithBits p.interpretation (replicate p.samples p.depth)))
+no_color p =
+    Err (UnsupportedError (InterpretationWithBits p.interpretation (replicate p.samples p.depth)))
 
 abbrev pub photometric : PageRecord → ℕ
 photometric p = p.samples - length p.extra
@@ -70,14 +71,17 @@ color_of p = color_from p.interpretation p
 
 -- ---- the sample type
 
-abbrev pub of_depth : ℕ → DecodingSampleType → DecodingSampleType → DecodingSampleType → DecodingSampleType → Result DecodingSampleType TiffError
+abbrev pub of_depth : ℕ → DecodingSampleType → DecodingSampleType → DecodingSampleType
+    → DecodingSampleType → Result DecodingSampleType TiffError
 of_depth d a b c e =
-    if nat_le d 8 then Ok a else if nat_le d 16 then Ok b else if nat_le d 32 then Ok c else if nat_le d 64 then Ok e
+    if nat_le d 8 then Ok a else if nat_le d 16 then Ok b else if nat_le d 32 then Ok c
+    else if nat_le d 64 then Ok e
     else Err (UnsupportedError (UnsupportedSampleDepth d))
 
 abbrev pub float_of : ℕ → Result DecodingSampleType TiffError
 float_of d =
-    if d == 16 then Ok F16 else if d == 32 then Ok F32 else if d == 64 then Ok F64 else Err (UnsupportedError (UnsupportedSampleDepth d))
+    if d == 16 then Ok F16 else if d == 32 then Ok F32 else if d == 64 then Ok F64
+    else Err (UnsupportedError (UnsupportedSampleDepth d))
 
 abbrev pub sample_type_from : SampleFormat → ℕ → Result DecodingSampleType TiffError
 sample_type_from Uint d = of_depth d U8 U16 U32 U64
@@ -139,7 +143,8 @@ jpeg_alone ModernJPEG color = Ok color
 jpeg_alone _ color = Err (UnsupportedError ChromaSubsampling)
 
 abbrev pub whole_chroma : PageRecord → ColorType → Result ColorType TiffError
-whole_chroma p (YCbCr d) = if p.subsampling.0 == 1 && p.subsampling.1 == 1 then Ok (YCbCr d) else jpeg_alone p.method (YCbCr d)
+whole_chroma p (YCbCr d) = if p.subsampling.0 == 1 && p.subsampling.1 == 1 then Ok (YCbCr d)
+    else jpeg_alone p.method (YCbCr d)
 whole_chroma p color = Ok color
 
 unfoldable pub layout_of : PageRecord → ℕ → ℕ → Result LayoutRecord TiffError

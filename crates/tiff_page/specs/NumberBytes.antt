@@ -22,28 +22,36 @@ all_bytes size n = tabulate size (byte_of size n)
 
 -- the bytes of all numbers of a list
 unfoldable pub bytes_in : ℕ → List ℕ → List ℕ
-bytes_in size numbers = tabulate (length numbers * size) (λ i. byte_of size (slice_index numbers (i / size)) (i % size))
+bytes_in size numbers =
+    tabulate (length numbers * size) (λ i. byte_of size (slice_index numbers (i / size)) (i % size))
 
 -- a row is written at a position, and each other byte is unchanged
 abbrev pub IsPut : ℕ → List ℕ → List ℕ → List ℕ → Type 0
-IsPut at row old new = Writes (λ i. (at ≤ i) × (i < at + length row)) (λ i. slice_index row (i - at)) old new
+IsPut at row old new =
+    Writes (λ i. (at ≤ i) × (i < at + length row)) (λ i. slice_index row (i - at)) old new
 
 -- `count` numbers of a row are written from number `first` on, and each other number is unchanged
 abbrev pub NumbersArePut : ℕ → ℕ → List ℕ → ℕ → List ℕ → List ℕ → Type 0
-NumbersArePut size first row count old new = Writes (λ i. (first ≤ i) × (i < first + count)) (λ i. row_number LittleEndian size row (i - first)) old new
+NumbersArePut size first row count old new =
+    Writes (λ i. (first ≤ i)
+    × (i < first + count)) (λ i. row_number LittleEndian size row (i - first)) old new
 
 -- lists of equal length have equally many bytes
-pub same_bytes : {X : Type 0} (size : ℕ) (bits : X → ℕ) (xs ys : List X) → length xs ≡ length ys → length (bytes_in size (map bits xs)) ≡ length (bytes_in size (map bits ys))
+pub same_bytes : {X : Type 0} (size : ℕ) (bits : X → ℕ) (xs ys : List X) → length xs ≡ length ys
+    → length (bytes_in size (map bits xs)) ≡ length (bytes_in size (map bits ys))
 unfolding bytes_in
 same_bytes size bits xs ys e =
     let count : length (map bits xs) * size ≡ length (map bits ys) * size = ap (λ (n : ℕ). n * size) (length-map xs bits ∙ (e ∙ sym (length-map ys bits))) in
     let f : List ℕ → ℕ → ℕ = λ ns i. byte_of size (slice_index ns (i / size)) (i % size) in
-    length-map-range_with_len (f (map bits xs)) 0 (length (map bits xs) * size) ∙ (count ∙ sym (length-map-range_with_len (f (map bits ys)) 0 (length (map bits ys) * size)))
+    length-map-range_with_len (f (map bits xs)) 0 (length (map bits xs) * size)
+    ∙ (count ∙ sym
+    (length-map-range_with_len (f (map bits ys)) 0 (length (map bits ys) * size)))
 
 -- an empty list has no bytes
 pub no_bytes : (size : ℕ) → bytes_in size [] ≡ []
 unfolding bytes_in
-no_bytes size = let z : 0 * size ≡ 0 = omega arith in ap (λ (k : ℕ). tabulate k (λ i. byte_of size (slice_index [] (i / size)) (i % size))) z
+no_bytes size = let z : 0 * size ≡ 0 = omega arith in
+    ap (λ (k : ℕ). tabulate k (λ i. byte_of size (slice_index [] (i / size)) (i % size))) z
 
 some_size : (size : ℕ) → IsSize size → 0 < size
 some_size size (inl e) = omega (arith, e)
@@ -52,7 +60,8 @@ some_size size (inr (inr (inl e))) = omega (arith, e)
 some_size size (inr (inr (inr e))) = omega (arith, e)
 
 -- the whole numbers for m bytes have at least m bytes, and more bytes need no fewer whole numbers
-pub whole_enough : (size : ℕ) → IsSize size → (m n : ℕ) → m ≤ n → (m ≤ div_ceil m size * size) × (div_ceil m size * size ≤ div_ceil n size * size)
+pub whole_enough : (size : ℕ) → IsSize size → (m n : ℕ) → m ≤ n → (m ≤ div_ceil m size * size)
+    × (div_ceil m size * size ≤ div_ceil n size * size)
 whole_enough size z m n l =
     let s : 0 < size = some_size size z in
     let c : div_ceil m size * size < m + size = (div_ceil_times m size s).1 in

@@ -18,7 +18,10 @@ module _ (order : ByteOrder) (p : PageRecord) (row : List ℕ) (color : ColorTyp
   -- number n of the numbers that the color contains
   abbrev pub handed_number : ℕ → ℕ
   handed_number n =
-      shown_number p.interpretation (2 ^ p.depth) (number_of_row order p row (in_row p (n / samples_in_chunk p.planar color) (n % samples_in_chunk p.planar color)))
+      shown_number p.interpretation (2 ^ p.depth)
+      (number_of_row order p row
+      (in_row p (n / samples_in_chunk p.planar color)
+      (n % samples_in_chunk p.planar color)))
 
   -- byte b of the output row: the bytes of a number, the least significant first; at depths below 8
   -- the stored byte
@@ -37,7 +40,8 @@ needs_swap BigEndian depth = nat_lt 8 depth
 -- themselves.
 pub record HoldsNumbersOf (order : ByteOrder) (p : PageRecord) (row held : List ℕ) : Type 0 where
   pub same_length : length held ≡ length row
-  pub numbers : 8 ≤ p.depth → RowReplaced (p.depth / 8) (row_number order (p.depth / 8) row) row held
+  pub numbers : 8 ≤ p.depth
+      → RowReplaced (p.depth / 8) (row_number order (p.depth / 8) row) row held
   pub packed : p.depth < 8 → held ≡ row
 
 -- a page of whole bytes or of depths below 8, whose chunks store all samples of the color
@@ -48,7 +52,10 @@ pub record StoresAllShown (p : PageRecord) (color : ColorType) : Type 0 where
 
 -- The bytes of an output row of a chunk depend only on the bytes that are read of the stored row.
 abbrev pub RowHanded : Type 0
-RowHanded = (file : List ℕ) (order : ByteOrder) (p : PageRecord) (color : ColorType) (k r b : ℕ) → HasSides p → StoresAllShown p color → k < all_chunks p
+RowHanded = (file : List ℕ) (order : ByteOrder) (p : PageRecord) (color : ColorType) (k r b : ℕ)
+    → HasSides p → StoresAllShown p color → k < all_chunks p
     → r < (rect p k).height → b < row_bytes p color (rect p k).width
     → chunk_byte file order p color k r b
-    ≡ handed_byte order p (bytes_at (chunk_data file order p k) (r * stored_row_bytes p) (needed_of_row p color (row_bytes p color (rect p k).width))) color b
+    ≡ handed_byte order p
+    (bytes_at (chunk_data file order p k) (r * stored_row_bytes p)
+    (needed_of_row p color (row_bytes p color (rect p k).width))) color b

@@ -24,4 +24,10 @@ page p = record {
 }
 
 abbrev pub chunks : ChunkTable → Chunks
-chunks c = record { chunk_width = c.chunk_width; chunk_height = c.chunk_height; offsets = c.offsets; byte_counts = c.byte_counts }
+chunks c =
+    record {
+      chunk_width = c.chunk_width;
+      chunk_height = c.chunk_height;
+      offsets = c.offsets;
+      byte_counts = c.byte_counts;
+    }

@@ -42,7 +42,8 @@ is_gray _ = false
 abbrev pub refuse_predictor : Predictor → ColorType → Result (Unit {0}) TiffError
 refuse_predictor predictor.None color = Ok tt
 refuse_predictor predictor.Horizontal color = Err (UnsupportedError (HorizontalPredictor color))
-refuse_predictor predictor.FloatingPoint color = Err (UnsupportedError (FloatingPointPredictor color))
+refuse_predictor predictor.FloatingPoint color =
+    Err (UnsupportedError (FloatingPointPredictor color))
 
 unfoldable pub depth_fault : PageRecord → ColorType → Result (Unit {0}) TiffError
 depth_fault p color =
@@ -62,8 +63,11 @@ is_float _ = false
 
 abbrev pub fault_of_predictor : Predictor → PageRecord → ColorType → Result (Unit {0}) TiffError
 fault_of_predictor predictor.None p color = Ok tt
-fault_of_predictor predictor.Horizontal p color = fail_if (not (is_number p.format)) (UnsupportedError (HorizontalPredictor color))
-fault_of_predictor predictor.FloatingPoint p color = fail_if (not (is_float p.format) || p.depth == 8) (UnsupportedError (FloatingPointPredictor color))
+fault_of_predictor predictor.Horizontal p color =
+    fail_if (not (is_number p.format)) (UnsupportedError (HorizontalPredictor color))
+fault_of_predictor predictor.FloatingPoint p color =
+    fail_if (not (is_float p.format) || p.depth == 8)
+    (UnsupportedError (FloatingPointPredictor color))
 
 unfoldable pub predictor_fault : PageRecord → ColorType → Result (Unit {0}) TiffError
 predictor_fault p color = fault_of_predictor p.predictor p color
@@ -77,8 +81,10 @@ abbrev pub can_invert : SampleFormat → ColorType → Bool
 can_invert format.Uint (Gray d) = is_byte_multiple d || d == 1 || d == 2 || d == 4
 can_invert _ _ = false
 
-abbrev pub white_from : PhotometricInterpretation → PageRecord → ColorType → Result (Unit {0}) TiffError
-white_from meaning.WhiteIsZero p color = fail_if (not (can_invert p.format color)) (UnsupportedError UnknownInterpretation)
+abbrev pub white_from : PhotometricInterpretation → PageRecord → ColorType
+    → Result (Unit {0}) TiffError
+white_from meaning.WhiteIsZero p color =
+    fail_if (not (can_invert p.format color)) (UnsupportedError UnknownInterpretation)
 white_from _ p color = Ok tt
 
 unfoldable pub inversion_fault : PageRecord → ColorType → Result (Unit {0}) TiffError
@@ -96,7 +102,8 @@ form_fault p limits color i = do
   inversion_fault p color
 
 -- the errors of a chunk, where `short` says whether its data are too few
-abbrev pub chunk_fault : PageRecord → Limits → (ℕ → Bool) → ColorType → ℕ → Result (Unit {0}) TiffError
+abbrev pub chunk_fault : PageRecord → Limits → (ℕ → Bool) → ColorType → ℕ
+    → Result (Unit {0}) TiffError
 chunk_fault p limits short color i = do
   _ ← form_fault p limits color i
   fail_if (short i) (IoError UnexpectedEof)
@@ -110,4 +117,5 @@ each_below fault (suc n) = do
 
 -- no more samples than fit into the limit
 abbrev pub limit_fault : Limits → ℕ → ℕ → Result (Unit {0}) TiffError
-limit_fault limits size bytes = fail_if (nat_lt (limits.decoding_buffer_size / size) (div_ceil bytes size)) LimitsExceeded
+limit_fault limits size bytes =
+    fail_if (nat_lt (limits.decoding_buffer_size / size) (div_ceil bytes size)) LimitsExceeded

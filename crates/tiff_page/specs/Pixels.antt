@@ -48,7 +48,8 @@ is_byte_plane _ = false
 -- whether the output needs whole stored rows: with the byte-plane predictor, or if samples are
 -- dropped
 abbrev pub needs_whole_rows : PageRecord → ColorType → Bool
-needs_whole_rows p color = is_byte_plane p.predictor || nat_lt (samples_in_chunk p.planar color) (stored_samples p)
+needs_whole_rows p color =
+    is_byte_plane p.predictor || nat_lt (samples_in_chunk p.planar color) (stored_samples p)
 
 -- how many bytes of a stored row are read to output `len` bytes: all with the byte-plane predictor,
 -- or if samples are dropped
@@ -58,7 +59,9 @@ needed_of_row p color len = if needs_whole_rows p color then stored_row_bytes p 
 -- how many bytes are needed of a chunk: all rows of its part of the image, and of the last row only
 -- what is read of it
 abbrev pub needed_bytes : PageRecord → ColorType → ℕ → ℕ
-needed_bytes p color i = ((rect p i).height - 1) * stored_row_bytes p + needed_of_row p color (row_bytes p color (rect p i).width)
+needed_bytes p color i =
+    ((rect p i).height - 1) * stored_row_bytes p
+    + needed_of_row p color (row_bytes p color (rect p i).width)
 
 -- the number of bytes of a number
 abbrev pub number_size : PageRecord → ℕ
@@ -72,7 +75,8 @@ in_row p column sample = column * stored_samples p + sample
 
 -- number k of a row of numbers of `size` bytes
 abbrev pub row_number : ByteOrder → ℕ → List ℕ → ℕ → ℕ
-row_number order size row k = number order (width_of size) (tabulate size (λ j. slice_index row (k * size + j)))
+row_number order size row k =
+    number order (width_of size) (tabulate size (λ j. slice_index row (k * size + j)))
 
 -- number k of a row with the horizontal predictor, with `stored` numbers for each pixel
 abbrev pub summed_number : ByteOrder → ℕ → ℕ → List ℕ → ℕ → ℕ
@@ -81,18 +85,22 @@ summed_number order size stored row k = sample_sum (256 ^ size) stored (row_numb
 -- byte k of a row with the byte-plane predictor: the sum with the bytes before it that are whole
 -- pixels away
 abbrev pub summed_byte : ℕ → List ℕ → ℕ → ℕ
-summed_byte stored row k = sum_by (λ n. slice_index row (k - n * stored)) (range_with_len 0 (k / stored + 1)) % 256
+summed_byte stored row k =
+    sum_by (λ n. slice_index row (k - n * stored)) (range_with_len 0 (k / stored + 1)) % 256
 
 -- number k of a row of `count` numbers with the byte-plane predictor: its most significant byte is
 -- in the first part of the row, the next byte in the second part, and so on
 abbrev pub joined_number : ℕ → ℕ → ℕ → List ℕ → ℕ → ℕ
-joined_number size stored count row k = number BigEndian (width_of size) (tabulate size (λ j. summed_byte stored row (j * count + k)))
+joined_number size stored count row k =
+    number BigEndian (width_of size) (tabulate size (λ j. summed_byte stored row (j * count + k)))
 
 -- number k of a row of a chunk, with its predictor undone
 abbrev pub number_by : Predictor → ByteOrder → PageRecord → List ℕ → ℕ → ℕ
 number_by predictor.None order p row k = row_number order (number_size p) row k
-number_by predictor.Horizontal order p row k = summed_number order (number_size p) (stored_samples p) row k
-number_by predictor.FloatingPoint order p row k = joined_number (number_size p) (stored_samples p) (p.chunk_width * stored_samples p) row k
+number_by predictor.Horizontal order p row k =
+    summed_number order (number_size p) (stored_samples p) row k
+number_by predictor.FloatingPoint order p row k =
+    joined_number (number_size p) (stored_samples p) (p.chunk_width * stored_samples p) row k
 
 abbrev pub number_of_row : ByteOrder → PageRecord → List ℕ → ℕ → ℕ
 number_of_row order p row k = number_by p.predictor order p row k
@@ -115,11 +123,20 @@ pub record Region : Type 0 where
   pub chunk : Option ℕ
 
 abbrev pub image_region : PageRecord → Region
-image_region p = record { x = 0; y = 0; width = p.width; height = p.height; plane = 0; chunk = None }
+image_region p =
+    record { x = 0; y = 0; width = p.width; height = p.height; plane = 0; chunk = None }
 
 abbrev pub chunk_region : PageRecord → ℕ → Region
 chunk_region p i =
-    let r = rect p i in record { x = r.x; y = r.y; width = r.width; height = r.height; plane = r.plane; chunk = Some (i % chunks_of_plane p) }
+    let r = rect p i in
+    record {
+      x = r.x;
+      y = r.y;
+      width = r.width;
+      height = r.height;
+      plane = r.plane;
+      chunk = Some (i % chunks_of_plane p);
+    }
 
 -- a file, its byte order, and a page of it
 module _ (file : List ℕ) (order : ByteOrder) (p : PageRecord) where
@@ -127,7 +144,8 @@ module _ (file : List ℕ) (order : ByteOrder) (p : PageRecord) where
   -- aren't decompressed
   abbrev pub data_by_method : CompressionMethod → ℕ → ℕ → List ℕ
   data_by_method method.None offset count = drop offset file
-  data_by_method method.PackBits offset count = (runs (nat_lt (length file - offset) count) (take count (drop offset file))).out
+  data_by_method method.PackBits offset count =
+      (runs (nat_lt (length file - offset) count) (take count (drop offset file))).out
   data_by_method _ offset count = []
 
   -- the data of a chunk
@@ -144,20 +162,23 @@ module _ (file : List ℕ) (order : ByteOrder) (p : PageRecord) where
 
   -- the stored number of a sample of a pixel
   abbrev pub stored_number : ℕ → ℕ → ℕ → ℕ → ℕ
-  stored_number i row column sample = number_of_row order p (stored_row i row) (in_row p column sample)
+  stored_number i row column sample =
+      number_of_row order p (stored_row i row) (in_row p column sample)
 
   -- the output number of a sample of a pixel, at depths of whole bytes
   unfoldable pub shown_sample : ℕ → ℕ → ℕ → ℕ
   shown_sample x y sample =
       shown_number p.interpretation (2 ^ p.depth)
-      (stored_number (chunk_of_pixel p (planar_or p.planar sample 0) x y) (y % p.chunk_height) (x % p.chunk_width) (planar_or p.planar 0 sample))
+      (stored_number (chunk_of_pixel p (planar_or p.planar sample 0) x y) (y % p.chunk_height)
+      (x % p.chunk_width) (planar_or p.planar 0 sample))
 
   -- byte k of a row of a region at depths below 8: the stored byte, complemented if white is zero
   abbrev pub packed_byte : ColorType → Region → ℕ → ℕ → ℕ → ℕ
   packed_byte color r plane row k =
       let c = row_bytes p color p.chunk_width in
       let here = plane * chunks_of_plane p + unwrap_or r.chunk ((r.y + row) / p.chunk_height * across p + (r.x / p.chunk_width + k / c)) in
-      shown_number p.interpretation 256 (slice_index (stored_row here ((r.y + row) % p.chunk_height)) (k % c))
+      shown_number p.interpretation 256
+      (slice_index (stored_row here ((r.y + row) % p.chunk_height)) (k % c))
 
   -- byte k of a row of a region at depths of whole bytes: the bytes of a number come with the least
   -- significant first
@@ -165,7 +186,8 @@ module _ (file : List ℕ) (order : ByteOrder) (p : PageRecord) where
   number_byte color r plane row k =
       let n = k / number_size p in
       let s = samples_in_chunk p.planar color in
-      shown_sample (r.x + n / s) (r.y + row) (planar_or p.planar plane (n % s)) / 256 ^ (k % number_size p) % 256
+      shown_sample (r.x + n / s) (r.y + row) (planar_or p.planar plane (n % s)) / 256
+      ^ (k % number_size p) % 256
 
   abbrev pub region_byte : ColorType → Region → ℕ → ℕ → ℕ → ℕ
   region_byte color r plane row k =

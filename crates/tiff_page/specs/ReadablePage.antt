@@ -20,5 +20,6 @@ pub record IsRead (p : PageRecord) (color : ColorType) : Type 0 where
 
 -- a page that passes the checks of its form is readable
 abbrev pub FormRead : Type 0
-FormRead = (p : PageRecord) (limits : Limits) (color : ColorType) (i : ℕ) → 0 < p.samples → color_of p ≡ Ok color
+FormRead = (p : PageRecord) (limits : Limits) (color : ColorType) (i : ℕ) → 0 < p.samples
+    → color_of p ≡ Ok color
     → form_fault p limits color i ≡ Ok tt → IsRead p color

@@ -39,4 +39,5 @@ chunk_data_dimensions p i = ((rect p i).width, (rect p i).height)
 
 -- the chunk of a plane that contains a pixel
 abbrev pub chunk_of_pixel : PageRecord → ℕ → ℕ → ℕ → ℕ
-chunk_of_pixel p plane x y = plane * chunks_of_plane p + (y / p.chunk_height * across p + x / p.chunk_width)
+chunk_of_pixel p plane x y =
+    plane * chunks_of_plane p + (y / p.chunk_height * across p + x / p.chunk_width)

@@ -16,7 +16,8 @@ pub record RowReplaced (size : ℕ) (value : ℕ → ℕ) (old new : List ℕ) :
 
 -- The number at one position was added to the number at another, and no other byte changed.
 pub record AddsNumber (size : ℕ) (old : List ℕ) (from to : ℕ) (new : List ℕ) : Type 0 where
-  pub sum : row_number LittleEndian size new to ≡ (row_number LittleEndian size old from + row_number LittleEndian size old to) % 256 ^ size
+  pub sum : row_number LittleEndian size new to
+      ≡ (row_number LittleEndian size old from + row_number LittleEndian size old to) % 256 ^ size
   pub below : (i : ℕ) → i < to * size → slice_index new i ≡ slice_index old i
   pub above : (i : ℕ) → to * size + size ≤ i → slice_index new i ≡ slice_index old i
 
@@ -29,16 +30,20 @@ pub record TurnsNumber (size : ℕ) (row : List ℕ) (at : ℕ) (old new : List 
 
 -- the whole big-endian numbers of a row, in little-endian order
 abbrev pub TurnsNumbers : ℕ → List ℕ → List ℕ → Type 0
-TurnsNumbers size row new = (k : ℕ) → (k + 1) * size ≤ length row → row_number LittleEndian size new k ≡ row_number BigEndian size row k
+TurnsNumbers size row new = (k : ℕ) → (k + 1) * size ≤ length row
+    → row_number LittleEndian size new k ≡ row_number BigEndian size row k
 
 -- ---- laws of rows
 
 -- If the bytes of a row are complemented, each number of the row is complemented: it is the
 -- greatest number of its bytes, less the number before.
 abbrev pub ComplementsInvert : Type 0
-ComplementsInvert = (size : ℕ) (old new : List ℕ) (k : ℕ) → IsSize size → AreOctets old → ((i : ℕ) → i < length old → slice_index new i ≡ 255 - slice_index old i)
-    → (k + 1) * size ≤ length old → row_number LittleEndian size new k ≡ 256 ^ size - 1 - row_number LittleEndian size old k
+ComplementsInvert = (size : ℕ) (old new : List ℕ) (k : ℕ) → IsSize size → AreOctets old
+    → ((i : ℕ) → i < length old → slice_index new i ≡ 255 - slice_index old i)
+    → (k + 1) * size ≤ length old
+    → row_number LittleEndian size new k ≡ 256 ^ size - 1 - row_number LittleEndian size old k
 
 -- A byte of a row of little-endian numbers is that byte of its number.
 abbrev pub BytesOfNumbers : Type 0
-BytesOfNumbers = (size : ℕ) (row : List ℕ) (k j : ℕ) → IsSize size → AreOctets row → j < size → slice_index row (k * size + j) ≡ row_number LittleEndian size row k / 256 ^ j % 256
+BytesOfNumbers = (size : ℕ) (row : List ℕ) (k j : ℕ) → IsSize size → AreOctets row → j < size
+    → slice_index row (k * size + j) ≡ row_number LittleEndian size row k / 256 ^ j % 256

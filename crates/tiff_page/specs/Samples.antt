@@ -23,10 +23,14 @@ samples_as (samples.U64 v) = record { sample_type = type.U64; numbers = v.items 
 samples_as (samples.F16 v) = record { sample_type = type.F16; numbers = map (λ b. b.0) v.items }
 samples_as (samples.F32 v) = record { sample_type = type.F32; numbers = map (λ b. b.0) v.items }
 samples_as (samples.F64 v) = record { sample_type = type.F64; numbers = map (λ b. b.0) v.items }
-samples_as (samples.I8 v) = record { sample_type = type.I8; numbers = map (cast_unsigned w8) v.items }
-samples_as (samples.I16 v) = record { sample_type = type.I16; numbers = map (cast_unsigned w16) v.items }
-samples_as (samples.I32 v) = record { sample_type = type.I32; numbers = map (cast_unsigned w32) v.items }
-samples_as (samples.I64 v) = record { sample_type = type.I64; numbers = map (cast_unsigned w64) v.items }
+samples_as (samples.I8 v) =
+    record { sample_type = type.I8; numbers = map (cast_unsigned w8) v.items }
+samples_as (samples.I16 v) =
+    record { sample_type = type.I16; numbers = map (cast_unsigned w16) v.items }
+samples_as (samples.I32 v) =
+    record { sample_type = type.I32; numbers = map (cast_unsigned w32) v.items }
+samples_as (samples.I64 v) =
+    record { sample_type = type.I64; numbers = map (cast_unsigned w64) v.items }
 
 abbrev pub color_in : ReadRequest → ColorType
 color_in (Image layout planes) = layout.color
@@ -45,8 +49,14 @@ part_of file order p (Chunk color i stride) = chunk_part p i 1 stride
 -- the layout of a request is that of the page
 abbrev pub IsLaid : PageRecord → ReadRequest → Type 0
 IsLaid p (Image layout planes) =
-    (layout_of p p.width p.height ≡ Ok (record { color = layout.color; row_bytes = layout.row_bytes; plane_stride = layout.plane_stride })) × (0 < planes)
-IsLaid p (Chunk color i stride) = (color_of p ≡ Ok color) × (row_bytes p color (rect p i).width ≤ stride)
+    (layout_of p p.width p.height
+    ≡ Ok (record {
+      color = layout.color;
+      row_bytes = layout.row_bytes;
+      plane_stride = layout.plane_stride;
+    })) × (0 < planes)
+IsLaid p (Chunk color i stride) = (color_of p ≡ Ok color)
+    × (row_bytes p color (rect p i).width ≤ stride)
 
 -- the number of bytes that a request takes
 abbrev pub room_of : PageRecord → ReadRequest → ℕ

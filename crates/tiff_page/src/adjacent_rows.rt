@@ -50,7 +50,8 @@ impl ChunkReader<'_> {
     /// buffer, all of their bytes are output, and no byte is summed with others of its row.
     pub(crate) fn is_contiguous(&self, destination: Destination) -> bool
         ensures { IsTrue result ↔ LieTogether (view.page self.now.page.now) self.now.color
-            (row_bytes (view.page self.now.page.now) self.now.color (rect (view.page self.now.page.now) self.now.index).width)
+            (row_bytes (view.page self.now.page.now) self.now.color
+            (rect (view.page self.now.page.now) self.now.index).width)
             destination.left destination.stride }
     {
         let page = self.page;
@@ -75,18 +76,26 @@ impl ChunkReader<'_> {
         requires listed { self.now.index < length self.now.page.now.offsets }
         requires some { 0 < destination.stride }
         requires together { LieTogether (view.page self.now.page.now) self.now.color
-            (row_bytes (view.page self.now.page.now) self.now.color (rect (view.page self.now.page.now) self.now.index).width)
+            (row_bytes (view.page self.now.page.now) self.now.color
+            (rect (view.page self.now.page.now) self.now.index).width)
             destination.left destination.stride }
-        requires rows { (destination.top + (rect (view.page self.now.page.now) self.now.index).height) * destination.stride
+        requires rows { (destination.top + (rect (view.page self.now.page.now) self.now.index).height)
+            * destination.stride
             ≤ length (W.bytes buf.old) }
-        requires few { (destination.top + (rect (view.page self.now.page.now) self.now.index).height) * destination.stride < 2 ^ 64 }
+        requires few { (destination.top + (rect (view.page self.now.page.now) self.now.index).height)
+            * destination.stride < 2 ^ 64 }
         ensures kept { IsKept R.told R.failures result source.old source.new }
-        ensures ok { OnOk result (WritesChunk (R.told source.old).bytes self.now.order (view.page self.now.page.now) self.now.color
+        ensures ok { OnOk result
+            (WritesChunk (R.told source.old).bytes self.now.order (view.page self.now.page.now)
+            self.now.color
             self.now.index destination.stride destination.top destination.left (W.bytes buf.old) (W.bytes buf.new)) }
         ensures answer { Answers (λ _. tt) result (fail_if
-            (is_short (R.told source.old).bytes self.now.order (view.page self.now.page.now) self.now.color self.now.index)
+            (is_short (R.told source.old).bytes self.now.order (view.page self.now.page.now)
+            self.now.color self.now.index)
             (tiff.IoError io.UnexpectedEof)) (R.failures source.old) (R.failures source.new) }
-        ensures asked { AsksOnly (ChunkReadable (R.told source.old) (view.page self.now.page.now) self.now.color self.now.index) result }
+        ensures asked { AsksOnly
+            (ChunkReadable (R.told source.old) (view.page self.now.page.now) self.now.color
+            self.now.index) result }
     {
         let rows = self.height as usize;
         let mut position = self.front();

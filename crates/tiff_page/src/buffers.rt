@@ -102,8 +102,10 @@ pub fn image_chunk_buffer_layout(
     alloc: Global,
     index: u32,
 ) -> TiffResult<BufferLayoutPreference>
-    ensures answer { AnswersWithoutSource (λ l. l) result (spec.image_chunk_buffer_layout (view.page page.now) index) }
-    ensures memory { WantsWhere (IsListFault (spec.image_chunk_buffer_layout (view.page page.now) index)) result }
+    ensures answer { AnswersWithoutSource (λ l. l) result
+        (spec.image_chunk_buffer_layout (view.page page.now) index) }
+    ensures memory { WantsWhere (IsListFault (spec.image_chunk_buffer_layout (view.page page.now) index))
+        result }
     ensures rows { IfOk result (λ l. IfSome l.row_stride (λ n. 0 < n)) }
     ensures plane { IfOk result (λ l. IfSome l.plane_stride (λ n. 0 < n)) }
 {
@@ -145,8 +147,10 @@ pub fn image_coding_unit_layout(
     alloc: Global,
     unit: TiffCodingUnit,
 ) -> TiffResult<BufferLayoutPreference>
-    ensures answer { AnswersWithoutSource (λ l. l) result (spec.image_coding_unit_layout (view.page page.now) unit.0) }
-    ensures memory { WantsWhere (IsListFault (spec.image_coding_unit_layout (view.page page.now) unit.0)) result }
+    ensures answer { AnswersWithoutSource (λ l. l) result
+        (spec.image_coding_unit_layout (view.page page.now) unit.0) }
+    ensures memory { WantsWhere (IsListFault (spec.image_coding_unit_layout (view.page page.now) unit.0))
+        result }
     ensures rows { IfOk result (λ l. IfSome l.row_stride (λ n. 0 < n)) }
     ensures plane { IfOk result (λ l. IfSome l.plane_stride (λ n. 0 < n)) }
 {

@@ -17,14 +17,14 @@ use tiff_base::error::{TiffError, TiffResult};
 use tiff_base::io::{IoKind, Source};
 use tiff_base::read::read_exact_at;
 use tiff_base::tags::CompressionMethod;
-use tiff_ifd::packbits::PackedPosition;
+use tiff_ifd::packbits::PackBitsCursor;
 
 /// A position in the data of a chunk: at an offset in the file, in PackBits data, or after the last
 /// byte of these.
 #[derive(Clone, Copy, Debug)]
 pub enum ChunkCursor {
     Plain(u64),
-    Packed(PackedPosition),
+    Packed(PackBitsCursor),
     Ended,
 }
 
@@ -34,11 +34,12 @@ const PIECE: usize = 65536;
 // Skips `n` bytes of PackBits data after decompression, or all that are left if there are fewer.
 fn pass_packed<R: Source>(
     source: &mut R,
-    position: PackedPosition,
+    position: PackBitsCursor,
     n: u64,
 ) -> TiffResult<ChunkCursor>
     ensures kept { IsKept R.told R.failures result source.old source.new }
-    ensures passed { Passes (R.told source.old).bytes (Packed position) (R.failures source.old < R.failures source.new) n result }
+    ensures passed { Passes (R.told source.old).bytes (Packed position)
+        (R.failures source.old < R.failures source.new) n result }
     ensures asked { AsksOnly (PackedReadable (R.told source.old) position) result }
     ensures moves { IfOk result (λ rest. Moves (Packed position) n rest) }
 {
@@ -63,11 +64,14 @@ impl ChunkCursor {
     #[tactic(auto, using(crate::proofs::Data::unpacked_out))]
     pub fn new(method: CompressionMethod, at: u64, count: u64) -> Self
         requires { method_fault method ≡ Ok tt }
-        ensures rest { (file : List ℕ) (order : ByteOrder) (p : PageRecord) → bytes_left file result ≡ data_by_method file order p method at count }
-        ensures readable { (source : SourceRecord) (n : ℕ) → AreReadable source at (if is_packed method then count else n) → StoredReadable source result n }
+        ensures rest { (file : List ℕ) (order : ByteOrder) (p : PageRecord)
+            → bytes_left file result ≡ data_by_method file order p method at count }
+        ensures readable { (source : SourceRecord) (n : ℕ)
+            → AreReadable source at (if is_packed method then count else n)
+            → StoredReadable source result n }
     {
         match method {
-            CompressionMethod::PackBits => ChunkCursor::Packed(PackedPosition::new(at, count)),
+            CompressionMethod::PackBits => ChunkCursor::Packed(PackBitsCursor::new(at, count)),
             _ => ChunkCursor::Plain(at),
         }
     }
@@ -76,7 +80,8 @@ impl ChunkCursor {
     /// `IoError(UnexpectedEof)` if fewer bytes are left.
     pub fn read<R: Source>(self, source: &mut R, buf: &mut [u8]) -> TiffResult<ChunkCursor>
         ensures kept { IsKept R.told R.failures result source.old source.new }
-        ensures taken { Takes (R.told source.old).bytes self ⊥ (R.failures source.old < R.failures source.new) (length buf.old) buf.new result }
+        ensures taken { Takes (R.told source.old).bytes self ⊥ (R.failures source.old < R.failures source.new)
+            (length buf.old) buf.new result }
         ensures asked { AsksOnly (StoredReadable (R.told source.old) self (length buf.old)) result }
         ensures moves { IfOk result (λ rest. Moves self (length buf.old) rest) }
     {
@@ -108,7 +113,8 @@ impl ChunkCursor {
         len: usize,
     ) -> TiffResult<ChunkCursor>
         ensures kept { IsKept R.told R.failures result source.old source.new }
-        ensures taken { Takes (R.told source.old).bytes self (Unit {0}) (R.failures source.old < R.failures source.new) len
+        ensures taken { Takes (R.told source.old).bytes self (Unit {0})
+            (R.failures source.old < R.failures source.new) len
             row.new.items result }
         ensures grown { length row.new.items ≤ length (bytes_left (R.told source.old).bytes self) + PIECE }
         ensures asked { AsksOnly (StoredReadable (R.told source.old) self len) result }
@@ -128,7 +134,8 @@ impl ChunkCursor {
     #[tactic(auto, using(crate::proofs::Data::passed_end))]
     pub fn pass<R: Source>(self, source: &mut R, n: u64) -> TiffResult<ChunkCursor>
         ensures kept { IsKept R.told R.failures result source.old source.new }
-        ensures passed { Passes (R.told source.old).bytes self (R.failures source.old < R.failures source.new) n result }
+        ensures passed { Passes (R.told source.old).bytes self (R.failures source.old < R.failures source.new)
+            n result }
         ensures asked { AsksOnly (StoredReadable (R.told source.old) self n) result }
         ensures moves { IfOk result (λ rest. Moves self n rest) }
     {

@@ -105,10 +105,14 @@ impl ChunkReader<'_> {
         requires width { self.now.width ≤ self.now.page.now.chunk_width }
         requires out { length out.old ≡ row_bytes (view.page self.now.page.now) self.now.color self.now.width }
         ensures kept { IsKept R.told R.failures result source.old source.new }
-        ensures row { RowRead (R.told source.old).bytes self.now.order (view.page self.now.page.now) self.now.color position (Unit {0})
+        ensures row { RowRead (R.told source.old).bytes self.now.order (view.page self.now.page.now)
+            self.now.color position (Unit {0})
             (R.failures source.old < R.failures source.new) out.new result }
-        ensures asked { AsksOnly (StoredReadable (R.told source.old) position (stored_row_bytes (view.page self.now.page.now))) result }
-        ensures moves { IfOk result (λ rest. Moves position (stored_row_bytes (view.page self.now.page.now)) rest) }
+        ensures asked { AsksOnly
+            (StoredReadable (R.told source.old) position
+            (stored_row_bytes (view.page self.now.page.now))) result }
+        ensures moves { IfOk result
+            (λ rest. Moves position (stored_row_bytes (view.page self.now.page.now)) rest) }
     {
         let page = self.page;
         let rest = position.read_grown(source, &mut room.row, stored_row_bytes(page))?;
@@ -130,9 +134,11 @@ impl ChunkReader<'_> {
     ) -> TiffResult<ChunkCursor>
         requires turned { needs_swap self.now.order self.now.page.now.depth ≡ true }
         requires size { IsSize (self.now.page.now.depth / 8) }
-        requires whole { length out.old / (self.now.page.now.depth / 8) * (self.now.page.now.depth / 8) ≡ length out.old }
+        requires whole { length out.old / (self.now.page.now.depth / 8) * (self.now.page.now.depth / 8)
+            ≡ length out.old }
         ensures kept { IsKept R.told R.failures result source.old source.new }
-        ensures numbers { NumbersRead (R.told source.old).bytes self.now.order (view.page self.now.page.now) position
+        ensures numbers { NumbersRead (R.told source.old).bytes self.now.order (view.page self.now.page.now)
+            position
             (R.failures source.old < R.failures source.new) out.new result }
         ensures asked { AsksOnly (StoredReadable (R.told source.old) position (length out.old)) result }
         ensures moves { IfOk result (λ rest. Moves position (length out.old) rest) }
@@ -156,7 +162,8 @@ impl ChunkReader<'_> {
         requires whole { (self.now.page.now.depth < 8)
             ⊎ (length out.old / (self.now.page.now.depth / 8) * (self.now.page.now.depth / 8) ≡ length out.old) }
         ensures kept { IsKept R.told R.failures result source.old source.new }
-        ensures numbers { NumbersRead (R.told source.old).bytes self.now.order (view.page self.now.page.now) position
+        ensures numbers { NumbersRead (R.told source.old).bytes self.now.order (view.page self.now.page.now)
+            position
             (R.failures source.old < R.failures source.new) out.new result }
         ensures asked { AsksOnly (StoredReadable (R.told source.old) position (length out.old)) result }
         ensures moves { IfOk result (λ rest. Moves position (length out.old) rest) }
@@ -181,7 +188,8 @@ impl ChunkReader<'_> {
         requires whole { (self.now.page.now.depth < 8)
             ⊎ (length out.old / (self.now.page.now.depth / 8) * (self.now.page.now.depth / 8) ≡ length out.old) }
         ensures kept { IsKept R.told R.failures result source.old source.new }
-        ensures row { RowRead (R.told source.old).bytes self.now.order (view.page self.now.page.now) self.now.color position (Unit {0})
+        ensures row { RowRead (R.told source.old).bytes self.now.order (view.page self.now.page.now)
+            self.now.color position (Unit {0})
             (R.failures source.old < R.failures source.new) out.new result }
         ensures asked { AsksOnly (StoredReadable (R.told source.old) position (length out.old)) result }
         ensures moves { IfOk result (λ rest. Moves position (length out.old) rest) }
@@ -203,11 +211,15 @@ impl ChunkReader<'_> {
         requires width { self.now.width ≤ self.now.page.now.chunk_width }
         requires out { length out.old ≡ row_bytes (view.page self.now.page.now) self.now.color self.now.width }
         ensures kept { IsKept R.told R.failures result source.old source.new }
-        ensures row { RowRead (R.told source.old).bytes self.now.order (view.page self.now.page.now) self.now.color position (Unit {0})
+        ensures row { RowRead (R.told source.old).bytes self.now.order (view.page self.now.page.now)
+            self.now.color position (Unit {0})
             (R.failures source.old < R.failures source.new) out.new result }
-        ensures asked { AsksOnly (StoredReadable (R.told source.old) position (needed_of_row (view.page self.now.page.now) self.now.color
+        ensures asked { AsksOnly
+            (StoredReadable (R.told source.old) position
+            (needed_of_row (view.page self.now.page.now) self.now.color
             (length out.old))) result }
-        ensures moves { IfOk result (λ rest. Moves position (needed_of_row (view.page self.now.page.now) self.now.color
+        ensures moves { IfOk result
+            (λ rest. Moves position (needed_of_row (view.page self.now.page.now) self.now.color
             (length out.old)) rest) }
     {
         if needs_whole_rows(self.page, self.color) {
@@ -218,7 +230,8 @@ impl ChunkReader<'_> {
 
     // Returns the number of bytes at the end of a stored row that aren't read.
     fn gap(&self, len: usize) -> u64
-        ensures { result ≡ stored_row_bytes (view.page self.now.page.now) - needed_of_row (view.page self.now.page.now) self.now.color len }
+        ensures { result ≡ stored_row_bytes (view.page self.now.page.now)
+            - needed_of_row (view.page self.now.page.now) self.now.color len }
     {
         if needs_whole_rows(self.page, self.color) {
             return 0;
@@ -232,7 +245,8 @@ impl ChunkReader<'_> {
         requires listed { self.now.index < length self.now.page.now.offsets }
         ensures rest { (file : List ℕ) (order : ByteOrder) → bytes_left file result
             ≡ chunk_data file order (view.page self.now.page.now) self.now.index }
-        ensures readable { (source : SourceRecord) (n : ℕ) → DataReadable source (view.page self.now.page.now) self.now.index n
+        ensures readable { (source : SourceRecord) (n : ℕ)
+            → DataReadable source (view.page self.now.page.now) self.now.index n
             → StoredReadable source result n }
     {
         let page = self.page;
@@ -258,16 +272,23 @@ impl ChunkReader<'_> {
         requires some { 0 < destination.stride }
         requires columns { destination.left + row_bytes (view.page self.now.page.now) self.now.color
             (rect (view.page self.now.page.now) self.now.index).width ≤ destination.stride }
-        requires rows { (destination.top + (rect (view.page self.now.page.now) self.now.index).height) * destination.stride
+        requires rows { (destination.top + (rect (view.page self.now.page.now) self.now.index).height)
+            * destination.stride
             ≤ length (W.bytes buf.old) }
-        requires few { (destination.top + (rect (view.page self.now.page.now) self.now.index).height) * destination.stride < 2 ^ 64 }
+        requires few { (destination.top + (rect (view.page self.now.page.now) self.now.index).height)
+            * destination.stride < 2 ^ 64 }
         ensures kept { IsKept R.told R.failures result source.old source.new }
-        ensures ok { OnOk result (WritesChunk (R.told source.old).bytes self.now.order (view.page self.now.page.now) self.now.color
+        ensures ok { OnOk result
+            (WritesChunk (R.told source.old).bytes self.now.order (view.page self.now.page.now)
+            self.now.color
             self.now.index destination.stride destination.top destination.left (W.bytes buf.old) (W.bytes buf.new)) }
         ensures answer { Answers (λ _. tt) result (fail_if
-            (is_short (R.told source.old).bytes self.now.order (view.page self.now.page.now) self.now.color self.now.index)
+            (is_short (R.told source.old).bytes self.now.order (view.page self.now.page.now)
+            self.now.color self.now.index)
             (tiff.IoError io.UnexpectedEof)) (R.failures source.old) (R.failures source.new) }
-        ensures asked { AsksOnly (ChunkReadable (R.told source.old) (view.page self.now.page.now) self.now.color self.now.index) result }
+        ensures asked { AsksOnly
+            (ChunkReadable (R.told source.old) (view.page self.now.page.now) self.now.color
+            self.now.index) result }
     {
         let rows = self.height as usize;
         let len = row_len(self.page, self.color, self.width);
@@ -297,16 +318,23 @@ impl ChunkReader<'_> {
         requires some { 0 < destination.stride }
         requires columns { destination.left + row_bytes (view.page self.now.page.now) self.now.color
             (rect (view.page self.now.page.now) self.now.index).width ≤ destination.stride }
-        requires rows { (destination.top + (rect (view.page self.now.page.now) self.now.index).height) * destination.stride
+        requires rows { (destination.top + (rect (view.page self.now.page.now) self.now.index).height)
+            * destination.stride
             ≤ length (W.bytes buf.old) }
-        requires few { (destination.top + (rect (view.page self.now.page.now) self.now.index).height) * destination.stride < 2 ^ 64 }
+        requires few { (destination.top + (rect (view.page self.now.page.now) self.now.index).height)
+            * destination.stride < 2 ^ 64 }
         ensures kept { IsKept R.told R.failures result source.old source.new }
-        ensures ok { OnOk result (WritesChunk (R.told source.old).bytes self.now.order (view.page self.now.page.now) self.now.color
+        ensures ok { OnOk result
+            (WritesChunk (R.told source.old).bytes self.now.order (view.page self.now.page.now)
+            self.now.color
             self.now.index destination.stride destination.top destination.left (W.bytes buf.old) (W.bytes buf.new)) }
         ensures answer { Answers (λ _. tt) result (fail_if
-            (is_short (R.told source.old).bytes self.now.order (view.page self.now.page.now) self.now.color self.now.index)
+            (is_short (R.told source.old).bytes self.now.order (view.page self.now.page.now)
+            self.now.color self.now.index)
             (tiff.IoError io.UnexpectedEof)) (R.failures source.old) (R.failures source.new) }
-        ensures asked { AsksOnly (ChunkReadable (R.told source.old) (view.page self.now.page.now) self.now.color self.now.index) result }
+        ensures asked { AsksOnly
+            (ChunkReadable (R.told source.old) (view.page self.now.page.now) self.now.color
+            self.now.index) result }
     {
         if self.is_contiguous(destination) {
             return self.read_contiguous(source, destination, writer, buf);

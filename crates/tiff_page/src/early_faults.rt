@@ -59,7 +59,8 @@ fn needed_bytes(page: &Page, color: ColorType, index: u32) -> u128
 fn reach<R: Source>(source: &mut R, at: u64, len: u128) -> TiffResult<()>
     requires few { len < 2 ^ 89 }
     ensures kept { IsKept R.told R.failures result source.old source.new }
-    ensures answer { AnswersWithoutMemory (λ _. tt) result (fail_if (nat_lt (length (R.told source.old).bytes - at) len)
+    ensures answer { AnswersWithoutMemory (λ _. tt) result
+        (fail_if (nat_lt (length (R.told source.old).bytes - at) len)
         (tiff.IoError io.UnexpectedEof)) (R.failures source.old) (R.failures source.new) }
     ensures asked { AsksOnly (AreReadable (R.told source.old) at len) result }
 {
@@ -80,7 +81,8 @@ fn reach_packed<R: Source>(source: &mut R, at: u64, count: u64, needed: u128) ->
     requires few { needed < 2 ^ 89 }
     ensures kept { IsKept R.told R.failures result source.old source.new }
     ensures answer { AnswersWithoutMemory (λ _. tt) result (fail_if
-        (nat_lt (min count (length (R.told source.old).bytes - at)) (div_ceil needed 64)) (tiff.IoError io.UnexpectedEof))
+        (nat_lt (min count (length (R.told source.old).bytes - at)) (div_ceil needed 64))
+        (tiff.IoError io.UnexpectedEof))
         (R.failures source.old) (R.failures source.new) }
     ensures asked { AsksOnly (AreReadable (R.told source.old) at count) result }
 {
@@ -97,7 +99,8 @@ fn cut_fault<R: Source>(source: &mut R, page: &Page, color: ColorType, index: u3
     requires listed { index < length page.now.offsets }
     ensures kept { IsKept R.told R.failures result source.old source.new }
     ensures answer { AnswersWithoutMemory (λ _. tt) result (fail_if
-        (spec.is_cut (R.told source.old).bytes (view.page page.now) color index) (tiff.IoError io.UnexpectedEof))
+        (spec.is_cut (R.told source.old).bytes (view.page page.now) color index)
+        (tiff.IoError io.UnexpectedEof))
         (R.failures source.old) (R.failures source.new) }
     ensures asked { AsksOnly (ChunkReadable (R.told source.old) (view.page page.now) color index) result }
 {
@@ -122,10 +125,13 @@ impl PageReader<'_> {
         index: u32,
     ) -> TiffResult<()>
         ensures kept { IsKept R.told R.failures result source.old source.new }
-        ensures answer { AnswersWithoutMemory (λ _. tt) result (chunk_fault (view.page self.now.page.now) self.now.limits.now
-            (spec.is_cut (R.told source.old).bytes (view.page self.now.page.now) color) color index) (R.failures source.old)
+        ensures answer { AnswersWithoutMemory (λ _. tt) result
+            (chunk_fault (view.page self.now.page.now) self.now.limits.now
+            (spec.is_cut (R.told source.old).bytes (view.page self.now.page.now) color) color index)
+            (R.failures source.old)
             (R.failures source.new) }
-        ensures asked { AsksOnly (ChunkReadable (R.told source.old) (view.page self.now.page.now) color index) result }
+        ensures asked { AsksOnly (ChunkReadable (R.told source.old) (view.page self.now.page.now) color index)
+            result }
     {
         form_fault(self.page, self.limits, color, index as usize)?;
         cut_fault(source, self.page, color, index)

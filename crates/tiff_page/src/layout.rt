@@ -95,7 +95,13 @@ pub fn chunks_of_plane(page: &Page) -> u32
 pub fn rect(page: &Page, index: u32) -> ChunkRect
     ensures wide { 0 < result.width }
     ensures high { 0 < result.height }
-    ensures position { record { plane = result.plane; x = result.x; y = result.y; width = result.width; height = result.height }
+    ensures position { record {
+      plane = result.plane;
+      x = result.x;
+      y = result.y;
+      width = result.width;
+      height = result.height;
+    }
         ≡ rects.rect (view.page page.now) index }
 {
     let chunk_width = page.chunk_width;
@@ -120,7 +126,10 @@ pub fn rect(page: &Page, index: u32) -> ChunkRect
 pub fn chunk_data_dimensions(page: &Page, index: u32) -> (u32, u32)
     ensures wide { 0 < result.0 }
     ensures high { 0 < result.1 }
-    ensures size { result ≡ ((rects.rect (view.page page.now) index).width, (rects.rect (view.page page.now) index).height) }
+    ensures size { result ≡ (
+      (rects.rect (view.page page.now) index).width,
+      (rects.rect (view.page page.now) index).height,
+    ) }
 {
     let rect = rect(page, index);
     (rect.width, rect.height)

@@ -281,7 +281,9 @@ pub(crate) fn grow<T: Number<N>, const N: usize>(
     numbers: &mut Vec<T>,
     count: usize,
 ) -> Result<(), AllocError>
-    ensures { OnOk result (map T.bits numbers.new.items ≡ map T.bits numbers.old.items ++ replicate (count - length numbers.old.items) 0) }
+    ensures { OnOk result
+        (map T.bits numbers.new.items ≡ map T.bits numbers.old.items
+        ++ replicate (count - length numbers.old.items) 0) }
 {
     if numbers.len() < count {
         numbers.resize(count, T::zero())?;
@@ -295,7 +297,8 @@ pub(crate) fn grow<T: Number<N>, const N: usize>(
 fn put_front<T: Number<N>, const N: usize>(numbers: &mut [T], row: &[u8])
     requires some { 0 < N }
     requires room { length row.now / N ≤ length numbers.old }
-    ensures { NumbersArePut N 0 row.now (length row.now / N) (map T.bits numbers.old) (map T.bits numbers.new) }
+    ensures { NumbersArePut N 0 row.now (length row.now / N) (map T.bits numbers.old)
+        (map T.bits numbers.new) }
 {
     let (pieces, _) = row.as_chunks::<N>();
     for k in 0..pieces.len() {
@@ -307,7 +310,8 @@ fn put_front<T: Number<N>, const N: usize>(numbers: &mut [T], row: &[u8])
 fn put_numbers<T: Number<N>, const N: usize>(numbers: &mut [T], first: usize, row: &[u8])
     requires some { 0 < N }
     requires room { first + length row.now / N ≤ length numbers.old }
-    ensures { NumbersArePut N first row.now (length row.now / N) (map T.bits numbers.old) (map T.bits numbers.new) }
+    ensures { NumbersArePut N first row.now (length row.now / N) (map T.bits numbers.old)
+        (map T.bits numbers.new) }
 {
     put_front(&mut numbers[first..], row);
 }
@@ -317,7 +321,8 @@ fn put_numbers<T: Number<N>, const N: usize>(numbers: &mut [T], first: usize, ro
 fn put_byte<T: Number<N>, const N: usize>(numbers: &mut [T], at: usize, byte: u8)
     requires some { 0 < N }
     requires room { at < length (bytes_in N (map T.bits numbers.old)) }
-    ensures { IsPut at (byte ∷ []) (bytes_in N (map T.bits numbers.old)) (bytes_in N (map T.bits numbers.new)) }
+    ensures { IsPut at (byte ∷ []) (bytes_in N (map T.bits numbers.old))
+        (bytes_in N (map T.bits numbers.new)) }
 {
     let mut bytes = numbers[at / N].bytes();
     bytes[at % N] = byte;
@@ -330,7 +335,8 @@ fn put_bytes<T: Number<N>, const N: usize>(numbers: &mut [T], at: usize, row: &[
     requires some { 0 < N }
     requires room { at + length row.now ≤ length (bytes_in N (map T.bits numbers.old)) }
     requires fits { at + length row.now < 2 ^ 64 }
-    ensures { IsPut at row.now (bytes_in N (map T.bits numbers.old)) (bytes_in N (map T.bits numbers.new)) }
+    ensures { IsPut at row.now (bytes_in N (map T.bits numbers.old))
+        (bytes_in N (map T.bits numbers.new)) }
 {
     for k in 0..row.len() {
         put_byte(numbers, at + k, row[k]);
@@ -343,7 +349,8 @@ pub(crate) fn put_row<T: Number<N>, const N: usize>(numbers: &mut [T], at: usize
     requires some { 0 < N }
     requires room { at + length row.now ≤ length (bytes_in N (map T.bits numbers.old)) }
     requires fits { at + length row.now < 2 ^ 64 }
-    ensures { IsPut at row.now (bytes_in N (map T.bits numbers.old)) (bytes_in N (map T.bits numbers.new)) }
+    ensures { IsPut at row.now (bytes_in N (map T.bits numbers.old))
+        (bytes_in N (map T.bits numbers.new)) }
 {
     if at % N == 0 && row.len() % N == 0 {
         put_numbers(numbers, at / N, row);

@@ -68,7 +68,9 @@ fn undo_differences(page: &Page, row: &mut [u8])
     requires sizes { (page.now.depth < 8) ⊎ IsSize (page.now.depth / 8) }
     requires deep { (page.now.depth < 8) ⊎ (page.now.depth ≡ page.now.depth / 8 * 8) }
     requires in_place { pixels.is_byte_plane page.now.predictor ≡ false }
-    ensures numbers { 8 ≤ page.now.depth → RowReplaced (page.now.depth / 8) (pixels.number_of_row LittleEndian (view.page page.now) row.old) row.old row.new }
+    ensures numbers { 8 ≤ page.now.depth
+        → RowReplaced (page.now.depth / 8)
+        (pixels.number_of_row LittleEndian (view.page page.now) row.old) row.old row.new }
     ensures packed { page.now.depth < 8 → row.new ≡ row.old }
     ensures octets { EachIndex row.new (λ i. slice_index row.new i < 256) }
 {
@@ -86,7 +88,9 @@ fn undo_differences(page: &Page, row: &mut [u8])
 
 // Complements the bytes of a row if the interpretation of the page is `WhiteIsZero`.
 fn complement(page: &Page, row: &mut [u8])
-    ensures { EachIndex row.new (λ b. slice_index row.new b ≡ pixels.shown_number page.now.interpretation 256 (slice_index row.old b)) }
+    ensures { EachIndex row.new
+        (λ b. slice_index row.new b ≡ pixels.shown_number page.now.interpretation 256
+        (slice_index row.old b)) }
 {
     if matches!(page.interpretation, PhotometricInterpretation::WhiteIsZero) {
         invert(row);
@@ -98,9 +102,12 @@ fn complement(page: &Page, row: &mut [u8])
 pub fn finish_row(page: &Page, color: ColorType, row: &mut [u8])
     requires read { IsRead (view.page page.now) color }
     requires in_place { pixels.needs_whole_rows (view.page page.now) color ≡ false }
-    requires whole { (page.now.depth < 8) ⊎ (length row.old / (page.now.depth / 8) * (page.now.depth / 8) ≡ length row.old) }
-    ensures { (order : ByteOrder) (stored : List ℕ) → HoldsNumbersOf order (view.page page.now) stored row.old
-        → EachIndex row.new (λ b. slice_index row.new b ≡ handed_byte order (view.page page.now) stored color b) }
+    requires whole { (page.now.depth < 8)
+        ⊎ (length row.old / (page.now.depth / 8) * (page.now.depth / 8) ≡ length row.old) }
+    ensures { (order : ByteOrder) (stored : List ℕ)
+        → HoldsNumbersOf order (view.page page.now) stored row.old
+        → EachIndex row.new
+        (λ b. slice_index row.new b ≡ handed_byte order (view.page page.now) stored color b) }
 {
     undo_differences(page, row);
     complement(page, row);
@@ -112,7 +119,8 @@ fn turn_whole(page: &Page, order: ByteOrder, row: &mut [u8], room: &mut [u8])
     requires size { IsSize (page.now.depth / 8) }
     requires whole { length row.old / (page.now.depth / 8) * (page.now.depth / 8) ≡ length row.old }
     requires room { spec.needs_swap order page.now.depth ≡ true → length room.old ≡ length row.old }
-    ensures { RowReplaced (page.now.depth / 8) (pixels.row_number order (page.now.depth / 8) row.old) row.old row.new }
+    ensures { RowReplaced (page.now.depth / 8)
+        (pixels.row_number order (page.now.depth / 8) row.old) row.old row.new }
 {
     if needs_swap(order, page) {
         room.copy_from_slice(row);
@@ -126,8 +134,10 @@ fn undo_whole(page: &Page, order: ByteOrder, row: &mut [u8], room: &mut [u8])
     requires size { IsSize (page.now.depth / 8) }
     requires deep { page.now.depth ≡ page.now.depth / 8 * 8 }
     requires row { length row.old ≡ pixels.stored_row_bytes (view.page page.now) }
-    requires room { (pixels.is_byte_plane page.now.predictor || spec.needs_swap order page.now.depth) ≡ true → length room.old ≡ length row.old }
-    ensures numbers { RowReplaced (page.now.depth / 8) (pixels.number_of_row order (view.page page.now) row.old) row.old row.new }
+    requires room { (pixels.is_byte_plane page.now.predictor || spec.needs_swap order page.now.depth) ≡ true
+        → length room.old ≡ length row.old }
+    ensures numbers { RowReplaced (page.now.depth / 8) (pixels.number_of_row order (view.page page.now) row.old)
+        row.old row.new }
     ensures octets { EachIndex row.new (λ i. slice_index row.new i < 256) }
 {
     let depth = page.depth;
@@ -197,9 +207,11 @@ impl ChunkReader<'_> {
         requires whole { pixels.needs_whole_rows (view.page self.now.page.now) self.now.color ≡ true }
         requires width { self.now.width ≤ self.now.page.now.chunk_width }
         requires row { length row.old ≡ pixels.stored_row_bytes (view.page self.now.page.now) }
-        requires room { (pixels.is_byte_plane self.now.page.now.predictor || spec.needs_swap self.now.order self.now.page.now.depth) ≡ true
+        requires room { (pixels.is_byte_plane self.now.page.now.predictor || spec.needs_swap self.now.order
+            self.now.page.now.depth) ≡ true
             → length room.old ≡ length row.old }
-        requires out { length out.old ≡ layouts.row_bytes (view.page self.now.page.now) self.now.color self.now.width }
+        requires out { length out.old ≡ layouts.row_bytes (view.page self.now.page.now) self.now.color
+            self.now.width }
         ensures { EachIndex out.new (λ b. slice_index out.new b
             ≡ handed_byte self.now.order (view.page self.now.page.now) row.old self.now.color b) }
     {

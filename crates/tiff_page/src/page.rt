@@ -45,7 +45,8 @@ pub struct Page {
     ghost deep: { 0 < depth },
     ghost chunk_wide: { 0 < chunk_width },
     ghost chunk_high: { 0 < chunk_height },
-    ghost counted: { length offsets ≡ chunk_count width height chunk_width chunk_height (planes_of planar samples) },
+    ghost counted: { length offsets ≡ chunk_count width height chunk_width chunk_height
+        (planes_of planar samples) },
     ghost counted_bytes: { length byte_counts ≡ length offsets },
     ghost few: { length offsets < 2 ^ 32 },
 }

@@ -77,7 +77,11 @@ fn planes_used(page: &Page, layout: PlaneLayout, len: usize) -> u16
     requires some { 0 < layouts.planes page.now.planar layout.color }
     requires room { layout.plane_stride ≤ len }
     ensures value { result ≡ calls.planes_used (view.page page.now)
-        (record { color = layout.color; row_bytes = layout.row_bytes; plane_stride = layout.plane_stride }) len }
+        (record {
+          color = layout.color;
+          row_bytes = layout.row_bytes;
+          plane_stride = layout.plane_stride;
+        }) len }
     ensures some { 0 < result }
     ensures room { result * layout.plane_stride ≤ len }
 {
@@ -98,7 +102,8 @@ fn chunk_layout(page: &Page, alloc: Global, index: u32) -> TiffResult<PlaneLayou
     ensures colored { IfOk result (λ l. layouts.color_of (view.page page.now) ≡ Ok l.color) }
     ensures columns { IfOk result (λ l. layouts.row_bytes (view.page page.now) l.color
         (rects.rect (view.page page.now) index).width ≤ l.row_bytes) }
-    ensures stride { IfOk result (λ l. (rects.rect (view.page page.now) index).height * l.row_bytes ≡ l.plane_stride) }
+    ensures stride { IfOk result
+        (λ l. (rects.rect (view.page page.now) index).height * l.row_bytes ≡ l.plane_stride) }
     ensures plane { IfOk result (λ l. 0 < l.plane_stride) }
     ensures some { IfOk result (λ l. 0 < layouts.planes page.now.planar l.color) }
 {
@@ -122,7 +127,11 @@ fn planes_within(page: &Page, limits: &Limits, layout: PlaneLayout) -> u16
     requires some { 0 < layouts.planes page.now.planar layout.color }
     requires fits { layout.plane_stride * layouts.planes page.now.planar layout.color < 2 ^ 64 }
     ensures value { result ≡ calls.planes_within (view.page page.now) limits.now
-        (record { color = layout.color; row_bytes = layout.row_bytes; plane_stride = layout.plane_stride }) }
+        (record {
+          color = layout.color;
+          row_bytes = layout.row_bytes;
+          plane_stride = layout.plane_stride;
+        }) }
     ensures some { 0 < result }
     ensures fits { layout.plane_stride * result < 2 ^ 64 }
 {
@@ -168,10 +177,13 @@ impl PageReader<'_> {
     ) -> TiffResult<Vec<T>>
         requires { 0 < N }
         ensures kept { IsKept R.told R.failures result source.old source.new }
-        ensures answer { AnswersSparingly (λ _. tt) result (early_fault (R.told source.old).bytes (view.page self.now.page.now)
+        ensures answer { AnswersSparingly (λ _. tt) result
+            (early_fault (R.told source.old).bytes (view.page self.now.page.now)
             self.now.limits.now (color_in request) sample_type (first_in request) len) (R.failures source.old)
             (R.failures source.new) }
-        ensures asked { AsksOnly (ChunkReadable (R.told source.old) (view.page self.now.page.now) (color_in request) (first_in request)) result }
+        ensures asked { AsksOnly
+            (ChunkReadable (R.told source.old) (view.page self.now.page.now) (color_in request)
+            (first_in request)) result }
         ensures none { IfOk result (λ v. v.items ≡ []) }
     {
         limit_fault(self.limits, size_of(sample_type), len)?;
@@ -193,11 +205,15 @@ impl PageReader<'_> {
         requires room { room_of (view.page self.now.page.now) request ≤ len }
         requires none { list.old.items ≡ [] }
         ensures kept { IsKept R.told R.failures result source.old source.new }
-        ensures answer { Answers (λ _. W.bytes list.new.items) result (fill_buffer (R.told source.old).bytes self.now.order
+        ensures answer { Answers (λ _. W.bytes list.new.items) result
+            (fill_buffer (R.told source.old).bytes self.now.order
             (view.page self.now.page.now) self.now.limits.now (color_in request)
-            (part_of (R.told source.old).bytes self.now.order (view.page self.now.page.now) request) (replicate (W.whole len) 0))
+            (part_of (R.told source.old).bytes self.now.order (view.page self.now.page.now) request)
+            (replicate (W.whole len) 0))
             (R.failures source.old) (R.failures source.new) }
-        ensures asked { AsksOnly (PartReadable (R.told source.old) (view.page self.now.page.now) (color_in request) (part_of (R.told source.old).bytes self.now.order
+        ensures asked { AsksOnly
+            (PartReadable (R.told source.old) (view.page self.now.page.now) (color_in request)
+            (part_of (R.told source.old).bytes self.now.order
             (view.page self.now.page.now) request)) result }
     {
         match request {
@@ -228,13 +244,19 @@ impl PageReader<'_> {
         requires room { room_of (view.page self.now.page.now) request ≤ len }
         requires typed { layouts.sample_type_of (view.page self.now.page.now) ≡ Ok type.U8 }
         ensures kept { IsKept R.told R.failures result source.old source.new }
-        ensures memory { WantsAfter (early_fault (R.told source.old).bytes (view.page self.now.page.now) self.now.limits.now
+        ensures memory { WantsAfter
+            (early_fault (R.told source.old).bytes (view.page self.now.page.now) self.now.limits.now
             (color_in request) type.U8 (first_in request) len) result }
         ensures answer { Answers (λ v. record { sample_type = type.U8; numbers = v.items }) result
-            (calls.samples (R.told source.old).bytes self.now.order (view.page self.now.page.now) self.now.limits.now
-            (color_in request) (part_of (R.told source.old).bytes self.now.order (view.page self.now.page.now) request) len)
+            (calls.samples (R.told source.old).bytes self.now.order (view.page self.now.page.now)
+            self.now.limits.now
+            (color_in request)
+            (part_of (R.told source.old).bytes self.now.order (view.page self.now.page.now)
+            request) len)
             (R.failures source.old) (R.failures source.new) }
-        ensures asked { AsksOnly (PartReadable (R.told source.old) (view.page self.now.page.now) (color_in request) (part_of (R.told source.old).bytes self.now.order
+        ensures asked { AsksOnly
+            (PartReadable (R.told source.old) (view.page self.now.page.now) (color_in request)
+            (part_of (R.told source.old).bytes self.now.order
             (view.page self.now.page.now) request)) result }
     {
         let mut bytes: Vec<u8> = self.allocate_output(
@@ -263,13 +285,20 @@ impl PageReader<'_> {
         requires typed { layouts.sample_type_of (view.page self.now.page.now) ≡ Ok sample_type }
         requires size { layouts.size_of sample_type ≡ N }
         ensures kept { IsKept R.told R.failures result source.old source.new }
-        ensures memory { WantsAfter (early_fault (R.told source.old).bytes (view.page self.now.page.now) self.now.limits.now
+        ensures memory { WantsAfter
+            (early_fault (R.told source.old).bytes (view.page self.now.page.now) self.now.limits.now
             (color_in request) sample_type (first_in request) len) result }
-        ensures answer { Answers (λ v. record { sample_type = sample_type; numbers = map T.bits v.items }) result
-            (calls.samples (R.told source.old).bytes self.now.order (view.page self.now.page.now) self.now.limits.now
-            (color_in request) (part_of (R.told source.old).bytes self.now.order (view.page self.now.page.now) request) len)
+        ensures answer { Answers (λ v. record { sample_type = sample_type; numbers = map T.bits v.items })
+            result
+            (calls.samples (R.told source.old).bytes self.now.order (view.page self.now.page.now)
+            self.now.limits.now
+            (color_in request)
+            (part_of (R.told source.old).bytes self.now.order (view.page self.now.page.now)
+            request) len)
             (R.failures source.old) (R.failures source.new) }
-        ensures asked { AsksOnly (PartReadable (R.told source.old) (view.page self.now.page.now) (color_in request) (part_of (R.told source.old).bytes self.now.order
+        ensures asked { AsksOnly
+            (PartReadable (R.told source.old) (view.page self.now.page.now) (color_in request)
+            (part_of (R.told source.old).bytes self.now.order
             (view.page self.now.page.now) request)) result }
     {
         let mut numbers: Vec<T> = self.allocate_output(source, request, sample_type, len)?;
@@ -289,13 +318,18 @@ impl PageReader<'_> {
         requires laid { IsLaid (view.page self.now.page.now) request }
         requires room { room_of (view.page self.now.page.now) request ≤ len }
         ensures kept { IsKept R.told R.failures result source.old source.new }
-        ensures memory { WantsAfter (samples_early (R.told source.old).bytes (view.page self.now.page.now) self.now.limits.now
+        ensures memory { WantsAfter
+            (samples_early (R.told source.old).bytes (view.page self.now.page.now)
+            self.now.limits.now
             (color_in request) (first_in request) len) result }
         ensures answer { Answers samples_as result (calls.samples (R.told source.old).bytes self.now.order
             (view.page self.now.page.now) self.now.limits.now (color_in request)
-            (part_of (R.told source.old).bytes self.now.order (view.page self.now.page.now) request) len) (R.failures source.old)
+            (part_of (R.told source.old).bytes self.now.order (view.page self.now.page.now) request)
+            len) (R.failures source.old)
             (R.failures source.new) }
-        ensures asked { AsksOnly (PartReadable (R.told source.old) (view.page self.now.page.now) (color_in request) (part_of (R.told source.old).bytes self.now.order
+        ensures asked { AsksOnly
+            (PartReadable (R.told source.old) (view.page self.now.page.now) (color_in request)
+            (part_of (R.told source.old).bytes self.now.order
             (view.page self.now.page.now) request)) result }
     {
         let sample_type = sample_type_of(self.page, self.alloc)?;
@@ -346,7 +380,8 @@ pub fn read_image<R: Source>(
 ) -> TiffResult<Samples>
     ensures kept { IsKept R.told R.failures result source.old source.new }
     ensures memory { WantsAfter (image_early (R.told source.old).bytes (view.page page.now) limits.now) result }
-    ensures answer { Answers samples_as result (image_of (R.told source.old).bytes order (view.page page.now) limits.now)
+    ensures answer { Answers samples_as result
+        (image_of (R.told source.old).bytes order (view.page page.now) limits.now)
         (R.failures source.old) (R.failures source.new) }
     ensures asked { AsksOnly (ImageReadable (R.told source.old) (view.page page.now) (λ l. 1)) result }
 {
@@ -374,9 +409,12 @@ pub fn read_image_to_buffer<R: Source>(
     ensures kept { IsKept R.told R.failures result source.old source.new }
     ensures memory { WantsAfter (planes_early (R.told source.old).bytes (view.page page.now) limits.now) result }
     ensures answer { Answers (λ r. (r.0, samples_as r.1)) result
-        (calls.read_image_to_buffer (R.told source.old).bytes order (view.page page.now) limits.now) (R.failures source.old)
+        (calls.read_image_to_buffer (R.told source.old).bytes order (view.page page.now) limits.now)
+        (R.failures source.old)
         (R.failures source.new) }
-    ensures asked { AsksOnly (ImageReadable (R.told source.old) (view.page page.now) (λ l. calls.planes_within (view.page page.now) limits.now l)) result }
+    ensures asked { AsksOnly
+        (ImageReadable (R.told source.old) (view.page page.now)
+        (λ l. calls.planes_within (view.page page.now) limits.now l)) result }
 {
     let reader = PageReader {
         alloc,
@@ -407,9 +445,12 @@ pub fn read_image_bytes<R: Source>(
 ) -> TiffResult<()>
     ensures kept { IsKept R.told R.failures result source.old source.new }
     ensures memory { WantsAfter (image_bytes_early (view.page page.now) limits.now (length buf.old)) result }
-    ensures answer { Answers (λ _. buf.new) result (calls.read_image_bytes (R.told source.old).bytes order (view.page page.now)
+    ensures answer { Answers (λ _. buf.new) result
+        (calls.read_image_bytes (R.told source.old).bytes order (view.page page.now)
         limits.now buf.old) (R.failures source.old) (R.failures source.new) }
-    ensures asked { AsksOnly (ImageReadable (R.told source.old) (view.page page.now) (λ l. calls.planes_used (view.page page.now) l (length buf.old))) result }
+    ensures asked { AsksOnly
+        (ImageReadable (R.told source.old) (view.page page.now)
+        (λ l. calls.planes_used (view.page page.now) l (length buf.old))) result }
 {
     let reader = PageReader {
         alloc,
@@ -437,8 +478,10 @@ pub fn read_chunk<R: Source>(
     index: u32,
 ) -> TiffResult<Samples>
     ensures kept { IsKept R.told R.failures result source.old source.new }
-    ensures memory { WantsAfter (chunk_early (R.told source.old).bytes (view.page page.now) limits.now index) result }
-    ensures answer { Answers samples_as result (calls.read_chunk (R.told source.old).bytes order (view.page page.now) limits.now
+    ensures memory { WantsAfter (chunk_early (R.told source.old).bytes (view.page page.now) limits.now index)
+        result }
+    ensures answer { Answers samples_as result
+        (calls.read_chunk (R.told source.old).bytes order (view.page page.now) limits.now
         index) (R.failures source.old) (R.failures source.new) }
     ensures asked { AsksOnly (ChunksReadable (R.told source.old) (view.page page.now) index (λ l. 1)) result }
 {
@@ -467,8 +510,10 @@ pub fn read_chunk_bytes<R: Source>(
     buf: &mut [u8],
 ) -> TiffResult<()>
     ensures kept { IsKept R.told R.failures result source.old source.new }
-    ensures memory { WantsAfter (chunk_bytes_early (view.page page.now) limits.now index (length buf.old)) result }
-    ensures answer { Answers (λ _. buf.new) result (calls.read_chunk_bytes (R.told source.old).bytes order (view.page page.now)
+    ensures memory { WantsAfter (chunk_bytes_early (view.page page.now) limits.now index (length buf.old))
+        result }
+    ensures answer { Answers (λ _. buf.new) result
+        (calls.read_chunk_bytes (R.told source.old).bytes order (view.page page.now)
         limits.now index buf.old) (R.failures source.old) (R.failures source.new) }
     ensures asked { AsksOnly (ChunksReadable (R.told source.old) (view.page page.now) index (λ l. 1)) result }
 {
@@ -505,8 +550,11 @@ pub fn read_chunk_to_buffer<R: Source>(
     stride: usize,
 ) -> TiffResult<Samples>
     ensures kept { IsKept R.told R.failures result source.old source.new }
-    ensures memory { WantsAfter (strided_early (R.told source.old).bytes (view.page page.now) limits.now index stride) result }
-    ensures answer { Answers samples_as result (calls.read_chunk_to_buffer (R.told source.old).bytes order (view.page page.now)
+    ensures memory { WantsAfter
+        (strided_early (R.told source.old).bytes (view.page page.now) limits.now index stride)
+        result }
+    ensures answer { Answers samples_as result
+        (calls.read_chunk_to_buffer (R.told source.old).bytes order (view.page page.now)
         limits.now index stride) (R.failures source.old) (R.failures source.new) }
     ensures asked { AsksOnly (ChunksReadable (R.told source.old) (view.page page.now) index (λ l. 1)) result }
 {
@@ -540,9 +588,12 @@ pub fn read_coding_unit_bytes<R: Source>(
 ) -> TiffResult<()>
     ensures kept { IsKept R.told R.failures result source.old source.new }
     ensures memory { WantsAfter (unit_bytes_early (view.page page.now) limits.now unit (length buf.old)) result }
-    ensures answer { Answers (λ _. buf.new) result (calls.read_coding_unit_bytes (R.told source.old).bytes order (view.page page.now)
+    ensures answer { Answers (λ _. buf.new) result
+        (calls.read_coding_unit_bytes (R.told source.old).bytes order (view.page page.now)
         limits.now unit buf.old) (R.failures source.old) (R.failures source.new) }
-    ensures asked { AsksOnly (ChunksReadable (R.told source.old) (view.page page.now) unit (λ l. calls.planes_used (view.page page.now) l (length buf.old))) result }
+    ensures asked { AsksOnly
+        (ChunksReadable (R.told source.old) (view.page page.now) unit
+        (λ l. calls.planes_used (view.page page.now) l (length buf.old))) result }
 {
     let reader = PageReader {
         alloc,

@@ -170,7 +170,8 @@ fn sum_numbers(row: &mut [u8], size: usize, stored: usize)
 #[inline(always)]
 fn sum_pixel<const N: usize>(last: &mut [u8; N], pixel: &mut [u8])
     requires { length pixel.old ≡ N }
-    ensures sums { EachIndex pixel.new (λ j. slice_index pixel.new j ≡ (slice_index last.old j + slice_index pixel.old j) % 256) }
+    ensures sums { EachIndex pixel.new
+        (λ j. slice_index pixel.new j ≡ (slice_index last.old j + slice_index pixel.old j) % 256) }
     ensures held { EachIndex pixel.new (λ j. slice_index last.new j ≡ slice_index pixel.new j) }
 {
     for j in 0..N {
@@ -219,7 +220,9 @@ pub fn undo_horizontal(row: &mut [u8], size: usize, stored: usize)
 fn join_number(planes: &[u8], count: usize, k: usize, number: &mut [u8])
     requires k { k < count }
     requires within { length number.old * count ≤ length planes.now }
-    ensures { EachIndex number.new (λ j. slice_index number.new j ≡ slice_index planes.now ((length number.old - 1 - j) * count + k)) }
+    ensures { EachIndex number.new
+        (λ j. slice_index number.new j ≡ slice_index planes.now
+        ((length number.old - 1 - j) * count + k)) }
 {
     let size = number.len();
     for j in 0..size {
@@ -234,7 +237,8 @@ fn join_numbers(planes: &[u8], size: usize, row: &mut [u8])
     requires size { 0 < size }
     requires same { length planes.now ≡ length row.old }
     ensures { (k : ℕ) → k < length planes.now / size → (j : ℕ) → j < size
-        → slice_index row.new (k * size + j) ≡ slice_index planes.now ((size - 1 - j) * (length planes.now / size) + k) }
+        → slice_index row.new (k * size + j) ≡ slice_index planes.now
+        ((size - 1 - j) * (length planes.now / size) + k) }
 {
     let count = planes.len() / size;
     for k in 0..count {
@@ -249,7 +253,8 @@ fn join_planes(planes: &[u8], size: usize, row: &mut [u8])
     requires size { 0 < size }
     requires same { length planes.now ≡ length row.old }
     ensures { (k : ℕ) → k < length planes.now / size → (j : ℕ) → j < size
-        → slice_index row.new (k * size + j) ≡ slice_index planes.now ((size - 1 - j) * (length planes.now / size) + k) }
+        → slice_index row.new (k * size + j) ≡ slice_index planes.now
+        ((size - 1 - j) * (length planes.now / size) + k) }
 {
     match size {
         2 => join_numbers(planes, 2, row),
@@ -267,7 +272,8 @@ pub fn undo_float_predictor(row: &mut [u8], room: &mut [u8], size: usize, stored
     requires stored { 0 < stored }
     requires whole { length row.old / size * size ≡ length row.old }
     requires room { length room.old ≡ length row.old }
-    ensures { RowReplaced size (joined_number size stored (length row.old / size) row.old) row.old row.new }
+    ensures { RowReplaced size (joined_number size stored (length row.old / size) row.old) row.old
+        row.new }
 {
     undo_horizontal(row, 1, stored);
     room.copy_from_slice(row);

@@ -75,11 +75,16 @@ fn image_destination(page: &Page, layout: PlaneLayout, plane: u16, chunk: u32) -
 // last row of the chunk for one plane, or all planes for several.
 fn bytes_up_to(page: &Page, part: ImagePlanes, chunk: u32) -> usize
     requires laid { layout_of (view.page page.now) page.now.width page.now.height ≡ Ok
-        (record { color = part.layout.color; row_bytes = part.layout.row_bytes; plane_stride = part.layout.plane_stride }) }
+        (record {
+          color = part.layout.color;
+          row_bytes = part.layout.row_bytes;
+          plane_stride = part.layout.plane_stride;
+        }) }
     requires few { part.planes * part.layout.plane_stride < 2 ^ 64 }
     requires some { 0 < part.planes }
     requires chunk { chunk < chunks_of_plane (view.page page.now) }
-    ensures holds { HoldsChunk (view.page page.now) part.layout.color part.layout.row_bytes part.planes chunk result }
+    ensures holds { HoldsChunk (view.page page.now) part.layout.color part.layout.row_bytes part.planes chunk
+        result }
     ensures within { result ≤ part.planes * part.layout.plane_stride }
 {
     if part.planes > 1 {
@@ -98,23 +103,30 @@ impl PageReader<'_> {
         writer: &mut W,
         buf: &mut [T],
     ) -> TiffResult<()>
-        requires laid { layout_of (view.page self.now.page.now) self.now.page.now.width self.now.page.now.height ≡ Ok (record {
-          color = next.part.layout.color;
-          row_bytes = next.part.layout.row_bytes;
-          plane_stride = next.part.layout.plane_stride;
-        }) }
-        requires room { HoldsChunk (view.page self.now.page.now) next.part.layout.color next.part.layout.row_bytes next.part.planes next.chunk (length (W.bytes buf.old)) }
+        requires laid { layout_of (view.page self.now.page.now) self.now.page.now.width
+            self.now.page.now.height ≡ Ok (record {
+              color = next.part.layout.color;
+              row_bytes = next.part.layout.row_bytes;
+              plane_stride = next.part.layout.plane_stride;
+            }) }
+        requires room { HoldsChunk (view.page self.now.page.now) next.part.layout.color
+            next.part.layout.row_bytes next.part.planes next.chunk (length (W.bytes buf.old)) }
         requires few { next.part.planes * next.part.layout.plane_stride < 2 ^ 64 }
         requires chunk { next.chunk < chunks_of_plane (view.page self.now.page.now) }
         ensures kept { IsKept R.told R.failures result source.old source.new }
-        ensures ok { OnOk result (WritesNext (R.told source.old).bytes self.now.order (view.page self.now.page.now)
+        ensures ok { OnOk result
+            (WritesNext (R.told source.old).bytes self.now.order (view.page self.now.page.now)
             next.part.layout.color next.part.layout.row_bytes next.part.planes next.chunk (W.bytes buf.old) (W.bytes buf.new)) }
-        ensures answer { Answers (λ _. tt) result (each_below (λ plane. chunk_fault (view.page self.now.page.now)
+        ensures answer { Answers (λ _. tt) result
+            (each_below (λ plane. chunk_fault (view.page self.now.page.now)
             self.now.limits.now (is_short (R.told source.old).bytes self.now.order (view.page self.now.page.now)
             next.part.layout.color) next.part.layout.color
-            (plane * chunks_of_plane (view.page self.now.page.now) + (0 + next.chunk))) next.part.planes)
+            (plane * chunks_of_plane (view.page self.now.page.now) + (0 + next.chunk)))
+            next.part.planes)
             (R.failures source.old) (R.failures source.new) }
-        ensures asked { AsksOnly (PartReadable (R.told source.old) (view.page self.now.page.now) next.part.layout.color (chunk_part (view.page self.now.page.now)
+        ensures asked { AsksOnly
+            (PartReadable (R.told source.old) (view.page self.now.page.now) next.part.layout.color
+            (chunk_part (view.page self.now.page.now)
             next.chunk next.part.planes next.part.layout.row_bytes)) result }
     {
         let page = self.page;
@@ -148,17 +160,25 @@ impl PageReader<'_> {
         writer: &mut W,
         buf: &mut [T],
     ) -> TiffResult<()>
-        requires laid { layout_of (view.page self.now.page.now) self.now.page.now.width self.now.page.now.height ≡ Ok
-            (record { color = part.layout.color; row_bytes = part.layout.row_bytes; plane_stride = part.layout.plane_stride }) }
+        requires laid { layout_of (view.page self.now.page.now) self.now.page.now.width
+            self.now.page.now.height ≡ Ok
+            (record {
+              color = part.layout.color;
+              row_bytes = part.layout.row_bytes;
+              plane_stride = part.layout.plane_stride;
+            }) }
         requires some { 0 < part.planes }
         requires room { part.planes * part.layout.plane_stride ≤ length (W.bytes buf.old) }
         requires few { part.planes * part.layout.plane_stride < 2 ^ 64 }
         ensures kept { IsKept R.told R.failures result source.old source.new }
-        ensures answer { Answers (λ _. W.bytes buf.new) result (fill_buffer (R.told source.old).bytes self.now.order
+        ensures answer { Answers (λ _. W.bytes buf.new) result
+            (fill_buffer (R.told source.old).bytes self.now.order
             (view.page self.now.page.now) self.now.limits.now part.layout.color
             (image_part (view.page self.now.page.now) part.planes part.layout.row_bytes)
             (W.bytes buf.old)) (R.failures source.old) (R.failures source.new) }
-        ensures asked { AsksOnly (PartReadable (R.told source.old) (view.page self.now.page.now) part.layout.color (image_part (view.page self.now.page.now)
+        ensures asked { AsksOnly
+            (PartReadable (R.told source.old) (view.page self.now.page.now) part.layout.color
+            (image_part (view.page self.now.page.now)
             part.planes part.layout.row_bytes)) result }
     {
         for chunk in 0..chunks_of_plane(self.page) {
@@ -179,17 +199,25 @@ impl PageReader<'_> {
         list: &mut Vec<T>,
         len: usize,
     ) -> TiffResult<()>
-        requires laid { layout_of (view.page self.now.page.now) self.now.page.now.width self.now.page.now.height ≡ Ok
-            (record { color = part.layout.color; row_bytes = part.layout.row_bytes; plane_stride = part.layout.plane_stride }) }
+        requires laid { layout_of (view.page self.now.page.now) self.now.page.now.width
+            self.now.page.now.height ≡ Ok
+            (record {
+              color = part.layout.color;
+              row_bytes = part.layout.row_bytes;
+              plane_stride = part.layout.plane_stride;
+            }) }
         requires some { 0 < part.planes }
         requires room { part.planes * part.layout.plane_stride ≤ len }
         requires none { list.old.items ≡ [] }
         ensures kept { IsKept R.told R.failures result source.old source.new }
-        ensures answer { Answers (λ _. W.bytes list.new.items) result (fill_buffer (R.told source.old).bytes self.now.order
+        ensures answer { Answers (λ _. W.bytes list.new.items) result
+            (fill_buffer (R.told source.old).bytes self.now.order
             (view.page self.now.page.now) self.now.limits.now part.layout.color
             (image_part (view.page self.now.page.now) part.planes part.layout.row_bytes)
             (replicate (W.whole len) 0)) (R.failures source.old) (R.failures source.new) }
-        ensures asked { AsksOnly (PartReadable (R.told source.old) (view.page self.now.page.now) part.layout.color (image_part (view.page self.now.page.now)
+        ensures asked { AsksOnly
+            (PartReadable (R.told source.old) (view.page self.now.page.now) part.layout.color
+            (image_part (view.page self.now.page.now)
             part.planes part.layout.row_bytes)) result }
     {
         for chunk in 0..chunks_of_plane(self.page) {
@@ -215,14 +243,18 @@ impl PageReader<'_> {
         requires some { 0 < unit.planes }
         requires room { unit.planes * ((rect (view.page self.now.page.now) unit.index).height * unit.stride)
             ≤ length (W.bytes buf.old) }
-        requires few { unit.planes * ((rect (view.page self.now.page.now) unit.index).height * unit.stride) < 2 ^ 64 }
+        requires few { unit.planes * ((rect (view.page self.now.page.now) unit.index).height * unit.stride)
+            < 2 ^ 64 }
         requires which { (unit.planes ≡ 1) ⊎ (unit.index < chunks_of_plane (view.page self.now.page.now)) }
         ensures kept { IsKept R.told R.failures result source.old source.new }
-        ensures answer { Answers (λ _. W.bytes buf.new) result (fill_buffer (R.told source.old).bytes self.now.order
+        ensures answer { Answers (λ _. W.bytes buf.new) result
+            (fill_buffer (R.told source.old).bytes self.now.order
             (view.page self.now.page.now) self.now.limits.now unit.color
             (chunk_part (view.page self.now.page.now) unit.index unit.planes unit.stride)
             (W.bytes buf.old)) (R.failures source.old) (R.failures source.new) }
-        ensures asked { AsksOnly (PartReadable (R.told source.old) (view.page self.now.page.now) unit.color (chunk_part (view.page self.now.page.now)
+        ensures asked { AsksOnly
+            (PartReadable (R.told source.old) (view.page self.now.page.now) unit.color
+            (chunk_part (view.page self.now.page.now)
             unit.index unit.planes unit.stride)) result }
     {
         let page = self.page;
@@ -265,15 +297,19 @@ impl PageReader<'_> {
         requires columns { row_bytes (view.page self.now.page.now) unit.color
             (rect (view.page self.now.page.now) unit.index).width ≤ unit.stride }
         requires some { 0 < unit.planes }
-        requires room { unit.planes * ((rect (view.page self.now.page.now) unit.index).height * unit.stride) ≤ len }
+        requires room { unit.planes * ((rect (view.page self.now.page.now) unit.index).height * unit.stride)
+            ≤ len }
         requires which { (unit.planes ≡ 1) ⊎ (unit.index < chunks_of_plane (view.page self.now.page.now)) }
         requires none { list.old.items ≡ [] }
         ensures kept { IsKept R.told R.failures result source.old source.new }
-        ensures answer { Answers (λ _. W.bytes list.new.items) result (fill_buffer (R.told source.old).bytes self.now.order
+        ensures answer { Answers (λ _. W.bytes list.new.items) result
+            (fill_buffer (R.told source.old).bytes self.now.order
             (view.page self.now.page.now) self.now.limits.now unit.color
             (chunk_part (view.page self.now.page.now) unit.index unit.planes unit.stride)
             (replicate (W.whole len) 0)) (R.failures source.old) (R.failures source.new) }
-        ensures asked { AsksOnly (PartReadable (R.told source.old) (view.page self.now.page.now) unit.color (chunk_part (view.page self.now.page.now)
+        ensures asked { AsksOnly
+            (PartReadable (R.told source.old) (view.page self.now.page.now) unit.color
+            (chunk_part (view.page self.now.page.now)
             unit.index unit.planes unit.stride)) result }
     {
         W::grow(list, len)?;

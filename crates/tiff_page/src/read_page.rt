@@ -12,7 +12,7 @@ ghost use Rattle.tiff_base.specs.Sparing.{IsListFault};
 ghost use Rattle.tiff_base.specs.declared.error.TiffError.TheVariants as tiff;
 ghost use Rattle.tiff_base.specs.declared.error.TiffFormatError.TheVariants as format;
 ghost use Rattle.tiff_base.specs.declared.tags.Tag.TheVariants as named;
-ghost use Rattle.tiff_ifd.specs.Look.{AnswersFound, AsksForTag};
+ghost use Rattle.tiff_ifd.specs.TagLookup.{AnswersFound, AsksForTag};
 ghost use Rattle.tiff_page.specs.Checks as checks;
 ghost use Rattle.tiff_page.specs.Reach.{AsksForPage};
 
@@ -71,7 +71,8 @@ pub fn read_interpretation<T: Tags>(
 ) -> TiffResult<PhotometricInterpretation>
     ensures kept { IsKept T.told T.failures result tags.old tags.new }
     ensures answer { AnswersFound (λ s. s) result (checks.interpretation_in (T.told tags.old).look)
-        (T.told tags.old).look named.PhotometricInterpretation (T.failures tags.old) (T.failures tags.new) }
+        (T.told tags.old).look named.PhotometricInterpretation (T.failures tags.old)
+        (T.failures tags.new) }
     ensures asked { AsksForTag (T.told tags.old) named.PhotometricInterpretation result }
 {
     interpretation_named(find_u16(tags, alloc, Tag::PhotometricInterpretation)?)
@@ -113,7 +114,8 @@ pub fn read_samples<T: Tags>(tags: &mut T, alloc: Global) -> TiffResult<u16>
 }
 
 fn extras(alloc: Global, numbers: &[u16]) -> Result<Vec<ExtraSamples>, AllocError>
-    ensures { IfOk result (λ v. v.items ≡ map (λ n. unwrap_or (kinds.extra_of n) extra_kind.Unspecified) numbers.now) }
+    ensures { IfOk result
+        (λ v. v.items ≡ map (λ n. unwrap_or (kinds.extra_of n) extra_kind.Unspecified) numbers.now) }
 {
     numbers
         .iter()
@@ -199,7 +201,8 @@ fn fit_u8s(alloc: Global, tag: Tag, numbers: Vec<u64>) -> TiffResult<Vec<u8>>
 
 // Returns the one format of all samples. Allocates memory only for the error that contains a list.
 fn one_format(alloc: Global, numbers: &[u16]) -> TiffResult<SampleFormat>
-    ensures { let given = checks.one_format numbers.now in AnswersBut (IsListFault given) ⊥ (λ f. f) result given }
+    ensures { let given = checks.one_format numbers.now in
+        AnswersBut (IsListFault given) ⊥ (λ f. f) result given }
 {
     let [first, ..] = numbers else {
         return Err(TiffFormatError::InvalidTagValueType(Tag::SampleFormat).into());
@@ -383,7 +386,8 @@ fn counted(width: u32, height: u32, planes: u16, chunks: ChunkTable) -> TiffResu
     ensures wide { IfOk result (λ c. 0 < c.chunk_width) }
     ensures high { IfOk result (λ c. 0 < c.chunk_height) }
     ensures same { IfOk result (λ c. length c.byte_counts ≡ length c.offsets) }
-    ensures count { IfOk result (λ c. length c.offsets ≡ chunk_count width height c.chunk_width c.chunk_height planes) }
+    ensures count { IfOk result
+        (λ c. length c.offsets ≡ chunk_count width height c.chunk_width c.chunk_height planes) }
     ensures few { IfOk result (λ c. length c.offsets < 2 ^ 32) }
 {
     let count = chunk_count(
@@ -424,13 +428,15 @@ pub fn read_strips<T: Tags>(
 ) -> TiffResult<ChunkTable>
     requires wide { 0 < width }
     ensures kept { IsKept T.told T.failures result tags.old tags.new }
-    ensures answer { AnswersFound view.chunks result (checks.strips_in (T.told tags.old).look width height planes)
+    ensures answer { AnswersFound view.chunks result
+        (checks.strips_in (T.told tags.old).look width height planes)
         (T.told tags.old).look named.StripOffsets (T.failures tags.old) (T.failures tags.new) }
     ensures asked { AsksForPage (T.told tags.old) result }
     ensures wide { IfOk result (λ c. 0 < c.chunk_width) }
     ensures high { IfOk result (λ c. 0 < c.chunk_height) }
     ensures same { IfOk result (λ c. length c.byte_counts ≡ length c.offsets) }
-    ensures count { IfOk result (λ c. length c.offsets ≡ chunk_count width height c.chunk_width c.chunk_height planes) }
+    ensures count { IfOk result
+        (λ c. length c.offsets ≡ chunk_count width height c.chunk_width c.chunk_height planes) }
     ensures few { IfOk result (λ c. length c.offsets < 2 ^ 32) }
 {
     let offsets = NumberList::from_vec(require_u64_vec(tags, alloc, Tag::StripOffsets)?);
@@ -451,7 +457,8 @@ pub fn read_strips<T: Tags>(
 
 // Returns `InvalidTagValueType(tag)` if the width or the height of a tile is 0.
 fn some_side(size: u32, tag: Tag) -> TiffResult<u32>
-    ensures answer { Gives (λ n. n) result (checks.some_side size (tiff.FormatError (format.InvalidTagValueType tag))) }
+    ensures answer { Gives (λ n. n) result
+        (checks.some_side size (tiff.FormatError (format.InvalidTagValueType tag))) }
     ensures some { IfOk result (λ n. 0 < n) }
 {
     if size == 0 {
@@ -470,13 +477,15 @@ pub fn read_tiles<T: Tags>(
     planes: u16,
 ) -> TiffResult<ChunkTable>
     ensures kept { IsKept T.told T.failures result tags.old tags.new }
-    ensures answer { AnswersFound view.chunks result (checks.tiles_in (T.told tags.old).look width height planes)
+    ensures answer { AnswersFound view.chunks result
+        (checks.tiles_in (T.told tags.old).look width height planes)
         (T.told tags.old).look named.TileWidth (T.failures tags.old) (T.failures tags.new) }
     ensures asked { AsksForPage (T.told tags.old) result }
     ensures wide { IfOk result (λ c. 0 < c.chunk_width) }
     ensures high { IfOk result (λ c. 0 < c.chunk_height) }
     ensures same { IfOk result (λ c. length c.byte_counts ≡ length c.offsets) }
-    ensures count { IfOk result (λ c. length c.offsets ≡ chunk_count width height c.chunk_width c.chunk_height planes) }
+    ensures count { IfOk result
+        (λ c. length c.offsets ≡ chunk_count width height c.chunk_width c.chunk_height planes) }
     ensures few { IfOk result (λ c. length c.offsets < 2 ^ 32) }
 {
     let chunk_width = require_u32(tags, alloc, Tag::TileWidth)?;

@@ -40,11 +40,16 @@ pub trait RowSink<T> {
         requires room { next.at + next.len ≤ length (bytes out.old) }
         requires fits { next.at + next.len < 2 ^ 64 }
         ensures kept { IsKept R.told R.failures result source.old source.new }
-        ensures row { RowPut (R.told source.old).bytes reader.now.order (view.page reader.now.page.now) reader.now.color next.position
-            (R.failures source.old < R.failures source.new) next.at next.len (bytes out.old) (bytes out.new) result }
-        ensures asked { AsksOnly (StoredReadable (R.told source.old) next.position (needed_of_row (view.page reader.now.page.now) reader.now.color
+        ensures row { RowPut (R.told source.old).bytes reader.now.order (view.page reader.now.page.now)
+            reader.now.color next.position
+            (R.failures source.old < R.failures source.new) next.at next.len (bytes out.old)
+            (bytes out.new) result }
+        ensures asked { AsksOnly
+            (StoredReadable (R.told source.old) next.position
+            (needed_of_row (view.page reader.now.page.now) reader.now.color
             next.len)) result }
-        ensures moves { IfOk result (λ rest. Moves next.position (needed_of_row (view.page reader.now.page.now)
+        ensures moves { IfOk result
+            (λ rest. Moves next.position (needed_of_row (view.page reader.now.page.now)
             reader.now.color next.len) rest) };
 
     /// Reads the next bytes of a chunk, as they are output, into the bytes of a list, if this needs
@@ -63,17 +68,22 @@ pub trait RowSink<T> {
         requires room { next.at + next.len ≤ length (bytes out.old) }
         requires fits { next.at + next.len < 2 ^ 64 }
         ensures kept { IsKept R.told R.failures result source.old source.new }
-        ensures row { RowPut (R.told source.old).bytes reader.now.order (view.page reader.now.page.now) reader.now.color next.position
-            (R.failures source.old < R.failures source.new) next.at next.len (bytes out.old) (bytes out.new) result }
+        ensures row { RowPut (R.told source.old).bytes reader.now.order (view.page reader.now.page.now)
+            reader.now.color next.position
+            (R.failures source.old < R.failures source.new) next.at next.len (bytes out.old)
+            (bytes out.new) result }
         ensures asked { AsksOnly (StoredReadable (R.told source.old) next.position next.len) result }
         ensures moves { IfOk result (λ rest. Moves next.position next.len rest) };
 
     /// Grows a list to `len` bytes by zeros, rounded up to whole items, if it is shorter.
     fn grow(list: &mut Vec<T>, len: usize) -> Result<(), AllocError>
-        ensures { OnOk result (bytes list.new.items ≡ bytes list.old.items ++ replicate (whole len - length (bytes list.old.items)) 0) };
+        ensures { OnOk result
+            (bytes list.new.items ≡ bytes list.old.items
+            ++ replicate (whole len - length (bytes list.old.items)) 0) };
 
     /// Lists of equal length have equally many bytes.
-    ghost same_length: { (xs ys : List T) → length xs ≡ length ys → length (bytes xs) ≡ length (bytes ys) };
+    ghost same_length: { (xs ys : List T) → length xs ≡ length ys
+        → length (bytes xs) ≡ length (bytes ys) };
 
     /// `whole m` is at least `m`, and doesn't fall if `m` grows.
     ghost enough: { (m n : ℕ) → m ≤ n → (m ≤ whole m) × (whole m ≤ whole n) };

@@ -72,7 +72,8 @@ times_to_end d = times_on (length (chain_of d).offsets) (chain_of d).end
 -- the state is the decoder's own, or one on its way along the chain: that after the last call that
 -- neither ran out of memory nor failed by the device
 abbrev pub WasOnItsWay : Decoding → State → Type 0
-WasOnItsWay d state = (state ≡ d.state) ⊎ ((n : ℕ) × (n ≤ times_to_end d) × (state ≡ state_along d n))
+WasOnItsWay d state =
+    (state ≡ d.state) ⊎ ((n : ℕ) × (n ≤ times_to_end d) × (state ≡ state_along d n))
 
 -- The list leaves the decoder at the chain's end. An error leaves it where the last call left it,
 -- and its file is the same.

@@ -45,7 +45,8 @@ pub struct PageList {
 /// A result that comes from the file, also an error of it, is wrapped in `Ok`. Out of memory and an
 /// error of the device are returned as errors, `OutOfMemory` and `IoError(Device)`.
 pub fn file_answer<T: Drop>(answer: TiffResult<T>) -> TiffResult<TiffResult<T>>
-    ensures { MatchResult result (λ told. (told ≡ answer) × IsOfFile answer) (λ e. (answer ≡ Err e) × (keeps_state e ≡ true)) }
+    ensures { MatchResult result (λ told. (told ≡ answer) × IsOfFile answer) (λ e. (answer ≡ Err e)
+        × (keeps_state e ≡ true)) }
 {
     match answer {
         Ok(value) => Ok(Ok(value)),
@@ -139,7 +140,9 @@ fn list_pages<R: Source>(
 ) -> TiffResult<Option<TiffError>>
     requires { pages.old.items ≡ [] }
     ensures pages { IfOk result (λ end. record { items = pages.new.items; end = end } ≡ pages_of decoder.old) }
-    ensures end { OnOk result (decoder.new ≡ record decoder.old { state = state_along decoder.old (times_to_end decoder.old) }) }
+    ensures end { OnOk result
+        (decoder.new
+        ≡ record decoder.old { state = state_along decoder.old (times_to_end decoder.old) }) }
     ensures file { StandsAt decoder.new.state decoder.old decoder.new }
     ensures way { OnErr result (WasOnItsWay decoder.old decoder.new.state) }
     ensures refused { IfErr result (λ e. IsCause (Unit {0}) (decoder.old.failures < decoder.new.failures) e ⊥) }
@@ -169,7 +172,8 @@ fn list_pages<R: Source>(
 /// `IoError(Device)`. After these, the decoder is where the last call left it, and the caller can
 /// list the pages again.
 pub fn pages<R: Source>(decoder: &mut Decoder<R>) -> TiffResult<PageList>
-    ensures answer { Answers pages_in result (Ok (pages_of decoder.old)) decoder.old.failures decoder.new.failures }
+    ensures answer { Answers pages_in result (Ok (pages_of decoder.old)) decoder.old.failures
+        decoder.new.failures }
     ensures decoder { LeavesPages result decoder.old decoder.new }
     ensures limits { decoder.new.state.limits ≡ decoder.old.state.limits }
 {

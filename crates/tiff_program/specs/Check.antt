@@ -22,7 +22,8 @@ use Rattle.tiff_program.specs.declared.check.FileCheck.{FileCheck}
 
 -- the samples as bytes; an error if there are fewer than `len`
 abbrev pub all_bytes : ℕ → Decoded → Result (List ℕ) TiffError
-all_bytes len samples = if nat_lt (length (bytes_of samples)) len then Err LimitsExceeded else Ok (bytes_of samples)
+all_bytes len samples = if nat_lt (length (bytes_of samples)) len then Err LimitsExceeded
+    else Ok (bytes_of samples)
 
 -- how many bytes there are, and their sum
 abbrev pub sum_of : List ℕ → ImageSum
@@ -46,11 +47,13 @@ image_sum d page = do
 
 -- the page at an offset of the chain, read whole; or its first error
 abbrev pub check_at : Decoding → ℕ → PageCheck
-check_at d offset = record { place = record { 0 = offset }; image = page_at d offset >>= image_sum d }
+check_at d offset =
+    record { place = record { 0 = offset }; image = page_at d offset >>= image_sum d }
 
 -- this is the check of the page with this number in the chain
 abbrev pub IsCheckOf : Decoding → ℕ → PageCheck → Type 0
-IsCheckOf d number check = (offset : ℕ) × (slice_get (chain_of d).offsets number ≡ Some offset) × (check ≡ check_at d offset)
+IsCheckOf d number check = (offset : ℕ) × (slice_get (chain_of d).offsets number ≡ Some offset)
+    × (check ≡ check_at d offset)
 
 -- the pages of a file, each read whole, and how their chain ends
 pub record Checks : Type 0 where
@@ -84,6 +87,7 @@ told_under limits file = do
 
 -- A read returns the given result, seen by `view`, unless memory is out or the device fails; except
 -- for these two, it leaves all as it was.
-pub record ReadsPage {X Y : Type 0} (view : X → Y) (given : Result Y TiffError) (result : Result X TiffError) (old new : Decoding) : Type 0 where
+pub record ReadsPage {X Y : Type 0} (view : X → Y) (given : Result Y TiffError)
+    (result : Result X TiffError) (old new : Decoding) : Type 0 where
   pub answer : Answers view result given old.failures new.failures
   pub stays : IsOfFile result → new ≡ old

@@ -26,7 +26,8 @@ shown_bytes (b ∷ bs) = flat_map two_digits (b ∷ bs)
 -- their bytes
 abbrev pub line : ℕ → Field → List ℕ → List ℕ
 line tag f bytes =
-    decimal tag ++ codes " " ++ decimal (type_number f.field_type) ++ codes " " ++ decimal f.count ++ codes " " ++ shown_bytes bytes ++ codes "\n"
+    decimal tag ++ codes " " ++ decimal (type_number f.field_type) ++ codes " " ++ decimal f.count
+    ++ codes " " ++ shown_bytes bytes ++ codes "\n"
 
 -- the line of a field, if there is one, or the error of its bytes
 abbrev pub found_line : Decoding → ℕ → Option Field → Result (List ℕ) TiffError

@@ -28,7 +28,8 @@ is_whole depth = depth == 8 || depth == 16 || depth == 32 || depth == 64
 -- what gray samples of so many bits become
 abbrev pub gray_kind : ℕ → Option PngKind
 gray_kind depth =
-    if depth == 1 then Some Gray1 else if depth == 2 then Some Gray2 else if depth == 4 then Some Gray4 else then_some (is_whole depth) Gray8
+    if depth == 1 then Some Gray1 else if depth == 2 then Some Gray2 else if depth == 4
+    then Some Gray4 else then_some (is_whole depth) Gray8
 
 -- what samples of a color become
 abbrev pub color_kind : ColorType → Option PngKind
@@ -44,7 +45,8 @@ kind_or_fault color (Some kind) = Ok kind
 
 -- all samples of a pixel lie in one plane, else an error
 abbrev pub one_plane : ℕ → Result (Unit {0}) TiffError
-one_plane planes = if nat_lt 1 planes then Err (UnsupportedError (UnsupportedPlanarConfig (Some Planar))) else Ok tt
+one_plane planes = if nat_lt 1 planes
+    then Err (UnsupportedError (UnsupportedPlanarConfig (Some Planar))) else Ok tt
 
 -- the shape of a picture: its width, its height, and what its samples become; or the first error
 abbrev pub shape_of : ℕ × ℕ → ColorType → ℕ → Result Shape TiffError

@@ -10,27 +10,33 @@ use Rattle.tiff_program.specs.declared.command.Command.TheVariants as command
 -- digit.
 abbrev pub IsNumber : ℕ → List ℕ → ℕ → Type 0
 IsNumber bits text n =
-    IsNumeral 10 (without_leading_plus text) × (digits_value 10 (without_leading_plus text) < 2 ^ bits) × (n ≡ digits_value 10 (without_leading_plus text))
+    IsNumeral 10 (without_leading_plus text)
+    × (digits_value 10 (without_leading_plus text) < 2 ^ bits)
+    × (n ≡ digits_value 10 (without_leading_plus text))
 
 -- These words, behind those of a command, ask for this limit, or for none.
 abbrev pub AskForLimit : List (List ℕ) → Option ℕ → Type 0
 AskForLimit words None = words ≡ []
-AskForLimit words (Some limit) = (count : List ℕ) × (words ≡ codes "--limit" ∷ count ∷ []) × IsNumber 64 count limit
+AskForLimit words (Some limit) = (count : List ℕ) × (words ≡ codes "--limit" ∷ count ∷ [])
+    × IsNumber 64 count limit
 
 -- These words ask for the samples of the page with this number of a file, for an output, and for a
 -- limit or none.
 abbrev pub AskForSamples : List (List ℕ) → List ℕ → ℕ → List ℕ → Option ℕ → Type 0
-AskForSamples (input ∷ page ∷ output ∷ options) from number to limit = (from ≡ input) × IsNumber 32 page number × (to ≡ output) × AskForLimit options limit
+AskForSamples (input ∷ page ∷ output ∷ options) from number to limit = (from ≡ input)
+    × IsNumber 32 page number × (to ≡ output) × AskForLimit options limit
 AskForSamples _ from number to limit = ⊥
 
 -- This command is the `raw` that these words ask for.
 abbrev pub IsRaw : List (List ℕ) → Command → Type 0
-IsRaw words (command.Raw input page output limit) = AskForSamples words input.now page output.now limit
+IsRaw words (command.Raw input page output limit) =
+    AskForSamples words input.now page output.now limit
 IsRaw words _ = ⊥
 
 -- These words ask for the picture of the page with this number of a file, and for an output.
 abbrev pub AskForPicture : List (List ℕ) → List ℕ → ℕ → List ℕ → Type 0
-AskForPicture (input ∷ page ∷ output ∷ options) from number to = (from ≡ input) × IsNumber 32 page number × (to ≡ output) × (options ≡ [])
+AskForPicture (input ∷ page ∷ output ∷ options) from number to = (from ≡ input)
+    × IsNumber 32 page number × (to ≡ output) × (options ≡ [])
 AskForPicture _ from number to = ⊥
 
 -- This command is the `view` that these words ask for.
@@ -54,11 +60,14 @@ abbrev pub AskForJobs : List (List ℕ) → FileKind → Bool → Type 0
 AskForJobs words Classic false = words ≡ []
 AskForJobs words Classic true = words ≡ codes "--keep-going" ∷ []
 AskForJobs words Big false = words ≡ codes "big" ∷ []
-AskForJobs words Big true = (words ≡ codes "big" ∷ codes "--keep-going" ∷ []) ⊎ (words ≡ codes "--keep-going" ∷ codes "big" ∷ [])
+AskForJobs words Big true =
+    (words ≡ codes "big" ∷ codes "--keep-going" ∷ [])
+    ⊎ (words ≡ codes "--keep-going" ∷ codes "big" ∷ [])
 
 -- These words ask for jobs whose file has this name: the first word is the name.
 abbrev pub AskForFile : List (List ℕ) → List ℕ → FileKind → Bool → Type 0
-AskForFile (output ∷ options) name kind keep_going = (name ≡ output) × AskForJobs options kind keep_going
+AskForFile (output ∷ options) name kind keep_going = (name ≡ output)
+    × AskForJobs options kind keep_going
 AskForFile [] name kind keep_going = ⊥
 
 -- This command is the `jobs` that these words ask for.
@@ -83,10 +92,14 @@ IsPlain name words _ = ⊤
 
 -- This name, with these words behind it, asks for this command.
 abbrev pub IsAsked : List ℕ → List (List ℕ) → Command → Type 0
-IsAsked name words (command.Raw input page output limit) = (name ≡ codes "raw") × IsRaw words (command.Raw input page output limit)
-IsAsked name words (command.View input page output) = (name ≡ codes "view") × IsView words (command.View input page output)
-IsAsked name words (command.Check input limit) = (name ≡ codes "check") × IsCheck words (command.Check input limit)
-IsAsked name words (command.Jobs output kind keep_going) = (name ≡ codes "jobs") × IsJobs words (command.Jobs output kind keep_going)
+IsAsked name words (command.Raw input page output limit) = (name ≡ codes "raw")
+    × IsRaw words (command.Raw input page output limit)
+IsAsked name words (command.View input page output) = (name ≡ codes "view")
+    × IsView words (command.View input page output)
+IsAsked name words (command.Check input limit) = (name ≡ codes "check")
+    × IsCheck words (command.Check input limit)
+IsAsked name words (command.Jobs output kind keep_going) = (name ≡ codes "jobs")
+    × IsJobs words (command.Jobs output kind keep_going)
 IsAsked name words command = IsPlain name words command
 
 -- These words ask for this command.

@@ -15,7 +15,8 @@ is_well reply = list_all is_ok reply.steps.items && is_ok reply.last
 -- that was finished with every chunk is shown. The bytes are the file to be written if all replies
 -- are well, or if the command keeps going; else there is no file. `well` says whether all replies
 -- are well.
-pub record Wrote (kind : FileKind) (keep_going : Bool) (jobs : List Job) (file : Option (List ℕ)) (well : Bool) : Type 0 where
+pub record Wrote (kind : FileKind) (keep_going : Bool) (jobs : List Job) (file : Option (List ℕ))
+    (well : Bool) : Type 0 where
   pub replies : List JobReply
   pub bytes : List ℕ
   pub before : ℕ

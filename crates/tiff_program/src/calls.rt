@@ -97,7 +97,8 @@ pub fn replies_to_both<R: Source>(
     first: Call,
     second: Call,
 ) -> TiffResult<(Reply, Reply)>
-    ensures { MatchResult result (λ r. Steps decoder.old (first ∷ second ∷ []) (r.0 ∷ r.1 ∷ []) decoder.new)
+    ensures { MatchResult result
+        (λ r. Steps decoder.old (first ∷ second ∷ []) (r.0 ∷ r.1 ∷ []) decoder.new)
         (λ e. (e ≡ TiffError.OutOfMemory) × (decoder.new ≡ decoder.old)) }
 {
     let calls = [first, second];

@@ -44,7 +44,8 @@ fn read_planes<R: Source>(
     decoder: &mut Decoder<R>,
     samples: &mut DecodingResult,
 ) -> TiffResult<BufferLayoutPreference>
-    ensures { ReadsPage (λ layout. (layout, decoded_as samples.new)) (planes_read decoder.old decoder.old.state.page) result decoder.old decoder.new }
+    ensures { ReadsPage (λ layout. (layout, decoded_as samples.new))
+        (planes_read decoder.old decoder.old.state.page) result decoder.old decoder.new }
 {
     decoder.read_image_to_buffer(samples)
 }
@@ -62,7 +63,8 @@ fn all_bytes(alloc: Global, samples: &mut DecodingResult, len: usize) -> TiffRes
 
 // The bytes of the image of a decoder's page, in all its planes.
 fn whole_image<R: Source>(alloc: Global, decoder: &mut Decoder<R>) -> TiffResult<Vec<u8>>
-    ensures { ReadsPage (λ v. v.items) (whole_image decoder.old decoder.old.state.page) result decoder.old decoder.new }
+    ensures { ReadsPage (λ v. v.items) (whole_image decoder.old decoder.old.state.page) result
+        decoder.old decoder.new }
 {
     let mut samples = DecodingResult::U8(Vec::new(alloc));
     let layout = read_planes(decoder, &mut samples)?;
@@ -81,7 +83,8 @@ fn sum_of(bytes: &[u8]) -> ImageSum
 
 // The sum of the image of a decoder's page.
 fn image_sum<R: Source>(alloc: Global, decoder: &mut Decoder<R>) -> TiffResult<ImageSum>
-    ensures { ReadsPage (λ s. s) (image_sum decoder.old decoder.old.state.page) result decoder.old decoder.new }
+    ensures { ReadsPage (λ s. s) (image_sum decoder.old decoder.old.state.page) result decoder.old
+        decoder.new }
 {
     let image = whole_image(alloc, decoder)?;
     Ok(sum_of(&image))
@@ -107,7 +110,8 @@ fn check_page<R: Source>(
 ) -> TiffResult<PageCheck>
     requires { number < length (chain_of decoder.old).offsets }
     ensures page { IfOk result (IsCheckOf decoder.old number) }
-    ensures file { OnOk result (SameFile decoder.old decoder.new × (decoder.new.failures ≡ decoder.old.failures)) }
+    ensures file { OnOk result (SameFile decoder.old decoder.new
+        × (decoder.new.failures ≡ decoder.old.failures)) }
     ensures refused { IfErr result (λ e. IsCause (Unit {0}) (decoder.old.failures < decoder.new.failures) e ⊥) }
 {
     walk_seeks();
@@ -145,7 +149,8 @@ fn check_each<R: Source>(
 /// if it ends by one. The check holds one image at a time. Its only errors are `OutOfMemory` and an
 /// error of the device, `IoError(Device)`.
 pub fn check_pages<R: Source>(alloc: Global, decoder: &mut Decoder<R>) -> TiffResult<FileCheck>
-    ensures { Answers checks_in result (Ok (checks_of decoder.old)) decoder.old.failures decoder.new.failures }
+    ensures { Answers checks_in result (Ok (checks_of decoder.old)) decoder.old.failures
+        decoder.new.failures }
 {
     let listed = pages(decoder)?;
     let mut checks = Vec::new(alloc);

@@ -65,7 +65,8 @@ pub enum Command<'a> {
 // `jobs`; each of these words stands at most once.
 fn job_words(words: &[String]) -> Option<(FileKind, bool)>
     ensures some { IfSome result (λ asked. AskForJobs (map string_bytes words.now) asked.0 asked.1) }
-    ensures none { IfNone result ((kind : _) → (keep_going : _) → ¬ AskForJobs (map string_bytes words.now) kind keep_going) }
+    ensures none { IfNone result ((kind : _) → (keep_going : _)
+        → ¬ AskForJobs (map string_bytes words.now) kind keep_going) }
 {
     match words {
         [] => Some((FileKind::Classic, false)),
@@ -175,7 +176,8 @@ fn parse_check(words: &[String]) -> Option<Command<'_>>
 fn parse_plain<'a>(name: &str, words: &'a [String]) -> Option<Command<'a>>
     ensures asked { IfSome result (IsPlain name.now (map string_bytes words.now)) }
     ensures help { IsHelp name.now → words.now ≡ [] → result ≡ Some Command.Help }
-    ensures version { name.now ≡ codes "--version" → words.now ≡ [] → result ≡ Some Command.Version }
+    ensures version { name.now ≡ codes "--version" → words.now ≡ []
+        → result ≡ Some Command.Version }
 {
     match (name, words) {
         ("gray", [output, width, height, input]) => Some(Command::Gray {
@@ -203,9 +205,11 @@ fn parse_plain<'a>(name: &str, words: &'a [String]) -> Option<Command<'a>>
 // The command with this name, by the words behind the name.
 fn parse_named<'a>(name: &str, words: &'a [String]) -> Option<Command<'a>>
     ensures asked { IfSome result (IsAsked name.now (map string_bytes words.now)) }
-    ensures none { IfNone result ((command : _) → IsExact command → ¬ IsAsked name.now (map string_bytes words.now) command) }
+    ensures none { IfNone result ((command : _) → IsExact command
+        → ¬ IsAsked name.now (map string_bytes words.now) command) }
     ensures help { IsHelp name.now → words.now ≡ [] → result ≡ Some Command.Help }
-    ensures version { name.now ≡ codes "--version" → words.now ≡ [] → result ≡ Some Command.Version }
+    ensures version { name.now ≡ codes "--version" → words.now ≡ []
+        → result ≡ Some Command.Version }
 {
     match name {
         "raw" => parse_raw(words),
@@ -219,9 +223,12 @@ fn parse_named<'a>(name: &str, words: &'a [String]) -> Option<Command<'a>>
 /// The command that the words of a command line ask for; `None` if they ask for none.
 pub fn parse(words: &[String]) -> Option<Command<'_>>
     ensures asked { IfSome result (AskFor (map string_bytes words.now)) }
-    ensures none { IfNone result ((command : _) → IsExact command → ¬ AskFor (map string_bytes words.now) command) }
-    ensures help { (map string_bytes words.now ≡ codes "help" ∷ []) ⊎ (map string_bytes words.now ≡ codes "--help" ∷ []) → result ≡ Some Command.Help }
-    ensures version { map string_bytes words.now ≡ codes "--version" ∷ [] → result ≡ Some Command.Version }
+    ensures none { IfNone result ((command : _) → IsExact command
+        → ¬ AskFor (map string_bytes words.now) command) }
+    ensures help { (map string_bytes words.now ≡ codes "help" ∷ [])
+        ⊎ (map string_bytes words.now ≡ codes "--help" ∷ []) → result ≡ Some Command.Help }
+    ensures version { map string_bytes words.now ≡ codes "--version" ∷ []
+        → result ≡ Some Command.Version }
 {
     let (name, rest) = words.split_first()?;
     parse_named(name.as_str(), rest)

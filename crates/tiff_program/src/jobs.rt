@@ -45,7 +45,8 @@ fn are_well(replies: &[JobReply]) -> bool
 
 // The lines of the replies to jobs.
 fn told(alloc: Global, replies: Vec<JobReply>) -> TiffResult<PageLines>
-    ensures { MatchResult result (λ lines. (lines.well ≡ list_all is_well replies.items) × (lines.end ≡ None)) (λ e. e ≡ TiffError.OutOfMemory) }
+    ensures { MatchResult result (λ lines. (lines.well ≡ list_all is_well replies.items)
+        × (lines.end ≡ None)) (λ e. e ≡ TiffError.OutOfMemory) }
 {
     let text = lines_of_jobs(alloc, &replies);
     let well = are_well(&replies);
@@ -61,7 +62,9 @@ fn told(alloc: Global, replies: Vec<JobReply>) -> TiffResult<PageLines>
 #[tactic(auto, using(tiff_base::proofs::MemoryFaults::header_refused))]
 fn run_kind<K: TiffKind>(alloc: Global, keep_going: bool, jobs: &[Job]) -> TiffResult<Written>
     ensures { MatchResult result
-        (λ written. Wrote K.kind keep_going jobs.now (option_map (λ file. file.items) written.file) written.lines.well × (written.lines.end ≡ None))
+        (λ written.
+        Wrote K.kind keep_going jobs.now (option_map (λ file. file.items) written.file)
+        written.lines.well × (written.lines.end ≡ None))
         (λ e. e ≡ TiffError.OutOfMemory) }
 {
     let mut replies = Vec::new(alloc);
@@ -83,7 +86,9 @@ pub fn write_by(
     jobs: &[Job],
 ) -> TiffResult<Written>
     ensures { MatchResult result
-        (λ written. Wrote kind keep_going jobs.now (option_map (λ file. file.items) written.file) written.lines.well × (written.lines.end ≡ None))
+        (λ written.
+        Wrote kind keep_going jobs.now (option_map (λ file. file.items) written.file)
+        written.lines.well × (written.lines.end ≡ None))
         (λ e. e ≡ TiffError.OutOfMemory) }
 {
     match kind {

@@ -139,7 +139,8 @@ fn check_text(alloc: Global, checks: &[PageCheck]) -> Result<String, AllocError>
 
 // What the command `check` prints for pages that were read whole.
 fn told(alloc: Global, checked: FileCheck) -> TiffResult<PageLines>
-    ensures { MatchResult result (λ lines. (lines.well ≡ are_well checked.pages.items) × (lines.end ≡ checked.end)) (λ e. e ≡ TiffError.OutOfMemory) }
+    ensures { MatchResult result (λ lines. (lines.well ≡ are_well checked.pages.items)
+        × (lines.end ≡ checked.end)) (λ e. e ≡ TiffError.OutOfMemory) }
 {
     let text = check_text(alloc, &checked.pages)?;
     let well = are_well(&checked.pages);
@@ -166,7 +167,8 @@ pub fn file_list(alloc: Global, file: Vec<u8>) -> TiffResult<PageLines> {
 /// Reads each page of a file whole under limits, as [`check_lines`] does; or returns the error of
 /// the file's header, or of its first page. The lines are well if each page was read.
 pub fn file_check(alloc: Global, file: Vec<u8>, limits: Limits) -> TiffResult<PageLines>
-    ensures { AnswersBut (Unit {0}) (Unit {0}) (λ lines. (lines.well, lines.end)) result (told_under limits file.items) }
+    ensures { AnswersBut (Unit {0}) (Unit {0}) (λ lines. (lines.well, lines.end)) result
+        (told_under limits file.items) }
 {
     told(alloc, check_file(alloc, file, limits)?)
 }

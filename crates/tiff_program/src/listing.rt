@@ -33,7 +33,8 @@ fn push_byte(text: &mut String, byte: u8) -> Result<(), AllocError>
 // Appends each byte as two hexadecimal digits.
 #[tactic(auto, using(crate::proofs::Digits::digits_more))]
 fn push_digits(text: &mut String, bytes: &[u8]) -> Result<(), AllocError>
-    ensures { OnOk result (string_bytes text.new ≡ string_bytes text.old ++ flat_map two_digits bytes.now) }
+    ensures { OnOk result
+        (string_bytes text.new ≡ string_bytes text.old ++ flat_map two_digits bytes.now) }
 {
     for byte in bytes {
         push_byte(text, *byte)?;
@@ -54,7 +55,8 @@ fn push_bytes(text: &mut String, bytes: &[u8]) -> Result<(), AllocError>
 // Appends the line of a field: the number of its tag, the number of its type, how many values it
 // has, and their bytes.
 fn push_line(text: &mut String, tag: u16, entry: &Entry, bytes: &[u8]) -> Result<(), AllocError>
-    ensures { OnOk result (string_bytes text.new ≡ string_bytes text.old ++ line tag entry.now bytes.now) }
+    ensures { OnOk result
+        (string_bytes text.new ≡ string_bytes text.old ++ line tag entry.now bytes.now) }
 {
     let field_type = entry.field_type().to_u16();
     let count = entry.count();
@@ -71,8 +73,10 @@ fn push_found(
     found: TiffResult<Option<Entry>>,
     values: &ValueBuffer,
 ) -> TiffResult<()>
-    ensures { (old new : Decoding) → Step old (Call.FindTagBuf (tag_of number)) (Reply.FindTagBuf found values.now) new
-        → Answers (λ _. string_bytes text.new) result (after (string_bytes text.old) (field_line old number)) old.failures new.failures }
+    ensures { (old new : Decoding)
+        → Step old (Call.FindTagBuf (tag_of number)) (Reply.FindTagBuf found values.now) new
+        → Answers (λ _. string_bytes text.new) result
+        (after (string_bytes text.old) (field_line old number)) old.failures new.failures }
 {
     if let Some(entry) = found? {
         push_line(text, number, &entry, values.as_bytes())?;
@@ -97,7 +101,8 @@ fn find_all<R: Source>(
     decoder: &mut Decoder<R>,
     numbers: &[u16],
 ) -> TiffResult<Vec<Reply>>
-    ensures { MatchResult result (λ replies. Steps decoder.old (finds numbers.now) replies.items decoder.new)
+    ensures { MatchResult result
+        (λ replies. Steps decoder.old (finds numbers.now) replies.items decoder.new)
         (λ e. (e ≡ TiffError.OutOfMemory) × (decoder.new ≡ decoder.old)) }
 {
     match calls_to_find(alloc, numbers) {
@@ -113,7 +118,8 @@ fn list_tags<R: Source>(
     decoder: &mut Decoder<R>,
     numbers: &[u16],
 ) -> TiffResult<String>
-    ensures answer { Answers string_bytes result (lines decoder.old numbers.now) decoder.old.failures decoder.new.failures }
+    ensures answer { Answers string_bytes result (lines decoder.old numbers.now) decoder.old.failures
+        decoder.new.failures }
     ensures kept { decoder.new ≡ record decoder.old { failures = decoder.new.failures } }
     ensures failures { decoder.old.failures ≤ decoder.new.failures }
 {
@@ -150,7 +156,8 @@ fn read_directory<R: Source>(
     decoder: &mut Decoder<R>,
     pointer: IfdPointer,
 ) -> TiffResult<Directory>
-    ensures answer { Answers (λ d. d) result (read_directory decoder.old pointer).answer decoder.old.failures decoder.new.failures }
+    ensures answer { Answers (λ d. d) result (read_directory decoder.old pointer).answer decoder.old.failures
+        decoder.new.failures }
     ensures kept { decoder.new ≡ record decoder.old { failures = decoder.new.failures } }
     ensures failures { decoder.old.failures ≤ decoder.new.failures }
 {
@@ -164,7 +171,8 @@ fn numbers_at<R: Source>(
     decoder: &mut Decoder<R>,
     pointer: IfdPointer,
 ) -> TiffResult<Vec<u16>>
-    ensures answer { Answers (λ v. v.items) result (numbers_at decoder.old pointer) decoder.old.failures decoder.new.failures }
+    ensures answer { Answers (λ v. v.items) result (numbers_at decoder.old pointer) decoder.old.failures
+        decoder.new.failures }
     ensures kept { decoder.new ≡ record decoder.old { failures = decoder.new.failures } }
     ensures failures { decoder.old.failures ≤ decoder.new.failures }
 {
@@ -178,7 +186,8 @@ fn list_directory<R: Source>(
     decoder: &mut Decoder<R>,
     pointer: Option<IfdPointer>,
 ) -> TiffResult<String>
-    ensures answer { Answers string_bytes result (listing_at decoder.old pointer) decoder.old.failures decoder.new.failures }
+    ensures answer { Answers string_bytes result (listing_at decoder.old pointer) decoder.old.failures
+        decoder.new.failures }
     ensures kept { decoder.new ≡ record decoder.old { failures = decoder.new.failures } }
     ensures failures { decoder.old.failures ≤ decoder.new.failures }
 {

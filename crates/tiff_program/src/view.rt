@@ -109,7 +109,8 @@ fn top_of_64(alloc: Global, numbers: &[u64]) -> Result<Vec<u8>, AllocError>
 
 // The bytes that the picture shows of samples.
 fn shown(alloc: Global, samples: DecodingResult) -> TiffResult<Vec<u8>>
-    ensures { AnswersWithoutSource (λ v. v.items) result (shown_as (decoded_as samples).sample_type (decoded_as samples).numbers) }
+    ensures { AnswersWithoutSource (λ v. v.items) result
+        (shown_as (decoded_as samples).sample_type (decoded_as samples).numbers) }
 {
     match samples {
         DecodingResult::U8(list) => Ok(list),
@@ -130,14 +131,16 @@ fn draw(alloc: Global, shape: Shape, samples: DecodingResult) -> TiffResult<Vec<
 
 // The color of a decoder's page.
 fn color_here<R: Source>(decoder: &mut Decoder<R>) -> TiffResult<ColorType>
-    ensures { ReadsPage (λ c. c) (outcome.colortype decoder.old).answer result decoder.old decoder.new }
+    ensures { ReadsPage (λ c. c) (outcome.colortype decoder.old).answer result decoder.old
+        decoder.new }
 {
     decoder.colortype()
 }
 
 // How the image of a decoder's page is laid out.
 fn layout_here<R: Source>(decoder: &mut Decoder<R>) -> TiffResult<BufferLayoutPreference>
-    ensures { ReadsPage (λ l. l) (outcome.image_buffer_layout decoder.old).answer result decoder.old decoder.new }
+    ensures { ReadsPage (λ l. l) (outcome.image_buffer_layout decoder.old).answer result decoder.old
+        decoder.new }
 {
     decoder.image_buffer_layout()
 }
@@ -151,7 +154,8 @@ fn samples_here<R: Source>(decoder: &mut Decoder<R>) -> TiffResult<DecodingResul
 
 // The width and the height of a decoder's page.
 fn sides_here<R: Source>(decoder: &mut Decoder<R>) -> TiffResult<(u32, u32)>
-    ensures { ReadsPage (λ s. s) (outcome.dimensions decoder.old).answer result decoder.old decoder.new }
+    ensures { ReadsPage (λ s. s) (outcome.dimensions decoder.old).answer result decoder.old
+        decoder.new }
 {
     decoder.dimensions()
 }
@@ -184,7 +188,8 @@ pub fn page_view<R: Source>(
     decoder: &mut Decoder<R>,
     page: usize,
 ) -> TiffResult<Vec<u8>>
-    ensures { Answers (λ v. v.items) result (at_page picture decoder.old page) decoder.old.failures decoder.new.failures }
+    ensures { Answers (λ v. v.items) result (at_page picture decoder.old page) decoder.old.failures
+        decoder.new.failures }
 {
     decoder.seek_to_image(page)?;
     picture_here(alloc, decoder)

@@ -1,4 +1,4 @@
--- How often a source or a sink failed.
+-- The number of times a source or a sink failed.
 use Rattle.std.specs.Prelude.{ℕ}
 use Rattle.tiff_replay.specs.declared.failure.Failure.{Failure}
 use Rattle.tiff_replay.specs.declared.failure.Failure.TheVariants.{Never, Behind, Past}

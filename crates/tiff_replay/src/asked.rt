@@ -1,9 +1,9 @@
-//! Which bytes of its file a source was asked for.
+//! The bytes of a file that a source is asked for.
 
 use std::alloc::{AllocError, Global};
 use std::fmt::Write;
 
-/// Which bytes of a file a source was asked for, and whether it was asked for one behind the last.
+/// The bytes of a file that a source is asked for, and whether it is asked for a byte past the end.
 #[derive(Drop)]
 pub struct Asked {
     marks: Vec<bool>,
@@ -11,7 +11,7 @@ pub struct Asked {
 }
 
 impl Asked {
-    /// None of so many bytes yet.
+    /// No byte of a file of `len` bytes is asked for yet.
     pub fn none(alloc: Global, len: usize) -> Result<Self, AllocError> {
         Ok(Asked {
             marks: vec![in alloc; false; len]?,
@@ -19,7 +19,7 @@ impl Asked {
         })
     }
 
-    /// So many bytes from an offset on too.
+    /// Adds the `len` bytes from offset `at` on.
     pub fn add(&mut self, at: u64, len: usize) {
         let all = self.marks.len() as u64;
         let end = at.saturating_add(len as u64);
@@ -33,7 +33,8 @@ impl Asked {
         }
     }
 
-    /// Their stretches, each by its first byte and the one behind its last.
+    /// The stretches of the bytes asked for. Each gives its first offset and the offset after its
+    /// last byte.
     pub fn text(&self, alloc: Global) -> Result<String, AllocError> {
         let mut text = String::new(alloc);
         let mut first = None;

@@ -1,4 +1,4 @@
-//! How often a source or a sink was called.
+//! The number of calls of a source or a sink.
 
 ghost use Rattle.std.specs.Prelude.{◌<◌};
 
@@ -6,42 +6,45 @@ use std::alloc::{AllocError, Global};
 use std::cell::Cell;
 use std::rc::Rc;
 
-/// How often a source or a sink was called; it and those who watch it hold the same number.
+/// The number of calls of a source or a sink. The source or sink and its observers share the
+/// number.
 #[derive(Drop)]
 pub struct CallCount {
     calls: Rc<Cell<u64>>,
 }
 
 impl CallCount {
-    /// No call yet.
+    /// A count of 0.
     pub fn new(alloc: Global) -> Result<Self, AllocError> {
         let calls = Rc::new(alloc, Cell::new(0))?;
         Ok(CallCount { calls })
     }
 
-    /// The same number, to be held by another.
+    /// Another handle to the same count.
     pub fn shared(&self) -> Result<Self, AllocError> {
         let calls = self.calls.clone()?;
         Ok(CallCount { calls })
     }
 
-    /// One call more.
+    /// Counts one more call.
     pub fn add(&self) {
         self.calls.set(self.calls.get().saturating_add(1));
     }
 
-    /// The number.
+    /// The number of calls.
     pub fn get(&self) -> u64 {
         self.calls.get()
     }
 }
 
-// So many calls of a run are each failed, and of more one in several: about so many.
+// In a run of up to `EACH` calls, each call fails in a run of its own. In a run of more calls, one
+// call in several fails, about `SAMPLE` in all.
 const EACH: u64 = 10_000;
 
 const SAMPLE: u64 = 40;
 
-/// Of which number each multiple is failed, where there are so many calls: of 1, and else of more than that.
+/// The step between the calls that fail, in a run of `calls` calls: each multiple of the step
+/// fails. The step is 1 for up to `EACH` calls, and else greater than 1.
 pub fn step_of(calls: u64) -> u64
     ensures { 0 < result }
 {
@@ -51,7 +54,7 @@ pub fn step_of(calls: u64) -> u64
     calls / SAMPLE + 1
 }
 
-/// Which of so many calls were failed, in words.
+/// Says in words which of the `calls` calls failed.
 pub fn failed_text(alloc: Global, calls: u64, step: u64) -> Result<String, AllocError> {
     if step == 1 {
         format!(in alloc; "{calls}, each failed")

@@ -1,4 +1,4 @@
-//! A file, cut behind each of its bytes.
+//! A file that is cut after each of its bytes.
 
 use crate::call_count::CallCount;
 use crate::failure::Failure;
@@ -8,7 +8,7 @@ use crate::source::ScriptedSource;
 use std::alloc::{AllocError, Global};
 use std::fmt::Write;
 
-// What is asked of each cut that is opened.
+// The calls on each cut file that opens.
 const CALLS: [&str; 5] = [
     "dimensions",
     "next_image",
@@ -17,7 +17,8 @@ const CALLS: [&str; 5] = [
     "check",
 ];
 
-// What the lengths so far are answered: a line for each run of lengths that are answered alike, and what the last run is.
+// The replies for the lengths so far: one line for each range of lengths with the same reply, and
+// the last range, which isn't in `lines` yet.
 #[derive(Drop)]
 struct Ranges {
     lines: String,
@@ -26,7 +27,7 @@ struct Ranges {
 }
 
 impl Ranges {
-    // Ends a run of lengths before one.
+    // Ends the current range before the length `next`.
     fn end(&mut self, next: usize) -> Result<(), AllocError> {
         let first = self.first;
         let last = next.saturating_sub(1);
@@ -39,7 +40,7 @@ impl Ranges {
         Ok(())
     }
 
-    // What the next length is answered.
+    // Adds the reply for the next length.
     fn add(&mut self, len: usize, reply: String) -> Result<(), AllocError> {
         if reply.as_str() != self.reply.as_str() {
             if len > 0 {
@@ -52,7 +53,7 @@ impl Ranges {
     }
 }
 
-// What the first bytes of a file are answered.
+// The replies for the first `len` bytes of a file.
 fn reply_of(alloc: Global, file: &File, len: usize) -> Result<String, AllocError> {
     let mut reader = Reader::new(alloc);
     let reads = CallCount::new(alloc)?;
@@ -68,7 +69,8 @@ fn reply_of(alloc: Global, file: &File, len: usize) -> Result<String, AllocError
     Ok(text)
 }
 
-/// How many bytes a file has, and what it is answered where it is cut behind each of them, a line for each run of lengths that are answered alike.
+/// The number of bytes of a file, and the replies where the file is cut after each byte: one line
+/// for each range of lengths with the same reply.
 pub fn cuts_text(alloc: Global, file: &File) -> Result<String, AllocError> {
     let len = file.len();
     let mut ranges = Ranges {

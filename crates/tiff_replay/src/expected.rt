@@ -1,4 +1,4 @@
-//! What a list of jobs is answered over a sink of which a call fails.
+//! The expected replies to a list of jobs over a sink of which one call fails.
 
 use crate::job_lines::{begun_too_late, failed, line_count, parent_of, step_count, writes};
 use crate::job_list::{JobList, run_text};
@@ -6,18 +6,18 @@ use crate::manner::{Appetite, Manner};
 use std::alloc::AllocError;
 use tiff_encode::encoder::script::Job;
 
-// How often the sink was called at the end of a job, and how many lines were answered.
+// The number of calls of the sink and the number of reply lines at the end of a job.
 #[derive(Clone, Copy, Drop)]
 struct Stand {
     calls: u64,
     lines: usize,
 }
 
-/// What a list of jobs is answered over a sink that takes so much at once, and of which a call fails.
+/// The expected replies to a list of jobs over a sink with an appetite, of which one call fails.
 #[derive(Drop)]
 pub struct Expected<'a> {
     list: JobList<'a>,
-    // Behind the header, and behind each job.
+    // The counts after the header, and after each job.
     stands: Vec<Stand>,
 }
 
@@ -35,13 +35,13 @@ fn push_lines(text: &mut String, lines: &[String]) -> Result<(), AllocError> {
     Ok(())
 }
 
-// Some lines out of others, as far as there are so many.
+// The lines from `from` to `to`, or none if there are fewer lines.
 fn between(lines: &[String], from: usize, to: usize) -> &[String] {
     lines.get(from..to).unwrap_or(&[])
 }
 
 impl<'a> Expected<'a> {
-    /// What stands behind each job of a list over a sink that takes so much at once.
+    /// The counts after each job of a list, over a sink with this appetite.
     pub fn new(list: JobList<'a>, appetite: Appetite) -> Result<Self, AllocError> {
         let mut stands = Vec::new(list.alloc);
         for count in 0..=list.jobs.len() {
@@ -54,13 +54,14 @@ impl<'a> Expected<'a> {
         Ok(Expected { list, stands })
     }
 
-    // The job in which a call falls, counted from 1; none where it falls into the header.
+    // The job that makes the call with this number, counted from 1. Returns `None` if the call is
+    // within the header.
     fn job_of(&self, call: u64) -> Option<usize> {
         let stand = self.stands.iter().position(|stand| stand.calls >= call)?;
         stand.checked_sub(1)
     }
 
-    // How many lines were answered before a job.
+    // The number of reply lines before a job.
     fn lines_before(&self, job: usize) -> usize {
         match self.stands.get(job) {
             Some(stand) => stand.lines,
@@ -68,7 +69,7 @@ impl<'a> Expected<'a> {
         }
     }
 
-    // Whether a job finished a directory.
+    // Whether a job finishes a directory.
     fn finishes(&self, job: usize) -> bool {
         let end = self.lines_before(job.saturating_add(1));
         match self.list.answered.get(end.saturating_sub(1)) {
@@ -77,7 +78,7 @@ impl<'a> Expected<'a> {
         }
     }
 
-    // The number of the first line that tells of a job.
+    // The number of lines before the first line of a job.
     fn first_line(&self, job: usize) -> usize {
         let mut count = 0usize;
         for earlier in self.list.jobs.iter().take(job) {
@@ -86,7 +87,8 @@ impl<'a> Expected<'a> {
         count
     }
 
-    // Appends the replies of the jobs behind one in which the sink failed: each is refused as it begins, and only settings are not.
+    // Appends the replies to the jobs after the one in which the sink failed. Each job is refused
+    // as it begins, except a setting.
     fn push_later(&self, text: &mut String, failing: usize) -> Result<(), AllocError> {
         for job in self.list.jobs.iter().skip(failing.saturating_add(1)) {
             let is_finished = match parent_of(job) {
@@ -98,8 +100,8 @@ impl<'a> Expected<'a> {
         Ok(())
     }
 
-    // The replies of steps that do not write, with nothing written behind the steps before them: the list up to there is run, and
-    // the directory discarded.
+    // The replies to the steps that write nothing, after a step that failed. To find them, runs the
+    // list up to there without the steps that write, and discards the directory.
     fn kept_replies(
         &self,
         before: &[String],
@@ -125,7 +127,7 @@ impl<'a> Expected<'a> {
         Ok(replies)
     }
 
-    // Appends the replies of the steps of a job behind one of them that failed, and of its end.
+    // Appends the replies to the steps of a job after the step that failed, and to the job's end.
     fn push_rest(&self, text: &mut String, job: usize, step: usize) -> Result<(), AllocError> {
         let Some(failing) = self.list.jobs.get(job) else {
             return Ok(());
@@ -154,8 +156,9 @@ impl<'a> Expected<'a> {
         push_line(text, failed())
     }
 
-    // Appends the replies of the job in which the sink failed. Where it is answered by one line, its beginning failed, or it has no step;
-    // else the first step failed that is answered otherwise than where nothing fails.
+    // Appends the replies to the job in which the sink failed. If the job has one reply line, its
+    // beginning failed, or it has no step. Else the first step that failed is the first one whose
+    // reply differs from the reply without a failure.
     fn push_failing(
         &self,
         text: &mut String,
@@ -181,7 +184,8 @@ impl<'a> Expected<'a> {
         self.push_rest(text, job, same)
     }
 
-    /// The lines where a call of the sink fails, counted from 1; the lines that were told say where in its job.
+    /// The expected lines where the call with this number, counted from 1, fails in the sink. The
+    /// lines `told` of the run show where in its job it fails.
     pub fn lines(&self, call: u64, told: &str, fault: &str) -> Result<String, AllocError> {
         let alloc = self.list.alloc;
         let mut text = String::new(alloc);

@@ -6,11 +6,11 @@ ghost use Rattle.tiff_replay.specs.Failed.{failed};
 /// When a source or a sink fails.
 #[derive(Clone, Copy, Debug, Drop)]
 pub enum Failure {
-    /// At no call.
+    /// It never fails.
     Never,
-    /// At the call behind so many others.
+    /// It fails at the call after this many others.
     Behind(u64),
-    /// It has failed, and does not again.
+    /// It failed, and doesn't fail again.
     Past,
 }
 

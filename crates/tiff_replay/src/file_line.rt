@@ -12,7 +12,7 @@ use std::io::ErrorKind;
 use std::rt::Files;
 use tiff_lists::digits::bytes_of;
 
-/// A file as the words of a line tell of it.
+/// A file that the words of a line describe.
 #[derive(Drop)]
 pub struct File {
     alloc: Global,
@@ -21,7 +21,7 @@ pub struct File {
     failure: Failure,
 }
 
-/// The bytes of the file of a name, if there is one.
+/// The bytes of the file with this name, if it exists.
 pub fn bytes_read(
     rt: &(impl Files + AllocGlobal),
     name: &str,
@@ -35,7 +35,8 @@ pub fn bytes_read(
     }
 }
 
-// The bytes of the file of a name, those that were written, those of a chain of pages, or those that digits give.
+// The bytes of the file with this name, the bytes written last, the bytes of a chain of pages, or
+// the bytes that hexadecimal digits give.
 fn bytes_named(
     rt: &(impl Files + AllocGlobal),
     written: &[u8],
@@ -57,7 +58,7 @@ fn bytes_named(
 }
 
 impl File {
-    // Writes bytes over those from an offset on, as far as there are any.
+    // Overwrites the bytes from an offset on, up to the end of the file at most.
     fn put(&mut self, offset: &str, digits: &str) -> Result<bool, AllocError> {
         let (Ok(offset), Some(over)) = (offset.parse::<usize>(), bytes_of(self.alloc, digits)?)
         else {
@@ -71,7 +72,7 @@ impl File {
         Ok(true)
     }
 
-    // Leaves only the first bytes.
+    // Keeps only the first bytes.
     fn cut(&mut self, len: &str) -> bool {
         match len.parse::<usize>() {
             Ok(len) => {
@@ -82,7 +83,7 @@ impl File {
         }
     }
 
-    // Adds bytes behind the others.
+    // Appends bytes.
     fn add(&mut self, digits: &str) -> Result<bool, AllocError> {
         match bytes_of(self.alloc, digits)? {
             Some(bytes) => {
@@ -93,7 +94,7 @@ impl File {
         }
     }
 
-    // Has a read fail, counted from 1.
+    // Makes one read fail, counted from 1.
     fn fail(&mut self, read: &str) -> bool {
         match read.parse::<u64>() {
             Ok(read) if read > 0 => {
@@ -104,7 +105,8 @@ impl File {
         }
     }
 
-    // Follows the first word with what belongs to it, and tells how many words these are; none where it is no such word.
+    // Follows the first word and its arguments. Returns the number of words used, or `None` if the
+    // first word is unknown.
     fn follow(&mut self, words: &[&str]) -> Result<Option<usize>, AllocError>
         ensures { IfOk result (λ taken. IfSome taken (λ n. n ≤ 3)) }
     {
@@ -122,7 +124,7 @@ impl File {
         Ok(known.then_some(taken))
     }
 
-    // Follows all words, if all are known.
+    // Follows all words. Returns whether all are known.
     fn follow_all(&mut self, words: &[&str]) -> Result<bool, AllocError> {
         let mut next = 0;
         for _ in words {
@@ -139,12 +141,13 @@ impl File {
 }
 
 impl File {
-    /// Its source, whose reads are counted.
+    /// The source of the file, which counts its reads.
     pub fn source(&self, reads: &CallCount) -> Result<ScriptedSource, AllocError> {
         self.source_of(self.bytewise, self.failure, reads)
     }
 
-    /// A source of its bytes that gives one byte a read or not, and fails so; its reads are counted.
+    /// A source of the file's bytes that counts its reads. It gives one byte per read if `bytewise`
+    /// is true, and fails as `failure` says.
     pub fn source_of(
         &self,
         bytewise: bool,
@@ -155,29 +158,30 @@ impl File {
         ScriptedSource::new(bytes, bytewise, failure, reads.shared()?)
     }
 
-    /// Whether its source gives one byte a read.
+    /// Whether the source gives one byte per read.
     pub fn is_bytewise(&self) -> bool {
         self.bytewise
     }
 
-    /// Whether a read of its source fails.
+    /// Whether a read of the source fails.
     pub fn fails(&self) -> bool {
         !matches!(self.failure, Failure::Never)
     }
 
-    /// How many bytes it has.
+    /// The number of bytes.
     pub fn len(&self) -> usize {
         self.bytes.len()
     }
 
-    /// Its first bytes alone.
+    /// The first `len` bytes.
     pub fn cut_to(&self, len: usize) -> Result<Vec<u8>, AllocError> {
         let len = len.min(self.bytes.len());
         self.bytes[..len].to_vec(self.alloc)
     }
 }
 
-/// The file that the words of a line tell of, if they do. These bytes were written last.
+/// The file that the words of a line describe, if they describe one. `written` are the bytes
+/// written last.
 pub fn file_of(
     rt: &(impl Files + AllocGlobal),
     written: &[u8],

@@ -1,16 +1,16 @@
-//! The lines of a list of jobs, and the jobs that they tell of.
+//! The lines of a list of jobs, and the jobs that they describe.
 
 use std::alloc::{AllocError, Global};
 use tiff_encode::encoder::script::Job;
 
-// What a call that writes is answered once a write has failed.
+// The reply to a call that writes, after a failed write.
 const FAILED: &str = "refused: usage error: an earlier write failed (UsageError(WriterFailed))";
 
-// What a directory is answered whose parent was not finished.
+// The reply to a directory whose parent isn't finished.
 const NO_PARENT: &str =
     "refused: usage error: the parent's link lies outside what was written (UsageError(ParentNotWritten))";
 
-/// How many steps a job has.
+/// The number of steps of a job.
 pub fn step_count(job: &Job) -> usize {
     match job {
         Job::Predictor(_) | Job::Compression(_) => 0,
@@ -19,7 +19,7 @@ pub fn step_count(job: &Job) -> usize {
     }
 }
 
-/// How many lines tell of a job: of a setting one, else its head, its steps and its end.
+/// The number of lines of a job: one for a setting, else its head, its steps and its end.
 pub fn line_count(job: &Job) -> usize {
     match job {
         Job::Predictor(_) | Job::Compression(_) => 1,
@@ -27,7 +27,8 @@ pub fn line_count(job: &Job) -> usize {
     }
 }
 
-/// Whether a line tells of a step that writes: all do but those that read directories or count samples.
+/// Whether the step on a line writes. All steps do except those that read directories or count
+/// samples.
 pub fn writes(line: &str) -> bool {
     let name = match line.split_once(' ') {
         Some((name, _)) => name,
@@ -39,13 +40,13 @@ pub fn writes(line: &str) -> bool {
     )
 }
 
-/// What a step that writes, an end, or a job that begins is answered behind a write that failed.
+/// The reply, after a failed write, to a step that writes, to an end, or to a job that begins.
 pub fn failed() -> &'static str {
     FAILED
 }
 
-/// What a job is answered that begins behind a write that failed; whether the directory of a job was finished before that tells
-/// `is_finished`.
+/// The reply to a job that begins after a failed write. `is_finished` says whether the directory of
+/// the job's parent is finished before the failure.
 pub fn begun_too_late(job: &Job, is_finished: bool) -> &'static str {
     match job {
         Job::Predictor(_) | Job::Compression(_) => "nothing",
@@ -57,7 +58,7 @@ pub fn begun_too_late(job: &Job, is_finished: bool) -> &'static str {
     }
 }
 
-/// The job whose directory a job is linked from.
+/// The job whose directory links to the directory of this job.
 pub fn parent_of(job: &Job) -> Option<usize> {
     match job {
         Job::Directory(job) => job.parent,
@@ -65,7 +66,7 @@ pub fn parent_of(job: &Job) -> Option<usize> {
     }
 }
 
-/// The lines that tell of jobs, without comments.
+/// The lines that describe jobs, without comments.
 pub fn told_lines(alloc: Global, text: &str) -> Result<Vec<String>, AllocError> {
     let mut lines = Vec::new(alloc);
     for line in text.lines() {

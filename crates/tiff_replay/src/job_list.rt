@@ -1,4 +1,4 @@
-//! A list of jobs, the lines that tell of it, and its runs.
+//! A list of jobs, the lines that describe it, and its runs.
 
 use crate::manner::Manner;
 use crate::record::{Kept, Record, Recorded};
@@ -11,19 +11,19 @@ use tiff_encode::encoder::{TiffKindBig, TiffKindStandard};
 use tiff_lists::jobs::jobs_of;
 use tiff_lists::replies::run_told;
 
-/// What a run of jobs left.
+/// The results of a run of jobs.
 #[derive(Drop)]
 pub struct JobRun {
-    /// The lines of what the jobs were answered, or the refusal of all.
+    /// The reply lines of the jobs, or the error of the whole run.
     pub text: String,
-    /// The bytes of the sink, where it was handed back.
+    /// The bytes of the sink, if the run hands the sink back.
     pub handed_back: Option<Vec<u8>>,
-    /// What the sink was told.
+    /// The calls that the sink recorded.
     pub recorded: Recorded,
 }
 
 impl JobRun {
-    /// Whether the sink was told these bytes, and handed back no others.
+    /// Whether the sink recorded these bytes, and the run hands back no other bytes.
     pub fn left(&self, bytes: &[u8]) -> bool {
         let told = self.recorded.file.as_slice();
         match &self.handed_back {
@@ -33,7 +33,7 @@ impl JobRun {
     }
 }
 
-// Runs jobs in a file of a kind.
+// Runs jobs in a classic or a BigTIFF file.
 fn run_kind(
     alloc: Global,
     big: bool,
@@ -47,7 +47,8 @@ fn run_kind(
     }
 }
 
-/// Runs jobs over an empty sink that takes bytes in a manner, in a file of a kind, and keeps so much of what it is told.
+/// Runs jobs over an empty sink with this manner, in a classic or a BigTIFF file. The sink records
+/// as much as `kept` says.
 pub fn run_over(
     alloc: Global,
     big: bool,
@@ -68,8 +69,8 @@ pub fn run_over(
     })
 }
 
-/// Runs the jobs that a text tells of over an empty sink that takes bytes in a manner, in a file of a kind; or the number, from 1, of
-/// the first line that is no job.
+/// Runs the jobs of a text over an empty sink with this manner, in a classic or a BigTIFF file. Or
+/// returns the number, from 1, of the first line that is no job.
 pub fn run_text(
     alloc: Global,
     big: bool,
@@ -82,7 +83,8 @@ pub fn run_text(
     }
 }
 
-/// A list of jobs in a file of a kind, the lines that tell of the jobs, and the lines that they are answered where nothing fails.
+/// A list of jobs in a classic or a BigTIFF file, the lines that describe the jobs, and the reply
+/// lines where nothing fails.
 #[derive(Clone, Copy, Drop)]
 pub struct JobList<'a> {
     pub alloc: Global,
@@ -93,12 +95,12 @@ pub struct JobList<'a> {
 }
 
 impl<'a> JobList<'a> {
-    /// Runs all jobs over a sink that takes bytes in a manner, and keeps so much of what it is told.
+    /// Runs all jobs over a sink with this manner. The sink records as much as `kept` says.
     pub fn run(&self, manner: Manner, kept: Kept) -> Result<JobRun, AllocError> {
         run_over(self.alloc, self.big, self.jobs, manner, kept)
     }
 
-    /// Runs the first jobs over a sink that takes bytes in a manner, whose calls are counted.
+    /// Runs the first `count` jobs over a sink with this manner, and counts the sink's calls.
     pub fn run_first(&self, count: usize, manner: Manner) -> Result<JobRun, AllocError> {
         let count = count.min(self.jobs.len());
         run_over(

@@ -1,5 +1,5 @@
-//! Makes the calls of decoders and runs the jobs of writers that standard input lists, and prints each line with its reply; or
-//! compares the replies of the lists that it names with those that stand there.
+//! Makes the decoder calls and runs the writer jobs that standard input lists, and prints each line
+//! with its reply. Or compares the replies of the named lists with the replies in those lists.
 #![tactic(auto)]
 
 mod asked;

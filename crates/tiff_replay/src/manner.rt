@@ -1,21 +1,21 @@
-//! How a sink takes what it is offered.
+//! How a sink takes the bytes that it is offered.
 
 ghost use Rattle.std.specs.Prelude.{◌≤◌, ◌<◌};
 
 use crate::failure::Failure;
 use tiff_base::io::SinkFault;
 
-/// How many of the bytes that it is offered a sink takes at once.
+/// How many of the offered bytes a sink takes at once.
 #[derive(Clone, Copy, Drop)]
 pub enum Appetite {
     All,
     One,
-    /// One byte less than it is offered, but at least one.
+    /// One byte less than offered, but at least one.
     OneLess,
 }
 
 impl Appetite {
-    /// How many of so many bytes are taken.
+    /// How many of `offered` bytes the sink takes.
     pub fn of(self, offered: usize) -> usize
         ensures at_most { result ≤ offered }
         ensures some { 0 < offered → 0 < result }
@@ -28,7 +28,8 @@ impl Appetite {
     }
 }
 
-/// How a sink takes what it is offered: how much at once, at which call it fails, and by which fault.
+/// How a sink takes the bytes that it is offered: how many at once, at which call it fails, and
+/// with which error.
 #[derive(Clone, Copy, Drop)]
 pub struct Manner {
     pub appetite: Appetite,
@@ -36,13 +37,13 @@ pub struct Manner {
     pub fault: SinkFault,
 }
 
-// The number of a call, from 1.
+// The failure at the call with this number, counted from 1.
 fn call_of(word: &str) -> Option<Failure> {
     Some(Failure::Behind(word.parse::<u64>().ok()?.checked_sub(1)?))
 }
 
 impl Manner {
-    /// It takes so much at once, and does not fail.
+    /// The sink has this appetite and doesn't fail.
     pub fn plain(appetite: Appetite) -> Self {
         Manner {
             appetite,
@@ -51,7 +52,7 @@ impl Manner {
         }
     }
 
-    /// It fails by a fault behind so many calls.
+    /// The sink fails with this error after `calls` calls.
     pub fn failing(appetite: Appetite, calls: u64, fault: SinkFault) -> Self {
         Manner {
             appetite,
@@ -60,7 +61,7 @@ impl Manner {
         }
     }
 
-    // The manner that the words behind an appetite tell of.
+    // The manner that the words after an appetite describe.
     fn with_failure(appetite: Appetite, words: &str) -> Option<Self> {
         if words.is_empty() {
             return Some(Manner::plain(appetite));
@@ -79,7 +80,7 @@ impl Manner {
         })
     }
 
-    /// The manner that words tell of, if they do.
+    /// The manner that the words describe, if they describe one.
     pub fn of_words(words: &str) -> Option<Self> {
         if let Some(words) = words.strip_prefix(" bytewise") {
             return Manner::with_failure(Appetite::One, words);

@@ -1,4 +1,4 @@
-//! A decoder of a file, and what its calls are answered as text.
+//! A decoder of a file, and the replies to its calls as text.
 
 use crate::source::ScriptedSource;
 use std::alloc::{AllocError, Global};
@@ -11,14 +11,14 @@ use tiff_decode::script::Call;
 use tiff_lists::call::call_of;
 use tiff_program::list::{PageLines, check_lines, list_lines};
 
-/// The decoder of the file that was opened last, if it was not refused.
+/// The decoder of the file opened last, if it opened.
 #[derive(Drop)]
 pub struct Reader {
     alloc: Global,
     decoder: Option<Box<Decoder<ScriptedSource>>>,
 }
 
-// Calls that read nothing.
+// The calls that read nothing.
 const STATE: [&str; 7] = [
     "ifd_pointer",
     "more_images",
@@ -35,7 +35,8 @@ fn decoder_of(alloc: Global, source: ScriptedSource) -> TiffResult<Box<Decoder<S
     Ok(Box::new(alloc, decoder)?)
 }
 
-// The lines of the pages of a decoder's file on one line, parted by ` | `, and behind them the fault by which the chain ends.
+// The lines of the pages of a decoder's file, separated by ` | ` on one line, and after them the
+// error that ends the chain.
 fn pages_text(
     alloc: Global,
     decoder: &mut Decoder<ScriptedSource>,
@@ -62,13 +63,13 @@ fn pages_text(
     Ok(told)
 }
 
-/// Whether words tell of the pages of a file, and not of a call.
+/// Whether the words ask for the pages of a file, and aren't a call.
 pub fn tells_of_pages(words: &str) -> bool {
     words == "list" || words == "check"
 }
 
 impl Reader {
-    /// No file yet.
+    /// No file is open yet.
     pub fn new(alloc: Global) -> Self {
         Reader {
             alloc,
@@ -76,12 +77,12 @@ impl Reader {
         }
     }
 
-    /// No file any more.
+    /// Closes the file.
     pub fn close(&mut self) {
         self.decoder = None;
     }
 
-    /// Opens a source in the place of the former one.
+    /// Opens a source in place of the former one.
     pub fn open(&mut self, source: ScriptedSource) -> Result<String, AllocError> {
         self.decoder = None;
         match decoder_of(self.alloc, source) {
@@ -101,7 +102,8 @@ impl Reader {
         }
     }
 
-    // The lines of the pages of the file: what they are, or what reading them gives.
+    // The lines of the pages of the file: what the pages are, or, if `checks` is true, the result
+    // of reading them.
     fn pages(&mut self, checks: bool) -> Result<String, AllocError> {
         match &mut self.decoder {
             Some(decoder) => pages_text(self.alloc, decoder, checks),
@@ -109,7 +111,7 @@ impl Reader {
         }
     }
 
-    // Which bytes of the file were asked for since it was opened.
+    // The bytes of the file that the decoder asked for since it opened.
     fn asked(&self) -> Result<String, AllocError> {
         match &self.decoder {
             Some(decoder) => decoder.inner().asked_text(self.alloc),
@@ -117,7 +119,8 @@ impl Reader {
         }
     }
 
-    /// Makes the call that the words tell of, or tells which bytes of the file were asked for.
+    /// Makes the call that the words describe, or lists the bytes of the file that the decoder
+    /// asked for.
     pub fn answer(&mut self, words: &str) -> Result<String, AllocError> {
         if words == "asked" {
             return self.asked();
@@ -131,7 +134,7 @@ impl Reader {
         }
     }
 
-    /// Where the decoder stands: what the calls are answered that read nothing.
+    /// The state of the decoder: the replies to the calls that read nothing.
     pub fn state(&mut self) -> Result<String, AllocError> {
         let mut text = String::new(self.alloc);
         for words in STATE {

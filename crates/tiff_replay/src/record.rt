@@ -1,29 +1,29 @@
-//! What a sink was told, as it and those who watch it see it.
+//! The record of a sink, which the sink and its observers share.
 
 use std::alloc::{AllocError, Global};
 use std::cell::RefCell;
 use std::mem;
 use std::rc::Rc;
 
-/// Bytes that were written from an offset on.
+/// Bytes written from offset `at` on.
 #[derive(Drop)]
 pub struct Written {
     pub at: usize,
     pub bytes: Vec<u8>,
 }
 
-/// What is kept of a sink beside how often it was called and how many bytes it holds.
+/// What a record keeps besides the number of calls and the number of bytes.
 #[derive(Clone, Copy, Drop)]
 pub enum Kept {
     Counts,
-    /// The file that its writes make.
+    /// The file that the writes make.
     File,
     /// The file, and each write.
     Writes,
 }
 
-/// How often a sink was called, how many bytes it holds, what it wrote, one call after another, and the file that this makes, as far as
-/// these are kept.
+/// The number of calls of a sink, the number of its bytes, its writes in their order, and the file
+/// that these make. The writes and the file are kept as `kept` says.
 #[derive(Drop)]
 pub struct Recorded {
     pub calls: u64,
@@ -45,7 +45,7 @@ impl Recorded {
         }
     }
 
-    // Takes bytes that were written.
+    // Records bytes that were written.
     fn write(&mut self, alloc: Global, at: usize, bytes: &[u8]) -> Result<(), AllocError> {
         if !matches!(self.kept, Kept::Counts) {
             put(&mut self.file, at, bytes)?;
@@ -58,7 +58,7 @@ impl Recorded {
     }
 }
 
-/// Writes bytes over those of a file, or behind them.
+/// Writes bytes over those of a file, or appends them.
 pub fn put(file: &mut Vec<u8>, at: usize, bytes: &[u8]) -> Result<(), AllocError> {
     if at >= file.len() {
         return file.extend_from_slice(bytes);
@@ -69,7 +69,7 @@ pub fn put(file: &mut Vec<u8>, at: usize, bytes: &[u8]) -> Result<(), AllocError
     Ok(())
 }
 
-/// What a sink was told; it and those who watch it hold the same.
+/// The record of a sink. The sink and its observers share it.
 #[derive(Drop)]
 pub struct Record {
     alloc: Global,
@@ -77,13 +77,13 @@ pub struct Record {
 }
 
 impl Record {
-    /// Nothing yet.
+    /// An empty record.
     pub fn new(alloc: Global, kept: Kept) -> Result<Self, AllocError> {
         let shared = Rc::new(alloc, RefCell::new(Recorded::none(alloc, kept)))?;
         Ok(Record { alloc, shared })
     }
 
-    /// The same, to be held by another.
+    /// Another handle to the same record.
     pub fn shared(&self) -> Result<Self, AllocError> {
         Ok(Record {
             alloc: self.alloc,
@@ -91,7 +91,7 @@ impl Record {
         })
     }
 
-    /// One call more.
+    /// Counts one more call.
     pub fn call(&self) {
         if let Ok(mut recorded) = self.shared.try_borrow_mut() {
             let recorded = &mut *recorded;
@@ -99,7 +99,7 @@ impl Record {
         }
     }
 
-    /// Bytes were written. Where there is no memory for them, they are only counted.
+    /// Records written bytes. If there is no memory for them, only their number is recorded.
     pub fn write(&self, at: u64, bytes: &[u8]) {
         if let Ok(mut recorded) = self.shared.try_borrow_mut() {
             let recorded = &mut *recorded;
@@ -109,7 +109,7 @@ impl Record {
         }
     }
 
-    /// Takes out what was told so far.
+    /// Takes out the record so far.
     pub fn take(&self) -> Recorded {
         match self.shared.try_borrow_mut() {
             Ok(mut recorded) => {

@@ -1,4 +1,4 @@
-//! The lines on a file, with what each was answered, and the same lines over sources that fail.
+//! The lines on a file with their replies, and the same lines over sources that fail.
 
 use crate::call_count::CallCount;
 use crate::file_line::File;
@@ -6,12 +6,12 @@ use crate::source_trial::{failing_reads, one_byte_reads};
 use crate::sums::Sums;
 use std::alloc::{AllocError, Global};
 
-/// A line on a file: the first opens it, the others are calls.
+/// A line on a file. The first line opens the file, the others are calls.
 #[derive(Drop)]
 pub struct ScriptLine {
     pub words: String,
     pub reply: String,
-    /// Where the decoder stood before it.
+    /// The state of the decoder before the line.
     pub state: String,
 }
 
@@ -21,14 +21,14 @@ pub struct Script {
     pub alloc: Global,
     pub file: File,
     pub lines: Vec<ScriptLine>,
-    /// How many reads they made.
+    /// The number of reads that the lines made.
     pub reads: CallCount,
-    // How many of them were tried over sources that fail.
+    // The number of lines that were tried over sources that fail.
     tried: usize,
 }
 
 impl Script {
-    /// A file, no line yet.
+    /// A file without lines.
     pub fn new(alloc: Global, file: File) -> Result<Self, AllocError> {
         Ok(Script {
             alloc,
@@ -50,7 +50,8 @@ impl Script {
         Ok(())
     }
 
-    // The lines over sources that fail, each read of a run alone, and over those that give one byte a read.
+    // Tries the lines over sources that fail, each read in a run of its own, and over sources that
+    // give one byte per read.
     fn try_all(&self, sums: &mut Sums) -> Result<String, AllocError> {
         let each = match failing_reads(self, self.file.is_bytewise(), self.reads.get(), sums)? {
             Ok(text) => text,
@@ -65,7 +66,8 @@ impl Script {
         }
     }
 
-    /// What is told of the lines over sources that fail, where it was not yet. Where a read of the file's own source fails, nothing is.
+    /// The report on the lines over sources that fail, if there are untried lines. There is none if
+    /// a read of the file's own source fails.
     pub fn tried(&mut self, sums: &mut Sums) -> Result<Option<String>, AllocError> {
         if self.file.fails() || self.tried == self.lines.len() {
             return Ok(None);

@@ -11,11 +11,12 @@ use std::alloc::{AllocError, Global};
 use std::fmt::Write;
 use std::rt::Files;
 
-/// The decoder of the file that was opened last, if it was not refused, and the writer of lists of jobs.
+/// The decoder of the file opened last, if it opened, and the writer of lists of jobs.
 #[derive(Drop)]
 pub struct Session {
     reader: Reader,
-    // The lines on the file that was opened last, if there is one, and they are to be tried over sources that fail.
+    // The lines on the file opened last, if there is a file and its lines are to be tried over
+    // sources that fail.
     script: Option<Script>,
     writer: Writer,
     // Whether a list of jobs has begun.
@@ -30,10 +31,10 @@ pub fn is_comment(line: &str) -> bool {
     line.is_empty() || line.starts_with('#')
 }
 
-// Behind this line no list is tried over sources and sinks that fail.
+// After this line no list is tried over sources and sinks that fail.
 const WITHOUT_FAILURES: &str = "without failures";
 
-// How lines begin that are no calls.
+// The beginnings of lines that aren't calls.
 const OTHER_LINES: [&str; 8] = [
     "file ",
     "cuts ",
@@ -45,13 +46,13 @@ const OTHER_LINES: [&str; 8] = [
     WITHOUT_FAILURES,
 ];
 
-// Whether the lines on a file end before a line.
+// Whether a line ends the lines on a file.
 fn ends_script(line: &str) -> bool {
     is_comment(line) || OTHER_LINES.iter().any(|words| line.starts_with(*words))
 }
 
 impl Session {
-    /// No file yet, and no list.
+    /// No file and no list yet.
     pub fn new(alloc: Global) -> Self {
         Session {
             reader: Reader::new(alloc),
@@ -63,14 +64,14 @@ impl Session {
         }
     }
 
-    /// No file yet, and no list: what this one tries is tried there.
+    /// A session without file and list, which tries lists over failures if this one does.
     pub fn another(&self, alloc: Global) -> Self {
         let mut session = Session::new(alloc);
         session.trying = self.trying;
         session
     }
 
-    /// Counts what another one tried.
+    /// Adds the counts of another session.
     pub fn count(&mut self, other: &Session) {
         self.sums.add(&other.sums);
     }
@@ -80,7 +81,7 @@ impl Session {
         self.listing
     }
 
-    // Opens a file in the place of the former one.
+    // Opens a file in place of the former one.
     fn open(&mut self, alloc: Global, file: File, words: &str) -> Result<String, AllocError> {
         if !self.trying {
             return self.reader.open(file.source(&CallCount::new(alloc)?)?);
@@ -94,7 +95,7 @@ impl Session {
         Ok(reply)
     }
 
-    // Opens the file that the words of a file line tell of.
+    // Opens the file that the words of a file line describe.
     fn open_words(
         &mut self,
         rt: &(impl Files + AllocGlobal),
@@ -108,7 +109,7 @@ impl Session {
         }
     }
 
-    // Makes a call, and keeps it with its reply where it is to be tried.
+    // Makes a call, and keeps it with its reply if it is to be tried.
     fn call(&mut self, words: &str) -> Result<String, AllocError> {
         let Some(script) = &mut self.script else {
             return self.reader.answer(words);
@@ -119,7 +120,7 @@ impl Session {
         Ok(reply)
     }
 
-    // Runs the list of jobs that has ended, and tells of its runs over other sinks.
+    // Runs the list of jobs that has ended, and reports its runs over other sinks.
     fn end_list(&mut self, words: &str) -> Result<String, AllocError> {
         self.listing = false;
         let mut reply = self.writer.run(words)?;
@@ -132,7 +133,7 @@ impl Session {
         Ok(reply)
     }
 
-    // A line of a list of jobs: it is kept, or it ends the list, which is run.
+    // Handles a line of a list of jobs: keeps the line, or ends the list and runs it.
     fn list_on(&mut self, line: &str) -> Result<Option<String>, AllocError> {
         match line.strip_prefix("done") {
             Some(words) => Ok(Some(self.end_list(words)?)),
@@ -143,7 +144,7 @@ impl Session {
         }
     }
 
-    // A line on the list of jobs that was run last, if it is one.
+    // Handles a line on the list of jobs run last, if it is such a line.
     fn written_line(&mut self, line: &str) -> Result<Option<String>, AllocError> {
         if let Some(words) = line.strip_prefix("again") {
             return Ok(Some(self.writer.run_again(words)?));
@@ -157,7 +158,7 @@ impl Session {
         Ok(None)
     }
 
-    // Tells of each cut of the file that the words of a line tell of.
+    // Reports each cut of the file that the words of a line describe.
     fn cut_words(
         &mut self,
         rt: &(impl Files + AllocGlobal),
@@ -169,7 +170,7 @@ impl Session {
         }
     }
 
-    // A line of a file, of what was written, or of a call.
+    // Handles a line that opens a file, shows written bytes, or makes a call.
     fn call_line(
         &mut self,
         rt: &(impl Files + AllocGlobal),
@@ -187,8 +188,8 @@ impl Session {
         }
     }
 
-    /// The reply to a line: a file is opened, a call is made, or a list of jobs has ended and is run. A comment has no reply,
-    /// nor has a line of such a list, nor `without failures`.
+    /// The reply to a line that opens a file, makes a call, or ends a list of jobs, which then
+    /// runs. A comment, a line within a list of jobs, and `without failures` have no reply.
     pub fn reply(
         &mut self,
         rt: &(impl Files + AllocGlobal),
@@ -212,7 +213,8 @@ impl Session {
         Ok(Some(self.call_line(rt, line)?))
     }
 
-    /// What is told before a line: where those on a file end there, of the same lines over sources that fail.
+    /// The report before a line. If the line ends the lines on a file, it covers these lines over
+    /// sources that fail.
     pub fn tried_before(&mut self, line: &str) -> Result<Option<String>, AllocError> {
         if self.listing || !ends_script(line) {
             return Ok(None);
@@ -220,7 +222,8 @@ impl Session {
         self.tried()
     }
 
-    /// What is told of the lines on the file so far over sources that fail, where it was not yet.
+    /// The report on the lines on the file so far over sources that fail, if there are untried
+    /// lines.
     pub fn tried(&mut self) -> Result<Option<String>, AllocError> {
         match &mut self.script {
             Some(script) => script.tried(&mut self.sums),
@@ -228,7 +231,7 @@ impl Session {
         }
     }
 
-    /// How much failed in all, where each list was tried.
+    /// The totals of all failures, if all lists are tried.
     pub fn sums(&self, alloc: Global) -> Result<Option<String>, AllocError> {
         if !self.trying {
             return Ok(None);

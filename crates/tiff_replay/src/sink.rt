@@ -1,4 +1,4 @@
-//! A sink in memory that may take less than it is offered, and may fail once.
+//! A sink in memory that may take fewer bytes than offered, and may fail once.
 
 ghost use Rattle.std.specs.Prelude.{◌+◌};
 ghost use Rattle.tiff_replay.specs.Failed.{failed};
@@ -8,7 +8,8 @@ use crate::manner::{Appetite, Manner};
 use crate::record::Record;
 use tiff_base::io::{MemorySink, Sink, SinkFault};
 
-/// A sink in memory that may take less than it is offered, and may fail once. What it is told is recorded.
+/// A sink in memory that may take fewer bytes than offered, and may fail once. It records its
+/// calls.
 #[derive(Drop)]
 pub struct ScriptedSink {
     inner: MemorySink,
@@ -20,7 +21,7 @@ pub struct ScriptedSink {
 }
 
 impl ScriptedSink {
-    /// A sink that holds these bytes, and takes more in a manner.
+    /// A sink that contains these bytes, and takes more with this manner.
     pub fn new(bytes: Vec<u8>, manner: Manner, record: Record) -> Self {
         ScriptedSink {
             inner: MemorySink::new(bytes),
@@ -32,7 +33,7 @@ impl ScriptedSink {
         }
     }
 
-    /// The bytes.
+    /// The bytes of the sink.
     pub fn into_vec(self) -> Vec<u8> {
         let ScriptedSink {
             inner,

@@ -1,4 +1,5 @@
-//! A list of jobs, run over sinks that take less than they are offered, and over those of which a call fails.
+//! A list of jobs, run over sinks that take fewer bytes than offered, and over sinks of which one
+//! call fails.
 
 ghost use Rattle.std.specs.Prelude.{◌<◌};
 
@@ -15,7 +16,7 @@ use tiff_base::io::{IoKind, SinkFault};
 use tiff_decode::reply::refusal_text;
 use tiff_encode::encoder::script::Job;
 
-// The runs of a list over sinks that take so much at once.
+// The runs of a list over sinks with one appetite.
 #[derive(Drop)]
 struct Trials<'a> {
     list: JobList<'a>,
@@ -23,7 +24,7 @@ struct Trials<'a> {
     expected: Expected<'a>,
 }
 
-// The text of a sink's fault.
+// The text of a sink's error.
 fn fault_text(alloc: Global, fault: SinkFault) -> Result<String, AllocError> {
     let fault = match fault {
         SinkFault::Device => TiffError::IoError(IoKind::Device),
@@ -43,7 +44,8 @@ impl<'a> Trials<'a> {
         })
     }
 
-    // What is wrong with the replies of a run in which a call fails, if something is.
+    // Compares the replies of a run in which a call fails with the expected ones. Returns the
+    // mismatch, if any.
     fn wrong_replies(
         &self,
         run: &JobRun,
@@ -62,7 +64,8 @@ impl<'a> Trials<'a> {
         )?))
     }
 
-    // Has a call fail, counted from 1: what is wrong, if something is. These bytes stood before it.
+    // Makes one call fail, counted from 1. Returns the mismatch, if any. `before` are the bytes of
+    // the sink before the call.
     fn refuse(
         &self,
         call: u64,
@@ -80,7 +83,8 @@ impl<'a> Trials<'a> {
         self.wrong_replies(&run, call, fault)
     }
 
-    // Has a call fail by the device, and for want of memory: what is wrong, if something is.
+    // Makes one call fail twice: with a device error, and with an out-of-memory error. Returns the
+    // mismatch, if any.
     fn refuse_twice(&self, call: u64, before: &[u8]) -> Result<Option<String>, AllocError> {
         if let Some(mismatch) = self.refuse(call, SinkFault::Device, before)? {
             return Ok(Some(mismatch));
@@ -88,7 +92,7 @@ impl<'a> Trials<'a> {
         self.refuse(call, SinkFault::OutOfMemory, before)
     }
 
-    // Has each call of a run fail, or one in several: what is wrong, if something is.
+    // Makes each call of a run fail, or one in several. Returns the mismatch, if any.
     fn refuse_each(
         &self,
         run: &JobRun,
@@ -112,7 +116,7 @@ impl<'a> Trials<'a> {
         Ok(None)
     }
 
-    // What is told of all runs, or what is wrong.
+    // The report on all runs, or the mismatch.
     fn try_all(
         &self,
         good: &JobRun,
@@ -133,7 +137,7 @@ impl<'a> Trials<'a> {
     }
 }
 
-// What is told of a list over sinks of all appetites, or what is wrong.
+// The report on a list over sinks of all appetites, or the mismatch.
 fn try_appetites(
     list: JobList<'_>,
     good: &JobRun,
@@ -156,8 +160,8 @@ fn try_appetites(
     )?))
 }
 
-/// What is told of jobs over sinks that take less than they are offered, and over those that fail, in a file of a kind; the jobs are
-/// those that the text tells of.
+/// The report on the jobs of a text over sinks that take fewer bytes than offered, and over sinks
+/// that fail, in a classic or a BigTIFF file.
 pub fn tried(
     alloc: Global,
     big: bool,

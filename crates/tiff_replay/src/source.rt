@@ -1,4 +1,5 @@
-//! A source in memory that may give one byte at a time, may fail once, and knows which bytes it was asked for.
+//! A source in memory that may give one byte at a time, may fail once, and records which bytes it
+//! is asked for.
 
 ghost use Rattle.std.specs.Prelude.{Some, []};
 ghost use Rattle.tiff_replay.specs.Failed.{failed};
@@ -9,7 +10,8 @@ use crate::failure::Failure;
 use std::alloc::{AllocError, Global};
 use tiff_base::io::{DeviceFault, MemorySource, Source};
 
-/// A source in memory that may give one byte at a time, and may fail once. Its reads are counted, and the bytes that they ask for known.
+/// A source in memory that may give one byte at a time, and may fail once. It counts its reads, and
+/// records the bytes that they ask for.
 #[derive(Drop)]
 pub struct ScriptedSource {
     inner: MemorySource,
@@ -37,14 +39,17 @@ impl ScriptedSource {
         })
     }
 
-    /// Which bytes it was asked for so far.
+    /// The bytes that the source was asked for so far.
     pub fn asked_text(&self, alloc: Global) -> Result<String, AllocError> {
         self.asked.text(alloc)
     }
 }
 
 impl Source for ScriptedSource {
-    ghost told = { λ s. record { bytes = (⟦<MemorySource as Source>⟧.told s.inner).bytes; readable = Some [] } };
+    ghost told = { λ s. record {
+      bytes = (⟦<MemorySource as Source>⟧.told s.inner).bytes;
+      readable = Some [];
+    } };
 
     ghost failures = { λ s. failed s.failure };
 

@@ -1,4 +1,4 @@
-//! The lines on a file, run over sources of which a read fails.
+//! The lines on a file, run over sources of which one read fails.
 
 use crate::call_count::{CallCount, failed_text, step_of};
 use crate::failure::Failure;
@@ -7,10 +7,11 @@ use crate::script::{Script, ScriptLine};
 use crate::sums::Sums;
 use std::alloc::AllocError;
 
-// What a call is answered in which a read fails.
+// The reply to a call in which a read fails.
 const FAULT: &str = "refused: device fault (IoError(Device))";
 
-// A run over a source of which one read fails, counted from 1, or none where that is 0.
+// A run over a source of which one read fails. `failing` is its number, counted from 1, or 0 if
+// none fails.
 #[derive(Drop)]
 struct Trial<'a> {
     script: &'a Script,
@@ -20,14 +21,14 @@ struct Trial<'a> {
     reader: Reader,
 }
 
-// Whether a text is one item of a list of answers.
+// Whether a text is one item of a list of results.
 fn is_one_item(text: &str) -> bool {
     (text.starts_with("Ok(") || text.starts_with("Err("))
         && !text.contains("), Ok(")
         && !text.contains("), Err(")
 }
 
-// Whether a list is the one that is wanted, but for one item, which is the fault.
+// Whether a list equals the wanted one except for one item, which is the error.
 fn fails_in_one_item(reply: &str, wanted: &str) -> bool {
     let Some((head, tail)) = reply.split_once("Err(IoError(Device))") else {
         return false;
@@ -41,7 +42,8 @@ fn fails_in_one_item(reply: &str, wanted: &str) -> bool {
     }
 }
 
-// Whether a reply is the fault, and behind it maybe what the call left. The tags of a page are a list: one item is the fault.
+// Whether a reply is the error, perhaps with the state that the call leaves. The reply to
+// `tag_iter` is a list, of which one item is the error.
 fn tells_fault(words: &str, reply: &str, wanted: &str) -> bool {
     if words == "tag_iter" {
         return fails_in_one_item(reply, wanted);
@@ -53,7 +55,7 @@ fn tells_fault(words: &str, reply: &str, wanted: &str) -> bool {
 }
 
 impl<'a> Trial<'a> {
-    // A run in which such a read fails.
+    // A run in which the read with this number fails.
     fn new(script: &'a Script, bytewise: bool, failing: u64) -> Result<Self, AllocError> {
         Ok(Trial {
             script,
@@ -64,7 +66,7 @@ impl<'a> Trial<'a> {
         })
     }
 
-    // When its source fails.
+    // When the source of the run fails.
     fn failure(&self) -> Failure {
         match self.failing.checked_sub(1) {
             Some(reads) => Failure::Behind(reads),
@@ -72,7 +74,7 @@ impl<'a> Trial<'a> {
         }
     }
 
-    // Follows a line; it opens a source that fails so, or makes a call.
+    // Follows a line, which opens a source with this failure or makes a call.
     fn follow(
         &mut self,
         line: &ScriptLine,
@@ -89,7 +91,7 @@ impl<'a> Trial<'a> {
         self.reader.open(source)
     }
 
-    // What is told where something is not what is wanted.
+    // The report of a mismatch, if the reply isn't the wanted one.
     fn mismatch(
         &self,
         line: &ScriptLine,
@@ -106,8 +108,9 @@ impl<'a> Trial<'a> {
         )?))
     }
 
-    // Where the decoder stands is where it stood, and the same line again is answered as if nothing had failed. A check of the pages
-    // goes from page to page.
+    // Checks that the decoder's state is unchanged, and that the same line then gets the reply
+    // without a failure. The state isn't checked after a line on pages, as such a line goes from
+    // page to page.
     fn go_on(&mut self, line: &ScriptLine, opens: bool) -> Result<Option<String>, AllocError> {
         if !tells_of_pages(&line.words) {
             let state = self.reader.state()?;
@@ -119,7 +122,7 @@ impl<'a> Trial<'a> {
         self.mismatch(line, &again, &line.reply)
     }
 
-    // Follows a line, and what is wrong with its reply, if something is.
+    // Follows a line. Returns the mismatch of its reply, if any.
     fn step(&mut self, line: &ScriptLine, opens: bool) -> Result<Option<String>, AllocError> {
         let before = self.reads.get();
         let failure = self.failure();
@@ -133,7 +136,7 @@ impl<'a> Trial<'a> {
         self.go_on(line, opens)
     }
 
-    // Follows all lines: how many reads there were, or what is wrong.
+    // Follows all lines. Returns the number of reads, or the mismatch.
     fn run(&mut self) -> Result<Result<u64, String>, AllocError> {
         let script = self.script;
         for (index, line) in script.lines.iter().enumerate() {
@@ -149,7 +152,8 @@ impl<'a> Trial<'a> {
     }
 }
 
-/// Has each of so many reads of a script fail, in a run of its own, or one in several: what is told of it, or what is wrong.
+/// Makes each read of a script fail, or one in several, each in a run of its own. Returns the
+/// report or the mismatch.
 pub fn failing_reads(
     script: &Script,
     bytewise: bool,
@@ -168,7 +172,8 @@ pub fn failing_reads(
     Ok(Ok(failed_text(script.alloc, reads, step)?))
 }
 
-/// Has a script run over a source that gives one byte a read, and each of these reads fail: what is told of it, or what is wrong.
+/// Runs a script over a source that gives one byte per read, and makes each of these reads fail.
+/// Returns the report or the mismatch.
 pub fn one_byte_reads(
     script: &Script,
     sums: &mut Sums,

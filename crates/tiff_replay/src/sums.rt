@@ -1,8 +1,9 @@
-//! How much was tried in all.
+//! The totals of all trials.
 
 use std::alloc::{AllocError, Global};
 
-/// How many lists were tried over sources and sinks that fail, and how many of their reads and writes were failed.
+/// The number of lists tried over sources and sinks that fail, and the number of their reads and
+/// writes that failed.
 #[derive(Clone, Copy, Drop)]
 pub struct Sums {
     pub scripts: u64,
@@ -12,7 +13,7 @@ pub struct Sums {
 }
 
 impl Sums {
-    /// Nothing was tried.
+    /// No trial yet.
     pub fn none() -> Self {
         Sums {
             scripts: 0,
@@ -22,7 +23,7 @@ impl Sums {
         }
     }
 
-    /// Counts what was tried elsewhere.
+    /// Adds the totals of another session.
     pub fn add(&mut self, other: &Sums) {
         self.scripts = self.scripts.saturating_add(other.scripts);
         self.reads = self.reads.saturating_add(other.reads);
@@ -30,7 +31,7 @@ impl Sums {
         self.writes = self.writes.saturating_add(other.writes);
     }
 
-    /// The sums in words.
+    /// The totals in words.
     pub fn text(&self, alloc: Global) -> Result<String, AllocError> {
         let Sums {
             scripts,

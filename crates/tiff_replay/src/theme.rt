@@ -1,4 +1,5 @@
-//! The lists of a theme, with what they expect beside each line, and where another reply is given.
+//! The lists of a theme with an expected reply at each line, and a report of the replies that
+//! differ.
 
 use crate::file_line::bytes_read;
 use crate::session::{Session, is_comment};
@@ -6,13 +7,13 @@ use std::alloc::{AllocError, Global};
 use std::fmt::Write;
 use std::rt::Files;
 
-// How a line begins that is the rest of a reply, or tells of the runs that fail.
+// The beginning of a line that continues a reply, or reports the runs that fail.
 const BEHIND: &str = "    ";
 
-// What stands between a line and its reply.
+// The text between a line and its reply.
 const ARROW: &str = " -> ";
 
-// What is told in the place of a line that isn't there.
+// The text in place of a missing line.
 const NO_LINE: &str = "no more";
 
 // The lines of a theme so far.
@@ -20,19 +21,20 @@ const NO_LINE: &str = "no more";
 struct Theme<'a> {
     alloc: Global,
     name: &'a str,
-    // The number of the line that was read last, and of the last one of the input.
+    // The number of the line read last, and of the last line with input.
     line: usize,
     first: usize,
-    // What is expected for that one and what is told, line by line.
+    // The expected text and the actual text for the last line with input, line by line.
     expected: String,
     told: String,
-    // How many replies there were, and how many that are not as expected, with a line for each.
+    // The number of replies, the number of replies that aren't as expected, and a report on each of
+    // these.
     replies: usize,
     others: usize,
     differences: String,
 }
 
-// What a line of a theme has of the input.
+// The input within a line of a theme.
 fn input_of(line: &str, is_job: bool) -> &str {
     let is_whole = if is_job {
         !line.starts_with("done")
@@ -48,7 +50,7 @@ fn input_of(line: &str, is_job: bool) -> &str {
     }
 }
 
-// How many lines two texts have in common at their front, and the next line of each.
+// The number of equal lines at the beginning of two texts, and the next line of each.
 fn first_difference<'t>(expected: &'t str, told: &'t str) -> (usize, &'t str, &'t str) {
     let mut rest = told.lines();
     let mut same = 0usize;
@@ -81,7 +83,7 @@ impl<'a> Theme<'a> {
         }
     }
 
-    // Compares what is told of the last line with what is expected.
+    // Compares the actual text for the last line with the expected one.
     fn compare(&mut self) -> Result<(), AllocError> {
         if self.expected.as_str() == self.told.as_str() {
             return Ok(());
@@ -95,12 +97,12 @@ impl<'a> Theme<'a> {
         )
     }
 
-    // What is expected behind the last line.
+    // Adds an expected line after the last line.
     fn expect(&mut self, line: &str) -> Result<(), AllocError> {
         write!(self.expected, "\n{line}")
     }
 
-    // What is told behind the last line.
+    // Adds a report after the last line.
     fn tell(&mut self, tried: Option<String>) -> Result<(), AllocError> {
         match tried {
             Some(tried) => write!(self.told, "\n{tried}"),
@@ -128,7 +130,7 @@ impl<'a> Theme<'a> {
         Ok(())
     }
 
-    // How many replies are as expected, and where the others stand.
+    // The number of replies as expected, and the places of the others.
     fn text(&self) -> Result<String, AllocError> {
         let (replies, others, differences) = (self.replies, self.others, &self.differences);
         if others == 0 {
@@ -138,7 +140,8 @@ impl<'a> Theme<'a> {
     }
 }
 
-/// Follows the lists of a theme, in a session of its own, and tells where a reply is not as expected; none where there are no such lists.
+/// Follows the lists of a theme in a session of its own, and reports the replies that aren't as
+/// expected. Returns `None` if there are no such lists.
 pub fn theme_text(
     rt: &(impl Files + AllocGlobal),
     outer: &mut Session,

@@ -1,4 +1,4 @@
-//! Lists of jobs, and what they write.
+//! Lists of jobs, and the files that they write.
 
 use crate::job_list::{JobRun, run_text};
 use crate::manner::Manner;
@@ -9,18 +9,18 @@ use std::fmt::Write;
 use tiff_lists::digits::digits_text;
 use tiff_lists::jobs::jobs_of;
 
-/// A list of jobs, and what it wrote.
+/// A list of jobs, and the file that it wrote.
 #[derive(Drop)]
 pub struct Writer {
     alloc: Global,
     list: String,
     big: bool,
-    // What it wrote at its end, and what it wrote last.
+    // The bytes written by the run at the list's end, and the bytes written last.
     first: Vec<u8>,
     last: Vec<u8>,
 }
 
-// Adds each byte that isn't that of another list, with its offset.
+// Appends each byte that differs from the old one, with its offset.
 fn push_changes(text: &mut String, old: &[u8], new: &[u8]) -> Result<(), AllocError> {
     for (offset, (old, new)) in old.iter().zip(new).enumerate() {
         if old != new {
@@ -30,7 +30,7 @@ fn push_changes(text: &mut String, old: &[u8], new: &[u8]) -> Result<(), AllocEr
     Ok(())
 }
 
-// The first and the last tag of such a line, and the field.
+// The first tag, the last tag and the field of an `extend_from_tags` line.
 fn tags_and_field(line: &str) -> Option<(u16, u16, &str)> {
     let words = line.strip_prefix("extend_from_tags ")?;
     let (first, words) = words.split_once(' ')?;
@@ -38,7 +38,7 @@ fn tags_and_field(line: &str) -> Option<(u16, u16, &str)> {
     Some((first.parse::<u16>().ok()?, last.parse::<u16>().ok()?, field))
 }
 
-// Appends a step that reads the same field of each tag from one to another.
+// Appends a step that reads the same field for each tag from `first` to `last`.
 fn push_fields(text: &mut String, first: u16, last: u16, field: &str) -> Result<(), AllocError> {
     text.push_str("extend_from")?;
     for tag in first..=last {
@@ -65,8 +65,8 @@ impl Writer {
         self.big = big;
     }
 
-    /// Adds a line to the list. `extend_from_tags FIRST LAST FIELD` stands for `extend_from` with the same field of each tag from one to
-    /// another.
+    /// Adds a line to the list. `extend_from_tags FIRST LAST FIELD` means `extend_from` with the
+    /// same field for each tag from `FIRST` to `LAST`.
     pub fn add(&mut self, line: &str) -> Result<(), AllocError> {
         match tags_and_field(line) {
             Some((first, last, field)) => push_fields(&mut self.list, first, last, field)?,
@@ -75,12 +75,13 @@ impl Writer {
         self.list.push_str("\n")
     }
 
-    /// What was written last.
+    /// The bytes written last.
     pub fn bytes(&self) -> &[u8] {
         &self.last
     }
 
-    // What a run left: how many bytes there are then, and what the jobs are answered, or how the whole run is refused.
+    // The result of a run: the number of bytes, and the replies to the jobs or the error of the
+    // whole run.
     fn told(&mut self, run: JobRun) -> Result<String, AllocError> {
         let JobRun {
             text,
@@ -97,7 +98,7 @@ impl Writer {
         String::from_str(self.alloc, told.as_str().trim_end())
     }
 
-    /// Runs the list over a sink that the words tell of.
+    /// Runs the list over a sink that the words describe.
     pub fn run_again(&mut self, words: &str) -> Result<String, AllocError> {
         self.last = Vec::new(self.alloc);
         let Some(manner) = Manner::of_words(words) else {
@@ -109,14 +110,15 @@ impl Writer {
         }
     }
 
-    /// Runs the list that has ended, over a sink that the words tell of.
+    /// Runs the list that has ended, over a sink that the words describe.
     pub fn run(&mut self, words: &str) -> Result<String, AllocError> {
         let reply = self.run_again(words)?;
         self.first = self.last.clone()?;
         Ok(reply)
     }
 
-    /// What is told of the list over sinks that take less than they are offered, and over those that fail, where it is one.
+    /// The report on the list over sinks that take fewer bytes than offered, and over sinks that
+    /// fail, if each of its lines is a job.
     pub fn tried(&self, sums: &mut Sums) -> Result<Option<String>, AllocError> {
         match jobs_of(self.alloc, &self.list)? {
             Ok(jobs) => Ok(Some(tried(self.alloc, self.big, &self.list, &jobs, sums)?)),
@@ -124,7 +126,7 @@ impl Writer {
         }
     }
 
-    /// The digits of what was written last, or of so many bytes from an offset on.
+    /// The hexadecimal digits of the bytes written last, or of a number of bytes from an offset on.
     pub fn written(&self, words: &str) -> Result<String, AllocError> {
         if words.is_empty() {
             return digits_text(self.alloc, &self.last);
@@ -135,7 +137,7 @@ impl Writer {
         }
     }
 
-    // So many bytes from an offset on.
+    // A number of bytes from an offset on.
     fn part(&self, words: &str) -> Option<&[u8]> {
         let (offset, len) = words.strip_prefix(" ")?.split_once(' ')?;
         let offset = offset.parse::<usize>().ok()?;
@@ -143,7 +145,8 @@ impl Writer {
         self.last.get(offset..end)
     }
 
-    /// How many bytes were written last, and those that differ from what was written at the list's end, each with its offset.
+    /// The number of bytes written last, and the bytes that differ from those written at the list's
+    /// end, each with its offset.
     pub fn changed(&self) -> Result<String, AllocError> {
         let len = self.last.len();
         let mut text = format!(in self.alloc; "{len} bytes")?;

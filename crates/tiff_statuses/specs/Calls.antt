@@ -20,7 +20,7 @@ use Rattle.tiff_base.specs.declared.tags.Tag.{Tag}
 use Rattle.tiff_base.specs.declared.tags.Tag.TheVariants.{PhotometricInterpretation}
 use Rattle.tiff_base.specs.Tags.{format_number, tag_of, type_number}
 use Rattle.tiff_ifd.specs.Limits.{unlimited}
-use Rattle.tiff_ifd.specs.Look.{ok_or_fault}
+use Rattle.tiff_ifd.specs.TagLookup.{ok_or_fault}
 use Rattle.tiff_page.specs.declared.layout.BufferLayoutPreference.{BufferLayoutPreference}
 use Rattle.tiff_page.specs.PixelFault.{each_below}
 use Rattle.tiff_statuses.specs.declared.calls.FieldSize.{FieldSize}
@@ -34,7 +34,8 @@ use Rattle.tiff_statuses.specs.declared.calls.PageSamples.{PageSamples}
 -- 2^63 on, to the directory at the offset that is the number less 2^63
 abbrev pub page_outcome : Decoding → ℕ → Outcome (Unit {0})
 page_outcome d page =
-    if nat_lt page (2 ^ 63) then outcome.seek_to_image d page else outcome.show_directory d (record { 0 = page - 2 ^ 63 })
+    if nat_lt page (2 ^ 63) then outcome.seek_to_image d page
+    else outcome.show_directory d (record { 0 = page - 2 ^ 63 })
 
 -- the decoder at a page
 abbrev pub decoder_at_page : List ℕ → ℕ → Result Decoding TiffError
@@ -54,7 +55,8 @@ tags_at_offset file offset = do
 -- offset, at the first page, with that directory in place of its own; whether that directory is a
 -- page isn't asked
 abbrev pub tags_at_page : List ℕ → ℕ → Result Decoding TiffError
-tags_at_page file page = if nat_lt page (2 ^ 63) then decoder_at_page file page else tags_at_offset file (page - 2 ^ 63)
+tags_at_page file page = if nat_lt page (2 ^ 63) then decoder_at_page file page
+    else tags_at_offset file (page - 2 ^ 63)
 
 -- the decoder at a page without limits: what it reads into a slice of the caller's allocates
 -- nothing by what the file claims
@@ -100,7 +102,8 @@ chunk_len d i = do
 -- the front of a slice that one of several chunks takes; an error where the slice is shorter
 abbrev pub room_for : ℕ → List ℕ → Result (List ℕ) TiffError
 room_for len slice =
-    if nat_le len (length slice) then Ok (take len slice) else Err (UsageError (InsufficientOutputBufferSize len (length slice)))
+    if nat_le len (length slice) then Ok (take len slice)
+    else Err (UsageError (InsufficientOutputBufferSize len (length slice)))
 
 -- a slice after `count` chunks, from the number `i` on, were read into it, one behind the other;
 -- what is behind them stays
@@ -118,7 +121,8 @@ chunks_in d (suc count) i slice = do
 abbrev pub read_chunks : List ℕ → ℕ → ℕ → ℕ → List ℕ → Result (List ℕ) TiffError
 read_chunks file page first count slice = do
   d ← free_at_page file page
-  if nat_lt (first + count) (2 ^ 32) then chunks_in d count first slice else Err (UsageError (InvalidChunkIndex (2 ^ 32 - 1)))
+  if nat_lt (first + count) (2 ^ 32) then chunks_in d count first slice
+      else Err (UsageError (InvalidChunkIndex (2 ^ 32 - 1)))
 
 -- a slice after a coding unit of a page was read into it
 abbrev pub read_unit_bytes : List ℕ → ℕ → ℕ → List ℕ → Result (List ℕ) TiffError
@@ -141,7 +145,8 @@ color_number (Multiband b n) = 9
 
 -- a color by its numbers
 abbrev pub color_by : ColorType → Color
-color_by color = record { kind = color_number color; bits = bit_depth color; samples = num_samples color }
+color_by color =
+    record { kind = color_number color; bits = bit_depth color; samples = num_samples color }
 
 -- the color of a page
 abbrev pub color_of_page : Decoding → Result Color TiffError
@@ -230,7 +235,8 @@ plain_end (Some e) = Err e
 abbrev pub page_count : List ℕ → Result ℕ TiffError
 page_count file = do
   d ← outcome.decoder_of file 0
-  _ ← each_below (λ page. (outcome.seek_to_image d page).answer) (length (outcome.chain_of d).offsets)
+  _ ← each_below (λ page. (outcome.seek_to_image d page).answer)
+      (length (outcome.chain_of d).offsets)
   _ ← plain_end (outcome.chain_of d).end
   Ok (length (outcome.chain_of d).offsets)
 

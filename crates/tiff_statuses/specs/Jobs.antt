@@ -28,13 +28,15 @@ job_status reply = first_status (map status reply.steps.items ++ status reply.la
 -- the first job that had an error: its number, counted from `n` on, and its status
 abbrev pub first_refused : ℕ → List JobReply → Option (ℕ × ℕ)
 first_refused n [] = None
-first_refused n (reply ∷ replies) = if job_status reply == 0 then first_refused (n + 1) replies else Some (n, job_status reply)
+first_refused n (reply ∷ replies) = if job_status reply == 0 then first_refused (n + 1) replies
+    else Some (n, job_status reply)
 
 -- ---- what jobs leave
 
 -- The jobs left this file on an empty sink, and `refused` is the first of them that had an error,
 -- counted from 1.
-pub record RanJobs (kind : FileKind) (jobs : List Job) (file : List ℕ) (refused : Option (ℕ × ℕ)) : Type 0 where
+pub record RanJobs (kind : FileKind) (jobs : List Job) (file : List ℕ) (refused : Option (ℕ × ℕ))
+    : Type 0 where
   pub replies : List JobReply
   pub before : ℕ
   pub after : ℕ
@@ -59,16 +61,21 @@ Stays old new len_old len_new = (new ≡ old) × (len_new ≡ len_old)
 -- The file of jobs is delivered if none of them had an error; else C gets the number and the status
 -- of the first job that had one.
 abbrev pub TellsRan : List ℕ → Option (ℕ × ℕ) → ℕ → List ℕ → List ℕ → ℕ → ℕ → JobsEnd → Type 0
-TellsRan file None status old new len_old len_new end = Delivers (Ok file) status old new len_old len_new × (end ≡ no_end)
+TellsRan file None status old new len_old len_new end =
+    Delivers (Ok file) status old new len_old len_new × (end ≡ no_end)
 TellsRan file (Some refused) status old new len_old len_new end =
-    (status ≡ refused.1) × (Stays old new len_old len_new × (end ≡ record { line = 0; job = refused.0 }))
+    (status ≡ refused.1)
+    × (Stays old new len_old len_new × (end ≡ record { line = 0; job = refused.0 }))
 
 -- C gets the number of a line that is no job, and no job was run; or it gets the error.
 abbrev pub TellsAnswer : Result Answer TiffError → ℕ → List ℕ → List ℕ → ℕ → ℕ → JobsEnd → Type 0
-TellsAnswer (Ok (Ran ran)) status old new len_old len_new end = TellsRan ran.file.items ran.refused status old new len_old len_new end
+TellsAnswer (Ok (Ran ran)) status old new len_old len_new end =
+    TellsRan ran.file.items ran.refused status old new len_old len_new end
 TellsAnswer (Ok (NoJob line)) status old new len_old len_new end =
-    (status ≡ fault_number (IoError InvalidInput)) × (Stays old new len_old len_new × (end ≡ record { line = line; job = 0 }))
-TellsAnswer (Err e) status old new len_old len_new end = (status ≡ fault_number e) × (Stays old new len_old len_new × (end ≡ no_end))
+    (status ≡ fault_number (IoError InvalidInput))
+    × (Stays old new len_old len_new × (end ≡ record { line = line; job = 0 }))
+TellsAnswer (Err e) status old new len_old len_new end = (status ≡ fault_number e)
+    × (Stays old new len_old len_new × (end ≡ no_end))
 
 -- the answer to a text of jobs for a file of this kind, or out of memory; without a kind, the
 -- version is an error
@@ -81,4 +88,6 @@ AnswersKind (Some kind) (Err e) = e ≡ OutOfMemory
 -- of their file
 abbrev pub JobsTell : ℕ → ℕ → List ℕ → List ℕ → ℕ → ℕ → JobsEnd → Type 0
 JobsTell version status old new len_old len_new end =
-    (answer : Result Answer TiffError) × (AnswersKind (kind_of version) answer × TellsAnswer answer status old new len_old len_new end)
+    (answer : Result Answer TiffError)
+    × (AnswersKind (kind_of version) answer
+    × TellsAnswer answer status old new len_old len_new end)

@@ -70,20 +70,23 @@ end_status None = 0
 end_status (Some e) = fault_number e
 
 -- No page is listed, for this error, or since memory is out.
-pub record ListsNone (e : TiffError) (result : ℕ) (old new : List ListedPage) (count : ℕ) : Type 0 where
-  pub status : (result ≡ fault_number e) ⊎ (result ≡ fault_number OutOfMemory)
-  pub none : count ≡ 0
-  pub stays : new ≡ old
+pub record ListsNone (e : TiffError) (result : ℕ) (old new : List ListedPage) (count : ℕ) : Type 0
+  where
+    pub status : (result ≡ fault_number e) ⊎ (result ≡ fault_number OutOfMemory)
+    pub none : count ≡ 0
+    pub stays : new ≡ old
 
 -- As many of these pages as fit are listed, with how many there are; the status is that of the
 -- chain's end.
-pub record ListsAll (pages : Pages) (result : ℕ) (old new : List ListedPage) (count : ℕ) : Type 0 where
-  pub status : result ≡ end_status pages.end
-  pub all : count ≡ length pages.items
-  pub listed : new ≡ filled (map item_told pages.items) old
+pub record ListsAll (pages : Pages) (result : ℕ) (old new : List ListedPage) (count : ℕ) : Type 0
+  where
+    pub status : result ≡ end_status pages.end
+    pub all : count ≡ length pages.items
+    pub listed : new ≡ filled (map item_told pages.items) old
 
 -- what the call returns and leaves: all pages, or none since memory is out; or none for the error
 -- of the file
 abbrev pub ListTells : Result Pages TiffError → ℕ → List ListedPage → List ListedPage → ℕ → Type 0
-ListTells (Ok pages) result old new count = ListsAll pages result old new count ⊎ ListsNone OutOfMemory result old new count
+ListTells (Ok pages) result old new count =
+    ListsAll pages result old new count ⊎ ListsNone OutOfMemory result old new count
 ListTells (Err e) result old new count = ListsNone e result old new count

@@ -100,5 +100,7 @@ StatusTells (Err e) status left = (status ≡ fault_number e) ⊎ (status ≡ fa
 -- The status of a call is that of its result, or memory is out; the call puts its value into a
 -- variable of the caller's, which stays where the status isn't 0.
 abbrev pub StatusPuts : {X : Type 0} → Result X TiffError → ℕ → X → X → Type 0
-StatusPuts (Ok x) status old new = ((status ≡ 0) × (new ≡ x)) ⊎ ((status ≡ fault_number OutOfMemory) × (new ≡ old))
-StatusPuts (Err e) status old new = ((status ≡ fault_number e) ⊎ (status ≡ fault_number OutOfMemory)) × (new ≡ old)
+StatusPuts (Ok x) status old new =
+    ((status ≡ 0) × (new ≡ x)) ⊎ ((status ≡ fault_number OutOfMemory) × (new ≡ old))
+StatusPuts (Err e) status old new =
+    ((status ≡ fault_number e) ⊎ (status ≡ fault_number OutOfMemory)) × (new ≡ old)

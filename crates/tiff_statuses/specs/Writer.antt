@@ -14,7 +14,7 @@ use Rattle.tiff_base.specs.Tags.{method_of, predictor_of}
 use Rattle.tiff_value.specs.declared.encoder.colortype.ColorTypeName.{ColorTypeName}
 use Rattle.tiff_value.specs.declared.encoder.colortype.ColorTypeName.TheVariants.{Gray8, Gray16, Gray32, Gray64, GrayI8, GrayI16, GrayI32, GrayI64, Gray32Float, Gray64Float, RGB8, RGB16, RGB32, RGB64, RGB32Float, RGB64Float, RGBA8, RGBA16, RGBA32, RGBA64, RGBA32Float, RGBA64Float, CMYK8, CMYK16, CMYK32, CMYK64, CMYK32Float, CMYK64Float, YCbCr8, CMYKA8}
 use Rattle.tiff_value.specs.ColorTypes.{color_type, inner_size, inner_type}
-use Rattle.tiff_ifd.specs.Look.{ok_or_fault}
+use Rattle.tiff_ifd.specs.TagLookup.{ok_or_fault}
 use Rattle.tiff_page.specs.Pixels.{numbers_in}
 use Rattle.tiff_encode.specs.declared.encoder.settings.Compression.{Compression}
 use Rattle.tiff_encode.specs.declared.encoder.settings.Compression.TheVariants.{Uncompressed, Packbits}
@@ -37,7 +37,8 @@ kind_of n = if n == 42 then Some Classic else if n == 43 then Some Big else None
 -- the color types, by their numbers from 0 on
 abbrev pub color_types : List ColorTypeName
 color_types =
-    Gray8 ∷ Gray16 ∷ Gray32 ∷ Gray64 ∷ GrayI8 ∷ GrayI16 ∷ GrayI32 ∷ GrayI64 ∷ Gray32Float ∷ Gray64Float
+    Gray8 ∷ Gray16 ∷ Gray32 ∷ Gray64 ∷ GrayI8 ∷ GrayI16 ∷ GrayI32 ∷ GrayI64 ∷ Gray32Float
+    ∷ Gray64Float
     ∷ RGB8 ∷ RGB16 ∷ RGB32 ∷ RGB64 ∷ RGB32Float ∷ RGB64Float
     ∷ RGBA8 ∷ RGBA16 ∷ RGBA32 ∷ RGBA64 ∷ RGBA32Float ∷ RGBA64Float
     ∷ CMYK8 ∷ CMYK16 ∷ CMYK32 ∷ CMYK64 ∷ CMYK32Float ∷ CMYK64Float ∷ YCbCr8 ∷ CMYKA8 ∷ []
@@ -51,8 +52,10 @@ abbrev pub settings_of : NewImage → Result Settings TiffError
 settings_of image = do
   kind ← ok_or_fault (kind_of image.version) (FormatError TiffSignatureInvalid)
   color ← ok_or_fault (slice_get color_types image.color) (IoError InvalidInput)
-  compression ← ok_or_fault (packing_of image.method) (UnsupportedError (UnsupportedCompressionMethod (method_of image.method)))
-  predictor ← ok_or_fault (predictor_of image.predictor) (FormatError (UnknownPredictor image.predictor))
+  compression ← ok_or_fault (packing_of image.method)
+      (UnsupportedError (UnsupportedCompressionMethod (method_of image.method)))
+  predictor ← ok_or_fault (predictor_of image.predictor)
+      (FormatError (UnknownPredictor image.predictor))
   Ok (record { kind = kind; color = color; compression = compression; predictor = predictor })
 
 -- the samples that bytes are, the lowest byte of each first; an error where a part of one is left
@@ -67,7 +70,11 @@ samples_from_bytes color bytes =
 -- the file of a new encoder over an empty sink, with these settings, where so many writes of the
 -- sink failed
 abbrev pub file_by : Settings → ℕ → FileState
-file_by s failures = record (begun_file s.kind [] failures) { predictor = s.predictor; method = machine.compression_method s.compression }
+file_by s failures =
+    record (begun_file s.kind [] failures) {
+      predictor = s.predictor;
+      method = machine.compression_method s.compression;
+    }
 
 -- an encoder is new, over an empty sink, with these settings
 abbrev pub IsBegun : Settings → FileState → Type 0
@@ -76,30 +83,38 @@ IsBegun s file = (failures : ℕ) × (file ≡ file_by s failures)
 -- the image of these samples, row by row and pixel by pixel, in strips
 abbrev pub image_by : Settings → ℕ → ℕ → List ℕ → Image
 image_by s width height samples =
-    image_of_samples (image_in (file_by s 0) (new_directory None false) (color_type s.color) (inner_size s.color) width height) samples
+    image_of_samples
+    (image_in (file_by s 0) (new_directory None false) (color_type s.color) (inner_size s.color)
+    width height) samples
 
 -- The answer is what an encoder's `write_image` returns over a sink that fails only when memory is
 -- out: the file, whose first page shows the image; or the error.
-pub record IsWritten (s : Settings) (width height : ℕ) (samples : List ℕ) (answer : Result (List ℕ) TiffError) : Type 0 where
+pub record IsWritten (s : Settings) (width height : ℕ) (samples : List ℕ)
+    (answer : Result (List ℕ) TiffError) : Type 0 where
   pub failures : ℕ
   pub last : FileState
-  pub written : WritesImage (color_type s.color) (inner_size s.color) width height samples (view_of_result {Y = Unit {0}} (λ _. tt) answer) (file_by s failures) last
+  pub written : WritesImage (color_type s.color) (inner_size s.color) width height samples
+      (view_of_result {Y = Unit {0}} (λ _. tt) answer) (file_by s failures) last
   pub fault : (last.fault ≡ None) ⊎ (last.fault ≡ Some sink.OutOfMemory)
   pub file : IfOk answer (λ file. file ≡ last.bytes)
   pub shows : IfOk answer (λ file. ShowsFirst s.kind file (image_by s width height samples))
 
 -- the image is written, or memory is out
 abbrev pub WritesImageFile : Settings → ℕ → ℕ → List ℕ → Result (List ℕ) TiffError → Type 0
-WritesImageFile s width height samples answer = (answer ≡ Err OutOfMemory) ⊎ IsWritten s width height samples answer
+WritesImageFile s width height samples answer =
+    (answer ≡ Err OutOfMemory) ⊎ IsWritten s width height samples answer
 
 -- the image of samples that bytes are is written, or memory is out; bytes that are no samples give
 -- their error
-abbrev pub WritesBytes : Settings → ℕ → ℕ → Result (List ℕ) TiffError → Result (List ℕ) TiffError → Type 0
+abbrev pub WritesBytes : Settings → ℕ → ℕ → Result (List ℕ) TiffError → Result (List ℕ) TiffError
+    → Type 0
 WritesBytes s width height (Ok samples) answer = WritesImageFile s width height samples answer
 WritesBytes s width height (Err e) answer = answer ≡ Err e
 
-abbrev pub WritesBy : Result Settings TiffError → ℕ → ℕ → List ℕ → Result (List ℕ) TiffError → Type 0
-WritesBy (Ok s) width height bytes answer = WritesBytes s width height (samples_from_bytes s.color bytes) answer
+abbrev pub WritesBy : Result Settings TiffError → ℕ → ℕ → List ℕ → Result (List ℕ) TiffError
+    → Type 0
+WritesBy (Ok s) width height bytes answer =
+    WritesBytes s width height (samples_from_bytes s.color bytes) answer
 WritesBy (Err e) width height bytes answer = answer ≡ Err e
 
 -- the answer for an image that C passes
@@ -113,18 +128,25 @@ WritesNew image bytes answer = WritesBy (settings_of image) image.width image.he
 abbrev pub Puts : List ℕ → ℕ → List ℕ → List ℕ → Type 0
 Puts file status old new =
     ((length file ≤ length old) × ((status ≡ 0) × (new ≡ file ++ drop (length file) old)))
-    ⊎ ((length old < length file) × ((status ≡ fault_number (UsageError (InsufficientOutputBufferSize (length file) (length old)))) × (new ≡ old)))
+    ⊎ ((length old < length file)
+    × ((status
+    ≡ fault_number
+    (UsageError (InsufficientOutputBufferSize (length file) (length old))))
+    × (new ≡ old)))
 
 -- The length of a file is delivered, whether the file fits or not. For an error, the number of the
 -- error is delivered alone.
 abbrev pub Delivers : Result (List ℕ) TiffError → ℕ → List ℕ → List ℕ → ℕ → ℕ → Type 0
-Delivers (Ok file) status old new len_old len_new = (len_new ≡ length file) × Puts file status old new
-Delivers (Err e) status old new len_old len_new = (status ≡ fault_number e) × ((new ≡ old) × (len_new ≡ len_old))
+Delivers (Ok file) status old new len_old len_new = (len_new ≡ length file)
+    × Puts file status old new
+Delivers (Err e) status old new len_old len_new = (status ≡ fault_number e)
+    × ((new ≡ old) × (len_new ≡ len_old))
 
 -- the status, the buffer and the length that C gets for an image that it passes
 abbrev pub WriterTells : NewImage → List ℕ → ℕ → List ℕ → List ℕ → ℕ → ℕ → Type 0
 WriterTells image bytes status old new len_old len_new =
-    (answer : Result (List ℕ) TiffError) × (WritesNew image bytes answer × Delivers answer status old new len_old len_new)
+    (answer : Result (List ℕ) TiffError)
+    × (WritesNew image bytes answer × Delivers answer status old new len_old len_new)
 
 -- ---- what follows of it
 
@@ -136,5 +158,6 @@ pub record IsShown (image : NewImage) (bytes old new : List ℕ) (len : ℕ) : T
   pub samples : List ℕ
   pub are : samples_from_bytes settings.color bytes ≡ Ok samples
   pub room : len ≤ length old
-  pub shows : ShowsFirst settings.kind (take len new) (image_by settings image.width image.height samples)
+  pub shows : ShowsFirst settings.kind (take len new)
+      (image_by settings image.width image.height samples)
   pub rest : drop len new ≡ drop len old

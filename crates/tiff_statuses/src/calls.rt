@@ -6,7 +6,7 @@ ghost use Rattle.tiff_base.specs.Answers.{Answers, AnswersWithoutMemory, Answers
 ghost use Rattle.tiff_base.specs.Color.{num_samples};
 ghost use Rattle.tiff_base.specs.declared.error.TiffError.TheVariants.{FormatError};
 ghost use Rattle.tiff_base.specs.declared.error.TiffFormatError.TheVariants.{RequiredTagNotFound};
-ghost use Rattle.tiff_ifd.specs.Look.{ok_or_fault};
+ghost use Rattle.tiff_ifd.specs.TagLookup.{ok_or_fault};
 ghost use Rattle.tiff_decode.specs.Outcome as outcome;
 ghost use Rattle.tiff_decode.specs.Reader.{reader_of};
 ghost use Rattle.tiff_statuses.specs.Calls as calls;
@@ -104,7 +104,8 @@ pub(crate) fn open_first(alloc: Global, file: &[u8]) -> TiffResult<Decoder<Slice
 #[tactic(auto, using(crate::proofs::Slices::here, crate::proofs::Slices::gone))]
 fn seek(decoder: &mut Decoder<SliceSource<'_>>, page: usize) -> TiffResult<()>
     ensures answer { AnswersWithoutSource (λ x. x) result (outcome.seek_to_image decoder.old page).answer }
-    ensures gone { OnOk result (decoder.new ≡ record decoder.old { state = (outcome.seek_to_image decoder.old page).next }) }
+    ensures gone { OnOk result
+        (decoder.new ≡ record decoder.old { state = (outcome.seek_to_image decoder.old page).next }) }
 {
     never_failed(decoder);
     let answer = decoder.seek_to_image(page);
@@ -115,8 +116,12 @@ fn seek(decoder: &mut Decoder<SliceSource<'_>>, page: usize) -> TiffResult<()>
 // Shows the directory at an offset, whether it is in the chain or not.
 #[tactic(auto, using(crate::proofs::Slices::here, crate::proofs::Slices::gone))]
 fn show(decoder: &mut Decoder<SliceSource<'_>>, offset: u64) -> TiffResult<()>
-    ensures answer { AnswersWithoutSource (λ x. x) result (outcome.show_directory decoder.old (record { 0 = offset })).answer }
-    ensures gone { OnOk result (decoder.new ≡ record decoder.old { state = (outcome.show_directory decoder.old (record { 0 = offset })).next }) }
+    ensures answer { AnswersWithoutSource (λ x. x) result
+        (outcome.show_directory decoder.old (record { 0 = offset })).answer }
+    ensures gone { OnOk result
+        (decoder.new
+        ≡ record decoder.old
+        { state = (outcome.show_directory decoder.old (record { 0 = offset })).next }) }
 {
     never_failed(decoder);
     let answer = decoder.show_directory(IfdPointer(offset));
@@ -127,7 +132,8 @@ fn show(decoder: &mut Decoder<SliceSource<'_>>, offset: u64) -> TiffResult<()>
 // Goes to a page of the chain by its number, or to the directory at an offset.
 fn go_to(decoder: &mut Decoder<SliceSource<'_>>, page: usize) -> TiffResult<()>
     ensures answer { AnswersWithoutSource (λ x. x) result (calls.page_outcome decoder.old page).answer }
-    ensures gone { OnOk result (decoder.new ≡ record decoder.old { state = (calls.page_outcome decoder.old page).next }) }
+    ensures gone { OnOk result
+        (decoder.new ≡ record decoder.old { state = (calls.page_outcome decoder.old page).next }) }
 {
     if page < AT {
         return seek(decoder, page);
@@ -156,7 +162,8 @@ pub(crate) fn open_at(
 // The directory at an offset of a decoder's file.
 #[tactic(auto, using(crate::proofs::Slices::here, crate::proofs::Slices::gone), unfolding(tiff_decode::specs::Outcome::read_directory))]
 fn directory_here(decoder: &mut Decoder<SliceSource<'_>>, offset: u64) -> TiffResult<Directory>
-    ensures answer { AnswersWithoutSource (λ x. x) result (outcome.read_directory decoder.old (record { 0 = offset })).answer }
+    ensures answer { AnswersWithoutSource (λ x. x) result
+        (outcome.read_directory decoder.old (record { 0 = offset })).answer }
     ensures stays { OnOk result (decoder.new ≡ decoder.old) }
 {
     never_failed(decoder);
@@ -172,7 +179,8 @@ pub(crate) fn open_tags(
     file: &[u8],
     page: usize,
 ) -> TiffResult<(Decoder<SliceSource<'_>>, Option<Directory>)>
-    ensures { AnswersWithoutSource (λ t. reader_of t.0 t.1) result (calls.tags_at_page file.now page) }
+    ensures { AnswersWithoutSource (λ t. reader_of t.0 t.1) result
+        (calls.tags_at_page file.now page) }
 {
     if page < AT {
         return Ok((open_at(alloc, file, page)?, None));
@@ -217,7 +225,8 @@ pub fn page_sides(alloc: Global, file: &[u8], page: usize) -> TiffResult<Sides>
 // Reads the image of a decoder's page into a slice.
 #[tactic(auto, using(crate::proofs::Slices::here))]
 fn image_here(decoder: &mut Decoder<SliceSource<'_>>, buffer: &mut [u8]) -> TiffResult<()>
-    ensures { AnswersWithoutSource (λ _. buffer.new) result (outcome.read_image_bytes decoder.old buffer.old).answer }
+    ensures { AnswersWithoutSource (λ _. buffer.new) result
+        (outcome.read_image_bytes decoder.old buffer.old).answer }
 {
     never_failed(decoder);
     let answer = decoder.read_image_bytes(buffer);
@@ -229,7 +238,8 @@ fn image_here(decoder: &mut Decoder<SliceSource<'_>>, buffer: &mut [u8]) -> Tiff
 /// page; of its color or its layout; of a buffer shorter than one plane,
 /// `InsufficientOutputBufferSize`; of a chunk. What an error leaves in `buffer` is not specified.
 pub fn image_bytes(alloc: Global, file: &[u8], page: usize, buffer: &mut [u8]) -> TiffResult<()>
-    ensures { AnswersWithoutSource (λ _. buffer.new) result (calls.read_image_bytes file.now page buffer.old) }
+    ensures { AnswersWithoutSource (λ _. buffer.new) result
+        (calls.read_image_bytes file.now page buffer.old) }
 {
     image_here(&mut open_free(alloc, file, page)?, buffer)
 }
@@ -261,7 +271,8 @@ fn chunk_here(
     chunk: u32,
     buffer: &mut [u8],
 ) -> TiffResult<()>
-    ensures answer { AnswersWithoutSource (λ _. buffer.new) result (outcome.read_chunk_bytes decoder.old chunk buffer.old).answer }
+    ensures answer { AnswersWithoutSource (λ _. buffer.new) result
+        (outcome.read_chunk_bytes decoder.old chunk buffer.old).answer }
     ensures stays { OnOk result (decoder.new ≡ decoder.old) }
 {
     never_failed(decoder);
@@ -280,7 +291,8 @@ pub fn chunk_bytes(
     chunk: u32,
     buffer: &mut [u8],
 ) -> TiffResult<()>
-    ensures { AnswersWithoutSource (λ _. buffer.new) result (calls.read_chunk_bytes file.now page chunk buffer.old) }
+    ensures { AnswersWithoutSource (λ _. buffer.new) result
+        (calls.read_chunk_bytes file.now page chunk buffer.old) }
 {
     chunk_here(&mut open_free(alloc, file, page)?, chunk, buffer)
 }
@@ -302,7 +314,8 @@ fn range_here(
     end: u32,
     buffer: &mut [u8],
 ) -> TiffResult<()>
-    ensures { AnswersWithoutSource (λ _. buffer.new) result (calls.chunks_in decoder.old (end - first) first buffer.old) }
+    ensures { AnswersWithoutSource (λ _. buffer.new) result
+        (calls.chunks_in decoder.old (end - first) first buffer.old) }
 {
     let mut at = 0;
     for chunk in first..end {
@@ -334,7 +347,8 @@ pub fn range_bytes(
     count: u32,
     buffer: &mut [u8],
 ) -> TiffResult<()>
-    ensures { AnswersWithoutSource (λ _. buffer.new) result (calls.read_chunks file.now page first count buffer.old) }
+    ensures { AnswersWithoutSource (λ _. buffer.new) result
+        (calls.read_chunks file.now page first count buffer.old) }
 {
     let mut decoder = open_free(alloc, file, page)?;
     let Some(end) = first.checked_add(count) else {
@@ -346,7 +360,8 @@ pub fn range_bytes(
 // Reads a coding unit of a decoder's page into a slice.
 #[tactic(auto, using(crate::proofs::Slices::here))]
 fn unit_here(decoder: &mut Decoder<SliceSource<'_>>, unit: u32, buffer: &mut [u8]) -> TiffResult<()>
-    ensures { AnswersWithoutSource (λ _. buffer.new) result (outcome.read_coding_unit_bytes decoder.old unit buffer.old).answer }
+    ensures { AnswersWithoutSource (λ _. buffer.new) result
+        (outcome.read_coding_unit_bytes decoder.old unit buffer.old).answer }
 {
     never_failed(decoder);
     let answer = decoder.read_coding_unit_bytes(TiffCodingUnit(unit), buffer);
@@ -365,7 +380,8 @@ pub fn unit_bytes(
     unit: u32,
     buffer: &mut [u8],
 ) -> TiffResult<()>
-    ensures { AnswersWithoutSource (λ _. buffer.new) result (calls.read_unit_bytes file.now page unit buffer.old) }
+    ensures { AnswersWithoutSource (λ _. buffer.new) result
+        (calls.read_unit_bytes file.now page unit buffer.old) }
 {
     unit_here(&mut open_free(alloc, file, page)?, unit, buffer)
 }
@@ -538,7 +554,8 @@ fn bytes_fit<R: Source>(decoder: &Decoder<R>)
 #[tactic(auto, using(crate::proofs::Slices::next_here, crate::proofs::Slices::next_gone))]
 fn advance(decoder: &mut Decoder<SliceSource<'_>>) -> TiffResult<()>
     ensures answer { AnswersWithoutSource (λ x. x) result (outcome.next_image decoder.old).answer }
-    ensures gone { OnOk result (decoder.new ≡ record decoder.old { state = (outcome.next_image decoder.old).next }) }
+    ensures gone { OnOk result
+        (decoder.new ≡ record decoder.old { state = (outcome.next_image decoder.old).next }) }
 {
     never_failed(decoder);
     let answer = decoder.next_image();
@@ -580,7 +597,8 @@ fn number_of<R: Source>(
     other: &Option<Directory>,
     tag: Tag,
 ) -> TiffResult<u64>
-    ensures { Answers (λ n. n) result (outcome.get_tag_u64 (reader_of decoder.old other.now) tag).answer
+    ensures { Answers (λ n. n) result
+        (outcome.get_tag_u64 (reader_of decoder.old other.now) tag).answer
         decoder.old.failures decoder.new.failures }
 {
     tags_of(decoder, other).get_tag_u64(tag)
@@ -593,7 +611,8 @@ fn number_here(
     other: &Option<Directory>,
     tag: Tag,
 ) -> TiffResult<u64>
-    ensures { AnswersWithoutSource (λ n. n) result (outcome.get_tag_u64 (reader_of decoder.old other.now) tag).answer }
+    ensures { AnswersWithoutSource (λ n. n) result
+        (outcome.get_tag_u64 (reader_of decoder.old other.now) tag).answer }
 {
     never_failed(decoder);
     let answer = number_of(decoder, other, tag);
@@ -630,7 +649,8 @@ fn part_of_tag<R: Source>(
     at: u64,
     buffer: &mut [u8],
 ) -> TiffResult<Option<usize>>
-    ensures { AnswersWithoutMemory (λ n. (n, buffer.new)) result (outcome.find_tag_bytes (reader_of decoder.old other.now) tag buffer.old at).answer
+    ensures { AnswersWithoutMemory (λ n. (n, buffer.new)) result
+        (outcome.find_tag_bytes (reader_of decoder.old other.now) tag buffer.old at).answer
         decoder.old.failures decoder.new.failures }
 {
     tags_of(decoder, other).find_tag_bytes(tag, buffer, at)
@@ -645,7 +665,8 @@ fn part_here(
     at: u64,
     buffer: &mut [u8],
 ) -> TiffResult<Option<usize>>
-    ensures { AnswersWithoutSource (λ n. (n, buffer.new)) result (outcome.find_tag_bytes (reader_of decoder.old other.now) tag buffer.old at).answer }
+    ensures { AnswersWithoutSource (λ n. (n, buffer.new)) result
+        (outcome.find_tag_bytes (reader_of decoder.old other.now) tag buffer.old at).answer }
 {
     never_failed(decoder);
     let answer = part_of_tag(decoder, other, tag, at, buffer);
@@ -662,7 +683,8 @@ fn bytes_here(
     at: u64,
     buffer: &mut [u8],
 ) -> TiffResult<usize>
-    ensures { AnswersWithoutSource (λ n. (n, buffer.new)) result (calls.bytes_of_tag (reader_of decoder.old other.now) tag at buffer.old) }
+    ensures { AnswersWithoutSource (λ n. (n, buffer.new)) result
+        (calls.bytes_of_tag (reader_of decoder.old other.now) tag at buffer.old) }
 {
     let found = part_here(decoder, other, tag, at, buffer)?;
     copied(tag, found)
@@ -682,7 +704,8 @@ pub fn tag_bytes(
     at: u64,
     buffer: &mut [u8],
 ) -> TiffResult<usize>
-    ensures { AnswersWithoutSource (λ n. (n, buffer.new)) result (calls.tag_bytes file.now page number at buffer.old) }
+    ensures { AnswersWithoutSource (λ n. (n, buffer.new)) result
+        (calls.tag_bytes file.now page number at buffer.old) }
 {
     let (mut decoder, other) = open_tags(alloc, file, page)?;
     bytes_here(

@@ -91,7 +91,8 @@ fn let_go<T: Drop>(_value: T) {}
 // Runs jobs over an empty sink, for a file of the kind `K`.
 #[tactic(auto, using(tiff_base::proofs::MemoryFaults::header_refused))]
 fn run_kind<K: TiffKind>(alloc: Global, jobs: &[Job]) -> TiffResult<Ran>
-    ensures { MatchResult result (λ ran. RanJobs K.kind jobs.now ran.file.items ran.refused) (λ e. e ≡ TiffError.OutOfMemory) }
+    ensures { MatchResult result (λ ran. RanJobs K.kind jobs.now ran.file.items ran.refused)
+        (λ e. e ≡ TiffError.OutOfMemory) }
 {
     let mut replies = Vec::new(alloc);
     let sink = MemorySink::new(Vec::new(alloc));
@@ -106,7 +107,8 @@ fn run_kind<K: TiffKind>(alloc: Global, jobs: &[Job]) -> TiffResult<Ran>
 
 // Runs jobs over an empty sink, for a file of a kind that is given as a value.
 fn run(alloc: Global, kind: FileKind, jobs: &[Job]) -> TiffResult<Ran>
-    ensures { MatchResult result (λ ran. RanJobs kind jobs.now ran.file.items ran.refused) (λ e. e ≡ TiffError.OutOfMemory) }
+    ensures { MatchResult result (λ ran. RanJobs kind jobs.now ran.file.items ran.refused)
+        (λ e. e ≡ TiffError.OutOfMemory) }
 {
     match kind {
         FileKind::Classic => run_kind::<TiffKindStandard>(alloc, jobs),
@@ -137,7 +139,8 @@ pub fn run_listed(alloc: Global, kind: FileKind, text: &[u8]) -> TiffResult<Answ
 
 // Puts the file of jobs into a buffer if none of them had an error.
 fn tell_ran(ran: Ran, buffer: &mut [u8], len: &mut usize, end: &mut JobsEnd) -> u32
-    ensures { TellsRan ran.file.items ran.refused result buffer.old buffer.new len.old len.new end.new }
+    ensures { TellsRan ran.file.items ran.refused result buffer.old buffer.new len.old len.new
+        end.new }
 {
     match ran.refused {
         None => {

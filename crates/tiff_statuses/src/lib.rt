@@ -185,7 +185,8 @@ pub fn tag_bytes(
     buffer: &mut [u8],
     written: &mut usize,
 ) -> u32
-    ensures answer { StatusTells (calls.tag_bytes file.now page number at buffer.old) result (written.new, buffer.new) }
+    ensures answer { StatusTells (calls.tag_bytes file.now page number at buffer.old) result
+        (written.new, buffer.new) }
     ensures stays { (result ≡ 0) ⊎ (written.new ≡ written.old) }
 {
     given(
@@ -208,7 +209,8 @@ pub fn tag_numbers(
     numbers: &mut [u64],
     count: &mut usize,
 ) -> u32
-    ensures { StatusPuts (values.tag_numbers file.now page number numbers.old) result (count.old, numbers.old) (count.new, numbers.new) }
+    ensures { StatusPuts (values.tag_numbers file.now page number numbers.old) result
+        (count.old, numbers.old) (count.new, numbers.new) }
 {
     given(
         values::tag_numbers(alloc, file, page, number, numbers),
@@ -230,7 +232,8 @@ pub fn tag_floats(
     numbers: &mut [u64],
     count: &mut usize,
 ) -> u32
-    ensures { StatusPuts (values.tag_floats file.now page number numbers.old) result (count.old, numbers.old) (count.new, numbers.new) }
+    ensures { StatusPuts (values.tag_floats file.now page number numbers.old) result
+        (count.old, numbers.old) (count.new, numbers.new) }
 {
     given(
         values::tag_floats(alloc, file, page, number, numbers),
@@ -252,7 +255,8 @@ pub fn tag_text(
     text: &mut [u8],
     len: &mut usize,
 ) -> u32
-    ensures { StatusPuts (values.tag_text file.now page number text.old) result (len.old, text.old) (len.new, text.new) }
+    ensures { StatusPuts (values.tag_text file.now page number text.old) result (len.old, text.old)
+        (len.new, text.new) }
 {
     given(values::tag_text(alloc, file, page, number, text), len)
 }

@@ -68,7 +68,8 @@ impl Number<8> for u64 {
 #[tactic(auto, using(crate::proofs::Octets::cut_whole))]
 fn sample_of<S: Sample, U: Number<N>, const N: usize>(bytes: [u8; N]) -> S
     requires { type_size S.value_type ≡ N }
-    ensures { sample_number (type_size S.value_type) S.bits result ≡ number LittleEndian (width_of N) bytes.entry }
+    ensures { sample_number (type_size S.value_type) S.bits result
+        ≡ number LittleEndian (width_of N) bytes.entry }
 {
     S::cut(U::of(bytes))
 }
@@ -83,7 +84,8 @@ pub fn samples_of<S: Sample, U: Number<N>, const N: usize>(
     requires some { 0 < N }
     requires size { type_size S.value_type ≡ N }
     requires whole { length bytes.now % N ≡ 0 }
-    ensures { IfOk result (λ v. map (sample_number (type_size S.value_type) S.bits) v.items ≡ numbers_in N bytes.now) }
+    ensures { IfOk result
+        (λ v. map (sample_number (type_size S.value_type) S.bits) v.items ≡ numbers_in N bytes.now) }
 {
     let (pieces, _) = bytes.as_chunks::<N>();
     let mut samples = Vec::with_capacity(alloc, pieces.len())?;

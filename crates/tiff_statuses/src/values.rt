@@ -5,7 +5,7 @@ ghost use Rattle.std.specs.Prelude.{◌≡◌, map, string_bytes, OnErr};
 ghost use Rattle.tiff_base.specs.Answers.{Answers, AnswersWithoutSource};
 ghost use Rattle.tiff_decode.specs.Outcome as outcome;
 ghost use Rattle.tiff_decode.specs.Reader.{reader_of};
-ghost use Rattle.tiff_decode.specs.Sight.{bits_64};
+ghost use Rattle.tiff_decode.specs.ReplyView.{bits_64};
 ghost use Rattle.tiff_statuses.specs.List.{filled};
 ghost use Rattle.tiff_statuses.specs.Values as values;
 
@@ -43,7 +43,8 @@ fn numbers_of<R: Source>(
     other: &Option<Directory>,
     tag: Tag,
 ) -> TiffResult<Vec<u64>>
-    ensures { Answers (λ v. v.items) result (outcome.get_tag_u64_vec (reader_of decoder.old other.now) tag).answer
+    ensures { Answers (λ v. v.items) result
+        (outcome.get_tag_u64_vec (reader_of decoder.old other.now) tag).answer
         decoder.old.failures decoder.new.failures }
 {
     tags_of(decoder, other).get_tag_u64_vec(tag)
@@ -56,7 +57,8 @@ fn numbers_here(
     other: &Option<Directory>,
     tag: Tag,
 ) -> TiffResult<Vec<u64>>
-    ensures { AnswersWithoutSource (λ v. v.items) result (outcome.get_tag_u64_vec (reader_of decoder.old other.now) tag).answer }
+    ensures { AnswersWithoutSource (λ v. v.items) result
+        (outcome.get_tag_u64_vec (reader_of decoder.old other.now) tag).answer }
 {
     never_failed(decoder);
     let answer = numbers_of(decoder, other, tag);
@@ -71,7 +73,9 @@ fn put_numbers(
     tag: Tag,
     out: &mut [u64],
 ) -> TiffResult<usize>
-    ensures answer { AnswersWithoutSource (λ n. (n, out.new)) result (values.counted (outcome.get_tag_u64_vec (reader_of decoder.old other.now) tag).answer out.old) }
+    ensures answer { AnswersWithoutSource (λ n. (n, out.new)) result
+        (values.counted (outcome.get_tag_u64_vec (reader_of decoder.old other.now) tag).answer
+        out.old) }
     ensures stays { OnErr result (out.new ≡ out.old) }
 {
     let numbers = numbers_here(decoder, other, tag)?;
@@ -90,7 +94,8 @@ pub fn tag_numbers(
     number: u16,
     out: &mut [u64],
 ) -> TiffResult<usize>
-    ensures answer { AnswersWithoutSource (λ n. (n, out.new)) result (values.tag_numbers file.now page number out.old) }
+    ensures answer { AnswersWithoutSource (λ n. (n, out.new)) result
+        (values.tag_numbers file.now page number out.old) }
     ensures stays { OnErr result (out.new ≡ out.old) }
 {
     let tag = Tag::from_u16_exhaustive(number);
@@ -105,7 +110,8 @@ fn floats_of<R: Source>(
     other: &Option<Directory>,
     tag: Tag,
 ) -> TiffResult<Vec<Bits64>>
-    ensures { Answers (λ v. map bits_64 v.items) result (outcome.get_tag_f64_vec (reader_of decoder.old other.now) tag).answer
+    ensures { Answers (λ v. map bits_64 v.items) result
+        (outcome.get_tag_f64_vec (reader_of decoder.old other.now) tag).answer
         decoder.old.failures decoder.new.failures }
 {
     tags_of(decoder, other).get_tag_f64_vec(tag)
@@ -118,7 +124,8 @@ fn floats_here(
     other: &Option<Directory>,
     tag: Tag,
 ) -> TiffResult<Vec<Bits64>>
-    ensures { AnswersWithoutSource (λ v. map bits_64 v.items) result (outcome.get_tag_f64_vec (reader_of decoder.old other.now) tag).answer }
+    ensures { AnswersWithoutSource (λ v. map bits_64 v.items) result
+        (outcome.get_tag_f64_vec (reader_of decoder.old other.now) tag).answer }
 {
     never_failed(decoder);
     let answer = floats_of(decoder, other, tag);
@@ -134,7 +141,9 @@ fn put_floats(
     tag: Tag,
     out: &mut [u64],
 ) -> TiffResult<usize>
-    ensures answer { AnswersWithoutSource (λ n. (n, out.new)) result (values.counted (outcome.get_tag_f64_vec (reader_of decoder.old other.now) tag).answer out.old) }
+    ensures answer { AnswersWithoutSource (λ n. (n, out.new)) result
+        (values.counted (outcome.get_tag_f64_vec (reader_of decoder.old other.now) tag).answer
+        out.old) }
     ensures stays { OnErr result (out.new ≡ out.old) }
 {
     let floats = floats_here(decoder, other, tag)?;
@@ -153,7 +162,8 @@ pub fn tag_floats(
     number: u16,
     out: &mut [u64],
 ) -> TiffResult<usize>
-    ensures answer { AnswersWithoutSource (λ n. (n, out.new)) result (values.tag_floats file.now page number out.old) }
+    ensures answer { AnswersWithoutSource (λ n. (n, out.new)) result
+        (values.tag_floats file.now page number out.old) }
     ensures stays { OnErr result (out.new ≡ out.old) }
 {
     let tag = Tag::from_u16_exhaustive(number);
@@ -167,7 +177,8 @@ fn text_of<R: Source>(
     other: &Option<Directory>,
     tag: Tag,
 ) -> TiffResult<String>
-    ensures { Answers string_bytes result (outcome.get_tag_ascii_string (reader_of decoder.old other.now) tag).answer
+    ensures { Answers string_bytes result
+        (outcome.get_tag_ascii_string (reader_of decoder.old other.now) tag).answer
         decoder.old.failures decoder.new.failures }
 {
     tags_of(decoder, other).get_tag_ascii_string(tag)
@@ -180,7 +191,8 @@ fn text_here(
     other: &Option<Directory>,
     tag: Tag,
 ) -> TiffResult<String>
-    ensures { AnswersWithoutSource string_bytes result (outcome.get_tag_ascii_string (reader_of decoder.old other.now) tag).answer }
+    ensures { AnswersWithoutSource string_bytes result
+        (outcome.get_tag_ascii_string (reader_of decoder.old other.now) tag).answer }
 {
     never_failed(decoder);
     let answer = text_of(decoder, other, tag);
@@ -195,7 +207,9 @@ fn put_text(
     tag: Tag,
     out: &mut [u8],
 ) -> TiffResult<usize>
-    ensures answer { AnswersWithoutSource (λ n. (n, out.new)) result (values.counted (outcome.get_tag_ascii_string (reader_of decoder.old other.now) tag).answer out.old) }
+    ensures answer { AnswersWithoutSource (λ n. (n, out.new)) result
+        (values.counted (outcome.get_tag_ascii_string (reader_of decoder.old other.now) tag).answer
+        out.old) }
     ensures stays { OnErr result (out.new ≡ out.old) }
 {
     let text = text_here(decoder, other, tag)?;
@@ -215,7 +229,8 @@ pub fn tag_text(
     number: u16,
     out: &mut [u8],
 ) -> TiffResult<usize>
-    ensures answer { AnswersWithoutSource (λ n. (n, out.new)) result (values.tag_text file.now page number out.old) }
+    ensures answer { AnswersWithoutSource (λ n. (n, out.new)) result
+        (values.tag_text file.now page number out.old) }
     ensures stays { OnErr result (out.new ≡ out.old) }
 {
     let tag = Tag::from_u16_exhaustive(number);

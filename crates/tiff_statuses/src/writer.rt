@@ -120,7 +120,8 @@ fn packing_of(method: u16) -> Option<Compression>
 
 // How to write an image, by name; or the error of the first number that names nothing.
 fn settings_of(image: &NewImage) -> TiffResult<Settings>
-    ensures { MatchResult result (λ s. writer.settings_of image.now ≡ Ok s) (λ e. writer.settings_of image.now ≡ Err e) }
+    ensures { MatchResult result (λ s. writer.settings_of image.now ≡ Ok s)
+        (λ e. writer.settings_of image.now ≡ Err e) }
 {
     let Some(kind) = kind_of(image.version) else {
         return Err(TiffFormatError::TiffSignatureInvalid.into());
@@ -152,7 +153,8 @@ fn begin<K: TiffKind>(
     room: usize,
 ) -> TiffResult<TiffEncoder<MemorySink, K>>
     requires { settings.now.kind ≡ K.kind }
-    ensures { MatchResult result (λ file. IsBegun settings.now file) (λ e. e ≡ TiffError.OutOfMemory) }
+    ensures { MatchResult result (λ file. IsBegun settings.now file)
+        (λ e. e ≡ TiffError.OutOfMemory) }
 {
     let Ok(bytes) = Vec::with_capacity(alloc, room) else {
         return Err(TiffError::OutOfMemory);
@@ -173,7 +175,8 @@ fn write_samples<K: TiffKind, C: NamedColorType>(
 ) -> TiffResult<Vec<u8>>
     requires kind { settings.now.kind ≡ K.kind }
     requires named { settings.now.color ≡ C.name }
-    ensures { WritesImageFile settings.now width height (map (sample_number (type_size C.Inner.value_type) C.Inner.bits)
+    ensures { WritesImageFile settings.now width height
+        (map (sample_number (type_size C.Inner.value_type) C.Inner.bits)
         samples.now) (view_of_result (λ v. v.items) result) }
 {
     let size = usize::from(C::Inner::BYTE_LEN);
@@ -198,7 +201,8 @@ fn write_pieces<K: TiffKind, C: NamedColorType, U: Number<N>, const N: usize>(
     requires named { settings.now.color ≡ C.name }
     requires some { 0 < N }
     requires size { type_size C.Inner.value_type ≡ N }
-    ensures { WritesBytes settings.now width height (writer.samples_from_bytes settings.now.color bytes.now)
+    ensures { WritesBytes settings.now width height
+        (writer.samples_from_bytes settings.now.color bytes.now)
         (view_of_result (λ v. v.items) result) }
 {
     let (ty, _len) = C::Inner::type_and_len();
@@ -226,7 +230,8 @@ fn write_named<K: TiffKind>(
     bytes: &[u8],
 ) -> TiffResult<Vec<u8>>
     requires { s.now.kind ≡ K.kind }
-    ensures { WritesBytes s.now width height (writer.samples_from_bytes s.now.color bytes.now) (view_of_result (λ v. v.items) result) }
+    ensures { WritesBytes s.now width height (writer.samples_from_bytes s.now.color bytes.now)
+        (view_of_result (λ v. v.items) result) }
 {
     match s.color {
         ColorTypeName::Gray8 => write_samples::<K, Gray8>(alloc, s, width, height, bytes),
@@ -320,7 +325,8 @@ fn put(file: &[u8], buffer: &mut [u8]) -> u32
 /// Returns the status: 0, or the number of the error of `answer`, or of
 /// `InsufficientOutputBufferSize`. For an error of `answer`, `buffer` and `len` stay.
 pub fn deliver(answer: TiffResult<Vec<u8>>, buffer: &mut [u8], len: &mut usize) -> u32
-    ensures { Delivers (view_of_result (λ v. v.items) answer) result buffer.old buffer.new len.old len.new }
+    ensures { Delivers (view_of_result (λ v. v.items) answer) result buffer.old buffer.new len.old
+        len.new }
 {
     match answer {
         Ok(file) => {

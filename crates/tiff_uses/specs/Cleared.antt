@@ -11,4 +11,5 @@ cleared_numbers type start numbers = numbers
 
 -- an image with such numbers
 abbrev pub cleared_from : ℕ → Decoded → Decoded
-cleared_from start image = record image { numbers = cleared_numbers image.sample_type start image.numbers }
+cleared_from start image =
+    record image { numbers = cleared_numbers image.sample_type start image.numbers }

@@ -13,14 +13,17 @@ use Rattle.tiff_encode.specs.ImageData.{WritesImage}
 
 -- What `write_image` returns for gray samples of 8 bits behind the header of a new file, over a
 -- sink that fails only when memory is out: the file, or the first error of the image.
-pub record WritesGray (width height : ℕ) (samples : List ℕ) (answer : Result (List ℕ) TiffError) : Type 0 where
+pub record WritesGray (width height : ℕ) (samples : List ℕ) (answer : Result (List ℕ) TiffError)
+    : Type 0 where
   pub failures : ℕ
   pub last : FileState
-  pub written : WritesImage (color_type Gray8) (inner_size Gray8) width height (map (sample_number 1 (λ n. n)) samples)
+  pub written : WritesImage (color_type Gray8) (inner_size Gray8) width height
+      (map (sample_number 1 (λ n. n)) samples)
       (view_of_result {Y = Unit {0}} (λ _. tt) answer) (begun_file Classic [] failures) last
   pub fault : (last.fault ≡ None) ⊎ (last.fault ≡ Some sink.OutOfMemory)
   pub file : IfOk answer (λ file. file ≡ last.bytes)
 
 -- the gray page is written, or memory is out
 abbrev pub AnswersGray : ℕ → ℕ → List ℕ → Result (List ℕ) TiffError → Type 0
-AnswersGray width height samples answer = (answer ≡ Err OutOfMemory) ⊎ WritesGray width height samples answer
+AnswersGray width height samples answer =
+    (answer ≡ Err OutOfMemory) ⊎ WritesGray width height samples answer

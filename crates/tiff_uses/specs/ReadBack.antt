@@ -22,4 +22,5 @@ pub record IsFirstImage (file : List ℕ) (image : Decoded) : Type 0 where
 -- samples of an image with this width and height, and with so many samples a pixel, come back as
 -- they were passed, if they are as many as the image has
 abbrev pub ComesBack : ℕ → ℕ → ℕ → List ℕ → Decoded → Type 0
-ComesBack width height samples_of_pixel samples image = length samples ≡ height * width * samples_of_pixel → image.numbers ≡ samples
+ComesBack width height samples_of_pixel samples image =
+    length samples ≡ height * width * samples_of_pixel → image.numbers ≡ samples

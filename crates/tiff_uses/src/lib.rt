@@ -23,8 +23,8 @@ use tiff::TiffResult;
 use tiff::decoder::{Decoder, DecodingResult, DecodingSampleType, Limits};
 use tiff::encoder::TiffEncoder;
 use tiff::encoder::colortype::{Gray8, NamedColorType};
-use tiff::encoder::data_laws::first_shown;
-use tiff::encoder::reading_laws::written_is_read;
+use tiff::encoder::laws::data::first_shown;
+use tiff::encoder::laws::reading::written_is_read;
 use tiff::io::{MemorySink, MemorySource, Source};
 use tiff::tags::Tag;
 use tiff_laws::decoder::{image_is_its_chunks, read_where_chunks};
@@ -65,7 +65,8 @@ pub fn strips_of(alloc: Global, file: Vec<u8>, page: usize) -> TiffResult<(u32, 
 // The width and the height of each page, by a decoder that is at its file's first page.
 fn sides_along(alloc: Global, decoder: &mut Decoder<MemorySource>) -> TiffResult<Vec<(u32, u32)>>
     // The decoder was opened on its file, and no call has moved it since.
-    requires { decoder_of decoder.old.bytes 0 ≡ Ok (record decoder.old { readable = None; failures = 0 }) }
+    requires { decoder_of decoder.old.bytes 0
+        ≡ Ok (record decoder.old { readable = None; failures = 0 }) }
     ensures { FileAnswers (λ v. v.items) result (pages.page_sides decoder.old.bytes) }
 {
     walk_opens();
@@ -114,7 +115,8 @@ fn value_of(numbers: &[u16], id: u16) -> Option<u16>
 /// The value of a geographic key of the decoder's page, if the page has the key with its value in
 /// the entry of the key. A page without keys: `RequiredTagNotFound`. The decoder stays where it is.
 pub fn geo_key<R: Source>(decoder: &mut Decoder<R>, id: u16) -> TiffResult<Option<u16>>
-    ensures answer { Answers (λ value. value) result (geo_key decoder.old id) decoder.old.failures decoder.new.failures }
+    ensures answer { Answers (λ value. value) result (geo_key decoder.old id) decoder.old.failures
+        decoder.new.failures }
     ensures state { decoder.new ≡ record decoder.old { failures = decoder.new.failures } }
     ensures count { decoder.old.failures ≤ decoder.new.failures }
 {
@@ -126,7 +128,8 @@ pub fn geo_key<R: Source>(decoder: &mut Decoder<R>, id: u16) -> TiffResult<Optio
 /// then made of the chunks of at least one plane, each as it is read alone. The call requires
 /// nothing of the decoder, and leaves it where it is.
 pub fn image_of_chunks<R: Source>(decoder: &mut Decoder<R>, buffer: &mut [u8]) -> TiffResult<()>
-    ensures answer { Follows (λ _. buffer.new) (read_image_bytes decoder.old buffer.old) result decoder.old decoder.new }
+    ensures answer { Follows (λ _. buffer.new) (read_image_bytes decoder.old buffer.old) result decoder.old
+        decoder.new }
     ensures made { OnOk result (IsImageOfChunks decoder.old buffer.old buffer.new) }
 {
     decoder.has_sides();
@@ -185,7 +188,8 @@ pub fn written_and_read<C: NamedColorType>(
     samples: &[C::Inner],
 ) -> TiffResult<DecodingResult>
     ensures { IfOk result (λ image. ComesBack width height (length C.described.bits)
-        (map (sample_number (type_size C.Inner.value_type) C.Inner.bits) samples.now) (decoded_as image)) }
+        (map (sample_number (type_size C.Inner.value_type) C.Inner.bits) samples.now)
+        (decoded_as image)) }
 {
     first_shown();
     written_is_read();

@@ -34,9 +34,19 @@ buffer_given (Err e) = Err e
 
 -- the same values in this byte order
 abbrev pub in_byte_order : BufferRecord → ByteOrder → BufferRecord
-in_byte_order b order = record { order = order; data_type = b.data_type; bytes = convert b.data_type b.order b.bytes order }
+in_byte_order b order =
+    record {
+      order = order;
+      data_type = b.data_type;
+      bytes = convert b.data_type b.order b.bytes order;
+    }
 
 -- the buffer with the written bytes, in the same byte order and with the same type; the number of
 -- bytes stays the same
 abbrev pub with_bytes : BufferRecord → List ℕ → BufferRecord
-with_bytes b bytes = record { order = b.order; data_type = b.data_type; bytes = refill (length b.bytes) b.bytes bytes }
+with_bytes b bytes =
+    record {
+      order = b.order;
+      data_type = b.data_type;
+      bytes = refill (length b.bytes) b.bytes bytes;
+    }

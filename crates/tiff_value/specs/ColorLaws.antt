@@ -10,8 +10,10 @@ use Rattle.tiff_value.specs.ColorTypes.{samples_of}
 
 -- a color type may have `samples` samples of one sample format, each with all the bits of its
 -- `size` bytes in memory
-pub samples_alike : (interpretation : PhotometricInterpretation) (samples size : ℕ) (format : SampleFormat)
-    → 0 < samples → samples < 2 ^ 16 → IsColorType size (samples_of interpretation samples (8 * size) format)
+pub samples_alike : (interpretation : PhotometricInterpretation) (samples size : ℕ)
+    (format : SampleFormat)
+    → 0 < samples → samples < 2 ^ 16
+    → IsColorType size (samples_of interpretation samples (8 * size) format)
 samples_alike interpretation samples size format some few = record {
   some = omega (arith, some, length-replicate samples (8 * size));
   few = omega (arith, few, length-replicate samples (8 * size));

@@ -15,7 +15,11 @@ use Rattle.tiff_value.specs.ColorType.{ColorTypeRecord, IsColorType}
 -- a color type with `samples` samples of one number of bits and one sample format
 abbrev pub samples_of : PhotometricInterpretation → ℕ → ℕ → SampleFormat → ColorTypeRecord
 samples_of interpretation samples bits format =
-    record { interpretation = interpretation; bits = replicate samples bits; formats = replicate samples format }
+    record {
+      interpretation = interpretation;
+      bits = replicate samples bits;
+      formats = replicate samples format;
+    }
 
 -- the interpretation, the numbers of bits and the sample formats of each color type
 unfoldable pub color_type : ColorTypeName → ColorTypeRecord

@@ -56,7 +56,8 @@ signed_le w n = le (byte_len w) (cast_unsigned w n)
 
 -- the data of values of a type, each with the bytes that `bytes_of` returns
 abbrev pub data_by : {A : Type 0} → «Type» → (A → List ℕ) → List A → FieldData
-data_by type bytes_of values = record { field_type = type; count = length values; bytes = flat_map bytes_of values }
+data_by type bytes_of values =
+    record { field_type = type; count = length values; bytes = flat_map bytes_of values }
 
 -- the type, the number and the bytes of some values; each value of an enum is its number, as a
 -- SHORT

@@ -16,7 +16,8 @@ begins_with_two (a ∷ b ∷ bytes) = a == b
 
 abbrev pub holds_three : List ℕ → Bool
 holds_three [] = false
-holds_three (a ∷ bytes) = (begins_with_two (a ∷ bytes) && begins_with_two bytes) || holds_three bytes
+holds_three (a ∷ bytes) =
+    (begins_with_two (a ∷ bytes) && begins_with_two bytes) || holds_three bytes
 
 -- a literal that does not begin with two equal bytes, and does not contain three equal bytes in a
 -- row
@@ -65,4 +66,5 @@ store_fault method bytes = None
 
 -- a packed list unpacks to the bytes that it is packed from, and ends at the end of a block
 abbrev pub PackedUnpacks : Type 0
-PackedUnpacks = (bytes list : List ℕ) → IsPacked bytes list → runs false list ≡ record { out = bytes; end = Plain }
+PackedUnpacks = (bytes list : List ℕ) → IsPacked bytes list
+    → runs false list ≡ record { out = bytes; end = Plain }

@@ -19,7 +19,8 @@ pub record BeginsWithThree (bytes : List ℕ) : Type 0 where
 -- the bytes do not begin with two equal bytes, and contain no three equal bytes in a row
 pub record IsVaried (bytes : List ℕ) : Type 0 where
   pub first : 1 < length bytes → slice_index bytes 0 ≢ slice_index bytes 1
-  pub no_three : (k : ℕ) → k + 2 < length bytes → slice_index bytes k ≡ slice_index bytes (k + 1) → slice_index bytes (k + 1) ≢ slice_index bytes (k + 2)
+  pub no_three : (k : ℕ) → k + 2 < length bytes → slice_index bytes k ≡ slice_index bytes (k + 1)
+      → slice_index bytes (k + 1) ≢ slice_index bytes (k + 2)
 
 -- the first n bytes are varied, and n is 128, or the bytes end there, or three equal bytes follow
 pub record IsVariedFront (bytes : List ℕ) (n : ℕ) : Type 0 where

@@ -25,7 +25,8 @@ IsWritable (Err e) = ⊥
 
 -- The bytes of a value follow the earlier contents of the list, or there is no memory for them. A
 -- value that no field can have is refused with its error.
-abbrev pub Pushes : {A : Type 0} → Result FieldData TiffError → List ℕ → List ℕ → Result A TiffError → Type 0
+abbrev pub Pushes : {A : Type 0} → Result FieldData TiffError → List ℕ → List ℕ → Result A TiffError
+    → Type 0
 Pushes (Ok d) old new r = MatchResult r (λ _. new ≡ old ++ d.bytes) (λ e. e ≡ OutOfMemory)
 Pushes (Err given) old new r = MatchResult r (λ _. ⊥) (λ e. e ≡ given)
 
@@ -49,9 +50,11 @@ module _ {A : Type 0} where
   -- The bytes of a value are written as they are; or an earlier write failed; or else there is no
   -- memory for them, or their write fails. A value that no field can have is refused, unless an
   -- earlier write failed.
-  abbrev pub WritesValue : Result FieldData TiffError → Written → Written → Result A TiffError → Type 0
+  abbrev pub WritesValue : Result FieldData TiffError → Written → Written → Result A TiffError
+      → Type 0
   WritesValue (Ok d) old new r =
       MatchResult r
       (λ _. (old.fault ≡ None) × (new ≡ writer_after_counted old d.bytes))
       (λ e. IsStopped e old new ⊎ (IsWanting e old new ⊎ IsCut d.bytes e old new))
-  WritesValue (Err given) old new r = MatchResult r (λ _. ⊥) (λ e. IsStopped e old new ⊎ ValueIsRefused given e old new)
+  WritesValue (Err given) old new r =
+      MatchResult r (λ _. ⊥) (λ e. IsStopped e old new ⊎ ValueIsRefused given e old new)

@@ -22,7 +22,14 @@ pub record Written : Type 0 where
 -- a fresh writer over a sink that contains these bytes, after some failed writes of the sink
 abbrev pub new_writer : List ℕ → ℕ → Written
 new_writer told failures =
-    record { bytes = told; at = length told; fault = None; failures = failures; last = 0; method = method.None }
+    record {
+      bytes = told;
+      at = length told;
+      fault = None;
+      failures = failures;
+      last = 0;
+      method = method.None;
+    }
 
 -- the writer after a write of bytes at its offset
 abbrev pub writer_after : Written → List ℕ → Written
@@ -30,7 +37,8 @@ writer_after w xs = record w { bytes = put w.bytes w.at xs; at = w.at + length x
 
 -- the writer after a write of bytes at its offset, with their number as `last_written`
 abbrev pub writer_after_counted : Written → List ℕ → Written
-writer_after_counted w xs = record w { bytes = put w.bytes w.at xs; at = w.at + length xs; last = length xs }
+writer_after_counted w xs =
+    record w { bytes = put w.bytes w.at xs; at = w.at + length xs; last = length xs }
 
 -- One call of the sink fails: its bytes are unchanged, and its error ends all writing.
 pub record SinkFails (e : TiffError) (old new : Written) : Type 0 where
@@ -64,10 +72,12 @@ module _ {A : Type 0} where
   -- because an earlier write failed
   abbrev pub WritesRaw : List ℕ → Written → Written → Result A TiffError → Type 0
   WritesRaw xs old new r =
-      MatchResult r (λ _. (old.fault ≡ None) × (new ≡ writer_after old xs)) (λ e. IsStopped e old new ⊎ IsCut xs e old new)
+      MatchResult r (λ _. (old.fault ≡ None) × (new ≡ writer_after old xs))
+      (λ e. IsStopped e old new ⊎ IsCut xs e old new)
 
   -- the bytes are written, with their number as `last_written`; or a part of them, from the front,
   -- because the sink fails; or nothing, because an earlier write failed
   abbrev pub WritesCounted : List ℕ → Written → Written → Result A TiffError → Type 0
   WritesCounted xs old new r =
-      MatchResult r (λ _. (old.fault ≡ None) × (new ≡ writer_after_counted old xs)) (λ e. IsStopped e old new ⊎ IsCut xs e old new)
+      MatchResult r (λ _. (old.fault ≡ None) × (new ≡ writer_after_counted old xs))
+      (λ e. IsStopped e old new ⊎ IsCut xs e old new)

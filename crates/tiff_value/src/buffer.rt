@@ -45,7 +45,8 @@ impl ValueBuffer {
     /// Makes a buffer of the bytes of a value, in the machine's byte order. Its errors are those of
     /// `data`.
     pub fn from_value<V: TiffValue>(alloc: Global, value: &V) -> TiffResult<Self>
-        ensures { AnswersBut (IsWritable (V.field_data value.now)) ⊥ (λ b. b) result (buffer_given (V.field_data value.now)) }
+        ensures { AnswersBut (IsWritable (V.field_data value.now)) ⊥ (λ b. b) result
+            (buffer_given (V.field_data value.now)) }
     {
         let bytes = value.data(alloc)?;
         let (data_type, _len) = V::type_and_len();

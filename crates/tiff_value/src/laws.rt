@@ -56,7 +56,9 @@ pub fn named_is_known<C: NamedColorType>()
 /// encode the number.
 #[tactic(auto, using(crate::proofs::Lowest::spelled_by))]
 pub fn sample_is_spelled<S: Sample>()
-    ensures { (x : S) → (S.spelled x ≡ le (type_size S.value_type) (sample_number (type_size S.value_type) S.bits x))
+    ensures { (x : S)
+        → (S.spelled x ≡ le (type_size S.value_type)
+        (sample_number (type_size S.value_type) S.bits x))
         × (sample_number (type_size S.value_type) S.bits x < 256 ^ type_size S.value_type) }
 {}
 

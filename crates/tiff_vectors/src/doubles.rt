@@ -89,7 +89,10 @@ impl FailingSource {
 }
 
 impl Source for FailingSource {
-    ghost told = { λ s. record { bytes = (⟦<MemorySource as Source>⟧.told s.inner).bytes; readable = Some [] } };
+    ghost told = { λ s. record {
+      bytes = (⟦<MemorySource as Source>⟧.told s.inner).bytes;
+      readable = Some [];
+    } };
 
     ghost failures = { λ s. s.failed };
 

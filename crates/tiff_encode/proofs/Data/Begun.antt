@@ -9,21 +9,22 @@ use Rattle.tiff_base.specs.Directory.{link_offset}
 use Rattle.tiff_value.specs.ColorType.{ColorTypeRecord}
 use Rattle.tiff_value.specs.Data.{Scalars}
 use Rattle.tiff_encode.specs.Model.{FinishedDirectory, Model, IsLink}
-use Rattle.tiff_encode.specs.Deeds.{Deed, Listed, bytes_after, model_after, standing_fields}
-use Rattle.tiff_encode.specs.Machine.{FileState, OpenDirectory, OpenImage, WriteOutcome, Writing, gives, does, after_deeds, by_cause, ◌>>=◌}
+use Rattle.tiff_encode.specs.WriteOps.{WriteOp, Listed, bytes_after, model_after, standing_fields}
+use Rattle.tiff_encode.specs.Machine.{FileState, OpenDirectory, OpenImage, WriteOutcome, WriteCall, gives, does, after_ops, by_cause, ◌>>=◌}
 use Rattle.tiff_encode.specs.Causes.{end_of, begin_cause, finish_cause, new_image_cause}
 use Rattle.tiff_encode.specs.Calls.{Offsets, offsets_of, links_to, chain_after, chains, finish, new_directory, pad, image_directory, write_tags, first_tags, image_in, new_image, last_tags, finish_image}
 use Rattle.tiff_encode.specs.Ends.{CallFails}
 use Rattle.tiff_encode.specs.Open.{model_by}
 use Rattle.tiff_encode.specs.Laws.{AreAppending}
 use Rattle.tiff_encode.proofs.Slices.{ok_inj}
-use Rattle.tiff_encode.proofs.Standing.{len_standing}
-use Rattle.tiff_encode.proofs.Leaving.{begun_leaves}
+use Rattle.tiff_encode.proofs.FileAndModel.{len_standing}
+use Rattle.tiff_encode.proofs.Keeping.{failed_so}
 use Rattle.tiff_encode.proofs.Joining.{IsAdding, adding, caused_adds, bind_adds, bind_adding, begin_adds, answers_adding, ends_torn}
 use Rattle.tiff_encode.proofs.Open.Tags.{tags_adding}
 use Rattle.tiff_encode.proofs.Open.Ends.{finish_listed}
 use Rattle.tiff_encode.proofs.Image.FitsCalls.{IsDone, done_longer}
-use Rattle.tiff_encode.proofs.Data.Calls.{bind_answered, cause_answered, adding_done, behind_model}
+use Rattle.tiff_encode.proofs.Data.Calls.{bind_answered, cause_answered, behind_model}
+use Rattle.tiff_encode.proofs.Image.FitsCalls.{adding_done}
 use Rattle.tiff_encode.proofs.Data.Chunks.{IsPlacedAs, tags_placed}
 use Rattle.tiff_encode.proofs.Data.Leaves.{StillStands, appended_stands}
 
@@ -33,14 +34,14 @@ module _ (color : ColorTypeRecord) (size width height : ℕ) (file : FileState) 
   abbrev image_of : OpenDirectory → OpenImage
   image_of d = image_in file d color size width height
 
-  abbrev tagged : OpenDirectory → Writing OpenImage
+  abbrev tagged : OpenDirectory → WriteCall OpenImage
   tagged d = write_tags d (first_tags (image_of d)) >>= (λ last. gives (image_of last))
 
   pub new_adding : IsAdding (new_image color size width height file) file
   unfolding new_image
   new_adding =
       let next : FileState = (image_directory file).next in
-      let call : Writing OpenImage = image_directory >>= tagged in
+      let call : WriteCall OpenImage = image_directory >>= tagged in
       adding (by_cause (new_image_cause file color width height) call file) file
       (caused_adds (new_image_cause file color width height) call file
       (bind_adds image_directory tagged file (begin_adds file)
@@ -50,31 +51,20 @@ module _ (color : ColorTypeRecord) (size width height : ℕ) (file : FileState) 
 
   -- if a new image fails to begin, the model still describes the file
   pub not_begun : (e : TiffError) (new : FileState) → CallFails (new_image color size width height file) e file new → StillStands file new
-  not_begun e new h =
-      let told : WriteOutcome OpenImage = new_image color size width height file in
-      elim h as (λ _. StillStands file new) [
-        | inl t ↦ appended_stands told file new (adding_done told file new_adding) new_adding.appending t.state
-        | inr h ↦ elim h [
-          | inl c ↦ λ m s. begun_leaves told.deeds c.count file new.bytes m (ap (λ f. f.bytes) c.state) s
-          | inr h ↦ elim h [
-            | inl t ↦ absurd (ends_torn t.before t.offset t.target (subst (λ ds. AreAppending ds) t.last new_adding.appending))
-            | inr c ↦ λ m s. begun_leaves told.deeds c.count file new.bytes m (ap (λ f. f.bytes) c.state) s
-          ]
-        ]
-      ]
+  not_begun e new h = λ m s. failed_so (new_image color size width height file) e file new m new_adding h s
 
   begun_is : (d : OpenDirectory) → (image_directory file).answer ≡ Ok d → new_directory (Some file.chain) true ≡ d
   unfolding image_directory
   begun_is d h =
       let empty : OpenDirectory = new_directory (Some file.chain) true in
-      let call : Writing OpenDirectory = pad >>= (λ _. gives empty) in
+      let call : WriteCall OpenDirectory = pad >>= (λ _. gives empty) in
       let c = cause_answered (begin_cause file) call file d h in
       ok_inj empty d (ap (λ told. told.answer) (sym c.1) ∙ h)
 
   tagged_is : (d : OpenDirectory) (next : FileState) (i : OpenImage) → (tagged d next).answer ≡ Ok i
       → (last : OpenDirectory) × ((image_of last ≡ i) × IsPlacedAs d last)
   tagged_is d next i h =
-      let call : Writing OpenDirectory = write_tags d (first_tags (image_of d)) in
+      let call : WriteCall OpenDirectory = write_tags d (first_tags (image_of d)) in
       let a = bind_answered call (λ last. gives (image_of last)) next i h in (
         a.0,
         (
@@ -101,7 +91,7 @@ abbrev pub Chains : {A : Type 0} → FileState → Model → WriteOutcome A → 
 Chains file m told = IsLink file.kind (model_by file m told) told.next.chain
 
 pub behind_chains : {A B : Type 0} (first : WriteOutcome A) (second : WriteOutcome B) (file : FileState) (m : Model) → IsDone first file
-    → Chains first.next (model_by file m first) second → Chains file m (after_deeds first.deeds second)
+    → Chains first.next (model_by file m first) second → Chains file m (after_ops first.ops second)
 behind_chains first second file m d l =
     subst (λ n. IsLink file.kind n second.next.chain) (sym (behind_model first second file m d))
     (subst (λ kind. IsLink kind (model_by first.next (model_by file m first) second) second.next.chain) d.kind l)
@@ -112,9 +102,9 @@ finish_chain : (d : OpenDirectory) (file : FileState) (offsets : Offsets) → (f
 unfolding finish
 finish_chain d file offsets h q =
     let offset : Offsets = offsets_of file.kind (end_of file) (len d.fields) in
-    let deeds : List Deed = Listed d.fields ∷ links_to d.parent (end_of file) in
-    let call : Writing Offsets = does deeds >>= (λ _. chains d.chained offset) in
-    let done : FileState = record file { bytes = bytes_after file.kind file.bytes deeds } in
+    let ops : List WriteOp = Listed d.fields ∷ links_to d.parent (end_of file) in
+    let call : WriteCall Offsets = does ops >>= (λ _. chains d.chained offset) in
+    let done : FileState = record file { bytes = bytes_after file.kind file.bytes ops } in
     let c = cause_answered (finish_cause file d) call file offsets h in
     let same : offset ≡ offsets = ok_inj offset offsets (ap (λ told. told.answer) (sym c.1) ∙ h) in
     ap (λ told. told.next.chain) c.1 ∙ ap (λ b. (chain_after done b offset).chain) q
@@ -137,7 +127,7 @@ pub image_chains : (i : OpenImage) (file : FileState) (m : Model) (offsets : Off
 unfolding finish_image
 image_chains i file m offsets h q =
     let values : List (Tag × Scalars) = last_tags file.kind i in
-    let call : Writing OpenDirectory = write_tags i.directory values in
+    let call : WriteCall OpenDirectory = write_tags i.directory values in
     let mid : FileState = (call file).next in
     let a = bind_answered call finish file offsets h in
     let placed = tags_placed i.directory a.0 values file a.1.0 in
@@ -148,7 +138,7 @@ image_chains i file m offsets h q =
 -- ---- the link to a directory after its end
 
 pub behind_linked : {A B : Type 0} (first : WriteOutcome A) (second : WriteOutcome B) (file : FileState) (m : Model) (offset pointer : ℕ) → IsDone first file
-    → (model_by first.next (model_by file m first) second).links offset ≡ pointer → (model_by file m (after_deeds first.deeds second)).links offset ≡ pointer
+    → (model_by first.next (model_by file m first) second).links offset ≡ pointer → (model_by file m (after_ops first.ops second)).links offset ≡ pointer
 behind_linked first second file m offset pointer d l = ap (λ n. n.links offset) (behind_model first second file m d) ∙ l
 
 -- a link that a call points to a target has that target
@@ -161,8 +151,8 @@ finish_linked : (d : OpenDirectory) (file : FileState) (m : Model) (offsets : Of
 unfolding finish
 finish_linked d file m offsets offset h q =
     let at : Offsets = offsets_of file.kind (end_of file) (len d.fields) in
-    let deeds : List Deed = Listed d.fields ∷ links_to d.parent (end_of file) in
-    let call : Writing Offsets = does deeds >>= (λ _. chains d.chained at) in
+    let ops : List WriteOp = Listed d.fields ∷ links_to d.parent (end_of file) in
+    let call : WriteCall Offsets = does ops >>= (λ _. chains d.chained at) in
     let c = cause_answered (finish_cause file d) call file offsets h in
     let same : at ≡ offsets = ok_inj at offsets (ap (λ told. told.answer) (sym c.1) ∙ h) in
     ap (λ told. (model_by file m told).links offset) c.1
@@ -174,7 +164,7 @@ pub image_linked : (i : OpenImage) (file : FileState) (m : Model) (offsets : Off
 unfolding finish_image
 image_linked i file m offsets offset h q =
     let values : List (Tag × Scalars) = last_tags file.kind i in
-    let call : Writing OpenDirectory = write_tags i.directory values in
+    let call : WriteCall OpenDirectory = write_tags i.directory values in
     let mid : FileState = (call file).next in
     let a = bind_answered call finish file offsets h in
     let placed = tags_placed i.directory a.0 values file a.1.0 in
@@ -188,8 +178,8 @@ finish_placed : (d : OpenDirectory) (file : FileState) (offsets : Offsets) → (
 unfolding finish
 finish_placed d file offsets h =
     let at : Offsets = offsets_of file.kind (end_of file) (len d.fields) in
-    let deeds : List Deed = Listed d.fields ∷ links_to d.parent (end_of file) in
-    let call : Writing Offsets = does deeds >>= (λ _. chains d.chained at) in
+    let ops : List WriteOp = Listed d.fields ∷ links_to d.parent (end_of file) in
+    let call : WriteCall Offsets = does ops >>= (λ _. chains d.chained at) in
     let c = cause_answered (finish_cause file d) call file offsets h in
     ap (λ o. o.pointer) (ok_inj at offsets (ap (λ told. told.answer) (sym c.1) ∙ h))
 
@@ -198,7 +188,7 @@ pub image_placed : (i : OpenImage) (file : FileState) (offsets : Offsets) → (f
 unfolding finish_image
 image_placed i file offsets h =
     let values : List (Tag × Scalars) = last_tags file.kind i in
-    let call : Writing OpenDirectory = write_tags i.directory values in
+    let call : WriteCall OpenDirectory = write_tags i.directory values in
     let mid : FileState = (call file).next in
     let a = bind_answered call finish file offsets h in
     let longer = done_longer (call file) file (adding_done (call file) file (tags_adding i.directory values file)) in

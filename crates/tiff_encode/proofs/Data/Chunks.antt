@@ -3,29 +3,30 @@ use Rattle.std.proofs.Common.{◌≡◌, ℕ, List, [], ◌∷◌, ◌++◌, len
 use Rattle.tiff_base.specs.declared.error.TiffError.{TiffError}
 use Rattle.tiff_base.specs.Field.{AreEntries}
 use Rattle.tiff_encode.specs.Model.{Model, IsLink}
-use Rattle.tiff_encode.specs.Deeds.{Listed, model_after}
+use Rattle.tiff_encode.specs.WriteOps.{Listed, model_after}
 use Rattle.std.specs.FinMap.{len}
 use Rattle.tiff_encode.specs.Laws.{AreAppending}
-use Rattle.tiff_encode.specs.Machine.{FileState, OpenDirectory, OpenImage, Writing, gives, does, by_cause, ◌>>=◌}
+use Rattle.tiff_encode.specs.Machine.{FileState, OpenDirectory, OpenImage, WriteCall, gives, does, by_cause, ◌>>=◌}
 use Rattle.tiff_encode.specs.Chunks.{parts_left}
 use Rattle.tiff_encode.specs.Causes.{end_of, finish_cause, write_chunk_cause, write_image_data_cause}
 use Rattle.tiff_encode.specs.Calls.{Offsets, offsets_of, links_to, chains, with_field, write_entry, write_tag, write_tags, finish, with_chunk, appends, appends_chunk, write_chunk, last_tags, finish_image, write_chunks, write_image_data}
 use Rattle.tiff_encode.proofs.Slices.{ok_inj}
-use Rattle.tiff_encode.proofs.Deeds.{deeds_grow, link_kept}
+use Rattle.tiff_encode.proofs.WriteOps.{ops_grow, link_kept}
 use Rattle.tiff_encode.proofs.Runs.{uncaused}
 use Rattle.tiff_encode.proofs.Leaving.{finish_plain}
 use Rattle.tiff_encode.proofs.Joining.{IsAdding, Adds, adding, caused_adds, bind_adds, bind_adding, appends_adds, answers_adding}
 use Rattle.tiff_encode.proofs.Open.Tags.{tags_adding}
 use Rattle.tiff_encode.proofs.Image.FitsCalls.{IsDone, plain_done, Fits, gives_fits, cause_fits, bind_fits}
 use Rattle.tiff_encode.proofs.Image.Fits.{finish_image_fits}
-use Rattle.tiff_encode.proofs.Data.Calls.{bind_answered, AreAt, Patches, adding_done, caused_patches, bind_patches}
+use Rattle.tiff_encode.proofs.Data.Calls.{bind_answered, AreAt, Patches, caused_patches, bind_patches}
+use Rattle.tiff_encode.proofs.Image.FitsCalls.{adding_done}
 
 -- ---- a chunk
 
 pub chunk_adds : (i : OpenImage) (count : ℕ) (stored : List ℕ) (file : FileState) → Adds (write_chunk i count stored file) file
 unfolding write_chunk
 chunk_adds i count stored file =
-    let chunk : ℕ → Writing OpenImage = λ offset. gives (with_chunk i offset (length stored)) in
+    let chunk : ℕ → WriteCall OpenImage = λ offset. gives (with_chunk i offset (length stored)) in
     caused_adds (write_chunk_cause file i count (length stored)) (appends_chunk i stored) file
     (bind_adds (appends stored) chunk file (appends_adds stored file)
     (λ offset _. answers_adding (Ok (with_chunk i offset (length stored))) (appends stored file).next))
@@ -56,7 +57,7 @@ pub chunks_adding : (i : OpenImage) (parts stored : List (List ℕ)) (file : Fil
 chunks_adding i [] stored file = answers_adding (Ok i) file
 chunks_adding i (part ∷ parts) [] file = answers_adding (Ok i) file
 chunks_adding i (part ∷ parts) (bytes ∷ stored) file =
-    let call : Writing OpenImage = write_chunk i (length part) bytes in
+    let call : WriteCall OpenImage = write_chunk i (length part) bytes in
     bind_adding call (λ next. write_chunks next parts stored) file
     (adding (call file) file (chunk_adds i (length part) bytes file))
     (λ next _. chunks_adding next parts stored (call file).next)
@@ -69,9 +70,9 @@ pub chunks_fit : (i : OpenImage) (parts stored : List (List ℕ)) (file : FileSt
 chunks_fit i [] stored file m = gives_fits i file m (HasDirectory i.directory) refl
 chunks_fit i (part ∷ parts) [] file m = gives_fits i file m (HasDirectory i.directory) refl
 chunks_fit i (part ∷ parts) (bytes ∷ stored) file m =
-    let call : Writing OpenImage = write_chunk i (length part) bytes in
+    let call : WriteCall OpenImage = write_chunk i (length part) bytes in
     let mid : FileState = (call file).next in
-    let after : Model = model_after file.kind file.bytes m (call file).deeds in
+    let after : Model = model_after file.kind file.bytes m (call file).ops in
     let P : OpenImage → Type 0 = HasDirectory i.directory in
     bind_fits call (λ next. write_chunks next parts stored) file m P P
     (adding_done (call file) file (adding (call file) file (chunk_adds i (length part) bytes file)))
@@ -85,7 +86,7 @@ pub directory_kept : (i : OpenImage) (parts stored : List (List ℕ)) (last : Op
 directory_kept i [] stored last file h = ap (λ j. j.directory) (sym (ok_inj i last h))
 directory_kept i (part ∷ parts) [] last file h = ap (λ j. j.directory) (sym (ok_inj i last h))
 directory_kept i (part ∷ parts) (bytes ∷ stored) last file h =
-    let call : Writing OpenImage = write_chunk i (length part) bytes in
+    let call : WriteCall OpenImage = write_chunk i (length part) bytes in
     let a = bind_answered call (λ next. write_chunks next parts stored) file last h in
     directory_kept a.0 parts stored last (call file).next (ap (λ told. told.answer) (sym a.1.1) ∙ h)
     ∙ ap (λ j. j.directory) (sym (chunk_is i a.0 (length part) bytes file a.1.0))
@@ -108,15 +109,15 @@ pub tags_placed : (d next : OpenDirectory) (values : _) (file : FileState) → (
 tags_placed d next [] file h = let same = ok_inj d next h in
     record { parent = ap (λ x. x.parent) (sym same); chained = ap (λ x. x.chained) (sym same) }
 tags_placed d next (v ∷ values) file h =
-    let call : Writing OpenDirectory = write_tag d v.0 _ in
+    let call : WriteCall OpenDirectory = write_tag d v.0 _ in
     let a = bind_answered call (λ x. write_tags x values) file next h in
     let first = tag_placed d a.0 v.0 _ file a.1.0 in
     let others = tags_placed a.0 next values (call file).next (ap (λ told. told.answer) (sym a.1.1) ∙ h) in
     record { parent = others.parent ∙ first.parent; chained = others.chained ∙ first.chained }
 
 -- a call that is refused points no link
-caused_at : {A : Type 0} (parent : Option ℕ) (cause : Option TiffError) (call : Writing A) (file : FileState)
-    → AreAt parent (call file).deeds → AreAt parent (by_cause cause call file).deeds
+caused_at : {A : Type 0} (parent : Option ℕ) (cause : Option TiffError) (call : WriteCall A) (file : FileState)
+    → AreAt parent (call file).ops → AreAt parent (by_cause cause call file).ops
 caused_at parent None call file a = a
 caused_at parent (Some e) call file a = tt
 
@@ -125,18 +126,18 @@ links_at : (parent : Option ℕ) (offset : ℕ) → AreAt parent (links_to paren
 links_at None offset = tt
 links_at (Some parent) offset = (refl, tt)
 
-finish_at : (d : OpenDirectory) (file : FileState) → AreAt d.parent (finish d file).deeds
+finish_at : (d : OpenDirectory) (file : FileState) → AreAt d.parent (finish d file).ops
 unfolding finish
 finish_at d file =
     let offsets : Offsets = offsets_of file.kind (end_of file) (len d.fields) in
-    let call : Writing Offsets = does (Listed d.fields ∷ links_to d.parent (end_of file)) >>= (λ _. chains d.chained offsets) in
+    let call : WriteCall Offsets = does (Listed d.fields ∷ links_to d.parent (end_of file)) >>= (λ _. chains d.chained offsets) in
     caused_at d.parent (finish_cause file d) call file (links_at d.parent (end_of file))
 
 pub finish_patches : (d : OpenDirectory) (file : FileState) → Patches d.parent (finish d file) file
 finish_patches d file =
     let p = finish_plain d file in
     record {
-      done = plain_done 1 (finish d file) file p;
+      done = plain_done (finish d file) file p;
       refused = λ e h. subst (λ ds. AreAppending ds) (sym (p.refused e h)) tt;
       links = p.links;
       at = finish_at d file;
@@ -145,7 +146,7 @@ finish_patches d file =
 pub image_patches : (i : OpenImage) (file : FileState) → Patches i.directory.parent (finish_image i file) file
 unfolding finish_image
 image_patches i file =
-    let call : Writing OpenDirectory = write_tags i.directory (last_tags file.kind i) in
+    let call : WriteCall OpenDirectory = write_tags i.directory (last_tags file.kind i) in
     bind_patches i.directory.parent call finish file (tags_adding i.directory (last_tags file.kind i) file)
     (λ d h.
     let mid : FileState = (call file).next in
@@ -154,7 +155,7 @@ image_patches i file =
 -- ---- `write_data`
 
 module _ (i : OpenImage) (samples : List ℕ) (stored : List (List ℕ)) (old : FileState) where
-  abbrev pub data_chunks : Writing OpenImage
+  abbrev pub data_chunks : WriteCall OpenImage
   data_chunks = write_chunks i (parts_left i samples) stored
 
   -- the file after the chunks are written
@@ -178,10 +179,10 @@ module _ (i : OpenImage) (samples : List ℕ) (stored : List (List ℕ)) (old : 
   unfolding write_image_data
   data_fits m a p =
       let done = chunks_done i (parts_left i samples) stored old in
-      let after : Model = model_after old.kind old.bytes m (data_chunks old).deeds in
+      let after : Model = model_after old.kind old.bytes m (data_chunks old).ops in
       let link : (offset : ℕ) → i.directory.parent ≡ Some offset → IsLink data_mid.kind after offset = λ offset e.
       subst (λ kind. IsLink kind after offset) (sym done.kind)
-      (link_kept old.kind m after offset (deeds_grow old.kind old.bytes m (data_chunks old).deeds) (p offset e)) in
+      (link_kept old.kind m after offset (ops_grow old.kind old.bytes m (data_chunks old).ops) (p offset e)) in
       cause_fits (write_image_data_cause old i (length samples)) (data_chunks >>= finish_image) old m (λ _. Unit {0})
       (λ _. bind_fits data_chunks finish_image old m (HasDirectory i.directory) (λ _. Unit {0}) done
       (chunks_fit i (parts_left i samples) stored old m)

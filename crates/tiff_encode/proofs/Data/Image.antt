@@ -17,25 +17,25 @@ use Rattle.tiff_page.specs.Page.{PageRecord}
 use Rattle.tiff_page.specs.Layout.{color_from, color_of}
 use Rattle.tiff_encode.specs.FileBytes.{offset_len}
 use Rattle.tiff_encode.specs.Model.{Model, IsLink, Stands}
-use Rattle.tiff_encode.specs.Deeds.{all_appended}
-use Rattle.tiff_encode.specs.Laws.{DeedsFit}
+use Rattle.tiff_encode.specs.WriteOps.{all_appended}
+use Rattle.tiff_encode.specs.Laws.{OpsFit}
 use Rattle.tiff_encode.specs.Machine.{FileState, OpenImage, WriteOutcome}
 use Rattle.tiff_encode.specs.Drawn.{IsDrawn}
 use Rattle.tiff_encode.specs.Chunks.{all_samples, image_page, parts_left}
 use Rattle.tiff_encode.specs.Causes.{end_of}
 use Rattle.tiff_encode.specs.Calls.{Offsets, finish_image, new_image, write_image_data}
-use Rattle.tiff_encode.specs.Ends.{IsTold, IsTornOff}
+use Rattle.tiff_encode.specs.Ends.{EndsAsDefined, IsTornOff}
 use Rattle.tiff_encode.specs.Shows.{Shows}
 use Rattle.tiff_encode.specs.Held.{image_with}
 use Rattle.tiff_encode.specs.Open.{HoldsOpen, model_by}
 use Rattle.tiff_encode.specs.ImageData.{image_of_samples, WritesImageData, WritesImage, IsShortFile, AreNumbers, LeavesImage, LeavesNewImage, PartsShow, ImageLeaves}
 use Rattle.tiff_encode.proofs.Slices.{ok_inj}
-use Rattle.tiff_encode.proofs.Deeds.{deeds_stand, deeds_grow, link_kept}
+use Rattle.tiff_encode.proofs.WriteOps.{ops_stand, ops_grow, link_kept}
 use Rattle.tiff_encode.proofs.Open.Begun.{begins_open}
 use Rattle.tiff_encode.proofs.Image.FitsCalls.{put_longer, done_longer}
 use Rattle.tiff_encode.proofs.Image.Fits.{new_image_fits}
 use Rattle.tiff_encode.proofs.Shown.Color.{Family, count_of, HasColor, IsOf, of_family, family_has}
-use Rattle.tiff_encode.proofs.Data.Calls.{adding_done}
+use Rattle.tiff_encode.proofs.Image.FitsCalls.{adding_done}
 use Rattle.tiff_encode.proofs.Data.Chunks.{data_chunks, chunks_done, data_patches, same_directory}
 use Rattle.tiff_encode.proofs.Data.Leaves.{StillStands, appended_stands, data_stopped, data_torn, IsWritten, data_written, data_stands}
 use Rattle.tiff_encode.proofs.Data.Shows.{data_ended, data_shows}
@@ -99,7 +99,7 @@ some_inj x y h = ap held h where
   held None = 0
 
 module _ (color : ColorTypeRecord) (size width height : ℕ) (old : FileState) (i : OpenImage) (mid : FileState)
-    (begun : IsTold (new_image color size width height old) (Ok i) mid) where
+    (begun : EndsAsDefined (new_image color size width height old) (Ok i) mid) where
   abbrev begins : WriteOutcome OpenImage
   begins = new_image color size width height old
 
@@ -130,7 +130,7 @@ module _ (color : ColorTypeRecord) (size width height : ℕ) (old : FileState) (
     abbrev model : Model
     model = model_by old m begins
 
-    begun_fits : DeedsFit old.kind old.bytes m begins.deeds × AreEntries i.directory.fields
+    begun_fits : OpsFit old.kind old.bytes m begins.ops × AreEntries i.directory.fields
     begun_fits = new_image_fits old m color size width height i begun.answer (subst (λ s. end_of s < 2 ^ 64) begun.state short)
 
     entries_are : AreEntries i.directory.fields
@@ -141,20 +141,20 @@ module _ (color : ColorTypeRecord) (size width height : ℕ) (old : FileState) (
         let d = adding_done begins old (new_adding color size width height old) in
         subst (λ kind. Stands kind mid.bytes model) (sym begun_kind)
         (subst (λ b. Stands old.kind b model) (sym (ap (λ s. s.bytes) begun.state ∙ d.bytes))
-        (deeds_stand old.kind old.bytes m begins.deeds s begun_fits.0))
+        (ops_stand old.kind old.bytes m begins.ops s begun_fits.0))
 
     parent_links : IsLink old.kind m old.chain → (offset : ℕ) → i.directory.parent ≡ Some offset → IsLink mid.kind model offset
     parent_links l offset h =
         let same : old.chain ≡ offset = some_inj old.chain offset (sym parent_is ∙ h) in
         subst (λ kind. IsLink kind model offset) (sym begun_kind)
         (subst (λ q. IsLink old.kind model q) same
-        (link_kept old.kind m model old.chain (deeds_grow old.kind old.bytes m begins.deeds) l))
+        (link_kept old.kind m model old.chain (ops_grow old.kind old.bytes m begins.ops) l))
 
 -- ---- the length of the file after the call
 
 -- a file in which the sink fails at a link is at least as long as before
 torn_longer : (i : OpenImage) (samples : List ℕ) (stored : List (List ℕ)) (e : TiffError) (old new : FileState)
-    → IsTornOff (write_image_data i samples stored old).deeds e old new → end_of old ≤ end_of new
+    → IsTornOff (write_image_data i samples stored old).ops e old new → end_of old ≤ end_of new
 torn_longer i samples stored e old new t =
     let more : List ℕ = all_appended old.kind t.before in
     let over : List ℕ = take t.count (le (offset_len old.kind) t.target) in
@@ -175,7 +175,7 @@ written_longer i samples old new w =
 module _ (parts_show : PartsShow) (color : ColorTypeRecord) (size width height : ℕ) (samples : List ℕ) (old new : FileState) (m : Model)
     (wide : width < 2 ^ 32) (high : height < 2 ^ 32) (packed : (old.method ≡ method.None) ⊎ (old.method ≡ method.PackBits))
     (small : AreNumbers size samples) (short : IsShortFile new) (stands : Stands old.kind old.bytes m) (link : IsLink old.kind m old.chain)
-    (i : OpenImage) (mid : FileState) (begun : IsTold (new_image color size width height old) (Ok i) mid) where
+    (i : OpenImage) (mid : FileState) (begun : EndsAsDefined (new_image color size width height old) (Ok i) mid) where
   abbrev first_model : Model
   first_model = model_by old m (new_image color size width height old)
 

@@ -8,23 +8,24 @@ use Rattle.tiff_base.specs.Number.{le}
 use Rattle.tiff_base.specs.SourceAndSink.{put}
 use Rattle.tiff_encode.specs.FileBytes.{offset_len}
 use Rattle.tiff_encode.specs.Model.{Model, IsLink, Stands, with_link}
-use Rattle.tiff_encode.specs.Deeds.{Linked, bytes_after, all_appended, model_after}
-use Rattle.tiff_encode.specs.Laws.{AreAppending, DeedsFit}
+use Rattle.tiff_encode.specs.WriteOps.{Linked, bytes_after, all_appended, model_after}
+use Rattle.tiff_encode.specs.Laws.{AreAppending, OpsFit}
 use Rattle.tiff_encode.specs.Machine.{FileState, OpenImage, WriteOutcome}
 use Rattle.tiff_encode.specs.Chunks.{parts_left}
 use Rattle.tiff_encode.specs.Causes.{end_of, write_image_data_cause}
 use Rattle.tiff_encode.specs.Calls.{Offsets, write_chunks, write_image_data}
-use Rattle.tiff_encode.specs.Ends.{IsTold, IsTornOff, CallFails}
+use Rattle.tiff_encode.specs.Ends.{EndsAsDefined, IsTornOff, CallFails}
 use Rattle.tiff_encode.specs.Leaves.{LeavesTorn}
 use Rattle.tiff_encode.specs.Stored.{AreStored}
 use Rattle.tiff_encode.specs.Open.{model_by}
 use Rattle.tiff_encode.specs.ImageData.{StopsWithin, WritesDataBy, WritesImageData, IsShortFile}
 use Rattle.tiff_encode.proofs.Slices.{length_put, length-le}
-use Rattle.tiff_encode.proofs.Deeds.{bytes_joined, deeds_append, deeds_stand, deeds_torn}
+use Rattle.tiff_encode.proofs.WriteOps.{bytes_joined, ops_append, ops_stand, ops_torn}
 use Rattle.tiff_encode.proofs.Leaving.{ok_err, count_last, appending, begun_leaves}
 use Rattle.tiff_encode.proofs.Joining.{ends_torn}
 use Rattle.tiff_encode.proofs.Image.FitsCalls.{IsDone, Fits}
-use Rattle.tiff_encode.proofs.Data.Calls.{AreAt, Patches, last_at, adding_done}
+use Rattle.tiff_encode.proofs.Data.Calls.{AreAt, Patches, last_at}
+use Rattle.tiff_encode.proofs.Image.FitsCalls.{adding_done}
 use Rattle.tiff_encode.proofs.Data.Chunks.{chunks_adding, data_patches, data_fits}
 
 -- ---- calls that fail
@@ -34,24 +35,24 @@ abbrev pub StillStands : FileState → FileState → Type 0
 StillStands old new = (m : Model) → Stands old.kind old.bytes m → Stands old.kind new.bytes m
 
 -- after an append, each model that describes the file before describes the file after it
-pub appended_stands : {A : Type 0} (told : WriteOutcome A) (old new : FileState) → IsDone told old → AreAppending told.deeds → new ≡ told.next
+pub appended_stands : {A : Type 0} (told : WriteOutcome A) (old new : FileState) → IsDone told old → AreAppending told.ops → new ≡ told.next
     → StillStands old new
 appended_stands told old new d a n m s =
-    let all : List ℕ = all_appended old.kind told.deeds in
-    begun_leaves told.deeds (length all) old new.bytes m
-    (ap (λ file. file.bytes) n ∙ d.bytes ∙ deeds_append old.kind old.bytes told.deeds a ∙ ap (λ xs. old.bytes ++ xs) (sym (take-length all))) s
+    let all : List ℕ = all_appended old.kind told.ops in
+    begun_leaves told.ops (length all) old new.bytes m
+    (ap (λ file. file.bytes) n ∙ d.bytes ∙ ops_append old.kind old.bytes told.ops a ∙ ap (λ xs. old.bytes ++ xs) (sym (take-length all))) s
 
 -- after a call fails, the earlier model describes the file, or the sink fails at the parent's link
 pub patched_fails : {A : Type 0} (parent : Option ℕ) (told : WriteOutcome A) (e : TiffError) (old new : FileState) → Patches parent told old
-    → CallFails told e old new → StillStands old new ⊎ IsTornOff told.deeds e old new
+    → CallFails told e old new → StillStands old new ⊎ IsTornOff told.ops e old new
 patched_fails parent told e old new p h =
-    elim h as (λ _. StillStands old new ⊎ IsTornOff told.deeds e old new) [
+    elim h as (λ _. StillStands old new ⊎ IsTornOff told.ops e old new) [
       | inl t ↦ inl (appended_stands told old new p.done (p.refused e t.answer) t.state)
       | inr h ↦ elim h [
-        | inl c ↦ inl (λ m s. begun_leaves told.deeds c.count old new.bytes m (ap (λ f. f.bytes) c.state) s)
+        | inl c ↦ inl (λ m s. begun_leaves told.ops c.count old new.bytes m (ap (λ f. f.bytes) c.state) s)
         | inr h ↦ elim h [
           | inl t ↦ inr t
-          | inr c ↦ inl (λ m s. begun_leaves told.deeds c.count old new.bytes m (ap (λ f. f.bytes) c.state) s)
+          | inr c ↦ inl (λ m s. begun_leaves told.ops c.count old new.bytes m (ap (λ f. f.bytes) c.state) s)
         ]
       ]
     ]
@@ -59,12 +60,12 @@ patched_fails parent told e old new p h =
 -- the sink fails while it writes the parent's link
 module _ {A : Type 0} (parent : Option ℕ) (told : WriteOutcome A) (e : TiffError) (old new : FileState) (m : Model) (p : Patches parent told old)
     (f : Fits told old m (λ _. Unit {0})) (l : (offset : ℕ) → parent ≡ Some offset → IsLink old.kind m offset) (short : IsShortFile new)
-    (s : Stands old.kind old.bytes m) (t : IsTornOff told.deeds e old new) where
+    (s : Stands old.kind old.bytes m) (t : IsTornOff told.ops e old new) where
   -- the changes before the parent's link append
   torn_before : AreAppending t.before
   torn_before =
       let few = p.links in
-      appending t.before (omega (arith, few, count_last told.deeds t.before t.offset t.target t.last))
+      appending t.before (omega (arith, few, count_last told.ops t.before t.offset t.target t.last))
 
   -- without the failure of the sink, the length of the file is a 64-bit number
   torn_short : end_of told.next < 2 ^ 64
@@ -79,7 +80,7 @@ module _ {A : Type 0} (parent : Option ℕ) (told : WriteOutcome A) (e : TiffErr
       let done : told.next.bytes ≡ put file t.offset whole =
       p.done.bytes ∙ ap (bytes_after old.kind old.bytes) t.last
       ∙ bytes_joined old.kind old.bytes t.before (Linked t.offset t.target ∷ [])
-      ∙ ap (λ xs. put xs t.offset whole) (deeds_append old.kind old.bytes t.before torn_before) in
+      ∙ ap (λ xs. put xs t.offset whole) (ops_append old.kind old.bytes t.before torn_before) in
       let one : length told.next.bytes ≡ length file =
       ap (λ xs. length xs) done ∙ length_put file t.offset whole (omega (arith, room, many)) in
       let other : length new.bytes ≡ length file =
@@ -87,15 +88,15 @@ module _ {A : Type 0} (parent : Option ℕ) (told : WriteOutcome A) (e : TiffErr
       ∙ length_put file t.offset (take t.count whole) (omega (arith, room, many, length-take t.count whole)) in
       omega (arith, short, one, other)
 
-  torn_fits : (r : Result A TiffError) → told.answer ≡ r → DeedsFit old.kind old.bytes m told.deeds
+  torn_fits : (r : Result A TiffError) → told.answer ≡ r → OpsFit old.kind old.bytes m told.ops
   torn_fits (Ok x) h = (f x h torn_short).0
   torn_fits (Err g) h = absurd (ends_torn t.before t.offset t.target (subst (λ ds. AreAppending ds) t.last (p.refused g h)))
 
   pub patched_torn : LeavesTorn told e old new m
   patched_torn =
-      let fit : DeedsFit old.kind old.bytes m (t.before ++ Linked t.offset t.target ∷ []) =
-      subst (λ ds. DeedsFit old.kind old.bytes m ds) t.last (torn_fits told.answer refl) in
-      let x = deeds_torn old.kind old.bytes m t.before t.offset t.target t.count torn_before s fit in
+      let fit : OpsFit old.kind old.bytes m (t.before ++ Linked t.offset t.target ∷ []) =
+      subst (λ ds. OpsFit old.kind old.bytes m ds) t.last (torn_fits told.answer refl) in
+      let x = ops_torn old.kind old.bytes m t.before t.offset t.target t.count torn_before s fit in
       record {
         torn = t;
         holds = x.0;
@@ -105,19 +106,19 @@ module _ {A : Type 0} (parent : Option ℕ) (told : WriteOutcome A) (e : TiffErr
 
 -- after a call succeeds, the model with its changes describes the file
 pub patched_stands : {A : Type 0} (parent : Option ℕ) (told : WriteOutcome A) (x : A) (old new : FileState) (m : Model) → Patches parent told old
-    → Fits told old m (λ _. Unit {0}) → IsShortFile new → Stands old.kind old.bytes m → IsTold told (Ok x) new
+    → Fits told old m (λ _. Unit {0}) → IsShortFile new → Stands old.kind old.bytes m → EndsAsDefined told (Ok x) new
     → Stands old.kind new.bytes (model_by old m told)
 patched_stands parent told x old new m p f short s t =
     let fit = f x t.answer (subst (λ file. end_of file < 2 ^ 64) t.state short) in
     subst (λ b. Stands old.kind b (model_by old m told)) (sym (ap (λ file. file.bytes) t.state ∙ p.done.bytes))
-    (deeds_stand old.kind old.bytes m told.deeds s fit.0)
+    (ops_stand old.kind old.bytes m told.ops s fit.0)
 
 -- ---- `write_data`
 
 -- the earlier model describes the file, or the sink fails at the parent's link
 abbrev pub Stopped : OpenImage → List ℕ → TiffError → FileState → FileState → Type 0
 Stopped i samples e old new =
-    StillStands old new ⊎ ((stored : List (List ℕ)) × IsTornOff (write_image_data i samples stored old).deeds e old new)
+    StillStands old new ⊎ ((stored : List (List ℕ)) × IsTornOff (write_image_data i samples stored old).ops e old new)
 
 -- if `write_data` stops within the chunks, the earlier model describes the file
 pub within_stands : (i : OpenImage) (parts : List (List ℕ)) (e : TiffError) (old new : FileState) → StopsWithin i parts e old new → StillStands old new
@@ -128,8 +129,8 @@ within_stands i parts e old new h =
     elim h.1.1 as (λ _. StillStands old new) [
       | inl t ↦ appended_stands told old new (adding_done told old a) a.appending t.state
       | inr x ↦ elim x [
-        | inl c ↦ λ m s. begun_leaves told.deeds c.count old new.bytes m (ap (λ f. f.bytes) c.state) s
-        | inr c ↦ λ m s. let d = c.1 in begun_leaves told.deeds d.count old new.bytes m (ap (λ f. f.bytes) d.state) s
+        | inl c ↦ λ m s. begun_leaves told.ops c.count old new.bytes m (ap (λ f. f.bytes) c.state) s
+        | inr c ↦ λ m s. let d = c.1 in begun_leaves told.ops d.count old new.bytes m (ap (λ f. f.bytes) d.state) s
       ]
     ]
 
@@ -154,7 +155,7 @@ data_stopped A i samples e old new h = stopped_by A (write_image_data_cause old 
 pub data_torn : (i : OpenImage) (samples : List ℕ) (stored : List (List ℕ)) (e : TiffError) (old new : FileState) (m : Model)
     → AreEntries i.directory.fields → IsShortFile new → Stands old.kind old.bytes m
     → ((offset : ℕ) → i.directory.parent ≡ Some offset → IsLink old.kind m offset)
-    → IsTornOff (write_image_data i samples stored old).deeds e old new → LeavesTorn (write_image_data i samples stored old) e old new m
+    → IsTornOff (write_image_data i samples stored old).ops e old new → LeavesTorn (write_image_data i samples stored old) e old new m
 data_torn i samples stored e old new m a short s p t =
     patched_torn i.directory.parent (write_image_data i samples stored old) e old new m
     (data_patches i samples stored old) (data_fits i samples stored old m a p) p short s t
@@ -165,7 +166,7 @@ pub record IsWritten (i : OpenImage) (samples : List ℕ) (old new : FileState) 
   pub are_stored : AreStored i (parts_left i samples) stored
   pub all : length stored ≡ length (parts_left i samples)
   pub offsets : Offsets
-  pub told : IsTold (write_image_data i samples stored old) (Ok offsets) new
+  pub told : EndsAsDefined (write_image_data i samples stored old) (Ok offsets) new
   pub uncaused : write_image_data_cause old i (length samples) ≡ None
 
 written_by : (A : Type 0) (cause : Option TiffError) (i : OpenImage) (samples : List ℕ) (x : A) (old new : FileState)
@@ -192,7 +193,7 @@ data_written A i samples x old new h = written_by A (write_image_data_cause old 
 pub data_stands : (i : OpenImage) (samples : List ℕ) (stored : List (List ℕ)) (offsets : Offsets) (old new : FileState) (m : Model)
     → AreEntries i.directory.fields → IsShortFile new → Stands old.kind old.bytes m
     → ((offset : ℕ) → i.directory.parent ≡ Some offset → IsLink old.kind m offset)
-    → IsTold (write_image_data i samples stored old) (Ok offsets) new
+    → EndsAsDefined (write_image_data i samples stored old) (Ok offsets) new
     → Stands old.kind new.bytes (model_by old m (write_image_data i samples stored old))
 data_stands i samples stored offsets old new m a short s p t =
     patched_stands i.directory.parent (write_image_data i samples stored old) offsets old new m

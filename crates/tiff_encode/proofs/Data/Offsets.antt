@@ -15,8 +15,8 @@ use Rattle.tiff_encode.specs.Causes.{image_samples}
 use Rattle.tiff_encode.specs.Chunks.{all_samples, image_page, is_tile, is_planar, is_in_order, is_left, chunk_rows, row_samples, chunk_samples, next_chunk_sample_count}
 use Rattle.tiff_encode.specs.Drawn.{IsDrawn}
 use Rattle.tiff_encode.specs.Machine.{OpenImage}
-use Rattle.tiff_encode.proofs.Drawing.{strip_rows}
-use Rattle.tiff_encode.proofs.Drawing.{one_part}
+use Rattle.tiff_encode.proofs.ImageState.{strip_rows}
+use Rattle.tiff_encode.proofs.ImageState.{one_part}
 
 -- ---- images whose chunks follow each other
 

@@ -3,7 +3,7 @@ use Rattle.std.proofs.Common.{◌≡◌, ℕ, ◌+◌, ◌^◌, ◌<◌, List, [
 use Rattle.std.proofs.lemmas.List.{length-append}
 use Rattle.tiff_page.specs.Rect.{rect}
 use Rattle.tiff_encode.specs.Model.{Model}
-use Rattle.tiff_encode.specs.Machine.{FileState, Chunk, OpenImage, Writing}
+use Rattle.tiff_encode.specs.Machine.{FileState, Chunk, OpenImage, WriteCall}
 use Rattle.tiff_encode.specs.Chunks.{image_page, chunk_samples}
 use Rattle.tiff_encode.specs.Causes.{end_of, write_chunk_cause}
 use Rattle.tiff_encode.specs.Calls.{with_chunk, appends_chunk, write_chunk, write_chunks}
@@ -13,7 +13,8 @@ use Rattle.tiff_encode.proofs.Slices.{ok_inj}
 use Rattle.tiff_encode.proofs.Open.Chunks.{chunk_keeps_open}
 use Rattle.tiff_encode.proofs.Joining.{adding}
 use Rattle.tiff_encode.proofs.Image.FitsCalls.{done_longer}
-use Rattle.tiff_encode.proofs.Data.Calls.{bind_answered, cause_answered, adding_done, behind_model}
+use Rattle.tiff_encode.proofs.Data.Calls.{bind_answered, cause_answered, behind_model}
+use Rattle.tiff_encode.proofs.Image.FitsCalls.{adding_done}
 use Rattle.tiff_encode.proofs.Data.Chunks.{chunk_adds, chunk_is, chunks_done}
 use Rattle.tiff_encode.proofs.Data.Parts.{AreReady}
 
@@ -61,7 +62,7 @@ chunks_last i [] stored last file l h =
     record { same = subst (λ j. j ≡ rechunked i j.chunks) e refl; count = omega (arith, no) }
 chunks_last i (part ∷ parts) [] last file l h = absurd (omega (arith, l))
 chunks_last i (part ∷ parts) (bytes ∷ stored) last file l h =
-    let call : Writing OpenImage = write_chunk i (length part) bytes in
+    let call : WriteCall OpenImage = write_chunk i (length part) bytes in
     let a = bind_answered call (λ next. write_chunks next parts stored) file last h in
     let rest = chunks_last a.0 parts stored last (call file).next (omega (arith, l)) (ap (λ told. told.answer) (sym a.1.1) ∙ h) in
     let first : with_chunk i (end_of file) (length bytes) ≡ a.0 = chunk_is i a.0 (length part) bytes file a.1.0 in
@@ -82,7 +83,7 @@ chunks_held i last [] stored file m before l s r h short a =
     subst (λ xs. HoldsOpen file.kind m last xs) (sym (append-nil before)) (subst (λ j. HoldsOpen file.kind m j before) (ok_inj i last a) h)
 chunks_held i last (part ∷ parts) [] file m before l s r h short a = absurd (omega (arith, l))
 chunks_held i last (part ∷ parts) (bytes ∷ stored) file m before l s r h short a =
-    let call : Writing OpenImage = write_chunk i (length part) bytes in
+    let call : WriteCall OpenImage = write_chunk i (length part) bytes in
     let mid : FileState = (call file).next in
     let n : Model = model_by file m (call file) in
     let adds = adding (call file) file (chunk_adds i (length part) bytes file) in

@@ -5,7 +5,7 @@ use Rattle.tiff_base.specs.declared.tags.FileKind.{FileKind}
 use Rattle.tiff_base.specs.Field.{AreEntries}
 use Rattle.tiff_page.specs.Counts.{all_chunks}
 use Rattle.tiff_encode.specs.Model.{Model, IsLink, Stands}
-use Rattle.tiff_encode.specs.Machine.{FileState, Chunk, OpenImage, WriteOutcome, Writing, after_deeds, by_cause, ◌>>=◌}
+use Rattle.tiff_encode.specs.Machine.{FileState, Chunk, OpenImage, WriteOutcome, WriteCall, after_ops, by_cause, ◌>>=◌}
 use Rattle.tiff_encode.specs.Chunks.{image_page, is_left, parts_left, sample_in}
 use Rattle.tiff_encode.specs.Causes.{end_of, write_image_data_cause}
 use Rattle.tiff_encode.specs.Calls.{Offsets, finish_image, write_image_data}
@@ -42,7 +42,7 @@ module _ (i : OpenImage) (samples : List ℕ) (old new : FileState) (w : IsWritt
   abbrev told : WriteOutcome Offsets
   told = write_image_data i samples w.stored old
 
-  abbrev chunks : Writing OpenImage
+  abbrev chunks : WriteCall OpenImage
   chunks = data_chunks i samples w.stored old
 
   abbrev mid : FileState
@@ -53,7 +53,7 @@ module _ (i : OpenImage) (samples : List ℕ) (old new : FileState) (w : IsWritt
   data_is h = ap (λ c. by_cause c (chunks >>= finish_image) old) h
 
   -- `write_data` writes the chunks and ends the image
-  pub data_ended : (last : OpenImage) × (((chunks old).answer ≡ Ok last) × (told ≡ after_deeds (chunks old).deeds (finish_image last mid)))
+  pub data_ended : (last : OpenImage) × (((chunks old).answer ≡ Ok last) × (told ≡ after_ops (chunks old).ops (finish_image last mid)))
   data_ended =
       let is = data_is w.uncaused in
       let a = bind_answered chunks finish_image old w.offsets (ap (λ t. t.answer) (sym is) ∙ w.told.answer) in

@@ -6,11 +6,11 @@ use Rattle.tiff_base.specs.declared.error.TiffError.TheVariants.{UsageError}
 use Rattle.tiff_base.specs.declared.error.UsageError.TheVariants.{InvalidChunkType, WriterFailed}
 use Rattle.tiff_base.specs.Field.{AreEntries}
 use Rattle.tiff_encode.specs.Model.{Model, Stands}
-use Rattle.tiff_encode.specs.Machine.{FileState, OpenImage, WriteOutcome, Writing, by_cause, gives}
+use Rattle.tiff_encode.specs.Machine.{FileState, OpenImage, WriteOutcome, WriteCall, by_cause, gives}
 use Rattle.tiff_encode.specs.Chunks.{is_tile}
 use Rattle.tiff_encode.specs.Causes.{unless_failed, end_of, chunk_cause, write_chunk_cause, write_strip_cause}
 use Rattle.tiff_encode.specs.Calls.{appends, appends_chunk, with_chunk, write_chunk, write_strip}
-use Rattle.tiff_encode.specs.Ends.{IsTold, IsCutOff, CallFails}
+use Rattle.tiff_encode.specs.Ends.{EndsAsDefined, IsCutOff, CallFails}
 use Rattle.tiff_encode.specs.CallLaws.{CallFits}
 use Rattle.tiff_encode.specs.ImageData.{LeavesChunk}
 use Rattle.tiff_encode.specs.Storing.{WritesStoredChunk}
@@ -22,11 +22,11 @@ use Rattle.tiff_encode.proofs.Keeping.{left_so}
 -- ---- a strip is written as a chunk
 
 -- one call in place of another that has the same outcome
-module _ {A : Type 0} (call other : OpenImage → ℕ → List ℕ → Writing OpenImage) (i : OpenImage) (samples : List ℕ) (old new : FileState) (next : OpenImage)
+module _ {A : Type 0} (call other : OpenImage → ℕ → List ℕ → WriteCall OpenImage) (i : OpenImage) (samples : List ℕ) (old new : FileState) (next : OpenImage)
     (same : (stored : List ℕ) → call i (length samples) stored old ≡ other i (length samples) stored old) where
   writes_alike : (cause : Option TiffError) (r : Result A TiffError) → WritesStoredChunk call cause i samples r old new next → WritesStoredChunk other cause i samples r old new next
   writes_alike (Some c) r h = h
-  writes_alike None (Ok x) h = (h.0, (h.1.0, subst (λ t. IsTold t (Ok next) new) (same h.0) h.1.1))
+  writes_alike None (Ok x) h = (h.0, (h.1.0, subst (λ t. EndsAsDefined t (Ok next) new) (same h.0) h.1.1))
   writes_alike None (Err e) h = (
     h.0,
     elim h.1 [
@@ -36,8 +36,8 @@ module _ {A : Type 0} (call other : OpenImage → ℕ → List ℕ → Writing O
         (
           s.1.0,
           elim s.1.1 [
-            | inl t ↦ inl (subst (λ t. IsTold t (Err e) new) (same s.0) t)
-            | inr c ↦ inr (subst (λ (t : WriteOutcome OpenImage). IsCutOff t.deeds e old new) (same s.0) c)
+            | inl t ↦ inl (subst (λ t. EndsAsDefined t (Err e) new) (same s.0) t)
+            | inr c ↦ inr (subst (λ (t : WriteOutcome OpenImage). IsCutOff t.ops e old new) (same s.0) c)
           ],
         ),
       )
@@ -93,7 +93,7 @@ unfolding write_strip
 strip_adding i count stored file =
     adding (write_strip i count stored file) file (appending_adds (write_strip_cause file i count (length stored)) i stored file)
 
-module _ (call : OpenImage → ℕ → List ℕ → Writing OpenImage) (i : OpenImage) (samples : List ℕ) (old new : FileState) (next : OpenImage) (m : Model)
+module _ (call : OpenImage → ℕ → List ℕ → WriteCall OpenImage) (i : OpenImage) (samples : List ℕ) (old new : FileState) (next : OpenImage) (m : Model)
     (adds : (stored : List ℕ) → IsAdding (call i (length samples) stored old) old)
     (fits : (stored : List ℕ) → CallFits (λ i. call i (length samples) stored))
     (entries : AreEntries i.directory.fields) (short : end_of new < 2 ^ 64) (s : Stands old.kind old.bytes m) where
@@ -103,7 +103,7 @@ module _ (call : OpenImage → ℕ → List ℕ → Writing OpenImage) (i : Open
   left_by (Some c) (Err e) h = subst (λ f. Stands old.kind f.bytes m) (sym h.1.1) s
   left_by None (Ok x) h =
       let stored : List ℕ = h.0 in
-      let t : IsTold (call i (length samples) stored old) (Ok next) new = h.1.1 in
+      let t : EndsAsDefined (call i (length samples) stored old) (Ok next) new = h.1.1 in
       let view : OpenImage → OpenImage = λ j. j in
       let r : Result OpenImage TiffError = Ok next in (
         stored,

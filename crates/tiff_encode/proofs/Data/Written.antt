@@ -14,10 +14,10 @@ use Rattle.tiff_value.specs.Packed.{IsStored}
 use Rattle.tiff_encode.specs.Calls.{Offsets, appends, with_chunk, appends_chunk, finish_image, write_chunk, write_chunks, write_image_data}
 use Rattle.tiff_encode.specs.Causes.{unless_ended, image_samples, is_past_chunks, write_chunk_cause, write_image_data_cause}
 use Rattle.tiff_encode.specs.Chunks.{image_page, row_samples, chunk_samples, is_begun, is_in_order, chunks_left, cut_out, part, parts_left}
-use Rattle.tiff_encode.specs.Deeds.{Deed, all_appended}
-use Rattle.tiff_encode.specs.Ends.{IsTold, IsCutOff, IsShortOfMemory, HasBegun, CallFails, Ends}
+use Rattle.tiff_encode.specs.WriteOps.{WriteOp, all_appended}
+use Rattle.tiff_encode.specs.Ends.{EndsAsDefined, IsCutOff, IsShortOfMemory, HasBegun, CallFails, Ends}
 use Rattle.tiff_encode.specs.ImageData.{StopsWithin, WritesChunks, WritesDataBy, WritesImageData}
-use Rattle.tiff_encode.specs.Machine.{FileState, Chunk, OpenImage, WriteOutcome, Writing, gives, answers, by_cause, and_then, ◌>>=◌}
+use Rattle.tiff_encode.specs.Machine.{FileState, Chunk, OpenImage, WriteOutcome, WriteCall, gives, answers, by_cause, and_then, ◌>>=◌}
 use Rattle.tiff_encode.specs.Parts.{next_part, WritesPart}
 use Rattle.tiff_encode.specs.FileWrites.{file_with_bytes}
 use Rattle.tiff_encode.specs.Stored.{AreStored, unpacked_chunk}
@@ -31,7 +31,7 @@ pub record HasWritten (i : OpenImage) (parts : List (List ℕ)) (k : ℕ) (old n
   pub stored : List (List ℕ)
   pub are : AreStored i parts stored
   pub count : length stored ≡ k
-  pub told : IsTold (write_chunks i parts stored old) (Ok next) new
+  pub told : EndsAsDefined (write_chunks i parts stored old) (Ok next) new
   pub same : next ≡ record i { chunks = next.chunks }
   pub chunks : length next.chunks ≡ length i.chunks + k
 
@@ -40,7 +40,7 @@ pub record HasWritten (i : OpenImage) (parts : List (List ℕ)) (k : ℕ) (old n
 pub chunk_adds : (i : OpenImage) (n : ℕ) (stored : List ℕ) (file : FileState) → Adds (write_chunk i n stored file) file
 unfolding write_chunk
 chunk_adds i n stored file =
-    let rest : ℕ → Writing OpenImage = λ offset. gives (with_chunk i offset (length stored)) in
+    let rest : ℕ → WriteCall OpenImage = λ offset. gives (with_chunk i offset (length stored)) in
     caused_adds (write_chunk_cause file i n (length stored)) (appends_chunk i stored) file
     (bind_adds (appends stored) rest file (appends_adds stored file)
     (λ offset _. answers_adding (Ok (with_chunk i offset (length stored))) (appends stored file).next))
@@ -49,7 +49,7 @@ pub chunks_adding : (i : OpenImage) (parts stored : List (List ℕ)) (file : Fil
 chunks_adding i [] stored file = answers_adding (Ok i) file
 chunks_adding i (p ∷ ps) [] file = answers_adding (Ok i) file
 chunks_adding i (p ∷ ps) (x ∷ xs) file =
-    let call : Writing OpenImage = write_chunk i (length p) x in
+    let call : WriteCall OpenImage = write_chunk i (length p) x in
     bind_adding call (λ next. write_chunks next ps xs) file (adding (call file) file (chunk_adds i (length p) x file))
     (λ next _. chunks_adding next ps xs (call file).next)
 
@@ -79,10 +79,10 @@ none_stored : (i : OpenImage) (parts : List (List ℕ)) (file : FileState) → w
 none_stored i [] file = refl
 none_stored i (p ∷ ps) file = refl
 
-ends_giving : {A : Type 0} (r : Result A TiffError) (deeds : List Deed) (next : FileState)
-    → and_then r deeds next (λ x. gives x) ≡ (let told : WriteOutcome A = record { answer = r; deeds = deeds; next = next } in told)
-ends_giving (Ok x) deeds next = ap (λ ds. record { answer = Ok x; deeds = ds; next = next }) (append-nil deeds)
-ends_giving (Err e) deeds next = refl
+ends_giving : {A : Type 0} (r : Result A TiffError) (ops : List WriteOp) (next : FileState)
+    → and_then r ops next (λ x. gives x) ≡ (let told : WriteOutcome A = record { answer = r; ops = ops; next = next } in told)
+ends_giving (Ok x) ops next = ap (λ ds. record { answer = Ok x; ops = ds; next = next }) (append-nil ops)
+ends_giving (Err e) ops next = refl
 
 chunks_joined : (i : OpenImage) (parts stored : List (List ℕ)) (samples : List ℕ) (others : List (List ℕ)) (s : List ℕ) (file : FileState)
     → drop (length stored) parts ≡ samples ∷ others
@@ -91,16 +91,16 @@ chunks_joined i [] [] samples others s file h = absurd cc
 chunks_joined i (p ∷ ps) [] samples others s file h =
     let first : WriteOutcome OpenImage = write_chunk i (length p) s file in
     let same : p ≡ samples = ap (λ xs. get_or xs 0 []) h in
-    going_alike first.answer first.deeds first.next (λ next. write_chunks next ps []) (λ next. gives next) (λ next now. none_stored next ps now)
-    ∙ ends_giving first.answer first.deeds first.next
+    going_alike first.answer first.ops first.next (λ next. write_chunks next ps []) (λ next. gives next) (λ next now. none_stored next ps now)
+    ∙ ends_giving first.answer first.ops first.next
     ∙ ap (λ xs. write_chunk i (length xs) s file) same
 chunks_joined i [] (x ∷ xs) samples others s file h = absurd cc
 chunks_joined i (p ∷ ps) (x ∷ xs) samples others s file h =
     let first : WriteOutcome OpenImage = write_chunk i (length p) x file in
-    let rest : OpenImage → Writing OpenImage = λ next. write_chunk next (length samples) s in
-    going_alike first.answer first.deeds first.next (λ next. write_chunks next ps (xs ++ s ∷ [])) (λ next. write_chunks next ps xs >>= rest)
+    let rest : OpenImage → WriteCall OpenImage = λ next. write_chunk next (length samples) s in
+    going_alike first.answer first.ops first.next (λ next. write_chunks next ps (xs ++ s ∷ [])) (λ next. write_chunks next ps xs >>= rest)
     (λ next now. chunks_joined next ps xs samples others s now h)
-    ∙ going_further first.answer first.deeds first.next (λ next. write_chunks next ps xs) rest
+    ∙ going_further first.answer first.ops first.next (λ next. write_chunks next ps xs) rest
 
 stored_more : (i : OpenImage) (parts stored : List (List ℕ)) (samples : List ℕ) (others : List (List ℕ)) (s : List ℕ)
     → drop (length stored) parts ≡ samples ∷ others → AreStored i parts stored → IsStored i.method s (unpacked_chunk i samples)
@@ -114,34 +114,34 @@ stored_more i (p ∷ ps) (x ∷ xs) samples others s h a b = (a.0, stored_more i
 -- ---- where it stops
 
 -- If the first call succeeds and the sink fails in the second call, the sink fails in both.
-cut_after : {A B : Type 0} (rest : A → Writing B) (r : Result A TiffError) (deeds : List Deed) (next : FileState) (x : A) (e : TiffError)
-    (old mid new : FileState) → next ≡ file_with_bytes old (all_appended old.kind deeds) → r ≡ Ok x → mid ≡ next
-    → IsCutOff (rest x mid).deeds e mid new → IsCutOff (and_then r deeds next rest).deeds e old new
-cut_after {A} rest r deeds next x e old mid new n a m h =
-    let more : List Deed = (rest x next).deeds in
-    let at_next : IsCutOff more e mid new = subst (λ f. IsCutOff (rest x f).deeds e mid new) m h in
-    let c : IsCutOff more e (file_with_bytes old (all_appended old.kind deeds)) new = subst (λ f. IsCutOff more e f new) (m ∙ n) at_next in
-    let done : IsCutOff (deeds ++ more) e old new = record {
+cut_after : {A B : Type 0} (rest : A → WriteCall B) (r : Result A TiffError) (ops : List WriteOp) (next : FileState) (x : A) (e : TiffError)
+    (old mid new : FileState) → next ≡ file_with_bytes old (all_appended old.kind ops) → r ≡ Ok x → mid ≡ next
+    → IsCutOff (rest x mid).ops e mid new → IsCutOff (and_then r ops next rest).ops e old new
+cut_after {A} rest r ops next x e old mid new n a m h =
+    let more : List WriteOp = (rest x next).ops in
+    let at_next : IsCutOff more e mid new = subst (λ f. IsCutOff (rest x f).ops e mid new) m h in
+    let c : IsCutOff more e (file_with_bytes old (all_appended old.kind ops)) new = subst (λ f. IsCutOff more e f new) (m ∙ n) at_next in
+    let done : IsCutOff (ops ++ more) e old new = record {
       fresh = c.fresh;
       fault = c.fault;
       answer = c.answer;
-      count = length (all_appended old.kind deeds) + c.count;
-      within = (let w = c.within in let l = appended_len old.kind deeds more in omega (arith, w, l));
-      state = c.state ∙ ap (λ bytes. record old { bytes = bytes; failures = old.failures + 1; fault = Some c.fault }) (begun_both old.kind old.bytes deeds more c.count);
+      count = length (all_appended old.kind ops) + c.count;
+      within = (let w = c.within in let l = appended_len old.kind ops more in omega (arith, w, l));
+      state = c.state ∙ ap (λ bytes. record old { bytes = bytes; failures = old.failures + 1; fault = Some c.fault }) (begun_both old.kind old.bytes ops more c.count);
     } in
-    let P : Result A TiffError → Type 0 = λ q. IsCutOff (and_then q deeds next rest).deeds e old new in
+    let P : Result A TiffError → Type 0 = λ q. IsCutOff (and_then q ops next rest).ops e old new in
     subst P (sym a) done
 
 -- If the first call succeeds and no memory is available for the second call, both run out of
 -- memory.
-short_after : {A : Type 0} (told : WriteOutcome A) (x : A) (e : TiffError) (old new : FileState) → IsAdding told old → IsTold told (Ok x) new
+short_after : {A : Type 0} (told : WriteOutcome A) (x : A) (e : TiffError) (old new : FileState) → IsAdding told old → EndsAsDefined told (Ok x) new
     → old.fault ≡ None → e ≡ OutOfMemory → IsShortOfMemory told e old new
 short_after told x e old new a t f q =
-    let all : List ℕ = all_appended old.kind told.deeds in
+    let all : List ℕ = all_appended old.kind told.ops in
     record {
       fresh = f;
       fault = q;
-      begun = subst (λ r. HasBegun r told.deeds) (sym t.answer) tt;
+      begun = subst (λ r. HasBegun r told.ops) (sym t.answer) tt;
       count = length all;
       within = omega arith;
       state = t.state ∙ a.next ∙ ap (file_with_bytes old) (sym (take-length all));
@@ -182,7 +182,7 @@ module _ (i : OpenImage) (samples : List ℕ) where
     stored = [];
     are = tt;
     count = refl;
-    told = subst (λ told. IsTold told (Ok i) old) (sym (none_stored i parts old)) (record { answer = refl; state = refl });
+    told = subst (λ told. EndsAsDefined told (Ok i) old) (sym (none_stored i parts old)) (record { answer = refl; state = refl });
     same = refl;
     chunks = omega arith;
   }
@@ -207,18 +207,18 @@ module _ (i : OpenImage) (samples : List ℕ) where
         stored_more i parts h.stored this (drop (k + 1) parts) s follows h.are
         (subst (λ method. IsStored method s (unpacked_chunk i this)) (ap (λ x. x.method) h.same) bytes)
 
-    abbrev rest : List ℕ → OpenImage → Writing OpenImage
+    abbrev rest : List ℕ → OpenImage → WriteCall OpenImage
     rest s n = write_chunk n (length this) s
 
     joined : (s : List ℕ) → write_chunks i parts (h.stored ++ s ∷ []) old ≡ (write_chunks i parts h.stored >>= rest s) old
     joined s = chunks_joined i parts h.stored this (drop (k + 1) parts) s old follows
 
-    told_more : (s : List ℕ) (r : Result OpenImage TiffError) → IsTold (write_chunk now (length (next_part now samples k)) s mid) r new
-        → IsTold (write_chunks i parts (h.stored ++ s ∷ []) old) r new
+    told_more : (s : List ℕ) (r : Result OpenImage TiffError) → EndsAsDefined (write_chunk now (length (next_part now samples k)) s mid) r new
+        → EndsAsDefined (write_chunks i parts (h.stored ++ s ∷ []) old) r new
     told_more s r t =
-        subst (λ told. IsTold told r new) (sym (joined s))
+        subst (λ told. EndsAsDefined told r new) (sym (joined s))
         (bind_told (write_chunks i parts h.stored) (rest s) now r old mid new h.told
-        (subst (λ (xs : List ℕ). IsTold (write_chunk now (length xs) s mid) r new) same_part t))
+        (subst (λ (xs : List ℕ). EndsAsDefined (write_chunk now (length xs) s mid) r new) same_part t))
 
     -- one more chunk is written
     pub more_written : (let r : Result (Unit {0}) TiffError = Ok tt in WritesPart now (next_part now samples k) r mid new next) → HasWritten i parts (k + 1) old new next
@@ -245,7 +245,7 @@ module _ (i : OpenImage) (samples : List ℕ) where
     stops_written e f w = elim w as (λ _. StopsWithin i parts e old new) [
       | inl short ↦
           (let told : WriteOutcome OpenImage = write_chunks i parts h.stored old in
-          let here : IsTold told (Ok now) new = subst (λ file. IsTold told (Ok now) file) (sym short.1) h.told in
+          let here : EndsAsDefined told (Ok now) new = subst (λ file. EndsAsDefined told (Ok now) file) (sym short.1) h.told in
           let fewer : length h.stored < length parts = (let c = h.count in let n = parts_len in omega (arith, c, n, l)) in
           (h.stored, (h.are, inr (inr (fewer, short_after told now e old new (chunks_adding i parts h.stored old) here f short.0)))))
       | inr done ↦
@@ -254,10 +254,10 @@ module _ (i : OpenImage) (samples : List ℕ) where
             | inl t ↦ (h.stored ++ s ∷ [], (more_are s done.1.0, inl (told_more s (Err e) t)))
             | inr c ↦
                 (let told : WriteOutcome OpenImage = write_chunks i parts h.stored old in
-                let cut : IsCutOff (rest s now mid).deeds e mid new = subst (λ (xs : List ℕ). IsCutOff (write_chunk now (length xs) s mid).deeds e mid new) same_part c in
-                let both = cut_after (rest s) told.answer told.deeds told.next now e old mid new (chunks_adding i parts h.stored old).next h.told.answer h.told.state cut in (
+                let cut : IsCutOff (rest s now mid).ops e mid new = subst (λ (xs : List ℕ). IsCutOff (write_chunk now (length xs) s mid).ops e mid new) same_part c in
+                let both = cut_after (rest s) told.answer told.ops told.next now e old mid new (chunks_adding i parts h.stored old).next h.told.answer h.told.state cut in (
                   h.stored ++ s ∷ [],
-                  (more_are s done.1.0, inr (inl (subst (λ (told : WriteOutcome OpenImage). IsCutOff told.deeds e old new) (sym (joined s)) both))),
+                  (more_are s done.1.0, inr (inl (subst (λ (told : WriteOutcome OpenImage). IsCutOff told.ops e old new) (sym (joined s)) both))),
                 ))
           ])
     ]
@@ -309,11 +309,11 @@ module _ (i : OpenImage) (samples : List ℕ) (n : ℕ) (counted : n ≡ length 
       → Ends (λ d. d) (write_image_data i samples h.0 old) r old new
   unfolding write_image_data
   ends_whole r f =
-      let chunks : Writing OpenImage = write_chunks i (parts_left i samples) h.0 in
+      let chunks : WriteCall OpenImage = write_chunks i (parts_left i samples) h.0 in
       uncaused (λ d. d) (write_image_data_cause old i (length samples)) (chunks >>= (λ last. finish_image last)) r old new no_cause
       (bind_ends_adding (λ d. d) chunks (λ last. finish_image last) next r old mid new (chunks_adding i (parts_left i samples) h.0 old) h.1.1.1 f)
 
-  pub data_done : (offsets : Offsets) → IsTold (finish_image next mid) (Ok offsets) new
+  pub data_done : (offsets : Offsets) → EndsAsDefined (finish_image next mid) (Ok offsets) new
       → (let r : Result (Unit {0}) TiffError = Ok tt in WritesImageData i samples r old new)
   data_done offsets f =
       let r : Result (Unit {0}) TiffError = Ok tt in

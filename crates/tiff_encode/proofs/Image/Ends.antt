@@ -6,7 +6,7 @@ use Rattle.tiff_encode.specs.Model.{Model, IsLink, Stands}
 use Rattle.tiff_encode.specs.Machine.{FileState, OpenImage}
 use Rattle.tiff_encode.specs.Chunks.{is_left}
 use Rattle.tiff_encode.specs.Calls.{finish_image}
-use Rattle.tiff_encode.specs.Ends.{IsTold, EndsSilently}
+use Rattle.tiff_encode.specs.Ends.{EndsAsDefined, EndsSilently}
 use Rattle.tiff_encode.specs.ImageData.{IsShortFile, ShowsFinished}
 use Rattle.tiff_encode.specs.Leaves.{LeavesTorn, LeavesLinked}
 use Rattle.tiff_encode.specs.Open.{HoldsOpen, EndsShown, model_by}
@@ -37,7 +37,7 @@ module _ (i : OpenImage) (old new : FileState) (m : Model) (entries : AreEntries
       → HoldsOpen old.kind m i samples → is_left i ≡ false → ShowsFinished i samples r old new
   end_shown show samples (Err e) h held left = tt
   end_shown show samples (Ok x) h held left =
-      let t : IsTold (finish_image i old) (Ok h.0) new = h.1 in
+      let t : EndsAsDefined (finish_image i old) (Ok h.0) new = h.1 in
       let stood = patched_stands i.directory.parent (finish_image i old) h.0 old new m (image_patches i old) end_fits short s t in
       let P : FileState → Type 0 = λ f. Shows old.kind f.bytes h.0.pointer (image_with i samples) in (
         h.0,

@@ -22,20 +22,21 @@ use Rattle.tiff_value.specs.Data.{Scalars, u16s, u32s, planars, units, extras, r
 use Rattle.tiff_value.proofs.Data.{data_is_whole}
 use Rattle.tiff_encode.specs.FileBytes.{directory_bytes}
 use Rattle.tiff_encode.specs.Model.{Model, IsLink}
-use Rattle.tiff_encode.specs.Deeds.{Deed, Listed, bytes_after, model_after}
-use Rattle.tiff_encode.specs.Machine.{FileState, OpenDirectory, OpenImage, Writing, gives, does, by_cause, ◌>>=◌}
+use Rattle.tiff_encode.specs.WriteOps.{WriteOp, Listed, bytes_after, model_after}
+use Rattle.tiff_encode.specs.Machine.{FileState, OpenDirectory, OpenImage, WriteCall, gives, does, by_cause, ◌>>=◌}
 use Rattle.tiff_encode.specs.Chunks.{all_samples}
 use Rattle.tiff_encode.specs.Causes.{end_of, begin_cause, finish_cause, new_image_cause, extra_samples_cause, rows_per_strip_cause, tiles_cause, planar_cause, resolution_cause, one_resolution_cause, resolution_unit_cause, write_strip_cause, write_chunk_cause}
 use Rattle.tiff_encode.specs.Calls.{new_directory, pad, image_directory, without_field, appends, Offsets, offsets_of, links_to, chain_after, chains, finish, write_tag, write_tags, chroma_tags, strips_of, tiles_of, first_tags, image_in, with_directory_of, new_image, extra_samples, set_rows_per_strip, tiles, planar, with_tags, resolution_tags, resolution, x_resolution, y_resolution, resolution_unit, with_chunk, appends_chunk, write_strip, write_chunk, chunk_tags, last_tags, finish_image}
 use Rattle.tiff_encode.specs.CallLaws.{CallFits, NewImageFits, SettingsFit, ResolutionsFit, ChunksFit, FinishImageFits}
 use Rattle.tiff_encode.proofs.Slices.{ok_inj}
-use Rattle.tiff_encode.proofs.Deeds.{deeds_grow, link_kept}
+use Rattle.tiff_encode.proofs.WriteOps.{ops_grow, link_kept}
 use Rattle.tiff_encode.proofs.Ending.{length-listed}
-use Rattle.tiff_encode.proofs.Leaving.{ok_err, begin_plain, appends_plain, tag_plain, finish_plain, entries_fit}
+use Rattle.tiff_encode.proofs.Joining.{adding, appends_adds, begin_adds, tag_adds}
+use Rattle.tiff_encode.proofs.Leaving.{ok_err, finish_plain, entries_fit}
 use Rattle.tiff_encode.specs.Tagging.{fields_of}
 use Rattle.tiff_encode.proofs.Tagging.{tags_are_fields}
 use Rattle.tiff_encode.proofs.Image.FitsEntries.{no_entries, remove_entries, data_bytes}
-use Rattle.tiff_encode.proofs.Image.FitsCalls.{IsDone, plain_done, gives_done, bind_done, deeds_longer, done_longer, Fits, cause_fits, bind_fits, viewed_fits, IsData, AreData, Keeps, tag_fits, fields_done, fields_fit}
+use Rattle.tiff_encode.proofs.Image.FitsCalls.{IsDone, adding_done, plain_done, gives_done, bind_done, ops_longer, done_longer, Fits, cause_fits, bind_fits, viewed_fits, IsData, AreData, Keeps, tag_fits, fields_done, fields_fit}
 
 -- ---- several tags
 
@@ -91,10 +92,10 @@ module _ (d : OpenDirectory) (g : OpenDirectory → OpenImage) (kept : (x : Open
   one_fits : (m : Model) (t : Tag) (value : Scalars) → nat_lt (tag_number t) (2 ^ 16) ≡ true → AreEntries d.fields
       → Fits ((write_tag d t (Ok (data_of value)) >>= (λ x. gives (g x))) file) file m IsKept
   one_fits m t value s a =
-      let call : Writing OpenDirectory = write_tag d t (Ok (data_of value)) in
+      let call : WriteCall OpenDirectory = write_tag d t (Ok (data_of value)) in
       let n = ltb-true (tag_number t) (2 ^ 16) s in
       let given : IsData (t, data_of value) = record { tag = n; whole = data_is_whole value; bytes = data_bytes value } in
-      viewed_fits call g file m IsKept (plain_done 0 (call file) file (tag_plain d t (Ok (data_of value)) file))
+      viewed_fits call g file m IsKept (adding_done (call file) file (adding _ _ (tag_adds d t (Ok (data_of value)) file)))
       (λ x h l. let f = tag_fits d.parent d (t, data_of value) file m given (a, refl) x h l in (f.0, kept x f.1.0))
 
 -- ---- a new image
@@ -128,17 +129,17 @@ module _ (file : FileState) (m : Model) (color : ColorTypeRecord) (size width he
   abbrev image_of : OpenDirectory → OpenImage
   image_of d = image_in file d color size width height
 
-  abbrev tagged : OpenDirectory → Writing OpenImage
+  abbrev tagged : OpenDirectory → WriteCall OpenImage
   tagged d = write_tags d (first_tags (image_of d)) >>= (λ last. gives (image_of last))
 
   new_fits : Fits (new_image color size width height file) file m IsKept
   unfolding new_image
   new_fits =
       let next : FileState = (image_directory file).next in
-      let after : Model = model_after file.kind file.bytes m (image_directory file).deeds in
+      let after : Model = model_after file.kind file.bytes m (image_directory file).ops in
       cause_fits (new_image_cause file color width height) (image_directory >>= tagged) file m IsKept
       (λ c. bind_fits image_directory tagged file m (Keeps (Some file.chain)) IsKept
-      (plain_done 0 (image_directory file) file (begin_plain file)) (begin_fits file m)
+      (adding_done (image_directory file) file (adding _ _ (begin_adds file))) (begin_fits file m)
       (λ d _. made_done d image_of (λ x a. a) next (first_tags (image_of d)))
       (λ d _ k. made_fits d image_of (λ x a. a) next after (first_tags (image_of d)) (first_short (image_of d)) k.0))
 
@@ -209,7 +210,7 @@ chunk_fits : (cause : Option TiffError) (i : OpenImage) (stored : List ℕ) (fil
 chunk_fits cause i stored file m a =
     cause_fits cause (appends_chunk i stored) file m IsKept
     (λ c. viewed_fits (appends stored) (λ offset. with_chunk i offset (length stored)) file m IsKept
-    (plain_done 0 (appends stored file) file (appends_plain stored file)) (λ offset h l. ((tt, tt), a)))
+    (adding_done (appends stored file) file (adding _ _ (appends_adds stored file))) (λ offset h l. ((tt, tt), a)))
 
 pub chunks_fit : ChunksFit
 unfolding write_strip write_chunk
@@ -246,7 +247,7 @@ chain_end true offsets file = refl
 chain_end false offsets file = refl
 
 -- nothing refuses a call that succeeds
-answered : {A : Type 0} (cause : Option TiffError) (call : Writing A) (file : FileState) (x : A)
+answered : {A : Type 0} (cause : Option TiffError) (call : WriteCall A) (file : FileState) (x : A)
     → (by_cause cause call file).answer ≡ Ok x → end_of (by_cause cause call file).next < 2 ^ 64 → end_of (call file).next < 2 ^ 64
 answered None call file x h l = l
 answered (Some e) call file x h l = absurd (ok_err (sym h))
@@ -256,12 +257,12 @@ few_entries : (file : FileState) (d : OpenDirectory) (x : Offsets) → AreEntrie
 unfolding finish
 few_entries file d x a h l =
     let offsets : Offsets = offsets_of file.kind (end_of file) (len d.fields) in
-    let deeds : List Deed = Listed d.fields ∷ links_to d.parent (end_of file) in
-    let done : FileState = record file { bytes = bytes_after file.kind file.bytes deeds } in
+    let ops : List WriteOp = Listed d.fields ∷ links_to d.parent (end_of file) in
+    let done : FileState = record file { bytes = bytes_after file.kind file.bytes ops } in
     let listed : List ℕ = directory_bytes file.kind d.fields in
-    let short = answered (finish_cause file d) (does deeds >>= (λ _. chains d.chained offsets)) file x h l in
+    let short = answered (finish_cause file d) (does ops >>= (λ _. chains d.chained offsets)) file x h l in
     let end = chain_end d.chained offsets done in
-    let longer = deeds_longer file.kind (file.bytes ++ listed) (links_to d.parent (end_of file)) in
+    let longer = ops_longer file.kind (file.bytes ++ listed) (links_to d.parent (end_of file)) in
     let whole = length-listed file.kind (end_of file) d.fields a in
     let within = entries_within file.kind (end_of file) (len d.fields) in
     omega (arith, short, end, longer, whole, within, length-append file.bytes listed)
@@ -269,21 +270,21 @@ few_entries file d x a h l =
 ended_fits : (d : OpenDirectory) (file : FileState) (m : Model) → AreEntries d.fields
     → ((offset : ℕ) → d.parent ≡ Some offset → IsLink file.kind m offset) → Fits (finish d file) file m (λ _. Unit {0})
 ended_fits d file m a p x h l =
-    let longer = done_longer (finish d file) file (plain_done 1 (finish d file) file (finish_plain d file)) in
+    let longer = done_longer (finish d file) file (plain_done (finish d file) file (finish_plain d file)) in
     (entries_fit file m d a (few_entries file d x a h l) p (omega (arith, longer, l)), tt)
 
 pub finish_image_fits : FinishImageFits
 unfolding finish_image
 finish_image_fits file m i offsets a h l p =
-    let call : Writing OpenDirectory = write_tags i.directory (last_tags file.kind i) in
+    let call : WriteCall OpenDirectory = write_tags i.directory (last_tags file.kind i) in
     let next : FileState = (call file).next in
-    let after : Model = model_after file.kind file.bytes m (call file).deeds in
+    let after : Model = model_after file.kind file.bytes m (call file).ops in
     let done = tags_done i.directory (last_tags file.kind i) file in
     let link : (offset : ℕ) → i.directory.parent ≡ Some offset → IsLink next.kind after offset = λ offset e.
     subst (λ kind. IsLink kind after offset) (sym done.kind)
-    (link_kept file.kind m after offset (deeds_grow file.kind file.bytes m (call file).deeds) (p offset e)) in
+    (link_kept file.kind m after offset (ops_grow file.kind file.bytes m (call file).ops) (p offset e)) in
     let both = bind_fits call (λ d. finish d) file m (Keeps i.directory.parent) (λ _. Unit {0}) done
     (tags_fit i.directory (last_tags file.kind i) file i.directory.parent m (last_short file.kind i) (a, refl))
-    (λ d _. plain_done 1 (finish d next) next (finish_plain d next))
+    (λ d _. plain_done (finish d next) next (finish_plain d next))
     (λ d _ k. ended_fits d next after k.0 (λ offset e. link offset (sym k.1 ∙ e))) offsets h l in
     both.0

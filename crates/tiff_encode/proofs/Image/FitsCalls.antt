@@ -12,18 +12,19 @@ use Rattle.tiff_base.specs.Tags.{tag_number}
 use Rattle.tiff_base.specs.SourceAndSink.{put}
 use Rattle.tiff_value.specs.Data.{FieldData, IsWhole}
 use Rattle.tiff_encode.specs.FileBytes.{offset_len, directory_bytes}
-use Rattle.tiff_encode.specs.Model.{HandedField, Model}
-use Rattle.tiff_encode.specs.Deeds.{Deed, Appended, Handed, Listed, Linked, after_deed, bytes_after, model_after}
-use Rattle.tiff_encode.specs.Laws.{DeedsFit}
+use Rattle.tiff_encode.specs.Model.{SuppliedField, Model}
+use Rattle.tiff_encode.specs.WriteOps.{WriteOp, Appended, Supplied, Listed, Linked, after_op, bytes_after, model_after}
+use Rattle.tiff_encode.specs.Laws.{OpsFit}
 use Rattle.tiff_encode.specs.Value.{is_long, field_at}
-use Rattle.tiff_encode.specs.Machine.{FileState, OpenDirectory, WriteOutcome, Writing, answers, gives, by_cause, and_then, ◌>>=◌}
+use Rattle.tiff_encode.specs.Machine.{FileState, OpenDirectory, WriteOutcome, WriteCall, answers, gives, by_cause, and_then, ◌>>=◌}
 use Rattle.tiff_encode.specs.Causes.{end_of, field_cause, write_tag_cause}
 use Rattle.tiff_encode.specs.Calls.{with_field, placed_field, write_entry, write_tag}
 use Rattle.tiff_encode.specs.Tagging.{write_fields}
 use Rattle.tiff_encode.proofs.Slices.{ok_inj}
-use Rattle.tiff_encode.proofs.Deeds.{bytes_joined, fits_joined}
+use Rattle.tiff_encode.proofs.WriteOps.{bytes_joined, fits_joined, ops_append}
 use Rattle.tiff_encode.proofs.CallFits.{placed_fits}
-use Rattle.tiff_encode.proofs.Leaving.{IsPlain, ok_err, unended, entry_plain, tag_plain}
+use Rattle.tiff_encode.proofs.Joining.{IsAdding, adding, entry_adds, tag_adds}
+use Rattle.tiff_encode.proofs.Leaving.{IsPlain, ok_err, unended}
 use Rattle.tiff_encode.proofs.Image.FitsEntries.{insert_entries, AreBytes, field_entry}
 
 -- ---- what calls do to the bytes
@@ -31,30 +32,36 @@ use Rattle.tiff_encode.proofs.Image.FitsEntries.{insert_entries, AreBytes, field
 -- A call makes its changes to the bytes only.
 pub record IsDone {A : Type 0} (told : WriteOutcome A) (file : FileState) : Type 0 where
   pub kind : told.next.kind ≡ file.kind
-  pub bytes : told.next.bytes ≡ bytes_after file.kind file.bytes told.deeds
+  pub bytes : told.next.bytes ≡ bytes_after file.kind file.bytes told.ops
 
-pub plain_done : {A : Type 0} (most : ℕ) (told : WriteOutcome A) (file : FileState) → IsPlain most told file → IsDone told file
-plain_done most told file p = record { kind = p.kind; bytes = p.bytes }
+pub plain_done : {A : Type 0} (told : WriteOutcome A) (file : FileState) → IsPlain told file → IsDone told file
+plain_done told file p = record { kind = p.kind; bytes = p.bytes }
+
+pub adding_done : {A : Type 0} (told : WriteOutcome A) (file : FileState) → IsAdding told file → IsDone told file
+adding_done told file a = record {
+  kind = ap (λ f. f.kind) a.next;
+  bytes = ap (λ f. f.bytes) a.next ∙ sym (ops_append file.kind file.bytes told.ops a.appending);
+}
 
 pub gives_done : {A : Type 0} (x : A) (file : FileState) → IsDone (gives x file) file
 gives_done x file = record { kind = refl; bytes = refl }
 
-joined_done : {A B : Type 0} (r : Result A TiffError) (deeds : List Deed) (next : FileState) (rest : A → Writing B) (file : FileState)
-    → next.kind ≡ file.kind → next.bytes ≡ bytes_after file.kind file.bytes deeds
-    → ((x : A) → r ≡ Ok x → IsDone (rest x next) next) → IsDone (and_then r deeds next rest) file
-joined_done (Err e) deeds next rest file k b d = record { kind = k; bytes = b }
-joined_done (Ok x) deeds next rest file k b d =
+joined_done : {A B : Type 0} (r : Result A TiffError) (ops : List WriteOp) (next : FileState) (rest : A → WriteCall B) (file : FileState)
+    → next.kind ≡ file.kind → next.bytes ≡ bytes_after file.kind file.bytes ops
+    → ((x : A) → r ≡ Ok x → IsDone (rest x next) next) → IsDone (and_then r ops next rest) file
+joined_done (Err e) ops next rest file k b d = record { kind = k; bytes = b }
+joined_done (Ok x) ops next rest file k b d =
     let second = d x refl in
-    let more : List Deed = (rest x next).deeds in
+    let more : List WriteOp = (rest x next).ops in
     record {
       kind = second.kind ∙ k;
-      bytes = second.bytes ∙ (λ i. bytes_after (k i) (b i) more) ∙ sym (bytes_joined file.kind file.bytes deeds more);
+      bytes = second.bytes ∙ (λ i. bytes_after (k i) (b i) more) ∙ sym (bytes_joined file.kind file.bytes ops more);
     }
 
-pub bind_done : {A B : Type 0} (call : Writing A) (rest : A → Writing B) (file : FileState) → IsDone (call file) file
+pub bind_done : {A B : Type 0} (call : WriteCall A) (rest : A → WriteCall B) (file : FileState) → IsDone (call file) file
     → ((x : A) → (call file).answer ≡ Ok x → IsDone (rest x (call file).next) (call file).next) → IsDone ((call >>= rest) file) file
 bind_done call rest file a d =
-    joined_done (call file).answer (call file).deeds (call file).next rest file a.kind a.bytes d
+    joined_done (call file).answer (call file).ops (call file).next rest file a.kind a.bytes d
 
 -- bytes that are written over others never shorten the file
 pub put_longer : (bytes : List ℕ) (at : ℕ) (over : List ℕ) → length bytes ≤ length (put bytes at over)
@@ -69,23 +76,23 @@ put_longer bytes at over =
     )
 
 -- a change never shortens the file, nor do several changes
-deed_longer : (kind : FileKind) (bytes : List ℕ) (deed : Deed) → length bytes ≤ length (after_deed kind bytes deed)
-deed_longer kind bytes (Appended more) = omega (arith, length-append bytes more)
-deed_longer kind bytes (Handed handed) = omega arith
-deed_longer kind bytes (Listed fields) = omega (arith, length-append bytes (directory_bytes kind fields))
-deed_longer kind bytes (Linked offset target) = put_longer bytes offset (le (offset_len kind) target)
+op_longer : (kind : FileKind) (bytes : List ℕ) (op : WriteOp) → length bytes ≤ length (after_op kind bytes op)
+op_longer kind bytes (Appended more) = omega (arith, length-append bytes more)
+op_longer kind bytes (Supplied supplied) = omega arith
+op_longer kind bytes (Listed fields) = omega (arith, length-append bytes (directory_bytes kind fields))
+op_longer kind bytes (Linked offset target) = put_longer bytes offset (le (offset_len kind) target)
 
-pub deeds_longer : (kind : FileKind) (bytes : List ℕ) (deeds : List Deed) → length bytes ≤ length (bytes_after kind bytes deeds)
-deeds_longer kind bytes [] = omega arith
-deeds_longer kind bytes (deed ∷ deeds) =
-    let a = deed_longer kind bytes deed in
-    let b = deeds_longer kind (after_deed kind bytes deed) deeds in
+pub ops_longer : (kind : FileKind) (bytes : List ℕ) (ops : List WriteOp) → length bytes ≤ length (bytes_after kind bytes ops)
+ops_longer kind bytes [] = omega arith
+ops_longer kind bytes (op ∷ ops) =
+    let a = op_longer kind bytes op in
+    let b = ops_longer kind (after_op kind bytes op) ops in
     omega (arith, a, b)
 
 pub done_longer : {A : Type 0} (told : WriteOutcome A) (file : FileState) → IsDone told file → end_of file ≤ end_of told.next
 done_longer told file d =
-    let l = deeds_longer file.kind file.bytes told.deeds in
-    let e : end_of told.next ≡ length (bytes_after file.kind file.bytes told.deeds) = ap (λ b. length b) d.bytes in
+    let l = ops_longer file.kind file.bytes told.ops in
+    let e : end_of told.next ≡ length (bytes_after file.kind file.bytes told.ops) = ap (λ b. length b) d.bytes in
     omega (arith, l, e)
 
 -- ---- what fits
@@ -93,54 +100,54 @@ done_longer told file d =
 -- If a call succeeds and the file after it is not too long, the changes of the call fit and its
 -- result has the given property.
 abbrev pub Fits : {A : Type 0} → WriteOutcome A → FileState → Model → (A → Type 0) → Type 0
-Fits {A = A} told file m P = (x : A) → told.answer ≡ Ok x → end_of told.next < 2 ^ 64 → DeedsFit file.kind file.bytes m told.deeds × P x
+Fits {A = A} told file m P = (x : A) → told.answer ≡ Ok x → end_of told.next < 2 ^ 64 → OpsFit file.kind file.bytes m told.ops × P x
 
 -- a call that only returns a value
 pub gives_fits : {A : Type 0} (x : A) (file : FileState) (m : Model) (P : A → Type 0) → P x → Fits (gives x file) file m P
 gives_fits x file m P p y h l = (tt, subst P (ok_inj x y h) p)
 
 -- a call that its checks may refuse
-pub cause_fits : {A : Type 0} (cause : Option TiffError) (call : Writing A) (file : FileState) (m : Model) (P : A → Type 0)
+pub cause_fits : {A : Type 0} (cause : Option TiffError) (call : WriteCall A) (file : FileState) (m : Model) (P : A → Type 0)
     → (cause ≡ None → Fits (call file) file m P) → Fits (by_cause cause call file) file m P
 cause_fits None call file m P f y h l = f refl y h l
 cause_fits (Some e) call file m P f y h l = absurd (ok_err (sym h))
 
 -- the changes of two calls in sequence fit
-joined_fits : {A B : Type 0} (r : Result A TiffError) (deeds : List Deed) (next : FileState) (rest : A → Writing B)
+joined_fits : {A B : Type 0} (r : Result A TiffError) (ops : List WriteOp) (next : FileState) (rest : A → WriteCall B)
     (file : FileState) (m : Model) (P : A → Type 0) (Q : B → Type 0)
-    → next.kind ≡ file.kind → next.bytes ≡ bytes_after file.kind file.bytes deeds
-    → (let told : WriteOutcome A = record { answer = r; deeds = deeds; next = next } in Fits told file m P)
+    → next.kind ≡ file.kind → next.bytes ≡ bytes_after file.kind file.bytes ops
+    → (let told : WriteOutcome A = record { answer = r; ops = ops; next = next } in Fits told file m P)
     → ((x : A) → r ≡ Ok x → IsDone (rest x next) next)
-    → ((x : A) → r ≡ Ok x → P x → Fits (rest x next) next (model_after file.kind file.bytes m deeds) Q)
-    → Fits (and_then r deeds next rest) file m Q
-joined_fits (Err e) deeds next rest file m P Q k b f d s y h l = absurd (ok_err (sym h))
-joined_fits (Ok x) deeds next rest file m P Q k b f d s y h l =
+    → ((x : A) → r ≡ Ok x → P x → Fits (rest x next) next (model_after file.kind file.bytes m ops) Q)
+    → Fits (and_then r ops next rest) file m Q
+joined_fits (Err e) ops next rest file m P Q k b f d s y h l = absurd (ok_err (sym h))
+joined_fits (Ok x) ops next rest file m P Q k b f d s y h l =
     let longer = done_longer (rest x next) next (d x refl) in
     let first = f x refl (omega (arith, longer, l)) in
     let second = s x refl first.1 y h l in
-    let more : List Deed = (rest x next).deeds in
-    let after : Model = model_after file.kind file.bytes m deeds in
-    let same : DeedsFit file.kind next.bytes after more = subst (λ kind. DeedsFit kind next.bytes after more) k second.0 in
-    let moved : DeedsFit file.kind (bytes_after file.kind file.bytes deeds) after more =
-    subst (λ bytes. DeedsFit file.kind bytes after more) b same in
-    (fits_joined file.kind file.bytes m deeds more first.0 moved, second.1)
+    let more : List WriteOp = (rest x next).ops in
+    let after : Model = model_after file.kind file.bytes m ops in
+    let same : OpsFit file.kind next.bytes after more = subst (λ kind. OpsFit kind next.bytes after more) k second.0 in
+    let moved : OpsFit file.kind (bytes_after file.kind file.bytes ops) after more =
+    subst (λ bytes. OpsFit file.kind bytes after more) b same in
+    (fits_joined file.kind file.bytes m ops more first.0 moved, second.1)
 
-pub bind_fits : {A B : Type 0} (call : Writing A) (rest : A → Writing B) (file : FileState) (m : Model) (P : A → Type 0) (Q : B → Type 0)
+pub bind_fits : {A B : Type 0} (call : WriteCall A) (rest : A → WriteCall B) (file : FileState) (m : Model) (P : A → Type 0) (Q : B → Type 0)
     → IsDone (call file) file → Fits (call file) file m P
     → ((x : A) → (call file).answer ≡ Ok x → IsDone (rest x (call file).next) (call file).next)
     → ((x : A) → (call file).answer ≡ Ok x → P x
-    → Fits (rest x (call file).next) (call file).next (model_after file.kind file.bytes m (call file).deeds) Q)
+    → Fits (rest x (call file).next) (call file).next (model_after file.kind file.bytes m (call file).ops) Q)
     → Fits ((call >>= rest) file) file m Q
 bind_fits call rest file m P Q a f d s =
-    joined_fits (call file).answer (call file).deeds (call file).next rest file m P Q a.kind a.bytes f d s
+    joined_fits (call file).answer (call file).ops (call file).next rest file m P Q a.kind a.bytes f d s
 
 -- a call whose result is made of another call's result
-pub viewed_fits : {A B : Type 0} (call : Writing A) (g : A → B) (file : FileState) (m : Model) (Q : B → Type 0)
+pub viewed_fits : {A B : Type 0} (call : WriteCall A) (g : A → B) (file : FileState) (m : Model) (Q : B → Type 0)
     → IsDone (call file) file → Fits (call file) file m (λ x. Q (g x)) → Fits ((call >>= (λ x. gives (g x))) file) file m Q
 viewed_fits call g file m Q a f =
     bind_fits call (λ x. gives (g x)) file m (λ x. Q (g x)) Q a f
     (λ x _. gives_done (g x) (call file).next)
-    (λ x _ q. gives_fits (g x) (call file).next (model_after file.kind file.bytes m (call file).deeds) Q q)
+    (λ x _ q. gives_fits (g x) (call file).next (model_after file.kind file.bytes m (call file).ops) Q q)
 
 -- ---- fields
 
@@ -161,8 +168,8 @@ at_most_8 Classic = lit≤ tt
 at_most_8 Big = lit≤ tt
 
 -- a value is short, or the file has room for its offset
-room : (kind : FileKind) (long : Bool) (bytes xs : List ℕ) (h : HandedField) → (long ≡ false → length xs ≤ 8)
-    → length (bytes_after kind bytes (cond long (Appended xs ∷ Handed h ∷ []) (Handed h ∷ []))) < 2 ^ 64
+room : (kind : FileKind) (long : Bool) (bytes xs : List ℕ) (h : SuppliedField) → (long ≡ false → length xs ≤ 8)
+    → length (bytes_after kind bytes (cond long (Appended xs ∷ Supplied h ∷ []) (Supplied h ∷ []))) < 2 ^ 64
     → (length bytes < 2 ^ 64) × (length xs < 2 ^ 64)
 room kind true bytes xs h s l =
     let e = length-append bytes xs in
@@ -178,7 +185,7 @@ module _ (t : ℕ) (value : FieldData) (file : FileState) (m : Model) (n : t < 2
   placed_entry : field_cause file value ≡ None → Fits (placed_field value file) file m (λ f. IsEntry (t, f))
   placed_entry c f h l =
       let field : Field = field_at file.kind (end_of file) value in
-      let hand : HandedField = record { field = field; bytes = value.bytes } in
+      let hand : SuppliedField = record { field = field; bytes = value.bytes } in
       let eight = at_most_8 file.kind in
       let r = room file.kind (is_long file.kind value) file.bytes value.bytes hand
       (λ s. let below = ltb-false (offset_len file.kind) (length value.bytes) s in omega (arith, below, eight)) l in (
@@ -202,7 +209,7 @@ unfolding write_tag
 tag_fits parent d value file m g k =
     let t : ℕ = tag_number value.0 in
     viewed_fits (write_entry (Ok value.1)) (with_field d value.0) file m (Keeps parent)
-    (plain_done 0 (write_entry (Ok value.1) file) file (entry_plain (Ok value.1) file))
+    (adding_done (write_entry (Ok value.1) file) file (adding _ _ (entry_adds (Ok value.1) file)))
     (λ f h l.
     let e = entry_fits t value.1 file m g.tag g.whole g.bytes f h l in
     (e.0, (insert_entries d.fields t f e.1 k.0, k.1)))
@@ -210,18 +217,18 @@ tag_fits parent d value file m g k =
 pub fields_done : (d : OpenDirectory) (values : List (Tag × FieldData)) (file : FileState) → IsDone (write_fields d values file) file
 fields_done d [] file = gives_done d file
 fields_done d (value ∷ values) file =
-    let call : Writing OpenDirectory = write_tag d value.0 (Ok value.1) in
+    let call : WriteCall OpenDirectory = write_tag d value.0 (Ok value.1) in
     bind_done call (λ next. write_fields next values) file
-    (plain_done 0 (call file) file (tag_plain d value.0 (Ok value.1) file))
+    (adding_done (call file) file (adding _ _ (tag_adds d value.0 (Ok value.1) file)))
     (λ next _. fields_done next values (call file).next)
 
 pub fields_fit : (parent : Option ℕ) (d : OpenDirectory) (values : List (Tag × FieldData)) (file : FileState) (m : Model)
     → AreData values → Keeps parent d → Fits (write_fields d values file) file m (Keeps parent)
 fields_fit parent d [] file m g k = gives_fits d file m (Keeps parent) k
 fields_fit parent d (value ∷ values) file m g k =
-    let call : Writing OpenDirectory = write_tag d value.0 (Ok value.1) in
+    let call : WriteCall OpenDirectory = write_tag d value.0 (Ok value.1) in
     bind_fits call (λ next. write_fields next values) file m (Keeps parent) (Keeps parent)
-    (plain_done 0 (call file) file (tag_plain d value.0 (Ok value.1) file))
+    (adding_done (call file) file (adding _ _ (tag_adds d value.0 (Ok value.1) file)))
     (tag_fits parent d value file m g.0 k)
     (λ next _. fields_done next values (call file).next)
-    (λ next _ kept. fields_fit parent next values (call file).next (model_after file.kind file.bytes m (call file).deeds) g.1 kept)
+    (λ next _ kept. fields_fit parent next values (call file).next (model_after file.kind file.bytes m (call file).ops) g.1 kept)

@@ -3,8 +3,8 @@ use Rattle.std.proofs.Common.{◌≡◌, ℕ, ◌^◌, ◌<◌, None, Result, Ok
 use Rattle.tiff_base.specs.declared.error.TiffError.{TiffError}
 use Rattle.tiff_value.specs.ColorType.{ColorTypeRecord}
 use Rattle.tiff_encode.specs.Model.{Model, Stands}
-use Rattle.tiff_encode.specs.Laws.{DeedsFit}
-use Rattle.tiff_encode.specs.Machine.{FileState, OpenDirectory, OpenImage, Writing, gives, ◌>>=◌}
+use Rattle.tiff_encode.specs.Laws.{OpsFit}
+use Rattle.tiff_encode.specs.Machine.{FileState, OpenDirectory, OpenImage, WriteCall, gives, ◌>>=◌}
 use Rattle.tiff_encode.specs.Causes.{end_of, new_image_cause}
 use Rattle.tiff_encode.specs.Calls.{image_directory, write_tags, first_tags, image_in, new_image}
 use Rattle.tiff_encode.specs.Ends.{CallFails, Ends}
@@ -21,7 +21,7 @@ module _ (color : ColorTypeRecord) (size width height : ℕ) where
   unfolding new_image
   new_adds file =
       let image_of : OpenDirectory → OpenImage = λ d. image_in file d color size width height in
-      let tagged : OpenDirectory → Writing OpenImage = λ d. write_tags d (first_tags (image_of d)) >>= (λ last. gives (image_of last)) in
+      let tagged : OpenDirectory → WriteCall OpenImage = λ d. write_tags d (first_tags (image_of d)) >>= (λ last. gives (image_of last)) in
       caused_adds (new_image_cause file color width height) (image_directory >>= tagged) file
       (bind_adds image_directory tagged file (begin_adds file)
       (λ d _. let next : FileState = (image_directory file).next in
@@ -36,7 +36,7 @@ module _ (color : ColorTypeRecord) (size width height : ℕ) where
   -- the changes of `new_image` fit if the call succeeds
   new_left_fits : {X : Type 0} (view : X → OpenImage) (r : Result X TiffError) (old new : FileState) (m : Model)
       → (new.fault ≡ None → end_of new < 2 ^ 64) → Ends view (new_image color size width height old) r old new
-      → (x : X) → r ≡ Ok x → DeedsFit old.kind old.bytes m (new_image color size width height old).deeds
+      → (x : X) → r ≡ Ok x → OpsFit old.kind old.bytes m (new_image color size width height old).ops
   new_left_fits view (Ok y) old new m short e x h =
       let told = new_image color size width height old in
       let free : new.fault ≡ None =

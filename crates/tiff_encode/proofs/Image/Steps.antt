@@ -10,14 +10,14 @@ use Rattle.tiff_base.specs.declared.tags.Tag.TheVariants as tag
 use Rattle.tiff_value.specs.Data.{Scalars, u32s, planars, units, extras, rationals}
 use Rattle.tiff_encode.specs.declared.encoder.script.StepReply.{StepReply}
 use Rattle.tiff_encode.specs.Model.{Model, Stands, Grows}
-use Rattle.tiff_encode.specs.Machine.{FileState, OpenDirectory, OpenImage, Writing, gives, by_cause, ◌>>=◌}
+use Rattle.tiff_encode.specs.Machine.{FileState, OpenDirectory, OpenImage, WriteCall, gives, by_cause, ◌>>=◌}
 use Rattle.tiff_encode.specs.Causes.{extra_samples_cause, rows_per_strip_cause, tiles_cause, planar_cause, resolution_cause, one_resolution_cause, resolution_unit_cause}
 use Rattle.tiff_encode.specs.Calls.{write_tags, without_field, strips_of, tiles_of, with_directory_of, with_tags, extra_samples, set_rows_per_strip, tiles, planar, resolution, x_resolution, y_resolution, resolution_unit}
 use Rattle.tiff_encode.specs.Ends.{Ends}
 use Rattle.tiff_encode.specs.Leaves.{Leaves}
 use Rattle.tiff_encode.specs.Open.{HoldsOpen, KeepsOpen}
 use Rattle.tiff_encode.specs.Jobs as jobs
-use Rattle.tiff_encode.specs.Jobs.{Standing, Drawn}
+use Rattle.tiff_encode.specs.Jobs.{FileAndModel, Drawn}
 use Rattle.tiff_encode.specs.Stepping.{DrawMoves}
 use Rattle.tiff_encode.specs.ImageStepping.{reply_to}
 use Rattle.tiff_encode.proofs.Joining.{IsAdding, Adds, adding, answers_adding, caused_adds, bind_adds}
@@ -29,18 +29,18 @@ use Rattle.tiff_encode.proofs.Settings.{one_tag, one_adds, several_adds, side_ta
 
 -- ---- a call that returns an open image
 
--- what such a call does from each `Standing` of its file
-abbrev pub CallDraws : (OpenImage → Writing OpenImage) → OpenImage → Result StepReply TiffError → FileState → FileState → OpenImage → Type 0
+-- what such a call does from each `FileAndModel` of its file
+abbrev pub CallDraws : (OpenImage → WriteCall OpenImage) → OpenImage → Result StepReply TiffError → FileState → FileState → OpenImage → Type 0
 CallDraws call i r = DrawMoves i (λ s before t after. jobs.DrawStep call before r s t after) true
 
 -- the call succeeds, or it fails and the image stays the same
-changed : (call : OpenImage → Writing OpenImage) (i j : OpenImage) (r : Result (Unit {0}) TiffError) (s t : Standing)
+changed : (call : OpenImage → WriteCall OpenImage) (i j : OpenImage) (r : Result (Unit {0}) TiffError) (s t : FileAndModel)
     → OnErr r (j ≡ i) → Seen (λ _. j) (call i s.file) r s t → jobs.Changes (call i) i (reply_to r) s t j
 changed call i j (Ok x) s t o e = e
 changed call i j (Err f) s t o e = (o, e)
 
 -- the image stays held after the call
-kept_changed : (call : OpenImage → Writing OpenImage) (i j : OpenImage) (r : Result (Unit {0}) TiffError) (s t : Standing) (samples : List (List ℕ))
+kept_changed : (call : OpenImage → WriteCall OpenImage) (i j : OpenImage) (r : Result (Unit {0}) TiffError) (s t : FileAndModel) (samples : List (List ℕ))
     → KeepsOpen call → OnErr r (j ≡ i) → Grows s.model t.model → Seen (λ _. j) (call i s.file) r s t
     → HoldsOpen s.file.kind s.model i samples → HoldsOpen s.file.kind t.model j samples
 kept_changed call i j (Ok x) s t samples k o g e h =
@@ -48,21 +48,21 @@ kept_changed call i j (Ok x) s t samples k o g e h =
 kept_changed call i j (Err f) s t samples k o g e h =
     subst (λ n. HoldsOpen s.file.kind t.model n samples) (sym o) (grown_open s.file.kind s.model t.model i samples h g)
 
-pub call_draws : (call : OpenImage → Writing OpenImage) (i j : OpenImage) (r : Result (Unit {0}) TiffError) (old new : FileState)
+pub call_draws : (call : OpenImage → WriteCall OpenImage) (i j : OpenImage) (r : Result (Unit {0}) TiffError) (old new : FileState)
     → IsAdding (call i old) old → KeepsOpen call → OnErr r (j ≡ i) → Ends (λ _. j) (call i old) r old new
     → ((m : Model) → Stands old.kind old.bytes m → Leaves (call i old) r old new m) → CallDraws call i (reply_to r) old new j
 call_draws call i j r old new a k o e l known s before q f =
     let led = moves_so (λ _. j) (call i) r old new a e l known s q f in
-    let t : Standing = led.0 in
+    let t : FileAndModel = led.0 in
     let seen : Seen (λ _. j) (call i s.file) r s t = led.1.1.0 in
     let grows : Grows s.model t.model = led.1.1.1.1 in
     (t, (before, (led.1.0, ((refl, changed call i j r s t o seen), (led.1.1.1.0, (grows, λ _ h. kept_changed call i j r s t before k o grows seen h))))))
 
 -- a call that writes tags, unless its checks refuse it, only appends
-set_adding : (cause : Option TiffError) (call : Writing OpenDirectory) (g : OpenDirectory → OpenImage) (file : FileState) → Adds (call file) file
+set_adding : (cause : Option TiffError) (call : WriteCall OpenDirectory) (g : OpenDirectory → OpenImage) (file : FileState) → Adds (call file) file
     → IsAdding (by_cause cause (call >>= (λ x. gives (g x))) file) file
 set_adding cause call g file a =
-    let set : Writing OpenImage = call >>= (λ x. gives (g x)) in
+    let set : WriteCall OpenImage = call >>= (λ x. gives (g x)) in
     adding (by_cause cause set file) file
     (caused_adds cause set file (bind_adds call (λ x. gives (g x)) file a (λ x _. answers_adding (Ok (g x)) (call file).next)))
 
@@ -119,7 +119,7 @@ module _ (i : OpenImage) (file : FileState) where
 
 module _ (i j : OpenImage) (r : Result (Unit {0}) TiffError) (old new : FileState) (o : OnErr r (j ≡ i)) where
   -- a call ends as specified and leaves a file that the model describes
-  abbrev IsCalled : (OpenImage → Writing OpenImage) → Type 0
+  abbrev IsCalled : (OpenImage → WriteCall OpenImage) → Type 0
   IsCalled call = Ends (λ _. j) (call i old) r old new × ((m : Model) → Stands old.kind old.bytes m → Leaves (call i old) r old new m)
 
   pub extra_draws : (extra : List ExtraSamples) → IsCalled (λ i. extra_samples i extra) → CallDraws (λ i. extra_samples i extra) i (reply_to r) old new j
@@ -149,7 +149,7 @@ module _ (i j : OpenImage) (r : Result (Unit {0}) TiffError) (old new : FileStat
 -- ---- counts
 
 -- a call that only returns a value keeps the image and the file
-pub asked : (i : OpenImage) (Said : Standing → Drawn → Standing → Drawn → Type 0) (apart : Bool) (file : FileState)
-    → ((s : Standing) (before : List (List ℕ)) → Said s (record { image = i; samples = before }) s (record { image = i; samples = before }))
+pub asked : (i : OpenImage) (Said : FileAndModel → Drawn → FileAndModel → Drawn → Type 0) (apart : Bool) (file : FileState)
+    → ((s : FileAndModel) (before : List (List ℕ)) → Said s (record { image = i; samples = before }) s (record { image = i; samples = before }))
     → DrawMoves i Said apart file file i
 asked i Said apart file said known s before q f = (s, (before, (q, (said s before, (f, (grows_here s.model, λ _ h. h))))))

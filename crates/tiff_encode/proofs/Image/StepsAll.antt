@@ -7,7 +7,7 @@ use Rattle.tiff_encode.specs.declared.encoder.script.ImageStep.{ImageStep}
 use Rattle.tiff_encode.specs.declared.encoder.script.StepReply.{StepReply}
 use Rattle.tiff_encode.specs.Machine.{FileState, OpenImage}
 use Rattle.tiff_encode.specs.Open.{HoldsOpen}
-use Rattle.tiff_encode.specs.Jobs.{Standing, Drawn, ImageStepped, AllStepped, is_apart, are_apart}
+use Rattle.tiff_encode.specs.Jobs.{FileAndModel, Drawn, ImageStepped, AllStepped, is_apart, are_apart}
 use Rattle.tiff_encode.specs.Stepping.{StepDraws, StepsDraw}
 use Rattle.tiff_encode.proofs.Image.Steps.{asked}
 use Rattle.tiff_encode.proofs.Moving.{grows_on}
@@ -19,7 +19,7 @@ both false b h = absurd cc
 
 -- if all steps pass `are_apart`, so do the steps before the last one, and the last passes
 -- `is_apart`
-apart_more : (old new : Standing) (s t : Drawn) (steps : List ImageStep) (step : ImageStep) (rs : List (Result StepReply TiffError)) (r : Result StepReply TiffError)
+apart_more : (old new : FileAndModel) (s t : Drawn) (steps : List ImageStep) (step : ImageStep) (rs : List (Result StepReply TiffError)) (r : Result StepReply TiffError)
     → AllStepped ImageStepped old s steps rs new t → are_apart (steps ++ step ∷ []) (rs ++ r ∷ []) ≡ true
     → (are_apart steps rs ≡ true) × (is_apart step r ≡ true)
 apart_more old new s t [] step [] r h a = (refl, (both (is_apart step r) true a).0)
@@ -42,9 +42,9 @@ pub next_drawn : (i j k : OpenImage) (old mid new : FileState) (steps : List Ima
     → StepsDraw i (take n steps) rs old mid j → StepDraws j step r mid new k → StepsDraw i (take (n + 1) steps) (rs ++ r ∷ []) old new k
 next_drawn i j k old mid new steps step n rs r same l v f g known s before q p =
     let x = f known s before q p in
-    let m : Standing = x.0 in
+    let m : FileAndModel = x.0 in
     let y = g known m x.1.0 x.1.1.0 x.1.1.1.1.0 in
-    let t : Standing = y.0 in
+    let t : FileAndModel = y.0 in
     let first : Drawn = record { image = i; samples = before } in
     let next : Drawn = record { image = j; samples = x.1.0 } in
     let last : Drawn = record { image = k; samples = y.1.0 } in

@@ -1,4 +1,4 @@
--- What a step of an image's directory does from a `Standing` of its file.
+-- What a step of an image's directory does from a `FileAndModel` of its file.
 use Rattle.std.proofs.Common.{◌≡◌, ℕ, Bool, true, false, List, [], ◌∷◌, take, Result, Ok, Err, refl, ap, sym, ◌∙◌, subst, zero, suc}
 use Rattle.std.specs.Prelude.{not, ◌||◌}
 use Rattle.std.specs.FinMap.{entries}
@@ -12,13 +12,13 @@ use Rattle.tiff_encode.specs.declared.encoder.script.ImageStep.TheVariants as is
 use Rattle.tiff_encode.specs.declared.encoder.script.StepReply.{StepReply}
 use Rattle.tiff_encode.specs.declared.encoder.script.StepReply.TheVariants as reply
 use Rattle.tiff_encode.specs.Model.{Grows}
-use Rattle.tiff_encode.specs.Machine.{FileState, OpenDirectory, OpenImage, Writing}
+use Rattle.tiff_encode.specs.Machine.{FileState, OpenDirectory, OpenImage, WriteCall}
 use Rattle.tiff_encode.specs.Calls.{with_directory_of, write_tag, write_tag_buf, extend_from}
 use Rattle.tiff_encode.specs.Held.{is_page_tag}
 use Rattle.tiff_encode.specs.JobValues.{value_data, buffer_in}
 use Rattle.tiff_encode.specs.Open.{HoldsOpen, model_by}
 use Rattle.tiff_encode.specs.Jobs as jobs
-use Rattle.tiff_encode.specs.Jobs.{Standing, DirectoryStepped, is_apart}
+use Rattle.tiff_encode.specs.Jobs.{FileAndModel, DirectoryStepped, is_apart}
 use Rattle.tiff_encode.specs.Stepping.{Moves, StepDraws}
 use Rattle.tiff_base.specs.Tags.{tag_number}
 use Rattle.tiff_base.specs.declared.tags.Tag.{Tag}
@@ -37,7 +37,7 @@ few_none p (x ∷ xs) (suc k) h =
     let each = neither (p x) (list_any p xs) h in
     ap (λ b. b || list_any p (take k xs)) each.0 ∙ few_none p xs k each.1
 
-module _ (i : OpenImage) (s t : Standing) (samples : List (List ℕ)) (g : Grows s.model t.model) (h : HoldsOpen s.file.kind s.model i samples) where
+module _ (i : OpenImage) (s t : FileAndModel) (samples : List (List ℕ)) (g : Grows s.model t.model) (h : HoldsOpen s.file.kind s.model i samples) where
   -- the model holds the image with a directory
   abbrev With : OpenDirectory → Type 0
   With d = HoldsOpen s.file.kind t.model (with_directory_of i d) samples
@@ -46,7 +46,7 @@ module _ (i : OpenImage) (s t : Standing) (samples : List (List ℕ)) (g : Grows
   same_with d e = subst With (sym e) (grown_open s.file.kind s.model t.model i samples h g)
 
   -- a step that writes a tag keeps the image held
-  tag_with : (n : Tag) (call : Writing OpenDirectory) (r : Result StepReply TiffError) (d : OpenDirectory)
+  tag_with : (n : Tag) (call : WriteCall OpenDirectory) (r : Result StepReply TiffError) (d : OpenDirectory)
       → ((x : StepReply) → r ≡ Ok x → is_page_tag (tag_number n) ≡ false)
       → ((is_page_tag (tag_number n) ≡ false) → (call s.file).answer ≡ Ok d → HoldsOpen s.file.kind (model_by s.file s.model (call s.file)) (with_directory_of i d) samples)
       → jobs.Changes call i.directory r s t d → With d
@@ -57,7 +57,7 @@ module _ (i : OpenImage) (s t : Standing) (samples : List (List ℕ)) (g : Grows
   tag_with n call (Err e) d a k c = same_with d c.0
 
   -- a step that only returns a value keeps the image held
-  reply_with : {A : Type 0} (view : A → StepReply) (call : Writing A) (r : Result StepReply TiffError) (d : OpenDirectory)
+  reply_with : {A : Type 0} (view : A → StepReply) (call : WriteCall A) (r : Result StepReply TiffError) (d : OpenDirectory)
       → jobs.Replies view call i.directory r s t d → With d
   reply_with view call (Ok x) d c = same_with d c.0
   reply_with view call (Err e) d c = same_with d c.0
@@ -100,7 +100,7 @@ pub directed : (i j : OpenImage) (step : DirectoryStep) (r : Result StepReply Ti
     → StepDraws i (istep.Directory step) r old new j
 directed i j step r old new w m known s before q k =
     let moved = m known s q k in
-    let t : Standing = moved.0 in
+    let t : FileAndModel = moved.0 in
     let done : DirectoryStepped s i.directory step r t j.directory = moved.1.1.0 in
     let grows : Grows s.model t.model = moved.1.1.1.1 in (
       t,

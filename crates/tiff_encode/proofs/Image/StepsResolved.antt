@@ -1,4 +1,4 @@
--- What `resolution` does from a `Standing` of its file: after an error of the sink, or if the call
+-- What `resolution` does from a `FileAndModel` of its file: after an error of the sink, or if the call
 -- runs out of memory, the file may contain its first tags.
 use Rattle.std.proofs.Common.{zero, suc, ◌≡◌, ℕ, ◌^◌, ◌<◌, ◌≤◌, ◌⊎◌, Bool, true, List, [], ◌∷◌, ◌++◌, length, take, drop, None, Result, Ok, Err, refl, ap, sym, ◌∙◌, inl, inr, subst, arith, length-append}
 use Rattle.std.proofs.lemmas.Bool.{ltb-true}
@@ -12,22 +12,22 @@ use Rattle.tiff_base.specs.Field.{AreEntries}
 use Rattle.tiff_base.specs.Tags.{tag_number}
 use Rattle.tiff_value.specs.Data.{FieldData, Scalars, units, rationals, data_of}
 use Rattle.tiff_encode.specs.Model.{Model, Stands, Grows}
-use Rattle.tiff_encode.specs.Deeds.{all_appended}
+use Rattle.tiff_encode.specs.WriteOps.{all_appended}
 use Rattle.tiff_encode.specs.Laws.{AreAppending}
 use Rattle.tiff_value.proofs.Data.{data_is_whole}
-use Rattle.tiff_encode.specs.Machine.{FileState, OpenDirectory, OpenImage, WriteOutcome, Writing, gives, and_then, ◌>>=◌}
+use Rattle.tiff_encode.specs.Machine.{FileState, OpenDirectory, OpenImage, WriteOutcome, WriteCall, gives, and_then, ◌>>=◌}
 use Rattle.tiff_encode.specs.Causes.{end_of, resolution_cause}
 use Rattle.tiff_encode.specs.Calls.{write_tags, with_directory_of, with_tags, resolution_tags, resolution}
-use Rattle.tiff_encode.specs.Ends.{IsTold, IsCutOff, IsShortOfMemory, CallFails, Ends}
+use Rattle.tiff_encode.specs.Ends.{EndsAsDefined, IsCutOff, IsShortOfMemory, CallFails, Ends}
 use Rattle.tiff_encode.specs.Leaves.{Leaves}
 use Rattle.tiff_encode.specs.Tagging.{write_fields, fields_of, StopsInPart, StopsResolving}
 use Rattle.tiff_encode.specs.Held.{is_page_tag}
 use Rattle.tiff_encode.specs.Open.{HoldsOpen, model_by}
 use Rattle.tiff_encode.specs.Jobs as jobs
-use Rattle.tiff_encode.specs.Jobs.{Standing, IsDone, IsCutShort, IsWithoutMemory}
+use Rattle.tiff_encode.specs.Jobs.{FileAndModel, IsDone, IsCutShort, IsWithoutMemory}
 use Rattle.tiff_encode.specs.Stepping.{StandsIfKnown}
 use Rattle.tiff_encode.specs.ImageStepping.{reply_to, ResolutionDraws}
-use Rattle.tiff_encode.proofs.Deeds.{deeds_grow}
+use Rattle.tiff_encode.proofs.WriteOps.{ops_grow}
 use Rattle.tiff_encode.proofs.Image.FitsCalls.{Fits, Keeps, IsData, AreData, fields_done, fields_fit, viewed_fits}
 use Rattle.tiff_encode.proofs.Image.FitsCalls as fit
 use Rattle.tiff_encode.proofs.Image.FitsEntries.{data_bytes}
@@ -52,7 +52,7 @@ with_adding i values file =
 with_fits : (i : OpenImage) (values : List (Tag × Scalars)) (file : FileState) (m : Model) → AreData (fields_of values) → AreEntries i.directory.fields
     → Fits (with_tags i values file) file m (λ j. Unit {0})
 with_fits i values file m g a =
-    let call : Writing OpenDirectory = write_tags i.directory values in
+    let call : WriteCall OpenDirectory = write_tags i.directory values in
     let same = sym (tags_are_fields i.directory values file) in
     let parent = i.directory.parent in
     viewed_fits call (λ d. with_directory_of i d) file m (λ j. Unit {0})
@@ -73,9 +73,9 @@ refused_alike f e h = cc
 gives_refused : {A B : Type 0} (r : Result A TiffError) (told : WriteOutcome A) (g : A → B) (file : FileState) (e : TiffError) → told.answer ≡ r
     → (((λ (f : FileState). told) >>= (λ x. gives (g x))) file).answer ≡ Err e → told.answer ≡ Err e
 gives_refused (Ok x) told g file e q h =
-    absurd (no_answer (sym (sym (ap (λ r. (and_then r told.deeds told.next (λ x. gives (g x))).answer) q) ∙ h)))
+    absurd (no_answer (sym (sym (ap (λ r. (and_then r told.ops told.next (λ x. gives (g x))).answer) q) ∙ h)))
 gives_refused (Err f) told g file e q h =
-    q ∙ ap Err (refused_alike f e (sym (ap (λ r. (and_then r told.deeds told.next (λ x. gives (g x))).answer) q) ∙ h))
+    q ∙ ap Err (refused_alike f e (sym (ap (λ r. (and_then r told.ops told.next (λ x. gives (g x))).answer) q) ∙ h))
 
 -- ---- the tags of both resolutions and their unit
 
@@ -106,14 +106,14 @@ module _ (u : ResolutionUnit) (value : ℕ × ℕ) where
 
   -- The first tags are written, and the others fail.
   module _ (i : OpenImage) (d : OpenDirectory) (k : ℕ) (l : k < 3) (old mid new : FileState) (e : TiffError)
-      (h : IsTold (write_fields i.directory (take k fields) old) (Ok d) mid) (f : CallFails (write_fields d (drop k fields) mid) e mid new) where
+      (h : EndsAsDefined (write_fields i.directory (take k fields) old) (Ok d) mid) (f : CallFails (write_fields d (drop k fields) mid) e mid new) where
     abbrev image : OpenImage
     image = with_directory_of i d
 
-    first_told : IsTold (with_tags i (take k tags) old) (Ok image) mid
+    first_told : EndsAsDefined (with_tags i (take k tags) old) (Ok image) mid
     first_told =
         bind_told (write_tags i.directory (take k tags)) (λ d. gives (with_directory_of i d)) d (Ok image) old mid mid
-        (subst (λ told. IsTold told (Ok d) mid)
+        (subst (λ told. EndsAsDefined told (Ok d) mid)
         (ap (λ vs. write_fields i.directory vs old) (take-map (λ v. (v.0, data_of v.1)) k tags) ∙ sym (tags_are_fields i.directory (take k tags) old)) h)
         (record { answer = refl; state = refl })
 
@@ -131,14 +131,14 @@ module _ (u : ResolutionUnit) (value : ℕ × ℕ) where
         let refused : told.answer ≡ Err e =
         ap (λ x. x.answer) others ∙ gives_refused _ (write_tags d (drop k tags) mid) (λ x. with_directory_of image x) mid e refl r in
         let whole = fields_told i.directory d (take k fields) (drop k fields) (Err e) old mid told.next h (record { answer = refused; state = refl }) in
-        let all : IsTold (write_tags i.directory tags old) (Err e) told.next =
-        subst (λ x. IsTold x (Err e) told.next)
+        let all : EndsAsDefined (write_tags i.directory tags old) (Err e) told.next =
+        subst (λ x. EndsAsDefined x (Err e) told.next)
         (ap (λ vs. write_fields i.directory vs old) (take-append-drop k fields) ∙ sym (tags_are_fields i.directory tags old)) whole in
         never_refused i.directory u value old e c all.answer
 
     -- the sink fails, or the call runs out of memory
     abbrev Stops : Type 0
-    Stops = IsCutOff (with_tags image (drop k tags) mid).deeds e mid new ⊎ IsShortOfMemory (with_tags image (drop k tags) mid) e mid new
+    Stops = IsCutOff (with_tags image (drop k tags) mid).ops e mid new ⊎ IsShortOfMemory (with_tags image (drop k tags) mid) e mid new
 
     stops : resolution_cause old ≡ None → Stops
     stops c =
@@ -158,22 +158,22 @@ record IsLonger (mid new : FileState) : Type 0 where
   kind : new.kind ≡ mid.kind
   longer : end_of mid ≤ end_of new
 
-longer_by : (told : WriteOutcome OpenImage) (e : TiffError) (mid new : FileState) → IsCutOff told.deeds e mid new ⊎ IsShortOfMemory told e mid new → IsLonger mid new
+longer_by : (told : WriteOutcome OpenImage) (e : TiffError) (mid new : FileState) → IsCutOff told.ops e mid new ⊎ IsShortOfMemory told e mid new → IsLonger mid new
 longer_by told e mid new (inl x) =
-    let l : end_of new ≡ length (mid.bytes ++ take x.count (all_appended mid.kind told.deeds)) = ap (λ f. end_of f) x.state in
-    record { kind = ap (λ f. f.kind) x.state; longer = omega (arith, l, length-append mid.bytes (take x.count (all_appended mid.kind told.deeds))) }
+    let l : end_of new ≡ length (mid.bytes ++ take x.count (all_appended mid.kind told.ops)) = ap (λ f. end_of f) x.state in
+    record { kind = ap (λ f. f.kind) x.state; longer = omega (arith, l, length-append mid.bytes (take x.count (all_appended mid.kind told.ops))) }
 longer_by told e mid new (inr x) =
-    let l : end_of new ≡ length (mid.bytes ++ take x.count (all_appended mid.kind told.deeds)) = ap (λ f. end_of f) x.state in
-    record { kind = ap (λ f. f.kind) x.state; longer = omega (arith, l, length-append mid.bytes (take x.count (all_appended mid.kind told.deeds))) }
+    let l : end_of new ≡ length (mid.bytes ++ take x.count (all_appended mid.kind told.ops)) = ap (λ f. end_of f) x.state in
+    record { kind = ap (λ f. f.kind) x.state; longer = omega (arith, l, length-append mid.bytes (take x.count (all_appended mid.kind told.ops))) }
 
-either_fails : (told : WriteOutcome OpenImage) (e : TiffError) (mid new : FileState) → IsCutOff told.deeds e mid new ⊎ IsShortOfMemory told e mid new
+either_fails : (told : WriteOutcome OpenImage) (e : TiffError) (mid new : FileState) → IsCutOff told.ops e mid new ⊎ IsShortOfMemory told e mid new
     → CallFails told e mid new
 either_fails told e mid new (inl x) = inr (inl x)
 either_fails told e mid new (inr x) = inr (inr (inr x))
 
 -- what the file contains after two calls of an image, the second of which fails
-stands_after : (one two : WriteOutcome OpenImage) (j : OpenImage) (e : TiffError) (old mid new : FileState) (m : Model) → IsTold one (Ok j) mid
-    → IsAdding one old → IsAdding two mid → Fits one old m (λ j. Unit {0}) → IsCutOff two.deeds e mid new ⊎ IsShortOfMemory two e mid new
+stands_after : (one two : WriteOutcome OpenImage) (j : OpenImage) (e : TiffError) (old mid new : FileState) (m : Model) → EndsAsDefined one (Ok j) mid
+    → IsAdding one old → IsAdding two mid → Fits one old m (λ j. Unit {0}) → IsCutOff two.ops e mid new ⊎ IsShortOfMemory two e mid new
     → end_of new < 2 ^ 64 → Stands old.kind old.bytes m → Stands new.kind new.bytes (model_by old m one)
 stands_after one two j e old mid new m told a b f x short s =
     let view : OpenImage → OpenImage = λ n. n in
@@ -191,28 +191,28 @@ stands_after one two j e old mid new m told a b f x short s =
 
 module _ (u : ResolutionUnit) (value : ℕ × ℕ) (i j : OpenImage) (e : TiffError) (new : FileState)
     (a : AreEntries i.directory.fields) (short : end_of new < 2 ^ 64) where
-  -- from a `Standing` of the file before to one of the file after the call
-  abbrev Resolved : Bool → Standing → List (List ℕ) → Type 0
+  -- from a `FileAndModel` of the file before to one of the file after the call
+  abbrev Resolved : Bool → FileAndModel → List (List ℕ) → Type 0
   Resolved known s before =
-      (t : Standing) × ((after : List (List ℕ)) × ((t.file ≡ new)
+      (t : FileAndModel) × ((after : List (List ℕ)) × ((t.file ≡ new)
       × (((after ≡ before) × jobs.ResolvesInPart i (resolution_tags u value) e s t j)
       × (StandsIfKnown known t × (Grows s.model t.model
       × (true ≡ true → HoldsOpen s.file.kind s.model i before → HoldsOpen s.file.kind t.model j after))))))
 
-  in_part : (known : Bool) (s : Standing) (before : List (List ℕ)) → StandsIfKnown known s → resolution_cause s.file ≡ None
+  in_part : (known : Bool) (s : FileAndModel) (before : List (List ℕ)) → StandsIfKnown known s → resolution_cause s.file ≡ None
       → (d : OpenDirectory) → j ≡ with_directory_of i d → StopsInPart i.directory (fields_of (resolution_tags u value)) e s.file new d
       → Resolved known s before
   in_part known s before q c d w p =
       let k : ℕ = p.0 in
       let mid : FileState = p.1.1.0 in
       let all : List (Tag × Scalars) = resolution_tags u value in
-      let told : IsTold (with_tags i (take k all) s.file) (Ok (with_directory_of i d)) mid = first_told u value i d k p.1.0 s.file mid new e p.1.1.1.0 p.1.1.1.1 in
+      let told : EndsAsDefined (with_tags i (take k all) s.file) (Ok (with_directory_of i d)) mid = first_told u value i d k p.1.0 s.file mid new e p.1.1.1.0 p.1.1.1.1 in
       let stop = stops u value i d k p.1.0 s.file mid new e p.1.1.1.0 p.1.1.1.1 c in
       let one : WriteOutcome OpenImage = with_tags i (take k all) s.file in
       let two : WriteOutcome OpenImage = with_tags (with_directory_of i d) (drop k all) mid in
       let m : Model = model_by s.file s.model one in
-      let middle : Standing = record { file = mid; model = m } in
-      let t : Standing = record { file = new; model = m } in
+      let middle : FileAndModel = record { file = mid; model = m } in
+      let t : FileAndModel = record { file = new; model = m } in
       let failed : IsCutShort two e middle t ⊎ IsWithoutMemory two e middle t = elim stop [
         | inl x ↦ inl (refl, x)
         | inr x ↦ inr (refl, x)
@@ -229,7 +229,7 @@ module _ (u : ResolutionUnit) (value : ℕ × ℕ) (i j : OpenImage) (e : TiffEr
             refl,
             (
               (refl, subst (λ n. jobs.ResolvesInPart i all e s t n) (sym w) part),
-              (stands, (deeds_grow s.file.kind s.file.bytes s.model one.deeds, λ _ h. subst (λ n. HoldsOpen s.file.kind m n before) (sym w) (kept h))),
+              (stands, (ops_grow s.file.kind s.file.bytes s.model one.ops, λ _ h. subst (λ n. HoldsOpen s.file.kind m n before) (sym w) (kept h))),
             ),
           ),
         ),

@@ -1,24 +1,24 @@
--- What a step that writes a chunk of an image does from a `Standing` of its file.
+-- What a step that writes a chunk of an image does from a `FileAndModel` of its file.
 use Rattle.std.proofs.Common.{◌≡◌, ℕ, ◌-◌, ◌^◌, ◌%◌, ◌<◌, ◌≤◌, ◌⊎◌, Bool, true, false, List, [], ◌∷◌, ◌++◌, length, get_or, Option, Some, None, Result, Ok, Err, refl, ap, sym, ◌∙◌, inl, inr, subst, arith, length-append}
 use Rattle.tiff_base.specs.declared.error.TiffError.{TiffError}
 use Rattle.tiff_base.specs.declared.error.TiffError.TheVariants.{OutOfMemory}
 use Rattle.tiff_value.specs.Packed.{IsStored}
 use Rattle.tiff_encode.specs.declared.encoder.script.StepReply.{StepReply}
 use Rattle.tiff_encode.specs.Model.{Model, Stands, Grows}
-use Rattle.tiff_encode.specs.Machine.{FileState, OpenImage, WriteOutcome, Writing, gives, by_cause}
+use Rattle.tiff_encode.specs.Machine.{FileState, OpenImage, WriteOutcome, WriteCall, gives, by_cause}
 use Rattle.tiff_encode.specs.Causes.{end_of, write_chunk_cause, write_strip_cause}
 use Rattle.tiff_encode.specs.Calls.{appends, with_chunk, appends_chunk, write_chunk, write_strip}
-use Rattle.tiff_encode.specs.Ends.{IsTold, IsCutOff}
+use Rattle.tiff_encode.specs.Ends.{EndsAsDefined, IsCutOff}
 use Rattle.tiff_encode.specs.ImageData.{LeavesChunk}
 use Rattle.tiff_encode.specs.Open.{HoldsOpen, model_by}
 use Rattle.tiff_encode.specs.Stored.{unpacked_chunk}
 use Rattle.tiff_encode.specs.Storing.{WritesStoredChunk}
 use Rattle.tiff_encode.specs.JobValues.{cut_to}
 use Rattle.tiff_encode.specs.Jobs as jobs
-use Rattle.tiff_encode.specs.Jobs.{Standing, Drawn}
+use Rattle.tiff_encode.specs.Jobs.{FileAndModel, Drawn}
 use Rattle.tiff_encode.specs.Stepping.{StandsIfKnown, DrawMoves}
 use Rattle.tiff_encode.specs.ImageStepping.{ChunkDraws, StripDraws, reply_to}
-use Rattle.tiff_encode.proofs.Deeds.{deeds_grow}
+use Rattle.tiff_encode.proofs.WriteOps.{ops_grow}
 use Rattle.tiff_encode.proofs.Joining.{IsAdding, adding, answers_adding, caused_adds, bind_adds, appends_adds}
 use Rattle.tiff_encode.proofs.Moving.{grows_here}
 use Rattle.tiff_encode.proofs.Open.Chunks.{chunks_keep_open}
@@ -45,15 +45,15 @@ chunk_within (Some e) i next stored file a = absurd (no_answer a)
 -- ---- a call that writes a chunk
 
 -- `write_strip` or `write_chunk`, if memory for the samples is available
-abbrev pub StoresIfFound : (OpenImage → ℕ → List ℕ → Writing OpenImage) → Option TiffError → jobs.Drawn → List ℕ → Result StepReply TiffError
-    → jobs.Standing → jobs.Standing → jobs.Drawn → Type 0
+abbrev pub StoresIfFound : (OpenImage → ℕ → List ℕ → WriteCall OpenImage) → Option TiffError → jobs.Drawn → List ℕ → Result StepReply TiffError
+    → jobs.FileAndModel → jobs.FileAndModel → jobs.Drawn → Type 0
 StoresIfFound call cause i samples r old new t =
     (t.samples ≡ jobs.samples_after r i samples)
     × (jobs.StoresBy call cause i.image samples r old new t.image ⊎ jobs.IsUnfound r i.image old new t.image)
 
 -- Properties of a call that writes a chunk: it only appends, the file contains the bytes, and a
 -- held image stays held with the chunk.
-record IsStoring (call : OpenImage → ℕ → List ℕ → Writing OpenImage) : Type 0 where
+record IsStoring (call : OpenImage → ℕ → List ℕ → WriteCall OpenImage) : Type 0 where
   adds : (i : OpenImage) (n : ℕ) (stored : List ℕ) (file : FileState) → IsAdding (call i n stored file) file
   within : (i next : OpenImage) (n : ℕ) (stored : List ℕ) (file : FileState) → (call i n stored file).answer ≡ Ok next
       → length stored ≤ end_of (call i n stored file).next
@@ -81,20 +81,20 @@ chunks_store = record {
       (chunks_keep_open file m i next samples numbers stored h s l is near short).0 a;
 }
 
-module _ (call : OpenImage → ℕ → List ℕ → Writing OpenImage) (c : IsStoring call) (i j : OpenImage) (numbers : List ℕ) (new : FileState)
+module _ (call : OpenImage → ℕ → List ℕ → WriteCall OpenImage) (c : IsStoring call) (i j : OpenImage) (numbers : List ℕ) (new : FileState)
     (small : (n : ℕ) → get_or numbers n 0 < 256 ^ i.size) (few : length numbers < 2 ^ 64 - 1) (short : end_of new < 2 ^ 64) where
-  -- from a `Standing` and the samples before the call to a `Standing` of the file after it and the
+  -- from a `FileAndModel` and the samples before the call to a `FileAndModel` of the file after it and the
   -- samples with the chunk
-  abbrev Stored : Option TiffError → Result (Unit {0}) TiffError → Bool → Standing → List (List ℕ) → Type 0
+  abbrev Stored : Option TiffError → Result (Unit {0}) TiffError → Bool → FileAndModel → List (List ℕ) → Type 0
   Stored cause r known s before =
-      (t : Standing) × ((after : List (List ℕ)) × ((t.file ≡ new)
+      (t : FileAndModel) × ((after : List (List ℕ)) × ((t.file ≡ new)
       × (StoresIfFound call cause (record { image = i; samples = before }) numbers (reply_to r) s t (record { image = j; samples = after })
       × (StandsIfKnown known t × (Grows s.model t.model
       × (true ≡ true → HoldsOpen s.file.kind s.model i before → HoldsOpen s.file.kind t.model j after))))))
 
   -- the chunk is stored as the given bytes
-  stored_so : (x : Unit {0}) (known : Bool) (s : Standing) (before : List (List ℕ)) (stored : List ℕ) → end_of s.file < 2 ^ 64
-      → IsStored i.method stored (unpacked_chunk i numbers) → IsTold (call i (length numbers) stored s.file) (Ok j) new
+  stored_so : (x : Unit {0}) (known : Bool) (s : FileAndModel) (before : List (List ℕ)) (stored : List ℕ) → end_of s.file < 2 ^ 64
+      → IsStored i.method stored (unpacked_chunk i numbers) → EndsAsDefined (call i (length numbers) stored s.file) (Ok j) new
       → (known ≡ true → Stands s.file.kind new.bytes (model_by s.file s.model (call i (length numbers) stored s.file)))
       → Stored None (Ok x) known s before
   stored_so x known s before stored near is told stands =
@@ -104,7 +104,7 @@ module _ (call : OpenImage → ℕ → List ℕ → Writing OpenImage) (c : IsSt
       let end : end_of new ≡ end_of does.next = ap (λ f. end_of f) told.state in
       let within = c.within i j (length numbers) stored s.file told.answer in
       let less : length stored < 2 ^ 64 = omega (arith, within, end, short) in
-      let grows = deeds_grow s.file.kind s.file.bytes s.model does.deeds in (
+      let grows = ops_grow s.file.kind s.file.bytes s.model does.ops in (
         record { file = new; model = m },
         (
           before ++ numbers ∷ [],
@@ -122,7 +122,7 @@ module _ (call : OpenImage → ℕ → List ℕ → Writing OpenImage) (c : IsSt
       )
 
   -- the call does nothing
-  undone : (cause : Option TiffError) (r : Result (Unit {0}) TiffError) (known : Bool) (s : Standing) (before : List (List ℕ)) → StandsIfKnown known s → new ≡ s.file → j ≡ i
+  undone : (cause : Option TiffError) (r : Result (Unit {0}) TiffError) (known : Bool) (s : FileAndModel) (before : List (List ℕ)) → StandsIfKnown known s → new ≡ s.file → j ≡ i
       → StoresIfFound call cause (record { image = i; samples = before }) numbers (reply_to r) s s (record { image = j; samples = before })
       → Stored cause r known s before
   undone cause r known s before k q o said = (
@@ -134,13 +134,13 @@ module _ (call : OpenImage → ℕ → List ℕ → Writing OpenImage) (c : IsSt
   )
 
   -- the call is refused, or the sink fails
-  stopped : (e : TiffError) (known : Bool) (s : Standing) (before : List (List ℕ)) (stored : List ℕ) → j ≡ i
+  stopped : (e : TiffError) (known : Bool) (s : FileAndModel) (before : List (List ℕ)) (stored : List ℕ) → j ≡ i
       → IsStored i.method stored (unpacked_chunk i numbers)
-      → IsTold (call i (length numbers) stored s.file) (Err e) new ⊎ IsCutOff (call i (length numbers) stored s.file).deeds e s.file new
+      → EndsAsDefined (call i (length numbers) stored s.file) (Err e) new ⊎ IsCutOff (call i (length numbers) stored s.file).ops e s.file new
       → (known ≡ true → Stands s.file.kind new.bytes s.model) → Stored None (Err e) known s before
   stopped e known s before stored o is h stands =
       let does : WriteOutcome OpenImage = call i (length numbers) stored s.file in
-      let t : Standing = record { file = new; model = s.model } in
+      let t : FileAndModel = record { file = new; model = s.model } in
       let same : new.kind ≡ s.file.kind = elim h [
         | inl a ↦ ap (λ f. f.kind) (a.state ∙ (c.adds i (length numbers) stored s.file).next)
         | inr b ↦ ap (λ f. f.kind) b.state
@@ -166,14 +166,14 @@ module _ (call : OpenImage → ℕ → List ℕ → Writing OpenImage) (c : IsSt
       )
 
   -- if the model is known to describe the file, the stored bytes are those that the model describes
-  stored_by : (x : Unit {0}) (known : Bool) (s : Standing) (before : List (List ℕ)) → StandsIfKnown known s → end_of s.file < 2 ^ 64
+  stored_by : (x : Unit {0}) (known : Bool) (s : FileAndModel) (before : List (List ℕ)) → StandsIfKnown known s → end_of s.file < 2 ^ 64
       → (let r : Result (Unit {0}) TiffError = Ok x in WritesStoredChunk call None i numbers r s.file new j
       → ((m : Model) → Stands s.file.kind s.file.bytes m → LeavesChunk call i numbers r s.file new j m) → Stored None r known s before)
   stored_by x true s before k near w l =
       let a = l s.model (k refl) in stored_so x true s before a.0 near a.1.0 a.1.1.0 (λ _. a.1.1.1)
   stored_by x false s before k near w l = stored_so x false s before w.0 near w.1.0 w.1.1 (λ q. absurd cc)
 
-  written : (cause : Option TiffError) (r : Result (Unit {0}) TiffError) (known : Bool) (s : Standing) (before : List (List ℕ))
+  written : (cause : Option TiffError) (r : Result (Unit {0}) TiffError) (known : Bool) (s : FileAndModel) (before : List (List ℕ))
       → StandsIfKnown known s → end_of s.file < 2 ^ 64 → WritesStoredChunk call cause i numbers r s.file new j
       → ((m : Model) → Stands s.file.kind s.file.bytes m → LeavesChunk call i numbers r s.file new j m) → Stored cause r known s before
   written (Some e) r known s before k near w l =
@@ -188,17 +188,17 @@ module _ (call : OpenImage → ℕ → List ℕ → Writing OpenImage) (c : IsSt
       ]
 
 -- a chunk of samples, if memory for them is available
-abbrev StoresAll : (OpenImage → ℕ → List ℕ → Writing OpenImage) → (FileState → OpenImage → ℕ → Option TiffError) → List ℕ
-    → Result StepReply TiffError → Standing → Drawn → Standing → Drawn → Type 0
+abbrev StoresAll : (OpenImage → ℕ → List ℕ → WriteCall OpenImage) → (FileState → OpenImage → ℕ → Option TiffError) → List ℕ
+    → Result StepReply TiffError → FileAndModel → Drawn → FileAndModel → Drawn → Type 0
 StoresAll call cause numbers r s before t after = StoresIfFound call (cause s.file before.image (length numbers)) before numbers r s t after
 
 -- a chunk of the lowest bits of numbers, if memory for them is available
-abbrev StoresCut : (OpenImage → ℕ → List ℕ → Writing OpenImage) → (FileState → OpenImage → ℕ → Option TiffError) → List ℕ
-    → Result StepReply TiffError → Standing → Drawn → Standing → Drawn → Type 0
+abbrev StoresCut : (OpenImage → ℕ → List ℕ → WriteCall OpenImage) → (FileState → OpenImage → ℕ → Option TiffError) → List ℕ
+    → Result StepReply TiffError → FileAndModel → Drawn → FileAndModel → Drawn → Type 0
 StoresCut call cause given r s before t after = StoresAll call cause (cut_to before.image.size given) r s before t after
 
--- what a call that writes a chunk does from each `Standing` of the file
-storing_draws : (call : OpenImage → ℕ → List ℕ → Writing OpenImage) (cause : FileState → OpenImage → ℕ → Option TiffError) → IsStoring call
+-- what a call that writes a chunk does from each `FileAndModel` of the file
+storing_draws : (call : OpenImage → ℕ → List ℕ → WriteCall OpenImage) (cause : FileState → OpenImage → ℕ → Option TiffError) → IsStoring call
     → (i j : OpenImage) (numbers : List ℕ) (r : Result (Unit {0}) TiffError) (old new : FileState)
     → ((n : ℕ) → get_or numbers n 0 < 256 ^ i.size) → length numbers < 2 ^ 64 - 1 → end_of old < 2 ^ 64 → end_of new < 2 ^ 64
     → WritesStoredChunk call (cause old i (length numbers)) i numbers r old new j
@@ -228,7 +228,7 @@ module _ (size : ℕ) (given numbers : List ℕ) (cut : cut_to size given ≡ nu
 module _ (i j : OpenImage) (given numbers : List ℕ) (n : ℕ) (r : Result (Unit {0}) TiffError) (old new : FileState)
     (cut : cut_to i.size given ≡ numbers) (count : n ≡ length numbers)
     (small : (k : ℕ) → get_or numbers k 0 < 256 ^ i.size) (few : n < 2 ^ 64 - 1) (near : end_of old < 2 ^ 64) (short : end_of new < 2 ^ 64) where
-  drawn_by : (call : OpenImage → ℕ → List ℕ → Writing OpenImage) (cause : FileState → OpenImage → ℕ → Option TiffError) → IsStoring call
+  drawn_by : (call : OpenImage → ℕ → List ℕ → WriteCall OpenImage) (cause : FileState → OpenImage → ℕ → Option TiffError) → IsStoring call
       → WritesStoredChunk call (cause old i n) i numbers r old new j
       → ((m : Model) → Stands old.kind old.bytes m → LeavesChunk call i numbers r old new j m)
       → DrawMoves i (StoresCut call cause given (reply_to r)) true old new j
@@ -251,7 +251,7 @@ module _ (i j : OpenImage) (given numbers : List ℕ) (n : ℕ) (r : Result (Uni
 
 -- no memory is available for the cut samples
 module _ (i : OpenImage) (given : List ℕ) (e : TiffError) (file : FileState) (short : e ≡ OutOfMemory) where
-  unfound : (call : OpenImage → ℕ → List ℕ → Writing OpenImage) (cause : FileState → OpenImage → ℕ → Option TiffError)
+  unfound : (call : OpenImage → ℕ → List ℕ → WriteCall OpenImage) (cause : FileState → OpenImage → ℕ → Option TiffError)
       → DrawMoves i (StoresCut call cause given (Err e)) true file file i
   unfound call cause =
       asked i (StoresCut call cause given (Err e)) true file (λ s before. (refl, inr (ap Err short, (refl, refl))))

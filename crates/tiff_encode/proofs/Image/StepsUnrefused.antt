@@ -10,10 +10,10 @@ use Rattle.tiff_base.specs.declared.tags.Tag.{Tag}
 use Rattle.tiff_base.specs.declared.tags.Tag.TheVariants as tag
 use Rattle.tiff_base.specs.Field.{Field}
 use Rattle.tiff_value.specs.Data.{FieldData, Scalars, units, rationals, data_of}
-use Rattle.tiff_encode.specs.Model.{HandedField}
-use Rattle.tiff_encode.specs.Deeds.{Appended, Handed, bytes_after}
+use Rattle.tiff_encode.specs.Model.{SuppliedField}
+use Rattle.tiff_encode.specs.WriteOps.{Appended, Supplied, bytes_after}
 use Rattle.tiff_encode.specs.Value.{is_long, field_at}
-use Rattle.tiff_encode.specs.Machine.{FileState, OpenDirectory, WriteOutcome, Writing, answers, gives, by_cause, ◌>>=◌}
+use Rattle.tiff_encode.specs.Machine.{FileState, OpenDirectory, WriteOutcome, WriteCall, answers, gives, by_cause, ◌>>=◌}
 use Rattle.tiff_encode.specs.Placing.{field_test}
 use Rattle.tiff_encode.specs.Causes.{end_of, is_past, write_tag_cause, resolution_cause}
 use Rattle.tiff_encode.specs.Calls.{with_field, placed_field, write_entry, write_tag, write_tags, resolution_tags}
@@ -32,7 +32,7 @@ module _ (d : OpenDirectory) (t : Tag) (value : FieldData) (file : FileState) wh
   tag_so : write_tag_cause file (Ok value) ≡ None → write_tag d t (Ok value) file ≡ told_so
   unfolding write_tag write_entry
   tag_so c =
-      let call : Writing Field = answers (Ok value) >>= placed_field in
+      let call : WriteCall Field = answers (Ok value) >>= placed_field in
       ap (λ cause. ((λ f. by_cause cause call f) >>= (λ field. gives (with_field d t field))) file) c
 
 -- if nothing refuses the first tag and writing all tags fails, writing the other tags fails
@@ -43,8 +43,8 @@ rest_refused d t value values file e c h =
     sym (ap (λ told. (((λ (f : FileState). told) >>= (λ next. write_tags next values)) file).answer) (tag_so d t (data_of value) file c)) ∙ h
 
 -- the length of a file with a written value
-grown_len : (b : Bool) (kind : FileKind) (bytes xs : List ℕ) (h : HandedField)
-    → length (bytes_after kind bytes (cond b (Appended xs ∷ Handed h ∷ []) (Handed h ∷ []))) ≡ length bytes + cond b (length xs) 0
+grown_len : (b : Bool) (kind : FileKind) (bytes xs : List ℕ) (h : SuppliedField)
+    → length (bytes_after kind bytes (cond b (Appended xs ∷ Supplied h ∷ []) (Supplied h ∷ []))) ≡ length bytes + cond b (length xs) 0
 grown_len true kind bytes xs h = length-append bytes xs
 grown_len false kind bytes xs h = omega arith
 
@@ -93,7 +93,7 @@ fraction_len value = refl
 unit_end : (d : OpenDirectory) (t : Tag) (u : ResolutionUnit) (file : FileState) → end_of (told_so d t (data_of (units (u ∷ []))) file).next ≡ end_of file
 unit_end d t u file =
     let v : FieldData = data_of (units (u ∷ [])) in
-    let h : HandedField = record { field = field_at file.kind (end_of file) v; bytes = v.bytes } in
+    let h : SuppliedField = record { field = field_at file.kind (end_of file) v; bytes = v.bytes } in
     let l = grown_len (is_long file.kind v) file.kind file.bytes v.bytes h in
     let z : cond (is_long file.kind v) (length v.bytes) 0 ≡ 0 = ap (λ b. cond b (length v.bytes) 0) (unit_short file.kind u) in
     omega (arith, l, z)
@@ -102,7 +102,7 @@ fraction_end : (d : OpenDirectory) (t : Tag) (value : ℕ × ℕ) (file : FileSt
     → end_of (told_so d t (data_of (rationals (value ∷ []))) file).next ≤ end_of file + 8
 fraction_end d t value file =
     let v : FieldData = data_of (rationals (value ∷ [])) in
-    let h : HandedField = record { field = field_at file.kind (end_of file) v; bytes = v.bytes } in
+    let h : SuppliedField = record { field = field_at file.kind (end_of file) v; bytes = v.bytes } in
     let l = grown_len (is_long file.kind v) file.kind file.bytes v.bytes h in
     let m = at_most (is_long file.kind v) (length v.bytes) in
     omega (arith, l, m, fraction_len value)

@@ -22,7 +22,7 @@ use Rattle.tiff_value.specs.Data.{Scalars, u16s, u32s, methods, interpretations,
 use Rattle.tiff_value.proofs.ColorTypes.{are_color_types}
 use Rattle.tiff_encode.specs.FileBytes.{rows_per_strip}
 use Rattle.tiff_encode.specs.Model.{Model}
-use Rattle.tiff_encode.specs.Machine.{FileState, OpenDirectory, OpenImage, Writing, gives, ◌>>=◌}
+use Rattle.tiff_encode.specs.Machine.{FileState, OpenDirectory, OpenImage, WriteCall, gives, ◌>>=◌}
 use Rattle.tiff_encode.specs.Drawn.{IsSide}
 use Rattle.tiff_encode.specs.Causes.{begin_cause, predictor_cause, new_image_cause, image_cause}
 use Rattle.tiff_encode.specs.Calls.{new_directory, pad, image_directory, default_rows, write_tags, chroma_tags, first_tags, image_in, new_image}
@@ -212,14 +212,14 @@ begins_open file m name width height i w h p a =
     let color : ColorTypeRecord = color_type name in
     let size : ℕ = inner_size name in
     let image : OpenDirectory → OpenImage = λ d. image_in file d color size width height in
-    let last : OpenDirectory → Writing OpenImage = λ d. write_tags d (first_tags (image d)) >>= (λ x. gives (image x)) in
+    let last : OpenDirectory → WriteCall OpenImage = λ d. write_tags d (first_tags (image d)) >>= (λ x. gives (image x)) in
     let P : Model → Type 0 = λ n. HoldsOpen file.kind n i [] in
     caused_held (new_image_cause file color width height) (image_directory >>= last) file m P i a
     (λ c b. both_held image_directory last file m P i (adding (image_directory file) file (begin_adds file)) b
     (λ d x y.
     let mid : FileState = (image_directory file).next in
     let n : Model = model_by file m (image_directory file) in
-    let call : Writing OpenDirectory = write_tags d (first_tags (image d)) in
+    let call : WriteCall OpenDirectory = write_tags d (first_tags (image d)) in
     both_held call (λ z. gives (image z)) mid n P i (tags_adding d (first_tags (image d)) mid) y
     (λ z s t.
     let held = tags_held d (first_tags (image d)) mid n (λ q. None) z (begun_empty file d n x) s in

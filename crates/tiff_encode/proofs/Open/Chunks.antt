@@ -24,8 +24,8 @@ use Rattle.tiff_encode.proofs.Open.Held.{holds_grown}
 use Rattle.tiff_encode.proofs.Open.Tags.{caused_held}
 use Rattle.tiff_encode.proofs.Open.Kept.{tells_kept, open_kept}
 use Rattle.tiff_encode.proofs.Open.Settings.{fresh, first_test}
-use Rattle.tiff_encode.proofs.Deeds.{deeds_grow}
-use Rattle.tiff_encode.specs.Deeds.{Appended}
+use Rattle.tiff_encode.proofs.WriteOps.{ops_grow}
+use Rattle.tiff_encode.specs.WriteOps.{Appended}
 
 -- ---- one more element in a list
 
@@ -113,8 +113,8 @@ is_next file i count stored l c =
 -- ---- the earlier chunks, and this one
 
 -- bytes at an offset that encode some samples of the image
-abbrev Standing : Model → OpenImage → ℕ → ℕ → List ℕ → Type 0
-Standing m i offset count samples =
+abbrev FileAndModel : Model → OpenImage → ℕ → ℕ → List ℕ → Type 0
+FileAndModel m i offset count samples =
     (stored : List ℕ) × (In (record { offset = offset; bytes = stored }) m.regions
     × ((length stored ≡ count) × IsStored i.method stored (unpacked_chunk i samples)))
 
@@ -153,7 +153,7 @@ module _ (file : FileState) (m : Model) (i : OpenImage) (samples : List (List �
         | inl l ↦ ap (λ xs. length xs) (old_samples k l) ∙ h.lengths k l
         | inr e ↦ ap (λ xs. length xs) (new_samples k e) ∙ c.samples ∙ ap (chunk_samples (image_page i)) (sym e)
       ] in
-      let P : ℕ → ℕ → List ℕ → Type 0 = Standing later i in
+      let P : ℕ → ℕ → List ℕ → Type 0 = FileAndModel later i in
       let at : (k : ℕ) → (k < n) ⊎ (k ≡ n) → P (slice_index (image_page image).offsets k) (slice_index (image_page image).byte_counts k) (samples_of_chunk all k) =
       λ k o. elim o [
         | inl l ↦ (let r = h.regions k l in
@@ -185,7 +185,7 @@ module _ (file : FileState) (m : Model) (i : OpenImage) (samples : List (List �
       → HoldsOpen file.kind later image all
   chunk_kept h c s l is near short = record {
     given = h.given;
-    holds = holds_grown m later i.directory.fields h.given (deeds_grow file.kind file.bytes m (Appended stored ∷ [])) h.holds;
+    holds = holds_grown m later i.directory.fields h.given (ops_grow file.kind file.bytes m (Appended stored ∷ [])) h.holds;
     tells = tells_kept i i.directory (i.chunks ++ chunk ∷ []) h.given h.tells;
     open_so = open_kept i i.directory (i.chunks ++ chunk ∷ []) h.open_so;
     chunks = chunks_more h.chunks (is_next file i (length numbers) (length stored) l c) s is near short;

@@ -13,15 +13,15 @@ use Rattle.tiff_value.specs.Data.{Scalars, u16s, formats}
 use Rattle.tiff_page.specs.Counts.{all_chunks}
 use Rattle.tiff_encode.specs.Value.{offset_values}
 use Rattle.tiff_encode.specs.Model.{In, FinishedDirectory, Model, with_directory}
-use Rattle.tiff_encode.specs.Deeds.{Deed, Listed, after_deed, standing_fields}
-use Rattle.tiff_encode.specs.Machine.{FileState, OpenDirectory, OpenImage, Writing, does, ◌>>=◌}
+use Rattle.tiff_encode.specs.WriteOps.{WriteOp, Listed, after_op, standing_fields}
+use Rattle.tiff_encode.specs.Machine.{FileState, OpenDirectory, OpenImage, WriteCall, does, ◌>>=◌}
 use Rattle.tiff_encode.specs.Causes.{end_of, finish_cause}
 use Rattle.tiff_encode.specs.Chunks.{all_samples, image_page, is_left}
 use Rattle.tiff_encode.specs.Calls.{Offsets, links_to, offsets_of, chains, finish, write_tags, extended_by_first, sample_tags, chunk_tags, last_tags, finish_image}
-use Rattle.tiff_encode.specs.Held.{Given, HoldsValues, ExtraGiven, TellsChunks, TellsImage, IsWholeImage, AreHanded, RegionsHaveChunks, ImagesShow}
+use Rattle.tiff_encode.specs.Held.{Given, HoldsValues, ExtraGiven, TellsChunks, TellsImage, IsWholeImage, AreSupplied, RegionsHaveChunks, ImagesShow}
 use Rattle.tiff_encode.specs.Open.{TellsForm, TellsOpen, IsOpen, HoldsChunks, HoldsOpen, model_by, EndsHeld, GrownEnded, EndedShown, EndsShown}
 use Rattle.tiff_encode.proofs.Slices.{ok_inj}
-use Rattle.tiff_encode.proofs.Deeds.{deeds_grow}
+use Rattle.tiff_encode.proofs.WriteOps.{ops_grow}
 use Rattle.tiff_encode.proofs.Open.Held.{holds_grown, chunks_grown, set}
 use Rattle.tiff_encode.proofs.Open.Tags.{both_held, caused_held, tags_adding, tags_held, after, after_joined}
 
@@ -153,8 +153,8 @@ module _ (kind : FileKind) (m : Model) (i : OpenImage) (samples : List (List ℕ
   }
 
   -- each chunk has its samples
-  are_handed : HoldsChunks kind m i samples → is_left i ≡ false → AreHanded i samples
-  are_handed h l = record { lengths = λ k b. h.lengths k (subst (λ n. k < n) (sym (all_written h l)) b); small = h.small }
+  are_supplied : HoldsChunks kind m i samples → is_left i ≡ false → AreSupplied i samples
+  are_supplied h l = record { lengths = λ k b. h.lengths k (subst (λ n. k < n) (sym (all_written h l)) b); small = h.small }
 
   -- each chunk encodes its samples
   regions_have : HoldsChunks kind m i samples → is_left i ≡ false → RegionsHaveChunks m i samples
@@ -168,16 +168,16 @@ pub finish_listed : (d : OpenDirectory) (file : FileState) (m : Model) (offsets 
     In listed (model_by file m (finish d file)).directories)
 unfolding finish
 finish_listed d file m offsets h =
-    let rest : Unit {0} → Writing Offsets = λ _. chains d.chained (offsets_of file.kind (end_of file) (len d.fields)) in
-    let links : List Deed = links_to d.parent (end_of file) in
-    let call : Writing Offsets = does (Listed d.fields ∷ links) >>= rest in
+    let rest : Unit {0} → WriteCall Offsets = λ _. chains d.chained (offsets_of file.kind (end_of file) (len d.fields)) in
+    let links : List WriteOp = links_to d.parent (end_of file) in
+    let call : WriteCall Offsets = does (Listed d.fields ∷ links) >>= rest in
     let listed : ℕ → FinishedDirectory = λ p. record { offset = p; fields = standing_fields file.kind d.fields } in
     let n : Model = with_directory file.kind m (listed (end_of file)) in
     let P : Model → Type 0 = λ k. In (listed offsets.pointer) k.directories in
     caused_held (finish_cause file d) call file m P offsets h
     (λ _ a.
     let same : end_of file ≡ offsets.pointer = ap (λ o. o.pointer) (ok_inj _ offsets a) in
-    let grown = deeds_grow file.kind (after_deed file.kind file.bytes (Listed d.fields)) n (links ++ []) in
+    let grown = ops_grow file.kind (after_op file.kind file.bytes (Listed d.fields)) n (links ++ []) in
     grown.directories (listed offsets.pointer) (inl (ap listed (sym same))))
 
 -- a model holds a directory with some values at an offset
@@ -193,7 +193,7 @@ image_ended : (file : FileState) (m : Model) (i : OpenImage) (samples : List (Li
 unfolding finish_image
 image_ended file m i samples offsets h a =
     let tags : List (Tag × Scalars) = last_tags file.kind i in
-    let call : Writing OpenDirectory = write_tags i.directory tags in
+    let call : WriteCall OpenDirectory = write_tags i.directory tags in
     let later : Given = last_given file.kind i h.given in
     let adds = tags_adding i.directory tags file in
     both_held call finish file m (Ended file.kind offsets.pointer later) offsets adds a
@@ -208,7 +208,7 @@ image_ended file m i samples offsets h a =
       d,
       (
         subst (λ kind. In (at kind) k.directories) same (finish_listed d mid n offsets y),
-        holds_grown n k d.fields later (deeds_grow mid.kind mid.bytes n (finish d mid).deeds) held,
+        holds_grown n k d.fields later (ops_grow mid.kind mid.bytes n (finish d mid).ops) held,
       ),
     ))
 
@@ -218,7 +218,7 @@ ends_held file m i samples offsets h left a =
     let n : Model = model_by file m (finish_image i file) in
     let e = image_ended file m i samples offsets h a in
     let c : HoldsChunks file.kind n i samples =
-    chunks_grown file.kind m n i samples (deeds_grow file.kind file.bytes m (finish_image i file).deeds) h.chunks in
+    chunks_grown file.kind m n i samples (ops_grow file.kind file.bytes m (finish_image i file).ops) h.chunks in
     record {
       fields = e.0.fields;
       given = last_given file.kind i h.given;
@@ -226,7 +226,7 @@ ends_held file m i samples offsets h left a =
       holds = e.1.1;
       whole = is_whole file.kind n i samples h.open_so c left;
       tells = last_tells file.kind i h.given h.tells;
-      handed = are_handed file.kind n i samples c left;
+      supplied = are_supplied file.kind n i samples c left;
       regions = regions_have file.kind n i samples c left;
     }
 
@@ -239,7 +239,7 @@ grown_ended kind m n i samples offset g h = record {
   holds = holds_grown m n h.fields h.given g h.holds;
   whole = h.whole;
   tells = h.tells;
-  handed = h.handed;
+  supplied = h.supplied;
   regions = λ k b. let r = h.regions k b in (r.0, (g.regions _ r.1.0, r.1.1));
 }
 
@@ -247,7 +247,7 @@ grown_ended kind m n i samples offset g h = record {
 pub ended_shown_by : ImagesShow → EndedShown
 ended_shown_by show kind file m i samples offset stands h =
     show kind file m (record { offset = offset; fields = standing_fields kind h.fields }) h.fields h.given i samples
-    stands h.listed refl h.holds h.whole h.tells h.handed h.regions
+    stands h.listed refl h.holds h.whole h.tells h.supplied h.regions
 
 pub ends_shown_by : ImagesShow → EndsShown
 ends_shown_by show file m i samples offsets h left a stands =

@@ -17,7 +17,7 @@ use Rattle.tiff_encode.specs.Open.{HoldsChunks, GrownOpen}
 -- one tag stays held in a model that grows
 at_grown : (m n : Model) (f : Option Field) (v : Option Scalars) → Grows m n → HoldsAt m f v → HoldsAt n f v
 at_grown m n (Some f) (Some v) g h =
-    record { field_type = h.field_type; count = h.count; whole = h.whole; handed = g.handed _ h.handed }
+    record { field_type = h.field_type; count = h.count; whole = h.whole; supplied = g.supplied _ h.supplied }
 at_grown m n None None g h = tt
 at_grown m n (Some f) None g h = absurd h
 at_grown m n None (Some v) g h = absurd h

@@ -13,14 +13,14 @@ use Rattle.tiff_base.specs.Field.{Field}
 use Rattle.tiff_base.specs.Tags.{tag_number}
 use Rattle.tiff_value.specs.Data.{Scalars, u32s, rationals, units}
 use Rattle.tiff_encode.specs.Model.{Model}
-use Rattle.tiff_encode.specs.Machine.{FileState, OpenDirectory, Chunk, OpenImage, Writing, gives, by_cause}
+use Rattle.tiff_encode.specs.Machine.{FileState, OpenDirectory, Chunk, OpenImage, WriteCall, gives, by_cause}
 use Rattle.tiff_encode.specs.Causes.{resolution_cause, one_resolution_cause, resolution_unit_cause}
 use Rattle.tiff_encode.specs.Calls.{write_tag, write_tag_buf, write_tags, extend_from, with_directory_of, with_tags, resolution_tags, resolution, x_resolution, y_resolution, resolution_unit}
 use Rattle.tiff_encode.specs.Stored.{unpacked_chunk}
 use Rattle.tiff_encode.specs.Held.{is_page_tag, Given, HoldsValues}
 use Rattle.tiff_encode.specs.Open.{TellsForm, TellsOpen, IsOpen, HoldsChunks, HoldsOpen, model_by, TagsKeepOpen, FieldsKeepOpen, ResolutionsKeepOpen}
 use Rattle.tiff_encode.proofs.Slices.{ok_inj}
-use Rattle.tiff_encode.proofs.Deeds.{deeds_grow}
+use Rattle.tiff_encode.proofs.WriteOps.{ops_grow}
 use Rattle.tiff_encode.proofs.Open.Held.{chunks_grown, other_held}
 use Rattle.tiff_encode.proofs.Open.Tags.{both_held, caused_held, tags_adding, other_tag_held, other_buf_held, others_held}
 
@@ -96,15 +96,15 @@ directory_kept kind m n i d samples h o c = record {
 pub tags_keep_open : TagsKeepOpen
 tags_keep_open file m i samples t d h q = (
   λ value a.
-      let call : Writing OpenDirectory = write_tag i.directory t value in
+      let call : WriteCall OpenDirectory = write_tag i.directory t value in
       let n : Model = model_by file m (call file) in
       directory_kept file.kind m n i d samples h (other_tag_held i.directory t value file m h.given d q h.holds a)
-      (chunks_grown file.kind m n i samples (deeds_grow file.kind file.bytes m (call file).deeds) h.chunks),
+      (chunks_grown file.kind m n i samples (ops_grow file.kind file.bytes m (call file).ops) h.chunks),
   λ b a.
-      let call : Writing OpenDirectory = write_tag_buf i.directory t b in
+      let call : WriteCall OpenDirectory = write_tag_buf i.directory t b in
       let n : Model = model_by file m (call file) in
       directory_kept file.kind m n i d samples h (other_buf_held i.directory t b file m h.given d q h.holds a)
-      (chunks_grown file.kind m n i samples (deeds_grow file.kind file.bytes m (call file).deeds) h.chunks),
+      (chunks_grown file.kind m n i samples (ops_grow file.kind file.bytes m (call file).ops) h.chunks),
 )
 
 -- fields of tags that a page isn't read by
@@ -130,15 +130,15 @@ pub with_tags_kept : (values : List (Tag × Scalars)) (cause : Option TiffError)
     → HoldsOpen file.kind (model_by file m (by_cause cause (with_tags i values) file)) next samples
 with_tags_kept values cause file m i next samples q h a =
     let P : Model → Type 0 = λ n. HoldsOpen file.kind n next samples in
-    let call : Writing OpenDirectory = write_tags i.directory values in
-    let rest : OpenDirectory → Writing OpenImage = λ d. gives (with_directory_of i d) in
+    let call : WriteCall OpenDirectory = write_tags i.directory values in
+    let rest : OpenDirectory → WriteCall OpenImage = λ d. gives (with_directory_of i d) in
     caused_held cause (with_tags i values) file m P next a
     (λ _ b. both_held call rest file m P next (tags_adding i.directory values file) b
     (λ d x y.
     let n : Model = model_by file m (call file) in
     subst (λ j. HoldsOpen file.kind n j samples) (ok_inj (with_directory_of i d) next y)
     (directory_kept file.kind m n i d samples h (others_held i.directory values file m h.given d q h.holds x)
-    (chunks_grown file.kind m n i samples (deeds_grow file.kind file.bytes m (call file).deeds) h.chunks))))
+    (chunks_grown file.kind m n i samples (ops_grow file.kind file.bytes m (call file).ops) h.chunks))))
 
 pub resolutions_keep_open : ResolutionsKeepOpen
 unfolding resolution x_resolution y_resolution resolution_unit

@@ -14,7 +14,7 @@ use Rattle.tiff_base.specs.declared.tags.Tag.TheVariants as tag
 use Rattle.tiff_base.specs.Tags.{tag_number}
 use Rattle.tiff_value.specs.Data.{Scalars, u32s, planars, extras, data_of}
 use Rattle.tiff_encode.specs.Model.{In, Model}
-use Rattle.tiff_encode.specs.Machine.{FileState, OpenDirectory, ChunkLayout, OpenImage, Writing, gives, by_cause, ◌>>=◌}
+use Rattle.tiff_encode.specs.Machine.{FileState, OpenDirectory, ChunkLayout, OpenImage, WriteCall, gives, by_cause, ◌>>=◌}
 use Rattle.tiff_encode.specs.Drawn.{IsForm}
 use Rattle.tiff_encode.specs.Chunks.{is_tile, is_begun}
 use Rattle.tiff_encode.specs.Causes.{unless_ended, is_no_side, extra_samples_cause, rows_per_strip_cause, tiles_cause, planar_cause}
@@ -22,7 +22,7 @@ use Rattle.tiff_encode.specs.Calls.{write_tag, write_tags, strips_of, tiles_of, 
 use Rattle.tiff_encode.specs.Held.{Given, HoldsValues, samples_of_chunk}
 use Rattle.tiff_encode.specs.Open.{TellsOpen, IsOpen, HoldsChunks, HoldsOpen, model_by, KeepsOpen, SettingsKeepOpen}
 use Rattle.tiff_encode.proofs.Slices.{ok_inj}
-use Rattle.tiff_encode.proofs.Deeds.{deeds_grow}
+use Rattle.tiff_encode.proofs.WriteOps.{ops_grow}
 use Rattle.tiff_encode.proofs.Joining.{adding, tag_adds}
 use Rattle.tiff_encode.proofs.Open.Held.{chunks_grown, set, unset_held}
 use Rattle.tiff_encode.proofs.Open.Tags.{both_held, caused_held, tags_adding, tag_held, tags_held, after}
@@ -68,19 +68,19 @@ none_held kind m i next samples h b c s =
 -- one tag is written, and the image is held with it
 one_set : (call : OpenDirectory → OpenImage) (t : Tag) (values : Scalars) (cause : Option TiffError) (file : FileState) (m : Model)
     (i next : OpenImage) (samples : List (List ℕ)) (h : HoldsOpen file.kind m i samples)
-    → (let write : Writing OpenImage = write_tag i.directory t (Ok (data_of values)) >>= (λ d. gives (call d)) in
+    → (let write : WriteCall OpenImage = write_tag i.directory t (Ok (data_of values)) >>= (λ d. gives (call d)) in
     (by_cause cause write file).answer ≡ Ok next
     → ((d : OpenDirectory) (n : Model) → cause ≡ None → HoldsChunks file.kind n i samples
     → HoldsValues n d.fields (set h.given (tag_number t) (Some values)) → HoldsOpen file.kind n (call d) samples)
     → HoldsOpen file.kind (model_by file m (by_cause cause write file)) next samples)
 one_set call t values cause file m i next samples h a f =
-    let first : Writing OpenDirectory = write_tag i.directory t (Ok (data_of values)) in
+    let first : WriteCall OpenDirectory = write_tag i.directory t (Ok (data_of values)) in
     let P : Model → Type 0 = λ n. HoldsOpen file.kind n next samples in
     caused_held cause (first >>= (λ d. gives (call d))) file m P next a
     (λ c b. both_held first (λ d. gives (call d)) file m P next (adding (first file) file (tag_adds i.directory t (Ok (data_of values)) file)) b
     (λ d x y.
     let n : Model = model_by file m (first file) in
-    let grown = deeds_grow file.kind file.bytes m (first file).deeds in
+    let grown = ops_grow file.kind file.bytes m (first file).ops in
     subst (λ j. HoldsOpen file.kind n j samples) (ok_inj (call d) next y)
     (f d n c (chunks_grown file.kind m n i samples grown h.chunks) (tag_held i.directory t values file m h.given d h.holds x))))
 
@@ -225,7 +225,7 @@ unfolding tiles tiles_cause
 tiles_kept width length w l file m i next samples h a =
     let form : ChunkLayout = tiles_of width length i.form.planar in
     let values : List (Tag × Scalars) = (tag.TileWidth, u32s (width ∷ [])) ∷ (tag.TileLength, u32s (length ∷ [])) ∷ [] in
-    let first : Writing OpenDirectory = write_tags i.directory values in
+    let first : WriteCall OpenDirectory = write_tags i.directory values in
     let call : OpenDirectory → OpenImage = λ d. record i { directory = without_field d tag.RowsPerStrip; form = form } in
     let P : Model → Type 0 = λ n. HoldsOpen file.kind n next samples in
     caused_held (tiles_cause file i width length) (first >>= (λ d. gives (call d))) file m P next a
@@ -233,7 +233,7 @@ tiles_kept width length w l file m i next samples h a =
     (λ d x y.
     let n : Model = model_by file m (first file) in
     let g : HoldsChunks file.kind n i samples =
-    chunks_grown file.kind m n i samples (deeds_grow file.kind file.bytes m (first file).deeds) h.chunks in
+    chunks_grown file.kind m n i samples (ops_grow file.kind file.bytes m (first file).ops) h.chunks in
     let tests = first_test _ _ _ (fresh file.fault _ c) in
     let sides = neither (is_no_side width) (is_no_side length) (first_test _ _ _ tests.1).0 in
     let t : TellsOpen i h.given = h.tells in

@@ -8,8 +8,8 @@ use Rattle.tiff_base.specs.declared.tags.Tag.TheVariants as tag
 use Rattle.tiff_base.specs.Field.{AreEntries}
 use Rattle.tiff_value.specs.Data.{u32s, planars, units, extras, rationals}
 use Rattle.tiff_encode.specs.Model.{Model, Stands}
-use Rattle.tiff_encode.specs.Laws.{DeedsFit}
-use Rattle.tiff_encode.specs.Machine.{FileState, OpenDirectory, OpenImage, WriteOutcome, Writing, gives, by_cause, ◌>>=◌}
+use Rattle.tiff_encode.specs.Laws.{OpsFit}
+use Rattle.tiff_encode.specs.Machine.{FileState, OpenDirectory, OpenImage, WriteOutcome, WriteCall, gives, by_cause, ◌>>=◌}
 use Rattle.tiff_encode.specs.Causes.{end_of, extra_samples_cause, rows_per_strip_cause, tiles_cause, planar_cause, resolution_cause, one_resolution_cause, resolution_unit_cause}
 use Rattle.tiff_encode.specs.Calls.{write_tags, without_field, strips_of, tiles_of, with_directory_of, extra_samples, set_rows_per_strip, tiles, planar, resolution_tags, resolution, x_resolution, y_resolution, resolution_unit}
 use Rattle.tiff_encode.specs.Ends.{Ends}
@@ -28,7 +28,7 @@ EndFits file = file.fault ≡ None → end_of file < 2 ^ 64
 -- the changes of a call that succeeds fit, and the fields of the image's directory are entries
 abbrev pub DoneFits : FileState → Model → WriteOutcome OpenImage → Type 0
 DoneFits old m told = (x : OpenImage) → told.answer ≡ Ok x → end_of told.next < 2 ^ 64
-    → DeedsFit old.kind old.bytes m told.deeds × AreEntries x.directory.fields
+    → OpsFit old.kind old.bytes m told.ops × AreEntries x.directory.fields
 
 -- a call of an image that appends
 pub image_left : {X : Type 0} (view : X → OpenImage) (told : WriteOutcome OpenImage) (r : Result X TiffError) (old new : FileState) (m : Model)
@@ -44,12 +44,12 @@ image_left view told (Err fault) old new m a f d l s e =
 -- tags are written unless the checks refuse the call, and the image has their directory
 module _ {X : Type 0} (view : X → OpenImage) (r : Result X TiffError) (old new : FileState) (m : Model) (l : EndFits new)
     (s : Stands old.kind old.bytes m) where
-  set_left : (cause : Option TiffError) (call : Writing OpenDirectory) (g : OpenDirectory → OpenImage)
+  set_left : (cause : Option TiffError) (call : WriteCall OpenDirectory) (g : OpenDirectory → OpenImage)
       → (cause ≡ None → old.fault ≡ None) → Adds (call old) old → DoneFits old m (by_cause cause (call >>= (λ x. gives (g x))) old)
       → Ends view (by_cause cause (call >>= (λ x. gives (g x))) old) r old new
       → Leaves (by_cause cause (call >>= (λ x. gives (g x))) old) r old new m
   set_left cause call g f a d e =
-      let set : Writing OpenImage = call >>= (λ x. gives (g x)) in
+      let set : WriteCall OpenImage = call >>= (λ x. gives (g x)) in
       let all : Adds (set old) old = bind_adds call (λ x. gives (g x)) old a (λ x _. answers_adding (Ok (g x)) (call old).next) in
       image_left view (by_cause cause set old) r old new m (adding (by_cause cause set old) old (caused_adds cause set old all))
       (λ x h. f (uncaused_by cause set old x h)) d l s e

@@ -12,16 +12,16 @@ use Rattle.tiff_base.specs.Number.{le}
 use Rattle.tiff_base.specs.Tags.{tag_number}
 use Rattle.tiff_value.specs.Buffer.{BufferRecord}
 use Rattle.tiff_value.specs.Data.{FieldData, Scalars, data_of}
-use Rattle.tiff_encode.specs.Model.{In, HandedField, Model}
-use Rattle.tiff_encode.specs.Deeds.{Deed, Appended, Handed, bytes_after, model_after}
+use Rattle.tiff_encode.specs.Model.{In, SuppliedField, Model}
+use Rattle.tiff_encode.specs.WriteOps.{WriteOp, Appended, Supplied, bytes_after, model_after}
 use Rattle.tiff_encode.specs.Value.{is_long, filled_field, field_at, buffer_data}
-use Rattle.tiff_encode.specs.Machine.{FileState, OpenDirectory, Writing, gives, by_cause, and_then, ◌>>=◌}
+use Rattle.tiff_encode.specs.Machine.{FileState, OpenDirectory, WriteCall, gives, by_cause, and_then, ◌>>=◌}
 use Rattle.tiff_encode.specs.Causes.{end_of, write_tag_cause, write_buf_cause}
 use Rattle.tiff_encode.specs.Calls.{with_field, placed_field, write_entry, write_entry_buf, write_tag, write_tag_buf, write_tags}
 use Rattle.tiff_encode.specs.Held.{is_page_tag, Given, HasValues, HoldsValues}
 use Rattle.tiff_encode.specs.Open.{model_by}
 use Rattle.tiff_encode.proofs.Slices.{ok_inj, length-le}
-use Rattle.tiff_encode.proofs.Deeds.{model_joined, deeds_append, deeds_grow}
+use Rattle.tiff_encode.proofs.WriteOps.{model_joined, ops_append, ops_grow}
 use Rattle.tiff_encode.proofs.Joining.{IsAdding, Adds, adding, caused_adds, placed_adds, entry_adds, tag_adds, answers_adding, bind_adding}
 use Rattle.tiff_encode.proofs.Open.Held.{holds_grown, set, set_held, other_held}
 
@@ -32,29 +32,29 @@ pub no_answer : {A : Type 0} {e : TiffError} {x : A} → let a : Result A TiffEr
 no_answer h = cc
 
 -- the first call succeeds, and then the second call
-going_on_held : {A B : Type 0} (r : Result A TiffError) (deeds : List Deed) (next : FileState) (rest : A → Writing B) (file : FileState)
-    (m : Model) (P : Model → Type 0) (y : B) → next.kind ≡ file.kind → next.bytes ≡ bytes_after file.kind file.bytes deeds
-    → (and_then r deeds next rest).answer ≡ Ok y
-    → ((x : A) → r ≡ Ok x → (rest x next).answer ≡ Ok y → P (model_by next (model_after file.kind file.bytes m deeds) (rest x next)))
-    → P (model_after file.kind file.bytes m (and_then r deeds next rest).deeds)
-going_on_held (Err e) deeds next rest file m P y k b h f = absurd (no_answer h)
-going_on_held (Ok x) deeds next rest file m P y k b h f =
-    let after : Model = model_after file.kind file.bytes m deeds in
-    subst P ((λ i. model_after (k i) (b i) after (rest x next).deeds) ∙ sym (model_joined file.kind file.bytes m deeds (rest x next).deeds))
+going_on_held : {A B : Type 0} (r : Result A TiffError) (ops : List WriteOp) (next : FileState) (rest : A → WriteCall B) (file : FileState)
+    (m : Model) (P : Model → Type 0) (y : B) → next.kind ≡ file.kind → next.bytes ≡ bytes_after file.kind file.bytes ops
+    → (and_then r ops next rest).answer ≡ Ok y
+    → ((x : A) → r ≡ Ok x → (rest x next).answer ≡ Ok y → P (model_by next (model_after file.kind file.bytes m ops) (rest x next)))
+    → P (model_after file.kind file.bytes m (and_then r ops next rest).ops)
+going_on_held (Err e) ops next rest file m P y k b h f = absurd (no_answer h)
+going_on_held (Ok x) ops next rest file m P y k b h f =
+    let after : Model = model_after file.kind file.bytes m ops in
+    subst P ((λ i. model_after (k i) (b i) after (rest x next).ops) ∙ sym (model_joined file.kind file.bytes m ops (rest x next).ops))
     (f x refl h)
 
 -- If the first call appends, both calls leave what the second call leaves.
-pub both_held : {A B : Type 0} (call : Writing A) (rest : A → Writing B) (file : FileState) (m : Model) (P : Model → Type 0) (y : B)
+pub both_held : {A B : Type 0} (call : WriteCall A) (rest : A → WriteCall B) (file : FileState) (m : Model) (P : Model → Type 0) (y : B)
     → IsAdding (call file) file → ((call >>= rest) file).answer ≡ Ok y
     → ((x : A) → (call file).answer ≡ Ok x → (rest x (call file).next).answer ≡ Ok y
     → P (model_by (call file).next (model_by file m (call file)) (rest x (call file).next)))
     → P (model_by file m ((call >>= rest) file))
 both_held call rest file m P y a h f =
-    going_on_held (call file).answer (call file).deeds (call file).next rest file m P y (ap (λ s. s.kind) a.next)
-    (ap (λ s. s.bytes) a.next ∙ sym (deeds_append file.kind file.bytes (call file).deeds a.appending)) h f
+    going_on_held (call file).answer (call file).ops (call file).next rest file m P y (ap (λ s. s.kind) a.next)
+    (ap (λ s. s.bytes) a.next ∙ sym (ops_append file.kind file.bytes (call file).ops a.appending)) h f
 
 -- nothing refuses the call
-pub caused_held : {A : Type 0} (cause : Option TiffError) (call : Writing A) (file : FileState) (m : Model) (P : Model → Type 0) (y : A)
+pub caused_held : {A : Type 0} (cause : Option TiffError) (call : WriteCall A) (file : FileState) (m : Model) (P : Model → Type 0) (y : A)
     → (by_cause cause call file).answer ≡ Ok y
     → (cause ≡ None → (call file).answer ≡ Ok y → P (model_by file m (call file)))
     → P (model_by file m (by_cause cause call file))
@@ -70,10 +70,10 @@ whole_by false offset bytes =
     length-take-le 8 (bytes ++ replicate 8 0) (omega (arith, length-append bytes (replicate 8 0)))
 
 -- the model contains the written value
-handed_by : (long : Bool) (kind : FileKind) (bytes : List ℕ) (m : Model) (h : HandedField) (more : List ℕ)
-    → In h (model_after kind bytes m (cond long (Appended more ∷ Handed h ∷ []) (Handed h ∷ []) ++ [])).handed
-handed_by true kind bytes m h more = inl refl
-handed_by false kind bytes m h more = inl refl
+supplied_by : (long : Bool) (kind : FileKind) (bytes : List ℕ) (m : Model) (h : SuppliedField) (more : List ℕ)
+    → In h (model_after kind bytes m (cond long (Appended more ∷ Supplied h ∷ []) (Supplied h ∷ []) ++ [])).supplied
+supplied_by true kind bytes m h more = inl refl
+supplied_by false kind bytes m h more = inl refl
 
 -- a written value is a field of the model
 placed_held : (values : Scalars) (file : FileState) (m : Model) (field : Field) → (placed_field (data_of values) file).answer ≡ Ok field
@@ -86,7 +86,7 @@ placed_held values file m field h =
       field_type = refl;
       count = refl;
       whole = whole_by (is_long file.kind v) (end_of file) v.bytes;
-      handed = handed_by (is_long file.kind v) file.kind file.bytes m (record { field = f; bytes = v.bytes }) v.bytes;
+      supplied = supplied_by (is_long file.kind v) file.kind file.bytes m (record { field = f; bytes = v.bytes }) v.bytes;
     })
 
 -- a value written by `write_entry` is a field of the model
@@ -111,7 +111,7 @@ tag_held d t values file m given next o h =
     (adding (write_entry value file) file (entry_adds value file)) h
     (λ field a b.
     let n : Model = model_by file m (write_entry value file) in
-    let grown : HoldsValues n d.fields given = holds_grown m n d.fields given (deeds_grow file.kind file.bytes m (write_entry value file).deeds) o in
+    let grown : HoldsValues n d.fields given = holds_grown m n d.fields given (ops_grow file.kind file.bytes m (write_entry value file).ops) o in
     subst (λ x. HoldsValues n x.fields later) (ok_inj (with_field d t field) next b)
     (set_held n d.fields given (tag_number t) field values (entry_held values file m field a) grown))
 
@@ -126,7 +126,7 @@ pub tags_held : (d : OpenDirectory) (values : List (Tag × Scalars)) (file : Fil
     → HoldsValues (model_by file m (write_tags d values file)) next.fields (after given values)
 tags_held d [] file m given next o h = subst (λ x. HoldsValues m x.fields given) (ok_inj d next h) o
 tags_held d (v ∷ values) file m given next o h =
-    let call : Writing OpenDirectory = write_tag d v.0 (Ok (data_of v.1)) in
+    let call : WriteCall OpenDirectory = write_tag d v.0 (Ok (data_of v.1)) in
     let later : Given = set given (tag_number v.0) (Some v.1) in
     both_held call (λ x. write_tags x values) file m (λ n. HoldsValues n next.fields (after later values)) next
     (adding (call file) file (tag_adds d v.0 (Ok (data_of v.1)) file)) h
@@ -136,7 +136,7 @@ tags_held d (v ∷ values) file m given next o h =
 pub tags_adding : (d : OpenDirectory) (values : List (Tag × Scalars)) (file : FileState) → IsAdding (write_tags d values file) file
 tags_adding d [] file = answers_adding (Ok d) file
 tags_adding d (v ∷ values) file =
-    let call : Writing OpenDirectory = write_tag d v.0 (Ok (data_of v.1)) in
+    let call : WriteCall OpenDirectory = write_tag d v.0 (Ok (data_of v.1)) in
     bind_adding call (λ next. write_tags next values) file
     (adding (call file) file (tag_adds d v.0 (Ok (data_of v.1)) file))
     (λ next _. tags_adding next values (call file).next)
@@ -149,7 +149,7 @@ after_joined given (x ∷ xs) ys = after_joined (set given (tag_number x.0) (Som
 -- ---- tags that a page isn't read by
 
 -- the values stay held if a call writes a tag that a page isn't read by
-other_by : (call : Writing Field) (d : OpenDirectory) (t : Tag) (file : FileState) (m : Model) (given : Given) (next : OpenDirectory)
+other_by : (call : WriteCall Field) (d : OpenDirectory) (t : Tag) (file : FileState) (m : Model) (given : Given) (next : OpenDirectory)
     → Adds (call file) file → is_page_tag (tag_number t) ≡ false → HoldsValues m d.fields given
     → ((call >>= (λ field. gives (with_field d t field))) file).answer ≡ Ok next
     → HoldsValues (model_by file m ((call >>= (λ field. gives (with_field d t field))) file)) next.fields given
@@ -157,7 +157,7 @@ other_by call d t file m given next a q o h =
     both_held call (λ field. gives (with_field d t field)) file m (λ n. HoldsValues n next.fields given) next (adding (call file) file a) h
     (λ field _ b.
     let n : Model = model_by file m (call file) in
-    let grown : HoldsValues n d.fields given = holds_grown m n d.fields given (deeds_grow file.kind file.bytes m (call file).deeds) o in
+    let grown : HoldsValues n d.fields given = holds_grown m n d.fields given (ops_grow file.kind file.bytes m (call file).ops) o in
     subst (λ x. HoldsValues n x.fields given) (ok_inj (with_field d t field) next b)
     (other_held n d.fields given (tag_number t) field q grown))
 
@@ -183,7 +183,7 @@ pub others_held : (d : OpenDirectory) (values : List (Tag × Scalars)) (file : F
     → HoldsValues (model_by file m (write_tags d values file)) next.fields given
 others_held d [] file m given next q o h = subst (λ x. HoldsValues m x.fields given) (ok_inj d next h) o
 others_held d (v ∷ values) file m given next q o h =
-    let call : Writing OpenDirectory = write_tag d v.0 (Ok (data_of v.1)) in
+    let call : WriteCall OpenDirectory = write_tag d v.0 (Ok (data_of v.1)) in
     let each = neither (is_page_tag (tag_number v.0)) (list_any (λ w. is_page_tag (tag_number w.0)) values) q in
     both_held call (λ x. write_tags x values) file m (λ n. HoldsValues n next.fields given) next
     (adding (call file) file (tag_adds d v.0 (Ok (data_of v.1)) file)) h

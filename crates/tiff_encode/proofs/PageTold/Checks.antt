@@ -21,8 +21,8 @@ use Rattle.tiff_base.specs.declared.tags.Tag.TheVariants as tag
 use Rattle.tiff_base.specs.Tags.{method_number, interpretation_number, predictor_number, format_number, extra_number}
 use Rattle.tiff_base.specs.Tags as kinds
 use Rattle.tiff_ifd.specs.Into.{into_u16, into_u32, into_u16_vec, into_u64_vec}
-use Rattle.tiff_ifd.specs.Look.{Look, find}
-use Rattle.tiff_ifd.specs.Look as look
+use Rattle.tiff_ifd.specs.TagLookup.{TagLookup, find}
+use Rattle.tiff_ifd.specs.TagLookup as look
 use Rattle.tiff_page.specs.Counts.{planes_of, chunk_count}
 use Rattle.tiff_page.specs.Page.{Chunks}
 use Rattle.tiff_page.specs.Checks.{size_in, interpretation_in, method_in, samples_in, extra_in, format_from, format_in, depth_from, depth_in, predictor_in, planar_from, planar_in, subsampling_from, subsampling_in, chunk_type_in, chunks_counted, strips_in, tiles_in, chunks_in, page_of}
@@ -43,7 +43,7 @@ abbrev pub lengths_of : OpenImage → List ℕ
 lengths_of i = map (λ chunk. chunk.stored) i.chunks
 
 -- the look-up finds strips and no tiles
-pub record FindsStrips (l : Look) (i : OpenImage) : Type 0 where
+pub record FindsStrips (l : TagLookup) (i : OpenImage) : Type 0 where
   pub rows : find into_u32 l tag.RowsPerStrip ≡ Ok (Some i.form.chunk_height)
   pub offsets : find into_u64_vec l tag.StripOffsets ≡ Ok (Some (offsets_of i))
   pub byte_counts : find into_u64_vec l tag.StripByteCounts ≡ Ok (Some (lengths_of i))
@@ -53,7 +53,7 @@ pub record FindsStrips (l : Look) (i : OpenImage) : Type 0 where
   pub no_counts : l.has tag.TileByteCounts ≡ false
 
 -- the look-up finds tiles and no strips
-pub record FindsTiles (l : Look) (i : OpenImage) : Type 0 where
+pub record FindsTiles (l : TagLookup) (i : OpenImage) : Type 0 where
   pub wide : find into_u32 l tag.TileWidth ≡ Ok (Some i.form.chunk_width)
   pub high : find into_u32 l tag.TileLength ≡ Ok (Some i.form.chunk_height)
   pub offsets : find into_u64_vec l tag.TileOffsets ≡ Ok (Some (offsets_of i))
@@ -63,7 +63,7 @@ pub record FindsTiles (l : Look) (i : OpenImage) : Type 0 where
   pub no_offsets : l.has tag.StripOffsets ≡ false
   pub no_counts : l.has tag.StripByteCounts ≡ false
 
-abbrev pub FindsChunks : ChunkType → Look → OpenImage → Type 0
+abbrev pub FindsChunks : ChunkType → TagLookup → OpenImage → Type 0
 FindsChunks Strip l i = FindsStrips l i
 FindsChunks Tile l i = FindsTiles l i
 
@@ -77,7 +77,7 @@ chroma_found meaning.YCbCr = Some (1 ∷ 1 ∷ [])
 chroma_found _ = None
 
 -- The values that a look-up finds are those of an image.
-pub record FindsPage (l : Look) (i : OpenImage) : Type 0 where
+pub record FindsPage (l : TagLookup) (i : OpenImage) : Type 0 where
   pub wide : find into_u32 l tag.ImageWidth ≡ Ok (Some i.width)
   pub high : find into_u32 l tag.ImageLength ≡ Ok (Some i.height)
   pub bits : find into_u64_vec l tag.BitsPerSample ≡ Ok (Some (extended_by_first i.color.bits (length i.extra)))
@@ -163,12 +163,12 @@ some_is : (n : ℕ) → 0 < n → (n == 0) ≡ false
 some_is n h = ne_eqb n 0 (λ e. omega (arith, e, h))
 
 -- the check of the chunk type finds the type
-chunk_type_found : (l : Look) (i : OpenImage) (c : ChunkType) → FindsChunks c l i → chunk_type_in l ≡ Ok c
+chunk_type_found : (l : TagLookup) (i : OpenImage) (c : ChunkType) → FindsChunks c l i → chunk_type_in l ≡ Ok c
 unfolding chunk_type_in
 chunk_type_found l i Strip t = rw (t.has_offsets, t.has_counts, t.no_offsets, t.no_counts) refl
 chunk_type_found l i Tile t = rw (t.has_offsets, t.has_counts, t.no_offsets, t.no_counts) refl
 
-module _ (kind : FileKind) (l : Look) (i : OpenImage) (t : FindsPage l i) (w : IsWholeImage kind i) where
+module _ (kind : FileKind) (l : TagLookup) (i : OpenImage) (t : FindsPage l i) (w : IsWholeImage kind i) where
   -- the samples of the color are alike
   abbrev alike : AreAlike i.color
   alike = image_alike kind i w

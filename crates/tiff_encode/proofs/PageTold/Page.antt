@@ -28,11 +28,11 @@ use Rattle.tiff_base.specs.Directory.{directory_at}
 use Rattle.tiff_base.specs.Field.{Field, DirectoryRecord}
 use Rattle.tiff_base.specs.Tags.{tag_number, method_number, interpretation_number, predictor_number, format_number, extra_number}
 use Rattle.tiff_value.specs.Data.{u16s, methods, interpretations, planars, predictors, formats, extras, data_of}
-use Rattle.tiff_ifd.specs.Datum.{Datum, short}
+use Rattle.tiff_ifd.specs.PlainValue.{PlainValue, short}
 use Rattle.tiff_ifd.specs.FieldValue.{field_value}
 use Rattle.tiff_ifd.specs.Into.{into_u16, into_u16_vec, into_u64_vec}
 use Rattle.tiff_ifd.specs.Limits.{unlimited}
-use Rattle.tiff_ifd.specs.Look.{Look, look_up_in, look_in, find}
+use Rattle.tiff_ifd.specs.TagLookup.{TagLookup, look_up_in, look_in, find}
 use Rattle.tiff_page.specs.Checks.{page_of}
 use Rattle.tiff_page.specs.Page.{PageRecord}
 use Rattle.tiff_encode.specs.FileBytes.{offset_len}
@@ -111,7 +111,7 @@ some_offsets Big = lit< tt
 
 module _ (kind : FileKind) (file : List ℕ) (m : Model) (fields : FinMap nat_cmp Field) (given : Given)
     (s : Stands kind file m) (h : HoldsValues m fields given) where
-  abbrev l : Look
+  abbrev l : TagLookup
   l = the_look kind file m fields given s h
 
   -- the look-up finds the planar configuration
@@ -269,7 +269,7 @@ module _ (kind : FileKind) (file : List ℕ) (m : Model) (fields : FinMap nat_cm
 pub page_told : PageTold
 unfolding look_in
 page_told kind file m d fields given i s in_model is holds w t =
-    let value : Field → Result Datum TiffError = field_value kind LittleEndian file unlimited in
+    let value : Field → Result PlainValue TiffError = field_value kind LittleEndian file unlimited in
     let F : DirectoryRecord → Result PageRecord TiffError = λ r. page_of (look_up_in value r.entries) in
     ok_bind (directory_at kind LittleEndian file d.offset) F _ (image_page i) (s.directories d in_model)
     (ap (λ fs. page_of (look_up_in value fs)) is

@@ -18,16 +18,16 @@ use Rattle.tiff_base.specs.Number.{le}
 use Rattle.tiff_base.specs.Tags.{tag_number}
 use Rattle.tiff_base.specs.Types.{type_size}
 use Rattle.tiff_value.specs.Data.{Scalars, u32s, u64s, data_by, data_of}
-use Rattle.tiff_ifd.specs.Datum.{Datum, DatumList, short, unsigned, unsigned_big}
-use Rattle.tiff_ifd.specs.Datum as f
+use Rattle.tiff_ifd.specs.PlainValue.{PlainValue, PlainValueList, short, unsigned, unsigned_big}
+use Rattle.tiff_ifd.specs.PlainValue as f
 use Rattle.tiff_ifd.specs.FieldValue.{field_value}
 use Rattle.tiff_ifd.specs.Into.{into_u16, into_u32, into_u64, into_u64_vec, each_item}
 use Rattle.tiff_ifd.specs.Limits.{unlimited}
-use Rattle.tiff_ifd.specs.Look.{Look, if_found, look_up_in, find}
+use Rattle.tiff_ifd.specs.TagLookup.{TagLookup, if_found, look_up_in, find}
 use Rattle.tiff_encode.specs.FileBytes.{offset_len}
 use Rattle.tiff_encode.specs.Value.{offset_values}
 use Rattle.tiff_encode.specs.Model.{In, Model, Stands}
-use Rattle.tiff_encode.specs.Deeds.{standing_field, standing_fields}
+use Rattle.tiff_encode.specs.WriteOps.{standing_field, standing_fields}
 use Rattle.tiff_encode.specs.Held.{is_page_tag, Given, HasValues, HoldsAt, HoldsValues}
 use Rattle.tiff_encode.proofs.PageTold.Values.{get_standing, standing_bytes, AllBelow, joint, AreNumbers, value_read, are_shorts, are_longs, are_long8s}
 
@@ -57,44 +57,44 @@ standing_parts Classic e = (refl, refl)
 standing_parts Big e = (refl, refl)
 
 -- the look-up of a value finds the value of the field
-value_found : (value : Field → Result Datum TiffError) (found : Option Field) (e : Field) (d : Datum)
+value_found : (value : Field → Result PlainValue TiffError) (found : Option Field) (e : Field) (d : PlainValue)
     → found ≡ Some e → value e ≡ Ok d → if_found value found ≡ Ok (Some d)
 value_found value found e d a b = rw (a, b) refl
 
 -- ---- what is found by a conversion
 
 -- the look-up finds one number
-pub one_found : (into : Datum → Result ℕ TiffError) (l : Look) (t : Tag) (d : Datum) (n : ℕ) → l.value t ≡ Ok (Some d)
+pub one_found : (into : PlainValue → Result ℕ TiffError) (l : TagLookup) (t : Tag) (d : PlainValue) (n : ℕ) → l.value t ≡ Ok (Some d)
     → into d ≡ Ok n → find into l t ≡ Ok (Some n)
 unfolding find
 one_found into l t d n a b = rw (a, b) refl
 
 -- the look-up finds several numbers
-pub some_found : (into : Datum → Result (List ℕ) TiffError) (l : Look) (t : Tag) (d : Datum) (ns : List ℕ)
+pub some_found : (into : PlainValue → Result (List ℕ) TiffError) (l : TagLookup) (t : Tag) (d : PlainValue) (ns : List ℕ)
     → l.value t ≡ Ok (Some d) → into d ≡ Ok ns → find into l t ≡ Ok (Some ns)
 unfolding find
 some_found into l t d ns a b = rw (a, b) refl
 
 -- the look-up finds nothing
-pub none_found : {A : Type 0} (into : Datum → Result A TiffError) (l : Look) (t : Tag) → l.value t ≡ Ok None
+pub none_found : {A : Type 0} (into : PlainValue → Result A TiffError) (l : TagLookup) (t : Tag) → l.value t ≡ Ok None
     → find into l t ≡ Ok None
 unfolding find
 none_found into l t a = rw a refl
 
 -- the conversion of each number returns the number
-each_back : (into : Datum → Result ℕ TiffError) (one : ℕ → Datum) → ((n : ℕ) → into (one n) ≡ Ok n) → (ns : List ℕ)
-    → each_item into (f.datum_list_of (map one ns)) ≡ Ok ns
+each_back : (into : PlainValue → Result ℕ TiffError) (one : ℕ → PlainValue) → ((n : ℕ) → into (one n) ≡ Ok n) → (ns : List ℕ)
+    → each_item into (f.plain_value_list_of (map one ns)) ≡ Ok ns
 each_back into one b [] = refl
 each_back into one b (n ∷ ns) = rw (b n, each_back into one b ns) refl
 
 -- the conversion of one number or of several returns a list
-pub list_back : (into : Datum → Result ℕ TiffError) (all : Datum → Result (List ℕ) TiffError) (one : ℕ → Datum)
+pub list_back : (into : PlainValue → Result ℕ TiffError) (all : PlainValue → Result (List ℕ) TiffError) (one : ℕ → PlainValue)
     → ((n : ℕ) → into (one n) ≡ Ok n) → ((n : ℕ) → all (one n) ≡ Ok (n ∷ []))
-    → ((ds : DatumList) → all (f.list ds) ≡ each_item into ds) → (ns : List ℕ) → all (joint (map one ns)) ≡ Ok ns
+    → ((ds : PlainValueList) → all (f.list ds) ≡ each_item into ds) → (ns : List ℕ) → all (joint (map one ns)) ≡ Ok ns
 list_back into all one a b c [] = c f.none
 list_back into all one a b c (n ∷ []) = b n
 list_back into all one a b c (n ∷ m ∷ ns) =
-    c (f.datum_list_of (map one (n ∷ m ∷ ns))) ∙ each_back into one a (n ∷ m ∷ ns)
+    c (f.plain_value_list_of (map one (n ∷ m ∷ ns))) ∙ each_back into one a (n ∷ m ∷ ns)
 
 -- ---- lists of numbers
 
@@ -125,11 +125,11 @@ AreBy values type ns = data_of values ≡ data_by type (le (type_size type)) ns
 module _ (kind : FileKind) (file : List ℕ) (m : Model) (fields : FinMap nat_cmp Field) (given : Given)
     (s : Stands kind file m) (h : HoldsValues m fields given) where
   -- the look-up in the fields as the entries contain them
-  abbrev pub the_look : Look
+  abbrev pub the_look : TagLookup
   the_look = look_up_in (field_value kind LittleEndian file unlimited) (standing_fields kind fields)
 
   -- the look-up finds the numbers of a tag
-  pub numbers_found : (t : Tag) (values : Scalars) (type : «Type») (limit : ℕ) (one : ℕ → Datum) (ns : List ℕ)
+  pub numbers_found : (t : Tag) (values : Scalars) (type : «Type») (limit : ℕ) (one : ℕ → PlainValue) (ns : List ℕ)
       → AreNumbers type limit one → is_page_tag (tag_number t) ≡ true → given (tag_number t) ≡ Some values
       → AreBy values type ns → AllBelow limit ns → length ns < 2 ^ 32
       → (the_look.value t ≡ Ok (Some (joint (map one ns)))) × (the_look.has t ≡ true)
@@ -145,7 +145,7 @@ module _ (kind : FileKind) (file : List ℕ) (m : Model) (fields : FinMap nat_cm
       value_read kind file (standing_field kind e) type limit one ns a b few
       (parts.0 ∙ v.field_type ∙ ap (λ y. y.field_type) d) (parts.1 ∙ v.count ∙ ap (λ y. y.count) d)
       (standing_bytes kind file e v.whole
-      ∙ s.handed (record { field = e; bytes = (data_of values).bytes }) v.handed ∙ ap (λ y. Ok y.bytes) d) in (
+      ∙ s.supplied (record { field = e; bytes = (data_of values).bytes }) v.supplied ∙ ap (λ y. Ok y.bytes) d) in (
         value_found (field_value kind LittleEndian file unlimited) (get (standing_fields kind fields) q) (standing_field kind e)
             (joint (map one ns)) stood read,
         ap is_some stood,

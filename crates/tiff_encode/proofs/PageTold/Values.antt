@@ -22,14 +22,14 @@ use Rattle.tiff_base.specs.FieldBytes.{field_len, field_offset, field_bytes}
 use Rattle.tiff_base.specs.Number.{number, le}
 use Rattle.tiff_base.specs.SourceAndSink.{exactly_at}
 use Rattle.tiff_base.specs.Types.{type_size}
-use Rattle.tiff_ifd.specs.Datum.{Datum, datum_list_of, short, unsigned, unsigned_big}
-use Rattle.tiff_ifd.specs.Datum as f
+use Rattle.tiff_ifd.specs.PlainValue.{PlainValue, plain_value_list_of, short, unsigned, unsigned_big}
+use Rattle.tiff_ifd.specs.PlainValue as f
 use Rattle.tiff_ifd.specs.Item.{item, list_item, items}
 use Rattle.tiff_ifd.proofs.Items.{items-first}
 use Rattle.tiff_ifd.specs.FieldValue.{numbers, value_from, is_allowed, field_value}
 use Rattle.tiff_ifd.specs.Limits.{unlimited}
 use Rattle.tiff_encode.specs.FileBytes.{offset_len}
-use Rattle.tiff_encode.specs.Deeds.{standing_field, standing_fields}
+use Rattle.tiff_encode.specs.WriteOps.{standing_field, standing_fields}
 use Rattle.tiff_encode.proofs.Slices.{ok_bind, ok_inj, length-le, number-le}
 
 -- ---- a field in its entry
@@ -101,12 +101,12 @@ abbrev pub AllBelow : ℕ → List ℕ → Type 0
 AllBelow limit ns = (i : ℕ) → get_or ns i 0 < limit
 
 -- the value of a list of values: the only one, or the list
-abbrev pub joint : List Datum → Datum
+abbrev pub joint : List PlainValue → PlainValue
 joint (d ∷ []) = d
-joint ds = f.list (datum_list_of ds)
+joint ds = f.list (plain_value_list_of ds)
 
 -- numbers are read back as written
-items_read : (k limit : ℕ) (read : List ℕ → Datum) (one : ℕ → Datum)
+items_read : (k limit : ℕ) (read : List ℕ → PlainValue) (one : ℕ → PlainValue)
     → ((n : ℕ) → n < limit → read (le k n) ≡ one n) → (ns : List ℕ) → AllBelow limit ns
     → items read k (length ns) (flat_map (le k) ns) ≡ map one ns
 items_read k limit read one back [] b = refl
@@ -119,7 +119,7 @@ items_read k limit read one back (n ∷ ns) b =
     items-first read k (length ns) (flat_map (le k) (n ∷ ns)) ∙ (λ i. x i ∷ y i)
 
 -- a type of unsigned numbers, the number of bytes of each, and the value of one
-pub record AreNumbers (type : «Type») (limit : ℕ) (one : ℕ → Datum) : Type 0 where
+pub record AreNumbers (type : «Type») (limit : ℕ) (one : ℕ → PlainValue) : Type 0 where
   pub alone : (n : ℕ) → n < limit → item type LittleEndian (le (type_size type) n) ≡ one n
   pub among : (inline : Bool) (n : ℕ) → n < limit
       → list_item inline type LittleEndian (le (type_size type) n) ≡ one n
@@ -128,7 +128,7 @@ pub record AreNumbers (type : «Type») (limit : ℕ) (one : ℕ → Datum) : Ty
   pub free : (n : ℕ) → n < 2 ^ 32 → is_allowed unlimited type n ≡ true
 
 -- numbers of a type are read as its values
-numbers_read : (type : «Type») (limit : ℕ) (one : ℕ → Datum) (inline : Bool) (ns : List ℕ) → AreNumbers type limit one
+numbers_read : (type : «Type») (limit : ℕ) (one : ℕ → PlainValue) (inline : Bool) (ns : List ℕ) → AreNumbers type limit one
     → AllBelow limit ns
     → numbers inline type LittleEndian (length ns) (flat_map (le (type_size type)) ns) ≡ joint (map one ns)
 numbers_read type limit one inline [] a b = refl
@@ -138,16 +138,16 @@ numbers_read type limit one inline (n ∷ m ∷ ns) a b =
     let k : ℕ = type_size type in
     let B : List ℕ = flat_map (le k) (n ∷ m ∷ ns) in
     ap (λ t. cond t (item type LittleEndian B)
-    (f.list (datum_list_of (items (list_item inline type LittleEndian) k (length (n ∷ m ∷ ns)) B))))
+    (f.list (plain_value_list_of (items (list_item inline type LittleEndian) k (length (n ∷ m ∷ ns)) B))))
     (ne_eqb (length (n ∷ m ∷ ns)) 1 (λ e. omega (arith, e)))
-    ∙ ap (λ ds. f.list (datum_list_of ds))
+    ∙ ap (λ ds. f.list (plain_value_list_of ds))
     (items_read k limit (list_item inline type LittleEndian) one (a.among inline) (n ∷ m ∷ ns) b)
 
 -- ---- the value of a field
 
 -- a value chosen by tests: no values, too many bytes, bytes in the entry, allowed bytes elsewhere
-by_tests : (none few inline allowed : Bool) (empty value : Datum) (front bytes : List ℕ)
-    (far : Result (List ℕ) TiffError) (near elsewhere : List ℕ → Result Datum TiffError)
+by_tests : (none few inline allowed : Bool) (empty value : PlainValue) (front bytes : List ℕ)
+    (far : Result (List ℕ) TiffError) (near elsewhere : List ℕ → Result PlainValue TiffError)
     → (none ≡ true → empty ≡ value) → allowed ≡ true
     → cond few (cond inline (Ok front) far) (Err LimitsExceeded) ≡ Ok bytes
     → near bytes ≡ Ok value → elsewhere bytes ≡ Ok value
@@ -162,28 +162,28 @@ by_tests false true false true empty value front bytes far near elsewhere a b c 
     ok_bind far elsewhere bytes value c e
 
 -- an empty list of numbers is an empty list of values
-empty_joint : (one : ℕ → Datum) (ns : List ℕ) → (length ns == 0) ≡ true → f.list (datum_list_of []) ≡ joint (map one ns)
+empty_joint : (one : ℕ → PlainValue) (ns : List ℕ) → (length ns == 0) ≡ true → f.list (plain_value_list_of []) ≡ joint (map one ns)
 empty_joint one [] e = refl
 empty_joint one (n ∷ ns) e =
     let some : (length (n ∷ ns) == 0) ≡ false = ne_eqb (length (n ∷ ns)) 0 (λ z. omega (arith, z)) in
     absurd (cc (some, e))
 
 -- the value of a field with the bytes of numbers
-pub value_read : (kind : FileKind) (file : List ℕ) (e : Field) (type : «Type») (limit : ℕ) (one : ℕ → Datum) (ns : List ℕ)
+pub value_read : (kind : FileKind) (file : List ℕ) (e : Field) (type : «Type») (limit : ℕ) (one : ℕ → PlainValue) (ns : List ℕ)
     → AreNumbers type limit one → AllBelow limit ns → length ns < 2 ^ 32
     → e.field_type ≡ type → e.count ≡ length ns
     → field_bytes kind LittleEndian file e ≡ Ok (flat_map (le (type_size type)) ns)
     → field_value kind LittleEndian file unlimited e ≡ Ok (joint (map one ns))
 unfolding field_value field_bytes
 value_read kind file e type limit one ns a b few t c h =
-    let F : Bool → List ℕ → Result Datum TiffError = λ inline bytes. value_from inline e.field_type LittleEndian e.count bytes in
+    let F : Bool → List ℕ → Result PlainValue TiffError = λ inline bytes. value_from inline e.field_type LittleEndian e.count bytes in
     let B : List ℕ = flat_map (le (type_size type)) ns in
-    let V : Datum = joint (map one ns) in
+    let V : PlainValue = joint (map one ns) in
     let back : (inline : Bool) → F inline B ≡ Ok V = λ inline.
     (λ i. value_from inline (t i) LittleEndian (c i) B) ∙ a.plain inline (length ns) B
     ∙ ap (λ v. Ok v) (numbers_read type limit one inline ns a b) in
     by_tests (e.count == 0) (ltb (field_len e) (2 ^ 64)) (leb (field_len e) (offset_len kind))
-    (is_allowed unlimited e.field_type e.count) (f.list (datum_list_of [])) V (take (field_len e) e.value) B
+    (is_allowed unlimited e.field_type e.count) (f.list (plain_value_list_of [])) V (take (field_len e) e.value) B
     (exactly_at file (field_offset kind LittleEndian e) (field_len e)) (F true) (F false)
     (λ z. empty_joint one ns (sym (ap (λ n. n == 0) c) ∙ z))
     ((λ i. is_allowed unlimited (t i) (c i)) ∙ a.free (length ns) few)
@@ -196,7 +196,7 @@ all_free : (n : ℕ) → n < 2 ^ 32 → ((n == 1) || leb n (0xFFFF_FFFF_FFFF_FFF
 all_free n h = rw (le-leb n (0xFFFF_FFFF_FFFF_FFFF / 32) (omega arith)) (or-true (n == 1))
 
 -- one value, in the entry or elsewhere
-either : (inline : Bool) (x y : Datum) → x ≡ y → cond inline x x ≡ y
+either : (inline : Bool) (x y : PlainValue) → x ≡ y → cond inline x x ≡ y
 either true x y e = e
 either false x y e = e
 

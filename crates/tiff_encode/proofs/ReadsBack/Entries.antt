@@ -18,7 +18,7 @@ use Rattle.tiff_base.specs.Color.{num_samples}
 use Rattle.tiff_base.specs.Directory.{directory_at}
 use Rattle.tiff_ifd.specs.declared.limits.Limits.{Limits}
 use Rattle.tiff_ifd.specs.Limits.{unlimited}
-use Rattle.tiff_ifd.specs.Look.{look_in}
+use Rattle.tiff_ifd.specs.TagLookup.{look_in}
 use Rattle.tiff_page.specs.declared.layout.DecodingSampleType.{DecodingSampleType}
 use Rattle.tiff_page.specs.declared.layout.DecodingSampleType.TheVariants.{U8, U16, U32, U64, F16, F32, F64, I8, I16, I32, I64}
 use Rattle.tiff_page.specs.Page.{PageRecord}

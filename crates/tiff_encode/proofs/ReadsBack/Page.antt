@@ -10,7 +10,7 @@ use Rattle.tiff_base.specs.declared.tags.Tag.TheVariants as tag
 use Rattle.tiff_base.specs.declared.error.TiffError.TheVariants.{FormatError}
 use Rattle.tiff_base.specs.declared.error.TiffFormatError.TheVariants.{InvalidTagValueType}
 use Rattle.tiff_ifd.specs.Into.{into_u16, into_u32, into_u64_vec}
-use Rattle.tiff_ifd.specs.Look.{Look, find_or, require}
+use Rattle.tiff_ifd.specs.TagLookup.{TagLookup, find_or, require}
 use Rattle.tiff_page.specs.Page.{PageRecord, Chunks}
 use Rattle.tiff_page.specs.Counts.{chunk_count, planes_of, all_chunks}
 use Rattle.tiff_page.specs.Checks.{size_in, interpretation_in, method_in, some_samples, samples_in, extra_in, format_in, depth_in, predictor_in, planar_in, subsampling_in, chunk_type_in, some_rows, some_side, inconsistent, chunks_counted, strips_in, tiles_in, chunks_in, page_of}
@@ -43,7 +43,7 @@ some_is n m e =
     let r = refused (n == 0) n m _ e in
     subst (λ (k : ℕ). 0 < k) r.1 (positive n r.0)
 
-samples_some : (look : Look) (n : ℕ) → samples_in look ≡ Ok n → 0 < n
+samples_some : (look : TagLookup) (n : ℕ) → samples_in look ≡ Ok n → 0 < n
 unfolding samples_in
 samples_some look n e = let b = bind_ok (find_or into_u16 look tag.SamplesPerPixel 1) _ _ e in some_is b.0 n b.1.1
 
@@ -69,7 +69,7 @@ counted_given width height planes chunks =
     ⊎_elim (λ a. subst (Counted width height planes) (sym a.1) (counted_listed width height planes chunks a.0 a.1))
     (λ b. subst (Counted width height planes) (sym b.1) tt) (cases_of (chunks_counted width height planes chunks))
 
-chunks_given : (look : Look) (type : ChunkType) (width height planes : ℕ) → Counted width height planes (chunks_in look type width height planes)
+chunks_given : (look : TagLookup) (type : ChunkType) (width height planes : ℕ) → Counted width height planes (chunks_in look type width height planes)
 unfolding strips_in tiles_in
 chunks_given look Strip width height planes =
     let P : Result Chunks TiffError → Type 0 = Counted width height planes in
@@ -97,7 +97,7 @@ abbrev Listed : Result PageRecord TiffError → Type 0
 Listed (Ok p) = IsListed p
 Listed (Err e) = Unit {0}
 
-page_given : (look : Look) → Listed (page_of look)
+page_given : (look : TagLookup) → Listed (page_of look)
 unfolding page_of
 page_given look =
     given_bind Listed (size_in look) _ (λ e. tt) (λ size es.
@@ -118,5 +118,5 @@ page_given look =
     }))))))))))))
 
 -- a page read from its tags has samples and an offset for each chunk
-pub page_listed : (look : Look) (p : PageRecord) → page_of look ≡ Ok p → IsListed p
+pub page_listed : (look : TagLookup) (p : PageRecord) → page_of look ≡ Ok p → IsListed p
 page_listed look p e = subst Listed e (page_given look)

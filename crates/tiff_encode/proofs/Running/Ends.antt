@@ -1,23 +1,23 @@
--- The end of a directory or an image leads from a `Standing` of the file before it to a `Standing`
+-- The end of a directory or an image leads from a `FileAndModel` of the file before it to a `FileAndModel`
 -- of the file after it.
 use Rattle.std.proofs.Common.{◌≡◌, ℕ, ◌^◌, ◌<◌, inl, inr, Bool, true, false, Option, Some, None, Ok, Err, refl, ap, sym, ◌∙◌, subst}
 use Rattle.std.specs.FinMap.{len}
 use Rattle.tiff_base.specs.declared.error.TiffError.{TiffError}
 use Rattle.tiff_base.specs.Field.{AreEntries}
 use Rattle.tiff_encode.specs.Model.{Model, IsLink, Stands, Grows, with_link}
-use Rattle.tiff_encode.specs.Deeds.{model_after}
+use Rattle.tiff_encode.specs.WriteOps.{model_after}
 use Rattle.tiff_encode.specs.Machine.{FileState, OpenDirectory, OpenImage, WriteOutcome}
 use Rattle.tiff_encode.specs.Causes.{end_of}
 use Rattle.tiff_encode.specs.Calls.{Offsets, finish, finish_image}
-use Rattle.tiff_encode.specs.Ends.{IsTold, IsTornOff, CallFails}
+use Rattle.tiff_encode.specs.Ends.{EndsAsDefined, IsTornOff, CallFails}
 use Rattle.tiff_encode.specs.Leaves.{LeavesTorn}
 use Rattle.tiff_encode.specs.ImageData.{IsShortFile}
 use Rattle.tiff_encode.specs.Open.{model_by}
 use Rattle.tiff_encode.specs.declared.encoder.script.EndReply.TheVariants as last
-use Rattle.tiff_encode.specs.Jobs.{Standing, IsDone, Refuses, FinishesWith, FinishesSilently}
+use Rattle.tiff_encode.specs.Jobs.{FileAndModel, IsDone, Refuses, FinishesWith, FinishesSilently}
 use Rattle.tiff_encode.specs.Stepping.{StandsIfKnown, HasLink, EndMoves}
 use Rattle.tiff_encode.proofs.Moving.{grows_here}
-use Rattle.tiff_encode.proofs.Deeds.{deeds_grow, link_kept}
+use Rattle.tiff_encode.proofs.WriteOps.{ops_grow, link_kept}
 use Rattle.tiff_encode.proofs.Leaving.{begun_leaves, torn_leaves, entries_fit, finish_plain}
 use Rattle.tiff_encode.proofs.Guarding.{finish_left}
 use Rattle.tiff_encode.proofs.Image.Fits.{finish_image_fits}
@@ -31,8 +31,8 @@ use Rattle.tiff_encode.proofs.EndLinks.{EndLinks, finish_links, image_links}
 
 -- What the model describes after an end succeeds, and after the sink fails at the parent's link.
 pub record CanStand (told : WriteOutcome Offsets) (old new : FileState) (m : Model) : Type 0 where
-  pub done : (offsets : Offsets) → IsTold told (Ok offsets) new → Stands old.kind new.bytes (model_by old m told)
-  pub torn : (e : TiffError) → IsTornOff told.deeds e old new → LeavesTorn told e old new m
+  pub done : (offsets : Offsets) → EndsAsDefined told (Ok offsets) new → Stands old.kind new.bytes (model_by old m told)
+  pub torn : (e : TiffError) → IsTornOff told.ops e old new → LeavesTorn told e old new m
 
 -- the link of a parent, if there is one
 abbrev pub Parent : Option ℕ → FileState → Model → Type 0
@@ -73,7 +73,7 @@ image_ending i old new a short =
           };
     }
 
--- ---- the `Standing` after an end
+-- ---- the `FileAndModel` after an end
 
 -- equal options have equal offsets
 told_offset : (x o : Offsets) → (let a : Option Offsets = Some x in let b : Option Offsets = Some o in a ≡ b) → x ≡ o
@@ -85,32 +85,32 @@ told_offset x o h = ap held h where
 pub no_offset : {o : Offsets} → let a : Option Offsets = None in a ≡ Some o → ⊥
 no_offset h = cc
 
--- The properties of the `Standing` after an end, except those of its result.
-pub record Leads (known : Bool) (s t : Standing) (offset : Option Offsets) : Type 0 where
+-- The properties of the `FileAndModel` after an end, except those of its result.
+pub record Leads (known : Bool) (s t : FileAndModel) (offset : Option Offsets) : Type 0 where
   pub known_so : StandsIfKnown known t
   pub grows : Grows s.model t.model
   pub own : (o : Offsets) → offset ≡ Some o → IsLink t.file.kind t.model o.link
   pub chain : IsLink s.file.kind s.model s.file.chain → IsLink t.file.kind t.model t.file.chain
 
--- a `Standing` of the file that an end leaves
-abbrev pub Led : Bool → Standing → FileState → (Standing → Standing → Option Offsets → Type 0)
-    → (Standing → Standing → Option Offsets → Type 0) → Type 0
+-- a `FileAndModel` of the file that an end leaves
+abbrev pub Led : Bool → FileAndModel → FileState → (FileAndModel → FileAndModel → Option Offsets → Type 0)
+    → (FileAndModel → FileAndModel → Option Offsets → Type 0) → Type 0
 Led known s new Ended Held =
-    (t : Standing) × ((offset : Option Offsets) × ((t.file ≡ new) × (Ended s t offset × (StandsIfKnown known t × (Grows s.model t.model
+    (t : FileAndModel) × ((offset : Option Offsets) × ((t.file ≡ new) × (Ended s t offset × (StandsIfKnown known t × (Grows s.model t.model
     × (((o : Offsets) → offset ≡ Some o → IsLink t.file.kind t.model o.link)
     × ((IsLink s.file.kind s.model s.file.chain → IsLink t.file.kind t.model t.file.chain)
     × Held s t offset)))))))
 
-pub led : (known : Bool) (s t : Standing) (new : FileState) (Ended Held : Standing → Standing → Option Offsets → Type 0)
+pub led : (known : Bool) (s t : FileAndModel) (new : FileState) (Ended Held : FileAndModel → FileAndModel → Option Offsets → Type 0)
     (offset : Option Offsets) → t.file ≡ new → Ended s t offset → Held s t offset → Leads known s t offset → Led known s new Ended Held
 led known s t new Ended Held offset f e h l = (t, (offset, (f, (e, (l.known_so, (l.grows, (l.own, (l.chain, h))))))))
 
--- the `Standing` of a file with a model
-abbrev pub at : FileState → Model → Standing
+-- the `FileAndModel` of a file with a model
+abbrev pub at : FileState → Model → FileAndModel
 at file m = record { file = file; model = m }
 
--- an end leads on from each `Standing` of the file
-pub moves_from : (Ended Held : Standing → Standing → Option Offsets → Type 0) (parent : Option ℕ) (old new : FileState)
+-- an end leads on from each `FileAndModel` of the file
+pub moves_from : (Ended Held : FileAndModel → FileAndModel → Option Offsets → Type 0) (parent : Option ℕ) (old new : FileState)
     → ((known : Bool) (m : Model) → StandsIfKnown known (at old m) → HasLink known (at old m) parent → Led known (at old m) new Ended Held)
     → EndMoves Ended parent old new Held
 moves_from Ended Held parent old new f known s same k l =
@@ -120,7 +120,7 @@ moves_from Ended Held parent old new f known s same k l =
 
 -- a call whose outcome keeps the model
 module _ (known : Bool) (old new : FileState) (m : Model) where
-  -- the `Standing` after a call that keeps the model
+  -- the `FileAndModel` after a call that keeps the model
   pub leads_still : new.kind ≡ old.kind → new.chain ≡ old.chain → (known ≡ true → Stands old.kind new.bytes m)
       → Leads known (at old m) (at new m) None
   leads_still kind chain s = record {
@@ -137,7 +137,7 @@ module _ (parent : Option ℕ) (told : WriteOutcome Offsets) (old new : FileStat
   can_stand q = ending.stands m (k q) (l q)
 
   -- the end succeeds
-  pub leads_told : (offsets : Offsets) → IsTold told (Ok offsets) new
+  pub leads_told : (offsets : Offsets) → EndsAsDefined told (Ok offsets) new
       → Leads known (at old m) (at new (model_by old m told)) (Some offsets)
   leads_told offsets t =
       let n : Model = model_by old m told in
@@ -145,7 +145,7 @@ module _ (parent : Option ℕ) (told : WriteOutcome Offsets) (old new : FileStat
       let links = ending.links m in
       record {
         known_so = λ q. subst (λ x. Stands x new.bytes n) (sym kind) ((can_stand q).done offsets t);
-        grows = deeds_grow old.kind old.bytes m told.deeds;
+        grows = ops_grow old.kind old.bytes m told.ops;
         own = λ o h.
             subst (λ x. IsLink x n o.link) (sym kind)
             (subst (λ p. IsLink old.kind n p.link) (told_offset offsets o h) (links.own offsets t.answer));
@@ -155,17 +155,17 @@ module _ (parent : Option ℕ) (told : WriteOutcome Offsets) (old new : FileStat
       }
 
   -- the model after the sink fails at the parent's link
-  abbrev torn_model : (e : TiffError) → IsTornOff told.deeds e old new → ℕ → Model
+  abbrev torn_model : (e : TiffError) → IsTornOff told.ops e old new → ℕ → Model
   torn_model e t holds = with_link old.kind (model_after old.kind old.bytes m t.before) t.offset holds
 
-  leads_torn : (e : TiffError) (t : IsTornOff told.deeds e old new) (holds : ℕ)
+  leads_torn : (e : TiffError) (t : IsTornOff told.ops e old new) (holds : ℕ)
       → (known ≡ true → Stands old.kind new.bytes (torn_model e t holds))
       → Leads known (at old m) (at new (torn_model e t holds)) None
   leads_torn e t holds s =
       let n : Model = torn_model e t holds in
       let kind : new.kind ≡ old.kind = ap (λ f. f.kind) t.state in
-      let grown = deeds_grow old.kind old.bytes m t.before in
-      let grows : Grows m n = record { directories = grown.directories; handed = grown.handed; regions = grown.regions } in
+      let grown = ops_grow old.kind old.bytes m t.before in
+      let grows : Grows m n = record { directories = grown.directories; supplied = grown.supplied; regions = grown.regions } in
       record {
         known_so = λ q. subst (λ x. Stands x new.bytes n) (sym kind) (s q);
         grows = grows;
@@ -179,7 +179,7 @@ module _ (parent : Option ℕ) (told : WriteOutcome Offsets) (old new : FileStat
   abbrev Failed : TiffError → Type 0
   Failed e = (n : Model) × (Refuses told e (at old m) (at new n) × Leads known (at old m) (at new n) None)
 
-  torn_away : (e : TiffError) (t : IsTornOff told.deeds e old new) (holds : ℕ)
+  torn_away : (e : TiffError) (t : IsTornOff told.ops e old new) (holds : ℕ)
       → (known ≡ true → Stands old.kind new.bytes (torn_model e t holds)) → Failed e
   torn_away e t holds s = (
     torn_model e t holds,
@@ -187,7 +187,7 @@ module _ (parent : Option ℕ) (told : WriteOutcome Offsets) (old new : FileStat
   )
 
   -- the end fails at the parent's link, by whether the model is known to describe the file
-  torn_failed : (e : TiffError) → IsTornOff told.deeds e old new → (b : Bool) → known ≡ b → Failed e
+  torn_failed : (e : TiffError) → IsTornOff told.ops e old new → (b : Bool) → known ≡ b → Failed e
   torn_failed e t true h = let x = (can_stand h).torn e t in torn_away e x.torn x.holds (λ _. x.stands)
   torn_failed e t false h = torn_away e t 0 (λ q. absurd (no_truth (sym q ∙ h))) where
     no_truth : true ≡ false → ⊥
@@ -204,21 +204,21 @@ module _ (parent : Option ℕ) (told : WriteOutcome Offsets) (old new : FileStat
             (appended_stands told old new ending.patches.done (ending.patches.refused e t.answer) t.state)
         | inr h ↦ elim h [
           | inl c ↦ here (inr (inr (inl (refl, c)))) (ap (λ f. f.kind) c.state) (ap (λ f. f.chain) c.state)
-              (λ n s. begun_leaves told.deeds c.count old new.bytes n (ap (λ f. f.bytes) c.state) s)
+              (λ n s. begun_leaves told.ops c.count old new.bytes n (ap (λ f. f.bytes) c.state) s)
           | inr h ↦ elim h [
             | inl t ↦ torn_failed e t known refl
             | inr c ↦ here (inr (inr (inr (refl, c)))) (ap (λ f. f.kind) c.state) (ap (λ f. f.chain) c.state)
-                (λ n s. begun_leaves told.deeds c.count old new.bytes n (ap (λ f. f.bytes) c.state) s)
+                (λ n s. begun_leaves told.ops c.count old new.bytes n (ap (λ f. f.bytes) c.state) s)
           ]
         ]
       ]
 
 -- ---- ends by their results
 
-module _ (Ended Held : Standing → Standing → Option Offsets → Type 0) (parent : Option ℕ) (told : WriteOutcome Offsets) (old new : FileState)
+module _ (Ended Held : FileAndModel → FileAndModel → Option Offsets → Type 0) (parent : Option ℕ) (told : WriteOutcome Offsets) (old new : FileState)
     (ending : IsEnding parent told old new) where
   -- an end that succeeds
-  pub told_moves : (offsets : Offsets) → IsTold told (Ok offsets) new
+  pub told_moves : (offsets : Offsets) → EndsAsDefined told (Ok offsets) new
       → ((m : Model) → IsDone told (Ok offsets) (at old m) (at new (model_by old m told))
       → Ended (at old m) (at new (model_by old m told)) (Some offsets))
       → ((m : Model) → Held (at old m) (at new (model_by old m told)) (Some offsets))
@@ -242,13 +242,13 @@ module _ (Ended Held : Standing → Standing → Option Offsets → Type 0) (par
       led known (at old m) (at new x.0) new Ended Held None refl (ended m x.0 x.1.0) (held m x.0) x.1.1)
 
 -- the properties of an end imply weaker ones
-pub moves_as : (Ended Held Known_so Held_so : Standing → Standing → Option Offsets → Type 0) (parent : Option ℕ) (old new : FileState)
-    → ((s t : Standing) (offset : Option Offsets) → Ended s t offset → Known_so s t offset)
-    → ((s t : Standing) (offset : Option Offsets) → Held s t offset → Held_so s t offset)
+pub moves_as : (Ended Held Known_so Held_so : FileAndModel → FileAndModel → Option Offsets → Type 0) (parent : Option ℕ) (old new : FileState)
+    → ((s t : FileAndModel) (offset : Option Offsets) → Ended s t offset → Known_so s t offset)
+    → ((s t : FileAndModel) (offset : Option Offsets) → Held s t offset → Held_so s t offset)
     → EndMoves Ended parent old new Held → EndMoves Known_so parent old new Held_so
 moves_as Ended Held Known_so Held_so parent old new f g e known s same k l =
     let x = e known s same k l in
-    let t : Standing = x.0 in
+    let t : FileAndModel = x.0 in
     let offset : Option Offsets = x.1.0 in
     let y = x.1.1 in
     let z = y.1.1.1.1.1 in
@@ -257,19 +257,19 @@ moves_as Ended Held Known_so Held_so parent old new f g e known s same k l =
 -- ---- a directory
 
 -- a directory's end holds no image
-abbrev pub Nothing_held : Standing → Standing → Option Offsets → Type 0
+abbrev pub Nothing_held : FileAndModel → FileAndModel → Option Offsets → Type 0
 Nothing_held s t offset = Unit {0}
 
 module _ (d : OpenDirectory) (old new : FileState) (ending : IsEnding d.parent (finish d old) old new) where
   pub offsets_told : (offsets : Offsets) (pointer link : ℕ) → offsets.pointer ≡ pointer → offsets.link ≡ link
-      → IsTold (finish d old) (Ok offsets) new
+      → EndsAsDefined (finish d old) (Ok offsets) new
       → EndMoves (λ s t offset. FinishesWith (finish d s.file) (Ok (last.Offsets pointer link)) s t offset) d.parent old new Nothing_held
   offsets_told offsets pointer link p l t =
       let told : WriteOutcome Offsets = finish d old in
       let all : Offsets = record { pointer = pointer; link = link } in
       let same : offsets ≡ all = λ i. record { pointer = p i; link = l i } in
       told_moves (λ s t offset. FinishesWith (finish d s.file) (Ok (last.Offsets pointer link)) s t offset) Nothing_held d.parent told old new ending
-      all (subst (λ o. IsTold told (Ok o) new) same t) (λ m done. (done, refl)) (λ m. tt)
+      all (subst (λ o. EndsAsDefined told (Ok o) new) same t) (λ m done. (done, refl)) (λ m. tt)
 
   pub offsets_failed : (e : TiffError) → CallFails (finish d old) e old new
       → EndMoves (λ s t offset. FinishesWith (finish d s.file) (Err e) s t offset) d.parent old new Nothing_held
@@ -277,7 +277,7 @@ module _ (d : OpenDirectory) (old new : FileState) (ending : IsEnding d.parent (
       fails_moves (λ s t offset. FinishesWith (finish d s.file) (Err e) s t offset) Nothing_held d.parent (finish d old) old new ending
       e h (λ m n r. (r, refl)) (λ m n. tt)
 
-  pub silently_told : (offsets : Offsets) → IsTold (finish d old) (Ok offsets) new
+  pub silently_told : (offsets : Offsets) → EndsAsDefined (finish d old) (Ok offsets) new
       → EndMoves (λ s t offset. FinishesSilently (finish d s.file) (Ok last.Nothing) s t offset) d.parent old new Nothing_held
   silently_told offsets t =
       told_moves (λ s t offset. FinishesSilently (finish d s.file) (Ok last.Nothing) s t offset) Nothing_held d.parent (finish d old) old new ending

@@ -1,4 +1,4 @@
--- The end of an image leads from a `Standing` of the file before it to a `Standing` of the file
+-- The end of an image leads from a `FileAndModel` of the file before it to a `FileAndModel` of the file
 -- after it. The image is held there if it is held while it is open.
 use Rattle.std.proofs.Common.{◌≡◌, ℕ, inl, inr, Bool, true, false, cond, List, ◌++◌, length, Option, Some, None, Result, Ok, Err, refl, ap, sym, ◌∙◌, subst}
 use Rattle.tiff_base.specs.declared.error.TiffError.{TiffError}
@@ -10,13 +10,13 @@ use Rattle.tiff_encode.specs.Machine.{FileState, OpenImage, WriteOutcome}
 use Rattle.tiff_encode.specs.Chunks.{is_left, parts_left}
 use Rattle.tiff_encode.specs.Causes.{write_image_data_cause}
 use Rattle.tiff_encode.specs.Calls.{Offsets, finish_image, write_image_data}
-use Rattle.tiff_encode.specs.Ends.{IsTold, CallFails}
+use Rattle.tiff_encode.specs.Ends.{EndsAsDefined, CallFails}
 use Rattle.tiff_encode.specs.Held.{image_with}
 use Rattle.tiff_encode.specs.Shows.{Shows}
 use Rattle.tiff_encode.specs.Open.{HoldsOpen, HoldsEnded, model_by}
 use Rattle.tiff_encode.specs.ImageData.{AreNumbers, IsShortFile, StopsWithin, WritesImageData}
 use Rattle.tiff_encode.specs.ImageData as data_
-use Rattle.tiff_encode.specs.Jobs.{Standing, FinishesSilently, EndsWithin, WritesData, JobWritesDataBy, WritesDataIfFound}
+use Rattle.tiff_encode.specs.Jobs.{FileAndModel, FinishesSilently, EndsWithin, WritesData, JobWritesDataBy, WritesDataIfFound}
 use Rattle.tiff_encode.specs.Stepping.{EndMoves, IsHeld}
 use Rattle.tiff_encode.specs.JobEnding.{DataHeld}
 use Rattle.tiff_encode.proofs.Open.Ends.{ends_held}
@@ -48,14 +48,14 @@ samples_kept true before samples h = absurd cc
 samples_kept false before samples h = (refl, held_so before samples h)
 
 -- the image that is held after its end
-abbrev HeldWhole : OpenImage → Standing → Standing → Option Offsets → Type 0
+abbrev HeldWhole : OpenImage → FileAndModel → FileAndModel → Option Offsets → Type 0
 HeldWhole i s t offset =
     (before samples : List (List ℕ)) (o : Offsets) → HoldsOpen s.file.kind s.model i before → offset ≡ Some o
     → cond (is_left i) None (Some before) ≡ Some samples
     → IsHeld t (record { offset = o.pointer; image = image_with i samples })
 
 module _ (i : OpenImage) (old new : FileState) (ending : IsEnding i.directory.parent (finish_image i old) old new) where
-  finish_held : (offsets : Offsets) → IsTold (finish_image i old) (Ok offsets) new → (m : Model)
+  finish_held : (offsets : Offsets) → EndsAsDefined (finish_image i old) (Ok offsets) new → (m : Model)
       → HeldWhole i (at old m) (at new (model_by old m (finish_image i old))) (Some offsets)
   finish_held offsets t m before samples o h p e =
       let n : Model = model_by old m (finish_image i old) in
@@ -70,7 +70,7 @@ module _ (i : OpenImage) (old new : FileState) (ending : IsEnding i.directory.pa
         shown = λ file s. s;
       }))
 
-  pub finish_told : (offsets : Offsets) → IsTold (finish_image i old) (Ok offsets) new
+  pub finish_told : (offsets : Offsets) → EndsAsDefined (finish_image i old) (Ok offsets) new
       → EndMoves (λ s t offset. FinishesSilently (finish_image i s.file) (Ok last.Nothing) s t offset) i.directory.parent old new (HeldWhole i)
   finish_told offsets t =
       told_moves (λ s t offset. FinishesSilently (finish_image i s.file) (Ok last.Nothing) s t offset) (HeldWhole i)
@@ -179,11 +179,11 @@ module _ (i : OpenImage) (samples : List ℕ) (old new : FileState) (entries : A
       ),
     )
 
-    abbrev Stops : Standing → Standing → Option Offsets → Type 0
+    abbrev Stops : FileAndModel → FileAndModel → Option Offsets → Type 0
     Stops s t offset = WritesData i samples Fault s t offset
 
     -- `write_data` stops, by the error that refuses it
-    stops_by : (cause : Option TiffError) → write_image_data_cause old i (length samples) ≡ cause → (m : Model) (t : Standing)
+    stops_by : (cause : Option TiffError) → write_image_data_cause old i (length samples) ≡ cause → (m : Model) (t : FileAndModel)
         → JobWritesDataBy cause i samples Fault (at old m) t None → Stops (at old m) t None
     stops_by cause q m t h = subst (λ c. JobWritesDataBy c i samples Fault (at old m) t None) (sym q) h
 

@@ -9,11 +9,11 @@ use Rattle.tiff_encode.specs.declared.encoder.script.DirectoryStep.TheVariants a
 use Rattle.tiff_encode.specs.declared.encoder.script.StepReply.{StepReply}
 use Rattle.tiff_encode.specs.declared.encoder.script.StepReply.TheVariants as reply
 use Rattle.tiff_encode.specs.Value.{buffer_data}
-use Rattle.tiff_encode.specs.Machine.{FileState, OpenDirectory, WriteOutcome, Writing, answers, gives, by_cause, ◌>>=◌}
+use Rattle.tiff_encode.specs.Machine.{FileState, OpenDirectory, WriteOutcome, WriteCall, answers, gives, by_cause, ◌>>=◌}
 use Rattle.tiff_encode.specs.Causes.{write_buf_cause, write_data_cause, write_data_buf_cause}
 use Rattle.tiff_encode.specs.Calls.{with_field, placed_field, appends, write_entry, write_entry_buf, write_entry_bytes, write_tag, write_tag_buf, write_data, write_data_buf, extend_from}
 use Rattle.tiff_encode.specs.JobValues.{value_data, buffer_in}
-use Rattle.tiff_encode.specs.Jobs.{Standing, IsDone, Refuses, Changes, Replies, ExtendStep, DirectoryStepped, AllStepped}
+use Rattle.tiff_encode.specs.Jobs.{FileAndModel, IsDone, Refuses, Changes, Replies, ExtendStep, DirectoryStepped, AllStepped}
 use Rattle.tiff_encode.proofs.Slices.{ok_inj}
 use Rattle.tiff_encode.proofs.Joining.{IsAdding, Adds, adding, refusal_adds, caused_adds, bind_adds, answers_adding, appends_adds, placed_adds, entry_adds, entry_bytes_adds}
 use Rattle.tiff_encode.proofs.Data.Calls.{bind_answered}
@@ -31,7 +31,7 @@ same_by old new h = record { kind = ap (λ f. f.kind) h; chain = ap (λ f. f.cha
 pub same_on : (old mid new : FileState) → IsSame old mid → IsSame mid new → IsSame old new
 same_on old mid new a b = record { kind = b.kind ∙ a.kind; chain = b.chain ∙ a.chain }
 
-module _ {A : Type 0} (told : WriteOutcome A) (old new : Standing) (a : IsAdding told old.file) where
+module _ {A : Type 0} (told : WriteOutcome A) (old new : FileAndModel) (a : IsAdding told old.file) where
   told_same : new.file ≡ told.next → IsSame old.file new.file
   told_same h = record { kind = ap (λ f. f.kind) (h ∙ a.next); chain = ap (λ f. f.chain) (h ∙ a.next) }
 
@@ -54,7 +54,7 @@ module _ {A : Type 0} (told : WriteOutcome A) (old new : Standing) (a : IsAdding
 
 -- ---- steps by their replies
 
-pub changes_same : {S : Type 0} (call : Writing S) (s : S) (r : Result StepReply TiffError) (old new : Standing) (t : S)
+pub changes_same : {S : Type 0} (call : WriteCall S) (s : S) (r : Result StepReply TiffError) (old new : FileAndModel) (t : S)
     → IsAdding (call old.file) old.file → Changes call s r old new t → IsSame old.file new.file
 changes_same call s (Ok reply.Nothing) old new t a h = done_same (call old.file) old new a (Ok t) h
 changes_same call s (Ok (reply.Number n)) old new t a h = absurd h
@@ -62,19 +62,19 @@ changes_same call s (Ok (reply.Written entry)) old new t a h = absurd h
 changes_same call s (Err e) old new t a h = refused_same (call old.file) old new a e h.1
 
 -- a property of what is open and of what the call returns holds after the step
-pub changes_to : {S : Type 0} (call : Writing S) (P : S → Type 0) (s : S) (r : Result StepReply TiffError) (old new : Standing) (t : S)
+pub changes_to : {S : Type 0} (call : WriteCall S) (P : S → Type 0) (s : S) (r : Result StepReply TiffError) (old new : FileAndModel) (t : S)
     → P s → ((x : S) → (call old.file).answer ≡ Ok x → P x) → Changes call s r old new t → P t
 changes_to call P s (Ok reply.Nothing) old new t p f h = f t h.ended.answer
 changes_to call P s (Ok (reply.Number n)) old new t p f h = absurd h
 changes_to call P s (Ok (reply.Written entry)) old new t p f h = absurd h
 changes_to call P s (Err e) old new t p f h = subst P (sym h.0) p
 
-replies_same : {S A : Type 0} (view : A → StepReply) (call : Writing A) (s : S) (r : Result StepReply TiffError) (old new : Standing) (t : S)
+replies_same : {S A : Type 0} (view : A → StepReply) (call : WriteCall A) (s : S) (r : Result StepReply TiffError) (old new : FileAndModel) (t : S)
     → IsAdding (call old.file) old.file → Replies view call s r old new t → IsSame old.file new.file
 replies_same view call s (Ok r) old new t a h = done_same (call old.file) old new a (Ok h.1.0) h.1.1.1
 replies_same view call s (Err e) old new t a h = refused_same (call old.file) old new a e h.1
 
-replies_to : {S A : Type 0} (view : A → StepReply) (call : Writing A) (s : S) (r : Result StepReply TiffError) (old new : Standing) (t : S)
+replies_to : {S A : Type 0} (view : A → StepReply) (call : WriteCall A) (s : S) (r : Result StepReply TiffError) (old new : FileAndModel) (t : S)
     → Replies view call s r old new t → t ≡ s
 replies_to view call s (Ok r) old new t h = h.0
 replies_to view call s (Err e) old new t h = h.0
@@ -85,10 +85,10 @@ buf_adds : (b : BufferRecord) (file : FileState) → Adds (write_entry_buf b fil
 unfolding write_entry_buf
 buf_adds b file = caused_adds (write_buf_cause file b) (placed_field (buffer_data b)) file (placed_adds (buffer_data b) file)
 
-field_adding : (call : Writing _) (d : OpenDirectory) (t : Tag) (file : FileState) → Adds (call file) file
+field_adding : (call : WriteCall _) (d : OpenDirectory) (t : Tag) (file : FileState) → Adds (call file) file
     → IsAdding ((call >>= (λ field. gives (with_field d t field))) file) file
 field_adding call d t file a =
-    let rest : _ → Writing OpenDirectory = λ field. gives (with_field d t field) in
+    let rest : _ → WriteCall OpenDirectory = λ field. gives (with_field d t field) in
     adding ((call >>= rest) file) file
     (bind_adds call rest file a (λ field _. answers_adding (Ok (with_field d t field)) (call file).next))
 
@@ -104,14 +104,14 @@ data_adding : (value : Result FieldData TiffError) (file : FileState) → IsAddi
 unfolding write_data
 data_adding (Ok value) file =
     let known : Result FieldData TiffError = Ok value in
-    let rest : FieldData → Writing ℕ = λ known. appends known.bytes in
-    let call : Writing ℕ = answers known >>= rest in
+    let rest : FieldData → WriteCall ℕ = λ known. appends known.bytes in
+    let call : WriteCall ℕ = answers known >>= rest in
     adding (by_cause (write_data_cause file (Ok value)) call file) file
     (caused_adds (write_data_cause file (Ok value)) call file (appends_adds value.bytes file))
 data_adding (Err e) file =
     let known : Result FieldData TiffError = Err e in
-    let rest : FieldData → Writing ℕ = λ known. appends known.bytes in
-    let call : Writing ℕ = answers known >>= rest in
+    let rest : FieldData → WriteCall ℕ = λ known. appends known.bytes in
+    let call : WriteCall ℕ = answers known >>= rest in
     adding (by_cause (write_data_cause file (Err e)) call file) file
     (caused_adds (write_data_cause file (Err e)) call file (refusal_adds e file))
 
@@ -127,10 +127,10 @@ data_buf_adding b file =
 abbrev pub HasParentOf : OpenDirectory → OpenDirectory → Type 0
 HasParentOf d e = e.parent ≡ d.parent
 
-field_parent : (call : Writing _) (d : OpenDirectory) (t : Tag) (file : FileState) (e : OpenDirectory)
+field_parent : (call : WriteCall _) (d : OpenDirectory) (t : Tag) (file : FileState) (e : OpenDirectory)
     → ((call >>= (λ field. gives (with_field d t field))) file).answer ≡ Ok e → HasParentOf d e
 field_parent call d t file e h =
-    let rest : _ → Writing OpenDirectory = λ field. gives (with_field d t field) in
+    let rest : _ → WriteCall OpenDirectory = λ field. gives (with_field d t field) in
     let a = bind_answered call rest file e h in
     ap (λ x. x.parent) (sym (ok_inj (with_field d t a.0) e (ap (λ told. told.answer) (sym a.1.1) ∙ h)))
 
@@ -149,11 +149,11 @@ unfolding extend_from
 extend_parent d fields = refl
 
 -- The properties that a step keeps.
-pub record IsKept (old : Standing) (d : OpenDirectory) (new : Standing) (e : OpenDirectory) : Type 0 where
+pub record IsKept (old : FileAndModel) (d : OpenDirectory) (new : FileAndModel) (e : OpenDirectory) : Type 0 where
   pub file : IsSame old.file new.file
   pub parent : HasParentOf d e
 
-extends_kept : (fields : List _) (d : OpenDirectory) (r : Result StepReply TiffError) (old new : Standing) (e : OpenDirectory)
+extends_kept : (fields : List _) (d : OpenDirectory) (r : Result StepReply TiffError) (old new : FileAndModel) (e : OpenDirectory)
     → ExtendStep fields d r old new e → IsKept old d new e
 extends_kept fields d (Ok reply.Nothing) old new e h = record {
   file = same_by old.file new.file (ap (λ s. s.file) h.1);
@@ -166,14 +166,14 @@ extends_kept fields d (Err fault) old new e h = record {
   parent = ap (λ x. x.parent) h.1.1.0 ∙ extend_parent d (take h.1.0 fields);
 }
 
-replied_kept : {A : Type 0} (view : A → StepReply) (call : Writing A) (d : OpenDirectory) (r : Result StepReply TiffError) (old new : Standing)
+replied_kept : {A : Type 0} (view : A → StepReply) (call : WriteCall A) (d : OpenDirectory) (r : Result StepReply TiffError) (old new : FileAndModel)
     (e : OpenDirectory) → IsAdding (call old.file) old.file → Replies view call d r old new e → IsKept old d new e
 replied_kept view call d r old new e a h = record {
   file = replies_same view call d r old new e a h;
   parent = ap (λ x. x.parent) (replies_to view call d r old new e h);
 }
 
-changed_kept : (call : Writing OpenDirectory) (d : OpenDirectory) (r : Result StepReply TiffError) (old new : Standing) (e : OpenDirectory)
+changed_kept : (call : WriteCall OpenDirectory) (d : OpenDirectory) (r : Result StepReply TiffError) (old new : FileAndModel) (e : OpenDirectory)
     → IsAdding (call old.file) old.file → ((x : OpenDirectory) → (call old.file).answer ≡ Ok x → HasParentOf d x)
     → Changes call d r old new e → IsKept old d new e
 changed_kept call d r old new e a f h = record {
@@ -181,7 +181,7 @@ changed_kept call d r old new e a f h = record {
   parent = changes_to call (HasParentOf d) d r old new e refl f h;
 }
 
-pub step_kept : (old : Standing) (d : OpenDirectory) (s : DirectoryStep) (r : Result StepReply TiffError) (new : Standing) (e : OpenDirectory)
+pub step_kept : (old : FileAndModel) (d : OpenDirectory) (s : DirectoryStep) (r : Result StepReply TiffError) (new : FileAndModel) (e : OpenDirectory)
     → DirectoryStepped old d s r new e → IsKept old d new e
 step_kept old d (step.WriteTag t value) r new e h =
     let v = value_data value in
@@ -205,7 +205,7 @@ step_kept old d (step.WriteEntryBytes type bytes) r new e h =
     replied_kept reply.Written call d r old new e (adding (call old.file) old.file (entry_bytes_adds type bytes.items old.file)) h
 step_kept old d (step.ExtendFrom given) r new e h = extends_kept _ d r old new e h
 
-pub steps_kept : (old : Standing) (d : OpenDirectory) (steps : List DirectoryStep) (rs : List (Result StepReply TiffError)) (new : Standing)
+pub steps_kept : (old : FileAndModel) (d : OpenDirectory) (steps : List DirectoryStep) (rs : List (Result StepReply TiffError)) (new : FileAndModel)
     (e : OpenDirectory) → AllStepped DirectoryStepped old d steps rs new e → IsKept old d new e
 steps_kept old d [] [] new e h =
     record { file = same_by old.file new.file (ap (λ s. s.file) h.0); parent = ap (λ x. x.parent) h.1 }

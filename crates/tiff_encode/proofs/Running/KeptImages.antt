@@ -11,12 +11,12 @@ use Rattle.tiff_encode.specs.declared.encoder.script.ImageStep.{ImageStep}
 use Rattle.tiff_encode.specs.declared.encoder.script.ImageStep.TheVariants as istep
 use Rattle.tiff_encode.specs.declared.encoder.script.StepReply.{StepReply}
 use Rattle.tiff_encode.specs.declared.encoder.script.StepReply.TheVariants as reply
-use Rattle.tiff_encode.specs.Machine.{FileState, OpenDirectory, OpenImage, Writing, gives, by_cause, ◌>>=◌}
+use Rattle.tiff_encode.specs.Machine.{FileState, OpenDirectory, OpenImage, WriteCall, gives, by_cause, ◌>>=◌}
 use Rattle.tiff_encode.specs.Causes.{extra_samples_cause, rows_per_strip_cause, tiles_cause, planar_cause, resolution_cause, one_resolution_cause, resolution_unit_cause, write_strip_cause, write_chunk_cause}
 use Rattle.tiff_encode.specs.Calls as calls
 use Rattle.tiff_encode.specs.Calls.{strips_of, tiles_of, without_field, with_directory_of, with_chunk, with_tags, write_tag, write_tags, appends, appends_chunk, resolution_tags}
 use Rattle.tiff_encode.specs.JobValues.{cut_to}
-use Rattle.tiff_encode.specs.Jobs.{Standing, Drawn, IsDone, Changes, ImageStepped, AllStepped, ResolvesInPart, Resolves, StoreStep, StoresBy}
+use Rattle.tiff_encode.specs.Jobs.{FileAndModel, Drawn, IsDone, Changes, ImageStepped, AllStepped, ResolvesInPart, Resolves, StoreStep, StoresBy}
 use Rattle.tiff_encode.proofs.Image.StepsStored.{StoresIfFound}
 use Rattle.tiff_encode.proofs.Slices.{ok_inj}
 use Rattle.tiff_encode.proofs.Joining.{IsAdding, adding, answers_adding, bind_adding, appends_adds, tag_adds}
@@ -32,18 +32,18 @@ abbrev pub IsLinkedAs : OpenImage → OpenImage → Type 0
 IsLinkedAs i j = j.directory.parent ≡ i.directory.parent
 
 -- A call of an image only appends, and the directory of the image keeps its parent.
-pub record Keeps (call : OpenImage → Writing OpenImage) : Type 0 where
+pub record Keeps (call : OpenImage → WriteCall OpenImage) : Type 0 where
   pub adding : (i : OpenImage) (file : FileState) → IsAdding (call i file) file
   pub parent : (i : OpenImage) (file : FileState) (j : OpenImage) → (call i file).answer ≡ Ok j → IsLinkedAs i j
 
-caused_adding : {A : Type 0} (cause : Option TiffError) (call : Writing A) (file : FileState) → IsAdding (call file) file
+caused_adding : {A : Type 0} (cause : Option TiffError) (call : WriteCall A) (file : FileState) → IsAdding (call file) file
     → IsAdding (by_cause cause call file) file
 caused_adding None call file a = a
 caused_adding (Some e) call file a = answers_adding (Err e) file
 
 -- a call writes to the directory, and the image has that directory
-module _ (cause : Option TiffError) (call : Writing OpenDirectory) (g : OpenDirectory → OpenImage) (file : FileState) where
-  abbrev set_in : Writing OpenImage
+module _ (cause : Option TiffError) (call : WriteCall OpenDirectory) (g : OpenDirectory → OpenImage) (file : FileState) where
+  abbrev set_in : WriteCall OpenImage
   set_in = call >>= (λ x. gives (g x))
 
   set_adding : IsAdding (call file) file → IsAdding (by_cause cause set_in file) file
@@ -74,7 +74,7 @@ tags_keep cause values = record {
 extra_keeps : (extra : List ExtraSamples) → Keeps (λ i. calls.extra_samples i extra)
 unfolding calls.extra_samples
 extra_keeps extra =
-    let call : OpenImage → Writing OpenDirectory = λ i. write_tag i.directory tag.ExtraSamples (Ok (data_of (extras extra))) in
+    let call : OpenImage → WriteCall OpenDirectory = λ i. write_tag i.directory tag.ExtraSamples (Ok (data_of (extras extra))) in
     let g : OpenImage → OpenDirectory → OpenImage = λ i d. record i { directory = d; extra = extra } in
     record {
       adding = λ i file. set_adding (extra_samples_cause file i extra) (call i) (g i) file (one_adding i.directory tag.ExtraSamples (extras extra) file);
@@ -87,7 +87,7 @@ rows_keep : (rows : ℕ) → Keeps (λ i. calls.set_rows_per_strip i rows)
 unfolding calls.set_rows_per_strip
 rows_keep rows =
     let value : Scalars = u32s (rows ∷ []) in
-    let call : OpenImage → Writing OpenDirectory = λ i. write_tag i.directory tag.RowsPerStrip (Ok (data_of value)) in
+    let call : OpenImage → WriteCall OpenDirectory = λ i. write_tag i.directory tag.RowsPerStrip (Ok (data_of value)) in
     let g : OpenImage → OpenDirectory → OpenImage = λ i d. record i { directory = d; form = strips_of i.width rows i.form.planar } in
     record {
       adding = λ i file. set_adding (rows_per_strip_cause file i rows) (call i) (g i) file (one_adding i.directory tag.RowsPerStrip value file);
@@ -100,7 +100,7 @@ planar_keeps : Keeps calls.planar
 unfolding calls.planar
 planar_keeps =
     let value : Scalars = planars (Planar ∷ []) in
-    let call : OpenImage → Writing OpenDirectory = λ i. write_tag i.directory tag.PlanarConfiguration (Ok (data_of value)) in
+    let call : OpenImage → WriteCall OpenDirectory = λ i. write_tag i.directory tag.PlanarConfiguration (Ok (data_of value)) in
     let g : OpenImage → OpenDirectory → OpenImage = λ i d. record i { directory = d; form = record i.form { planar = Planar } } in
     record {
       adding = λ i file. set_adding (planar_cause file i) (call i) (g i) file (one_adding i.directory tag.PlanarConfiguration value file);
@@ -113,7 +113,7 @@ tiles_keep : (width length : ℕ) → Keeps (λ i. calls.tiles i width length)
 unfolding calls.tiles
 tiles_keep width length =
     let values : List (Tag × Scalars) = (tag.TileWidth, u32s (width ∷ [])) ∷ (tag.TileLength, u32s (length ∷ [])) ∷ [] in
-    let call : OpenImage → Writing OpenDirectory = λ i. write_tags i.directory values in
+    let call : OpenImage → WriteCall OpenDirectory = λ i. write_tags i.directory values in
     let g : OpenImage → OpenDirectory → OpenImage = λ i d.
     record i { directory = without_field d tag.RowsPerStrip; form = tiles_of width length i.form.planar } in
     record {
@@ -159,7 +159,7 @@ chunk_linked cause i stored file j h =
     ap (λ x. x.directory.parent) (sym (ok_inj (last a.0) j (ap (λ told. told.answer) (sym a.1.1) ∙ all)))
 
 -- a call that stores a given number of samples
-abbrev pub StoringKeeps : (OpenImage → ℕ → List ℕ → Writing OpenImage) → Type 0
+abbrev pub StoringKeeps : (OpenImage → ℕ → List ℕ → WriteCall OpenImage) → Type 0
 StoringKeeps call = (count : ℕ) (stored : List ℕ) → Keeps (λ i. call i count stored)
 
 strip_keeps : StoringKeeps calls.write_strip
@@ -179,15 +179,15 @@ chunk_keeps count stored = record {
 -- ---- steps
 
 -- The properties that a step keeps.
-pub record IsKeptImage (old : Standing) (i : OpenImage) (new : Standing) (j : OpenImage) : Type 0 where
+pub record IsKeptImage (old : FileAndModel) (i : OpenImage) (new : FileAndModel) (j : OpenImage) : Type 0 where
   pub file : IsSame old.file new.file
   pub parent : IsLinkedAs i j
 
-nothing_done : (old : Standing) (i : OpenImage) (new : Standing) (j : OpenImage) → new ≡ old → j ≡ i → IsKeptImage old i new j
+nothing_done : (old : FileAndModel) (i : OpenImage) (new : FileAndModel) (j : OpenImage) → new ≡ old → j ≡ i → IsKeptImage old i new j
 nothing_done old i new j h q =
     record { file = same_by old.file new.file (ap (λ s. s.file) h); parent = ap (λ x. x.directory.parent) q }
 
-changed_kept : (call : OpenImage → Writing OpenImage) (i : OpenImage) (r : Result StepReply TiffError) (old new : Standing) (j : OpenImage)
+changed_kept : (call : OpenImage → WriteCall OpenImage) (i : OpenImage) (r : Result StepReply TiffError) (old new : FileAndModel) (j : OpenImage)
     → Keeps call → Changes (call i) i r old new j → IsKeptImage old i new j
 changed_kept call i r old new j k h = record {
   file = changes_same (call i) i r old new j (k.adding i old.file) h;
@@ -195,12 +195,12 @@ changed_kept call i r old new j k h = record {
 }
 
 -- a step that writes the resolutions in part keeps these properties
-in_part : (i : OpenImage) (values : List (Tag × Scalars)) (e : TiffError) (old new : Standing) (j : OpenImage)
+in_part : (i : OpenImage) (values : List (Tag × Scalars)) (e : TiffError) (old new : FileAndModel) (j : OpenImage)
     → ResolvesInPart i values e old new j → IsKeptImage old i new j
 in_part i values e old new j h =
     let none : FileState → Option TiffError = λ f. None in
     let k : ℕ = h.1.0 in
-    let mid : Standing = h.1.1.1.0 in
+    let mid : FileAndModel = h.1.1.1.0 in
     let done : IsDone (with_tags i (take k values) old.file) (Ok j) old mid = h.1.1.1.1.0 in
     let first = tags_keep none (take k values) in
     let rest = tags_keep none (drop k values) in
@@ -212,7 +212,7 @@ in_part i values e old new j h =
     ] in
     record { file = same_on old.file mid.file new.file begun others; parent = first.parent i old.file j done.ended.answer }
 
-resolves_kept : (i : OpenImage) (u : ResolutionUnit) (value : ℕ × ℕ) (r : Result StepReply TiffError) (old new : Standing) (j : OpenImage)
+resolves_kept : (i : OpenImage) (u : ResolutionUnit) (value : ℕ × ℕ) (r : Result StepReply TiffError) (old new : FileAndModel) (j : OpenImage)
     → Resolves i u value r old new j → IsKeptImage old i new j
 resolves_kept i u value (Ok r) old new j h =
     changed_kept (λ x. calls.resolution x u value) i (Ok r) old new j (resolution_keeps u value) h
@@ -221,8 +221,8 @@ resolves_kept i u value (Err e) old new j h = elim h as (λ _. IsKeptImage old i
   | inr p ↦ in_part i (resolution_tags u value) e old new j p
 ]
 
-module _ (call : OpenImage → ℕ → List ℕ → Writing OpenImage) (keeps : StoringKeeps call) where
-  stores_kept : (i : OpenImage) (samples : List ℕ) (r : Result StepReply TiffError) (old new : Standing) (j : OpenImage)
+module _ (call : OpenImage → ℕ → List ℕ → WriteCall OpenImage) (keeps : StoringKeeps call) where
+  stores_kept : (i : OpenImage) (samples : List ℕ) (r : Result StepReply TiffError) (old new : FileAndModel) (j : OpenImage)
       → StoreStep call i samples r old new j → IsKeptImage old i new j
   stores_kept i samples (Ok reply.Nothing) old new j h =
       let k = keeps (length samples) h.0 in record {
@@ -243,19 +243,19 @@ module _ (call : OpenImage → ℕ → List ℕ → Writing OpenImage) (keeps : 
         record { file = same; parent = ap (λ x. x.directory.parent) h.0 })
   ]
 
-  stores_by_kept : (cause : Option TiffError) (i : OpenImage) (samples : List ℕ) (r : Result StepReply TiffError) (old new : Standing)
+  stores_by_kept : (cause : Option TiffError) (i : OpenImage) (samples : List ℕ) (r : Result StepReply TiffError) (old new : FileAndModel)
       (j : OpenImage) → StoresBy call cause i samples r old new j → IsKeptImage old i new j
   stores_by_kept (Some cause) i samples r old new j h = nothing_done old i new j h.1.1 h.1.0
   stores_by_kept None i samples r old new j h = stores_kept i samples r old new j h
 
-  found_kept : (cause : Option TiffError) (i : Drawn) (samples : List ℕ) (r : Result StepReply TiffError) (old new : Standing) (j : Drawn)
+  found_kept : (cause : Option TiffError) (i : Drawn) (samples : List ℕ) (r : Result StepReply TiffError) (old new : FileAndModel) (j : Drawn)
       → StoresIfFound call cause i samples r old new j → IsKeptImage old i.image new j.image
   found_kept cause i samples r old new j h = elim h.1 as (λ _. IsKeptImage old i.image new j.image) [
     | inl s ↦ stores_by_kept cause i.image samples r old new j.image s
     | inr n ↦ nothing_done old i.image new j.image n.1.1 n.1.0
   ]
 
-image_step_kept : (old : Standing) (i : Drawn) (s : ImageStep) (r : Result StepReply TiffError) (new : Standing) (j : Drawn)
+image_step_kept : (old : FileAndModel) (i : Drawn) (s : ImageStep) (r : Result StepReply TiffError) (new : FileAndModel) (j : Drawn)
     → ImageStepped old i s r new j → IsKeptImage old i.image new j.image
 image_step_kept old i (istep.Directory s) r new j h =
     let d : OpenDirectory = h.1.0 in
@@ -284,7 +284,7 @@ image_step_kept old i (istep.YResolution value) r new j h =
 image_step_kept old i (istep.RowsPerStrip rows) r new j h =
     changed_kept (λ x. calls.set_rows_per_strip x rows) i.image r old new j.image (rows_keep rows) h.1
 
-pub image_steps_kept : (old : Standing) (i : Drawn) (steps : List ImageStep) (rs : List (Result StepReply TiffError)) (new : Standing)
+pub image_steps_kept : (old : FileAndModel) (i : Drawn) (steps : List ImageStep) (rs : List (Result StepReply TiffError)) (new : FileAndModel)
     (j : Drawn) → AllStepped ImageStepped old i steps rs new j → IsKeptImage old i.image new j.image
 image_steps_kept old i [] [] new j h = nothing_done old i.image new j.image h.0 (ap (λ x. x.image) h.1)
 image_steps_kept old i [] (r ∷ rs) new j h = absurd h

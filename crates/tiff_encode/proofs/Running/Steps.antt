@@ -23,22 +23,22 @@ use Rattle.tiff_encode.specs.declared.encoder.script.Job.TheVariants as job
 use Rattle.tiff_encode.specs.declared.encoder.script.JobReply.{JobReply}
 use Rattle.tiff_encode.specs.declared.encoder.settings.Compression.{Compression}
 use Rattle.tiff_encode.specs.Model.{In, IsLink, Model, Stands, Grows}
-use Rattle.tiff_encode.specs.Deeds.{model_after}
-use Rattle.tiff_encode.specs.Machine.{FileState, OpenDirectory, OpenImage, WriteOutcome, Writing, gives, ◌>>=◌}
+use Rattle.tiff_encode.specs.WriteOps.{model_after}
+use Rattle.tiff_encode.specs.Machine.{FileState, OpenDirectory, OpenImage, WriteOutcome, WriteCall, gives, ◌>>=◌}
 use Rattle.tiff_encode.specs.Causes.{begin_cause, write_image_data_cause}
 use Rattle.tiff_encode.specs.Calls as calls
 use Rattle.tiff_encode.specs.Calls.{Offsets, new_directory, pad, image_directory, extra_directory, set_parent}
-use Rattle.tiff_encode.specs.Ends.{IsTold, CallFails, EndsRefused}
+use Rattle.tiff_encode.specs.Ends.{EndsAsDefined, CallFails, EndsRefused}
 use Rattle.tiff_encode.specs.Leaves.{LeavesRefused}
 use Rattle.tiff_encode.specs.Open.{HoldsOpen, HoldsEnded, model_by}
 use Rattle.tiff_encode.specs.Held.{image_with}
 use Rattle.tiff_encode.specs.Shows.{Shows}
 use Rattle.tiff_encode.specs.JobValues.{cut_to}
-use Rattle.tiff_encode.specs.Jobs.{Standing, IsDone, Refuses, Drawn, Run, FinishedImage, DirectoryStepped, AllStepped, FinishesSilently, DirectoryEnds, ImageEnds, EndsWithin, JobWritesDataBy, DirectoryRan, DirectoryRanBy, ImageRan, JobRan, IsSet, run_after_job, with_parent, parent_of, named_parent, open_directory, ended_samples, images_at, job_images, are_apart, offsets_in, IsRefusedAtOnce, JobIsNotBegun}
+use Rattle.tiff_encode.specs.Jobs.{FileAndModel, IsDone, Refuses, Drawn, Run, FinishedImage, DirectoryStepped, AllStepped, FinishesSilently, DirectoryEnds, ImageEnds, EndsWithin, JobWritesDataBy, DirectoryRan, DirectoryRanBy, ImageRan, JobRan, IsSet, run_after_job, with_parent, parent_of, named_parent, open_directory, ended_samples, images_at, job_images, are_apart, offsets_in, IsRefusedAtOnce, JobIsNotBegun}
 use Rattle.tiff_encode.specs.Stepping.{StandsIfKnown, HasLink, Moves, StepsDraw, EndMoves, ImageHeld, IsHeld, IsSound, JobMoves, offsets_answered}
 use Rattle.tiff_encode.specs.Running.{NamesLink, link_in, linked_from, DirectoryGoes, DirectoryGoesOn, ImageGoes, ImageGoesOn, DirectoryRunsOn, ImageRunsOn}
 use Rattle.tiff_encode.proofs.Slices.{ok_inj}
-use Rattle.tiff_encode.proofs.Deeds.{link_kept}
+use Rattle.tiff_encode.proofs.WriteOps.{link_kept}
 use Rattle.tiff_encode.proofs.Joining.{IsAdding, adding, begin_adds, extra_adds}
 use Rattle.tiff_encode.proofs.Moving.{grows_here, grows_on, Led, seen}
 use Rattle.tiff_encode.proofs.Open.Begun.{begins_open}
@@ -51,18 +51,18 @@ use Rattle.tiff_encode.proofs.Running.KeptImages.{image_steps_kept}
 -- ---- links
 
 -- a link stays a link in a file of the same kind whose model grows
-pub link_on : (s t : Standing) (q : ℕ) → t.file.kind ≡ s.file.kind → Grows s.model t.model → IsLink s.file.kind s.model q
+pub link_on : (s t : FileAndModel) (q : ℕ) → t.file.kind ≡ s.file.kind → Grows s.model t.model → IsLink s.file.kind s.model q
     → IsLink t.file.kind t.model q
 link_on s t q k g l = subst (λ kind. IsLink kind t.model q) (sym k) (link_kept s.file.kind s.model t.model q g l)
 
 -- the last link of the chain stays a link if the chain stays the same
-chain_on : (s t : Standing) → IsSame s.file t.file → Grows s.model t.model → IsLink s.file.kind s.model s.file.chain
+chain_on : (s t : FileAndModel) → IsSame s.file t.file → Grows s.model t.model → IsLink s.file.kind s.model s.file.chain
     → IsLink t.file.kind t.model t.file.chain
 chain_on s t same g l =
     subst (λ q. IsLink t.file.kind t.model q) (sym same.chain) (link_on s t s.file.chain same.kind g l)
 
 -- the link of a parent stays a link
-parent_on : (known : Bool) (s t : Standing) (before after : Option ℕ) → t.file.kind ≡ s.file.kind → Grows s.model t.model
+parent_on : (known : Bool) (s t : FileAndModel) (before after : Option ℕ) → t.file.kind ≡ s.file.kind → Grows s.model t.model
     → after ≡ before → HasLink known s before → HasLink known t after
 parent_on known s t before after k g same h q offset p = link_on s t offset k g (h q offset (sym same ∙ p))
 
@@ -74,7 +74,7 @@ pub none_some : {A : Type 0} {x : A} → (let a : Option A = None in let b : Opt
 none_some h = cc
 
 -- each image that an end adds is held
-at_held : (t : Standing) (i : OpenImage) (offset : Option Offsets) (samples : Option (List (List ℕ))) (f : FinishedImage)
+at_held : (t : FileAndModel) (i : OpenImage) (offset : Option Offsets) (samples : Option (List (List ℕ))) (f : FinishedImage)
     → ((o : Offsets) (all : List (List ℕ)) → offset ≡ Some o → samples ≡ Some all
     → IsHeld t (record { offset = o.pointer; image = image_with i all }))
     → In f (images_at offset samples i) → IsHeld t f
@@ -84,7 +84,7 @@ at_held t i (Some o) None f h n = absurd n
 at_held t i None (Some all) f h n = absurd n
 at_held t i None None f h n = absurd n
 
-held_if : (apart : Bool) (t : Standing) (i : OpenImage) (offset : Option Offsets) (samples : Option (List (List ℕ))) (f : FinishedImage)
+held_if : (apart : Bool) (t : FileAndModel) (i : OpenImage) (offset : Option Offsets) (samples : Option (List (List ℕ))) (f : FinishedImage)
     → (apart ≡ true → (o : Offsets) (all : List (List ℕ)) → offset ≡ Some o → samples ≡ Some all
     → IsHeld t (record { offset = o.pointer; image = image_with i all }))
     → In f (if apart then images_at offset samples i else []) → IsHeld t f
@@ -93,7 +93,7 @@ held_if false t i offset samples f h n = absurd n
 
 -- ---- from the steps to the end
 
-module _ (known : Bool) (s : Standing) (left new : FileState) (is_left : left ≡ new) where
+module _ (known : Bool) (s : FileAndModel) (left new : FileState) (is_left : left ≡ new) where
   pub directory_goes : (first final : OpenDirectory) (j : DirectoryJob) (called : List DirectoryStep)
       (steps : Vec (Result StepReply TiffError) Global) (end : Result EndReply TiffError) (old mid : FileState) → called ≡ j.steps.items
       → Moves (λ s t. AllStepped DirectoryStepped s first called steps.items t final) old mid
@@ -101,7 +101,7 @@ module _ (known : Bool) (s : Standing) (left new : FileState) (is_left : left �
       → s.file ≡ old → StandsIfKnown known s → HasLink known s first.parent → DirectoryGoes first j (record { steps = steps; last = end }) known s new
   directory_goes first final j called steps end old mid is m e q k h =
       let a = m known s q k in
-      let t : Standing = a.0 in
+      let t : FileAndModel = a.0 in
       let kept = steps_kept s first called steps.items t final a.1.1.0 in
       let grows : Grows s.model t.model = a.1.1.1.1 in
       let b = e known t a.1.0 a.1.1.1.0 (parent_on known s t first.parent final.parent kept.file.kind grows kept.parent h) in
@@ -128,7 +128,7 @@ module _ (known : Bool) (s : Standing) (left new : FileState) (is_left : left �
   image_goes first final j called steps end old mid is drew e q k h =
       let m : StepsDraw first j.steps.items steps.items old mid final = subst (λ xs. StepsDraw first xs steps.items old mid final) is drew in
       let a = m known s [] q k in
-      let t : Standing = a.0 in
+      let t : FileAndModel = a.0 in
       let samples : List (List ℕ) = a.1.0 in
       let drawn : Drawn = record { image = final; samples = samples } in
       let kept = image_steps_kept s (record { image = first; samples = [] }) j.steps.items steps.items t drawn a.1.1.1.0 in
@@ -170,7 +170,7 @@ module _ {A : Type 0} where
   in_both x (z ∷ xs) ys (inr i) = elim (in_both x xs ys i) as (λ _. In x (z ∷ xs) ⊎ In x ys) [ inl j ↦ inl (inr j) | inr q ↦ inr q ]
 
 -- a held image stays held in a file of the same kind whose model grows
-held_on : (s t : Standing) (f : FinishedImage) → t.file.kind ≡ s.file.kind → Grows s.model t.model → IsHeld s f → IsHeld t f
+held_on : (s t : FileAndModel) (f : FinishedImage) → t.file.kind ≡ s.file.kind → Grows s.model t.model → IsHeld s f → IsHeld t f
 held_on s t f k g h = record {
   image = h.image;
   samples = h.samples;
@@ -181,7 +181,7 @@ held_on s t f k g h = record {
 }
 
 -- what a job adds to a run
-pub record Adding (known : Bool) (run : Run) (after : Standing) (r : Result EndReply TiffError) (images : List FinishedImage) : Type 0 where
+pub record Adding (known : Bool) (run : Run) (after : FileAndModel) (r : Result EndReply TiffError) (images : List FinishedImage) : Type 0 where
   pub kind : after.file.kind ≡ run.standing.file.kind
   pub grows : Grows run.standing.model after.model
   pub stands : StandsIfKnown known after
@@ -189,7 +189,7 @@ pub record Adding (known : Bool) (run : Run) (after : Standing) (r : Result EndR
   pub own : (o : Offsets) → offsets_in r ≡ Some o → IsLink after.file.kind after.model o.link
   pub held : (f : FinishedImage) → In f images → IsHeld after f
 
-pub sound_more : (known : Bool) (run : Run) (after : Standing) (r : Result EndReply TiffError) (images : List FinishedImage)
+pub sound_more : (known : Bool) (run : Run) (after : FileAndModel) (r : Result EndReply TiffError) (images : List FinishedImage)
     → IsSound known run → Adding known run after r images → IsSound known (run_after_job run after r images)
 sound_more known run after r images s a = record {
   stands = a.stands;
@@ -210,7 +210,7 @@ RunOn Ran r known run new =
     (after : Run) × ((after.standing.file ≡ new) × (Ran run after
     × (IsSound known after × (after.offsets ≡ run.offsets ++ offsets_in r.last ∷ []))))
 
-run_on : (Ran : Run → Run → Type 0) (r : JobReply) (known : Bool) (run : Run) (new : FileState) (t : Standing) (images : List FinishedImage)
+run_on : (Ran : Run → Run → Type 0) (r : JobReply) (known : Bool) (run : Run) (new : FileState) (t : FileAndModel) (images : List FinishedImage)
     → t.file ≡ new → Ran run (run_after_job run t r.last images) → IsSound known run → Adding known run t r.last images → RunOn Ran r known run new
 run_on Ran r known run new t images f h s a = (run_after_job run t r.last images, (f, (h, (sound_more known run t r.last images s a, refl))))
 
@@ -234,23 +234,23 @@ refused_run e r known run a s = sound_more known run run.standing r.last [] s (r
 })
 
 -- A call begins a directory or an image, or it fails. The model still describes the file.
-pub record Begun {A : Type 0} (call : Writing A) (old : FileState) (x : A) (mid : FileState) : Type 0 where
-  pub told : IsTold (call old) (Ok x) mid
-  pub leaves : (m : Model) → Stands old.kind old.bytes m → Stands old.kind mid.bytes (model_after old.kind old.bytes m (call old).deeds)
+pub record Begun {A : Type 0} (call : WriteCall A) (old : FileState) (x : A) (mid : FileState) : Type 0 where
+  pub told : EndsAsDefined (call old) (Ok x) mid
+  pub leaves : (m : Model) → Stands old.kind old.bytes m → Stands old.kind mid.bytes (model_after old.kind old.bytes m (call old).ops)
 
-pub record NotBegun {A : Type 0} (call : Writing A) (old : FileState) (e : TiffError) (new : FileState) : Type 0 where
+pub record NotBegun {A : Type 0} (call : WriteCall A) (old : FileState) (e : TiffError) (new : FileState) : Type 0 where
   pub fails : CallFails (call old) e old new
   pub leaves : (m : Model) → Stands old.kind old.bytes m → Stands old.kind new.bytes m
 
 -- a call that returns an error begins no directory and no image
-pub not_begun_as : {A D : Type 0} (call : Writing A) (r : Result D TiffError) (e : TiffError) (old new : FileState) → r ≡ Err e
+pub not_begun_as : {A D : Type 0} (call : WriteCall A) (r : Result D TiffError) (e : TiffError) (old new : FileState) → r ≡ Err e
     → OnErr r (EndsRefused (call old) r old new × LeavesRefused r old new) → NotBegun call old e new
 not_begun_as call (Ok x) e old new h p = absurd cc
 not_begun_as call (Err f) e old new h p =
     let same : f ≡ e = cc in
     subst (λ x. NotBegun call old x new) same (record { fails = p.0; leaves = p.1 })
 
-module _ {A : Type 0} (call : Writing A) (known : Bool) (s : Standing) (a : IsAdding (call s.file) s.file) (k : StandsIfKnown known s) where
+module _ {A : Type 0} (call : WriteCall A) (known : Bool) (s : FileAndModel) (a : IsAdding (call s.file) s.file) (k : StandsIfKnown known s) where
   begun_led : (old : FileState) (x : A) (mid : FileState) → s.file ≡ old → Begun call old x mid
       → Led (λ t. IsDone (call s.file) (Ok x) s t) known s mid
   begun_led old x mid q b =
@@ -266,12 +266,12 @@ module _ {A : Type 0} (call : Writing A) (known : Bool) (s : Standing) (a : IsAd
       seen view (call s.file) s new known k a (Err e) here.fails here.leaves
 
 -- a job whose directory or image fails to begin
-pub not_begun_runs : {A : Type 0} (call : Writing A) (e : TiffError) (r : JobReply) (old new : FileState) (known : Bool) (run : Run)
+pub not_begun_runs : {A : Type 0} (call : WriteCall A) (e : TiffError) (r : JobReply) (old new : FileState) (known : Bool) (run : Run)
     → IsAdding (call run.standing.file) run.standing.file → NotBegun call old e new → IsRefusedAtOnce e r → run.standing.file ≡ old
     → IsSound known run → RunOn (λ run after. JobIsNotBegun (call run.standing.file) run r after) r known run new
 not_begun_runs call e r old new known run a b refused q s =
     let l = not_begun_led call known run.standing a s.stands old e new q b in
-    let t : Standing = l.0 in
+    let t : FileAndModel = l.0 in
     let same = refused_same (call run.standing.file) run.standing t a e l.1.1.0 in
     let grows : Grows run.standing.model t.model = l.1.1.1.1 in
     let more : Adding known run t r.last [] = record {
@@ -307,7 +307,7 @@ pub directory_refused : (j : DirectoryJob) (r : JobReply) (e : TiffError) (old n
     (parent : Option Offsets) → NotBegun (open_directory j.chained) old e new → IsRefusedAtOnce e r → run.standing.file ≡ old
     → IsSound known run → RunOn (λ run after. DirectoryRan run parent j r after) r known run new
 directory_refused j r e old new known run parent b refused q s =
-    let call : Writing OpenDirectory = open_directory j.chained in
+    let call : WriteCall OpenDirectory = open_directory j.chained in
     let x = not_begun_runs call e r old new known run (open_adding j.chained run.standing.file) b refused q s in
     (x.0, (x.1.0, (inl x.1.1.0, x.1.1.1)))
 
@@ -316,7 +316,7 @@ chained_parent : (file : FileState) (d : OpenDirectory) → (image_directory fil
 unfolding image_directory
 chained_parent file d h =
     let empty : OpenDirectory = new_directory (Some file.chain) true in
-    let call : Writing OpenDirectory = pad >>= (λ _. gives empty) in
+    let call : WriteCall OpenDirectory = pad >>= (λ _. gives empty) in
     let c = cause_answered (begin_cause file) call file d h in
     ap (λ x. x.parent) (sym (ok_inj empty d (ap (λ told. told.answer) (sym c.1) ∙ h)))
 
@@ -325,17 +325,17 @@ extra_parent : (file : FileState) (d : OpenDirectory) → (extra_directory file)
 unfolding extra_directory
 extra_parent file d h =
     let empty : OpenDirectory = new_directory None false in
-    let call : Writing OpenDirectory = pad >>= (λ _. gives empty) in
+    let call : WriteCall OpenDirectory = pad >>= (λ _. gives empty) in
     let c = cause_answered (begin_cause file) call file d h in
     ap (λ x. x.parent) (sym (ok_inj empty d (ap (λ told. told.answer) (sym c.1) ∙ h)))
 
-open_parent : (chained known : Bool) (s t : Standing) (d : OpenDirectory) → (open_directory chained s.file).answer ≡ Ok d
+open_parent : (chained known : Bool) (s t : FileAndModel) (d : OpenDirectory) → (open_directory chained s.file).answer ≡ Ok d
     → t.file.kind ≡ s.file.kind → Grows s.model t.model → HasLink known s (Some s.file.chain) → HasLink known t d.parent
 open_parent true known s t d h k g l = parent_on known s t (Some s.file.chain) d.parent k g (chained_parent s.file d h) l
 open_parent false known s t d h k g l = λ q offset p. absurd (none_some (sym (extra_parent s.file d h) ∙ p))
 
 -- a parent that a job names
-named_on : (known : Bool) (s t : Standing) (link : Option ℕ) (d : OpenDirectory) → t.file.kind ≡ s.file.kind → Grows s.model t.model
+named_on : (known : Bool) (s t : FileAndModel) (link : Option ℕ) (d : OpenDirectory) → t.file.kind ≡ s.file.kind → Grows s.model t.model
     → HasLink known s link → HasLink known t d.parent → HasLink known t (linked_from link d).parent
 named_on known s t None d k g h l = l
 named_on known s t (Some offset) d k g h l = parent_on known s t (Some offset) (Some offset) k g refl h
@@ -346,7 +346,7 @@ parented_so None d = refl
 parented_so (Some offsets) d = refl
 
 -- the offsets that an end returns are those of its directory
-answered_offset : (s : Standing) (d : OpenDirectory) (e : DirectoryEnd) (r : Result EndReply TiffError) (t : Standing) (offset : Option Offsets)
+answered_offset : (s : FileAndModel) (d : OpenDirectory) (e : DirectoryEnd) (r : Result EndReply TiffError) (t : FileAndModel) (offset : Option Offsets)
     (o : Offsets) → DirectoryEnds s d e r t offset → offsets_in r ≡ Some o → offset ≡ Some o
 answered_offset s d end.Finish (Ok (last.Offsets pointer link)) t offset o h q = h.1 ∙ q
 answered_offset s d end.Finish (Ok last.Nothing) t offset o h q = absurd h
@@ -361,10 +361,10 @@ pub directory_runs : (link : Option ℕ) (j : DirectoryJob) (r : JobReply) (old 
     → DirectoryGoesOn e j r mid left → left ≡ new → new.kind ≡ old.kind → run.standing.file ≡ old → IsSound known run → link ≡ link_in parent
     → HasLink known run.standing link → RunOn (λ run after. DirectoryRan run parent j r after) r known run new
 directory_runs link j r old mid left new d e known run parent b is goes is_left kind q s named l =
-    let call : Writing OpenDirectory = open_directory j.chained in
+    let call : WriteCall OpenDirectory = open_directory j.chained in
     let a = open_adding j.chained run.standing.file in
     let begun = begun_led call known run.standing a s.stands old d mid q b in
-    let first : Standing = begun.0 in
+    let first : FileAndModel = begun.0 in
     let same = done_same (call run.standing.file) run.standing first a (Ok d) begun.1.1.0 in
     let grows : Grows run.standing.model first.model = begun.1.1.1.1 in
     let its : HasLink known first d.parent =
@@ -372,7 +372,7 @@ directory_runs link j r old mid left new d e known run parent b is goes is_left 
     let linked : HasLink known first e.parent =
     subst (λ x. HasLink known first x.parent) (sym is) (named_on known run.standing first link d same.kind grows l its) in
     let g = goes known first begun.1.0 begun.1.1.1.0 linked in
-    let t : Standing = g.after_end in
+    let t : FileAndModel = g.after_end in
     let more : Adding known run t r.last [] = record {
       kind = ap (λ f. f.kind) (g.file ∙ is_left) ∙ kind ∙ ap (λ f. f.kind) (sym q);
       grows = grows_on run.standing.model first.model t.model grows g.grows;
@@ -401,18 +401,18 @@ directory_runs link j r old mid left new d e known run parent b is goes is_left 
 -- ---- images
 
 -- the end of an image returns no offsets
-silent : (told : WriteOutcome Offsets) (r : Result EndReply TiffError) (s t : Standing) (offset : Option Offsets)
+silent : (told : WriteOutcome Offsets) (r : Result EndReply TiffError) (s t : FileAndModel) (offset : Option Offsets)
     → FinishesSilently told r s t offset → offsets_in r ≡ None
 silent told (Ok last.Nothing) s t offset h = refl
 silent told (Ok (last.Offsets pointer link)) s t offset h = absurd h
 silent told (Err e) s t offset h = refl
 
-silent_within : (i : OpenImage) (samples : List ℕ) (r : Result EndReply TiffError) (s t : Standing) → EndsWithin i samples r s t
+silent_within : (i : OpenImage) (samples : List ℕ) (r : Result EndReply TiffError) (s t : FileAndModel) → EndsWithin i samples r s t
     → offsets_in r ≡ None
 silent_within i samples (Ok r) s t h = absurd h
 silent_within i samples (Err e) s t h = refl
 
-silent_by : (cause : Option TiffError) (i : OpenImage) (samples : List ℕ) (r : Result EndReply TiffError) (s t : Standing)
+silent_by : (cause : Option TiffError) (i : OpenImage) (samples : List ℕ) (r : Result EndReply TiffError) (s t : FileAndModel)
     (offset : Option Offsets) → JobWritesDataBy cause i samples r s t offset → offsets_in r ≡ None
 silent_by (Some cause) i samples r s t offset h = ap offsets_in h.0
 silent_by None i samples r s t offset h = elim h as (λ _. offsets_in r ≡ None) [
@@ -420,7 +420,7 @@ silent_by None i samples r s t offset h = elim h as (λ _. offsets_in r ≡ None
   | inr w ↦ silent_within i samples r s t w.0
 ]
 
-silent_end : (s : Standing) (i : OpenImage) (e : ImageEnd) (r : Result EndReply TiffError) (t : Standing) (offset : Option Offsets)
+silent_end : (s : FileAndModel) (i : OpenImage) (e : ImageEnd) (r : Result EndReply TiffError) (t : FileAndModel) (offset : Option Offsets)
     → ImageEnds s i e r t offset → offsets_in r ≡ None
 silent_end s i (iend.WriteData samples) r t offset h =
     let cut : List ℕ = cut_to i.size samples.items in
@@ -438,7 +438,7 @@ new_parent color size width height file i h =
     let n = new_is color size width height file i h in ap (λ x. x.directory.parent) (sym n.1.0) ∙ n.1.1.parent
 
 -- the call of a job
-abbrev pub job_image : ImageJob → Writing OpenImage
+abbrev pub job_image : ImageJob → WriteCall OpenImage
 job_image j = calls.new_image (color_type j.color) (inner_size j.color) j.width j.height
 
 -- the call of a job, by its color type
@@ -473,10 +473,10 @@ image_runs j r old mid left new i known run wide high packed b goes is_left kind
     let color : ColorTypeRecord = color_type j.color in
     let size : ℕ = inner_size j.color in
     let file : FileState = run.standing.file in
-    let call : Writing OpenImage = job_image j in
+    let call : WriteCall OpenImage = job_image j in
     let a = new_adding color size j.width j.height file in
     let begun = begun_led call known run.standing a s.stands old i mid q b in
-    let first : Standing = begun.0 in
+    let first : FileAndModel = begun.0 in
     let done : IsDone (call file) (Ok i) run.standing first = begun.1.1.0 in
     let same = done_same (call file) run.standing first a (Ok i) done in
     let grows : Grows run.standing.model first.model = begun.1.1.1.1 in
@@ -484,7 +484,7 @@ image_runs j r old mid left new i known run wide high packed b goes is_left kind
     parent_on known run.standing first (Some file.chain) i.directory.parent same.kind grows
     (new_parent color size j.width j.height file i done.ended.answer) s.chain in
     let g = goes known first begun.1.0 begun.1.1.1.0 linked in
-    let t : Standing = g.after_end in
+    let t : FileAndModel = g.after_end in
     let here : (file.method ≡ method.None) ⊎ (file.method ≡ method.PackBits) =
     subst (λ f. (f.method ≡ method.None) ⊎ (f.method ≡ method.PackBits)) (sym q) packed in
     let new_directory : HoldsOpen file.kind (model_by file run.standing.model (call file)) i [] =
@@ -527,7 +527,7 @@ pub set_runs : (set : FileState → FileState) (j : Job) (r : JobReply) (old new
     → RunOn (λ run after. JobRan run j r after) r known run new
 set_runs set j r old new known run keeps is h none ok q s =
     let file : FileState = run.standing.file in
-    let t : Standing = record run.standing { file = set file } in
+    let t : FileAndModel = record run.standing { file = set file } in
     let same : IsSame file t.file = (keeps file).0 in
     let grows : Grows run.standing.model t.model = grows_here run.standing.model in
     let more : Adding known run t r.last [] = record {

@@ -17,14 +17,14 @@ use Rattle.tiff_page.specs.Laws.{HasSides}
 use Rattle.tiff_encode.specs.Machine.{OpenImage}
 use Rattle.tiff_encode.specs.Chunks.{image_page, chunk_rows, row_samples, sample_in}
 use Rattle.tiff_encode.specs.Stored.{unpacked_chunk}
-use Rattle.tiff_encode.specs.Held.{IsWholeImage, samples_of_chunk, AreHanded, HasChunks, ChunksShow}
+use Rattle.tiff_encode.specs.Held.{IsWholeImage, samples_of_chunk, AreSupplied, HasChunks, ChunksShow}
 use Rattle.tiff_encode.proofs.Shown.Color.{IsOf, of_family, IsColored, colored}
 use Rattle.tiff_encode.proofs.Shown.Data.{data_begin, row_is, length_bytes, number_is}
 use Rattle.tiff_encode.proofs.Shown.Offsets.{plane_within, sample_within, chunk_listed, offset_within, offset_same, needed_within}
 
 -- an image with all chunks written, and the samples that the chunks receive
 module _ (kind : FileKind) (file : List ℕ) (i : OpenImage) (samples : List (List ℕ))
-    (w : IsWholeImage kind i) (h : AreHanded i samples) (there : HasChunks file i samples) where
+    (w : IsWholeImage kind i) (h : AreSupplied i samples) (there : HasChunks file i samples) where
   -- the page of the image
   abbrev p : PageRecord
   p = image_page i

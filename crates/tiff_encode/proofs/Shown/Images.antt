@@ -17,9 +17,9 @@ regions_stand kind file m i samples s r k b =
 
 -- images are shown if a directory with the tags of an image is read as the image's page
 pub images_show_by : PageTold → ImagesShow
-images_show_by told kind file m d fields given i samples s in_directories is_listed holds whole tells handed regions =
+images_show_by told kind file m d fields given i samples s in_directories is_listed holds whole tells supplied regions =
     let c : ShowsSamples file (image_page i) (sample_in (image_page i) samples) =
-    chunks_show kind file i samples whole handed (regions_stand kind file m i samples s regions) in
+    chunks_show kind file i samples whole supplied (regions_stand kind file m i samples s regions) in
     record {
       page = image_page i;
       is_page = told kind file m d fields given i s in_directories is_listed holds whole tells;

@@ -27,7 +27,7 @@ use Rattle.tiff_encode.specs.Calls.{default_rows, image_in}
 use Rattle.tiff_encode.specs.Shows.{gray_page}
 use Rattle.tiff_encode.specs.ImageData.{image_of_samples, PartsShow}
 use Rattle.tiff_encode.proofs.Shown.Offsets.{plane_within, sample_within, chunk_listed, offset_within, offset_same}
-use Rattle.tiff_encode.proofs.Drawing.{one_part}
+use Rattle.tiff_encode.proofs.ImageState.{one_part}
 
 -- a sample is that of its plane, or one of all samples of a pixel
 sample_of : (planar : PlanarConfiguration) (sample : ℕ) → planar_or planar (planar_or planar sample 0) (planar_or planar 0 sample) ≡ sample

@@ -1,5 +1,10 @@
 //! Runs jobs one after another.
 
+pub(crate) mod directory_steps;
+pub(crate) mod finish;
+pub(crate) mod image_steps;
+pub(crate) mod values;
+
 ghost use Rattle.std.specs.Prelude.{◌≡◌, ◌⊎◌, length, true, false};
 ghost use Rattle.tiff_base.specs.declared.tags.CompressionMethod.TheVariants as method;
 ghost use Rattle.tiff_encode.specs.Calls as calls;
@@ -8,10 +13,10 @@ ghost use Rattle.tiff_encode.specs.Running.{DirectoryGoesOn, DirectoryRunsOn, Is
 ghost use Rattle.tiff_encode.specs.Stepping.{JobMoves, offsets_answered};
 
 use crate::encoder::TiffEncoder;
-use crate::encoder::directory_encoder::DirectoryEncoder;
-use crate::encoder::drawing::Drawing;
+use crate::encoder::directory::encoder::DirectoryEncoder;
+use crate::encoder::directory::state::DirectoryState;
+use crate::encoder::image::state::ImageState;
 use crate::encoder::kind::TiffKind;
-use crate::encoder::open::Fields;
 use crate::encoder::script::{DirectoryJob, EndReply, ImageJob, Job, JobReply, StepReply};
 use crate::encoder::settings::Compression;
 use tiff_base::error::{TiffError, TiffResult, UsageError};
@@ -24,7 +29,7 @@ use tiff_value::encoder::colortype::{
     RGBA32Float, RGBA64, RGBA64Float, YCbCr8,
 };
 
-impl Fields {
+impl DirectoryState {
     // Sets the offset of the link that points to the directory when it ends, if there is one.
     fn link_from(&mut self, parent: Option<u64>)
         ensures { self.new ≡ linked_from parent self.old }
@@ -66,7 +71,7 @@ impl<W: Sink, K: TiffKind> TiffEncoder<W, K> {
 // Runs the steps of an open directory, and ends it. `steps` has room for their replies.
 fn lead_directory<W: Sink, K: TiffKind>(
     encoder: &mut TiffEncoder<W, K>,
-    state: Fields,
+    state: DirectoryState,
     job: &DirectoryJob,
     mut steps: Vec<TiffResult<StepReply>>,
 ) -> JobReply
@@ -181,7 +186,7 @@ fn run_directory<W: Sink, K: TiffKind>(
 // Runs the steps of an open image, and ends it. `steps` has room for their replies.
 fn run_image_steps<W: Sink, K: TiffKind, C: ColorType>(
     encoder: &mut TiffEncoder<W, K>,
-    state: Drawing<C>,
+    state: ImageState<C>,
     job: &ImageJob,
     mut steps: Vec<TiffResult<StepReply>>,
 ) -> JobReply
@@ -273,7 +278,8 @@ fn run_by_kind<W: Sink, K: TiffKind>(
     steps: Vec<TiffResult<StepReply>>,
 ) -> JobReply
     requires { IsEmptyWithRoom (step_count job.now) steps }
-    ensures { encoder.new.kind ≡ encoder.old.kind → JobMoves job.now earlier.now result encoder.old encoder.new }
+    ensures { encoder.new.kind ≡ encoder.old.kind
+        → JobMoves job.now earlier.now result encoder.old encoder.new }
 {
     match job {
         Job::Predictor(predictor) => {

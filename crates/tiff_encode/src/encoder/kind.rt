@@ -74,7 +74,8 @@ pub trait TiffKind {
     /// Converts an offset to the type of this kind. Returns `IntSizeError` if the offset exceeds
     /// the bytes of an offset of this kind.
     fn convert_offset(offset: u64) -> TiffResult<Self::OffsetType>
-        ensures { Gives offset_number result (if is_past kind offset then Err IntSizeError else Ok offset) };
+        ensures { Gives offset_number result (if is_past kind offset then Err IntSizeError
+            else Ok offset) };
 
     /// Converts an offset to the type of this kind (this project's). Returns the greatest offset of
     /// this kind if the offset exceeds the bytes of an offset of this kind.
@@ -85,13 +86,15 @@ pub trait TiffKind {
     /// Writes an offset. Returns `IntSizeError` and writes nothing if the offset exceeds the bytes
     /// of an offset of this kind. Other errors: those of `TiffWriter::write_plain`.
     fn write_offset<W: Sink>(writer: &mut TiffWriter<W>, offset: u64) -> TiffResult<()>
-        ensures { WritesWithin (is_past kind offset) (le (offset_len kind) offset) writer.old writer.new result };
+        ensures { WritesWithin (is_past kind offset) (le (offset_len kind) offset) writer.old
+            writer.new result };
 
     /// Writes the number of entries of a directory. Returns `IntSizeError` and writes nothing if
     /// the number exceeds the bytes of such a number in this kind. Other errors: those of
     /// `TiffWriter::write_plain`.
     fn write_entry_count<W: Sink>(writer: &mut TiffWriter<W>, count: usize) -> TiffResult<()>
-        ensures { WritesWithin (is_past_count kind count) (le (count_len kind) count) writer.old writer.new result };
+        ensures { WritesWithin (is_past_count kind count) (le (count_len kind) count) writer.old
+            writer.new result };
 
     /// Writes a header that links to no directory. Errors: those of `TiffWriter::write_plain`.
     fn write_header<W: Sink>(writer: &mut TiffWriter<W>) -> TiffResult<()>
@@ -231,9 +234,16 @@ impl<K: TiffKind, O: OffsetNumber> Model for DirectoryOffset<K, O> {
     // The offset fits the kind of file, and `offset` and `pointer` are the same offset.
     ghost invariant = { λ d. (is_past K.kind d.pointer.0 ≡ false) × (O.number d.offset ≡ d.pointer.0) };
 
-    ghost inverse = { λ o. record { offset = O.numbered o.pointer; pointer = record { 0 = o.pointer }; link = o.link; kind = record {} } };
+    ghost inverse = { λ o. record {
+      offset = O.numbered o.pointer;
+      pointer = record { 0 = o.pointer };
+      link = o.link;
+      kind = record {};
+    } };
 
-    ghost inverse_ok = { λ a h. ap (λ o. record { offset = o; pointer = a.pointer; link = a.link; kind = record {} }) (ap O.numbered (sym h.1) ∙ O.again a.offset) };
+    ghost inverse_ok = { λ a h. ap
+        (λ o. record { offset = o; pointer = a.pointer; link = a.link; kind = record {} })
+        (ap O.numbered (sym h.1) ∙ O.again a.offset) };
 }
 
 impl<K: TiffKind, O: OffsetNumber> Copy for DirectoryOffset<K, O> {}
@@ -252,7 +262,8 @@ impl<K: TiffKind, O: OffsetNumber> Clone for DirectoryOffset<K, O> {
 // Returns the offset of the link of a directory at `offset` with `count` entries, or `None` if it
 // is 2^64 or more.
 fn link_of(kind: FileKind, offset: u64, count: usize) -> Option<u64>
-    ensures { result ≡ (if nat_le (2 ^ 64) (link_offset kind offset count) then None else Some (link_offset kind offset count)) }
+    ensures { result ≡ (if nat_le (2 ^ 64) (link_offset kind offset count) then None
+        else Some (link_offset kind offset count)) }
 {
     let (head, entry) = match kind {
         FileKind::Classic => (2, 12),
@@ -289,7 +300,8 @@ impl<K: TiffKind> DirectoryOffset<K, K::OffsetType> {
     /// link is 2^64 or more.
     #[tactic(auto, unfolding(crate::specs::Calls::new_offset, crate::specs::Causes::offset_cause))]
     pub fn new(pointer: IfdPointer, directory: &Directory) -> TiffResult<Self>
-        ensures { Gives (λ o. o) result (new_offset K.kind pointer.0 (map.len directory.now.entries)) }
+        ensures { Gives (λ o. o) result
+            (new_offset K.kind pointer.0 (map.len directory.now.entries)) }
     {
         K::convert_offset(pointer.0)?;
         let Some(link) = link_of(K::file_kind(), pointer.0, directory.len()) else {

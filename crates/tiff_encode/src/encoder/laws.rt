@@ -1,9 +1,14 @@
 //! The laws by which a file keeps what it contains and contains more after each write. Each law is
 //! the contract of a function that does nothing.
 
+pub mod data;
+pub mod fit;
+pub mod image;
+pub mod reading;
+
 ghost use Rattle.tiff_encode.specs.AppendLaws.{DirectoryCallsAppend, ImageCallsAppend, EndsLinkParent};
 ghost use Rattle.tiff_encode.specs.Held.{ChunksShow, ImagesShow, PageTold};
-ghost use Rattle.tiff_encode.specs.Laws.{HeaderStands, KeptByAppending, KeptByPatching, KeptByTearing, GrownByRegion, GrownByInline, GrownByPlaced, GrownByListing, FinishStep, DeedsStand, DeedsGrow, DeedsBegun, DeedsTorn, DeedsJoin, DeedsAppend, FirstTold, ModelsAgree};
+ghost use Rattle.tiff_encode.specs.Laws.{HeaderStands, KeptByAppending, KeptByPatching, KeptByTearing, GrownByRegion, GrownByInline, GrownByPlaced, GrownByListing, FinishStep, OpsStand, OpsGrow, OpsBegun, OpsTorn, OpsJoin, OpsAppend, FirstTold, ModelsAgree};
 ghost use Rattle.tiff_encode.specs.RunLaws.{OffsetsAgree, OneStep, OneStored};
 ghost use Rattle.tiff_encode.specs.CallLaws.{PlacedFits, FinishFits};
 
@@ -57,36 +62,36 @@ pub fn finished()
 
 /// States that valid writes to a file that contains a model result in a file that contains the
 /// model after these writes.
-pub fn deeds_stand()
-    ensures { DeedsStand }
+pub fn ops_stand()
+    ensures { OpsStand }
 {}
 
 /// States that the model after some writes has everything that the model before them has.
-pub fn deeds_grow()
-    ensures { DeedsGrow }
+pub fn ops_grow()
+    ensures { OpsGrow }
 {}
 
 /// States that a file that contains a model still contains it after the sink fails while a call
 /// appends.
-pub fn deeds_begun()
-    ensures { DeedsBegun }
+pub fn ops_begun()
+    ensures { OpsBegun }
 {}
 
 /// States that a file contains everything except one link after the sink fails while the last write
 /// of a call, that link, is written.
-pub fn deeds_torn()
-    ensures { DeedsTorn }
+pub fn ops_torn()
+    ensures { OpsTorn }
 {}
 
 /// States that some writes and then more writes have the same effect as all of them one after
 /// another.
-pub fn deeds_join()
-    ensures { DeedsJoin }
+pub fn ops_join()
+    ensures { OpsJoin }
 {}
 
 /// States that writes that change no link append bytes and do nothing else.
-pub fn deeds_append()
-    ensures { DeedsAppend }
+pub fn ops_append()
+    ensures { OpsAppend }
 {}
 
 /// States that the writes of a value for a field are valid for a file that contains a model.

@@ -6,7 +6,7 @@ ghost use Rattle.tiff_encode.specs.Jobs.{RunsJobs};
 ghost use Rattle.tiff_encode.specs.Running.{AreRooms, JobsMove, step_count};
 
 use crate::encoder::TiffEncoder;
-use crate::encoder::job_steps::put;
+use crate::encoder::jobs::directory_steps::put;
 use crate::encoder::jobs::run_job;
 use crate::encoder::kind::TiffKind;
 use crate::encoder::settings::Compression;
@@ -230,7 +230,8 @@ fn run_new<W: Sink, K: TiffKind>(
     requires count { vec_len rooms.old ≡ length jobs.now }
     requires rooms { AreRooms jobs.now rooms.old.items }
     requires room { vec_len replies.old + length jobs.now ≤ vec_capacity replies.old }
-    ensures { RunsJobs W.told W.failures W.fault K.kind jobs.now sink replies.old.items replies.new.items result }
+    ensures { RunsJobs W.told W.failures W.fault K.kind jobs.now sink replies.old.items
+        replies.new.items result }
 {
     let mut encoder = TiffEncoder::<W, K>::new_generic(alloc, sink)?;
     run_all(&mut encoder, jobs, rooms, replies);
@@ -248,7 +249,8 @@ pub fn run_jobs<W: Sink, K: TiffKind>(
     jobs: &[Job],
     replies: &mut Vec<JobReply>,
 ) -> TiffResult<W>
-    ensures { RunsJobs W.told W.failures W.fault K.kind jobs.now sink replies.old.items replies.new.items result }
+    ensures { RunsJobs W.told W.failures W.fault K.kind jobs.now sink replies.old.items
+        replies.new.items result }
 {
     match replies.try_reserve(jobs.len()) {
         Ok(()) => {}

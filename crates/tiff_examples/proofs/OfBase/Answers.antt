@@ -1,4 +1,4 @@
--- The worked examples of Words hold.
+-- The worked examples of `Base.Answers` hold.
 use Rattle.std.specs.Prelude.{◌≡◌, refl, ℕ, List, [], ◌∷◌, length}
 use Rattle.std.proofs.Common.{ap, sym, ◌∙◌, subst, arith, inl}
 use Rattle.std.specs.Cmp.{nat_cmp_total}
@@ -20,7 +20,7 @@ empty_list (x ∷ es) e = absurd (omega arith)
 no_entries : entries (empty {X = Field} {R = nat_cmp}) ≡ []
 no_entries = empty_list (entries (empty {X = Field} {R = nat_cmp})) (sym (len-entries (empty {X = Field} {R = nat_cmp})) ∙ len-empty nat_cmp Field)
 
--- the entries of a directory of one
+-- the entries of a directory with one entry
 one_entry : (n : ℕ) (f : Field) → entries (insert (empty {R = nat_cmp}) n f) ≡ (n, f) ∷ []
 one_entry n f = entries-insert nat_cmp_total empty n f ∙ ap (put nat_cmp n f) no_entries
 

@@ -1,4 +1,4 @@
--- The worked examples of Directories compute.
+-- The worked examples of `Base.Directory` hold.
 use Rattle.std.specs.Prelude.{reverse, ◌∷◌, []}
 use Rattle.std.specs.Cmp.{nat_cmp_total}
 use Rattle.std.specs.FinMap.{get-from_entries}

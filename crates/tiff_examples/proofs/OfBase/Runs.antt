@@ -1,4 +1,4 @@
--- The worked examples of Packed compute.
+-- The worked examples of `Base.Runs` hold.
 use Rattle.std.specs.Prelude.{refl}
 use Rattle.std.proofs.Common.{arith}
 use Rattle.std.specs.Prelude.{[], ◌∷◌}

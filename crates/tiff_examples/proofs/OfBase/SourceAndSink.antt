@@ -1,4 +1,4 @@
--- The worked examples of ShortAnswers compute.
+-- The worked examples of `Base.SourceAndSink` hold.
 use Rattle.std.specs.Prelude.{◌≡◌, ℕ, List, [], ◌∷◌, reverse}
 use Rattle.std.proofs.Common.{ap, arith}
 use Rattle.std.specs.Ordering.{nat_cmp}
@@ -9,11 +9,11 @@ use Rattle.tiff_base.specs.declared.tags.FileKind.TheVariants.{Classic}
 use Rattle.tiff_base.specs.Field.{Field}
 use Rattle.tiff_ifd.specs.Limits.{unlimited}
 use Rattle.tiff_ifd.specs.FieldValue.{field_value}
-use Rattle.tiff_ifd.specs.Look.{if_found}
+use Rattle.tiff_ifd.specs.TagLookup.{if_found}
 use Rattle.tiff_examples.specs.Base.SourceAndSink as s
 use Rattle.tiff.proofs.OnLiterals.{tiff_on_literals}
 
--- the look-up in fields that are made of a list
+-- a look-up in fields that are made from a list is a search in that list
 by_list : (fields : List (ℕ × Field)) (q : ℕ) → get (from_entries {R = nat_cmp} fields) q ≡ find nat_cmp q fields
 by_list = get-from_entries nat_cmp_total
 

@@ -1,4 +1,4 @@
--- The worked examples of Asked hold.
+-- The worked examples of `Decode.Asked` hold.
 use Rattle.std.specs.Prelude.{drop, get_or, length, reverse}
 use Rattle.std.specs.List.{last_or}
 use Rattle.std.proofs.Common.{◌≡◌, ℕ, ◌≤◌, List, [], ◌∷◌, Option, Some, None, Result, Ok, Err, refl, ap, sym, ◌∙◌, subst, arith}
@@ -17,7 +17,7 @@ use Rattle.tiff_base.specs.Header.{Header}
 use Rattle.tiff_base.specs.SourceAndSink.{SourceRecord}
 use Rattle.tiff_ifd.specs.Chain.{IsChain, link_from}
 use Rattle.tiff_ifd.specs.Stretches.{DirectoryReadable, LinkReadable}
-use Rattle.tiff_ifd.specs.Walk.{ChainBegins, Walked, link_behind}
+use Rattle.tiff_ifd.specs.IfdChainWalk.{ChainBegins, Walked, link_behind}
 use Rattle.tiff_page.specs.Reach.{PageReadable}
 use Rattle.tiff_decode.specs.Asked.{EntryReadable}
 use Rattle.tiff_examples.specs.Base.FieldBytes.{of}
@@ -25,7 +25,7 @@ use Rattle.tiff_examples.specs.Decoders.{gray_fields, two_file}
 use Rattle.tiff_examples.specs.Files.{gray_entries, gray_file, one_rational}
 use Rattle.tiff_examples.specs.Decode.Asked as s
 use Rattle.tiff_examples.proofs.OfIfd.Stretches.{count_in}
-use Rattle.tiff_examples.proofs.OfIfd.Walk.{ends_there, goes_on, offset_of}
+use Rattle.tiff_examples.proofs.OfIfd.IfdChainWalk.{ends_there, goes_on, offset_of}
 use Rattle.tiff_examples.proofs.Stretches.{in_first, in_later}
 use Rattle.tiff_examples.proofs.TagsHeld.{page_held, tag_held, tag_unheld}
 use Rattle.tiff.proofs.OnLiterals.{tiff_on_literals}
@@ -40,7 +40,7 @@ directory_in (Err e) = gray_fields
 
 -- ---- opening
 
--- the checks of the page of one gray pixel read nothing outside its directory
+-- the checks of the page of one gray pixel read nothing outside the directory
 gray_page : (source : SourceRecord) → PageReadable source Classic LittleEndian gray_fields
 gray_page source = page_held source (reverse gray_entries) None (record { placed = λ w. absurd (omega (arith, w)) }) refl
 
@@ -52,7 +52,7 @@ gray_entry stretches d = record {
       subst (λ (x : DirectoryRecord). PageReadable (s.gray_source stretches) Classic LittleEndian x) (ap directory_in e) (gray_page (s.gray_source stretches));
 }
 
--- its directory has 174 bytes
+-- the directory of the file of one gray pixel has 174 bytes
 gray_directory : DirectoryReadable (s.gray_source ((0, 8) ∷ (25, 174) ∷ [])) Classic LittleEndian 25
 unfolding tiff_on_literals
 gray_directory = record {
@@ -83,7 +83,7 @@ offsets = of LONG 3 (0x20 ∷ 0x00 ∷ 0x00 ∷ 0x00 ∷ 0x00 ∷ 0x00 ∷ 0x00 
 abbrev placed : SourceRecord
 placed = s.placed_source ((14, 30) ∷ [])
 
--- a directory of one entry
+-- the second directory of `placed` has one entry
 placed_directory : DirectoryReadable placed Classic LittleEndian 14
 unfolding tiff_on_literals
 placed_directory = record {
@@ -110,9 +110,9 @@ enters_cut = λ r.
     tag_unheld source ((273, offsets) ∷ []) None tag.StripOffsets offsets refl
     (λ f. false≢true (f.placed (omega arith) 43 (omega arith) (omega arith))) (r.page directory refl).strip_offsets
 
--- ---- the page of a number
+-- ---- the page with a number
 
--- the count and the link of the only directory
+-- the count and the link of the only directory of `gray_file`
 gray_link : LinkReadable (s.gray_source ((25, 2) ∷ (195, 4) ∷ [])) Classic LittleEndian 25
 unfolding tiff_on_literals
 gray_link = record {
@@ -122,7 +122,7 @@ gray_link = record {
       in_later (25, 2) ((195, 4) ∷ []) k (in_first 195 4 [] k (omega (arith, l, many)) (omega (arith, h, many)));
 }
 
--- a walk has it before it, or nothing
+-- a walk of `gray_file` is before the directory at 25, or after it
 on_gray : (offsets : List ℕ) (next : Option ℕ) → ChainBegins Classic LittleEndian gray_file 25 (record { offsets = offsets; next = next }) → length offsets ≤ 1
     → (at : ℕ) → next ≡ Some at → 25 ≡ at
 unfolding tiff_on_literals
@@ -147,7 +147,7 @@ seeks_1 = record {
   entry = λ at e. absurd (none-some at e);
 }
 
--- the walk that begins at it
+-- the walk that begins at the directory at 25
 begins_gray : ChainBegins Classic LittleEndian gray_file 25 (record { offsets = []; next = Some 25 })
 unfolding tiff_on_literals
 begins_gray = record { linked = refl; rest = 25 ∷ []; offsets = refl; goes_on = (refl, None, refl, refl) }
@@ -158,7 +158,7 @@ seeks_1_cut = λ r.
     let walk : Walked = record { offsets = []; next = Some 25 } in
     false≢true (((r.way.link walk begins_gray (omega arith)).link 25 refl).link 14 refl 198 (omega arith) (omega arith))
 
--- all bytes of the directory
+-- all bytes of the directory of `gray_file`
 gray_alone : DirectoryReadable (s.gray_source ((25, 174) ∷ [])) Classic LittleEndian 25
 unfolding tiff_on_literals
 gray_alone = record {
@@ -194,7 +194,7 @@ seeks_0_cut = λ r. false≢true ((r.entry 25 refl).directory.entries 14 refl 27
 
 -- ---- the next page
 
--- behind the last directory that a walk entered its link stands
+-- after the last directory that a walk entered, the walk's next offset is that directory's link
 link_of : (bytes : List ℕ) (first last : ℕ) (walk : Walked) → ChainBegins Classic LittleEndian bytes first walk → last_or None walk.offsets ≡ Some last
     → link_from Classic LittleEndian bytes last ≡ Ok walk.next
 link_of bytes first last walk b l = ap (link_behind Classic LittleEndian bytes first) (sym l) ∙ b.linked
@@ -203,7 +203,7 @@ abbrev next_in : Result (Option ℕ) TiffError → Option ℕ
 next_in (Ok next) = next
 next_in (Err e) = None
 
--- behind the first of two the second is next
+-- after the first of two directories, the second is next
 second_next : (walk : Walked) → ChainBegins Classic LittleEndian s.placed_file 8 walk → last_or None walk.offsets ≡ Some 8 → (at : ℕ) → walk.next ≡ Some at → 14 ≡ at
 unfolding tiff_on_literals
 second_next walk b last at n = ap offset_of (ap next_in (link_of s.placed_file 8 8 walk b last) ∙ n)
@@ -225,11 +225,11 @@ second_behind_cut = λ r. enters_cut (r.entry 14 refl)
 abbrev back : List ℕ
 back = two_file (0x19 ∷ 0x00 ∷ 0x00 ∷ 0x00 ∷ [])
 
--- the fault at the end of its chain
+-- the error at the end of the chain of `back`
 abbrev cycle : TiffError
 cycle = FormatError CycleInOffsets
 
--- behind its first directory the second is next
+-- after the first directory of `back`, the second is next
 back_next : (walk : Walked) → ChainBegins Classic LittleEndian back 25 walk → last_or None walk.offsets ≡ Some 25 → (at : ℕ) → walk.next ≡ Some at → 199 ≡ at
 unfolding tiff_on_literals
 back_next walk b last at n = ap offset_of (ap next_in (link_of back 25 25 walk b last) ∙ n)
@@ -244,7 +244,7 @@ back_behind_cut = λ r.
     let begins : ChainBegins Classic LittleEndian back 25 walk = record { linked = refl; rest = []; offsets = refl; goes_on = (cycle, refl, refl) } in
     false≢true (((r.behind walk begins refl).directory 199 refl).entries 0 refl 204 (omega arith) (omega arith))
 
--- the counts and the links of both
+-- the counts and the links of both directories
 abbrev both : List (ℕ × ℕ)
 both = (25, 2) ∷ (195, 4) ∷ (199, 6) ∷ []
 
@@ -266,7 +266,7 @@ back_second = record {
       in_later (25, 2) ((195, 4) ∷ (199, 6) ∷ []) k (in_later (195, 4) ((199, 6) ∷ []) k (in_first 199 6 [] k (omega (arith, l, none)) (omega (arith, h, none))));
 }
 
--- a walk has one of them before it
+-- a walk of `back` has the first or the second directory before it
 back_way : (offsets : List ℕ) (next : Option ℕ) → ChainBegins Classic LittleEndian back 25 (record { offsets = offsets; next = next })
     → (at : ℕ) → next ≡ Some at → LinkReadable (back_source both) Classic LittleEndian at
 unfolding tiff_on_literals

@@ -1,4 +1,4 @@
--- The worked examples of Openings compute.
+-- The worked examples of `Decode.Outcome` hold.
 use Rattle.tiff_page.specs.Checks.{page_of}
 use Rattle.std.specs.Prelude.{◌≡◌, ℕ, List, [], ◌∷◌, drop, reverse, is_some, Some, Result, Ok}
 use Rattle.std.proofs.Common.{ap}
@@ -10,9 +10,9 @@ use Rattle.tiff_base.specs.Answers.{◌>>=◌}
 use Rattle.tiff_base.specs.Field.{Field}
 use Rattle.tiff_base.specs.Tags.{tag_number}
 use Rattle.tiff_base.specs.SourceAndSink.{put}
-use Rattle.tiff_ifd.specs.Datum.{Datum}
+use Rattle.tiff_ifd.specs.PlainValue.{PlainValue}
 use Rattle.tiff_ifd.specs.FieldValue.{field_value}
-use Rattle.tiff_ifd.specs.Look.{Look, look_up_in, if_found}
+use Rattle.tiff_ifd.specs.TagLookup.{TagLookup, look_up_in, if_found}
 use Rattle.tiff_decode.specs.Machine.{Decoding}
 use Rattle.tiff_decode.specs.DefaultLimits.{default_limits}
 use Rattle.tiff_examples.specs.Decoders.{at, gray_state, decoder_at, two_decoder}
@@ -20,8 +20,8 @@ use Rattle.tiff_examples.specs.Files.{gray_file, gray_entries, one_long, one_sho
 use Rattle.tiff_examples.specs.Decode.Outcome as s
 use Rattle.tiff.proofs.OnLiterals.{tiff_on_literals}
 
--- the look-up in fields, by the list that they are made of
-pub looked_by : (value : Field → Result Datum TiffError) (fields : List (ℕ × Field))
+-- the look-up in fields, computed from the list that the fields are made from
+pub looked_by : (value : Field → Result PlainValue TiffError) (fields : List (ℕ × Field))
     → look_up_in value (from_entries {R = nat_cmp} fields)
     ≡ record {
       has = λ tag. is_some (find nat_cmp (tag_number tag) fields);
@@ -32,7 +32,7 @@ looked_by value fields = λ i. record {
   value = λ tag. if_found value (get-from_entries nat_cmp_total fields (tag_number tag) i);
 }
 
--- a file of the one gray pixel's form with a field that is another one
+-- the fields of a file like that of one gray pixel, with some fields replaced
 abbrev fields_with : Field → Field → Field → List (ℕ × Field)
 fields_with width method count = reverse (
     (256, width)
@@ -46,7 +46,7 @@ fields_with width method count = reverse (
     ∷ (279, count)
     ∷ drop 9 gray_entries)
 
--- 0, 1 and 5
+-- LONG fields with the values 0, 1 and 5
 abbrev long_0 : Field
 long_0 = one_long (0 ∷ 0 ∷ 0 ∷ 0 ∷ 0 ∷ 0 ∷ 0 ∷ 0 ∷ [])
 
@@ -59,18 +59,18 @@ short_1 = one_short (1 ∷ 0 ∷ 0 ∷ 0 ∷ 0 ∷ 0 ∷ 0 ∷ 0 ∷ [])
 abbrev short_5 : Field
 short_5 = one_short (5 ∷ 0 ∷ 0 ∷ 0 ∷ 0 ∷ 0 ∷ 0 ∷ 0 ∷ [])
 
--- a decoder, once the tags of its first page can be looked up
-abbrev answer : Decoding → Look → Result Decoding TiffError
+-- the decoder that opens, given a look-up of the first page's tags
+abbrev answer : Decoding → TagLookup → Result Decoding TiffError
 answer d look = page_of look >>= λ page. Ok (record d { state = record d.state { page = page } })
 
--- the tags that a decoder looks up
+-- the tag look-up of a decoder
 abbrev tags_of : (d : Decoding) (fields : List (ℕ × Field)) → look_up_in (field_value d.kind d.order d.bytes default_limits) (from_entries {R = nat_cmp} fields) ≡ record {
   has = λ tag. is_some (find nat_cmp (tag_number tag) fields);
   value = λ tag. if_found (field_value d.kind d.order d.bytes default_limits) (find nat_cmp (tag_number tag) fields);
 }
 tags_of d fields = looked_by (field_value d.kind d.order d.bytes default_limits) fields
 
--- the decoder of a file of the one gray pixel's form
+-- the decoder of a file like that of one gray pixel, with changed bytes and fields
 abbrev changed : List ℕ → List (ℕ × Field) → Decoding
 changed bytes fields = decoder_at bytes 25 (record gray_state { directory = record gray_state.directory { entries = from_entries fields } })
 
@@ -90,13 +90,13 @@ pub lzw : s.lzw
 unfolding tiff_on_literals
 lzw =
     let d : Decoding = changed (put gray_file 71 (5 ∷ [])) (fields_with long_1 short_5 long_1) in
-    ap (λ (l : Look). answer d l >>= λ d. Ok d.state.page) (tags_of d (fields_with long_1 short_5 long_1))
+    ap (λ (l : TagLookup). answer d l >>= λ d. Ok d.state.page) (tags_of d (fields_with long_1 short_5 long_1))
 
 pub count_0 : s.count_0
 unfolding tiff_on_literals
 count_0 =
     let d : Decoding = changed (put gray_file 131 (0 ∷ [])) (fields_with long_1 short_1 long_0) in
-    ap (λ (l : Look). answer d l >>= λ d. Ok d.state.page) (tags_of d (fields_with long_1 short_1 long_0))
+    ap (λ (l : TagLookup). answer d l >>= λ d. Ok d.state.page) (tags_of d (fields_with long_1 short_1 long_0))
 
 pub list_limited : s.list_limited
 unfolding tiff_on_literals

@@ -1,10 +1,10 @@
--- The worked examples of Fits hold.
+-- The worked examples of `Decode.Reader` hold.
 use Rattle.std.specs.Prelude.{refl, get_or, length}
 use Rattle.std.proofs.Common.{◌≡◌, ℕ, ◌≤◌, List, [], ◌∷◌, ◌++◌, ap, inr, arith, lit<, lit≤}
 use Rattle.tiff_decode.specs.Reader.{EachGives}
 use Rattle.tiff_examples.specs.Decode.Reader as s
 
--- behind the second of three stands one that doesn't fit
+-- the third number isn't the first that doesn't fit, as the second doesn't fit either
 later : (before fitting after : List ℕ) (n : ℕ) → 7 ∷ 256 ∷ 300 ∷ [] ≡ before ++ n ∷ after → EachGives s.byte before fitting → n ≡ 300 → ⊥
 later [] fitting after n e f p = omega (arith, ap (λ xs. get_or xs 0 0) e, p)
 later (b ∷ []) fitting after n e f p = omega (arith, ap (λ xs. get_or xs 1 0) e, p)
@@ -12,14 +12,14 @@ later (b ∷ c ∷ bs) [] after n e f p = f
 later (b ∷ c ∷ bs) (x ∷ []) after n e f p = f.1
 later (b ∷ c ∷ bs) (x ∷ y ∷ ys) after n e f p = omega (arith, ap (λ xs. get_or xs 1 0) e, f.1.0.1)
 
--- each of two numbers fits
+-- both numbers fit into a byte
 both_fit : (before after : List ℕ) (n : ℕ) → 7 ∷ 255 ∷ [] ≡ before ++ n ∷ after → 256 ≤ n → ⊥
 both_fit [] after n e l = omega (arith, ap (λ xs. get_or xs 0 0) e, l)
 both_fit (b ∷ []) after n e l = omega (arith, ap (λ xs. get_or xs 1 0) e, l)
 both_fit (b ∷ c ∷ []) after n e l = omega (arith, ap length e)
 both_fit (b ∷ c ∷ d ∷ bs) after n e l = omega (arith, ap length e)
 
--- an empty list has no number
+-- an empty list contains no number
 none_in : (before after : List ℕ) (n : ℕ) → [] ≡ before ++ n ∷ after → ⊥
 none_in [] after n e = omega (arith, ap length e)
 none_in (b ∷ bs) after n e = omega (arith, ap length e)

@@ -1,4 +1,4 @@
--- The worked examples of Lists hold.
+-- The worked examples of `Decode.Steps` hold.
 use Rattle.std.specs.Prelude.{refl, [], ◌∷◌, false, Ok}
 use Rattle.std.proofs.Common.{sym, arith}
 use Rattle.tiff_base.specs.declared.tags.Tag.TheVariants.{Compression}

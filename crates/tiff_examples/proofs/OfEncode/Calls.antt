@@ -1,10 +1,10 @@
--- The worked examples of Calls compute.
+-- The worked examples of `Encode.Calls` hold.
 use Rattle.std.specs.Prelude.{◌≡◌, ℕ, true, false, List, [], ◌∷◌, ◌++◌, length, Some, None, Ok}
 use Rattle.std.proofs.Common.{ap}
 use Rattle.std.specs.FinMap.{len, entries}
 use Rattle.tiff_base.specs.declared.tags.FileKind.TheVariants.{Classic, Big}
 use Rattle.tiff_base.specs.Field.{Field}
-use Rattle.tiff_encode.specs.Deeds.{Listed, bytes_after}
+use Rattle.tiff_encode.specs.WriteOps.{Listed, bytes_after}
 use Rattle.tiff_encode.specs.Machine.{FileState, OpenDirectory, WriteOutcome, by_cause}
 use Rattle.tiff_encode.specs.Causes.{end_of}
 use Rattle.tiff_encode.specs.Calls.{Offsets, chain_after, finish, links_to, offsets_of, new_directory}
@@ -16,12 +16,12 @@ use Rattle.tiff_examples.specs.Encode.Calls as s
 use Rattle.tiff_examples.specs.Encode.Causes.{new_file}
 use Rattle.tiff.proofs.OnLiterals.{tiff_on_literals}
 
--- what the end of a directory does, by how many entries it has and what they are
+-- the end of a directory, computed from the number of its entries and the entries
 abbrev pub finish_told_by : FileState → OpenDirectory → ℕ → List (ℕ × Field) → WriteOutcome Offsets
 finish_told_by file d count fields = by_cause (finish_cause_by file d count fields) (λ f.
     let offsets = offsets_of file.kind (end_of file) count in record {
       answer = Ok offsets;
-      deeds = (Listed d.fields ∷ links_to d.parent (end_of file)) ++ [];
+      ops = (Listed d.fields ∷ links_to d.parent (end_of file)) ++ [];
       next = chain_after (record f { bytes = bytes_after f.kind (f.bytes ++ bytes_by f.kind count fields) (links_to d.parent (end_of file)) }) d.chained offsets;
     }) file
 
@@ -60,11 +60,11 @@ second_finished = (ap (λ t. t.answer) (finish_told (record s.after_first { byte
 pub not_written : s.not_written
 not_written = ap (λ t. t) (finish_told (s.after_first) (new_directory (Some 1000) true) 0 ([]) (len_puts ([])) (entries_puts ([])))
 
-pub finish_deeds : s.finish_deeds
-finish_deeds = ap (λ t. t.deeds) (finish_told (new_file Classic) (s.one_field) 1 ((256, long_field 5) ∷ []) (len_puts ((256, long_field 5) ∷ [])) (entries_puts ((256, long_field 5) ∷ [])))
+pub finish_ops : s.finish_ops
+finish_ops = ap (λ t. t.ops) (finish_told (new_file Classic) (s.one_field) 1 ((256, long_field 5) ∷ []) (len_puts ((256, long_field 5) ∷ [])) (entries_puts ((256, long_field 5) ∷ [])))
 
 pub finish_alone : s.finish_alone
-finish_alone = ap (λ t. t.deeds) (finish_told (new_file Classic) (new_directory None false) 0 ([]) (len_puts ([])) (entries_puts ([])))
+finish_alone = ap (λ t. t.ops) (finish_told (new_file Classic) (new_directory None false) 0 ([]) (len_puts ([])) (entries_puts ([])))
 
 pub extra_offsets : s.extra_offsets
 unfolding tiff_on_literals
@@ -80,7 +80,7 @@ pub ruleset worked = (
   first_calls,
   second_finished,
   not_written,
-  finish_deeds,
+  finish_ops,
   finish_alone,
   extra_offsets,
 )

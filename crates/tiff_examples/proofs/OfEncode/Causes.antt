@@ -1,4 +1,4 @@
--- The worked examples of Causes compute.
+-- The worked examples of `Encode.Causes` hold.
 use Rattle.std.specs.Prelude.{◌≡◌, ℕ, ◌+◌, true, false, ◌||◌, if◌then◌else◌, List, [], Option, Some, None}
 use Rattle.std.proofs.Common.{ap}
 use Rattle.std.specs.FinMap.{len, entries, len-empty}
@@ -19,7 +19,7 @@ use Rattle.tiff_examples.specs.Encode.Causes as s
 use Rattle.tiff_examples.specs.Encode.Causes.{new_file}
 use Rattle.tiff.proofs.OnLiterals.{tiff_on_literals}
 
--- why a directory can't be finished, by how many entries it has and what they are
+-- why a directory can't be finished, computed from the number of its entries and the entries
 abbrev pub finish_cause_by : FileState → OpenDirectory → ℕ → List (ℕ × Field) → Option TiffError
 finish_cause_by file d count fields =
     unless_failed file
@@ -33,7 +33,7 @@ finish_by : (file : FileState) (d : OpenDirectory) (count : ℕ) (fields : List 
 unfolding tiff_on_literals
 finish_by file d count fields p q = λ i. finish_cause_by file d (p i) (q i)
 
--- the same by the file's length
+-- why a directory can't be finished, computed from the length of the file as well
 abbrev end_test_by : FileKind → ℕ → OpenDirectory → ℕ → List (ℕ × Field) → Option TiffError
 end_test_by kind end d count fields =
     if is_past_count kind count || (list_any (λ entry. is_past kind entry.1.count) fields || is_past kind end)

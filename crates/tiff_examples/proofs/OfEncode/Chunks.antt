@@ -1,4 +1,4 @@
--- The worked examples of Images compute.
+-- The worked examples of `Encode.Chunks` hold.
 use Rattle.std.specs.Prelude.{refl}
 use Rattle.std.specs.Prelude.{ℕ, ◌+◌, true, List, [], ◌∷◌, ◌++◌, take, drop, Some}
 use Rattle.std.proofs.Common.{ap}
@@ -15,7 +15,7 @@ use Rattle.tiff_examples.specs.Encode.Calls.{header, with_fields}
 use Rattle.tiff_examples.specs.Encode.Causes.{new_file}
 use Rattle.tiff.proofs.OnLiterals.{tiff_on_literals}
 
--- the fields of the same page behind a refused one, and those of a packed image, the last first
+-- the fields of a page after a refused one, and those of a packed image, the last one first
 abbrev page_fields : ℕ → ℕ → List (ℕ × Field)
 page_fields resolutions strip =
     (279, long_field 1) ∷ (273, long_field strip) ∷ (339, short_field 1) ∷ (258, short_field 8)

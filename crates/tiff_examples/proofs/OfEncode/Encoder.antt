@@ -1,4 +1,4 @@
--- The worked examples of Writes hold.
+-- The worked examples of `Encode.Encoder` hold.
 use Rattle.std.specs.Prelude.{refl}
 use Rattle.std.proofs.Common.{[], ◌∷◌, Some, lit<}
 use Rattle.tiff_base.specs.declared.io.SinkFault.TheVariants as fault

@@ -1,4 +1,4 @@
--- The worked examples of Written compute.
+-- The worked examples of `Encode.FileBytes` hold.
 use Rattle.std.specs.Prelude.{◌≡◌, ℕ, List, [], ◌∷◌, ◌++◌, length}
 use Rattle.std.specs.Ordering.{nat_cmp}
 use Rattle.std.specs.List.{flat_map}
@@ -13,7 +13,7 @@ use Rattle.tiff_examples.proofs.Maps.{puts, entries_puts, len_puts}
 use Rattle.tiff_examples.specs.Encode.FileBytes as s
 use Rattle.tiff.proofs.OnLiterals.{tiff_on_literals}
 
--- the bytes of a directory, by the list that its fields are made of
+-- the bytes of a directory, computed from the list that its fields are made from
 abbrev pub bytes_by : FileKind → ℕ → List (ℕ × Field) → List ℕ
 bytes_by kind count fields = le (count_len kind) count ++ (flat_map (entry_bytes kind) fields ++ le (offset_len kind) 0)
 

@@ -1,4 +1,4 @@
--- The worked examples of Drawings hold.
+-- The worked examples of `Encode.ImageData` hold.
 use Rattle.std.specs.Prelude.{refl}
 use Rattle.std.proofs.Common.{[], ◌∷◌, inl, inr, lit<, lit≤}
 use Rattle.tiff_base.specs.declared.io.SinkFault.TheVariants as fault
@@ -23,6 +23,6 @@ unfolding tiff_on_literals
 second_wanting =
     ((1 ∷ 2 ∷ []) ∷ [], ((refl, tt), inr (inr (lit< tt, record { fresh = refl; fault = refl; begun = tt; count = 2; within = lit≤ tt; state = refl }))))
 
--- ---- what one leaves
+-- ---- what one chunk leaves
 
 pub ruleset worked = (both_written, second_refused, second_cut, second_wanting)

@@ -1,4 +1,4 @@
--- The worked examples of DrawnWholes hold.
+-- The worked examples of `Encode.ImageDataWholes` hold.
 use Rattle.std.specs.Prelude.{refl, zero, suc}
 use Rattle.std.proofs.Common.{◌≡◌, ℕ, ◌<◌, ◌^◌, List, [], ◌∷◌, length, Some, Ok, ap, sym, ◌∙◌, subst, inl, inr, lit<}
 use Rattle.tiff_base.specs.declared.tags.FileKind.TheVariants.{Classic}
@@ -28,7 +28,7 @@ use Rattle.tiff_examples.proofs.OfEncode.Model.{unequal}
 use Rattle.tiff_examples.proofs.OnePixel.{begin_held, begun_stands, finishes, gray_shown, sample_alike}
 use Rattle.tiff.proofs.OnLiterals.{tiff_on_literals}
 
--- ---- samples of an image that was begun
+-- ---- samples of an image that has begun
 
 -- two samples are bytes
 two_numbers : AreNumbers 1 (7 ∷ 8 ∷ [])
@@ -40,14 +40,14 @@ two_numbers (suc (suc n)) = lit< tt
 data_short : IsShortFile after_data.file
 data_short = subst (λ bytes. length bytes < 2 ^ 64) (sym images.pixel_data.1) (lit< tt)
 
--- the fields of a new image are entries
+-- the fields of a new image fit into directory entries
 new_short : IsShortFile (new_image gray 1 1 1 (new_file Classic)).next
 new_short = subst (λ bytes. length bytes < 2 ^ 64) (sym images.gray_begun.1) (lit< tt)
 
 new_entries : AreEntries new_pixel.directory.fields
 new_entries = (new_image_fits (new_file Classic) (header_model Classic) gray 1 1 1 new_pixel images.gray_begun.0 new_short).1
 
--- its link is the header's
+-- the link to a new image is the header's link
 its_link : (offset : ℕ) → new_pixel.directory.parent ≡ Some offset → IsLink Classic after_begin.model offset
 its_link offset p = inl cc
 
@@ -64,7 +64,7 @@ data_other = λ l p.
     let shown = subst (λ offset. Shows Classic gray_file offset (image_with new_pixel (parts_left new_pixel (8 ∷ [])))) p (l.shows [] begin_held) in
     unequal 7 8 (lit< tt) (sym (sample_alike gray_file gray_shown (image_with new_pixel (parts_left new_pixel (8 ∷ []))) shown))
 
--- ---- the end of one with its chunk
+-- ---- the end of an image with its chunk
 
 end_bytes : after_end.file.bytes ≡ gray_file
 end_bytes = images.pixel_finished.1
@@ -78,7 +78,7 @@ end_shown = (
   ),
 )
 
--- the end is told at 25
+-- the end of the image returns the offset 25
 end_offset : (offsets : Offsets) → (finish_image pixel_in_file after_strip.file).answer ≡ Ok offsets → offsets.pointer ≡ 25
 end_offset offsets h = ap (λ (o : Offsets). o.pointer) (ok_inj offsets page_offset (sym h ∙ images.pixel_finished.0))
 
@@ -89,7 +89,7 @@ end_other = λ h.
     let placed = subst (λ offset. Shows Classic after_end.file.bytes offset i) (end_offset h.0 h.1.0.answer) h.1.1 in
     unequal 7 8 (lit< tt) (sym (sample_alike gray_file gray_shown i (subst (λ file. Shows Classic file 25 i) end_bytes placed)))
 
--- the page's own link is the chain's last
+-- the link of the page is the last link of the chain
 end_chain : after_end.file.chain ≡ 195
 unfolding tiff_on_literals
 end_chain = ap (λ t. t.next.chain) finishes
@@ -117,7 +117,7 @@ pub image_left : s.image_left
 image_left = image_leaves_by parts_show gray 1 1 1 (7 ∷ 8 ∷ []) (Ok tt) (new_file Classic) after_data.file (header_model Classic) (lit< tt) (lit< tt) (inl refl)
     two_numbers data_short (its_header.header_stands Classic) (inl refl) begins
 
--- the first page of a file in which an image stands behind the header shows it
+-- if an image is in the file directly after the header, the first page of the file shows it
 first_gray : (width height : ℕ) (samples : List ℕ) (new : FileState)
     → LeavesImage gray 1 width height samples (new_file Classic) new (header_model Classic) → ShowsGray new.bytes width height samples
 unfolding tiff_on_literals

@@ -1,4 +1,4 @@
--- The worked examples of Tasks hold.
+-- The worked examples of `Encode.ImageJobs` hold.
 use Rattle.std.specs.Prelude.{refl, get_or}
 use Rattle.std.specs.Global.{Vec}
 use Rattle.std.proofs.Common.{true, ◌≡◌, ℕ, ◌⊎◌, List, [], ◌∷◌, ◌++◌, Some, Result, Ok, Err, ap, sym, ◌∙◌, subst, inl, inr, lit<, lit≤}
@@ -127,7 +127,7 @@ begun_stands =
       refl,
     )
 
--- the whole job, by what is equal to its parts
+-- the whole job, given equations for its parts
 steps_by : (ss : List ImageStep) (rs : List (Result StepReply TiffError)) (one : ImageStep) → ss ≡ one ∷ [] → rs ≡ Ok reply.Nothing ∷ []
     → jobs.ImageStepped after_begin drawn_new one (Ok reply.Nothing) after_strip drawn_strip
     → jobs.AllStepped jobs.ImageStepped after_begin drawn_new ss rs after_strip drawn_strip
@@ -171,7 +171,7 @@ whole j r samples c w h p u e q l =
           ∙ ap (λ x. jobs.run_after_job run_begun after_end r.last x) (sym (images_by j.steps.items r.steps.items j.end samples p q e));
     })
 
--- the same by `write_data`
+-- the whole job with `write_data`: it has no steps
 no_steps : (ss : List ImageStep) (rs : List (Result StepReply TiffError)) → ss ≡ [] → rs ≡ []
     → jobs.AllStepped jobs.ImageStepped after_begin drawn_new ss rs after_begin drawn_new
 no_steps ss rs p q =
@@ -193,7 +193,7 @@ data_images ss rs e samples p u q =
     ∙ (ap (λ x. jobs.job_images [] rs x drawn_new (Some page_offset)) q
     ∙ ap (λ xs. jobs.images_at (Some page_offset) (Some (parts_left new_pixel (cut_to 1 xs))) new_pixel) u)
 
--- in each run that stands where a new one does
+-- the job runs in each run with the state of a new run
 pub data_ran : (old : Run) (j : ImageJob) (r : JobReply) (samples : Vec ℕ) → j.color ≡ name.Gray8 → j.width ≡ 1 → j.height ≡ 1
     → j.steps.items ≡ [] → samples.items ≡ 7 ∷ 8 ∷ [] → j.end ≡ iend.WriteData samples
     → r.steps.items ≡ [] → r.last ≡ Ok last.Nothing
@@ -234,7 +234,7 @@ kind_stays =
     (finish_told (record (new_file Classic) { bytes = header ++ (resolutions ++ (7 ∷ [])) }) (with_fields (new_directory (Some 4) true) all_fields) 14
     (puts all_fields) (len_puts all_fields) (entries_puts all_fields))
 
--- the image of the pixel that was handed in
+-- the file shows the image of the pixel
 shown : (f : FinishedImage) → (record { offset = 25; image = pixel_image }) ≡ f → Shows after_end.file.kind after_end.file.bytes f.offset f.image
 shown f h =
     subst (λ x. Shows after_end.file.kind after_end.file.bytes x.offset x.image) h

@@ -1,4 +1,4 @@
--- The worked examples of Headline hold.
+-- The worked examples of `Encode.JobLists` hold.
 use Rattle.std.specs.Prelude.{refl, take}
 use Rattle.std.proofs.lemmas.List.{length-take}
 use Rattle.std.proofs.Common.{◌≡◌, ◌<◌, false, List, [], ◌∷◌, ◌++◌, length, Some, None, Result, Ok, ap, sym, ◌∙◌, subst, inl, inr, arith, lit<}
@@ -21,14 +21,14 @@ use Rattle.tiff_encode.specs.declared.encoder.script.JobReply.{JobReply}
 use Rattle.tiff_encode.specs.FileBytes.{directory_bytes}
 use Rattle.tiff_encode.specs.Model.{Stands, Grows}
 use Rattle.tiff_encode.specs.Laws.{AreListable}
-use Rattle.tiff_encode.specs.Deeds.{Appended, Handed, Listed, model_after}
+use Rattle.tiff_encode.specs.WriteOps.{Appended, Supplied, Listed, model_after}
 use Rattle.tiff_encode.specs.Shows.{Image, Shows}
 use Rattle.tiff_encode.specs.Machine.{FileState, OpenDirectory}
 use Rattle.tiff_encode.specs.Calls.{Offsets, extra_directory, finish, new_directory}
 use Rattle.tiff_encode.specs.Encoder.{HeaderFails}
 use Rattle.tiff_encode.specs.Jobs as jobs
-use Rattle.tiff_encode.specs.Jobs.{Standing, Run, FinishedImage, IsDone}
-use Rattle.tiff_encode.proofs.Deeds.{deeds_stand, deeds_grow}
+use Rattle.tiff_encode.specs.Jobs.{FileAndModel, Run, FinishedImage, IsDone}
+use Rattle.tiff_encode.proofs.WriteOps.{ops_stand, ops_grow}
 use Rattle.tiff_examples.specs.Encode.Calls.{header}
 use Rattle.tiff_examples.specs.Files.{gray_file}
 use Rattle.tiff_examples.specs.Encode.JobLists as s
@@ -38,34 +38,34 @@ use Rattle.tiff_examples.specs.Encode.Jobs.{first, run_begun}
 use Rattle.tiff_examples.specs.Encode.ImageJobs as tasks
 use Rattle.tiff_examples.proofs.OfEncode.Calls.{finish_told, finish_told_by}
 use Rattle.tiff_examples.proofs.Maps.{entries_puts, len_puts}
-use Rattle.tiff_examples.proofs.OnePixel.{handed_short, handed_long, image_deeds, image_file, finishes, listable, image_model, image_stands, pixel_shown, shown_alike}
+use Rattle.tiff_examples.proofs.OnePixel.{supplied_short, supplied_long, image_ops, image_file, finishes, listable, image_model, image_stands, pixel_shown, shown_alike}
 use Rattle.tiff_examples.proofs.OfEncode.ImageJobs.{data_ran}
 use Rattle.tiff_examples.proofs.OfEncode.FileBytes.{directory_by}
 use Rattle.tiff.proofs.OnLiterals.{tiff_on_literals}
 
 -- ---- what the image does
 
-deeds_are : tasks.wrote.deeds ≡ image_deeds
+ops_are : tasks.wrote.ops ≡ image_ops
 unfolding tiff_on_literals
-deeds_are = ap (λ t. Appended (7 ∷ []) ∷ Handed (handed_short 8) ∷ Handed (handed_short 1) ∷ Handed (handed_long 24) ∷ Handed (handed_long 1) ∷ t.deeds) finishes
+ops_are = ap (λ t. Appended (7 ∷ []) ∷ Supplied (supplied_short 8) ∷ Supplied (supplied_short 1) ∷ Supplied (supplied_long 24) ∷ Supplied (supplied_long 1) ∷ t.ops) finishes
 
 next_is : tasks.wrote.next ≡ image_file
 unfolding tiff_on_literals
 next_is = ap (λ t. t.next) finishes
 
--- where the run stands then
-abbrev after_image : Standing
+-- the state of the run after the image
+abbrev after_image : FileAndModel
 after_image = record { file = image_file; model = image_model }
 
 same_end : tasks.after_data ≡ after_image
-same_end = λ i. record { file = next_is i; model = model_after Classic (header ++ resolutions) tasks.after_begin.model (deeds_are i) }
+same_end = λ i. record { file = next_is i; model = model_after Classic (header ++ resolutions) tasks.after_begin.model (ops_are i) }
 
 -- ---- what the directory does
 
 abbrev padded : FileState
 padded = record image_file { bytes = gray_file ++ (0 ∷ []) }
 
-abbrev after_pad : Standing
+abbrev after_pad : FileAndModel
 after_pad = record { file = padded; model = model_after Classic gray_file image_model (Appended (0 ∷ []) ∷ []) }
 
 abbrev no_fields : OpenDirectory
@@ -78,7 +78,7 @@ pad_begins = record { ended = record { answer = refl; state = refl }; model = re
 abbrev three_end : FileState
 three_end = record image_file { bytes = three_file }
 
-abbrev after_three : Standing
+abbrev after_three : FileAndModel
 after_three = record { file = three_end; model = model_after Classic padded.bytes after_pad.model (Listed no_fields.fields ∷ []) }
 
 abbrev offset_200 : Offsets
@@ -90,7 +90,7 @@ ends_so = finish_told padded no_fields 0 [] (len_puts []) (entries_puts [])
 three_ends : IsDone (finish no_fields padded) (Ok offset_200) after_pad after_three
 three_ends = record {
   ended = record { answer = ap (λ t. t.answer) ends_so; state = sym (ap (λ t. t.next) ends_so) };
-  model = ap (λ t. model_after Classic padded.bytes after_pad.model t.deeds) (sym ends_so);
+  model = ap (λ t. model_after Classic padded.bytes after_pad.model t.ops) (sym ends_so);
 }
 
 -- ---- the jobs
@@ -144,15 +144,15 @@ three_ran js rs a b =
     (subst (λ y. jobs.JobsRun run_begun (job.Predictor predictor.None ∷ job.Image j ∷ job.Directory a.directory ∷ []) y run_three) (sym b.are)
     (run_set, (set, (run_image, (image, (run_three, (rest, refl)))))))
 
--- ---- what stands
+-- ---- what the file contains
 
--- no field
+-- a directory without fields can be written
 none_listable : AreListable Classic no_fields.fields
 none_listable = listable [] tt (lit< tt)
 
--- behind the directory
+-- the file after the directory contains the model
 pad_stands : Stands Classic padded.bytes after_pad.model
-pad_stands = deeds_stand Classic gray_file image_model (Appended (0 ∷ []) ∷ []) image_stands (tt, tt)
+pad_stands = ops_stand Classic gray_file image_model (Appended (0 ∷ []) ∷ []) image_stands (tt, tt)
 
 three_bytes : padded.bytes ++ directory_bytes Classic no_fields.fields ≡ three_file
 three_bytes = ap (λ d. padded.bytes ++ d) (directory_by Classic [])
@@ -160,11 +160,11 @@ three_bytes = ap (λ d. padded.bytes ++ d) (directory_by Classic [])
 three_stands : jobs.RunStands run_three
 three_stands =
     subst (λ file. Stands Classic file after_three.model) three_bytes
-    (deeds_stand Classic padded.bytes after_pad.model (Listed no_fields.fields ∷ []) pad_stands (none_listable, tt))
+    (ops_stand Classic padded.bytes after_pad.model (Listed no_fields.fields ∷ []) pad_stands (none_listable, tt))
 
--- ---- what is shown
+-- ---- what the file shows
 
--- the image at 25, in the model that has grown since
+-- the image at 25, in the model that has grown since then
 abbrev seven : Image
 seven = jobs.image_with new_pixel ((7 ∷ []) ∷ [])
 
@@ -173,7 +173,7 @@ unfolding tiff_on_literals
 is_seven = refl
 
 three_grown : Grows image_model after_three.model
-three_grown = deeds_grow Classic gray_file image_model (Appended (0 ∷ []) ∷ Listed no_fields.fields ∷ [])
+three_grown = ops_grow Classic gray_file image_model (Appended (0 ∷ []) ∷ Listed no_fields.fields ∷ [])
 
 one_pixel : Shows Classic three_file 25 seven
 one_pixel = shown_alike three_file (pixel_shown three_file after_three.model three_grown three_stands) seven refl is_seven
@@ -192,7 +192,7 @@ three_jobs = λ js rs a b. record {
   shows = λ h. three_shown;
 }
 
--- ---- jobs that are not called
+-- ---- jobs that aren't called
 
 cut : HeaderFails Classic s.told s.failures s.last_fault s.fresh (IoError Device)
 cut = record {

@@ -1,4 +1,4 @@
--- The worked examples of Jobs compute.
+-- The worked examples of `Encode.Jobs` hold.
 use Rattle.std.specs.Prelude.{refl, zero, suc, ◌≤◌, min, take, drop}
 use Rattle.std.specs.FinMap.{entries}
 use Rattle.std.proofs.lemmas.List.{length-take}
@@ -10,11 +10,11 @@ use Rattle.tiff_base.specs.declared.io.SinkFault.TheVariants as fault
 use Rattle.tiff_base.specs.declared.tags.FileKind.TheVariants.{Classic}
 use Rattle.tiff_encode.specs.declared.encoder.script.StepReply.{StepReply}
 use Rattle.tiff_base.specs.Field.{Field}
-use Rattle.tiff_encode.specs.Deeds.{Appended, Listed, model_after}
+use Rattle.tiff_encode.specs.WriteOps.{Appended, Listed, model_after}
 use Rattle.tiff_encode.specs.Machine.{FileState, WriteOutcome}
 use Rattle.tiff_encode.specs.Calls.{Offsets, new_directory, image_directory, finish, extend_from}
 use Rattle.tiff_encode.specs.Jobs as jobs
-use Rattle.tiff_encode.specs.Jobs.{Standing, IsDone}
+use Rattle.tiff_encode.specs.Jobs.{FileAndModel, IsDone}
 use Rattle.tiff_examples.specs.OneValue.{long_field}
 use Rattle.tiff_examples.proofs.Maps.{entries_puts, len_puts}
 use Rattle.tiff_examples.proofs.OfEncode.Calls.{finish_told, finish_told_by}
@@ -33,22 +33,22 @@ use Rattle.tiff.proofs.OnLiterals.{tiff_on_literals}
 pub some_none : {A : Type 0} {x : A} → let a : Option A = Some x in a ≡ None → ⊥
 some_none h = cc
 
--- an end that is refused
+-- the end of a directory that is refused
 abbrev lost_told : WriteOutcome Offsets
-lost_told = record { answer = Err (UsageError ParentNotWritten); deeds = []; next = new_file Classic }
+lost_told = record { answer = Err (UsageError ParentNotWritten); ops = []; next = new_file Classic }
 
 lost : finish (new_directory (Some 1000) true) (new_file Classic) ≡ lost_told
     → jobs.IsRefused (finish (new_directory (Some 1000) true) (new_file Classic)) (UsageError ParentNotWritten) first first
 lost h = (refl, record { answer = ap (λ t. t.answer) h; state = sym (ap (λ t. t.next) h) })
 
--- a directory that is begun, has no steps and is finished
+-- the end of a directory that is begun and finished without steps
 abbrev empty_told : WriteOutcome Offsets
 empty_told = finish_told_by (new_file Classic) (new_directory (Some 4) true) 0 []
 
 empty_finish : finish (new_directory (Some 4) true) (new_file Classic) ≡ empty_told
 empty_finish = finish_told (new_file Classic) (new_directory (Some 4) true) 0 [] (len_puts []) (entries_puts [])
 
-abbrev after_begin : Standing
+abbrev after_begin : FileAndModel
 after_begin = record { file = new_file Classic; model = with_region (header_model Classic) (record { offset = 8; bytes = [] }) }
 
 empty_begins : IsDone (image_directory (new_file Classic)) (Ok (new_directory (Some 4) true)) first after_begin
@@ -58,7 +58,7 @@ empty_begins = record { ended = record { answer = refl; state = refl }; model = 
 empty_ends : IsDone (finish (new_directory (Some 4) true) (new_file Classic)) (Ok (record { pointer = 8; link = 10 })) after_begin s.after_empty
 empty_ends = record {
   ended = record { answer = ap (λ t. t.answer) empty_finish; state = refl };
-  model = sym (ap (λ t. model_after Classic (new_file Classic).bytes after_begin.model t.deeds) empty_finish
+  model = sym (ap (λ t. model_after Classic (new_file Classic).bytes after_begin.model t.ops) empty_finish
       ∙ ap (λ fields. with_link Classic (with_directory Classic after_begin.model (record { offset = 8; fields = fields })) 4 8) (stood_of []));
 }
 
@@ -95,7 +95,7 @@ abbrev first_tag : List (ℕ × Field) → ℕ
 first_tag [] = 0
 first_tag (e ∷ es) = e.0
 
--- the first of two fields that were taken over up to one is none, or the first given
+-- two given fields: whatever number of them is taken over, the first field isn't the second one
 two_given : List (ℕ × Field)
 two_given = (256, long_field 6) ∷ (257, long_field 7) ∷ []
 

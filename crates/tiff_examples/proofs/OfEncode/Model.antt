@@ -1,4 +1,4 @@
--- The worked examples of Models compute.
+-- The worked examples of `Encode.Model` hold.
 use Rattle.std.specs.Prelude.{refl, if◌then◌else◌, ◌==◌}
 use Rattle.std.proofs.Common.{◌≡◌, ℕ, ◌+◌, ◌*◌, ◌^◌, ◌<◌, ◌≤◌, Bool, true, false, List, [], ◌∷◌, ◌++◌, None, Result, Ok, ap, sym, ◌∙◌, subst, inl, inr, arith, lit<}
 use Rattle.std.specs.Prelude.{map, slice_index}
@@ -16,13 +16,13 @@ use Rattle.tiff_base.specs.Directory.{link_offset, link, directory_at}
 use Rattle.tiff_page.specs.Page.{PageRecord}
 use Rattle.tiff_encode.specs.FileBytes.{entry_bytes}
 use Rattle.tiff_encode.specs.Model.{In, FinishedDirectory, Model, own_link, whole_len, Stands, header_model, with_link, with_directory}
-use Rattle.tiff_encode.specs.Deeds.{Listed, standing_fields, model_after}
+use Rattle.tiff_encode.specs.WriteOps.{Listed, standing_fields, model_after}
 use Rattle.tiff_encode.specs.Laws.{IsListable, AreListable}
 use Rattle.tiff_encode.specs.Shows.{Image, Shows, ShowsFirst, gray_image}
 use Rattle.tiff_encode.proofs.Header as its_header
 use Rattle.tiff_encode.proofs.Slices.{ok_inj}
-use Rattle.tiff_encode.proofs.Standing.{standing_entry, entries_standing}
-use Rattle.tiff_encode.proofs.Deeds.{deeds_stand}
+use Rattle.tiff_encode.proofs.FileAndModel.{standing_entry, entries_standing}
+use Rattle.tiff_encode.proofs.WriteOps.{ops_stand}
 use Rattle.tiff_examples.specs.OneValue.{long_field, one_to_one}
 use Rattle.tiff_examples.proofs.Maps.{puts, entries_puts, len_puts}
 use Rattle.tiff_examples.specs.Encode.Calls.{header}
@@ -44,12 +44,12 @@ not_over file t =
       | inr l ↦ (let a : 10 ≤ 8 = l in omega arith)
     ]
 
--- the fields of a map that is made of a list, as they stand
+-- the fields of a map that is made from a list, as the file contains them
 pub stood_of : (es : List (ℕ × Field))
     → standing_fields Classic (from_entries es) ≡ from_entries (map (standing_entry Classic) (puts es))
 stood_of es = ap (λ given. from_entries (map (standing_entry Classic) given)) (entries_puts es)
 
--- the fields that were made by hand: listed, they are these bytes, and stand
+-- the hand-made fields: their directory bytes, and the fields as the file contains them
 wide_entries : entries s.wide_fields ≡ (256, s.wide_field) ∷ []
 wide_entries = entries_puts ((256, s.wide_field) ∷ [])
 
@@ -75,13 +75,13 @@ stands : s.wide_stands
 stands =
     let m : Model = model_after Classic header (header_model Classic) (Listed s.wide_fields ∷ []) in
     subst (λ file. Stands Classic file m) listed
-    (deeds_stand Classic header (header_model Classic) (Listed s.wide_fields ∷ []) (its_header.header_stands Classic) (wide_listable, tt))
+    (ops_stand Classic header (header_model Classic) (Listed s.wide_fields ∷ []) (its_header.header_stands Classic) (wide_listable, tt))
 
--- what a model says of the directory at 8
+-- the record of the directory at 8 in a model
 abbrev wide_by : FinMap nat_cmp Field → DirectoryRecord
 wide_by fields = record { entries = fields; next = None }
 
--- the link of a directory that was added is 0
+-- the link of an added directory is 0
 either : (b : Bool) (n : ℕ) → (if b then n else n) ≡ n
 either true n = refl
 either false n = refl
@@ -104,7 +104,7 @@ not_given e = unequal 0 5 (lit< tt)
     (sym (ap fifth (entries_standing Classic s.wide_fields ∙ ap (map (standing_entry Classic)) wide_entries))
     ∙ ap (λ m. fifth (entries m)) e ∙ ap fifth wide_entries)
 
--- where the first page of the file of one gray pixel stands
+-- the header of `gray_file` gives the offset of its first page
 gray_header : header_at gray_file ≡ Ok (record { order = LittleEndian; kind = Classic; first = 25 })
 unfolding tiff_on_literals
 gray_header = refl

@@ -1,4 +1,4 @@
--- The worked examples of Wholes hold.
+-- The worked examples of `Encode.Open` hold.
 use Rattle.std.specs.Prelude.{refl}
 use Rattle.std.proofs.Common.{[], ◌∷◌, inl, inr, lit<, lit≤}
 use Rattle.tiff_examples.specs.Encode.Chunks.{new_pixel}

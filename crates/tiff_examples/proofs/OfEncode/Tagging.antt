@@ -1,11 +1,11 @@
--- The worked examples of Resolved hold.
+-- The worked examples of `Encode.Tagging` hold.
 use Rattle.std.specs.Prelude.{refl, zero, suc, take}
 use Rattle.std.specs.FinMap.{entries, len}
 use Rattle.std.proofs.Common.{◌≡◌, ℕ, ◌<◌, List, [], ◌∷◌, Ok, ap, sym, ◌∙◌, subst, inl, inr, arith, lit<, lit≤}
 use Rattle.tiff_base.specs.declared.tags.FileKind.TheVariants.{Classic}
 use Rattle.tiff_base.specs.Field.{Field}
 use Rattle.tiff_encode.specs.Machine.{FileState, OpenDirectory, OpenImage}
-use Rattle.tiff_encode.specs.Ends.{IsTold}
+use Rattle.tiff_encode.specs.Ends.{EndsAsDefined}
 use Rattle.tiff_encode.specs.Tagging.{write_fields, StopsInPart}
 use Rattle.tiff_encode.proofs.Slices.{ok_inj}
 use Rattle.tiff_examples.specs.OneValue.{short_field, rational_field}
@@ -19,7 +19,7 @@ use Rattle.tiff_examples.proofs.Maps.{entries_puts, len_puts}
 use Rattle.tiff_examples.proofs.OfEncode.Model.{unequal}
 use Rattle.tiff.proofs.OnLiterals.{tiff_on_literals}
 
--- how many fields a directory has, and the tag of the first
+-- the number of fields of a directory, and the tag of the first field
 abbrev count_of : OpenDirectory → ℕ
 count_of d = len d.fields
 
@@ -51,9 +51,9 @@ unit_first = ap tag_of_first (entries_puts ((296, short_field 2) ∷ []))
 x_first : first_of x_set ≡ 282
 x_first = ap tag_of_first (entries_puts ((282, rational_field 8) ∷ []))
 
--- what the first ones of the three fields make
+-- writing the first `k` of the three fields gives this directory and this file
 abbrev Set : ℕ → OpenDirectory → FileState → Type 0
-Set k next mid = IsTold (write_fields none_set (take k three_fields) (new_file Classic)) (Ok next) mid
+Set k next mid = EndsAsDefined (write_fields none_set (take k three_fields) (new_file Classic)) (Ok next) mid
 
 set_none : (next : OpenDirectory) (mid : FileState) → Set 0 next mid → none_set ≡ next
 set_none next mid t = ok_inj none_set next t.answer
@@ -103,7 +103,7 @@ all_stopped = λ e new h. not_all h.0 h.1.1.0 h.1.0 h.1.1.1.0
 pub left_out : s.left_out
 left_out = λ e new h. not_left h.0 h.1.1.0 h.1.0 h.1.1.1.0
 
--- ---- an image's
+-- ---- the resolution of an image
 
 pub resolving_unit : s.resolving_unit
 unfolding tiff_on_literals

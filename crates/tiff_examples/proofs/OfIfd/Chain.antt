@@ -1,4 +1,4 @@
--- The worked examples of Chains compute.
+-- The worked examples of `Ifd.Chain` hold.
 use Rattle.std.specs.Prelude.{refl, ◌≡◌, ℕ, Bool, true, false, List, [], ◌∷◌, ◌++◌, length, Option, Some, None, Result, Ok, Err}
 use Rattle.std.proofs.Common.{subst, sym, ap, ◌∙◌, arith, inl, inr}
 use Rattle.std.specs.List.{IsDistinct}
@@ -14,7 +14,7 @@ use Rattle.tiff_ifd.specs.Links.{Links, Goes}
 use Rattle.tiff_examples.specs.Ifd.Chain as s
 use Rattle.tiff.proofs.OnLiterals.{tiff_on_literals}
 
--- a look-up in links that are made of a list
+-- a look-up in links that are made from a list is a search in that list
 pub looked : (links : List (ℕ × Option ℕ)) (q : ℕ) → get (s.accepted links) q ≡ find nat_cmp q links
 looked = get-from_entries nat_cmp_total
 
@@ -26,7 +26,7 @@ abbrev IsFault : Result (Option ℕ) TiffError → Type 0
 IsFault (Ok x) = ⊥
 IsFault (Err e) = Unit {0}
 
--- no offset is entered in an empty file
+-- in an empty file no offset is entered
 only_none : (others : List ℕ) → AreEntered (link_from Classic LittleEndian []) [] (Some 0) others → (rest : List ℕ) × ([] ≡ others ++ rest)
 unfolding tiff_on_literals
 only_none [] h = ([], refl)
@@ -41,7 +41,7 @@ abbrev IsOffset : ℕ → Option ℕ → Type 0
 IsOffset n (Some m) = n ≡ m
 IsOffset n None = ⊥
 
--- accepted links that lead nowhere from an offset end there
+-- accepted links end at an offset whose link leads nowhere
 pub stuck : (links : Links) (at last : ℕ) (x : Option (Option ℕ)) → get links at ≡ x → (IsLinked x → ⊥) → (at ≡ last → ⊥) → (others : List ℕ) → Goes links at others last → ⊥
 stuck links at last x e none apart [] h = apart h
 stuck links at last x e none apart (next ∷ others) h = none (subst IsLinked (sym h.0 ∙ e) tt)

@@ -1,4 +1,4 @@
--- The worked examples of Stretches hold.
+-- The worked examples of `Ifd.Stretches` hold.
 use Rattle.std.specs.Prelude.{Result, Ok, Err, refl}
 use Rattle.std.proofs.Common.{ℕ, arith, sym, ◌∙◌}
 use Rattle.std.proofs.lemmas.Bool.{false≢true}
@@ -9,7 +9,7 @@ use Rattle.tiff_base.specs.declared.error.TiffError.{TiffError}
 use Rattle.tiff_examples.specs.Ifd.Stretches as s
 use Rattle.tiff.proofs.OnLiterals.{tiff_on_literals}
 
--- the count of entries that was read
+-- the number of entries that is read
 abbrev pub count_in : Result ℕ TiffError → ℕ
 count_in (Ok n) = n
 count_in (Err e) = 0

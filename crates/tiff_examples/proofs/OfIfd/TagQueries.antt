@@ -1,4 +1,4 @@
--- The worked examples of Asked compute.
+-- The worked examples of `Ifd.TagQueries` hold.
 use Rattle.std.specs.Prelude.{ℕ, [], map, reverse, Result, Ok}
 use Rattle.std.proofs.Common.{ap}
 use Rattle.tiff_base.specs.declared.error.TiffError.{TiffError}
@@ -9,18 +9,18 @@ use Rattle.tiff_base.specs.Answers.{◌>>=◌}
 use Rattle.tiff_base.specs.Field.{Field}
 use Rattle.tiff_base.specs.Tags.{tag_of}
 use Rattle.tiff_ifd.specs.Limits.{unlimited}
-use Rattle.tiff_ifd.specs.Datum.{Datum}
+use Rattle.tiff_ifd.specs.PlainValue.{PlainValue}
 use Rattle.tiff_ifd.specs.FieldValue.{field_value}
-use Rattle.tiff_examples.specs.Ifd.Look.{some_fields}
+use Rattle.tiff_examples.specs.Ifd.TagLookup.{some_fields}
 use Rattle.tiff_examples.proofs.Maps.{entries_puts}
 use Rattle.tiff_examples.specs.Ifd.TagQueries as s
 use Rattle.tiff.proofs.OnLiterals.{tiff_on_literals}
 
--- the item of an entry of a file without bytes
-abbrev item_of : ℕ × Field → Result (Tag × Datum) TiffError
+-- the item of an entry, in a file without bytes
+abbrev item_of : ℕ × Field → Result (Tag × PlainValue) TiffError
 item_of e = field_value Classic LittleEndian [] unlimited e.1 >>= λ value. Ok (tag_of e.0, value)
 
-abbrev item_of_big : ℕ × Field → Result (Tag × Datum) TiffError
+abbrev item_of_big : ℕ × Field → Result (Tag × PlainValue) TiffError
 item_of_big e = field_value Classic BigEndian [] unlimited e.1 >>= λ value. Ok (tag_of e.0, value)
 
 pub three_items : s.three_items

@@ -1,4 +1,4 @@
--- The worked examples of Reach compute.
+-- The worked examples of `Page.Reach` hold.
 use Rattle.std.proofs.Common.{◌≡◌, [], ◌∷◌, None, Some, arith, refl}
 use Rattle.std.proofs.lemmas.Bool.{false≢true}
 use Rattle.std.specs.FinMap.{find}
@@ -50,12 +50,12 @@ checks_placed_all = λ r.
 pub checks_profile : s.checks_profile
 checks_profile = page_held (s.between 0 0) s.profile_fields None (record { placed = λ w. absurd (omega (arith, w)) }) refl
 
--- a source that answers for nothing doesn't for three longs at 8
+-- three LONGs at 8 aren't readable in a source without readable bytes
 longs_unheld : FieldReadable (s.between 0 0) Classic LittleEndian (of LONG 3 s.eight) → ⊥
 unfolding tiff_on_literals
 longs_unheld r = false≢true (r.placed (omega arith) 8 (omega arith) (omega arith))
 
--- nor for a tag that has them
+-- a tag with three LONGs at 8 isn't readable either
 alone_unheld : (t : Tag) → find nat_cmp (tag_number t) ((tag_number t, of LONG 3 s.eight) ∷ []) ≡ Some (of LONG 3 s.eight)
     → TagReadable (s.between 0 0) Classic LittleEndian (s.directory_of ((tag_number t, of LONG 3 s.eight) ∷ [])) t → ⊥
 alone_unheld t e r = tag_unheld (s.between 0 0) ((tag_number t, of LONG 3 s.eight) ∷ []) None t (of LONG 3 s.eight) e longs_unheld r

@@ -1,4 +1,4 @@
--- The worked examples of Undone hold.
+-- The worked examples of `Page.Row` hold.
 use Rattle.std.proofs.Common.{arith, lit≤}
 use Rattle.tiff_examples.specs.Page.Row as s
 use Rattle.tiff.proofs.OnLiterals.{tiff_on_literals}

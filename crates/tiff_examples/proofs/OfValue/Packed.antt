@@ -1,4 +1,4 @@
--- The worked examples of Samples compute.
+-- The worked examples of `Value.Packed` hold.
 use Rattle.std.specs.Prelude.{refl, Bool, true, false}
 use Rattle.std.specs.List.{list_all}
 use Rattle.std.proofs.Common.{◌≡◌, ℕ, ◌+◌, ◌-◌, ◌<◌, ◌&&◌, List, [], ◌∷◌, ◌++◌, arith, ap, drop, flat_map, get_or, length, length-append, subst, sym, take, ◌∙◌}
@@ -59,7 +59,7 @@ literal_first (Literal xs ∷ blocks) h more a w b e =
     (xs, (flat_map packed_block blocks, (omega (arith, a.0.0, l), (ap (λ (ys : List ℕ). drop 1 ys) e, first_of (is_sparing xs) (list_all may_be_written blocks) w))))
 literal_first (Repeated n v ∷ blocks) h more a w b e = absurd (omega (arith, a.0.1, b, ap (λ (ys : List ℕ). get_or ys 0 0) e))
 
--- one above 128, with a run
+-- a list that begins with a header above 128 begins with a run
 run_first : (blocks : List Block) (h v : ℕ) (more : List ℕ) → AreBlocks blocks → list_all may_be_written blocks ≡ true → 128 < h
     → h ∷ v ∷ more ≡ flat_map packed_block blocks
     → (rest : List Block) × (AreBlocks rest × ((list_all may_be_written rest ≡ true) × (more ≡ flat_map packed_block rest)))
@@ -68,14 +68,14 @@ run_first (Nothing ∷ blocks) h v more a w b e = absurd (cc)
 run_first (Literal xs ∷ blocks) h v more a w b e = absurd (omega (arith, a.0.1, b, ap (λ (ys : List ℕ). get_or ys 0 0) e))
 run_first (Repeated n x ∷ blocks) h v more a w b e = (blocks, (a.1, (w, ap (λ (ys : List ℕ). drop 2 ys) e)))
 
--- and none with 128
+-- no list begins with the header 128
 no_header_128 : (blocks : List Block) (more : List ℕ) → AreBlocks blocks → list_all may_be_written blocks ≡ true → 128 ∷ more ≡ flat_map packed_block blocks → ⊥
 no_header_128 [] more a w e = cc
 no_header_128 (Nothing ∷ blocks) more a w e = cc
 no_header_128 (Literal xs ∷ blocks) more a w e = omega (arith, a.0.1, ap (λ (ys : List ℕ). get_or ys 0 0) e)
 no_header_128 (Repeated n v ∷ blocks) more a w e = omega (arith, a.0.0, a.0.1, ap (λ (ys : List ℕ). get_or ys 0 0) e)
 
--- one literal that isn't sparing
+-- a list of one literal that isn't sparing isn't packed
 not_sparing : (bytes xs : List ℕ) (h : ℕ) → h < 128 → length xs ≡ h + 1 → is_sparing xs ≡ false → IsPacked bytes (h ∷ xs) → ⊥
 not_sparing bytes xs h b l s p =
     let f = literal_first p.packs.blocks h xs p.packs.are_blocks p.packs.written b p.packs.is_list in

@@ -1,4 +1,4 @@
--- The worked examples of Spelled hold.
+-- The worked examples of `Value.Values` hold.
 use Rattle.std.specs.Prelude.{[], ◌∷◌, refl}
 use Rattle.std.proofs.Common.{lit≤}
 use Rattle.tiff_base.specs.Blocks.{Literal}

@@ -1,4 +1,4 @@
--- Worked packed lists.
+-- Worked examples of PackBits lists.
 use Rattle.std.specs.Prelude.{◌≡◌, true, false, [], ◌∷◌, replicate}
 use Rattle.tiff_base.specs.Blocks.{IsBlock, Literal, Repeated, Unpacks}
 use Rattle.tiff_base.specs.Runs.{Plain, Broken, runs}
@@ -6,47 +6,55 @@ use Rattle.tiff_base.specs.Runs.{Plain, Broken, runs}
 -- three runs and two literals (TIFF 6.0 section 9)
 abbrev pub three_runs : Type 0
 three_runs =
-    runs false (0xfe ∷ 0xaa ∷ 0x02 ∷ 0x80 ∷ 0x00 ∷ 0x2a ∷ 0xfd ∷ 0xaa ∷ 0x03 ∷ 0x80 ∷ 0x00 ∷ 0x2a ∷ 0x22 ∷ 0xf7
+    runs false
+    (0xfe ∷ 0xaa ∷ 0x02 ∷ 0x80 ∷ 0x00 ∷ 0x2a ∷ 0xfd ∷ 0xaa ∷ 0x03 ∷ 0x80 ∷ 0x00 ∷ 0x2a ∷ 0x22
+    ∷ 0xf7
     ∷ 0xaa ∷ [])
     ≡ record {
-      out = (0xaa ∷ 0xaa ∷ 0xaa ∷ 0x80 ∷ 0x00 ∷ 0x2a ∷ 0xaa ∷ 0xaa ∷ 0xaa ∷ 0xaa ∷ 0x80 ∷ 0x00 ∷ 0x2a ∷ 0x22 ∷ 0xaa
+      out = (0xaa ∷ 0xaa ∷ 0xaa ∷ 0x80 ∷ 0x00 ∷ 0x2a ∷ 0xaa ∷ 0xaa ∷ 0xaa ∷ 0xaa ∷ 0x80 ∷ 0x00
+          ∷ 0x2a ∷ 0x22 ∷ 0xaa
           ∷ 0xaa ∷ 0xaa ∷ 0xaa ∷ 0xaa ∷ 0xaa ∷ 0xaa ∷ 0xaa ∷ 0xaa ∷ 0xaa ∷ []);
       end = Plain;
     }
 
--- nothing is nothing
+-- an empty list unpacks to nothing
 abbrev pub nothing : Type 0
 nothing = runs false [] ≡ record { out = []; end = Plain }
 
--- the header 128 stands for nothing
+-- a header 128 unpacks to nothing
 abbrev pub nothing_told : Type 0
 nothing_told = runs false (0x80 ∷ []) ≡ record { out = []; end = Plain }
 
--- and is skipped between blocks
+-- a header 128 between blocks is skipped
 abbrev pub skipped : Type 0
-skipped = runs false (0x00 ∷ 0x01 ∷ 0x80 ∷ 0x00 ∷ 0x02 ∷ []) ≡ record { out = (0x01 ∷ 0x02 ∷ []); end = Plain }
+skipped =
+    runs false (0x00 ∷ 0x01 ∷ 0x80 ∷ 0x00 ∷ 0x02 ∷ [])
+    ≡ record { out = (0x01 ∷ 0x02 ∷ []); end = Plain }
 
--- a run whose byte is missing is broken
+-- a run without its byte is broken
 abbrev pub broken_run : Type 0
 broken_run = runs false (0xfe ∷ []) ≡ record { out = []; end = Broken }
 
--- what stood before it stays
+-- the bytes before a broken run are kept
 abbrev pub broken_second : Type 0
-broken_second = runs false (0xff ∷ 0x07 ∷ 0xfe ∷ []) ≡ record { out = (0x07 ∷ 0x07 ∷ []); end = Broken }
+broken_second =
+    runs false (0xff ∷ 0x07 ∷ 0xfe ∷ []) ≡ record { out = (0x07 ∷ 0x07 ∷ []); end = Broken }
 
--- a literal of three bytes that is cut short by the packed length gives those that are there
+-- a literal of three bytes that the packed length cuts gives the bytes that are there
 abbrev pub short_literal : Type 0
-short_literal = runs false (0x02 ∷ 0xaa ∷ 0xbb ∷ []) ≡ record { out = (0xaa ∷ 0xbb ∷ []); end = Plain }
+short_literal =
+    runs false (0x02 ∷ 0xaa ∷ 0xbb ∷ []) ≡ record { out = (0xaa ∷ 0xbb ∷ []); end = Plain }
 
--- so does one that is cut short by the end of the source
+-- a literal that the end of the source cuts gives the bytes that are there
 abbrev pub early_literal : Type 0
-early_literal = runs true (0x02 ∷ 0xaa ∷ 0xbb ∷ []) ≡ record { out = (0xaa ∷ 0xbb ∷ []); end = Plain }
+early_literal =
+    runs true (0x02 ∷ 0xaa ∷ 0xbb ∷ []) ≡ record { out = (0xaa ∷ 0xbb ∷ []); end = Plain }
 
--- the source ended where a block would begin, before the packed length did
+-- the source ends before a block, earlier than the packed length
 abbrev pub early_end : Type 0
 early_end = runs true (0x00 ∷ 0xaa ∷ []) ≡ record { out = (0xaa ∷ []); end = Broken }
 
--- the shortest run and the longest: two and 128 bytes
+-- the shortest run and the longest one: 2 and 128 bytes
 abbrev pub shortest_run : Type 0
 shortest_run = runs false (0xff ∷ 0xaa ∷ []) ≡ record { out = (0xaa ∷ 0xaa ∷ []); end = Plain }
 
@@ -55,33 +63,35 @@ longest_run = runs false (0x81 ∷ 0x41 ∷ []) ≡ record { out = replicate 128
 
 -- ---- by blocks
 
--- three blocks: a byte three times, nothing, three bytes as they stand
+-- three blocks: a byte three times, nothing, and three literal bytes
 abbrev pub three_blocks : Type 0
 three_blocks =
-    Unpacks (0xfe ∷ 0xaa ∷ 0x80 ∷ 0x02 ∷ 0x80 ∷ 0x00 ∷ 0x2a ∷ []) false (0xaa ∷ 0xaa ∷ 0xaa ∷ 0x80 ∷ 0x00 ∷ 0x2a ∷ []) Plain
+    Unpacks (0xfe ∷ 0xaa ∷ 0x80 ∷ 0x02 ∷ 0x80 ∷ 0x00 ∷ 0x2a ∷ []) false
+    (0xaa ∷ 0xaa ∷ 0xaa ∷ 0x80 ∷ 0x00 ∷ 0x2a ∷ []) Plain
 
--- a literal of four bytes of which two are there ends plainly, whether the source ended early or not
+-- a literal with two of its four bytes has a plain end, even if the source ends early
 abbrev pub short_block : Type 0
 short_block = Unpacks (0x03 ∷ 0x01 ∷ 0x02 ∷ []) true (0x01 ∷ 0x02 ∷ []) Plain
 
--- one of one byte of which none is there
+-- a literal with none of its bytes has a plain end
 abbrev pub bare_block : Type 0
 bare_block = Unpacks (0x00 ∷ []) false [] Plain
 
--- a byte 128 times and a byte twice, each missing its byte
+-- runs of 128 bytes and of two bytes without their byte
 abbrev pub headless_128 : Type 0
 headless_128 = Unpacks (0x81 ∷ []) false [] Broken
 
 abbrev pub headless_2 : Type 0
 headless_2 = Unpacks (0xff ∷ []) true [] Broken
 
--- no bytes, at the end of the source and before
+-- no bytes, with and without an early end of the source
 abbrev pub empty_early : Type 0
 empty_early = Unpacks [] true [] Broken
 
 abbrev pub empty_whole : Type 0
 empty_whole = Unpacks [] false [] Plain
 
--- a block that nothing stands for is none of one byte, nor of 129
+-- no block is a run of 1 byte or of 129 bytes, or an empty literal
 abbrev pub no_block : Type 0
-no_block = (IsBlock (Repeated 1 7) → ⊥) × (IsBlock (Repeated 129 7) → ⊥) × (IsBlock (Literal []) → ⊥)
+no_block = (IsBlock (Repeated 1 7) → ⊥) × (IsBlock (Repeated 129 7) → ⊥)
+    × (IsBlock (Literal []) → ⊥)

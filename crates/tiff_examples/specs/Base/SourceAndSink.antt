@@ -1,4 +1,4 @@
--- Worked answers of sources and sinks, and values looked up in a directory.
+-- Worked examples of sources and sinks, and of values looked up in a directory.
 use Rattle.std.specs.Prelude.{◌≡◌, ℕ, negsuc, List, [], ◌∷◌, None, Some, Ok, Err}
 use Rattle.tiff_base.specs.declared.error.TiffError.TheVariants.{IoError, LimitsExceeded}
 use Rattle.tiff_base.specs.declared.io.IoKind.TheVariants.{UnexpectedEof}
@@ -13,19 +13,19 @@ use Rattle.tiff_base.specs.FieldBytes.{field_bytes}
 use Rattle.tiff_base.specs.Memory.{buffered}
 use Rattle.tiff_ifd.specs.declared.limits.Limits.{Limits}
 use Rattle.tiff_ifd.specs.Limits.{unlimited}
-use Rattle.tiff_ifd.specs.Datum.{none, more, list, short, signed_byte}
+use Rattle.tiff_ifd.specs.PlainValue.{none, more, list, short, signed_byte}
 use Rattle.tiff_ifd.specs.FieldValue.{field_value}
-use Rattle.tiff_ifd.specs.Look.{look_in}
+use Rattle.tiff_ifd.specs.TagLookup.{look_in}
 use Rattle.tiff_examples.specs.Base.FieldBytes.{of}
 
--- BitsPerSample: one short in the entry, and three at the offset 0
+-- BitsPerSample fields: one SHORT in the entry, and three SHORTs at offset 0
 abbrev pub short_field : List (ℕ × Field)
 short_field = (258, of SHORT 1 (0x00 ∷ 0x08 ∷ 0x00 ∷ 0x00 ∷ 0x00 ∷ 0x00 ∷ 0x00 ∷ 0x00 ∷ [])) ∷ []
 
 abbrev pub shorts_field : List (ℕ × Field)
 shorts_field = (258, of SHORT 3 (0x00 ∷ 0x00 ∷ 0x00 ∷ 0x00 ∷ 0x00 ∷ 0x00 ∷ 0x00 ∷ 0x00 ∷ [])) ∷ []
 
--- limits of so many bytes of decoded values
+-- limits with this number of bytes for decoded values
 abbrev pub limited : ℕ → Limits
 limited n = record unlimited { decoding_buffer_size = n }
 
@@ -34,7 +34,7 @@ abbrev pub two_in_middle : Type 0
 two_in_middle =
     bytes_at (0x0a ∷ 0x0b ∷ 0x0c ∷ 0x0d ∷ []) 1 2 ≡ (0x0b ∷ 0x0c ∷ [])
 
--- a read at 1 into a buffer of two bytes may give two, or one, and then the rest of the buffer stays
+-- a read at 1 into two bytes may give two bytes, or one, and then keeps the rest of the buffer
 abbrev pub read_two : Type 0
 read_two =
     Reads (0x0a ∷ 0x0b ∷ 0x0c ∷ []) 1 (0x00 ∷ 0x00 ∷ []) 2 (0x0b ∷ 0x0c ∷ [])
@@ -43,47 +43,47 @@ abbrev pub read_one : Type 0
 read_one =
     Reads (0x0a ∷ 0x0b ∷ 0x0c ∷ []) 1 (0x00 ∷ 0x00 ∷ []) 1 (0x0b ∷ 0x00 ∷ [])
 
--- before the end it may not give none
+-- a read before the end must give at least one byte
 abbrev pub read_none : Type 0
 read_none =
     Reads (0x0a ∷ 0x0b ∷ 0x0c ∷ []) 1 (0x00 ∷ 0x00 ∷ []) 0 (0x00 ∷ 0x00 ∷ []) → ⊥
 
--- at the end it gives none
+-- a read at the end gives no bytes
 abbrev pub read_at_end : Type 0
 read_at_end =
     Reads (0x0a ∷ 0x0b ∷ 0x0c ∷ []) 3 (0x00 ∷ 0x00 ∷ []) 0 (0x00 ∷ 0x00 ∷ [])
 
--- more than there are it may not give
+-- a read can't give more bytes than the source has
 abbrev pub read_past_end : Type 0
 read_past_end =
     Reads (0x0a ∷ 0x0b ∷ 0x0c ∷ []) 2 (0x00 ∷ 0x00 ∷ []) 2 (0x0c ∷ 0x00 ∷ []) → ⊥
 
--- a source that answers for its first six bytes alone
+-- a source with only its first six bytes readable
 abbrev pub six : SourceRecord
 six = record { bytes = 1 ∷ 2 ∷ 3 ∷ 4 ∷ 5 ∷ 6 ∷ 7 ∷ 8 ∷ []; readable = Some ((0, 6) ∷ []) }
 
--- answers for the two last ones of these, and not for one more
+-- the last two of six readable bytes are readable, and a third isn't
 abbrev pub last_of_six : Type 0
 last_of_six = AreReadable six 4 2
 
 abbrev pub one_more_than_six : Type 0
 one_more_than_six = AreReadable six 4 3 → ⊥
 
--- for no bytes at all each source does
+-- a stretch of zero bytes is readable in every source
 abbrev pub nothing_readable : Type 0
 nothing_readable = AreReadable six 9 0
 
--- nor other bytes
+-- a read doesn't give bytes of another offset
 abbrev pub read_elsewhere : Type 0
 read_elsewhere =
     Reads (0x0a ∷ 0x0b ∷ 0x0c ∷ []) 1 (0x00 ∷ 0x00 ∷ []) 1 (0x0a ∷ 0x00 ∷ []) → ⊥
 
--- into no buffer
+-- a read into an empty buffer gives no bytes
 abbrev pub read_into_none : Type 0
 read_into_none =
     Reads (0x0a ∷ 0x0b ∷ 0x0c ∷ []) 1 [] 0 []
 
--- bytes, and a number that is none
+-- a list of bytes, and a list with a number that isn't a byte
 abbrev pub octets : Type 0
 octets =
     AreOctets (0x00 ∷ 0xff ∷ [])
@@ -101,7 +101,7 @@ abbrev pub append_one : Type 0
 append_one =
     Appends (0x0a ∷ []) (0x0b ∷ 0x0c ∷ []) 1 (0x0a ∷ 0x0b ∷ [])
 
--- none it may take only of none
+-- a write at the end takes no bytes only if it is offered none
 abbrev pub append_none : Type 0
 append_none =
     Appends (0x0a ∷ []) (0x0b ∷ 0x0c ∷ []) 0 (0x0a ∷ []) → ⊥
@@ -114,7 +114,7 @@ abbrev pub append_too_many : Type 0
 append_too_many =
     Appends (0x0a ∷ []) (0x0b ∷ []) 2 (0x0a ∷ 0x0b ∷ []) → ⊥
 
--- a write at 1 may take one byte of two, and the rest stays
+-- a write at 1 may take one of two bytes, and keeps the rest of the file
 abbrev pub over_one : Type 0
 over_one =
     Overwrites (0x0a ∷ 0x0b ∷ 0x0c ∷ []) 1 (0xfe ∷ 0xff ∷ []) 1 (0x0a ∷ 0xfe ∷ 0x0c ∷ [])
@@ -123,44 +123,44 @@ abbrev pub over_two : Type 0
 over_two =
     Overwrites (0x0a ∷ 0x0b ∷ 0x0c ∷ []) 1 (0xfe ∷ 0xff ∷ []) 2 (0x0a ∷ 0xfe ∷ 0xff ∷ [])
 
--- it may reach past the end
+-- a write may reach past the end
 abbrev pub over_end : Type 0
 over_end =
     Overwrites (0x0a ∷ 0x0b ∷ 0x0c ∷ []) 2 (0xfe ∷ 0xff ∷ []) 2 (0x0a ∷ 0x0b ∷ 0xfe ∷ 0xff ∷ [])
 
--- none it may not take
+-- a write must take at least one byte
 abbrev pub over_none : Type 0
 over_none =
     Overwrites (0x0a ∷ 0x0b ∷ 0x0c ∷ []) 1 (0xfe ∷ 0xff ∷ []) 0 (0x0a ∷ 0x0b ∷ 0x0c ∷ []) → ⊥
 
--- nor write at another offset
+-- a write doesn't write at another offset
 abbrev pub over_elsewhere : Type 0
 over_elsewhere =
     Overwrites (0x0a ∷ 0x0b ∷ 0x0c ∷ []) 1 (0xfe ∷ 0xff ∷ []) 1 (0xfe ∷ 0x0b ∷ 0x0c ∷ []) → ⊥
 
--- a source that answers for two bytes, and for two more behind a gap
+-- a source with two readable bytes, and two more after a gap
 abbrev pub apart : SourceRecord
 apart = record six { readable = Some ((0, 2) ∷ (4, 2) ∷ []) }
 
--- answers for those behind the gap, and not for one within it
+-- two bytes after a gap are readable, and a byte within the gap isn't
 abbrev pub second_stretch : Type 0
 second_stretch = AreReadable apart 4 2
 
 abbrev pub within_gap : Type 0
 within_gap = AreReadable apart 0 3 → ⊥
 
--- a source that answers for no stretch does for no byte
+-- in a source without readable stretches no byte is readable
 abbrev pub no_stretch : Type 0
 no_stretch = AreReadable (record six { readable = Some [] }) 0 1 → ⊥
 
--- one that tells no stretches answers for any bytes, past its end too
+-- in a source without limits on readable bytes every byte is readable, even past the end
 abbrev pub everywhere : SourceRecord
 everywhere = record six { readable = None }
 
 abbrev pub all_readable : Type 0
 all_readable = (at len : ℕ) → AreReadable everywhere at len
 
--- of 8200 bytes a buffer answers for the first nine, and not for a tenth
+-- a buffered source of 8200 readable bytes: its first nine bytes are readable, and a tenth isn't
 abbrev pub long : SourceRecord
 long = record six { readable = Some ((0, 8200) ∷ []) }
 
@@ -170,51 +170,59 @@ nine_buffered = AreReadable (buffered long) 0 9
 abbrev pub ten_buffered : Type 0
 ten_buffered = AreReadable (buffered long) 0 10 → ⊥
 
--- of a second stretch that is too short, for no byte
+-- a buffered source with a second stretch that is too short: no byte of the stretch is readable
 abbrev pub short_buffered : Type 0
 short_buffered = AreReadable (buffered apart) 4 1 → ⊥
 
--- and of all bytes for all
+-- a buffered source over a source in which every byte is readable: every byte is readable
 abbrev pub all_buffered : Type 0
 all_buffered = (at len : ℕ) → AreReadable (buffered everywhere) at len
 
 -- a signed byte in its entry
 abbrev pub signed_byte_alone : Type 0
 signed_byte_alone =
-    field_value Classic LittleEndian [] unlimited (of SBYTE 1 (0xfe ∷ 0x00 ∷ 0x00 ∷ 0x00 ∷ 0x00 ∷ 0x00 ∷ 0x00 ∷ 0x00 ∷ []))
+    field_value Classic LittleEndian [] unlimited
+    (of SBYTE 1 (0xfe ∷ 0x00 ∷ 0x00 ∷ 0x00 ∷ 0x00 ∷ 0x00 ∷ 0x00 ∷ 0x00 ∷ []))
     ≡ Ok (signed_byte (negsuc 1))
 
--- a short by the look-up in a directory of a big-endian file
+-- a SHORT, looked up in a directory of a big-endian file
 abbrev pub look_big_endian : Type 0
 look_big_endian =
-    (look_in Classic BigEndian [] unlimited (last_of_each short_field)).value tag.BitsPerSample ≡ Ok (Some (short 8))
+    (look_in Classic BigEndian [] unlimited (last_of_each short_field)).value tag.BitsPerSample
+    ≡ Ok (Some (short 8))
 
--- a list that stands elsewhere
+-- a list at an offset, looked up in a directory
 abbrev pub look_placed : Type 0
 look_placed =
-    (look_in Classic LittleEndian (0x08 ∷ 0x00 ∷ 0x08 ∷ 0x00 ∷ 0x08 ∷ 0x00 ∷ []) unlimited (last_of_each shorts_field)).value tag.BitsPerSample
+    (look_in Classic LittleEndian (0x08 ∷ 0x00 ∷ 0x08 ∷ 0x00 ∷ 0x08 ∷ 0x00 ∷ []) unlimited
+    (last_of_each shorts_field)).value tag.BitsPerSample
     ≡ Ok (Some (list (more (short 8) (more (short 8) (more (short 8) none)))))
 
--- and under a limit that refuses it
+-- a list that exceeds a limit, looked up in a directory
 abbrev pub look_limited : Type 0
 look_limited =
-    (look_in Classic LittleEndian (0x08 ∷ 0x00 ∷ 0x08 ∷ 0x00 ∷ 0x08 ∷ 0x00 ∷ []) (limited 95) (last_of_each shorts_field)).value tag.BitsPerSample
+    (look_in Classic LittleEndian (0x08 ∷ 0x00 ∷ 0x08 ∷ 0x00 ∷ 0x08 ∷ 0x00 ∷ []) (limited 95)
+    (last_of_each shorts_field)).value tag.BitsPerSample
     ≡ Err LimitsExceeded
 
--- in a BigTIFF file an offset has eight bytes: this one is past the end
+-- an offset of a BigTIFF file has eight bytes: this one is past the end
 abbrev pub wide_offset : Type 0
 wide_offset =
-    field_bytes Big LittleEndian (0x01 ∷ 0x02 ∷ 0x03 ∷ 0x04 ∷ 0x05 ∷ 0x06 ∷ 0x07 ∷ 0x08 ∷ 0x09 ∷ []) (of BYTE 9 (0x00 ∷ 0x00 ∷ 0x00 ∷ 0x00 ∷ 0x01 ∷ 0x00 ∷ 0x00 ∷ 0x00 ∷ []))
+    field_bytes Big LittleEndian (0x01 ∷ 0x02 ∷ 0x03 ∷ 0x04 ∷ 0x05 ∷ 0x06 ∷ 0x07 ∷ 0x08 ∷ 0x09 ∷ [])
+    (of BYTE 9 (0x00 ∷ 0x00 ∷ 0x00 ∷ 0x00 ∷ 0x01 ∷ 0x00 ∷ 0x00 ∷ 0x00 ∷ []))
     ≡ Err (IoError UnexpectedEof)
 
--- and a count eight
+-- a count of a BigTIFF file has eight bytes
 abbrev pub wide_count : Type 0
 wide_count =
-    entry_of Big LittleEndian (0x00 ∷ 0x01 ∷ 0x01 ∷ 0x00 ∷ 0x00 ∷ 0x00 ∷ 0x00 ∷ 0x00 ∷ 0x01 ∷ 0x00 ∷ 0x00 ∷ 0x00 ∷ 0x05 ∷ 0x00 ∷ 0x00 ∷ 0x00 ∷ 0x00 ∷ 0x00 ∷ 0x00 ∷ 0x00 ∷ [])
+    entry_of Big LittleEndian
+    (0x00 ∷ 0x01 ∷ 0x01 ∷ 0x00 ∷ 0x00 ∷ 0x00 ∷ 0x00 ∷ 0x00 ∷ 0x01 ∷ 0x00 ∷ 0x00 ∷ 0x00 ∷ 0x05
+    ∷ 0x00 ∷ 0x00 ∷ 0x00 ∷ 0x00 ∷ 0x00 ∷ 0x00 ∷ 0x00 ∷ [])
     ≡ Some (256, of BYTE 4294967296 (0x05 ∷ 0x00 ∷ 0x00 ∷ 0x00 ∷ 0x00 ∷ 0x00 ∷ 0x00 ∷ 0x00 ∷ []))
 
--- a text of no letters is an empty list, as other values are
+-- a text without characters is an empty list, like other values
 abbrev pub no_letters : Type 0
 no_letters =
-    field_value Classic LittleEndian [] unlimited (of ASCII 0 (0x41 ∷ 0x00 ∷ 0x00 ∷ 0x00 ∷ 0x00 ∷ 0x00 ∷ 0x00 ∷ 0x00 ∷ []))
+    field_value Classic LittleEndian [] unlimited
+    (of ASCII 0 (0x41 ∷ 0x00 ∷ 0x00 ∷ 0x00 ∷ 0x00 ∷ 0x00 ∷ 0x00 ∷ 0x00 ∷ []))
     ≡ Ok (list none)

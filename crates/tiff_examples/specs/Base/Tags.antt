@@ -1,4 +1,4 @@
--- Worked numbers of tags, types and the other enums.
+-- Worked examples of the numbers of tags, types and other enums.
 use Rattle.std.specs.Prelude.{◌≡◌, Some, None}
 use Rattle.tiff_base.specs.declared.color.ColorType.TheVariants as color
 use Rattle.tiff_base.specs.declared.tags.Tag.TheVariants as tag
@@ -14,7 +14,7 @@ use Rattle.tiff_base.specs.Color.{bit_depth, num_samples}
 use Rattle.tiff_base.specs.Tags.{tag_number, type_number, type_of, method_number, method_of, interpretation_number, interpretation_of, planar_number, planar_of, predictor_number, predictor_of, unit_number, format_number, format_of, extra_number, extra_of}
 use Rattle.tiff_base.specs.Types.{type_size}
 
--- tags: a named one, and one that no name is known of
+-- a tag with a name, and a tag without one
 abbrev pub width_tag : Type 0
 width_tag = tag_number tag.ImageWidth ≡ 256
 
@@ -24,7 +24,7 @@ nodata_tag = tag_number tag.GdalNodata ≡ 42113
 abbrev pub unknown_tag : Type 0
 unknown_tag = tag_number (tag.Unknown 65000) ≡ 65000
 
--- types: the numbers 0, 14, 15 and 19 name none
+-- the types: the numbers 0, 14, 15 and 19 aren't types
 abbrev pub short_type : Type 0
 short_type = type_of 3 ≡ Some type.SHORT
 
@@ -49,14 +49,14 @@ short_number = type_number type.SHORT ≡ 3
 abbrev pub long8_number : Type 0
 long8_number = type_number type.LONG8 ≡ 16
 
--- a rational has eight bytes, a byte of no meaning one
+-- a RATIONAL has eight bytes, and an UNDEFINED has one
 abbrev pub rational_size : Type 0
 rational_size = type_size type.RATIONAL ≡ 8
 
 abbrev pub undefined_size : Type 0
 undefined_size = type_size type.UNDEFINED ≡ 1
 
--- methods
+-- compression methods
 abbrev pub packbits : Type 0
 packbits = method_of 32773 ≡ method.PackBits
 
@@ -69,7 +69,7 @@ lzw_number = method_number method.LZW ≡ 5
 abbrev pub unknown_method_number : Type 0
 unknown_method_number = method_number (method.Unknown 9) ≡ 9
 
--- interpretations: 7 names none, nor do camera raw's numbers
+-- photometric interpretations: 7 isn't one, nor are the numbers of camera raw
 abbrev pub white_is_zero : Type 0
 white_is_zero = interpretation_of 0 ≡ Some meaning.WhiteIsZero
 
@@ -85,7 +85,7 @@ camera_raw = interpretation_of 32803 ≡ None
 abbrev pub lab_number : Type 0
 lab_number = interpretation_number meaning.CIELab ≡ 8
 
--- where the samples of a pixel stand
+-- planar configurations
 abbrev pub in_planes : Type 0
 in_planes = planar_of 2 ≡ Some planar.Planar
 
@@ -105,14 +105,14 @@ predictor_4 = predictor_of 4 ≡ None
 abbrev pub horizontal_number : Type 0
 horizontal_number = predictor_number predictor.Horizontal ≡ 2
 
--- units of a resolution
+-- resolution units
 abbrev pub no_unit : Type 0
 no_unit = unit_number unit.None ≡ 1
 
 abbrev pub centimeter : Type 0
 centimeter = unit_number unit.Centimeter ≡ 3
 
--- formats of samples
+-- sample formats
 abbrev pub float_format : Type 0
 float_format = format_of 3 ≡ format.IEEEFP
 
@@ -132,7 +132,7 @@ extra_3 = extra_of 3 ≡ None
 abbrev pub unspecified_number : Type 0
 unspecified_number = extra_number extra.Unspecified ≡ 0
 
--- colors
+-- color types
 abbrev pub rgba_samples : Type 0
 rgba_samples = num_samples (color.RGBA 16) ≡ 4
 
@@ -145,7 +145,7 @@ rgba_bits = bit_depth (color.RGBA 16) ≡ 16
 abbrev pub many_bits : Type 0
 many_bits = bit_depth (color.Multiband 8 6) ≡ 8
 
--- further numbers of the same enums
+-- further numbers of the enums
 abbrev pub white_number : Type 0
 white_number = interpretation_number meaning.WhiteIsZero ≡ 0
 

@@ -1,4 +1,5 @@
--- Worked reads of tags: of the page's directory or of another one, and their numbers as another type.
+-- Worked examples of reads of tags: from the page's directory or another one, and numbers as
+-- another type.
 use Rattle.std.specs.Prelude.{◌≡◌, ℕ, ◌<◌, ◌≤◌, List, [], ◌∷◌, Vec, Option, Some, None, Result, Ok, Err}
 use Rattle.std.specs.declared.alloc.Global.{Global}
 use Rattle.std.specs.Borrow.{MutBor}
@@ -16,35 +17,37 @@ use Rattle.tiff_examples.specs.Decoders.{gray_fields, gray_state, gray_decoder}
 
 -- ---- the directory
 
--- one of no fields
+-- a directory without fields
 abbrev pub bare : DirectoryRecord
 bare = record { entries = empty; next = None }
 
--- the page's directory, where there is no other one
+-- the page's directory is used if no other one is given
 abbrev pub own_chosen : Type 0
 own_chosen = directory_or gray_fields None ≡ gray_fields
 
 abbrev pub other_chosen : Type 0
 other_chosen = directory_or gray_fields (Some bare) ≡ bare
 
--- the decoder itself, and the one with the other directory; nothing else of it is another
+-- the decoder itself, and the decoder with the other directory, unchanged in everything else
 abbrev pub own_read : Type 0
 own_read = reader_of gray_decoder None ≡ gray_decoder
 
 abbrev pub other_read : Type 0
-other_read = reader_of gray_decoder (Some bare) ≡ record gray_decoder { state = record gray_state { directory = bare } }
+other_read =
+    reader_of gray_decoder (Some bare)
+    ≡ record gray_decoder { state = record gray_state { directory = bare } }
 
 -- ---- reads that move nothing
 
--- a decoder whose reads failed so many times
+-- a decoder with this number of failed reads
 abbrev pub failed : ℕ → Decoding
 failed n = record gray_decoder { failures = n }
 
--- a read of tags that gives 7 answered this, and left this decoder
+-- a read of tags with the defined value 7 returns this result and leaves this decoder
 abbrev pub Reads7 : Result ℕ TiffError → Decoding → Decoding → Type 0
 Reads7 result old new = TagsRead (Unit {0}) (λ (n : ℕ). n) (stays old (Ok 7)) result old new
 
--- it answered, after a read that failed before it; two reads that failed meanwhile aren't passed over
+-- 7 is returned after an earlier failed read; two failed reads within the call aren't hidden
 abbrev pub seven_read : Type 0
 seven_read = Reads7 (Ok 7) (failed 1) (failed 1)
 
@@ -54,14 +57,16 @@ failures_swallowed = Reads7 (Ok 7) (failed 1) (failed 3) → ⊥
 abbrev pub eight_read : Type 0
 eight_read = Reads7 (Ok 8) (failed 1) (failed 1) → ⊥
 
--- no failed read is forgotten, and no offset is moved
+-- a failed read isn't forgotten, and the offset isn't moved
 abbrev pub failures_forgotten : Type 0
 failures_forgotten = Reads7 (Ok 7) (failed 1) (failed 0) → ⊥
 
 abbrev pub offset_moved : Type 0
-offset_moved = Reads7 (Ok 7) gray_decoder (record gray_decoder { state = record gray_state { offset = 9 } }) → ⊥
+offset_moved =
+    Reads7 (Ok 7) gray_decoder (record gray_decoder { state = record gray_state { offset = 9 } })
+    → ⊥
 
--- want of memory; a fault of the device, with a read that failed and without one
+-- an out-of-memory error; a device error, with a failed read and without one
 abbrev pub seven_wanting : Type 0
 seven_wanting = Reads7 (Err OutOfMemory) (failed 1) (failed 1)
 
@@ -71,44 +76,49 @@ seven_failed = Reads7 (Err (IoError Device)) (failed 1) (failed 2)
 abbrev pub seven_not_failed : Type 0
 seven_not_failed = Reads7 (Err (IoError Device)) (failed 1) (failed 1) → ⊥
 
--- a borrow of a decoder is the same one as long as nothing was done
+-- a borrow of a decoder is the same one as long as nothing changes
 abbrev pub held : Type 0
 held = (d : MutBor Decoding) → IsBorrowed d d
 
--- not where the decoder behind it stands elsewhere, or has fewer failures
+-- a borrow isn't the same one if the decoder has another offset or fewer failures
 abbrev pub held_moved : Type 0
-held_moved = (d e : MutBor Decoding) → d.now.state.offset ≡ 8 → e.now.state.offset ≡ 9 → IsBorrowed d e → ⊥
+held_moved = (d e : MutBor Decoding) → d.now.state.offset ≡ 8 → e.now.state.offset ≡ 9
+    → IsBorrowed d e → ⊥
 
 abbrev pub held_forgotten : Type 0
-held_forgotten = (d e : MutBor Decoding) → d.now.failures ≡ 1 → e.now.failures ≡ 0 → IsBorrowed d e → ⊥
+held_forgotten = (d e : MutBor Decoding) → d.now.failures ≡ 1 → e.now.failures ≡ 0 → IsBorrowed d e
+    → ⊥
 
--- a reader of tags, of any source
+-- a reader of tags over any source
 abbrev pub TagReader : Type 0
 TagReader = IfdDecoder (Unit {0})
 
--- without another directory it reads those of its decoder
+-- without another directory a tag reader uses its decoder's directory
 abbrev pub reading_own : Type 0
 reading_own = (r : TagReader) → r.other ≡ None → reading r ≡ r.decoder.now
 
--- it doesn't go on with another directory, nor pass over a failed read
+-- a tag reader doesn't change to another directory, and doesn't hide a failed read
 abbrev pub reading_another : Type 0
-reading_another = (r s : TagReader) (answer : Result ℕ TiffError) → (s.other ≡ r.other → ⊥) → KeepsReading answer r s → ⊥
+reading_another = (r s : TagReader) (answer : Result ℕ TiffError) → (s.other ≡ r.other → ⊥)
+    → KeepsReading answer r s → ⊥
 
 abbrev pub reading_counted : Type 0
-reading_counted = (r s : TagReader) → KeepsReading {X = ℕ} (Ok 7) r s → s.decoder.now.failures ≡ r.decoder.now.failures
+reading_counted = (r s : TagReader) → KeepsReading {X = ℕ} (Ok 7) r s
+    → s.decoder.now.failures ≡ r.decoder.now.failures
 
--- it doesn't answer 8 where 7 is given
+-- a read of tags doesn't return 8 if the value is 7
 abbrev pub tags_eight : Type 0
-tags_eight = (r s : TagReader) → ReadsTags (Unit {0}) (λ (n : ℕ). n) (stays gray_decoder (Ok 7)) (Ok 8) r s → ⊥
+tags_eight = (r s : TagReader)
+    → ReadsTags (Unit {0}) (λ (n : ℕ). n) (stays gray_decoder (Ok 7)) (Ok 8) r s → ⊥
 
 -- ---- one number
 
--- what a number becomes as a byte: itself below 256, else a fault
+-- a number as a byte: itself below 256, else an error
 abbrev pub byte : ℕ → Result ℕ (Unit {0}) → Type 0
 byte n (Ok x) = (x ≡ n) × (n < 256)
 byte n (Err fault) = 256 ≤ n
 
--- the tag's number doesn't fit the type, there is no such tag, and its value is none of numbers
+-- errors: the tag's number doesn't fit the type, the tag is missing, or its value isn't numeric
 abbrev pub unfit : TiffError
 unfit = FormatError (InvalidTagValueType tag.ImageWidth)
 
@@ -121,25 +131,26 @@ no_number = FormatError InvalidTypeForTag
 abbrev pub fits : Type 0
 fits = IsNumber byte tag.ImageWidth 255 (Ok 255)
 
--- 256 doesn't
+-- 256 doesn't fit into a byte
 abbrev pub too_great : Type 0
 too_great = IsNumber byte tag.ImageWidth 256 (Err unfit)
 
--- nor is it another number, nor is another tag named, nor another fault
+-- 256 gives no other number, and the error names this tag and is no other error
 abbrev pub cut_off : Type 0
 cut_off = IsNumber byte tag.ImageWidth 256 (Ok 0) → ⊥
 
 abbrev pub other_tag : Type 0
-other_tag = IsNumber byte tag.ImageWidth 256 (Err (FormatError (InvalidTagValueType tag.ImageLength))) → ⊥
+other_tag =
+    IsNumber byte tag.ImageWidth 256 (Err (FormatError (InvalidTagValueType tag.ImageLength))) → ⊥
 
 abbrev pub other_fault : Type 0
 other_fault = IsNumber byte tag.ImageWidth 256 (Err no_number) → ⊥
 
--- one that fits isn't refused
+-- a number that fits isn't refused
 abbrev pub fitting_refused : Type 0
 fitting_refused = (e : TiffError) → IsNumber byte tag.ImageWidth 255 (Err e) → ⊥
 
--- a tag's number as a byte, where two reads failed before, and so many after
+-- a tag's number as a byte, with two failed reads before and this number after
 abbrev pub AsByte : ℕ → Result ℕ TiffError → Result ℕ TiffError → Type 0
 AsByte after given result = NumberAs byte (Unit {0}) (2 < after) tag.ImageWidth given result
 
@@ -152,7 +163,7 @@ number_other = AsByte 2 (Ok 255) (Ok 254) → ⊥
 abbrev pub number_great : Type 0
 number_great = AsByte 2 (Ok 256) (Err unfit)
 
--- the fault of the value is told before the test, whatever the type
+-- an error of the value comes before the test, whatever the type is
 abbrev pub number_missing : Type 0
 number_missing = AsByte 2 (Err missing) (Err missing)
 
@@ -162,11 +173,11 @@ number_missing_unfit = AsByte 2 (Err missing) (Err unfit) → ⊥
 abbrev pub number_missing_given : Type 0
 number_missing_given = (n : ℕ) → AsByte 2 (Err missing) (Ok n) → ⊥
 
--- want of memory; a fault of the device, with a read that failed and without one
+-- an out-of-memory error; a device error, with a failed read and without one
 abbrev pub number_wanting : Type 0
 number_wanting = AsByte 2 (Ok 255) (Err OutOfMemory)
 
--- which none is where it may not be
+-- no out-of-memory error if none is possible
 abbrev pub missing_wanting : Type 0
 missing_wanting = NumberAs byte ⊥ (2 < 2) tag.ImageWidth (Err missing) (Err OutOfMemory) → ⊥
 
@@ -176,7 +187,7 @@ number_failed = AsByte 3 (Ok 255) (Err (IoError Device))
 abbrev pub number_not_failed : Type 0
 number_not_failed = AsByte 2 (Ok 255) (Err (IoError Device)) → ⊥
 
--- the same, where there may be no such tag
+-- the number of an optional tag as a byte, with two failed reads before and this number after
 abbrev pub IfByte : ℕ → Result (Option ℕ) TiffError → Result (Option ℕ) TiffError → Type 0
 IfByte after given result = NumberIfAs byte (Unit {0}) (2 < after) tag.ImageWidth given result
 
@@ -224,7 +235,8 @@ each_fits = EachGives byte (7 ∷ 255 ∷ []) (7 ∷ 255 ∷ [])
 abbrev pub each_of_none : Type 0
 each_of_none = EachGives byte [] []
 
--- a shorter list isn't it, nor is a longer one, one in another order, or one of a number that doesn't fit
+-- a list that is shorter, longer, in another order, or with a number that doesn't fit, isn't the
+-- result
 abbrev pub each_fewer : Type 0
 each_fewer = EachGives byte (7 ∷ 255 ∷ []) (7 ∷ []) → ⊥
 
@@ -237,21 +249,21 @@ each_turned = EachGives byte (7 ∷ 255 ∷ []) (255 ∷ 7 ∷ []) → ⊥
 abbrev pub each_great : Type 0
 each_great = EachGives byte (7 ∷ 256 ∷ []) (7 ∷ 256 ∷ []) → ⊥
 
--- the second of three is the first that doesn't fit
+-- the second of three numbers is the first that doesn't fit
 abbrev pub second_unfit : Type 0
 second_unfit = FirstUnfit byte tag.ImageWidth (7 ∷ 256 ∷ 300 ∷ []) unfit
 
 abbrev pub third_later : Type 0
 third_later = (u : FirstUnfit byte tag.ImageWidth (7 ∷ 256 ∷ 300 ∷ []) unfit) → u.n ≡ 300 → ⊥
 
--- all fit, or there are none
+-- no number is unfit if all fit or the list is empty
 abbrev pub none_is_unfit : Type 0
 none_is_unfit = (e : TiffError) → FirstUnfit byte tag.ImageWidth (7 ∷ 255 ∷ []) e → ⊥
 
 abbrev pub no_list_unfit : Type 0
 no_list_unfit = (e : TiffError) → FirstUnfit byte tag.ImageWidth [] e → ⊥
 
--- another fault
+-- an unfit number gives no other error
 abbrev pub unfit_otherwise : Type 0
 unfit_otherwise = FirstUnfit byte tag.ImageWidth (256 ∷ []) no_number → ⊥
 
@@ -271,15 +283,16 @@ numbers_great = AsBytes (7 ∷ 256 ∷ []) (Err unfit)
 abbrev pub numbers_refused : Type 0
 numbers_refused = AsBytes (7 ∷ 255 ∷ []) (Err unfit) → ⊥
 
--- there may be no memory for them; nothing is read
+-- an out-of-memory error for the list; nothing is read
 abbrev pub numbers_wanting : Type 0
 numbers_wanting = AsBytes (7 ∷ 255 ∷ []) (Err OutOfMemory)
 
 abbrev pub numbers_not_failed : Type 0
 numbers_not_failed = AsBytes (7 ∷ 255 ∷ []) (Err (IoError Device)) → ⊥
 
--- the numbers of a tag as bytes, where there is the tag
-abbrev pub IfBytes : ℕ → Result (Option (List ℕ)) TiffError → Result (Option (Vec ℕ Global)) TiffError → Type 0
+-- the numbers of an optional tag as bytes
+abbrev pub IfBytes : ℕ → Result (Option (List ℕ)) TiffError
+    → Result (Option (Vec ℕ Global)) TiffError → Type 0
 IfBytes after given result = NumbersIfAs byte (Unit {0}) (2 < after) tag.ImageWidth given result
 
 abbrev pub lists_none : Type 0
@@ -292,15 +305,17 @@ abbrev pub list_of_none : Type 0
 list_of_none = (v : Vec ℕ Global) → IfBytes 2 (Ok None) (Ok (Some v)) → ⊥
 
 abbrev pub list_fits : Type 0
-list_fits = (v : Vec ℕ Global) → v.items ≡ 7 ∷ 255 ∷ [] → IfBytes 2 (Ok (Some (7 ∷ 255 ∷ []))) (Ok (Some v))
+list_fits = (v : Vec ℕ Global) → v.items ≡ 7 ∷ 255 ∷ []
+    → IfBytes 2 (Ok (Some (7 ∷ 255 ∷ []))) (Ok (Some v))
 
 abbrev pub list_fewer : Type 0
-list_fewer = (v : Vec ℕ Global) → v.items ≡ 7 ∷ [] → IfBytes 2 (Ok (Some (7 ∷ 255 ∷ []))) (Ok (Some v)) → ⊥
+list_fewer = (v : Vec ℕ Global) → v.items ≡ 7 ∷ []
+    → IfBytes 2 (Ok (Some (7 ∷ 255 ∷ []))) (Ok (Some v)) → ⊥
 
 abbrev pub list_great : Type 0
 list_great = IfBytes 2 (Ok (Some (7 ∷ 256 ∷ []))) (Err unfit)
 
--- the fault of the value is told before the test
+-- an error of the value comes before the test
 abbrev pub list_cut : Type 0
 list_cut = IfBytes 2 (Err (IoError UnexpectedEof)) (Err (IoError UnexpectedEof))
 

@@ -1,4 +1,4 @@
--- Worked calls of the writer.
+-- Worked examples of calls of the writer.
 use Rattle.std.specs.Prelude.{◌≡◌, ℕ, true, false, List, [], ◌∷◌, ◌++◌, length, take, Some, None, Result, Ok, Err}
 use Rattle.std.specs.FinMap.{from_entries, entries}
 use Rattle.tiff_base.specs.declared.error.TiffError.{TiffError}
@@ -15,14 +15,14 @@ use Rattle.tiff_base.specs.Field.{Field}
 use Rattle.tiff_value.specs.Data.{FieldData, u8s, u16s, u32s, data_of, text_data}
 use Rattle.tiff_encode.specs.declared.encoder.settings.Compression.TheVariants.{Packbits}
 use Rattle.tiff_encode.specs.Value.{offset_values, data_in, buffer_data, is_long, filled_field, field_at}
-use Rattle.tiff_encode.specs.Deeds.{Appended, Handed, Listed, Linked}
+use Rattle.tiff_encode.specs.WriteOps.{Appended, Supplied, Listed, Linked}
 use Rattle.tiff_encode.specs.Machine.{FileState, OpenDirectory, WriteOutcome, ◌>>=◌}
 use Rattle.tiff_encode.specs.Calls as calls
 use Rattle.tiff_encode.specs.Calls.{new_directory}
 use Rattle.tiff_examples.specs.OneValue.{short_field, long_field}
 use Rattle.tiff_examples.specs.Encode.Causes.{new_file, failed_file, file_with, buffer, no_text}
 
--- what a call answers and leaves
+-- what a call returns, and the bytes that it leaves
 abbrev pub IsSeen : {A : Type 0} → WriteOutcome A → Result A TiffError → List ℕ → Type 0
 IsSeen told answer bytes = (told.answer ≡ answer) × (told.next.bytes ≡ bytes)
 
@@ -31,7 +31,7 @@ header = 0x49 ∷ 0x49 ∷ 0x2a ∷ 0x00 ∷ 0x00 ∷ 0x00 ∷ 0x00 ∷ 0x00 ∷
 
 -- ---- values in fields
 
--- a list of three SHORT numbers stands at an offset in a classic file, and in the entry of a BigTIFF one
+-- three SHORT numbers are at an offset in a classic file, and in the entry in a BigTIFF file
 abbrev pub three_long : Type 0
 three_long = is_long Classic (data_of (u16s (1 ∷ 2 ∷ 3 ∷ []))) ≡ true
 
@@ -52,14 +52,17 @@ field_placed = field_at Classic 258 (data_of (u16s (1 ∷ 2 ∷ 3 ∷ [])))
 abbrev pub filled_two : Type 0
 filled_two = filled_field (7 ∷ 8 ∷ []) ≡ (7 ∷ 8 ∷ 0 ∷ 0 ∷ 0 ∷ 0 ∷ 0 ∷ 0 ∷ [])
 
--- five bytes are two SHORT numbers
+-- five bytes contain two SHORT numbers
 abbrev pub ragged : Type 0
-ragged = data_in SHORT (1 ∷ 2 ∷ 3 ∷ 4 ∷ 5 ∷ []) ≡ record { field_type = SHORT; count = 2; bytes = 1 ∷ 2 ∷ 3 ∷ 4 ∷ [] }
+ragged = data_in SHORT (1 ∷ 2 ∷ 3 ∷ 4 ∷ 5 ∷ [])
+    ≡ record { field_type = SHORT; count = 2; bytes = 1 ∷ 2 ∷ 3 ∷ 4 ∷ [] }
 
 abbrev pub buffered : Type 0
-buffered = buffer_data (buffer LittleEndian (1 ∷ 2 ∷ [])) ≡ record { field_type = SHORT; count = 1; bytes = 1 ∷ 2 ∷ [] }
+buffered =
+    buffer_data (buffer LittleEndian (1 ∷ 2 ∷ []))
+    ≡ record { field_type = SHORT; count = 1; bytes = 1 ∷ 2 ∷ [] }
 
--- an offset is a LONG, or a LONG8
+-- an offset is a LONG in a classic file, and a LONG8 in BigTIFF
 abbrev pub offset_classic : Type 0
 offset_classic = offset_values Classic (5 ∷ []) ≡ u32s (5 ∷ [])
 
@@ -69,23 +72,29 @@ offset_big = (data_of (offset_values Big (5 ∷ []))).bytes ≡ (5 ∷ 0 ∷ 0 �
 -- ---- settings
 
 abbrev pub set_predictor : Type 0
-set_predictor = calls.with_predictor predictor.Horizontal (new_file Classic) ≡ record (new_file Classic) { predictor = predictor.Horizontal }
+set_predictor =
+    calls.with_predictor predictor.Horizontal (new_file Classic) ≡ record (new_file Classic)
+    { predictor = predictor.Horizontal }
 
 abbrev pub set_method : Type 0
 set_method = (calls.with_compression Packbits (new_file Classic)).method ≡ method.PackBits
 
 -- ---- directories
 
--- a directory in a new file: no zeros are needed; it is linked from the header
+-- a directory in a new file needs no padding, and the header links to it
 abbrev pub begun_directory : Type 0
-begun_directory = IsSeen (calls.image_directory (new_file Classic)) (Ok (new_directory (Some 4) true)) header
+begun_directory =
+    IsSeen (calls.image_directory (new_file Classic)) (Ok (new_directory (Some 4) true)) header
 
--- behind 9 bytes: three zeros; an extra one has no parent
+-- a directory after 9 bytes needs three zeros; an extra one has no parent
 abbrev pub padded_directory : Type 0
-padded_directory = IsSeen (calls.extra_directory (file_with Classic (header ++ 7 ∷ []))) (Ok (new_directory None false)) (header ++ (7 ∷ 0 ∷ 0 ∷ 0 ∷ []))
+padded_directory =
+    IsSeen (calls.extra_directory (file_with Classic (header ++ 7 ∷ [])))
+    (Ok (new_directory None false)) (header ++ (7 ∷ 0 ∷ 0 ∷ 0 ∷ []))
 
 abbrev pub stopped_directory : Type 0
-stopped_directory = IsSeen (calls.image_directory failed_file) (Err (UsageError WriterFailed)) header
+stopped_directory =
+    IsSeen (calls.image_directory failed_file) (Err (UsageError WriterFailed)) header
 
 abbrev pub stopped_extra : Type 0
 stopped_extra = IsSeen (calls.extra_directory failed_file) (Err (UsageError WriterFailed)) header
@@ -94,10 +103,11 @@ stopped_extra = IsSeen (calls.extra_directory failed_file) (Err (UsageError Writ
 abbrev pub with_fields : OpenDirectory → List (ℕ × Field) → OpenDirectory
 with_fields d fields = record d { fields = from_entries fields }
 
--- a tag in its entry; one at an offset; one that is refused
+-- a tag with its value in the entry, a tag with its value at an offset, and a tag that is refused
 abbrev pub tag_short : Type 0
 tag_short =
-    IsSeen (calls.write_tag (new_directory (Some 4) true) tag.ImageWidth (Ok (data_of (u32s (5 ∷ [])))) (new_file Classic))
+    IsSeen (calls.write_tag (new_directory (Some 4) true) tag.ImageWidth
+    (Ok (data_of (u32s (5 ∷ [])))) (new_file Classic))
     (Ok (with_fields (new_directory (Some 4) true) ((256, long_field 5) ∷ []))) header
 
 -- the text `abcd`
@@ -107,95 +117,140 @@ abcd = text_data (0x61 ∷ 0x62 ∷ 0x63 ∷ 0x64 ∷ [])
 abbrev pub tag_text : Type 0
 tag_text =
     IsSeen (calls.write_tag (new_directory None false) tag.Artist abcd (new_file Classic))
-    (Ok (with_fields (new_directory None false) ((315, record { field_type = ASCII; count = 5; value = 8 ∷ 0 ∷ 0 ∷ 0 ∷ 0 ∷ 0 ∷ 0 ∷ 0 ∷ [] }) ∷ [])))
+    (Ok (with_fields (new_directory None false)
+    ((
+      315,
+      record {
+        field_type = ASCII;
+        count = 5;
+        value = 8 ∷ 0 ∷ 0 ∷ 0 ∷ 0 ∷ 0 ∷ 0 ∷ 0 ∷ [];
+      },
+    ) ∷ [])))
     (header ++ (0x61 ∷ 0x62 ∷ 0x63 ∷ 0x64 ∷ 0x00 ∷ []))
 
 abbrev pub tag_text_big : Type 0
 tag_text_big =
     (calls.write_tag (new_directory None false) tag.Artist abcd (new_file Big)).answer
-    ≡ Ok (with_fields (new_directory None false) ((315, record { field_type = ASCII; count = 5; value = 0x61 ∷ 0x62 ∷ 0x63 ∷ 0x64 ∷ 0 ∷ 0 ∷ 0 ∷ 0 ∷ [] }) ∷ []))
+    ≡ Ok (with_fields (new_directory None false)
+    ((
+      315,
+      record {
+        field_type = ASCII;
+        count = 5;
+        value = 0x61 ∷ 0x62 ∷ 0x63 ∷ 0x64 ∷ 0 ∷ 0 ∷ 0 ∷ 0 ∷ [];
+      },
+    ) ∷ []))
 
 abbrev pub tag_refused : Type 0
-tag_refused = calls.write_tag (new_directory None false) tag.Artist (text_data (0xe9 ∷ [])) (new_file Classic)
-    ≡ record { answer = Err (FormatError InvalidTag); deeds = []; next = new_file Classic }
+tag_refused =
+    calls.write_tag (new_directory None false) tag.Artist (text_data (0xe9 ∷ [])) (new_file Classic)
+    ≡ record { answer = Err (FormatError InvalidTag); ops = []; next = new_file Classic }
 
--- what a tag does: its bytes, and that they were handed in for its field
-abbrev pub tag_deeds : Type 0
-tag_deeds =
-    (calls.write_tag (new_directory None false) tag.Artist abcd (new_file Classic)).deeds
+-- the operations of a tag: append its bytes, and supply them for its field
+abbrev pub tag_ops : Type 0
+tag_ops =
+    (calls.write_tag (new_directory None false) tag.Artist abcd (new_file Classic)).ops
     ≡ Appended (0x61 ∷ 0x62 ∷ 0x63 ∷ 0x64 ∷ 0x00 ∷ [])
-    ∷ Handed (record {
+    ∷ Supplied (record {
       field = record { field_type = ASCII; count = 5; value = 8 ∷ 0 ∷ 0 ∷ 0 ∷ 0 ∷ 0 ∷ 0 ∷ 0 ∷ [] };
       bytes = 0x61 ∷ 0x62 ∷ 0x63 ∷ 0x64 ∷ 0x00 ∷ [];
     }) ∷ []
 
 abbrev pub buf_tag : Type 0
 buf_tag =
-    IsSeen (calls.write_tag_buf (new_directory None false) tag.BitsPerSample (buffer LittleEndian (8 ∷ 0 ∷ [])) (new_file Classic))
+    IsSeen (calls.write_tag_buf (new_directory None false) tag.BitsPerSample
+    (buffer LittleEndian (8 ∷ 0 ∷ [])) (new_file Classic))
     (Ok (with_fields (new_directory None false) ((258, short_field 8) ∷ []))) header
 
 abbrev pub buf_refused : Type 0
-buf_refused = IsSeen (calls.write_tag_buf (new_directory None false) tag.BitsPerSample (buffer BigEndian (0 ∷ 8 ∷ [])) (new_file Classic))
+buf_refused =
+    IsSeen (calls.write_tag_buf (new_directory None false) tag.BitsPerSample
+    (buffer BigEndian (0 ∷ 8 ∷ [])) (new_file Classic))
     (Err (UsageError ByteOrderMismatch)) header
 
--- of two values for a tag the later one stands
+-- the later of two values for a tag is kept
 abbrev pub tag_again : Type 0
-tag_again = entries (calls.with_field (calls.with_field (new_directory None false) tag.ImageWidth (long_field 5)) tag.ImageWidth (long_field 6)).fields
+tag_again =
+    entries (calls.with_field
+    (calls.with_field (new_directory None false) tag.ImageWidth (long_field 5)) tag.ImageWidth
+    (long_field 6)).fields
     ≡ (256, long_field 6) ∷ []
 
--- the same values as fields
+-- the values as fields: in the entry, at an offset, and refused
 abbrev pub entry_short : Type 0
-entry_short = IsSeen (calls.write_entry (Ok (data_of (u32s (5 ∷ [])))) (new_file Classic)) (Ok (long_field 5)) header
+entry_short =
+    IsSeen (calls.write_entry (Ok (data_of (u32s (5 ∷ [])))) (new_file Classic)) (Ok (long_field 5))
+    header
 
 abbrev pub entry_refused : Type 0
-entry_refused = IsSeen (calls.write_entry no_text (new_file Classic)) (Err (FormatError InvalidTag)) header
+entry_refused =
+    IsSeen (calls.write_entry no_text (new_file Classic)) (Err (FormatError InvalidTag)) header
 
 abbrev pub entry_stopped : Type 0
-entry_stopped = IsSeen (calls.write_entry (Ok (data_of (u32s (5 ∷ [])))) failed_file) (Err (UsageError WriterFailed)) header
+entry_stopped =
+    IsSeen (calls.write_entry (Ok (data_of (u32s (5 ∷ [])))) failed_file)
+    (Err (UsageError WriterFailed)) header
 
 abbrev pub entry_buf : Type 0
-entry_buf = IsSeen (calls.write_entry_buf (buffer LittleEndian (8 ∷ 0 ∷ [])) (new_file Classic)) (Ok (short_field 8)) header
+entry_buf =
+    IsSeen (calls.write_entry_buf (buffer LittleEndian (8 ∷ 0 ∷ [])) (new_file Classic))
+    (Ok (short_field 8)) header
 
 abbrev pub entry_buf_refused : Type 0
-entry_buf_refused = IsSeen (calls.write_entry_buf (buffer BigEndian []) failed_file) (Err (UsageError WriterFailed)) header
+entry_buf_refused =
+    IsSeen (calls.write_entry_buf (buffer BigEndian []) failed_file) (Err (UsageError WriterFailed))
+    header
 
 abbrev pub entry_bytes : Type 0
 entry_bytes =
     IsSeen (calls.write_entry_bytes SHORT (1 ∷ 2 ∷ 3 ∷ 4 ∷ 5 ∷ 6 ∷ []) (new_file Classic))
-    (Ok (record { field_type = SHORT; count = 3; value = 8 ∷ 0 ∷ 0 ∷ 0 ∷ 0 ∷ 0 ∷ 0 ∷ 0 ∷ [] })) (header ++ (1 ∷ 2 ∷ 3 ∷ 4 ∷ 5 ∷ 6 ∷ []))
+    (Ok (record { field_type = SHORT; count = 3; value = 8 ∷ 0 ∷ 0 ∷ 0 ∷ 0 ∷ 0 ∷ 0 ∷ 0 ∷ [] }))
+    (header ++ (1 ∷ 2 ∷ 3 ∷ 4 ∷ 5 ∷ 6 ∷ []))
 
 abbrev pub entry_bytes_refused : Type 0
-entry_bytes_refused = IsSeen (calls.write_entry_bytes SHORT (1 ∷ 2 ∷ 3 ∷ []) (new_file Classic)) (Err (UsageError (MismatchedEntryLength SHORT 3))) header
+entry_bytes_refused =
+    IsSeen (calls.write_entry_bytes SHORT (1 ∷ 2 ∷ 3 ∷ []) (new_file Classic))
+    (Err (UsageError (MismatchedEntryLength SHORT 3))) header
 
--- data at the end, of which the offset is answered
+-- data is appended, and the call returns its offset
 abbrev pub data_offset : Type 0
-data_offset = IsSeen (calls.write_data (Ok (data_of (u8s (1 ∷ 2 ∷ [])))) (new_file Classic)) (Ok 8) (header ++ (1 ∷ 2 ∷ []))
+data_offset =
+    IsSeen (calls.write_data (Ok (data_of (u8s (1 ∷ 2 ∷ [])))) (new_file Classic)) (Ok 8)
+    (header ++ (1 ∷ 2 ∷ []))
 
 abbrev pub data_refused : Type 0
-data_refused = IsSeen (calls.write_data no_text (new_file Classic)) (Err (FormatError InvalidTag)) header
+data_refused =
+    IsSeen (calls.write_data no_text (new_file Classic)) (Err (FormatError InvalidTag)) header
 
 abbrev pub data_buf : Type 0
-data_buf = IsSeen (calls.write_data_buf (buffer LittleEndian (1 ∷ 2 ∷ [])) (new_file Classic)) (Ok 8) (header ++ (1 ∷ 2 ∷ []))
+data_buf =
+    IsSeen (calls.write_data_buf (buffer LittleEndian (1 ∷ 2 ∷ [])) (new_file Classic)) (Ok 8)
+    (header ++ (1 ∷ 2 ∷ []))
 
 abbrev pub data_buf_refused : Type 0
-data_buf_refused = IsSeen (calls.write_data_buf (buffer BigEndian (1 ∷ 2 ∷ [])) (new_file Classic)) (Err (UsageError ByteOrderMismatch)) header
+data_buf_refused =
+    IsSeen (calls.write_data_buf (buffer BigEndian (1 ∷ 2 ∷ [])) (new_file Classic))
+    (Err (UsageError ByteOrderMismatch)) header
 
--- fields that are given stand in place of earlier ones
+-- given fields replace earlier ones
 abbrev pub extended : Type 0
 extended =
-    entries (calls.extend_from (with_fields (new_directory None false) ((256, long_field 5) ∷ [])) ((257, long_field 7) ∷ (256, long_field 6) ∷ [])).fields
+    entries (calls.extend_from (with_fields (new_directory None false) ((256, long_field 5) ∷ []))
+    ((257, long_field 7) ∷ (256, long_field 6) ∷ [])).fields
     ≡ (256, long_field 6) ∷ (257, long_field 7) ∷ []
 
 abbrev pub extended_none : Type 0
 extended_none = calls.extend_from (new_directory None false) [] ≡ new_directory None false
 
--- a parent is taken by its link
+-- a parent is set by its link
 abbrev pub parent_set : Type 0
-parent_set = (calls.set_parent (new_directory (Some 4) true) (record { pointer = 8; link = 22 })).parent ≡ Some 22
+parent_set =
+    (calls.set_parent (new_directory (Some 4) true) (record { pointer = 8; link = 22 })).parent
+    ≡ Some 22
 
 -- ---- the ends of directories
 
--- the first directory: one field, at 8, linked from the header
+-- the first directory: one field, at 8, with a link from the header
 abbrev pub one_field : OpenDirectory
 one_field = with_fields (new_directory (Some 4) true) ((256, long_field 5) ∷ [])
 
@@ -207,18 +262,24 @@ first_file =
     ++ (0x00 ∷ 0x00 ∷ 0x00 ∷ 0x00 ∷ [])
 
 abbrev pub first_finished : Type 0
-first_finished = IsSeen (calls.finish one_field (new_file Classic)) (Ok (record { pointer = 8; link = 22 })) first_file
+first_finished =
+    IsSeen (calls.finish one_field (new_file Classic)) (Ok (record { pointer = 8; link = 22 }))
+    first_file
 
 abbrev pub first_chain : Type 0
 first_chain = (calls.finish one_field (new_file Classic)).next.chain ≡ 22
 
 abbrev pub first_big : Type 0
-first_big = (calls.finish (with_fields (new_directory (Some 8) true) ((256, long_field 5) ∷ [])) (new_file Big)).answer ≡ Ok (record { pointer = 16; link = 44 })
+first_big =
+    (calls.finish (with_fields (new_directory (Some 8) true) ((256, long_field 5) ∷ []))
+    (new_file Big)).answer ≡ Ok (record { pointer = 16; link = 44 })
 
 abbrev pub first_big_length : Type 0
-first_big_length = length (calls.finish (with_fields (new_directory (Some 8) true) ((256, long_field 5) ∷ [])) (new_file Big)).next.bytes ≡ 52
+first_big_length =
+    length (calls.finish (with_fields (new_directory (Some 8) true) ((256, long_field 5) ∷ []))
+    (new_file Big)).next.bytes ≡ 52
 
--- its three calls one after another
+-- the three calls for the first directory, one after another
 abbrev pub first_calls : Type 0
 first_calls =
     IsSeen ((do
@@ -227,7 +288,8 @@ first_calls =
       calls.finish e) (new_file Classic))
     (Ok (record { pointer = 8; link = 22 })) first_file
 
--- behind it an extra directory without entries, with the first as its parent: the chain's last link stays
+-- an extra directory without entries after the first one, which is its parent: the chain's last
+-- link stays
 abbrev pub after_first : FileState
 after_first = record (new_file Classic) { bytes = first_file; chain = 22 }
 
@@ -243,24 +305,31 @@ second_finished =
     ++ (0x00 ∷ 0x00 ∷ 0x00 ∷ 0x00 ∷ []))
 
 abbrev pub second_chain : Type 0
-second_chain = (calls.finish (calls.set_parent (new_directory None false) (record { pointer = 8; link = 22 })) (file_with Classic (first_file ++ (0 ∷ 0 ∷ [])))).next.chain ≡ 4
+second_chain =
+    (calls.finish (calls.set_parent (new_directory None false) (record { pointer = 8; link = 22 }))
+    (file_with Classic (first_file ++ (0 ∷ 0 ∷ [])))).next.chain ≡ 4
 
--- a parent's link past what was written: nothing is done
+-- a parent's link past the end of the file: nothing is done
 abbrev pub not_written : Type 0
 not_written = calls.finish (new_directory (Some 1000) true) after_first
-    ≡ record { answer = Err (UsageError ParentNotWritten); deeds = []; next = after_first }
+    ≡ record { answer = Err (UsageError ParentNotWritten); ops = []; next = after_first }
 
--- what the end of a directory does, and with no parent
-abbrev pub finish_deeds : Type 0
-finish_deeds = (calls.finish one_field (new_file Classic)).deeds ≡ Listed one_field.fields ∷ Linked 4 8 ∷ []
+-- the operations at the end of a directory, with a parent and without one
+abbrev pub finish_ops : Type 0
+finish_ops = (calls.finish one_field (new_file Classic)).ops ≡ Listed one_field.fields ∷ Linked 4 8
+    ∷ []
 
 abbrev pub finish_alone : Type 0
-finish_alone = (calls.finish (new_directory None false) (new_file Classic)).deeds ≡ Listed (new_directory None false).fields ∷ []
+finish_alone =
+    (calls.finish (new_directory None false) (new_file Classic)).ops
+    ≡ Listed (new_directory None false).fields ∷ []
 
--- an extra directory of two LONG fields: at 8, its link at 34
+-- an extra directory of two LONG fields: at 8, with its link at 34
 abbrev pub extra_offsets : Type 0
 extra_offsets =
-    (calls.finish (with_fields (new_directory None false) ((256, long_field 100) ∷ (257, long_field 200) ∷ [])) (new_file Classic)).answer
+    (calls.finish
+    (with_fields (new_directory None false)
+    ((256, long_field 100) ∷ (257, long_field 200) ∷ [])) (new_file Classic)).answer
     ≡ calls.new_offset Classic 8 2
 
 abbrev pub new_offset_8 : Type 0

@@ -1,4 +1,4 @@
--- Worked calls of images that are written.
+-- Worked examples of calls that write images.
 use Rattle.std.specs.Prelude.{◌≡◌, ℕ, true, List, [], ◌∷◌, ◌++◌, length, take, drop, Some, None, Ok, Err}
 use Rattle.tiff_base.specs.declared.error.TiffError.TheVariants.{FormatError, IoError, IntSizeError, UsageError}
 use Rattle.tiff_base.specs.declared.error.TiffFormatError.TheVariants.{InvalidDimensions}
@@ -28,7 +28,8 @@ use Rattle.tiff_examples.specs.Files.{gray_file}
 use Rattle.tiff_examples.specs.Encode.Causes.{new_file, failed_file, file_with, gray, rgb, pixel, written_pixel}
 use Rattle.tiff_examples.specs.Encode.Calls.{IsSeen, header, with_fields}
 
--- the fields that a new gray image of one pixel writes, the last first, and those of its end before them
+-- the fields that a new gray image of one pixel writes, the last one first, and the fields at its
+-- end before them
 abbrev pub first_fields : List (ℕ × Field)
 first_fields =
     (296, short_field 1) ∷ (283, rational_field 16) ∷ (282, rational_field 8) ∷ (277, short_field 1)
@@ -36,40 +37,53 @@ first_fields =
     ∷ (257, long_field 1) ∷ (256, long_field 1) ∷ []
 
 abbrev pub all_fields : List (ℕ × Field)
-all_fields = (279, long_field 1) ∷ (273, long_field 24) ∷ (339, short_field 1) ∷ (258, short_field 8) ∷ first_fields
+all_fields =
+    (279, long_field 1) ∷ (273, long_field 24) ∷ (339, short_field 1) ∷ (258, short_field 8)
+    ∷ first_fields
 
--- the image in a directory of these
+-- the open image whose directory has the first fields
 abbrev pub new_pixel : OpenImage
 new_pixel = record pixel { directory = with_fields (new_directory (Some 4) true) first_fields }
 
 abbrev pub resolutions : List ℕ
 resolutions = one_to_one ++ one_to_one
 
--- a new gray image: both resolutions are appended
+-- a new gray image appends both resolutions
 abbrev pub gray_begun : Type 0
-gray_begun = IsSeen (calls.new_image gray 1 1 1 (new_file Classic)) (Ok new_pixel) (header ++ resolutions)
+gray_begun =
+    IsSeen (calls.new_image gray 1 1 1 (new_file Classic)) (Ok new_pixel) (header ++ resolutions)
 
--- in BigTIFF they stand in their entries
+-- a new gray image in BigTIFF has both resolutions in their entries
 abbrev pub gray_begun_big : Type 0
 gray_begun_big = (calls.new_image gray 1 1 1 (new_file Big)).next.bytes ≡ header_bytes Big
 
--- sides of 0: nothing is written
+-- an image with a dimension of 0: nothing is written
 abbrev pub no_side : Type 0
-no_side = calls.new_image gray 1 0 5 (new_file Classic) ≡ record { answer = Err (FormatError (InvalidDimensions 0 5)); deeds = []; next = new_file Classic }
+no_side =
+    calls.new_image gray 1 0 5 (new_file Classic)
+    ≡ record {
+      answer = Err (FormatError (InvalidDimensions 0 5));
+      ops = [];
+      next = new_file Classic;
+    }
 
--- the rows of a strip: of 300 bytes a row; packed
+-- the rows per strip for rows of 300 bytes, and for packed data
 abbrev pub rows_300 : Type 0
-rows_300 = (image_in (new_file Classic) (new_directory None true) rgb 1 100 100).form ≡ strips_of 100 3334 Chunky
+rows_300 = (image_in (new_file Classic) (new_directory None true) rgb 1 100 100).form
+    ≡ strips_of 100 3334 Chunky
 
 abbrev pub rows_packed : Type 0
-rows_packed = (image_in (record (new_file Classic) { method = method.PackBits }) (new_directory None true) rgb 1 100 100).form ≡ strips_of 100 1 Chunky
+rows_packed =
+    (image_in (record (new_file Classic) { method = method.PackBits }) (new_directory None true) rgb
+    1 100 100).form ≡ strips_of 100 1 Chunky
 
--- the tags that a new image writes, in this order; YCbCr names its subsampling
+-- the tags of a new image, in this order; YCbCr has a subsampling tag
 abbrev pub tags_gray : Type 0
 tags_gray =
     calls.first_tags pixel
     ≡ (tag.ImageWidth, u32s (1 ∷ [])) ∷ (tag.ImageLength, u32s (1 ∷ []))
-    ∷ (tag.Compression, methods (method.None ∷ [])) ∷ (tag.Predictor, predictors (predictor.None ∷ []))
+    ∷ (tag.Compression, methods (method.None ∷ []))
+    ∷ (tag.Predictor, predictors (predictor.None ∷ []))
     ∷ (tag.PhotometricInterpretation, interpretations (BlackIsZero ∷ []))
     ∷ (tag.RowsPerStrip, u32s (1000000 ∷ [])) ∷ (tag.SamplesPerPixel, u16s (1 ∷ []))
     ∷ (tag.XResolution, rationals ((1, 1) ∷ [])) ∷ (tag.YResolution, rationals ((1, 1) ∷ []))
@@ -77,11 +91,20 @@ tags_gray =
 
 abbrev pub tags_ycbcr : Type 0
 tags_ycbcr =
-    take 3 (drop 4 (calls.first_tags (record pixel { color = record { interpretation = YCbCr; bits = 8 ∷ 8 ∷ 8 ∷ []; formats = Uint ∷ Uint ∷ Uint ∷ [] } })))
-    ≡ (tag.PhotometricInterpretation, interpretations (YCbCr ∷ [])) ∷ (tag.ChromaSubsampling, u16s (1 ∷ 1 ∷ []))
+    take 3 (drop 4
+    (calls.first_tags
+    (record pixel {
+      color = record {
+        interpretation = YCbCr;
+        bits = 8 ∷ 8 ∷ 8 ∷ [];
+        formats = Uint ∷ Uint ∷ Uint ∷ [];
+      };
+    })))
+    ≡ (tag.PhotometricInterpretation, interpretations (YCbCr ∷ []))
+    ∷ (tag.ChromaSubsampling, u16s (1 ∷ 1 ∷ []))
     ∷ (tag.RowsPerStrip, u32s (1000000 ∷ [])) ∷ []
 
--- the tags of an image's end; with an extra sample its samples are counted again
+-- the tags at an image's end; with an extra sample the samples per pixel are written again
 abbrev pub tags_end : Type 0
 tags_end =
     calls.last_tags Classic written_pixel
@@ -94,195 +117,264 @@ tags_extra =
     ≡ (tag.BitsPerSample, u16s (8 ∷ 8 ∷ 8 ∷ 8 ∷ [])) ∷ (tag.SamplesPerPixel, u16s (4 ∷ []))
     ∷ (tag.SampleFormat, formats (Uint ∷ Uint ∷ Uint ∷ Uint ∷ [])) ∷ []
 
--- extra samples take the place of earlier ones
+-- extra samples replace earlier ones
 abbrev pub extra_set : Type 0
 extra_set =
-    IsSeen (calls.extra_samples (record pixel { extra = AssociatedAlpha ∷ AssociatedAlpha ∷ [] }) (Unspecified ∷ []) (new_file Classic))
-    (Ok (record pixel { directory = with_fields (new_directory (Some 4) true) ((338, short_field 0) ∷ []); extra = Unspecified ∷ [] })) header
+    IsSeen (calls.extra_samples (record pixel { extra = AssociatedAlpha ∷ AssociatedAlpha ∷ [] })
+    (Unspecified ∷ []) (new_file Classic))
+    (Ok (record pixel {
+      directory = with_fields (new_directory (Some 4) true) ((338, short_field 0) ∷ []);
+      extra = Unspecified ∷ [];
+    })) header
 
 abbrev pub extra_late : Type 0
-extra_late = IsSeen (calls.extra_samples written_pixel [] (new_file Classic)) (Err (UsageError ReconfiguredAfterImageWrite)) header
+extra_late =
+    IsSeen (calls.extra_samples written_pixel [] (new_file Classic))
+    (Err (UsageError ReconfiguredAfterImageWrite)) header
 
--- rows of a strip, by hand
+-- explicit rows per strip
 abbrev pub rows_set : Type 0
 rows_set = IsSeen (calls.set_rows_per_strip pixel 2 (new_file Classic))
-    (Ok (record pixel { directory = with_fields (new_directory (Some 4) true) ((278, long_field 2) ∷ []); form = strips_of 1 2 Chunky })) header
+    (Ok (record pixel {
+      directory = with_fields (new_directory (Some 4) true) ((278, long_field 2) ∷ []);
+      form = strips_of 1 2 Chunky;
+    })) header
 
 abbrev pub rows_none : Type 0
-rows_none = IsSeen (calls.set_rows_per_strip pixel 0 (new_file Classic)) (Err (IoError InvalidInput)) header
+rows_none =
+    IsSeen (calls.set_rows_per_strip pixel 0 (new_file Classic)) (Err (IoError InvalidInput)) header
 
--- the unit and both resolutions, in this order
+-- the resolution unit and both resolutions, in this order
 abbrev pub resolved : Type 0
 resolved =
     IsSeen (calls.resolution pixel unit.Inch (300, 1) (new_file Classic))
-    (Ok (record pixel { directory = with_fields (new_directory (Some 4) true) ((283, rational_field 16) ∷ (282, rational_field 8) ∷ (296, short_field 2) ∷ []) }))
+    (Ok (record pixel {
+      directory = with_fields (new_directory (Some 4) true)
+          ((283, rational_field 16) ∷ (282, rational_field 8) ∷ (296, short_field 2) ∷ []);
+    }))
     (header ++ (44 ∷ 1 ∷ 0 ∷ 0 ∷ 1 ∷ 0 ∷ 0 ∷ 0 ∷ 44 ∷ 1 ∷ 0 ∷ 0 ∷ 1 ∷ 0 ∷ 0 ∷ 0 ∷ []))
 
--- where the second has no offset, nothing is written
+-- if the second resolution has no valid offset, nothing is written
 abbrev pub unresolved : Type 0
 unresolved = (bytes : List ℕ) → length bytes ≡ 4294967288
-    → (calls.resolution pixel unit.Inch (300, 1) (file_with Classic bytes)).answer ≡ Err IntSizeError
+    → (calls.resolution pixel unit.Inch (300, 1) (file_with Classic bytes)).answer
+    ≡ Err IntSizeError
 
 abbrev pub resolved_x : Type 0
 resolved_x =
     IsSeen (calls.x_resolution pixel (2, 1) (new_file Classic))
-    (Ok (record pixel { directory = with_fields (new_directory (Some 4) true) ((282, rational_field 8) ∷ []) }))
+    (Ok (record pixel {
+      directory = with_fields (new_directory (Some 4) true)
+          ((282, rational_field 8) ∷ []);
+    }))
     (header ++ (2 ∷ 0 ∷ 0 ∷ 0 ∷ 1 ∷ 0 ∷ 0 ∷ 0 ∷ []))
 
 abbrev pub resolved_y : Type 0
 resolved_y =
     IsSeen (calls.y_resolution pixel (2, 1) (new_file Classic))
-    (Ok (record pixel { directory = with_fields (new_directory (Some 4) true) ((283, rational_field 8) ∷ []) }))
+    (Ok (record pixel {
+      directory = with_fields (new_directory (Some 4) true)
+          ((283, rational_field 8) ∷ []);
+    }))
     (header ++ (2 ∷ 0 ∷ 0 ∷ 0 ∷ 1 ∷ 0 ∷ 0 ∷ 0 ∷ []))
 
 abbrev pub stopped_x : Type 0
-stopped_x = IsSeen (calls.x_resolution pixel (2, 1) failed_file) (Err (UsageError WriterFailed)) header
+stopped_x =
+    IsSeen (calls.x_resolution pixel (2, 1) failed_file) (Err (UsageError WriterFailed)) header
 
 abbrev pub stopped_y : Type 0
-stopped_y = IsSeen (calls.y_resolution pixel (2, 1) failed_file) (Err (UsageError WriterFailed)) header
+stopped_y =
+    IsSeen (calls.y_resolution pixel (2, 1) failed_file) (Err (UsageError WriterFailed)) header
 
 abbrev pub unit_set : Type 0
 unit_set = IsSeen (calls.resolution_unit pixel unit.Centimeter (new_file Classic))
-    (Ok (record pixel { directory = with_fields (new_directory (Some 4) true) ((296, short_field 3) ∷ []) })) header
+    (Ok (record pixel {
+      directory = with_fields (new_directory (Some 4) true) ((296, short_field 3) ∷ []);
+    })) header
 
 abbrev pub unit_stopped : Type 0
-unit_stopped = IsSeen (calls.resolution_unit pixel unit.Inch failed_file) (Err (UsageError WriterFailed)) header
+unit_stopped =
+    IsSeen (calls.resolution_unit pixel unit.Inch failed_file) (Err (UsageError WriterFailed))
+    header
 
 -- ---- strips
 
--- a strip: its bytes and its offset
+-- a strip with its bytes and its offset
 abbrev pub strip_written : Type 0
-strip_written = IsSeen (calls.write_strip pixel 1 (7 ∷ []) (file_with Classic (header ++ resolutions))) (Ok written_pixel) (header ++ resolutions ++ (7 ∷ []))
+strip_written =
+    IsSeen (calls.write_strip pixel 1 (7 ∷ []) (file_with Classic (header ++ resolutions)))
+    (Ok written_pixel) (header ++ resolutions ++ (7 ∷ []))
 
--- an empty one behind the last leaves all as it was
+-- an empty strip after the last one changes nothing
 abbrev pub strip_behind : Type 0
-strip_behind = calls.write_strip written_pixel 0 [] (new_file Classic) ≡ record { answer = Err (IoError InvalidData); deeds = []; next = new_file Classic }
+strip_behind =
+    calls.write_strip written_pixel 0 [] (new_file Classic)
+    ≡ record { answer = Err (IoError InvalidData); ops = []; next = new_file Classic }
 
--- two pixels of RGB with an extra sample, differenced
+-- two RGB pixels with an extra sample, as differences
 abbrev pub two_pixels : OpenImage
-two_pixels = record pixel { width = 2; color = rgb; extra = Unspecified ∷ []; predictor = predictor.Horizontal; form = strips_of 2 1 Chunky }
+two_pixels =
+    record pixel {
+      width = 2;
+      color = rgb;
+      extra = Unspecified ∷ [];
+      predictor = predictor.Horizontal;
+      form = strips_of 2 1 Chunky;
+    }
 
 abbrev pub differenced : Type 0
-differenced = unpacked_chunk two_pixels (1 ∷ 2 ∷ 3 ∷ 9 ∷ 2 ∷ 4 ∷ 6 ∷ 9 ∷ []) ≡ (1 ∷ 2 ∷ 3 ∷ 9 ∷ 1 ∷ 2 ∷ 3 ∷ 0 ∷ [])
+differenced =
+    unpacked_chunk two_pixels (1 ∷ 2 ∷ 3 ∷ 9 ∷ 2 ∷ 4 ∷ 6 ∷ 9 ∷ [])
+    ≡ (1 ∷ 2 ∷ 3 ∷ 9 ∷ 1 ∷ 2 ∷ 3 ∷ 0 ∷ [])
 
--- two rows of two numbers of two bytes: each row begins anew
+-- two rows of two 2-byte numbers: the differences begin anew in each row
 abbrev pub two_rows : Type 0
-two_rows = unpacked_chunk (record pixel { width = 2; size = 2; predictor = predictor.Horizontal; form = strips_of 2 2 Chunky }) (258 ∷ 257 ∷ 5 ∷ 6 ∷ [])
+two_rows =
+    unpacked_chunk
+    (record pixel {
+      width = 2;
+      size = 2;
+      predictor = predictor.Horizontal;
+      form = strips_of 2 2 Chunky;
+    }) (258 ∷ 257 ∷ 5 ∷ 6 ∷ [])
     ≡ (2 ∷ 1 ∷ 0xff ∷ 0xff ∷ 5 ∷ 0 ∷ 1 ∷ 0 ∷ [])
 
 abbrev pub not_differenced : Type 0
 not_differenced = unpacked_chunk (record pixel { size = 4 }) (258 ∷ []) ≡ (2 ∷ 1 ∷ 0 ∷ 0 ∷ [])
 
--- two strips, of two rows and of one, which stand as they are
+-- two uncompressed strips, of two rows and of one row
 abbrev pub two_strips : OpenImage
 two_strips = record pixel { height = 3; form = strips_of 1 2 Chunky }
 
--- they are taken from the front of the samples
+-- strips are taken from the front of the samples
 abbrev pub strips_parted : Type 0
 strips_parted = parts_left two_strips (1 ∷ 2 ∷ 3 ∷ 4 ∷ []) ≡ (1 ∷ 2 ∷ []) ∷ (3 ∷ []) ∷ []
 
--- behind the first one the second is taken from the front
+-- after the first strip, the second is taken from the front of the samples
 abbrev pub strips_after : Type 0
 strips_after = parts_left (with_chunk two_strips 8 2) (1 ∷ 2 ∷ 3 ∷ []) ≡ (1 ∷ []) ∷ []
 
 abbrev pub strips_stored : Type 0
 strips_stored = AreStored two_strips ((1 ∷ 2 ∷ []) ∷ (3 ∷ []) ∷ []) ((1 ∷ 2 ∷ []) ∷ (3 ∷ []) ∷ [])
 
--- the first strip alone, before the other is
+-- the first of two strips is stored alone
 abbrev pub one_stored : Type 0
 one_stored = AreStored two_strips ((1 ∷ 2 ∷ []) ∷ (3 ∷ []) ∷ []) ((1 ∷ 2 ∷ []) ∷ [])
 
--- no bytes are stored for a strip that isn't there
+-- no bytes are stored for a strip that doesn't exist
 abbrev pub none_stored : Type 0
 none_stored = AreStored pixel ((7 ∷ []) ∷ []) ((7 ∷ []) ∷ [] ∷ []) → ⊥
 
 abbrev pub strips_taken : Type 0
 strips_taken =
-    IsSeen (calls.write_chunks two_strips ((1 ∷ 2 ∷ []) ∷ (3 ∷ []) ∷ []) ((1 ∷ 2 ∷ []) ∷ (3 ∷ []) ∷ []) (new_file Classic))
+    IsSeen (calls.write_chunks two_strips ((1 ∷ 2 ∷ []) ∷ (3 ∷ []) ∷ [])
+    ((1 ∷ 2 ∷ []) ∷ (3 ∷ []) ∷ []) (new_file Classic))
     (Ok (with_chunk (with_chunk two_strips 8 2) 10 1)) (header ++ (1 ∷ 2 ∷ 3 ∷ []))
 
 -- ---- whole images
 
--- the end of the image of one pixel whose strip was written: the file of 199 bytes
+-- the end of the image of one pixel with its strip: the file of 199 bytes
 abbrev pub pixel_in_file : OpenImage
-pixel_in_file = record written_pixel { directory = with_fields (new_directory (Some 4) true) first_fields }
+pixel_in_file =
+    record written_pixel { directory = with_fields (new_directory (Some 4) true) first_fields }
 
 abbrev pub pixel_finished : Type 0
 pixel_finished =
-    IsSeen (calls.finish_image pixel_in_file (file_with Classic (header ++ resolutions ++ (7 ∷ []))))
+    IsSeen (calls.finish_image pixel_in_file
+    (file_with Classic (header ++ resolutions ++ (7 ∷ []))))
     (Ok (record { pointer = 25; link = 195 })) gray_file
 
 abbrev pub pixel_stopped : Type 0
-pixel_stopped = IsSeen (calls.finish_image pixel_in_file failed_file) (Err (UsageError WriterFailed)) header
+pixel_stopped =
+    IsSeen (calls.finish_image pixel_in_file failed_file) (Err (UsageError WriterFailed)) header
 
--- its samples and its end
+-- the samples of the image of one pixel, and its end
 abbrev pub pixel_data : Type 0
 pixel_data =
-    IsSeen (calls.write_image_data new_pixel (7 ∷ 8 ∷ []) ((7 ∷ []) ∷ []) (file_with Classic (header ++ resolutions)))
+    IsSeen (calls.write_image_data new_pixel (7 ∷ 8 ∷ []) ((7 ∷ []) ∷ [])
+    (file_with Classic (header ++ resolutions)))
     (Ok (record { pointer = 25; link = 195 })) gray_file
 
--- too few: nothing more is written
+-- too few samples: nothing more is written
 abbrev pub pixel_few : Type 0
-pixel_few = IsSeen (calls.write_image_data new_pixel [] [] (new_file Classic)) (Err (IoError InvalidData)) header
+pixel_few =
+    IsSeen (calls.write_image_data new_pixel [] [] (new_file Classic)) (Err (IoError InvalidData))
+    header
 
--- all of it
+-- the whole image of one pixel
 abbrev pub pixel_written : Type 0
-pixel_written = IsSeen (calls.write_image gray 1 1 1 (7 ∷ []) ((7 ∷ []) ∷ []) (new_file Classic)) (Ok (record { pointer = 25; link = 195 })) gray_file
+pixel_written =
+    IsSeen (calls.write_image gray 1 1 1 (7 ∷ []) ((7 ∷ []) ∷ []) (new_file Classic))
+    (Ok (record { pointer = 25; link = 195 })) gray_file
 
 abbrev pub pixel_chain : Type 0
-pixel_chain = (calls.write_image gray 1 1 1 (7 ∷ []) ((7 ∷ []) ∷ []) (new_file Classic)).next.chain ≡ 195
+pixel_chain = (calls.write_image gray 1 1 1 (7 ∷ []) ((7 ∷ []) ∷ []) (new_file Classic)).next.chain
+    ≡ 195
 
--- RGB of 50 by 50 with three samples: both resolutions stay, unused
+-- an RGB image of 50 by 50 pixels with three samples: both resolutions stay in the file, unused
 abbrev pub rgb_few : Type 0
-rgb_few = IsSeen (calls.write_image rgb 1 50 50 (1 ∷ 2 ∷ 3 ∷ []) [] (new_file Classic)) (Err (IoError InvalidData)) (header ++ resolutions)
+rgb_few =
+    IsSeen (calls.write_image rgb 1 50 50 (1 ∷ 2 ∷ 3 ∷ []) [] (new_file Classic))
+    (Err (IoError InvalidData)) (header ++ resolutions)
 
--- so the next page's strip stands at 40
+-- after an image with too few samples, the strip of the next page is at 40
 abbrev pub after_few : Type 0
 after_few =
-    (calls.write_image gray 1 1 1 (7 ∷ []) ((7 ∷ []) ∷ []) (file_with Classic (header ++ resolutions))).answer
+    (calls.write_image gray 1 1 1 (7 ∷ []) ((7 ∷ []) ∷ [])
+    (file_with Classic (header ++ resolutions))).answer
     ≡ Ok (record { pointer = 41; link = 211 })
 
--- Gray of 4 by 2, packed: two strips, their offsets and lengths as lists
+-- a packed gray image of 4 by 2 pixels: two strips, with lists of offsets and byte counts
 abbrev pub packed_file : FileState
 packed_file = calls.with_compression Packbits (new_file Classic)
 
 abbrev pub packed_written : Type 0
 packed_written =
-    (calls.write_image gray 1 4 2 (1 ∷ 1 ∷ 1 ∷ 1 ∷ 2 ∷ 2 ∷ 2 ∷ 2 ∷ []) ((0xfd ∷ 1 ∷ []) ∷ (0xfd ∷ 2 ∷ []) ∷ []) packed_file).answer
+    (calls.write_image gray 1 4 2 (1 ∷ 1 ∷ 1 ∷ 1 ∷ 2 ∷ 2 ∷ 2 ∷ 2 ∷ [])
+    ((0xfd ∷ 1 ∷ []) ∷ (0xfd ∷ 2 ∷ []) ∷ []) packed_file).answer
     ≡ Ok (record { pointer = 44; link = 214 })
 
 abbrev pub packed_bytes : Type 0
 packed_bytes =
-    take 20 (drop 24 (calls.write_image gray 1 4 2 (1 ∷ 1 ∷ 1 ∷ 1 ∷ 2 ∷ 2 ∷ 2 ∷ 2 ∷ []) ((0xfd ∷ 1 ∷ []) ∷ (0xfd ∷ 2 ∷ []) ∷ []) packed_file).next.bytes)
+    take 20 (drop 24
+    (calls.write_image gray 1 4 2 (1 ∷ 1 ∷ 1 ∷ 1 ∷ 2 ∷ 2 ∷ 2 ∷ 2 ∷ [])
+    ((0xfd ∷ 1 ∷ []) ∷ (0xfd ∷ 2 ∷ []) ∷ []) packed_file).next.bytes)
     ≡ (0xfd ∷ 1 ∷ 0xfd ∷ 2 ∷ 24 ∷ 0 ∷ 0 ∷ 0 ∷ 26 ∷ 0 ∷ 0 ∷ 0 ∷ 2 ∷ 0 ∷ 0 ∷ 0 ∷ 2 ∷ 0 ∷ 0 ∷ 0 ∷ [])
 
--- an image that is past a failed write
+-- an image after a failed write
 abbrev pub stopped_image : Type 0
-stopped_image = IsSeen (calls.write_image gray 1 1 1 (7 ∷ []) [] failed_file) (Err (UsageError WriterFailed)) header
+stopped_image =
+    IsSeen (calls.write_image gray 1 1 1 (7 ∷ []) [] failed_file) (Err (UsageError WriterFailed))
+    header
 
--- the same page once more: behind a zero, linked from the first one's link
+-- the same page twice: the second is after a zero, and the first one links to it
 abbrev pub page_file : FileState
 page_file = record (new_file Classic) { bytes = gray_file; chain = 195 }
 
 abbrev pub second_page : Type 0
 second_page =
-    (calls.write_image gray 1 1 1 (7 ∷ []) ((7 ∷ []) ∷ []) page_file).answer ≡ Ok (record { pointer = 217; link = 387 })
+    (calls.write_image gray 1 1 1 (7 ∷ []) ((7 ∷ []) ∷ []) page_file).answer
+    ≡ Ok (record { pointer = 217; link = 387 })
 
--- and behind a refused image: its resolutions stay unused, and the first page's link points to it
+-- a page after a refused image: the resolutions of that image stay unused, and the first page links
+-- to the page
 abbrev pub third_page : Type 0
 third_page =
     (calls.write_image gray 1 1 1 (7 ∷ []) ((7 ∷ []) ∷ [])
-    (calls.write_image rgb 1 50 50 (1 ∷ 2 ∷ 3 ∷ []) [] page_file).next).answer ≡ Ok (record { pointer = 233; link = 403 })
+    (calls.write_image rgb 1 50 50 (1 ∷ 2 ∷ 3 ∷ []) [] page_file).next).answer
+    ≡ Ok (record { pointer = 233; link = 403 })
 
 abbrev pub third_link : Type 0
 third_link =
     take 4 (drop 195 (calls.write_image gray 1 1 1 (7 ∷ []) ((7 ∷ []) ∷ [])
-    (calls.write_image rgb 1 50 50 (1 ∷ 2 ∷ 3 ∷ []) [] page_file).next).next.bytes) ≡ (0xe9 ∷ 0 ∷ 0 ∷ 0 ∷ [])
+    (calls.write_image rgb 1 50 50 (1 ∷ 2 ∷ 3 ∷ []) [] page_file).next).next.bytes)
+    ≡ (0xe9 ∷ 0 ∷ 0 ∷ 0 ∷ [])
 
--- YCbCr of one pixel: its lists of three stand behind the strip
+-- a YCbCr image of one pixel: its lists of three values are after the strip
 abbrev pub ycbcr : ColorTypeRecord
 ycbcr = record { interpretation = YCbCr; bits = 8 ∷ 8 ∷ 8 ∷ []; formats = Uint ∷ Uint ∷ Uint ∷ [] }
 
 abbrev pub ycbcr_written : Type 0
 ycbcr_written =
-    (calls.write_image ycbcr 1 1 1 (1 ∷ 2 ∷ 3 ∷ []) ((1 ∷ 2 ∷ 3 ∷ []) ∷ []) (new_file Classic)).answer ≡ Ok (record { pointer = 39; link = 221 })
+    (calls.write_image ycbcr 1 1 1 (1 ∷ 2 ∷ 3 ∷ []) ((1 ∷ 2 ∷ 3 ∷ []) ∷ [])
+    (new_file Classic)).answer ≡ Ok (record { pointer = 39; link = 221 })

@@ -1,4 +1,4 @@
--- Worked writes: what each may leave.
+-- Worked examples of writes, and what each may leave.
 use Rattle.std.specs.Prelude.{◌≡◌, true, false, [], ◌∷◌, ◌++◌, Some}
 use Rattle.tiff_base.specs.declared.error.TiffError.{TiffError}
 use Rattle.tiff_base.specs.declared.error.TiffError.TheVariants.{IoError, IntSizeError, UsageError, OutOfMemory}
@@ -17,21 +17,23 @@ use Rattle.tiff_examples.specs.OneValue.{long_field}
 use Rattle.tiff_examples.specs.Encode.FileBytes.{begun, fresh, at_end}
 use Rattle.tiff_examples.specs.Encode.Calls.{header}
 
--- a new encoder, on an empty sink and on one of two bytes
+-- a new encoder on an empty sink, and on a sink of two bytes
 abbrev pub begins : Type 0
 begins = fresh ≡ machine.begun_file Classic [] 0
 
 abbrev pub begins_behind : Type 0
-begins_behind = record fresh { bytes = 1 ∷ 2 ∷ header; failures = 3; chain = 6 } ≡ machine.begun_file Classic (1 ∷ 2 ∷ []) 3
+begins_behind =
+    record fresh { bytes = 1 ∷ 2 ∷ header; failures = 3; chain = 6 } ≡ machine.begun_file Classic
+    (1 ∷ 2 ∷ []) 3
 
--- an encoder of which a write failed
+-- an encoder with a failed write
 abbrev pub failed : FileState
 failed = record fresh { fault = Some fault.Device }
 
 abbrev pub begins_failed : Type 0
 begins_failed = failed ≡ machine.begun_file Classic [] 0 → ⊥
 
--- four bytes hold 4294967295
+-- four bytes can hold 4294967295, and no larger offset
 abbrev pub too_far : Type 0
 too_far = is_too_far 4294967296 ≡ true
 
@@ -45,25 +47,26 @@ stopped = AppendIsStopped (UsageError WriterFailed) failed failed
 abbrev pub not_stopped : Type 0
 not_stopped = (new : FileState) → AppendIsStopped (UsageError WriterFailed) fresh new → ⊥
 
--- one byte of two went out
+-- one of two bytes is written
 abbrev pub cut_file : FileState
 cut_file = record fresh { bytes = header ++ (1 ∷ []); failures = 1; fault = Some fault.Device }
 
 abbrev pub cut : Type 0
 cut = AppendIsCut (1 ∷ 2 ∷ []) (IoError Device) fresh cut_file
 
--- no write of the sink failed
+-- a write isn't cut if no write of the sink failed
 abbrev pub not_cut : Type 0
-not_cut = (e : TiffError) (new : FileState) → new.failures ≡ 0 → AppendIsCut (1 ∷ 2 ∷ []) e fresh new → ⊥
+not_cut = (e : TiffError) (new : FileState) → new.failures ≡ 0
+    → AppendIsCut (1 ∷ 2 ∷ []) e fresh new → ⊥
 
--- the other fault is answered; all went out
+-- not a cut: another error, or all bytes written
 abbrev pub cut_swapped : Type 0
 cut_swapped = AppendIsCut (1 ∷ 2 ∷ []) OutOfMemory fresh cut_file → ⊥
 
 abbrev pub cut_whole : Type 0
 cut_whole = AppendIsCut (1 ∷ []) (IoError Device) fresh cut_file → ⊥
 
--- all, and one byte of the link
+-- all bytes, and one byte of the link
 abbrev pub torn_file : FileState
 torn_file = record fresh {
   bytes = 0x49 ∷ 0x49 ∷ 0x2a ∷ 0 ∷ 2 ∷ 0 ∷ 0 ∷ 0 ∷ 7 ∷ [];
@@ -75,12 +78,13 @@ abbrev pub torn : Type 0
 torn = IsTorn (7 ∷ []) 4 258 OutOfMemory fresh torn_file
 
 abbrev pub not_torn : Type 0
-not_torn = (e : TiffError) (new : FileState) → new.failures ≡ 0 → IsTorn (7 ∷ []) 4 258 e fresh new → ⊥
+not_torn = (e : TiffError) (new : FileState) → new.failures ≡ 0 → IsTorn (7 ∷ []) 4 258 e fresh new
+    → ⊥
 
 abbrev pub torn_swapped : Type 0
 torn_swapped = IsTorn (7 ∷ []) 4 258 (IoError Device) fresh torn_file → ⊥
 
--- a sink of two bytes took one byte of the header; no sink answers a number that is too large
+-- a sink of two bytes takes one byte of the header; the error of a sink isn't `IntSizeError`
 abbrev pub HeaderIsCut : TiffError → Type 0
 HeaderIsCut = HeaderFails Classic (λ (w : Written). w.bytes) (λ w. w.failures) (λ w. w.fault) at_end
 
@@ -90,7 +94,7 @@ header_cut = HeaderIsCut (IoError Device)
 abbrev pub header_not_cut : Type 0
 header_not_cut = HeaderIsCut IntSizeError → ⊥
 
--- a writer's encoder stands at the end, behind its last link
+-- the encoder of a writer is at the end, after its last link
 abbrev pub placed : Type 0
 placed = StandsAtEnd Classic (record at_end { bytes = header; at = 8 }) 4
 
@@ -100,7 +104,7 @@ not_placed = StandsAtEnd Classic at_end 4 → ⊥
 abbrev pub grown_one : Type 0
 grown_one = file_with_bytes fresh (7 ∷ []) ≡ begun (header ++ (7 ∷ []))
 
--- a field that an entry has room for, and one whose tag number is too large
+-- a field that fits into an entry, and one whose tag number is too large
 abbrev pub listable : Type 0
 listable = IsListable Classic 256 (long_field 5)
 

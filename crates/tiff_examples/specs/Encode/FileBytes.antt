@@ -1,4 +1,4 @@
--- Worked files of the writer.
+-- Worked examples of files of the writer.
 use Rattle.std.specs.Prelude.{◌≡◌, ℕ, ◌++◌, List, [], ◌∷◌, None}
 use Rattle.std.specs.FinMap.{from_entries}
 use Rattle.tiff_base.specs.declared.tags.CompressionMethod.TheVariants as method
@@ -9,16 +9,17 @@ use Rattle.tiff_encode.specs.FileBytes.{header_bytes, entry_bytes, directory_byt
 use Rattle.tiff_encode.specs.Machine.{FileState}
 use Rattle.tiff_examples.specs.OneValue.{short_field, long_field}
 
--- headers that link to no directory yet
+-- headers without a first directory yet
 abbrev pub classic_header : Type 0
 classic_header = header_bytes Classic ≡ (0x49 ∷ 0x49 ∷ 0x2a ∷ 0x00 ∷ 0x00 ∷ 0x00 ∷ 0x00 ∷ 0x00 ∷ [])
 
 abbrev pub big_header : Type 0
 big_header = header_bytes Big
-    ≡ (0x49 ∷ 0x49 ∷ 0x2b ∷ 0x00 ∷ 0x08 ∷ 0x00 ∷ 0x00 ∷ 0x00 ∷ 0x00 ∷ 0x00 ∷ 0x00 ∷ 0x00 ∷ 0x00 ∷ 0x00 ∷ 0x00
+    ≡ (0x49 ∷ 0x49 ∷ 0x2b ∷ 0x00 ∷ 0x08 ∷ 0x00 ∷ 0x00 ∷ 0x00 ∷ 0x00 ∷ 0x00 ∷ 0x00 ∷ 0x00 ∷ 0x00
+    ∷ 0x00 ∷ 0x00
     ∷ 0x00 ∷ [])
 
--- entries: BitsPerSample 8, and ImageWidth 5 in a BigTIFF file
+-- the entries BitsPerSample 8 of a classic file, and ImageWidth 5 of a BigTIFF file
 abbrev pub classic_entry : Type 0
 classic_entry = entry_bytes Classic (258, short_field 8)
     ≡ (0x02 ∷ 0x01 ∷ 0x03 ∷ 0x00 ∷ 0x01 ∷ 0x00 ∷ 0x00 ∷ 0x00 ∷ 0x08 ∷ 0x00 ∷ 0x00 ∷ 0x00 ∷ [])
@@ -26,7 +27,8 @@ classic_entry = entry_bytes Classic (258, short_field 8)
 abbrev pub big_entry : Type 0
 big_entry =
     entry_bytes Big (256, long_field 5)
-    ≡ (0x00 ∷ 0x01 ∷ 0x04 ∷ 0x00 ∷ 0x01 ∷ 0x00 ∷ 0x00 ∷ 0x00 ∷ 0x00 ∷ 0x00 ∷ 0x00 ∷ 0x00 ∷ 0x05 ∷ 0x00 ∷ 0x00
+    ≡ (0x00 ∷ 0x01 ∷ 0x04 ∷ 0x00 ∷ 0x01 ∷ 0x00 ∷ 0x00 ∷ 0x00 ∷ 0x00 ∷ 0x00 ∷ 0x00 ∷ 0x00 ∷ 0x05
+    ∷ 0x00 ∷ 0x00
     ∷ 0x00 ∷ 0x00 ∷ 0x00 ∷ 0x00 ∷ 0x00 ∷ [])
 
 -- zeros up to the next multiple of 4
@@ -39,7 +41,7 @@ padding_199 = padding 199 ≡ (0x00 ∷ [])
 abbrev pub padding_201 : Type 0
 padding_201 = padding 201 ≡ (0x00 ∷ 0x00 ∷ 0x00 ∷ [])
 
--- a row of 3 bytes makes a strip of 333334 rows, one of 300 bytes 3334, and one of two million bytes 1
+-- a strip has 333334 rows of 3 bytes, 3334 rows of 300 bytes, or 1 row of two million bytes
 abbrev pub rows_3 : Type 0
 rows_3 = rows_per_strip 3 ≡ 333334
 
@@ -49,7 +51,7 @@ rows_300 = rows_per_strip 300 ≡ 3334
 abbrev pub rows_long : Type 0
 rows_long = rows_per_strip 2000000 ≡ 1
 
--- a directory of two fields, which are written in ascending order of their tag numbers
+-- a directory of two fields is written in ascending order of tag numbers
 abbrev pub two_fields : Type 0
 two_fields =
     directory_bytes Classic (from_entries ((258, short_field 8) ∷ (256, long_field 5) ∷ []))
@@ -58,13 +60,14 @@ two_fields =
     ++ (0x02 ∷ 0x01 ∷ 0x03 ∷ 0x00 ∷ 0x01 ∷ 0x00 ∷ 0x00 ∷ 0x00 ∷ 0x08 ∷ 0x00 ∷ 0x00 ∷ 0x00 ∷ [])
     ++ (0x00 ∷ 0x00 ∷ 0x00 ∷ 0x00 ∷ [])
 
--- and one of no field
+-- a directory without fields
 abbrev pub no_field : Type 0
 no_field = directory_bytes Big (from_entries [])
-    ≡ (0x00 ∷ 0x00 ∷ 0x00 ∷ 0x00 ∷ 0x00 ∷ 0x00 ∷ 0x00 ∷ 0x00 ∷ 0x00 ∷ 0x00 ∷ 0x00 ∷ 0x00 ∷ 0x00 ∷ 0x00 ∷ 0x00
+    ≡ (0x00 ∷ 0x00 ∷ 0x00 ∷ 0x00 ∷ 0x00 ∷ 0x00 ∷ 0x00 ∷ 0x00 ∷ 0x00 ∷ 0x00 ∷ 0x00 ∷ 0x00 ∷ 0x00
+    ∷ 0x00 ∷ 0x00
     ∷ 0x00 ∷ [])
 
--- an encoder that has these bytes and no page yet
+-- an encoder with these bytes and no page yet
 abbrev pub begun : List ℕ → FileState
 begun bytes = record {
   kind = Classic;
@@ -81,13 +84,26 @@ fresh = begun (header_bytes Classic)
 
 -- a writer at the end of two bytes
 abbrev pub at_end : Written
-at_end = record { bytes = 1 ∷ 2 ∷ []; at = 2; fault = None; failures = 0; last = 0; method = method.None }
+at_end = record {
+  bytes = 1 ∷ 2 ∷ [];
+  at = 2;
+  fault = None;
+  failures = 0;
+  last = 0;
+  method = method.None;
+}
 
--- a byte that is appended, and told as the last write
+-- a byte is appended, and counted as the last write
 abbrev pub appended : Type 0
-appended = writer_after_counted at_end (3 ∷ []) ≡ record at_end { bytes = 1 ∷ 2 ∷ 3 ∷ []; at = 3; last = 1 }
+appended =
+    writer_after_counted at_end (3 ∷ []) ≡ record at_end {
+      bytes = 1 ∷ 2 ∷ 3 ∷ [];
+      at = 3;
+      last = 1;
+    }
 
--- two bytes from offset 1 on: the first is written over, and they are not told
+-- two bytes at offset 1: the first overwrites a byte, and they aren't counted
 abbrev pub over : Type 0
 over =
-    writer_after (record at_end { at = 1 }) (8 ∷ 9 ∷ []) ≡ record at_end { bytes = 1 ∷ 8 ∷ 9 ∷ []; at = 3 }
+    writer_after (record at_end { at = 1 }) (8 ∷ 9 ∷ [])
+    ≡ record at_end { bytes = 1 ∷ 8 ∷ 9 ∷ []; at = 3 }

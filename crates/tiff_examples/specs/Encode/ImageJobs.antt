@@ -1,4 +1,4 @@
--- Worked image jobs, and their parts.
+-- Worked examples of image jobs and their parts.
 use Rattle.std.specs.Prelude.{◌≡◌, ℕ, true, List, [], ◌∷◌, ◌++◌, Option, Some, None, Ok, Err}
 use Rattle.std.specs.Global.{Vec}
 use Rattle.tiff_base.specs.declared.error.TiffError.TheVariants.{FormatError, IoError, IntSizeError, OutOfMemory}
@@ -16,12 +16,12 @@ use Rattle.tiff_encode.specs.declared.encoder.script.StepReply.TheVariants as re
 use Rattle.tiff_encode.specs.declared.encoder.script.EndReply.TheVariants as last
 use Rattle.tiff_encode.specs.declared.encoder.script.JobReply.{JobReply}
 use Rattle.tiff_encode.specs.Model.{header_model}
-use Rattle.tiff_encode.specs.Deeds.{Appended, Handed, model_after}
+use Rattle.tiff_encode.specs.WriteOps.{Appended, Supplied, model_after}
 use Rattle.tiff_encode.specs.Machine.{OpenImage, WriteOutcome}
 use Rattle.tiff_encode.specs.Calls as calls
 use Rattle.tiff_encode.specs.Calls.{Offsets, new_directory}
 use Rattle.tiff_encode.specs.Jobs as jobs
-use Rattle.tiff_encode.specs.Jobs.{Standing, Drawn, Run, FinishedImage}
+use Rattle.tiff_encode.specs.Jobs.{FileAndModel, Drawn, Run, FinishedImage}
 use Rattle.tiff_examples.specs.OneValue.{short_field, rational_field}
 use Rattle.tiff_examples.specs.Encode.Causes.{new_file, file_with, gray, pixel}
 use Rattle.tiff_examples.specs.Encode.Calls.{header, with_fields}
@@ -30,31 +30,33 @@ use Rattle.tiff_examples.specs.Encode.Jobs.{first, run_begun, drawn}
 
 -- ---- strips and resolutions
 
--- a call that isn't made for want of memory
+-- a call that isn't made, as there is no memory for it
 abbrev pub uncalled : Type 0
 uncalled = jobs.IsNotCalled OutOfMemory first first
 
 abbrev pub uncalled_fault : Type 0
-uncalled_fault = (new : Standing) → jobs.IsNotCalled IntSizeError first new → ⊥
+uncalled_fault = (new : FileAndModel) → jobs.IsNotCalled IntSizeError first new → ⊥
 
--- behind a new image of one pixel: both resolutions stand, and the fields of its directory
-abbrev pub after_begin : Standing
+-- after a new image of one pixel: both resolutions and the fields of its directory
+abbrev pub after_begin : FileAndModel
 after_begin = record {
   file = file_with Classic (header ++ resolutions);
-  model = model_after Classic header (header_model Classic) (calls.new_image gray 1 1 1 (new_file Classic)).deeds;
+  model = model_after Classic header (header_model Classic)
+      (calls.new_image gray 1 1 1 (new_file Classic)).ops;
 }
 
--- then its strip at 24
-abbrev pub after_strip : Standing
+-- after the strip at 24
+abbrev pub after_strip : FileAndModel
 after_strip = record {
   file = file_with Classic (header ++ resolutions ++ (7 ∷ []));
   model = model_after Classic (header ++ resolutions) after_begin.model (Appended (7 ∷ []) ∷ []);
 }
 
 abbrev pub strip_stood : Type 0
-strip_stood = jobs.StripStep new_pixel (7 ∷ []) (Ok reply.Nothing) after_begin after_strip pixel_in_file
+strip_stood =
+    jobs.StripStep new_pixel (7 ∷ []) (Ok reply.Nothing) after_begin after_strip pixel_in_file
 
--- with the samples of its chunks
+-- the image with the samples of its chunks
 abbrev pub drawn_new : Drawn
 drawn_new = record { image = new_pixel; samples = [] }
 
@@ -62,150 +64,193 @@ abbrev pub drawn_strip : Drawn
 drawn_strip = record { image = pixel_in_file; samples = (7 ∷ []) ∷ [] }
 
 abbrev pub strip_found : Type 0
-strip_found = jobs.StripStepIfFound drawn_new (7 ∷ []) (Ok reply.Nothing) after_begin after_strip drawn_strip
+strip_found =
+    jobs.StripStepIfFound drawn_new (7 ∷ []) (Ok reply.Nothing) after_begin after_strip drawn_strip
 
--- no memory for its sample, or for its bytes, which leaves the file as it was; the wrong number of samples; and what it may not answer
+-- an out-of-memory error for the sample or the bytes, which leaves the file unchanged; the wrong
+-- number of samples; and results that the step can't have
 abbrev pub strip_unfound : Type 0
 strip_unfound = jobs.StripStepIfFound drawn (7 ∷ []) (Err OutOfMemory) first first drawn
 
 abbrev pub strip_unpacked : Type 0
-strip_unpacked = jobs.StripStep new_pixel (7 ∷ []) (Err OutOfMemory) after_begin after_begin new_pixel
+strip_unpacked =
+    jobs.StripStep new_pixel (7 ∷ []) (Err OutOfMemory) after_begin after_begin new_pixel
 
 abbrev pub strip_half : Type 0
-strip_half = jobs.StripStep new_pixel (7 ∷ []) (Err OutOfMemory) after_begin after_strip new_pixel → ⊥
+strip_half = jobs.StripStep new_pixel (7 ∷ []) (Err OutOfMemory) after_begin after_strip new_pixel
+    → ⊥
 
 abbrev pub strip_few : Type 0
 strip_few = jobs.StripStep pixel [] (Err (IoError InvalidData)) first first pixel
 
 abbrev pub strip_few_wanting : Type 0
-strip_few_wanting = (new : Standing) (t : OpenImage) → jobs.StripStep pixel [] (Err OutOfMemory) first new t → ⊥
+strip_few_wanting = (new : FileAndModel) (t : OpenImage)
+    → jobs.StripStep pixel [] (Err OutOfMemory) first new t → ⊥
 
 abbrev pub strip_number : Type 0
-strip_number = (new : Standing) (t : OpenImage) → jobs.StripStep pixel (7 ∷ []) (Ok (reply.Number 1)) first new t → ⊥
+strip_number = (new : FileAndModel) (t : OpenImage)
+    → jobs.StripStep pixel (7 ∷ []) (Ok (reply.Number 1)) first new t → ⊥
 
 abbrev pub strip_other : Type 0
-strip_other = jobs.StripStep new_pixel (8 ∷ []) (Ok reply.Nothing) after_begin after_strip pixel_in_file → ⊥
+strip_other =
+    jobs.StripStep new_pixel (8 ∷ []) (Ok reply.Nothing) after_begin after_strip pixel_in_file → ⊥
 
--- both resolutions and their unit
+-- the image with its resolution unit, and with both resolutions
 abbrev pub unit_pixel : OpenImage
-unit_pixel = record pixel { directory = with_fields (new_directory (Some 4) true) ((296, short_field 2) ∷ []) }
+unit_pixel =
+    record pixel
+    { directory = with_fields (new_directory (Some 4) true) ((296, short_field 2) ∷ []) }
 
-abbrev pub after_unit : Standing
+abbrev pub after_unit : FileAndModel
 after_unit = record {
   file = new_file Classic;
-  model = model_after Classic header (header_model Classic) (Handed (record { field = short_field 2; bytes = 2 ∷ 0 ∷ [] }) ∷ []);
+  model = model_after Classic header (header_model Classic)
+      (Supplied (record { field = short_field 2; bytes = 2 ∷ 0 ∷ [] }) ∷ []);
 }
 
-abbrev pub after_resolution : Standing
+abbrev pub after_resolution : FileAndModel
 after_resolution = record {
   file = (calls.resolution pixel unit.Inch (300, 1) (new_file Classic)).next;
-  model = model_after Classic header (header_model Classic) (calls.resolution pixel unit.Inch (300, 1) (new_file Classic)).deeds;
+  model = model_after Classic header (header_model Classic)
+      (calls.resolution pixel unit.Inch (300, 1) (new_file Classic)).ops;
 }
 
 abbrev pub resolved_pixel : OpenImage
-resolved_pixel = record pixel { directory = with_fields (new_directory (Some 4) true) ((283, rational_field 16) ∷ (282, rational_field 8) ∷ (296, short_field 2) ∷ []) }
+resolved_pixel =
+    record pixel {
+      directory = with_fields (new_directory (Some 4) true)
+          ((283, rational_field 16) ∷ (282, rational_field 8) ∷ (296, short_field 2) ∷ []);
+    }
 
 abbrev pub resolved : Type 0
-resolved = jobs.Resolves pixel unit.Inch (300, 1) (Ok reply.Nothing) first after_resolution resolved_pixel
+resolved =
+    jobs.Resolves pixel unit.Inch (300, 1) (Ok reply.Nothing) first after_resolution resolved_pixel
 
--- memory was wanting behind the unit; or the sink failed there, which leaves the unit too
+-- an out-of-memory error after the unit, or a sink that fails there, which keeps the unit too
 abbrev pub resolved_part : Type 0
-resolved_part = jobs.ResolvesInPart pixel (calls.resolution_tags unit.Inch (300, 1)) OutOfMemory first after_unit unit_pixel
+resolved_part =
+    jobs.ResolvesInPart pixel (calls.resolution_tags unit.Inch (300, 1)) OutOfMemory first
+    after_unit unit_pixel
 
-abbrev pub after_unit_failed : Standing
-after_unit_failed = record after_unit { file = record (new_file Classic) { bytes = header ++ (44 ∷ []); failures = 1; fault = Some fault.Device } }
+abbrev pub after_unit_failed : FileAndModel
+after_unit_failed =
+    record after_unit {
+      file = record (new_file Classic) {
+        bytes = header ++ (44 ∷ []);
+        failures = 1;
+        fault = Some fault.Device;
+      };
+    }
 
 abbrev pub resolved_failed : Type 0
-resolved_failed = jobs.Resolves pixel unit.Inch (300, 1) (Err (IoError Device)) first after_unit_failed unit_pixel
+resolved_failed =
+    jobs.Resolves pixel unit.Inch (300, 1) (Err (IoError Device)) first after_unit_failed unit_pixel
 
 abbrev pub resolved_wanting : Type 0
-resolved_wanting = jobs.Resolves pixel unit.Inch (300, 1) (Err OutOfMemory) first after_unit unit_pixel
+resolved_wanting =
+    jobs.Resolves pixel unit.Inch (300, 1) (Err OutOfMemory) first after_unit unit_pixel
 
 abbrev pub resolved_uncaused : Type 0
-resolved_uncaused = (new : Standing) (t : OpenImage) → jobs.Resolves pixel unit.Inch (300, 1) (Err IntSizeError) first new t → ⊥
+resolved_uncaused = (new : FileAndModel) (t : OpenImage)
+    → jobs.Resolves pixel unit.Inch (300, 1) (Err IntSizeError) first new t → ⊥
 
 -- ---- ends
 
--- too few samples: nothing is written, and there is no offset; want of memory is no answer then
+-- too few samples: nothing is written, there is no offset, and the error isn't out of memory
 abbrev pub data_few : Type 0
 data_few = jobs.WritesDataIfFound pixel [] (Err (IoError InvalidData)) first first None
 
 abbrev pub data_few_wanting : Type 0
-data_few_wanting = (new : Standing) (offset : Option Offsets) → jobs.WritesData pixel [] (Err OutOfMemory) first new offset → ⊥
+data_few_wanting = (new : FileAndModel) (offset : Option Offsets)
+    → jobs.WritesData pixel [] (Err OutOfMemory) first new offset → ⊥
 
 abbrev pub data_unfound : Type 0
 data_unfound = jobs.WritesDataIfFound pixel (7 ∷ []) (Err OutOfMemory) first first None
 
--- no strip is written that isn't there, and so no refusal of one is told
+-- a strip that doesn't exist isn't written, and so isn't refused
 abbrev pub data_no_strip : Type 0
-data_no_strip = (new : Standing) (offset : Option Offsets) → jobs.WritesData new_pixel (7 ∷ 8 ∷ []) (Err (IoError InvalidData)) after_begin new offset → ⊥
+data_no_strip = (new : FileAndModel) (offset : Option Offsets)
+    → jobs.WritesData new_pixel (7 ∷ 8 ∷ []) (Err (IoError InvalidData)) after_begin new offset → ⊥
 
--- of two strips the first is written, and there is no memory for the other
+-- the first of two strips is written, and there is no memory for the other
 abbrev pub data_begun : Type 0
-data_begun = jobs.WritesData two_strips (1 ∷ 2 ∷ 3 ∷ []) (Err OutOfMemory) first (record first { file = file_with Classic (header ++ (1 ∷ 2 ∷ [])) }) None
+data_begun =
+    jobs.WritesData two_strips (1 ∷ 2 ∷ 3 ∷ []) (Err OutOfMemory) first
+    (record first { file = file_with Classic (header ++ (1 ∷ 2 ∷ [])) }) None
 
--- the strip that is left of two samples, and the directory behind it
+-- the strip that is left of two samples, and the directory after it
 abbrev pub ended : WriteOutcome Offsets
 ended = calls.finish_image pixel_in_file after_strip.file
 
-abbrev pub after_end : Standing
+abbrev pub after_end : FileAndModel
 after_end = record {
   file = ended.next;
-  model = model_after Classic after_strip.file.bytes after_strip.model ended.deeds;
+  model = model_after Classic after_strip.file.bytes after_strip.model ended.ops;
 }
 
 abbrev pub wrote : WriteOutcome Offsets
 wrote = calls.write_image_data new_pixel (7 ∷ 8 ∷ []) ((7 ∷ []) ∷ []) after_begin.file
 
-abbrev pub after_data : Standing
+abbrev pub after_data : FileAndModel
 after_data = record {
   file = wrote.next;
-  model = model_after Classic after_begin.file.bytes after_begin.model wrote.deeds;
+  model = model_after Classic after_begin.file.bytes after_begin.model wrote.ops;
 }
 
 abbrev pub page_offset : Offsets
 page_offset = record { pointer = 25; link = 195 }
 
 abbrev pub data_done : Type 0
-data_done = jobs.WritesData new_pixel (7 ∷ 8 ∷ []) (Ok last.Nothing) after_begin after_data (Some page_offset)
+data_done =
+    jobs.WritesData new_pixel (7 ∷ 8 ∷ []) (Ok last.Nothing) after_begin after_data
+    (Some page_offset)
 
 abbrev pub data_found : Type 0
-data_found = jobs.WritesDataIfFound new_pixel (7 ∷ 8 ∷ []) (Ok last.Nothing) after_begin after_data (Some page_offset)
+data_found =
+    jobs.WritesDataIfFound new_pixel (7 ∷ 8 ∷ []) (Ok last.Nothing) after_begin after_data
+    (Some page_offset)
 
 abbrev pub image_ended : Type 0
-image_ended = jobs.ImageEnds after_strip pixel_in_file iend.Finish (Ok last.Nothing) after_end (Some page_offset)
+image_ended =
+    jobs.ImageEnds after_strip pixel_in_file iend.Finish (Ok last.Nothing) after_end
+    (Some page_offset)
 
--- an image's end answers no offsets
+-- the end of an image returns no offsets
 abbrev pub data_offsets : Type 0
-data_offsets = (new : Standing) (offset : Option Offsets)
+data_offsets = (new : FileAndModel) (offset : Option Offsets)
     → jobs.WritesData new_pixel (7 ∷ []) (Ok (last.Offsets 25 195)) after_begin new offset → ⊥
 
 -- ---- whole jobs
 
--- sides of 0: the image isn't begun
+-- a dimension of 0: the image doesn't begin
 abbrev pub no_side_job : Type 0
-no_side_job = (j : ImageJob) (r : JobReply) → j.width ≡ 0 → j.height ≡ 5 → r.steps.items ≡ [] → r.last ≡ Err (FormatError (InvalidDimensions 0 5))
-    → jobs.JobRan run_begun (job.Image j) r (jobs.run_after_job run_begun first (Err (FormatError (InvalidDimensions 0 5))) [])
+no_side_job = (j : ImageJob) (r : JobReply) → j.width ≡ 0 → j.height ≡ 5 → r.steps.items ≡ []
+    → r.last ≡ Err (FormatError (InvalidDimensions 0 5))
+    → jobs.JobRan run_begun (job.Image j) r
+    (jobs.run_after_job run_begun first (Err (FormatError (InvalidDimensions 0 5))) [])
 
 abbrev pub not_begun : Type 0
 not_begun = (r : JobReply) (new : Run) → r.last ≡ Ok last.Nothing
     → jobs.JobIsNotBegun (calls.new_image gray 1 0 5 (new_file Classic)) run_begun r new → ⊥
 
--- one gray pixel: a strip, and the end
+-- one gray pixel: a strip and the end
 abbrev pub page_run : Run
-page_run = jobs.run_after_job run_begun after_end (Ok last.Nothing) (record { offset = 25; image = jobs.image_with pixel_in_file ((7 ∷ []) ∷ []) } ∷ [])
+page_run =
+    jobs.run_after_job run_begun after_end (Ok last.Nothing)
+    (record { offset = 25; image = jobs.image_with pixel_in_file ((7 ∷ []) ∷ []) } ∷ [])
 
 abbrev pub strip_job : Type 0
-strip_job = (j : ImageJob) (r : JobReply) (samples : Vec ℕ) → j.color ≡ name.Gray8 → j.width ≡ 1 → j.height ≡ 1
+strip_job = (j : ImageJob) (r : JobReply) (samples : Vec ℕ) → j.color ≡ name.Gray8 → j.width ≡ 1
+    → j.height ≡ 1
     → j.steps.items ≡ istep.WriteStrip samples ∷ [] → samples.items ≡ 7 ∷ [] → j.end ≡ iend.Finish
     → r.steps.items ≡ Ok reply.Nothing ∷ [] → r.last ≡ Ok last.Nothing
     → jobs.JobRan run_begun (job.Image j) r page_run
 
--- the image of the run is shown
+-- the file shows the image of the run
 abbrev pub page_shown : Type 0
 page_shown = jobs.RunShows page_run
 
--- the same of two samples, by the end alone
+-- one gray pixel out of two samples, by the end alone
 abbrev pub data_images : List FinishedImage
 data_images = record { offset = 25; image = jobs.image_with new_pixel ((7 ∷ []) ∷ []) } ∷ []
 
@@ -213,7 +258,8 @@ abbrev pub data_run : Run
 data_run = jobs.run_after_job run_begun after_data (Ok last.Nothing) data_images
 
 abbrev pub data_job : Type 0
-data_job = (j : ImageJob) (r : JobReply) (samples : Vec ℕ) → j.color ≡ name.Gray8 → j.width ≡ 1 → j.height ≡ 1
+data_job = (j : ImageJob) (r : JobReply) (samples : Vec ℕ) → j.color ≡ name.Gray8 → j.width ≡ 1
+    → j.height ≡ 1
     → j.steps.items ≡ [] → samples.items ≡ 7 ∷ 8 ∷ [] → j.end ≡ iend.WriteData samples
     → r.steps.items ≡ [] → r.last ≡ Ok last.Nothing
     → jobs.JobRan run_begun (job.Image j) r data_run

@@ -1,4 +1,4 @@
--- Worked lists of jobs, and of what is handed over behind them.
+-- Worked examples of lists of jobs, and of what is handed back after them.
 use Rattle.std.specs.Prelude.{◌≡◌, ℕ, false, List, [], ◌∷◌, ◌++◌, take, Option, Some, None, Ok, Err}
 use Rattle.std.specs.Global.{Vec}
 use Rattle.tiff_base.specs.declared.error.TiffError.{TiffError}
@@ -24,7 +24,8 @@ use Rattle.tiff_examples.specs.Encode.Calls.{header}
 
 -- ---- three jobs
 
--- a setting; an image of one gray pixel, which is given one sample too many; a directory that no chain has, of no entry
+-- a setting; an image of one gray pixel with one sample too many; a directory without entries
+-- outside the chain
 pub record AreThree (jobs : List Job) : Type 0 where
   pub image : ImageJob
   pub samples : Vec ℕ
@@ -41,7 +42,7 @@ pub record AreThree (jobs : List Job) : Type 0 where
   pub no_steps : directory.steps.items ≡ []
   pub finish : directory.end ≡ end.Finish
 
--- their replies, of which the last is these offsets
+-- the replies to the three jobs, the last of which has these offsets
 pub record AreReplies (replies : List JobReply) (pointer link : ℕ) : Type 0 where
   pub first : JobReply
   pub second : JobReply
@@ -54,23 +55,25 @@ pub record AreReplies (replies : List JobReply) (pointer link : ℕ) : Type 0 wh
   pub third_steps : third.steps.items ≡ []
   pub third_last : third.last ≡ Ok (last.Offsets pointer link)
 
--- the page at 25, a zero, and the directory at 200: no entries, and its link 0
+-- the page at 25, a zero, and the directory at 200 without entries and with link 0
 abbrev pub three_file : List ℕ
 three_file = gray_file ++ (0 ∷ []) ++ (0 ∷ 0 ∷ []) ++ (0 ∷ 0 ∷ 0 ∷ 0 ∷ [])
 
--- the jobs leave this file, with all that stands in it, and the image at 25
+-- the three jobs leave `three_file` with its contents and the image at 25
 abbrev pub three_jobs : Type 0
-three_jobs = (jobs : List Job) (replies : List JobReply) → AreThree jobs → AreReplies replies 200 202
+three_jobs = (jobs : List Job) (replies : List JobReply) → AreThree jobs
+    → AreReplies replies 200 202
     → LeavesJobs Classic jobs replies [] 0 three_file 0
 
--- with another link in the last reply they leave no file
+-- the three jobs leave no file if the last reply has another link
 abbrev pub three_wrong : Type 0
-three_wrong = (jobs : List Job) (replies : List JobReply) → AreThree jobs → AreReplies replies 200 206
+three_wrong = (jobs : List Job) (replies : List JobReply) → AreThree jobs
+    → AreReplies replies 200 206
     → (bytes : List ℕ) (after : ℕ) → LeavesJobs Classic jobs replies [] 0 bytes after → ⊥
 
--- ---- jobs that are not called
+-- ---- jobs that aren't called
 
--- a sink, by its bytes, how many of its writes failed, and the fault of the last one
+-- a sink: its bytes, the number of its failed writes, and the error of the last one
 abbrev pub SinkRecord : Type 0
 SinkRecord = List ℕ × (ℕ × Option SinkFault)
 
@@ -83,11 +86,11 @@ failures s = s.1.0
 abbrev pub last_fault : SinkRecord → Option SinkFault
 last_fault s = s.1.1
 
--- one that holds nothing
+-- an empty sink
 abbrev pub fresh : SinkRecord
 fresh = ([], (0, None))
 
--- no room for the replies, and no reply is added
+-- no memory for the replies, and no reply is added
 abbrev pub no_room : Type 0
 no_room = RefusesJobs told failures last_fault Classic fresh OutOfMemory
 
@@ -95,27 +98,32 @@ abbrev pub no_room_run : Type 0
 no_room_run = (jobs : List Job) (earlier : List JobReply)
     → RunsJobs told failures last_fault Classic jobs fresh earlier earlier (Err OutOfMemory)
 
--- the device failed behind three bytes of the header
+-- the device fails after three bytes of the header
 abbrev pub cut_sink : SinkRecord
 cut_sink = (take 3 header, (1, Some fault.Device))
 
 abbrev pub header_cut : Type 0
-header_cut = (r : HeaderFails Classic told failures last_fault fresh (IoError Device)) × (r.last ≡ cut_sink)
+header_cut = (r : HeaderFails Classic told failures last_fault fresh (IoError Device))
+    × (r.last ≡ cut_sink)
 
 abbrev pub header_cut_run : Type 0
-header_cut_run = (jobs : List Job) → RunsJobs told failures last_fault Classic jobs fresh [] [] (Err (IoError Device))
+header_cut_run = (jobs : List Job)
+    → RunsJobs told failures last_fault Classic jobs fresh [] [] (Err (IoError Device))
 
--- which is not told as want of memory
+-- a device error in the header isn't returned as an out-of-memory error
 abbrev pub header_swapped : Type 0
-header_swapped = (r : HeaderFails Classic told failures last_fault fresh OutOfMemory) → r.last ≡ cut_sink → ⊥
+header_swapped = (r : HeaderFails Classic told failures last_fault fresh OutOfMemory)
+    → r.last ≡ cut_sink → ⊥
 
--- where all of the header was written, it didn't fail
+-- if the whole header is written, it didn't fail
 abbrev pub header_whole : Type 0
-header_whole = (e : TiffError) (r : HeaderFails Classic told failures last_fault fresh e) → told r.last ≡ header → ⊥
+header_whole = (e : TiffError) (r : HeaderFails Classic told failures last_fault fresh e)
+    → told r.last ≡ header → ⊥
 
--- no other cause, and no reply
+-- jobs aren't refused with another error, and there is no reply
 abbrev pub other_cause : Type 0
 other_cause = RefusesJobs told failures last_fault Classic fresh IntSizeError → ⊥
 
 abbrev pub replied : Type 0
-replied = (jobs : List Job) (e : TiffError) (r : JobReply) → RunsJobs told failures last_fault Classic jobs fresh [] (r ∷ []) (Err e) → ⊥
+replied = (jobs : List Job) (e : TiffError) (r : JobReply)
+    → RunsJobs told failures last_fault Classic jobs fresh [] (r ∷ []) (Err e) → ⊥

@@ -1,4 +1,4 @@
--- Worked ends of calls, and worked jobs.
+-- Worked examples of the ends of calls, and of jobs.
 use Rattle.std.specs.Prelude.{◌≡◌, ℕ, true, false, List, [], ◌∷◌, ◌++◌, Option, Some, None, Ok, Err}
 use Rattle.std.specs.FinMap.{FinMap, entries, from_entries}
 use Rattle.std.specs.Ordering.{nat_cmp}
@@ -30,16 +30,16 @@ use Rattle.tiff_base.specs.Field.{DirectoryRecord, Field}
 use Rattle.tiff_base.specs.SourceAndSink.{put}
 use Rattle.tiff_encode.specs.FileBytes.{directory_bytes}
 use Rattle.tiff_encode.specs.Model.{FinishedDirectory, header_model, with_link, with_directory, with_region}
-use Rattle.tiff_encode.specs.Deeds.{Deed, Appended, Listed, Linked, standing_fields}
+use Rattle.tiff_encode.specs.WriteOps.{WriteOp, Appended, Listed, Linked, standing_fields}
 use Rattle.tiff_encode.specs.Machine.{FileState, OpenDirectory, answers, gives, does}
 use Rattle.tiff_encode.specs.Calls as calls
 use Rattle.tiff_encode.specs.Calls.{Offsets, new_directory}
-use Rattle.tiff_encode.specs.Ends.{IsTold, IsCutOff, IsTornOff, IsShortOfMemory, Ends, EndsSilently, EndsRefused}
+use Rattle.tiff_encode.specs.Ends.{EndsAsDefined, IsCutOff, IsTornOff, IsShortOfMemory, Ends, EndsSilently, EndsRefused}
 use Rattle.tiff_encode.specs.Extending.{Extends}
 use Rattle.tiff_value.specs.Data.{u16s, data_of}
 use Rattle.tiff_encode.specs.JobValues.{value_data, buffer_in, cut_to}
 use Rattle.tiff_encode.specs.Jobs as jobs
-use Rattle.tiff_encode.specs.Jobs.{Standing, Drawn, Run}
+use Rattle.tiff_encode.specs.Jobs.{FileAndModel, Drawn, Run}
 use Rattle.tiff_examples.specs.OneValue.{long_field}
 use Rattle.tiff_examples.specs.Encode.Causes.{new_file, failed_file, file_with, gray, pixel, written_pixel}
 use Rattle.tiff_examples.specs.Encode.Calls.{header, with_fields}
@@ -47,40 +47,47 @@ use Rattle.tiff_examples.specs.Encode.Model.{one_region}
 
 -- ---- how calls end
 
--- three bytes that a call appends, and a link that it patches then
-abbrev pub three : List Deed
+-- three bytes that a call appends, and a link that it then patches
+abbrev pub three : List WriteOp
 three = Appended (1 ∷ 2 ∷ 3 ∷ []) ∷ []
 
-abbrev pub linked : List Deed
+abbrev pub linked : List WriteOp
 linked = Appended (1 ∷ []) ∷ Linked 4 8 ∷ []
 
--- a file whose sink has failed once, by this fault, with these bytes
+-- a file with these bytes whose sink failed once with this error
 abbrev pub failed_with : SinkFault → List ℕ → FileState
-failed_with told bytes = record (new_file Classic) { bytes = bytes; failures = 1; fault = Some told }
+failed_with told bytes =
+    record (new_file Classic) { bytes = bytes; failures = 1; fault = Some told }
 
--- the call answers what is told, and nothing else
+-- the call returns the defined result, and nothing else
 abbrev pub told : Type 0
-told = IsTold (gives {A = ℕ} 5 (new_file Classic)) (Ok 5) (new_file Classic)
+told = EndsAsDefined (gives {A = ℕ} 5 (new_file Classic)) (Ok 5) (new_file Classic)
 
 abbrev pub told_other : Type 0
-told_other = IsTold (gives {A = ℕ} 5 (new_file Classic)) (Ok 6) (new_file Classic) → ⊥
+told_other = EndsAsDefined (gives {A = ℕ} 5 (new_file Classic)) (Ok 6) (new_file Classic) → ⊥
 
--- the sink failed behind the first byte
+-- the sink fails after the first byte
 abbrev pub cut_off : Type 0
-cut_off = IsCutOff three (IoError Device) (new_file Classic) (failed_with fault.Device (header ++ (1 ∷ [])))
+cut_off =
+    IsCutOff three (IoError Device) (new_file Classic)
+    (failed_with fault.Device (header ++ (1 ∷ [])))
 
--- a device's fault is no answer where the sink didn't fail
+-- a device error isn't returned if the sink didn't fail
 abbrev pub not_cut_off : Type 0
-not_cut_off = (e : TiffError) (new : FileState) → new.failures ≡ 0 → IsCutOff three e (new_file Classic) new → ⊥
+not_cut_off = (e : TiffError) (new : FileState) → new.failures ≡ 0
+    → IsCutOff three e (new_file Classic) new → ⊥
 
--- another fault than the sink told is no answer; nor is any where all was written
+-- only the sink's error is returned, and none if everything is written
 abbrev pub swapped : Type 0
-swapped = IsCutOff three OutOfMemory (new_file Classic) (failed_with fault.Device (header ++ (1 ∷ []))) → ⊥
+swapped =
+    IsCutOff three OutOfMemory (new_file Classic) (failed_with fault.Device (header ++ (1 ∷ [])))
+    → ⊥
 
 abbrev pub cut_whole : Type 0
-cut_whole = (e : TiffError) (told : SinkFault) → IsCutOff three e (new_file Classic) (failed_with told (header ++ (1 ∷ 2 ∷ 3 ∷ []))) → ⊥
+cut_whole = (e : TiffError) (told : SinkFault)
+    → IsCutOff three e (new_file Classic) (failed_with told (header ++ (1 ∷ 2 ∷ 3 ∷ []))) → ⊥
 
--- the sink failed behind the first byte of the link
+-- the sink fails after the first byte of the link
 abbrev pub torn_off : Type 0
 torn_off = IsTornOff linked OutOfMemory (new_file Classic)
     (failed_with fault.OutOfMemory (0x49 ∷ 0x49 ∷ 0x2a ∷ 0x00 ∷ 0x08 ∷ 0x00 ∷ 0x00 ∷ 0x00 ∷ 1 ∷ []))
@@ -88,68 +95,93 @@ torn_off = IsTornOff linked OutOfMemory (new_file Classic)
 abbrev pub not_torn_off : Type 0
 not_torn_off = (e : TiffError) (new : FileState) → IsTornOff linked e failed_file new → ⊥
 
--- a directory was appended, and the sink failed behind the first byte of the link to it: the directory stands, with link 0
+-- a directory is appended, and the sink fails after the first byte of the link to it: the file
+-- contains the directory, with link 0
 abbrev pub fields_5 : FinMap nat_cmp Field
 fields_5 = from_entries ((256, long_field 5) ∷ [])
 
-abbrev pub after_torn : Standing
+abbrev pub after_torn : FileAndModel
 after_torn = record {
-  file = failed_with fault.Device (put (header ++ (directory_bytes Classic fields_5 ++ [])) 4 (8 ∷ []));
-  model = with_link Classic (with_directory Classic (header_model Classic) (record { offset = 8; fields = standing_fields Classic fields_5 })) 4 8;
+  file = failed_with fault.Device
+      (put (header ++ (directory_bytes Classic fields_5 ++ [])) 4 (8 ∷ []));
+  model = with_link Classic
+      (with_directory Classic (header_model Classic)
+      (record { offset = 8; fields = standing_fields Classic fields_5 })) 4 8;
 }
 
 abbrev pub torn_directory : Type 0
-torn_directory = jobs.IsTornAway (does (Listed fields_5 ∷ Linked 4 8 ∷ []) (new_file Classic)) (IoError Device) (jobs.new_run Classic [] 0).standing after_torn
+torn_directory =
+    jobs.IsTornAway (does (Listed fields_5 ∷ Linked 4 8 ∷ []) (new_file Classic)) (IoError Device)
+    (jobs.new_run Classic [] 0).standing after_torn
 
--- the encoder found no memory, before a byte went out
+-- the encoder is out of memory before a byte is written
 abbrev pub wanting : Type 0
-wanting = IsShortOfMemory (does three (new_file Classic)) OutOfMemory (new_file Classic) (new_file Classic)
+wanting =
+    IsShortOfMemory (does three (new_file Classic)) OutOfMemory (new_file Classic)
+    (new_file Classic)
 
 abbrev pub not_wanting : Type 0
-not_wanting = IsShortOfMemory (does three (new_file Classic)) (IoError Device) (new_file Classic) (new_file Classic) → ⊥
+not_wanting =
+    IsShortOfMemory (does three (new_file Classic)) (IoError Device) (new_file Classic)
+    (new_file Classic) → ⊥
 
--- sides of 0 are told before memory is taken
+-- a dimension of 0 is refused before memory is allocated
 abbrev pub wanting_caused : Type 0
-wanting_caused = (e : TiffError) (new : FileState) → IsShortOfMemory (calls.new_image gray 1 0 5 (new_file Classic)) e (new_file Classic) new → ⊥
+wanting_caused = (e : TiffError) (new : FileState)
+    → IsShortOfMemory (calls.new_image gray 1 0 5 (new_file Classic)) e (new_file Classic) new → ⊥
 
--- the first of its causes is an answer; a call that has none may not answer one
+-- the first cause is returned; a call without a cause returns no such error
 abbrev pub ends_caused : Type 0
 ends_caused =
-    Ends (λ d. d) (calls.image_directory failed_file) (Err (UsageError WriterFailed)) failed_file failed_file
+    Ends (λ d. d) (calls.image_directory failed_file) (Err (UsageError WriterFailed)) failed_file
+    failed_file
 
 abbrev pub ends_done : Type 0
-ends_done = Ends (λ d. d) (calls.image_directory (new_file Classic)) (Ok (new_directory (Some 4) true)) (new_file Classic) (new_file Classic)
+ends_done =
+    Ends (λ d. d) (calls.image_directory (new_file Classic)) (Ok (new_directory (Some 4) true))
+    (new_file Classic) (new_file Classic)
 
 abbrev pub ends_uncaused : Type 0
-ends_uncaused = (new : FileState) → Ends (λ d. d) (calls.image_directory (new_file Classic)) (Err IntSizeError) (new_file Classic) new → ⊥
+ends_uncaused = (new : FileState)
+    → Ends (λ d. d) (calls.image_directory (new_file Classic)) (Err IntSizeError) (new_file Classic)
+    new → ⊥
 
--- a call of which the answer is not told on: its three bytes stand, and not two of them
+-- a call whose result isn't passed on: its three bytes are in the file, and not only two
 abbrev pub silent_done : Type 0
-silent_done = EndsSilently {X = ℕ} (does three (new_file Classic)) (Ok 9) (new_file Classic) (file_with Classic (header ++ (1 ∷ 2 ∷ 3 ∷ [])))
+silent_done =
+    EndsSilently {X = ℕ} (does three (new_file Classic)) (Ok 9) (new_file Classic)
+    (file_with Classic (header ++ (1 ∷ 2 ∷ 3 ∷ [])))
 
 abbrev pub silent_short : Type 0
-silent_short = EndsSilently {X = ℕ} (does three (new_file Classic)) (Ok 9) (new_file Classic) (file_with Classic (header ++ (1 ∷ 2 ∷ []))) → ⊥
+silent_short =
+    EndsSilently {X = ℕ} (does three (new_file Classic)) (Ok 9) (new_file Classic)
+    (file_with Classic (header ++ (1 ∷ 2 ∷ []))) → ⊥
 
--- a call that is refused tells its cause, and no other fault
+-- a refused call returns its cause, and no other error
 abbrev pub refused_caused : Type 0
-refused_caused = EndsRefused {X = ℕ} (answers {A = ℕ} (Err IntSizeError) (new_file Classic)) (Err IntSizeError) (new_file Classic) (new_file Classic)
+refused_caused =
+    EndsRefused {X = ℕ} (answers {A = ℕ} (Err IntSizeError) (new_file Classic)) (Err IntSizeError)
+    (new_file Classic) (new_file Classic)
 
 abbrev pub refused_other : Type 0
 refused_other = (new : FileState)
-    → EndsRefused {X = ℕ} (answers {A = ℕ} (Err IntSizeError) (new_file Classic)) (Err (UsageError WriterFailed)) (new_file Classic) new → ⊥
+    → EndsRefused {X = ℕ} (answers {A = ℕ} (Err IntSizeError) (new_file Classic))
+    (Err (UsageError WriterFailed)) (new_file Classic) new → ⊥
 
 -- ---- fields that are taken over
 
--- a given field stands in place of the directory's own for its tag
+-- a given field replaces the directory's own field for the same tag
 abbrev pub taken_over : Type 0
 taken_over = (new : OpenDirectory)
-    → Extends {A = ℕ} ((256, long_field 6) ∷ []) (with_fields (new_directory None false) ((256, long_field 5) ∷ [])) new (Ok 0)
+    → Extends {A = ℕ} ((256, long_field 6) ∷ [])
+    (with_fields (new_directory None false) ((256, long_field 5) ∷ [])) new (Ok 0)
     → entries new.fields ≡ (256, long_field 6) ∷ []
 
--- where memory was wanting, no field stands without those before it
+-- with an out-of-memory error, no field is taken over without the fields before it
 abbrev pub taken_later : Type 0
 taken_later = (new : OpenDirectory)
-    → Extends {A = ℕ} ((256, long_field 6) ∷ (257, long_field 7) ∷ []) (new_directory None false) new (Err OutOfMemory)
+    → Extends {A = ℕ} ((256, long_field 6) ∷ (257, long_field 7) ∷ []) (new_directory None false)
+    new (Err OutOfMemory)
     → entries new.fields ≡ (257, long_field 7) ∷ [] → ⊥
 
 -- ---- values of jobs
@@ -161,7 +193,7 @@ cut_byte = cut_to 1 (257 ∷ 255 ∷ []) ≡ (1 ∷ 255 ∷ [])
 abbrev pub cut_short : Type 0
 cut_short = cut_to 2 (257 ∷ 65536 ∷ []) ≡ (257 ∷ 0 ∷ [])
 
--- a list of scalars, whatever memory it stands in; and bytes
+-- a list of scalars, wherever it is allocated; and a list of bytes
 abbrev pub shorts_given : Type 0
 shorts_given = (l : Vec ℕ) → value_data (value.U16 l) ≡ Ok (data_of (u16s l.items))
 
@@ -170,92 +202,116 @@ buffer_given = (b : JobBuffer) → (buffer_in b).bytes ≡ b.bytes.items
 
 -- ---- steps
 
--- a run that begins on an empty sink, and where it does
+-- a run that begins on an empty sink, and its first state
 abbrev pub run_begun : Run
 run_begun = jobs.new_run Classic [] 0
 
-abbrev pub first : Standing
+abbrev pub first : FileAndModel
 first = run_begun.standing
 
 abbrev pub starts : Type 0
 starts = (jobs.new_run Big [] 0).standing.file ≡ new_file Big
 
--- on a sink that failed before, and held a byte: its failures are counted on
+-- a run on a sink that contains a byte and failed before: the failures are added up
 abbrev pub starts_failed : Type 0
-starts_failed = (jobs.new_run Classic (1 ∷ []) 3).standing.file ≡ record (new_file Classic) { bytes = 1 ∷ header; failures = 3; chain = 5 }
+starts_failed =
+    (jobs.new_run Classic (1 ∷ []) 3).standing.file ≡ record (new_file Classic)
+    { bytes = 1 ∷ header; failures = 3; chain = 5 }
 
 abbrev pub starts_empty : Type 0
 starts_empty = run_begun.images ≡ []
 
--- a step that changes nothing: data of no values is written at 8
+-- a step that doesn't change the directory: data is written at 8
 abbrev pub data_stepped : Type 0
 data_stepped =
-    jobs.Replies {S = OpenDirectory} reply.Number (calls.appends (7 ∷ [])) (new_directory None false) (Ok (reply.Number 8)) first
-    (record { file = file_with Classic (header ++ (7 ∷ [])); model = with_region (header_model Classic) one_region }) (new_directory None false)
+    jobs.Replies {S = OpenDirectory} reply.Number (calls.appends (7 ∷ []))
+    (new_directory None false) (Ok (reply.Number 8)) first
+    (record {
+      file = file_with Classic (header ++ (7 ∷ []));
+      model = with_region (header_model Classic) one_region;
+    }) (new_directory None false)
 
--- it doesn't answer another offset
+-- a step that appends data doesn't return another offset
 abbrev pub data_other : Type 0
-data_other = (new : Standing)
-    → jobs.Replies {S = OpenDirectory} reply.Number (calls.appends (7 ∷ [])) (new_directory None false) (Ok (reply.Number 9)) first new (new_directory None false) → ⊥
+data_other = (new : FileAndModel)
+    → jobs.Replies {S = OpenDirectory} reply.Number (calls.appends (7 ∷ []))
+    (new_directory None false) (Ok (reply.Number 9)) first new (new_directory None false) → ⊥
 
--- a call that answers nothing may not answer a number
+-- a call that returns nothing doesn't return a number
 abbrev pub changes_nothing : Type 0
-changes_nothing = jobs.Changes (gives (new_directory None true)) (new_directory None false) (Ok reply.Nothing) first first (new_directory None true)
+changes_nothing =
+    jobs.Changes (gives (new_directory None true)) (new_directory None false) (Ok reply.Nothing)
+    first first (new_directory None true)
 
 abbrev pub changes_number : Type 0
-changes_number = jobs.Changes (gives (new_directory None true)) (new_directory None false) (Ok (reply.Number 8)) first first (new_directory None true) → ⊥
+changes_number =
+    jobs.Changes (gives (new_directory None true)) (new_directory None false) (Ok (reply.Number 8))
+    first first (new_directory None true) → ⊥
 
--- and may not be refused without a cause
+-- a call isn't refused without a cause
 abbrev pub changes_uncaused : Type 0
-changes_uncaused = (new : Standing) (t : OpenDirectory)
-    → jobs.Changes (gives (new_directory None true)) (new_directory None false) (Err IntSizeError) first new t → ⊥
+changes_uncaused = (new : FileAndModel) (t : OpenDirectory)
+    → jobs.Changes (gives (new_directory None true)) (new_directory None false) (Err IntSizeError)
+    first new t → ⊥
 
--- fields that are given, of which want of memory may leave some out
+-- given fields, of which an out-of-memory error may leave some out
 abbrev pub extends_all : Type 0
-extends_all = jobs.ExtendStep ((256, long_field 5) ∷ []) (new_directory None false) (Ok reply.Nothing) first first (with_fields (new_directory None false) ((256, long_field 5) ∷ []))
+extends_all =
+    jobs.ExtendStep ((256, long_field 5) ∷ []) (new_directory None false) (Ok reply.Nothing) first
+    first (with_fields (new_directory None false) ((256, long_field 5) ∷ []))
 
 abbrev pub extends_none : Type 0
-extends_none = jobs.ExtendStep ((256, long_field 5) ∷ []) (new_directory None false) (Err OutOfMemory) first first (new_directory None false)
+extends_none =
+    jobs.ExtendStep ((256, long_field 5) ∷ []) (new_directory None false) (Err OutOfMemory) first
+    first (new_directory None false)
 
 abbrev pub extends_fault : Type 0
-extends_fault = (d : OpenDirectory) → jobs.ExtendStep [] (new_directory None false) (Err IntSizeError) first first d → ⊥
+extends_fault = (d : OpenDirectory)
+    → jobs.ExtendStep [] (new_directory None false) (Err IntSizeError) first first d → ⊥
 
--- one pixel, with no chunk yet, and with its strip
+-- an image of one pixel, without a chunk and with its strip
 abbrev pub drawn : Drawn
 drawn = record { image = pixel; samples = [] }
 
 abbrev pub drawn_seven : Drawn
 drawn_seven = record { image = written_pixel; samples = (7 ∷ []) ∷ [] }
 
--- the samples of the next strip
+-- the number of samples of the next strip
 abbrev pub counted : Type 0
 counted = jobs.ImageStepped first drawn istep.NextStripSampleCount (Ok (reply.Number 1)) first drawn
 
 abbrev pub counted_other : Type 0
-counted_other = jobs.ImageStepped first drawn istep.NextStripSampleCount (Err OutOfMemory) first drawn → ⊥
+counted_other =
+    jobs.ImageStepped first drawn istep.NextStripSampleCount (Err OutOfMemory) first drawn → ⊥
 
--- rows of a strip: none, which is refused and changes nothing
+-- 0 rows per strip are refused and change nothing
 abbrev pub rows_refused : Type 0
-rows_refused = jobs.ImageStepped first drawn (istep.RowsPerStrip 0) (Err (IoError InvalidInput)) first drawn
+rows_refused =
+    jobs.ImageStepped first drawn (istep.RowsPerStrip 0) (Err (IoError InvalidInput)) first drawn
 
--- no steps, and one of which the reply is missing
+-- no steps, and a step without a reply
 abbrev pub no_steps : Type 0
 no_steps = jobs.AllStepped jobs.ImageStepped first drawn [] [] first drawn
 
 abbrev pub one_step : Type 0
-one_step = jobs.AllStepped jobs.ImageStepped first drawn (istep.NextStripSampleCount ∷ []) (Ok (reply.Number 1) ∷ []) first drawn
+one_step =
+    jobs.AllStepped jobs.ImageStepped first drawn (istep.NextStripSampleCount ∷ [])
+    (Ok (reply.Number 1) ∷ []) first drawn
 
 abbrev pub missing_reply : Type 0
-missing_reply = jobs.AllStepped jobs.ImageStepped first drawn (istep.NextStripSampleCount ∷ []) [] first drawn → ⊥
+missing_reply =
+    jobs.AllStepped jobs.ImageStepped first drawn (istep.NextStripSampleCount ∷ []) [] first drawn
+    → ⊥
 
 -- ---- jobs
 
--- the offsets of earlier jobs: a page's, that of a directory, that of a refused one
+-- the offsets of earlier jobs: of a page, of a directory, and of a refused job
 abbrev pub two_offsets : List (Option Offsets)
 two_offsets = Some (record { pointer = 8; link = 22 }) ∷ None ∷ []
 
 abbrev pub parent_named : Type 0
-parent_named = jobs.named_parent two_offsets (Some 0) ≡ Ok (Some (record { pointer = 8; link = 22 }))
+parent_named =
+    jobs.named_parent two_offsets (Some 0) ≡ Ok (Some (record { pointer = 8; link = 22 }))
 
 abbrev pub parent_refused : Type 0
 parent_refused = jobs.named_parent two_offsets (Some 1) ≡ Err (UsageError ParentNotWritten)
@@ -266,60 +322,76 @@ parent_later = jobs.named_parent two_offsets (Some 2) ≡ Err (UsageError Parent
 abbrev pub parent_none : Type 0
 parent_none = jobs.named_parent [] None ≡ Ok None
 
--- an end that answers offsets can be linked from; one that answers nothing can't
+-- a later job can link to an end with offsets, and not to an end without offsets
 abbrev pub ran_offsets : Type 0
 ran_offsets =
-    (jobs.run_after_job (record run_begun { offsets = two_offsets }) first (Ok (last.Offsets 28 30)) []).offsets
+    (jobs.run_after_job (record run_begun { offsets = two_offsets }) first (Ok (last.Offsets 28 30))
+    []).offsets
     ≡ two_offsets ++ Some (record { pointer = 28; link = 30 }) ∷ []
 
 abbrev pub ran_nothing : Type 0
 ran_nothing = (jobs.run_after_job run_begun first (Ok last.Nothing) []).offsets ≡ None ∷ []
 
 abbrev pub parented_22 : Type 0
-parented_22 = (jobs.with_parent (Some (record { pointer = 8; link = 22 })) (new_directory (Some 4) true)).parent ≡ Some 22
+parented_22 =
+    (jobs.with_parent (Some (record { pointer = 8; link = 22 }))
+    (new_directory (Some 4) true)).parent ≡ Some 22
 
 abbrev pub parented_none : Type 0
 parented_none = jobs.with_parent None (new_directory (Some 4) true) ≡ new_directory (Some 4) true
 
--- such a job makes no call
+-- a run with the offsets `two_offsets`; a job whose parent has no offsets makes no call
 abbrev pub later_run : Run
 later_run = record run_begun { offsets = two_offsets }
 
 abbrev pub parent_job : Type 0
-parent_job = (j : DirectoryJob) (r : JobReply) → j.parent ≡ Some 1 → r.steps.items ≡ [] → r.last ≡ Err (UsageError ParentNotWritten)
-    → jobs.JobRan later_run (job.Directory j) r (jobs.run_after_job later_run first (Err (UsageError ParentNotWritten)) [])
+parent_job = (j : DirectoryJob) (r : JobReply) → j.parent ≡ Some 1 → r.steps.items ≡ []
+    → r.last ≡ Err (UsageError ParentNotWritten)
+    → jobs.JobRan later_run (job.Directory j) r
+    (jobs.run_after_job later_run first (Err (UsageError ParentNotWritten)) [])
 
 -- a setting
 abbrev pub packed_job : Type 0
 packed_job = (r : JobReply) → r.steps.items ≡ [] → r.last ≡ Ok last.Nothing
     → jobs.JobRan run_begun (job.Compression Packbits) r
-    (jobs.run_after_job run_begun (record first { file = calls.with_compression Packbits first.file }) (Ok last.Nothing) [])
+    (jobs.run_after_job run_begun
+    (record first { file = calls.with_compression Packbits first.file }) (Ok last.Nothing)
+    [])
 
--- a directory that is begun, has no steps and is finished: at 8, its link at 10, and the header links to it
+-- a directory that is begun and finished without steps: at 8, with its link at 10, and the header
+-- links to it
 abbrev pub empty_directory : FinishedDirectory
 empty_directory = record { offset = 8; fields = (new_directory None true).fields }
 
-abbrev pub after_empty : Standing
+abbrev pub after_empty : FileAndModel
 after_empty = record {
   file = (calls.finish (new_directory (Some 4) true) (new_file Classic)).next;
-  model = with_link Classic (with_directory Classic (with_region (header_model Classic) (record { offset = 8; bytes = [] })) empty_directory) 4 8;
+  model = with_link Classic
+      (with_directory Classic
+      (with_region (header_model Classic) (record { offset = 8; bytes = [] })) empty_directory)
+      4 8;
 }
 
 abbrev pub directory_job : Type 0
-directory_job = (j : DirectoryJob) (r : JobReply) → j.chained ≡ true → j.parent ≡ None → j.steps.items ≡ [] → j.end ≡ end.Finish
+directory_job = (j : DirectoryJob) (r : JobReply) → j.chained ≡ true → j.parent ≡ None
+    → j.steps.items ≡ [] → j.end ≡ end.Finish
     → r.steps.items ≡ [] → r.last ≡ Ok (last.Offsets 8 10)
-    → jobs.JobRan run_begun (job.Directory j) r (jobs.run_after_job run_begun after_empty (Ok (last.Offsets 8 10)) [])
+    → jobs.JobRan run_begun (job.Directory j) r
+    (jobs.run_after_job run_begun after_empty (Ok (last.Offsets 8 10)) [])
 
--- its end may not answer nothing
+-- the end `Finish` of a directory doesn't return `Nothing`
 abbrev pub extra_end : Type 0
-extra_end = (new : Standing) (offset : Option Offsets)
-    → jobs.DirectoryEnds first (new_directory (Some 1000) true) end.Finish (Ok last.Nothing) new offset → ⊥
+extra_end = (new : FileAndModel) (offset : Option Offsets)
+    → jobs.DirectoryEnds first (new_directory (Some 1000) true) end.Finish (Ok last.Nothing) new
+    offset → ⊥
 
--- no parent there: the end is refused, and has no offset
+-- the end of a directory whose parent isn't in the file is refused, and has no offset
 abbrev pub lost_end : Type 0
-lost_end = jobs.DirectoryEnds first (new_directory (Some 1000) true) end.Discard (Err (UsageError ParentNotWritten)) first None
+lost_end =
+    jobs.DirectoryEnds first (new_directory (Some 1000) true) end.Discard
+    (Err (UsageError ParentNotWritten)) first None
 
--- an image with each of its chunks, and one without; and what its end writes
+-- an image with each of its chunks, an image without one, and the chunks that its end writes
 abbrev pub samples_all : Type 0
 samples_all = jobs.ended_samples drawn_seven iend.Finish ≡ Some ((7 ∷ []) ∷ [])
 
@@ -327,7 +399,8 @@ abbrev pub samples_missing : Type 0
 samples_missing = jobs.ended_samples drawn iend.Discard ≡ None
 
 abbrev pub samples_given : Type 0
-samples_given = (samples : Vec ℕ) → samples.items ≡ 263 ∷ 8 ∷ [] → jobs.ended_samples drawn (iend.WriteData samples) ≡ Some ((7 ∷ []) ∷ [])
+samples_given = (samples : Vec ℕ) → samples.items ≡ 263 ∷ 8 ∷ []
+    → jobs.ended_samples drawn (iend.WriteData samples) ≡ Some ((7 ∷ []) ∷ [])
 
 abbrev pub image_seven : Type 0
 image_seven = (jobs.image_with written_pixel ((7 ∷ []) ∷ [])).sample_at 0 0 0 ≡ 7
@@ -335,7 +408,7 @@ image_seven = (jobs.image_with written_pixel ((7 ∷ []) ∷ [])).sample_at 0 0 
 abbrev pub image_format : Type 0
 image_format = (jobs.image_with written_pixel ((7 ∷ []) ∷ [])).page.format ≡ Uint
 
--- a tag that a page is read by, and one that isn't
+-- a tag that a page is read from, and one that isn't
 abbrev pub width_tag : Type 0
 width_tag = jobs.is_page_tag 256 ≡ true
 
@@ -343,31 +416,36 @@ abbrev pub artist_tag : Type 0
 artist_tag = jobs.is_page_tag 315 ≡ false
 
 abbrev pub apart_step : Type 0
-apart_step = (v : JobValue) (r : StepReply) → jobs.is_apart (istep.Directory (step.WriteTag tag.Artist v)) (Ok r) ≡ true
+apart_step = (v : JobValue) (r : StepReply)
+    → jobs.is_apart (istep.Directory (step.WriteTag tag.Artist v)) (Ok r) ≡ true
 
 abbrev pub page_step : Type 0
-page_step = (v : JobValue) (r : StepReply) → jobs.is_apart (istep.Directory (step.WriteTag tag.SampleFormat v)) (Ok r) ≡ false
+page_step = (v : JobValue) (r : StepReply)
+    → jobs.is_apart (istep.Directory (step.WriteTag tag.SampleFormat v)) (Ok r) ≡ false
 
--- a tag that was refused isn't there
+-- a refused tag isn't in the directory
 abbrev pub refused_step : Type 0
-refused_step = (v : JobValue) (e : TiffError) → jobs.is_apart (istep.Directory (step.WriteTag tag.SampleFormat v)) (Err e) ≡ true
+refused_step = (v : JobValue) (e : TiffError)
+    → jobs.is_apart (istep.Directory (step.WriteTag tag.SampleFormat v)) (Err e) ≡ true
 
--- fields that a directory was to have, of which some may be in
+-- fields that are partly taken over may be in the directory
 abbrev pub extended_step : Type 0
 extended_step = (d : DirectoryRecord) (e : TiffError) → entries d.entries ≡ (256, long_field 5) ∷ []
     → jobs.is_apart (istep.Directory (step.ExtendFrom d)) (Err e) ≡ false
 
--- so the image of such a step isn't shown
+-- an image with a step that writes a page tag isn't shown, and an image without such a step is
 abbrev pub page_offset : Option Offsets
 page_offset = Some (record { pointer = 25; link = 195 })
 
 abbrev pub shown_images : Type 0
 shown_images = (v : JobValue)
-    → jobs.job_images (istep.Directory (step.WriteTag tag.SampleFormat v) ∷ []) (Ok reply.Nothing ∷ []) iend.Finish drawn_seven page_offset ≡ []
+    → jobs.job_images (istep.Directory (step.WriteTag tag.SampleFormat v) ∷ [])
+    (Ok reply.Nothing ∷ []) iend.Finish drawn_seven page_offset ≡ []
 
 abbrev pub shown_image : Type 0
 shown_image =
-    jobs.job_images (istep.NextStripSampleCount ∷ []) (Ok (reply.Number 0) ∷ []) iend.Finish drawn_seven page_offset
+    jobs.job_images (istep.NextStripSampleCount ∷ []) (Ok (reply.Number 0) ∷ []) iend.Finish
+    drawn_seven page_offset
     ≡ record { offset = 25; image = jobs.image_with written_pixel ((7 ∷ []) ∷ []) } ∷ []
 
 -- a job without a reply
@@ -377,7 +455,7 @@ no_jobs = jobs.JobsRun run_begun [] [] run_begun
 abbrev pub reply_missing : Type 0
 reply_missing = (new : Run) → jobs.JobsRun run_begun (job.Compression Packbits ∷ []) [] new → ⊥
 
--- what is to stand and to be shown: the header of a run that begins
+-- the model and the images of a run that begins: the header
 abbrev pub run_stands : Type 0
 run_stands = jobs.RunStands run_begun
 

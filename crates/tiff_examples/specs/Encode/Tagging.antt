@@ -1,4 +1,4 @@
--- Worked fields that are written in part: those of both resolutions and their unit.
+-- Worked examples of fields that are written in part: both resolutions and their unit.
 use Rattle.std.specs.Prelude.{◌≡◌, ℕ, true, List, [], ◌∷◌, length, Some}
 use Rattle.tiff_base.specs.declared.error.TiffError.{TiffError}
 use Rattle.tiff_base.specs.declared.error.TiffError.TheVariants.{UsageError, OutOfMemory}
@@ -16,11 +16,11 @@ use Rattle.tiff_examples.specs.Encode.Calls.{with_fields}
 use Rattle.tiff_examples.specs.Encode.Causes.{new_file, failed_file, file_with, pixel}
 use Rattle.tiff_examples.specs.Encode.ImageJobs.{unit_pixel, resolved_pixel}
 
--- the unit, and both resolutions
+-- the fields of the resolution unit and both resolutions
 abbrev pub three_fields : List (Tag × FieldData)
 three_fields = fields_of (calls.resolution_tags unit.Inch (300, 1))
 
--- a directory with none of them, with the unit, with the first resolution alone, and with all
+-- a directory with none of the fields, with the unit, with only the first resolution, and with all
 abbrev pub none_set : OpenDirectory
 none_set = new_directory (Some 4) true
 
@@ -31,46 +31,58 @@ abbrev pub x_set : OpenDirectory
 x_set = with_fields none_set ((282, rational_field 8) ∷ [])
 
 abbrev pub all_set : OpenDirectory
-all_set = with_fields none_set ((283, rational_field 16) ∷ (282, rational_field 8) ∷ (296, short_field 2) ∷ [])
+all_set =
+    with_fields none_set
+    ((283, rational_field 16) ∷ (282, rational_field 8) ∷ (296, short_field 2) ∷ [])
 
 -- ---- some of several fields
 
--- the unit was written, and there was no memory for the next
+-- the unit is written, and there is no memory for the next field
 abbrev pub unit_alone : Type 0
-unit_alone = StopsInPart none_set three_fields OutOfMemory (new_file Classic) (new_file Classic) unit_set
+unit_alone =
+    StopsInPart none_set three_fields OutOfMemory (new_file Classic) (new_file Classic) unit_set
 
--- where all were written there is no fault; and none is left out before one that was
+-- there is no error if all fields are written, and none is left out before a written one
 abbrev pub all_stopped : Type 0
-all_stopped = (e : TiffError) (new : FileState) → StopsInPart none_set three_fields e (new_file Classic) new all_set → ⊥
+all_stopped = (e : TiffError) (new : FileState)
+    → StopsInPart none_set three_fields e (new_file Classic) new all_set → ⊥
 
 abbrev pub left_out : Type 0
-left_out = (e : TiffError) (new : FileState) → StopsInPart none_set three_fields e (new_file Classic) new x_set → ⊥
+left_out = (e : TiffError) (new : FileState)
+    → StopsInPart none_set three_fields e (new_file Classic) new x_set → ⊥
 
--- of no fields none is missing
+-- an empty list of fields has no missing one
 abbrev pub none_stopped : Type 0
-none_stopped = (e : TiffError) (new : FileState) (next : OpenDirectory) → StopsInPart none_set [] e (new_file Classic) new next → ⊥
+none_stopped = (e : TiffError) (new : FileState) (next : OpenDirectory)
+    → StopsInPart none_set [] e (new_file Classic) new next → ⊥
 
--- ---- an image's
+-- ---- the resolution of an image
 
--- the unit is set; or nothing is, where the sink failed before
+-- the unit is set; or nothing is set, if the sink failed before
 abbrev pub resolving_unit : Type 0
-resolving_unit = StopsResolving pixel unit.Inch (300, 1) OutOfMemory (new_file Classic) (new_file Classic) unit_pixel
+resolving_unit =
+    StopsResolving pixel unit.Inch (300, 1) OutOfMemory (new_file Classic) (new_file Classic)
+    unit_pixel
 
 abbrev pub resolving_failed : Type 0
-resolving_failed = StopsResolving pixel unit.Inch (300, 1) (UsageError WriterFailed) failed_file failed_file pixel
+resolving_failed =
+    StopsResolving pixel unit.Inch (300, 1) (UsageError WriterFailed) failed_file failed_file pixel
 
--- not the unit then, nor where the second resolution has no offset; nor ever all of them
+-- the unit isn't set after a failed sink or without an offset for the second resolution, and never
+-- are all fields set
 abbrev pub resolving_refused : Type 0
-resolving_refused = (e : TiffError) (new : FileState) → StopsResolving pixel unit.Inch (300, 1) e failed_file new unit_pixel → ⊥
+resolving_refused = (e : TiffError) (new : FileState)
+    → StopsResolving pixel unit.Inch (300, 1) e failed_file new unit_pixel → ⊥
 
 abbrev pub resolving_far : Type 0
 resolving_far = (bytes : List ℕ) (e : TiffError) (new : FileState) → length bytes ≡ 4294967288
     → StopsResolving pixel unit.Inch (300, 1) e (file_with Classic bytes) new unit_pixel → ⊥
 
 abbrev pub resolving_all : Type 0
-resolving_all = (e : TiffError) (new : FileState) → StopsResolving pixel unit.Inch (300, 1) e (new_file Classic) new resolved_pixel → ⊥
+resolving_all = (e : TiffError) (new : FileState)
+    → StopsResolving pixel unit.Inch (300, 1) e (new_file Classic) new resolved_pixel → ⊥
 
--- and nothing else of the image is changed
+-- setting the resolution changes nothing else of the image
 abbrev pub resolving_chunk : Type 0
 resolving_chunk = (e : TiffError) (new : FileState) (now : OpenImage) → length now.chunks ≡ 1
     → StopsResolving pixel unit.Inch (300, 1) e (new_file Classic) new now → ⊥

@@ -1,4 +1,4 @@
--- Worked chains of directories, and links that are accepted.
+-- Worked examples of chains of directories, and of links that are accepted.
 use Rattle.std.specs.Prelude.{◌≡◌, ℕ, List, [], ◌∷◌, ◌++◌, true, false, Option, Some, None, Ok, Err}
 use Rattle.std.specs.FinMap.{from_entries}
 use Rattle.std.specs.Ordering.{nat_cmp}
@@ -11,60 +11,68 @@ use Rattle.tiff_ifd.specs.Chain.{link_from, enter_at, AreEntered, IsChain, chain
 use Rattle.tiff_ifd.specs.Links.{Links, Inserts}
 use Rattle.tiff_examples.specs.Files.{gray_file}
 
--- a file of two directories without entries, at 0 and 6, by the bytes of their links
+-- a file of two directories without entries, at 0 and 6, with these bytes as their links
 abbrev pub two_directories : List ℕ → List ℕ → List ℕ
 two_directories first second = 0x00 ∷ 0x00 ∷ (first ++ (0x00 ∷ 0x00 ∷ second))
 
--- the accepted links, by a list of them
+-- the accepted links in a list
 abbrev pub accepted : List (ℕ × Option ℕ) → Links
 accepted links = from_entries {R = nat_cmp} links
 
--- the file of one gray page
+-- the chain of `gray_file`
 abbrev pub one_alone : Type 0
 one_alone =
     chain Classic LittleEndian gray_file 25
     ≡ record { offsets = 25 ∷ []; end = None }
 
--- two directories, the second with no next one
+-- two directories, of which the second has no next one
 abbrev pub two_linked : Type 0
 two_linked =
-    chain Classic LittleEndian (two_directories (0x06 ∷ 0x00 ∷ 0x00 ∷ 0x00 ∷ []) (0x00 ∷ 0x00 ∷ 0x00 ∷ 0x00 ∷ [])) 0
+    chain Classic LittleEndian
+    (two_directories (0x06 ∷ 0x00 ∷ 0x00 ∷ 0x00 ∷ []) (0x00 ∷ 0x00 ∷ 0x00 ∷ 0x00 ∷ [])) 0
     ≡ record { offsets = 0 ∷ 6 ∷ []; end = None }
 
--- the chain from the second
+-- the chain from the second of two directories on
 abbrev pub from_second : Type 0
 from_second =
-    chain Classic LittleEndian (two_directories (0x06 ∷ 0x00 ∷ 0x00 ∷ 0x00 ∷ []) (0x00 ∷ 0x00 ∷ 0x00 ∷ 0x00 ∷ [])) 6
+    chain Classic LittleEndian
+    (two_directories (0x06 ∷ 0x00 ∷ 0x00 ∷ 0x00 ∷ []) (0x00 ∷ 0x00 ∷ 0x00 ∷ 0x00 ∷ [])) 6
     ≡ record { offsets = 6 ∷ []; end = None }
 
 -- a first directory that links to itself isn't entered
 abbrev pub to_itself : Type 0
 to_itself =
-    chain Classic LittleEndian (0x49 ∷ 0x49 ∷ 0x2a ∷ 0x00 ∷ 0x08 ∷ 0x00 ∷ 0x00 ∷ 0x00 ∷ 0x00 ∷ 0x00 ∷ 0x08 ∷ 0x00 ∷ 0x00 ∷ 0x00 ∷ []) 8
+    chain Classic LittleEndian
+    (0x49 ∷ 0x49 ∷ 0x2a ∷ 0x00 ∷ 0x08 ∷ 0x00 ∷ 0x00 ∷ 0x00 ∷ 0x00 ∷ 0x00 ∷ 0x08 ∷ 0x00 ∷ 0x00
+    ∷ 0x00 ∷ []) 8
     ≡ record { offsets = []; end = Some (FormatError CycleInOffsets) }
 
--- nor is a second one
+-- a second directory that links to itself isn't entered
 abbrev pub second_to_itself : Type 0
 second_to_itself =
-    chain Classic LittleEndian (two_directories (0x06 ∷ 0x00 ∷ 0x00 ∷ 0x00 ∷ []) (0x06 ∷ 0x00 ∷ 0x00 ∷ 0x00 ∷ [])) 0
+    chain Classic LittleEndian
+    (two_directories (0x06 ∷ 0x00 ∷ 0x00 ∷ 0x00 ∷ []) (0x06 ∷ 0x00 ∷ 0x00 ∷ 0x00 ∷ [])) 0
     ≡ record { offsets = 0 ∷ []; end = Some (FormatError CycleInOffsets) }
 
--- the second links back to the first, at 1
+-- the second directory links back to the first, at 1
 abbrev pub back : Type 0
 back =
-    chain Classic LittleEndian (0xee ∷ two_directories (0x07 ∷ 0x00 ∷ 0x00 ∷ 0x00 ∷ []) (0x01 ∷ 0x00 ∷ 0x00 ∷ 0x00 ∷ [])) 1
+    chain Classic LittleEndian
+    (0xee ∷ two_directories (0x07 ∷ 0x00 ∷ 0x00 ∷ 0x00 ∷ []) (0x01 ∷ 0x00 ∷ 0x00 ∷ 0x00 ∷ [])) 1
     ≡ record { offsets = 1 ∷ []; end = Some (FormatError CycleInOffsets) }
 
 -- the next offset is past the end
 abbrev pub next_past_end : Type 0
 next_past_end =
-    chain Classic LittleEndian (two_directories (0x0c ∷ 0x00 ∷ 0x00 ∷ 0x00 ∷ []) (0x00 ∷ 0x00 ∷ 0x00 ∷ 0x00 ∷ [])) 0
+    chain Classic LittleEndian
+    (two_directories (0x0c ∷ 0x00 ∷ 0x00 ∷ 0x00 ∷ []) (0x00 ∷ 0x00 ∷ 0x00 ∷ 0x00 ∷ [])) 0
     ≡ record { offsets = 0 ∷ []; end = Some (IoError UnexpectedEof) }
 
--- the link of the second is cut off by one byte
+-- the second directory's link is cut off by one byte
 abbrev pub second_cut : Type 0
 second_cut =
-    chain Classic LittleEndian (two_directories (0x06 ∷ 0x00 ∷ 0x00 ∷ 0x00 ∷ []) (0x00 ∷ 0x00 ∷ 0x00 ∷ [])) 0
+    chain Classic LittleEndian
+    (two_directories (0x06 ∷ 0x00 ∷ 0x00 ∷ 0x00 ∷ []) (0x00 ∷ 0x00 ∷ 0x00 ∷ [])) 0
     ≡ record { offsets = 0 ∷ []; end = Some (IoError UnexpectedEof) }
 
 -- no directory is read at all
@@ -73,14 +81,17 @@ first_cut =
     chain Classic LittleEndian (0x00 ∷ []) 0
     ≡ record { offsets = []; end = Some (IoError UnexpectedEof) }
 
--- two directories of a BigTIFF file, big-endian
+-- two directories of a big-endian BigTIFF file
 abbrev pub big_linked : Type 0
 big_linked =
-    chain Big BigEndian (0x00 ∷ 0x00 ∷ 0x00 ∷ 0x00 ∷ 0x00 ∷ 0x00 ∷ 0x00 ∷ 0x00 ∷ 0x00 ∷ 0x00 ∷ 0x00 ∷ 0x00 ∷ 0x00 ∷ 0x00 ∷ 0x00 ∷ 0x10
-    ∷ 0x00 ∷ 0x00 ∷ 0x00 ∷ 0x00 ∷ 0x00 ∷ 0x00 ∷ 0x00 ∷ 0x00 ∷ 0x00 ∷ 0x00 ∷ 0x00 ∷ 0x00 ∷ 0x00 ∷ 0x00 ∷ 0x00 ∷ 0x00 ∷ []) 0
+    chain Big BigEndian
+    (0x00 ∷ 0x00 ∷ 0x00 ∷ 0x00 ∷ 0x00 ∷ 0x00 ∷ 0x00 ∷ 0x00 ∷ 0x00 ∷ 0x00 ∷ 0x00 ∷ 0x00 ∷ 0x00
+    ∷ 0x00 ∷ 0x00 ∷ 0x10
+    ∷ 0x00 ∷ 0x00 ∷ 0x00 ∷ 0x00 ∷ 0x00 ∷ 0x00 ∷ 0x00 ∷ 0x00 ∷ 0x00 ∷ 0x00 ∷ 0x00 ∷ 0x00 ∷ 0x00
+    ∷ 0x00 ∷ 0x00 ∷ 0x00 ∷ []) 0
     ≡ record { offsets = 0 ∷ 16 ∷ []; end = None }
 
--- the link of a directory, a link of 0, and a directory that is cut
+-- the link of a directory, a link of 0, and a directory that is cut off
 abbrev pub link_6 : Type 0
 link_6 =
     link_from Classic LittleEndian (0x00 ∷ 0x00 ∷ 0x06 ∷ 0x00 ∷ 0x00 ∷ 0x00 ∷ []) 0 ≡ Ok (Some 6)
@@ -91,7 +102,8 @@ link_0 =
 
 abbrev pub link_cut : Type 0
 link_cut =
-    link_from Classic LittleEndian (0x00 ∷ 0x00 ∷ 0x06 ∷ 0x00 ∷ 0x00 ∷ []) 0 ≡ Err (IoError UnexpectedEof)
+    link_from Classic LittleEndian (0x00 ∷ 0x00 ∷ 0x06 ∷ 0x00 ∷ 0x00 ∷ []) 0
+    ≡ Err (IoError UnexpectedEof)
 
 -- a directory that links to 6 is entered after one at 8, and isn't after one at 6
 abbrev pub entered_6 : Type 0
@@ -102,45 +114,59 @@ abbrev pub not_entered : Type 0
 not_entered =
     enter_at (λ offset. Ok (Some 6)) (6 ∷ []) 7 ≡ Err (FormatError CycleInOffsets)
 
--- the first of two directories is entered, and both are, in this order
+-- the first of two directories is entered, and then the second
 abbrev pub the_first : Type 0
 the_first =
-    AreEntered (link_from Classic LittleEndian (two_directories (0x06 ∷ 0x00 ∷ 0x00 ∷ 0x00 ∷ []) (0x00 ∷ 0x00 ∷ 0x00 ∷ 0x00 ∷ []))) [] (Some 0) (0 ∷ [])
+    AreEntered
+    (link_from Classic LittleEndian
+    (two_directories (0x06 ∷ 0x00 ∷ 0x00 ∷ 0x00 ∷ []) (0x00 ∷ 0x00 ∷ 0x00 ∷ 0x00 ∷ []))) []
+    (Some 0) (0 ∷ [])
 
 abbrev pub both : Type 0
 both =
-    AreEntered (link_from Classic LittleEndian (two_directories (0x06 ∷ 0x00 ∷ 0x00 ∷ 0x00 ∷ []) (0x00 ∷ 0x00 ∷ 0x00 ∷ 0x00 ∷ []))) [] (Some 0) (0 ∷ 6 ∷ [])
+    AreEntered
+    (link_from Classic LittleEndian
+    (two_directories (0x06 ∷ 0x00 ∷ 0x00 ∷ 0x00 ∷ []) (0x00 ∷ 0x00 ∷ 0x00 ∷ 0x00 ∷ []))) []
+    (Some 0) (0 ∷ 6 ∷ [])
 
--- the second isn't entered first
+-- the second of two directories isn't entered first
 abbrev pub not_the_second : Type 0
 not_the_second =
-    AreEntered (link_from Classic LittleEndian (two_directories (0x06 ∷ 0x00 ∷ 0x00 ∷ 0x00 ∷ []) (0x00 ∷ 0x00 ∷ 0x00 ∷ 0x00 ∷ []))) [] (Some 0) (6 ∷ []) → ⊥
+    AreEntered
+    (link_from Classic LittleEndian
+    (two_directories (0x06 ∷ 0x00 ∷ 0x00 ∷ 0x00 ∷ []) (0x00 ∷ 0x00 ∷ 0x00 ∷ 0x00 ∷ []))) []
+    (Some 0) (6 ∷ []) → ⊥
 
--- both are a chain with a plain end; where there is no next offset the chain is empty
+-- both directories are a chain without an error; without a next offset the chain is empty
 abbrev pub a_chain : Type 0
 a_chain =
-    IsChain (link_from Classic LittleEndian (two_directories (0x06 ∷ 0x00 ∷ 0x00 ∷ 0x00 ∷ []) (0x00 ∷ 0x00 ∷ 0x00 ∷ 0x00 ∷ []))) [] (Some 0) (0 ∷ 6 ∷ []) None
+    IsChain (link_from Classic LittleEndian
+    (two_directories (0x06 ∷ 0x00 ∷ 0x00 ∷ 0x00 ∷ []) (0x00 ∷ 0x00 ∷ 0x00 ∷ 0x00 ∷ []))) []
+    (Some 0) (0 ∷ 6 ∷ []) None
 
 abbrev pub no_chain : Type 0
 no_chain =
-    IsChain (link_from Classic LittleEndian (0x00 ∷ 0x00 ∷ 0x00 ∷ 0x00 ∷ 0x00 ∷ 0x00 ∷ [])) [] None [] None
+    IsChain (link_from Classic LittleEndian (0x00 ∷ 0x00 ∷ 0x00 ∷ 0x00 ∷ 0x00 ∷ 0x00 ∷ [])) [] None
+    [] None
 
--- of an empty file no offset is entered
+-- in an empty file no offset is entered
 abbrev pub none_longest : Type 0
 none_longest =
     IsLongest Classic LittleEndian [] 0 []
 
--- the first of two directories alone isn't the longest list
+-- the first of two directories isn't the longest list
 abbrev pub one_not_longest : Type 0
 one_not_longest =
-    IsLongest Classic LittleEndian (two_directories (0x06 ∷ 0x00 ∷ 0x00 ∷ 0x00 ∷ []) (0x00 ∷ 0x00 ∷ 0x00 ∷ 0x00 ∷ [])) 0 (0 ∷ []) → ⊥
+    IsLongest Classic LittleEndian
+    (two_directories (0x06 ∷ 0x00 ∷ 0x00 ∷ 0x00 ∷ []) (0x00 ∷ 0x00 ∷ 0x00 ∷ 0x00 ∷ [])) 0
+    (0 ∷ []) → ⊥
 
--- two offsets of a file of seven bytes
+-- two different offsets of a file of seven bytes
 abbrev pub offsets_apart : Type 0
 offsets_apart =
     AreApart (0x00 ∷ 0x00 ∷ 0x00 ∷ 0x00 ∷ 0x00 ∷ 0x00 ∷ 0x00 ∷ []) (0 ∷ 6 ∷ [])
 
--- an offset twice, and one past the end
+-- a repeated offset, and an offset past the end
 abbrev pub offset_twice : Type 0
 offset_twice =
     AreApart (0x00 ∷ 0x00 ∷ 0x00 ∷ 0x00 ∷ 0x00 ∷ 0x00 ∷ 0x00 ∷ []) (0 ∷ 0 ∷ []) → ⊥
@@ -149,42 +175,49 @@ abbrev pub offset_past_end : Type 0
 offset_past_end =
     AreApart (0x00 ∷ 0x00 ∷ 0x00 ∷ 0x00 ∷ 0x00 ∷ 0x00 ∷ 0x00 ∷ []) (7 ∷ []) → ⊥
 
--- 8 to 20 is accepted
+-- the link from 8 to 20 is accepted
 abbrev pub first_link : Type 0
 first_link =
     Inserts (accepted []) 8 (Some 20) (Ok true) (accepted ((8, Some 20) ∷ []))
 
--- 8 to 20 again
+-- the link from 8 to 20 again isn't inserted
 abbrev pub same_link : Type 0
 same_link =
     Inserts (accepted ((8, Some 20) ∷ [])) 8 (Some 20) (Ok false) (accepted ((8, Some 20) ∷ []))
 
--- 8 to 30 is another link of 8
+-- a link from 8 to 30 contradicts the link from 8 to 20
 abbrev pub other_link : Type 0
 other_link =
-    Inserts (accepted ((8, Some 20) ∷ [])) 8 (Some 30) (Err (FormatError CycleInOffsets)) (accepted ((8, Some 20) ∷ []))
+    Inserts (accepted ((8, Some 20) ∷ [])) 8 (Some 30) (Err (FormatError CycleInOffsets))
+    (accepted ((8, Some 20) ∷ []))
 
--- 20 to 8 would close a cycle
+-- a link from 20 to 8 closes a cycle
 abbrev pub closing_link : Type 0
 closing_link =
-    Inserts (accepted ((8, Some 20) ∷ [])) 20 (Some 8) (Err (FormatError CycleInOffsets)) (accepted ((8, Some 20) ∷ []))
+    Inserts (accepted ((8, Some 20) ∷ [])) 20 (Some 8) (Err (FormatError CycleInOffsets))
+    (accepted ((8, Some 20) ∷ []))
 
--- 20 to none is accepted
+-- the link from 20 to none is accepted
 abbrev pub last_link : Type 0
 last_link =
-    Inserts (accepted ((8, Some 20) ∷ [])) 20 None (Ok true) (accepted ((20, None) ∷ (8, Some 20) ∷ []))
+    Inserts (accepted ((8, Some 20) ∷ [])) 20 None (Ok true)
+    (accepted ((20, None) ∷ (8, Some 20) ∷ []))
 
--- 20 to the offset 0 is the same link
+-- the link from 20 to offset 0 is the same as to none
 abbrev pub zero_link : Type 0
 zero_link =
-    Inserts (accepted ((20, None) ∷ (8, Some 20) ∷ [])) 20 (Some 0) (Ok false) (accepted ((20, None) ∷ (8, Some 20) ∷ []))
+    Inserts (accepted ((20, None) ∷ (8, Some 20) ∷ [])) 20 (Some 0) (Ok false)
+    (accepted ((20, None) ∷ (8, Some 20) ∷ []))
 
--- 30 to 20 is accepted: an offset may be linked to twice
+-- the link from 30 to 20 is accepted: two directories may link to one offset
 abbrev pub second_parent : Type 0
 second_parent =
-    Inserts (accepted ((20, None) ∷ (8, Some 20) ∷ [])) 30 (Some 20) (Ok true) (accepted ((30, Some 20) ∷ (20, None) ∷ (8, Some 20) ∷ []))
+    Inserts (accepted ((20, None) ∷ (8, Some 20) ∷ [])) 30 (Some 20) (Ok true)
+    (accepted ((30, Some 20) ∷ (20, None) ∷ (8, Some 20) ∷ []))
 
--- 40 to 40 would close a cycle of one
+-- a link from 40 to 40 closes a cycle of one
 abbrev pub own_link : Type 0
 own_link =
-    Inserts (accepted ((30, Some 20) ∷ (20, None) ∷ (8, Some 20) ∷ [])) 40 (Some 40) (Err (FormatError CycleInOffsets)) (accepted ((30, Some 20) ∷ (20, None) ∷ (8, Some 20) ∷ []))
+    Inserts (accepted ((30, Some 20) ∷ (20, None) ∷ (8, Some 20) ∷ [])) 40 (Some 40)
+    (Err (FormatError CycleInOffsets))
+    (accepted ((30, Some 20) ∷ (20, None) ∷ (8, Some 20) ∷ []))

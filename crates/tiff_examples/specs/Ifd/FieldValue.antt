@@ -1,4 +1,4 @@
--- Worked values of fields.
+-- Worked examples of the values of fields.
 use Rattle.std.specs.Prelude.{◌≡◌, ℕ, ◌^◌, ◌-◌, pos, negsuc, [], ◌∷◌, Ok, Err}
 use Rattle.tiff_base.specs.declared.error.TiffError.TheVariants.{FormatError, IoError, LimitsExceeded}
 use Rattle.tiff_base.specs.declared.error.TiffFormatError.TheVariants.{InvalidTag}
@@ -8,191 +8,223 @@ use Rattle.tiff_base.specs.declared.tags.FileKind.TheVariants.{Classic, Big}
 use Rattle.tiff_base.specs.declared.tags.«Type».TheVariants.{BYTE, ASCII, SHORT, LONG, RATIONAL, SBYTE, UNDEFINED, SSHORT, SRATIONAL, FLOAT, LONG8}
 use Rattle.tiff_ifd.specs.declared.limits.Limits.{Limits}
 use Rattle.tiff_ifd.specs.Limits.{unlimited}
-use Rattle.tiff_ifd.specs.Datum.{none, more, list, byte, short, unsigned, unsigned_big, signed, signed_short, float, rational, srational, ascii}
+use Rattle.tiff_ifd.specs.PlainValue.{none, more, list, byte, short, unsigned, unsigned_big, signed, signed_short, float, rational, srational, ascii}
 use Rattle.tiff_ifd.specs.FieldValue.{field_value}
 use Rattle.tiff_ifd.specs.Unsigned.{field_numbers, placed_numbers}
 use Rattle.tiff_examples.specs.Files.{gray_file}
 use Rattle.tiff_examples.specs.Base.FieldBytes.{of}
 
--- limits of so many bytes of decoded values
+-- limits with this number of bytes for decoded values
 abbrev pub limited : ℕ → Limits
 limited n = record unlimited { decoding_buffer_size = n }
 
--- no values are an empty list, wherever they would stand
+-- a field without values is an empty list, wherever its offset is
 abbrev pub no_values : Type 0
-no_values = field_value Classic LittleEndian [] (limited 0) (of LONG 0 (0xff ∷ 0xff ∷ 0xff ∷ 0xff ∷ 0x00 ∷ 0x00
+no_values =
+    field_value Classic LittleEndian [] (limited 0)
+    (of LONG 0 (0xff ∷ 0xff ∷ 0xff ∷ 0xff ∷ 0x00 ∷ 0x00
     ∷ 0x00 ∷ 0x00 ∷ [])) ≡ Ok (list none)
 
--- one short, in both byte orders
+-- one SHORT, in both byte orders
 abbrev pub one_short : Type 0
-one_short = field_value Classic LittleEndian [] (limited 0) (of SHORT 1 (0x08 ∷ 0x00 ∷ 0x00 ∷ 0x00 ∷ 0x00 ∷ 0x00
+one_short =
+    field_value Classic LittleEndian [] (limited 0)
+    (of SHORT 1 (0x08 ∷ 0x00 ∷ 0x00 ∷ 0x00 ∷ 0x00 ∷ 0x00
     ∷ 0x00 ∷ 0x00 ∷ [])) ≡ Ok (short 8)
 
 abbrev pub one_short_big_endian : Type 0
 one_short_big_endian =
-    field_value Classic BigEndian [] (limited 0) (of SHORT 1 (0x00 ∷ 0x08 ∷ 0x00 ∷ 0x00 ∷ 0x00 ∷ 0x00 ∷ 0x00 ∷ 0x00
+    field_value Classic BigEndian [] (limited 0)
+    (of SHORT 1 (0x00 ∷ 0x08 ∷ 0x00 ∷ 0x00 ∷ 0x00 ∷ 0x00 ∷ 0x00 ∷ 0x00
     ∷ [])) ≡ Ok (short 8)
 
--- one long, a byte of no meaning, a negative short, and a number of floating point as its bits
+-- one LONG, one UNDEFINED byte, a negative SSHORT, and a FLOAT as its bits
 abbrev pub one_long : Type 0
 one_long =
-    field_value Classic LittleEndian [] unlimited (of LONG 1 (0x40 ∷ 0x42 ∷ 0x0f ∷ 0x00 ∷ 0x00 ∷ 0x00 ∷ 0x00 ∷ 0x00
+    field_value Classic LittleEndian [] unlimited
+    (of LONG 1 (0x40 ∷ 0x42 ∷ 0x0f ∷ 0x00 ∷ 0x00 ∷ 0x00 ∷ 0x00 ∷ 0x00
     ∷ [])) ≡ Ok (unsigned 1000000)
 
 abbrev pub one_undefined : Type 0
-one_undefined = field_value Classic LittleEndian [] unlimited (of UNDEFINED 1 (0xff ∷ 0x00 ∷ 0x00 ∷ 0x00 ∷ 0x00
+one_undefined =
+    field_value Classic LittleEndian [] unlimited (of UNDEFINED 1 (0xff ∷ 0x00 ∷ 0x00 ∷ 0x00 ∷ 0x00
     ∷ 0x00 ∷ 0x00 ∷ 0x00 ∷ [])) ≡ Ok (byte 255)
 
 abbrev pub minus_two : Type 0
 minus_two =
-    field_value Classic LittleEndian [] unlimited (of SSHORT 1 (0xfe ∷ 0xff ∷ 0x00 ∷ 0x00 ∷ 0x00 ∷ 0x00 ∷ 0x00
+    field_value Classic LittleEndian [] unlimited
+    (of SSHORT 1 (0xfe ∷ 0xff ∷ 0x00 ∷ 0x00 ∷ 0x00 ∷ 0x00 ∷ 0x00
     ∷ 0x00 ∷ [])) ≡ Ok (signed_short (negsuc 1))
 
 abbrev pub one_float : Type 0
 one_float =
-    field_value Classic LittleEndian [] unlimited (of FLOAT 1 (0x00 ∷ 0x00 ∷ 0x80 ∷ 0x3f ∷ 0x00 ∷ 0x00 ∷ 0x00
+    field_value Classic LittleEndian [] unlimited
+    (of FLOAT 1 (0x00 ∷ 0x00 ∷ 0x80 ∷ 0x3f ∷ 0x00 ∷ 0x00 ∷ 0x00
     ∷ 0x00 ∷ [])) ≡ Ok (float 0x3f800000)
 
--- one byte stands alone, two in the entry are wider numbers
+-- one byte is a byte, and two bytes in the entry are wider numbers
 abbrev pub one_byte : Type 0
-one_byte = field_value Classic LittleEndian [] unlimited (of BYTE 1 (0x01 ∷ 0x00 ∷ 0x00 ∷ 0x00 ∷ 0x00 ∷ 0x00 ∷ 0x00
+one_byte =
+    field_value Classic LittleEndian [] unlimited
+    (of BYTE 1 (0x01 ∷ 0x00 ∷ 0x00 ∷ 0x00 ∷ 0x00 ∷ 0x00 ∷ 0x00
     ∷ 0x00 ∷ [])) ≡ Ok (byte 1)
 
 abbrev pub two_bytes : Type 0
 two_bytes =
-    field_value Classic LittleEndian [] unlimited (of BYTE 2 (0x01 ∷ 0x02 ∷ 0x00 ∷ 0x00 ∷ 0x00 ∷ 0x00 ∷ 0x00 ∷ 0x00
+    field_value Classic LittleEndian [] unlimited
+    (of BYTE 2 (0x01 ∷ 0x02 ∷ 0x00 ∷ 0x00 ∷ 0x00 ∷ 0x00 ∷ 0x00 ∷ 0x00
     ∷ []))
     ≡ Ok (list (more (unsigned 1) (more (unsigned 2) none)))
 
--- the same of signed bytes
+-- two signed bytes in the entry are wider numbers
 abbrev pub two_signed_bytes : Type 0
 two_signed_bytes =
-    field_value Classic LittleEndian [] unlimited (of SBYTE 2 (0xff ∷ 0x02 ∷ 0x00 ∷ 0x00 ∷ 0x00 ∷ 0x00 ∷ 0x00
+    field_value Classic LittleEndian [] unlimited
+    (of SBYTE 2 (0xff ∷ 0x02 ∷ 0x00 ∷ 0x00 ∷ 0x00 ∷ 0x00 ∷ 0x00
     ∷ 0x00 ∷ []))
     ≡ Ok (list (more (signed (negsuc 0)) (more (signed (pos 2)) none)))
 
--- five bytes that stand elsewhere stay bytes
+-- five bytes at an offset are bytes
 abbrev pub five_bytes : Type 0
 five_bytes =
-    field_value Classic LittleEndian (0xee ∷ 0x01 ∷ 0x02 ∷ 0x03 ∷ 0x04 ∷ 0x05 ∷ []) unlimited (of BYTE 5 (0x01
+    field_value Classic LittleEndian (0xee ∷ 0x01 ∷ 0x02 ∷ 0x03 ∷ 0x04 ∷ 0x05 ∷ []) unlimited
+    (of BYTE 5 (0x01
     ∷ 0x00 ∷ 0x00 ∷ 0x00 ∷ 0x00 ∷ 0x00 ∷ 0x00 ∷ 0x00 ∷ []))
     ≡ Ok (list (more (byte 1) (more (byte 2) (more (byte 3) (more (byte 4) (more (byte 5) none))))))
 
--- three characters in the entry, of which the first and the last are zeros: A
+-- a text of three characters in the entry, of which the first and the last are zeros: A
 abbrev pub text_a : Type 0
-text_a = field_value Classic LittleEndian [] unlimited (of ASCII 3 (0x00 ∷ 0x41 ∷ 0x00 ∷ 0x00 ∷ 0x00 ∷ 0x00 ∷ 0x00
+text_a = field_value Classic LittleEndian [] unlimited
+    (of ASCII 3 (0x00 ∷ 0x41 ∷ 0x00 ∷ 0x00 ∷ 0x00 ∷ 0x00 ∷ 0x00
     ∷ 0x00 ∷ [])) ≡ Ok (ascii (0x41 ∷ []))
 
--- one character has to be a zero
+-- a text of one character must be a zero
 abbrev pub text_one : Type 0
 text_one =
-    field_value Classic LittleEndian [] unlimited (of ASCII 1 (0x41 ∷ 0x00 ∷ 0x00 ∷ 0x00 ∷ 0x00 ∷ 0x00 ∷ 0x00
+    field_value Classic LittleEndian [] unlimited
+    (of ASCII 1 (0x41 ∷ 0x00 ∷ 0x00 ∷ 0x00 ∷ 0x00 ∷ 0x00 ∷ 0x00
     ∷ 0x00 ∷ [])) ≡ Err (FormatError InvalidTag)
 
 abbrev pub text_empty : Type 0
-text_empty = field_value Classic LittleEndian [] unlimited (of ASCII 1 (0x00 ∷ 0x00 ∷ 0x00 ∷ 0x00 ∷ 0x00 ∷ 0x00
+text_empty =
+    field_value Classic LittleEndian [] unlimited
+    (of ASCII 1 (0x00 ∷ 0x00 ∷ 0x00 ∷ 0x00 ∷ 0x00 ∷ 0x00
     ∷ 0x00 ∷ 0x00 ∷ [])) ≡ Ok (ascii [])
 
--- a text in the entry that doesn't end in a zero, and one that is not ASCII
+-- a text in the entry without a zero at its end, and one that isn't ASCII
 abbrev pub text_open : Type 0
 text_open =
-    field_value Classic LittleEndian [] unlimited (of ASCII 2 (0x41 ∷ 0x42 ∷ 0x00 ∷ 0x00 ∷ 0x00 ∷ 0x00 ∷ 0x00
+    field_value Classic LittleEndian [] unlimited
+    (of ASCII 2 (0x41 ∷ 0x42 ∷ 0x00 ∷ 0x00 ∷ 0x00 ∷ 0x00 ∷ 0x00
     ∷ 0x00 ∷ [])) ≡ Err (FormatError InvalidTag)
 
 abbrev pub text_not_ascii : Type 0
 text_not_ascii =
-    field_value Classic LittleEndian [] unlimited (of ASCII 3 (0xc3 ∷ 0xa4 ∷ 0x00 ∷ 0x00 ∷ 0x00 ∷ 0x00 ∷ 0x00
+    field_value Classic LittleEndian [] unlimited
+    (of ASCII 3 (0xc3 ∷ 0xa4 ∷ 0x00 ∷ 0x00 ∷ 0x00 ∷ 0x00 ∷ 0x00
     ∷ 0x00 ∷ [])) ≡ Err (FormatError InvalidTag)
 
--- a text elsewhere is cut at the first zero
+-- a text at an offset ends before its first zero
 abbrev pub text_cut : Type 0
 text_cut =
-    field_value Classic LittleEndian (0x41 ∷ 0x42 ∷ 0x00 ∷ 0x43 ∷ 0x44 ∷ []) unlimited (of ASCII 5 (0x00 ∷ 0x00
+    field_value Classic LittleEndian (0x41 ∷ 0x42 ∷ 0x00 ∷ 0x43 ∷ 0x44 ∷ []) unlimited
+    (of ASCII 5 (0x00 ∷ 0x00
     ∷ 0x00 ∷ 0x00 ∷ 0x00 ∷ 0x00 ∷ 0x00 ∷ 0x00 ∷ []))
     ≡ Ok (ascii (0x41 ∷ 0x42 ∷ []))
 
--- it needs no zero, and may be UTF-8
+-- a text at an offset needs no zero, and may be UTF-8
 abbrev pub text_utf8 : Type 0
 text_utf8 =
-    field_value Classic LittleEndian (0x41 ∷ 0x42 ∷ 0x43 ∷ 0xc3 ∷ 0xa4 ∷ []) unlimited (of ASCII 5 (0x00 ∷ 0x00
+    field_value Classic LittleEndian (0x41 ∷ 0x42 ∷ 0x43 ∷ 0xc3 ∷ 0xa4 ∷ []) unlimited
+    (of ASCII 5 (0x00 ∷ 0x00
     ∷ 0x00 ∷ 0x00 ∷ 0x00 ∷ 0x00 ∷ 0x00 ∷ 0x00 ∷ []))
     ≡ Ok (ascii (0x41 ∷ 0x42 ∷ 0x43 ∷ 0xc3 ∷ 0xa4 ∷ []))
 
--- but has to be that
+-- a text at an offset must be UTF-8
 abbrev pub text_not_utf8 : Type 0
 text_not_utf8 =
-    field_value Classic LittleEndian (0x41 ∷ 0x42 ∷ 0x43 ∷ 0xc3 ∷ 0x28 ∷ []) unlimited (of ASCII 5 (0x00 ∷ 0x00
+    field_value Classic LittleEndian (0x41 ∷ 0x42 ∷ 0x43 ∷ 0xc3 ∷ 0x28 ∷ []) unlimited
+    (of ASCII 5 (0x00 ∷ 0x00
     ∷ 0x00 ∷ 0x00 ∷ 0x00 ∷ 0x00 ∷ 0x00 ∷ 0x00 ∷ []))
     ≡ Err (FormatError InvalidTag)
 
--- a text elsewhere of more characters than the limit has bytes
+-- a text at an offset with more characters than the limit has bytes
 abbrev pub text_limit : Type 0
 text_limit =
-    field_value Classic LittleEndian (0x41 ∷ 0x42 ∷ 0x43 ∷ 0x44 ∷ 0x45 ∷ []) (limited 4) (of ASCII 5 (0x00 ∷ 0x00
+    field_value Classic LittleEndian (0x41 ∷ 0x42 ∷ 0x43 ∷ 0x44 ∷ 0x45 ∷ []) (limited 4)
+    (of ASCII 5 (0x00 ∷ 0x00
     ∷ 0x00 ∷ 0x00 ∷ 0x00 ∷ 0x00 ∷ 0x00 ∷ 0x00 ∷ []))
     ≡ Err LimitsExceeded
 
--- three shorts elsewhere: a list of three values of 32 bytes fits into 96 bytes, and not into 95
+-- three SHORTs at an offset: three values of 32 bytes fit into 96 bytes, and not into 95
 abbrev pub three_shorts : Type 0
 three_shorts =
-    field_value Classic LittleEndian (0x01 ∷ 0x00 ∷ 0x02 ∷ 0x00 ∷ 0x03 ∷ 0x00 ∷ []) (limited 96) (of SHORT 3 (0x00
+    field_value Classic LittleEndian (0x01 ∷ 0x00 ∷ 0x02 ∷ 0x00 ∷ 0x03 ∷ 0x00 ∷ []) (limited 96)
+    (of SHORT 3 (0x00
     ∷ 0x00 ∷ 0x00 ∷ 0x00 ∷ 0x00 ∷ 0x00 ∷ 0x00 ∷ 0x00 ∷ []))
     ≡ Ok (list (more (short 1) (more (short 2) (more (short 3) none))))
 
 abbrev pub list_limit : Type 0
 list_limit =
-    field_value Classic LittleEndian (0x01 ∷ 0x00 ∷ 0x02 ∷ 0x00 ∷ 0x03 ∷ 0x00 ∷ []) (limited 95) (of SHORT 3 (0x00
+    field_value Classic LittleEndian (0x01 ∷ 0x00 ∷ 0x02 ∷ 0x00 ∷ 0x03 ∷ 0x00 ∷ []) (limited 95)
+    (of SHORT 3 (0x00
     ∷ 0x00 ∷ 0x00 ∷ 0x00 ∷ 0x00 ∷ 0x00 ∷ 0x00 ∷ 0x00 ∷ []))
     ≡ Err LimitsExceeded
 
--- the limit is told before the end of the file
+-- the limit is checked before the end of the file
 abbrev pub limit_first : Type 0
 limit_first =
-    field_value Classic LittleEndian [] (limited 95) (of SHORT 3 (0x00 ∷ 0x00 ∷ 0x00 ∷ 0x00 ∷ 0x00 ∷ 0x00 ∷ 0x00
+    field_value Classic LittleEndian [] (limited 95)
+    (of SHORT 3 (0x00 ∷ 0x00 ∷ 0x00 ∷ 0x00 ∷ 0x00 ∷ 0x00 ∷ 0x00
     ∷ 0x00 ∷ [])) ≡ Err LimitsExceeded
 
 abbrev pub past_end : Type 0
 past_end =
-    field_value Classic LittleEndian [] (limited 96) (of SHORT 3 (0x00 ∷ 0x00 ∷ 0x00 ∷ 0x00 ∷ 0x00 ∷ 0x00 ∷ 0x00
+    field_value Classic LittleEndian [] (limited 96)
+    (of SHORT 3 (0x00 ∷ 0x00 ∷ 0x00 ∷ 0x00 ∷ 0x00 ∷ 0x00 ∷ 0x00
     ∷ 0x00 ∷ []))
     ≡ Err (IoError UnexpectedEof)
 
--- one number of eight bytes stands elsewhere in a classic file; no limit holds for it
+-- one number of eight bytes is at an offset in a classic file; it has no limit
 abbrev pub long8_placed : Type 0
 long8_placed =
     field_value Classic LittleEndian (0x00 ∷ 0x00 ∷ 0x00 ∷ 0x00 ∷ 0x01 ∷ 0x00 ∷ 0x00 ∷ 0x00
     ∷ []) (limited 0) (of LONG8 1 (0x00 ∷ 0x00 ∷ 0x00 ∷ 0x00 ∷ 0x00 ∷ 0x00 ∷ 0x00 ∷ 0x00 ∷ []))
     ≡ Ok (unsigned_big 4294967296)
 
--- and in the entry of a BigTIFF file
+-- one number of eight bytes is in the entry of a BigTIFF file
 abbrev pub long8_inline : Type 0
 long8_inline =
-    field_value Big LittleEndian [] (limited 0) (of LONG8 1 (0x00 ∷ 0x00 ∷ 0x00 ∷ 0x00 ∷ 0x01 ∷ 0x00 ∷ 0x00 ∷ 0x00
+    field_value Big LittleEndian [] (limited 0)
+    (of LONG8 1 (0x00 ∷ 0x00 ∷ 0x00 ∷ 0x00 ∷ 0x01 ∷ 0x00 ∷ 0x00 ∷ 0x00
     ∷ [])) ≡ Ok (unsigned_big 4294967296)
 
 -- a resolution of the file of one gray pixel
 abbrev pub resolution : Type 0
 resolution =
-    field_value Classic LittleEndian gray_file unlimited (of RATIONAL 1 (0x08 ∷ 0x00 ∷ 0x00 ∷ 0x00 ∷ 0x00 ∷ 0x00
+    field_value Classic LittleEndian gray_file unlimited
+    (of RATIONAL 1 (0x08 ∷ 0x00 ∷ 0x00 ∷ 0x00 ∷ 0x00 ∷ 0x00
     ∷ 0x00 ∷ 0x00 ∷ [])) ≡ Ok (rational 1 1)
 
--- the two parts of a rational are in the byte order each
+-- each of the two numbers of a rational is in the byte order
 abbrev pub big_endian_rational : Type 0
 big_endian_rational =
     field_value Classic BigEndian (0x00 ∷ 0x00 ∷ 0x00 ∷ 0x01 ∷ 0xff ∷ 0xff ∷ 0xff ∷ 0xff
     ∷ []) unlimited (of SRATIONAL 1 (0x00 ∷ 0x00 ∷ 0x00 ∷ 0x00 ∷ 0x00 ∷ 0x00 ∷ 0x00 ∷ 0x00 ∷ []))
     ≡ Ok (srational (pos 1) (negsuc 0))
 
--- more bytes than can be counted
+-- more bytes than a 64-bit number can count
 abbrev pub too_many : Type 0
 too_many =
-    field_value Big LittleEndian [] unlimited (of LONG (2 ^ 64 - 1) (0x00 ∷ 0x00 ∷ 0x00 ∷ 0x00 ∷ 0x00 ∷ 0x00 ∷ 0x00
+    field_value Big LittleEndian [] unlimited
+    (of LONG (2 ^ 64 - 1) (0x00 ∷ 0x00 ∷ 0x00 ∷ 0x00 ∷ 0x00 ∷ 0x00 ∷ 0x00
     ∷ 0x00 ∷ [])) ≡ Err LimitsExceeded
 
--- the numbers of a list that stands elsewhere, and of one number there
+-- the numbers of a list at an offset, and of one number at an offset
 abbrev pub three_numbers : Type 0
 three_numbers =
-    field_numbers Classic LittleEndian (0x01 ∷ 0x00 ∷ 0x02 ∷ 0x00 ∷ 0x03 ∷ 0x00 ∷ []) (limited 96) (of SHORT 3 (0x00
+    field_numbers Classic LittleEndian (0x01 ∷ 0x00 ∷ 0x02 ∷ 0x00 ∷ 0x03 ∷ 0x00 ∷ []) (limited 96)
+    (of SHORT 3 (0x00
     ∷ 0x00 ∷ 0x00 ∷ 0x00 ∷ 0x00 ∷ 0x00 ∷ 0x00 ∷ 0x00 ∷ []))
     ≡ Ok (1 ∷ 2 ∷ 3 ∷ [])
 
@@ -202,9 +234,10 @@ one_number =
     ∷ []) (limited 0) (of LONG8 1 (0x00 ∷ 0x00 ∷ 0x00 ∷ 0x00 ∷ 0x00 ∷ 0x00 ∷ 0x00 ∷ 0x00 ∷ []))
     ≡ Ok (4294967296 ∷ [])
 
--- their limit is that of the values
+-- the limit for numbers is that for values
 abbrev pub numbers_limit : Type 0
 numbers_limit =
-    placed_numbers Classic LittleEndian [] (limited 95) (of SHORT 3 (0x00 ∷ 0x00 ∷ 0x00 ∷ 0x00 ∷ 0x00 ∷ 0x00 ∷ 0x00
+    placed_numbers Classic LittleEndian [] (limited 95)
+    (of SHORT 3 (0x00 ∷ 0x00 ∷ 0x00 ∷ 0x00 ∷ 0x00 ∷ 0x00 ∷ 0x00
     ∷ 0x00 ∷ []))
     ≡ Err LimitsExceeded

@@ -1,4 +1,4 @@
--- Worked stretches: the bytes that headers, directories and values take of a source.
+-- Worked examples of stretches: the bytes of a source that headers, directories and values need.
 use Rattle.std.specs.Prelude.{◌≡◌, ℕ, List, [], ◌∷◌, None, Some}
 use Rattle.std.specs.FinMap.{empty}
 use Rattle.tiff_base.specs.declared.tags.ByteOrder.TheVariants.{LittleEndian}
@@ -9,7 +9,7 @@ use Rattle.tiff_base.specs.Field.{Field}
 use Rattle.tiff_base.specs.SourceAndSink.{SourceRecord}
 use Rattle.tiff_ifd.specs.Stretches.{header_len, LinkReadable, DirectoryReadable, FieldReadable, TagReadable}
 
--- the version of a classic header, of a big one, and none
+-- the length of a header, by its version: classic, BigTIFF, and unknown
 abbrev pub header_of_classic : Type 0
 header_of_classic = header_len (0x49 ∷ 0x49 ∷ 0x2a ∷ 0x00 ∷ []) ≡ 8
 
@@ -19,30 +19,36 @@ header_of_big = header_len (0x4d ∷ 0x4d ∷ 0x00 ∷ 0x2b ∷ []) ≡ 16
 abbrev pub header_of_none : Type 0
 header_of_none = header_len (0x58 ∷ []) ≡ 8
 
--- a directory of one entry at the front of a source that answers for these stretches
+-- a directory of one entry at offset 0, in a source with these readable stretches
 abbrev pub one_entry : List (ℕ × ℕ) → SourceRecord
 one_entry stretches = record { bytes = 0x01 ∷ 0x00 ∷ []; readable = Some stretches }
 
--- it takes 18 bytes: two of the count, twelve of the entry, four of the link
+-- a directory of one entry needs 18 bytes: two for the count, twelve for the entry, four for the
+-- link
 abbrev pub whole_directory : Type 0
 whole_directory = DirectoryReadable (one_entry ((0, 18) ∷ [])) Classic LittleEndian 0
 
 abbrev pub directory_with_link : Type 0
 directory_with_link = DirectoryReadable (one_entry ((0, 14) ∷ [])) Classic LittleEndian 0 → ⊥
 
--- going along the chain takes the count and the link, and no byte between them
+-- following a chain needs the count and the link, and no byte between them
 abbrev pub link_alone : Type 0
 link_alone = LinkReadable (one_entry ((0, 2) ∷ (14, 4) ∷ [])) Classic LittleEndian 0
 
--- so many shorts at the offset 8, or in the entry where they fit
+-- this number of SHORTs at offset 8, or in the entry if they fit
 abbrev pub shorts : ℕ → Field
-shorts count = record { field_type = SHORT; count = count; value = 0x08 ∷ 0x00 ∷ 0x00 ∷ 0x00 ∷ 0x00 ∷ 0x00 ∷ 0x00 ∷ 0x00 ∷ [] }
+shorts count =
+    record {
+      field_type = SHORT;
+      count = count;
+      value = 0x08 ∷ 0x00 ∷ 0x00 ∷ 0x00 ∷ 0x00 ∷ 0x00 ∷ 0x00 ∷ 0x00 ∷ [];
+    }
 
--- a source that answers for no byte
+-- a source without readable bytes
 abbrev pub nothing : SourceRecord
 nothing = one_entry []
 
--- two of them stand in the entry, three elsewhere
+-- two SHORTs are in the entry, and three are at an offset
 abbrev pub value_in_entry : Type 0
 value_in_entry = FieldReadable nothing Classic LittleEndian (shorts 2)
 
@@ -52,6 +58,8 @@ value_elsewhere = FieldReadable nothing Classic LittleEndian (shorts 3) → ⊥
 abbrev pub value_there : Type 0
 value_there = FieldReadable (one_entry ((8, 6) ∷ [])) Classic LittleEndian (shorts 3)
 
--- a tag that a directory doesn't have takes nothing
+-- a missing tag needs no bytes
 abbrev pub tag_missing : Type 0
-tag_missing = TagReadable nothing Classic LittleEndian (record { entries = empty; next = None }) tag.ImageWidth
+tag_missing =
+    TagReadable nothing Classic LittleEndian (record { entries = empty; next = None })
+    tag.ImageWidth

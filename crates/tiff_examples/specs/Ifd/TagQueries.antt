@@ -1,4 +1,4 @@
--- Worked questions to the tags of a directory: numbers, all tags, and bytes.
+-- Worked examples of tag queries in a directory: numbers, all tags, and bytes.
 use Rattle.std.specs.Prelude.{◌≡◌, ℕ, ◌^◌, take, List, [], ◌∷◌, Some, None, Ok, Err}
 use Rattle.tiff_base.specs.declared.error.TiffError.TheVariants.{FormatError, IoError, LimitsExceeded}
 use Rattle.tiff_base.specs.declared.error.TiffFormatError.TheVariants.{InconsistentSizesEncountered, InvalidTag, InvalidTagValueType, InvalidTypeForTag, RequiredTagNotFound}
@@ -13,14 +13,15 @@ use Rattle.tiff_base.specs.Tags.{tag_of}
 use Rattle.tiff_value.specs.Buffer.{empty_buffer}
 use Rattle.tiff_ifd.specs.declared.limits.Limits.{Limits}
 use Rattle.tiff_ifd.specs.Limits.{unlimited}
-use Rattle.tiff_ifd.specs.Datum.{none, more, list, short, unsigned, float, ascii}
+use Rattle.tiff_ifd.specs.PlainValue.{none, more, list, short, unsigned, float, ascii}
 use Rattle.tiff_ifd.specs.Into.{into_f32}
-use Rattle.tiff_ifd.specs.Look.{require}
+use Rattle.tiff_ifd.specs.TagLookup.{require}
 use Rattle.tiff_ifd.specs.TagQueries.{find_unsigned, find_unsigned_vec, get_unsigned, tag_items, buffer_of, refused_buffer, part_of_field}
 use Rattle.tiff_examples.specs.Base.FieldBytes.{of}
-use Rattle.tiff_examples.specs.Ifd.Look.{told, some_fields}
+use Rattle.tiff_examples.specs.Ifd.TagLookup.{told, some_fields}
 
--- Artist, a text, then a tag without a name, a short, and ImageDescription, a text that doesn't end in a zero
+-- Artist, a text; a tag without a name, one SHORT; and ImageDescription, a text without a zero at
+-- its end
 abbrev pub other_fields : List (ℕ × Field)
 other_fields =
     (315, of ASCII 2 (0x41 ∷ 0x00 ∷ 0x00 ∷ 0x00 ∷ 0x00 ∷ 0x00 ∷ 0x00 ∷ 0x00 ∷ []))
@@ -28,12 +29,13 @@ other_fields =
     ∷ (270, of ASCII 1 (0x41 ∷ 0x00 ∷ 0x00 ∷ 0x00 ∷ 0x00 ∷ 0x00 ∷ 0x00 ∷ 0x00 ∷ []))
     ∷ []
 
--- a file of the long 1 twice, at 8
+-- a file with the LONG 1 twice, at 8
 abbrev pub twice_one : List ℕ
 twice_one =
-    0x00 ∷ 0x00 ∷ 0x00 ∷ 0x00 ∷ 0x00 ∷ 0x00 ∷ 0x00 ∷ 0x00 ∷ 0x01 ∷ 0x00 ∷ 0x00 ∷ 0x00 ∷ 0x01 ∷ 0x00 ∷ 0x00 ∷ 0x00 ∷ []
+    0x00 ∷ 0x00 ∷ 0x00 ∷ 0x00 ∷ 0x00 ∷ 0x00 ∷ 0x00 ∷ 0x00 ∷ 0x01 ∷ 0x00 ∷ 0x00 ∷ 0x00 ∷ 0x01 ∷ 0x00
+    ∷ 0x00 ∷ 0x00 ∷ []
 
--- a limit of so many bytes
+-- a limit with this number of bytes
 abbrev pub limited : ℕ → Limits
 limited n = record { decoding_buffer_size = n; ifd_value_size = 0; intermediate_buffer_size = 0 }
 
@@ -42,59 +44,65 @@ abbrev pub width_fits : Type 0
 width_fits =
     find_unsigned 65536 (told ((256, unsigned 65535) ∷ [])) tag.ImageWidth ≡ Ok (Some 65535)
 
--- one at the limit: the value doesn't fit the type that is asked for
+-- a number at the limit doesn't fit the wanted type
 abbrev pub width_too_great : Type 0
 width_too_great =
     find_unsigned 65536 (told ((256, unsigned 65536) ∷ [])) tag.ImageWidth
     ≡ Err (FormatError (InvalidTagValueType tag.ImageWidth))
 
--- a text is no number
+-- a text isn't a number
 abbrev pub width_no_number : Type 0
 width_no_number =
-    find_unsigned 65536 (told ((256, ascii []) ∷ [])) tag.ImageWidth ≡ Err (FormatError InvalidTypeForTag)
+    find_unsigned 65536 (told ((256, ascii []) ∷ [])) tag.ImageWidth
+    ≡ Err (FormatError InvalidTypeForTag)
 
 abbrev pub width_none : Type 0
 width_none =
     find_unsigned 65536 (told []) tag.ImageWidth ≡ Ok None
 
--- numbers below the limit, and one that isn't
+-- numbers below the limit, and numbers of which one isn't
 abbrev pub widths_fit : Type 0
 widths_fit =
-    find_unsigned_vec 256 (told ((256, list (more (short 8) (more (short 255) none))) ∷ [])) tag.ImageWidth ≡ Ok (Some (8 ∷ 255 ∷ []))
+    find_unsigned_vec 256 (told ((256, list (more (short 8) (more (short 255) none))) ∷ []))
+    tag.ImageWidth ≡ Ok (Some (8 ∷ 255 ∷ []))
 
 abbrev pub widths_too_great : Type 0
 widths_too_great =
-    find_unsigned_vec 256 (told ((256, list (more (short 8) (more (short 256) none))) ∷ [])) tag.ImageWidth
+    find_unsigned_vec 256 (told ((256, list (more (short 8) (more (short 256) none))) ∷ []))
+    tag.ImageWidth
     ≡ Err (FormatError (InvalidTagValueType tag.ImageWidth))
 
--- all are numbers before the first is tested
+-- all values must be numbers before the first is compared with the limit
 abbrev pub widths_no_number : Type 0
 widths_no_number =
-    find_unsigned_vec 256 (told ((256, list (more (short 256) (more (ascii []) none))) ∷ [])) tag.ImageWidth ≡ Err (FormatError InvalidTypeForTag)
+    find_unsigned_vec 256 (told ((256, list (more (short 256) (more (ascii []) none))) ∷ []))
+    tag.ImageWidth ≡ Err (FormatError InvalidTypeForTag)
 
 abbrev pub widths_none : Type 0
 widths_none =
     find_unsigned_vec 256 (told []) tag.ImageWidth ≡ Ok None
 
--- a tag that has to be there
+-- a required tag
 abbrev pub width_got : Type 0
 width_got =
     get_unsigned 256 (told ((256, short 255) ∷ [])) tag.ImageWidth ≡ Ok 255
 
 abbrev pub width_got_not : Type 0
 width_got_not =
-    get_unsigned 256 (told []) tag.ImageWidth ≡ Err (FormatError (RequiredTagNotFound tag.ImageWidth))
+    get_unsigned 256 (told []) tag.ImageWidth
+    ≡ Err (FormatError (RequiredTagNotFound tag.ImageWidth))
 
--- a tag by a conversion
+-- a required tag, converted to floating point
 abbrev pub float_got : Type 0
 float_got =
     require into_f32 (told ((256, float 1) ∷ [])) tag.ImageWidth ≡ Ok 1
 
 abbrev pub float_got_not : Type 0
 float_got_not =
-    require into_f32 (told []) tag.ImageWidth ≡ Err (FormatError (RequiredTagNotFound tag.ImageWidth))
+    require into_f32 (told []) tag.ImageWidth
+    ≡ Err (FormatError (RequiredTagNotFound tag.ImageWidth))
 
--- the tags of numbers
+-- tags by their numbers
 abbrev pub tag_256 : Type 0
 tag_256 =
     tag_of 256 ≡ tag.ImageWidth
@@ -107,7 +115,7 @@ abbrev pub tag_531 : Type 0
 tag_531 =
     tag_of 531 ≡ tag.ChromaPositioning
 
--- numbers without a name
+-- tag numbers without a name
 abbrev pub tag_0 : Type 0
 tag_0 =
     tag_of 0 ≡ tag.Unknown 0
@@ -116,118 +124,158 @@ abbrev pub tag_65000 : Type 0
 tag_65000 =
     tag_of 65000 ≡ tag.Unknown 65000
 
--- three items by ascending number, the last a fault
+-- three items in ascending order of tag numbers, the last of which is an error
 abbrev pub three_items : Type 0
 three_items =
     tag_items Classic LittleEndian [] unlimited (last_of_each some_fields)
-    ≡ Ok (tag.ImageWidth, short 5) ∷ Ok (tag.BitsPerSample, list (more (short 8) (more (short 8) none))) ∷ Err (IoError UnexpectedEof) ∷ []
+    ≡ Ok (tag.ImageWidth, short 5)
+    ∷ Ok (tag.BitsPerSample, list (more (short 8) (more (short 8) none)))
+    ∷ Err (IoError UnexpectedEof) ∷ []
 
--- an item follows a fault; entries are given in any order
+-- an item follows an error; entries may be in any order
 abbrev pub fault_between : Type 0
 fault_between =
     tag_items Classic BigEndian [] unlimited (last_of_each other_fields)
-    ≡ Ok (tag.Unknown 7, short 1) ∷ Err (FormatError InvalidTag) ∷ Ok (tag.Artist, ascii (0x41 ∷ [])) ∷ []
+    ≡ Ok (tag.Unknown 7, short 1) ∷ Err (FormatError InvalidTag)
+    ∷ Ok (tag.Artist, ascii (0x41 ∷ [])) ∷ []
 
 abbrev pub no_items : Type 0
 no_items =
     tag_items Classic LittleEndian [] unlimited (last_of_each []) ≡ []
 
--- two longs at 8, as they stand
+-- the raw bytes of two LONGs at 8
 abbrev pub raw_longs : Type 0
 raw_longs =
-    buffer_of Classic LittleEndian twice_one unlimited (of LONG 2 (0x08 ∷ 0x00 ∷ 0x00 ∷ 0x00 ∷ 0x00 ∷ 0x00 ∷ 0x00 ∷ 0x00 ∷ []))
-    ≡ Ok (record { order = LittleEndian; data_type = LONG; bytes = 0x01 ∷ 0x00 ∷ 0x00 ∷ 0x00 ∷ 0x01 ∷ 0x00 ∷ 0x00 ∷ 0x00 ∷ [] })
+    buffer_of Classic LittleEndian twice_one unlimited
+    (of LONG 2 (0x08 ∷ 0x00 ∷ 0x00 ∷ 0x00 ∷ 0x00 ∷ 0x00 ∷ 0x00 ∷ 0x00 ∷ []))
+    ≡ Ok (record {
+      order = LittleEndian;
+      data_type = LONG;
+      bytes = 0x01 ∷ 0x00 ∷ 0x00 ∷ 0x00 ∷ 0x01 ∷ 0x00 ∷ 0x00 ∷ 0x00 ∷ [];
+    })
 
--- a short in its entry, big-endian: it isn't turned
+-- the raw bytes of a big-endian SHORT in its entry, which stay in big-endian order
 abbrev pub raw_short : Type 0
 raw_short =
-    buffer_of Classic BigEndian [] unlimited (of SHORT 1 (0x00 ∷ 0x08 ∷ 0x00 ∷ 0x00 ∷ 0x00 ∷ 0x00 ∷ 0x00 ∷ 0x00 ∷ []))
+    buffer_of Classic BigEndian [] unlimited
+    (of SHORT 1 (0x00 ∷ 0x08 ∷ 0x00 ∷ 0x00 ∷ 0x00 ∷ 0x00 ∷ 0x00 ∷ 0x00 ∷ []))
     ≡ Ok (record { order = BigEndian; data_type = SHORT; bytes = 0x00 ∷ 0x08 ∷ [] })
 
--- a limit of one byte refuses it, and one of two doesn't
+-- a limit of one byte refuses a SHORT, and a limit of two doesn't
 abbrev pub raw_limit : Type 0
 raw_limit =
-    buffer_of Classic BigEndian [] (limited 1) (of SHORT 1 (0x00 ∷ 0x08 ∷ 0x00 ∷ 0x00 ∷ 0x00 ∷ 0x00 ∷ 0x00 ∷ 0x00 ∷ [])) ≡ Err LimitsExceeded
+    buffer_of Classic BigEndian [] (limited 1)
+    (of SHORT 1 (0x00 ∷ 0x08 ∷ 0x00 ∷ 0x00 ∷ 0x00 ∷ 0x00 ∷ 0x00 ∷ 0x00 ∷ []))
+    ≡ Err LimitsExceeded
 
 abbrev pub raw_at_limit : Type 0
 raw_at_limit =
-    buffer_of Classic BigEndian [] (limited 2) (of SHORT 1 (0x00 ∷ 0x08 ∷ 0x00 ∷ 0x00 ∷ 0x00 ∷ 0x00 ∷ 0x00 ∷ 0x00 ∷ []))
+    buffer_of Classic BigEndian [] (limited 2)
+    (of SHORT 1 (0x00 ∷ 0x08 ∷ 0x00 ∷ 0x00 ∷ 0x00 ∷ 0x00 ∷ 0x00 ∷ 0x00 ∷ []))
     ≡ Ok (record { order = BigEndian; data_type = SHORT; bytes = 0x00 ∷ 0x08 ∷ [] })
 
--- past the end of the source; the limit is told before it
+-- bytes past the end of the source; the limit is checked first
 abbrev pub raw_past_end : Type 0
 raw_past_end =
-    buffer_of Classic LittleEndian twice_one unlimited (of LONG 2 (0x09 ∷ 0x00 ∷ 0x00 ∷ 0x00 ∷ 0x00 ∷ 0x00 ∷ 0x00 ∷ 0x00 ∷ [])) ≡ Err (IoError UnexpectedEof)
+    buffer_of Classic LittleEndian twice_one unlimited
+    (of LONG 2 (0x09 ∷ 0x00 ∷ 0x00 ∷ 0x00 ∷ 0x00 ∷ 0x00 ∷ 0x00 ∷ 0x00 ∷ []))
+    ≡ Err (IoError UnexpectedEof)
 
 abbrev pub raw_limit_first : Type 0
 raw_limit_first =
-    buffer_of Classic LittleEndian twice_one (limited 7) (of LONG 2 (0x09 ∷ 0x00 ∷ 0x00 ∷ 0x00 ∷ 0x00 ∷ 0x00 ∷ 0x00 ∷ 0x00 ∷ [])) ≡ Err LimitsExceeded
-
--- so many bytes that their number passes 2^64
-abbrev pub raw_too_many : Type 0
-raw_too_many =
-    buffer_of Classic LittleEndian twice_one unlimited (of RATIONAL (2 ^ 61) (0x08 ∷ 0x00 ∷ 0x00 ∷ 0x00 ∷ 0x00 ∷ 0x00 ∷ 0x00 ∷ 0x00 ∷ []))
+    buffer_of Classic LittleEndian twice_one (limited 7)
+    (of LONG 2 (0x09 ∷ 0x00 ∷ 0x00 ∷ 0x00 ∷ 0x00 ∷ 0x00 ∷ 0x00 ∷ 0x00 ∷ []))
     ≡ Err LimitsExceeded
 
--- after a limit the buffer holds what it held, after another fault no values
+-- more than 2^64 bytes
+abbrev pub raw_too_many : Type 0
+raw_too_many =
+    buffer_of Classic LittleEndian twice_one unlimited
+    (of RATIONAL (2 ^ 61) (0x08 ∷ 0x00 ∷ 0x00 ∷ 0x00 ∷ 0x00 ∷ 0x00 ∷ 0x00 ∷ 0x00 ∷ []))
+    ≡ Err LimitsExceeded
+
+-- a buffer keeps its content after a limit error, and has no values after another error
 abbrev pub held : Type 0
 held =
-    refused_buffer BigEndian (of SHORT 1 (0x00 ∷ 0x08 ∷ 0x00 ∷ 0x00 ∷ 0x00 ∷ 0x00 ∷ 0x00 ∷ 0x00 ∷ [])) (empty_buffer BYTE) LimitsExceeded ≡ empty_buffer BYTE
+    refused_buffer BigEndian
+    (of SHORT 1 (0x00 ∷ 0x08 ∷ 0x00 ∷ 0x00 ∷ 0x00 ∷ 0x00 ∷ 0x00 ∷ 0x00 ∷ []))
+    (empty_buffer BYTE) LimitsExceeded ≡ empty_buffer BYTE
 
 abbrev pub not_held : Type 0
 not_held =
-    refused_buffer BigEndian (of SHORT 1 (0x00 ∷ 0x08 ∷ 0x00 ∷ 0x00 ∷ 0x00 ∷ 0x00 ∷ 0x00 ∷ 0x00 ∷ [])) (empty_buffer BYTE) (IoError UnexpectedEof)
+    refused_buffer BigEndian
+    (of SHORT 1 (0x00 ∷ 0x08 ∷ 0x00 ∷ 0x00 ∷ 0x00 ∷ 0x00 ∷ 0x00 ∷ 0x00 ∷ []))
+    (empty_buffer BYTE) (IoError UnexpectedEof)
     ≡ record { order = BigEndian; data_type = SHORT; bytes = [] }
 
--- two longs at 8, from their byte 4 on into a slice of three
+-- two LONGs at 8, from their byte 4 on, into a slice of three bytes
 abbrev pub part_at_4 : Type 0
 part_at_4 =
-    part_of_field Classic LittleEndian twice_one (of LONG 2 (0x08 ∷ 0x00 ∷ 0x00 ∷ 0x00 ∷ 0x00 ∷ 0x00 ∷ 0x00 ∷ 0x00 ∷ [])) 3 4 ≡ Ok (0x01 ∷ 0x00 ∷ 0x00 ∷ [])
+    part_of_field Classic LittleEndian twice_one
+    (of LONG 2 (0x08 ∷ 0x00 ∷ 0x00 ∷ 0x00 ∷ 0x00 ∷ 0x00 ∷ 0x00 ∷ 0x00 ∷ [])) 3 4
+    ≡ Ok (0x01 ∷ 0x00 ∷ 0x00 ∷ [])
 
--- from the last byte on, and from the end on
+-- two LONGs from their last byte on, and from their end on
 abbrev pub part_at_7 : Type 0
 part_at_7 =
-    part_of_field Classic LittleEndian twice_one (of LONG 2 (0x08 ∷ 0x00 ∷ 0x00 ∷ 0x00 ∷ 0x00 ∷ 0x00 ∷ 0x00 ∷ 0x00 ∷ [])) 3 7 ≡ Ok (0x00 ∷ [])
+    part_of_field Classic LittleEndian twice_one
+    (of LONG 2 (0x08 ∷ 0x00 ∷ 0x00 ∷ 0x00 ∷ 0x00 ∷ 0x00 ∷ 0x00 ∷ 0x00 ∷ [])) 3 7
+    ≡ Ok (0x00 ∷ [])
 
 abbrev pub part_at_8 : Type 0
 part_at_8 =
-    part_of_field Classic LittleEndian twice_one (of LONG 2 (0x08 ∷ 0x00 ∷ 0x00 ∷ 0x00 ∷ 0x00 ∷ 0x00 ∷ 0x00 ∷ 0x00 ∷ [])) 3 8 ≡ Ok []
+    part_of_field Classic LittleEndian twice_one
+    (of LONG 2 (0x08 ∷ 0x00 ∷ 0x00 ∷ 0x00 ∷ 0x00 ∷ 0x00 ∷ 0x00 ∷ 0x00 ∷ [])) 3 8 ≡ Ok []
 
--- in the entry, from byte 1 on
+-- a SHORT in the entry, from byte 1 on
 abbrev pub part_inline : Type 0
 part_inline =
-    part_of_field Classic LittleEndian [] (of SHORT 1 (0x00 ∷ 0x08 ∷ 0x00 ∷ 0x00 ∷ 0x00 ∷ 0x00 ∷ 0x00 ∷ 0x00 ∷ [])) 3 1 ≡ Ok (0x08 ∷ [])
+    part_of_field Classic LittleEndian []
+    (of SHORT 1 (0x00 ∷ 0x08 ∷ 0x00 ∷ 0x00 ∷ 0x00 ∷ 0x00 ∷ 0x00 ∷ 0x00 ∷ [])) 3 1
+    ≡ Ok (0x08 ∷ [])
 
--- of a file of 12 bytes the first three are there, the last three aren't
+-- in a file of 12 bytes the first three bytes of the value can be read, and the last three can't
 abbrev pub part_of_cut : Type 0
 part_of_cut =
-    part_of_field Classic LittleEndian (take 12 twice_one) (of LONG 2 (0x08 ∷ 0x00 ∷ 0x00 ∷ 0x00 ∷ 0x00 ∷ 0x00 ∷ 0x00 ∷ 0x00 ∷ [])) 3 0 ≡ Ok (0x01 ∷ 0x00 ∷ 0x00 ∷ [])
+    part_of_field Classic LittleEndian (take 12 twice_one)
+    (of LONG 2 (0x08 ∷ 0x00 ∷ 0x00 ∷ 0x00 ∷ 0x00 ∷ 0x00 ∷ 0x00 ∷ 0x00 ∷ [])) 3 0
+    ≡ Ok (0x01 ∷ 0x00 ∷ 0x00 ∷ [])
 
 abbrev pub part_cut : Type 0
 part_cut =
-    part_of_field Classic LittleEndian (take 12 twice_one) (of LONG 2 (0x08 ∷ 0x00 ∷ 0x00 ∷ 0x00 ∷ 0x00 ∷ 0x00 ∷ 0x00 ∷ 0x00 ∷ [])) 3 5 ≡ Err (IoError UnexpectedEof)
+    part_of_field Classic LittleEndian (take 12 twice_one)
+    (of LONG 2 (0x08 ∷ 0x00 ∷ 0x00 ∷ 0x00 ∷ 0x00 ∷ 0x00 ∷ 0x00 ∷ 0x00 ∷ [])) 3 5
+    ≡ Err (IoError UnexpectedEof)
 
--- no bytes are there past the end of the file too
+-- zero bytes can be read even past the end of the file
 abbrev pub part_of_none : Type 0
 part_of_none =
-    part_of_field Classic LittleEndian [] (of LONG 2 (0x08 ∷ 0x00 ∷ 0x00 ∷ 0x00 ∷ 0x00 ∷ 0x00 ∷ 0x00 ∷ 0x00 ∷ [])) 0 0 ≡ Ok []
+    part_of_field Classic LittleEndian []
+    (of LONG 2 (0x08 ∷ 0x00 ∷ 0x00 ∷ 0x00 ∷ 0x00 ∷ 0x00 ∷ 0x00 ∷ 0x00 ∷ [])) 0 0 ≡ Ok []
 
 -- an offset past 2^64
 abbrev pub part_past_u64 : Type 0
 part_past_u64 =
-    part_of_field Big LittleEndian twice_one (of LONG8 2 (0xff ∷ 0xff ∷ 0xff ∷ 0xff ∷ 0xff ∷ 0xff ∷ 0xff ∷ 0xff ∷ [])) 3 1 ≡ Err (FormatError InconsistentSizesEncountered)
+    part_of_field Big LittleEndian twice_one
+    (of LONG8 2 (0xff ∷ 0xff ∷ 0xff ∷ 0xff ∷ 0xff ∷ 0xff ∷ 0xff ∷ 0xff ∷ [])) 3 1
+    ≡ Err (FormatError InconsistentSizesEncountered)
 
--- the greatest offset is past the end of the file
+-- the largest offset is past the end of the file
 abbrev pub part_at_last : Type 0
 part_at_last =
-    part_of_field Big LittleEndian twice_one (of LONG8 2 (0xff ∷ 0xff ∷ 0xff ∷ 0xff ∷ 0xff ∷ 0xff ∷ 0xff ∷ 0xff ∷ [])) 3 0 ≡ Err (IoError UnexpectedEof)
+    part_of_field Big LittleEndian twice_one
+    (of LONG8 2 (0xff ∷ 0xff ∷ 0xff ∷ 0xff ∷ 0xff ∷ 0xff ∷ 0xff ∷ 0xff ∷ [])) 3 0
+    ≡ Err (IoError UnexpectedEof)
 
--- the end of the value is told before the offset
+-- the end of the value is checked before the offset
 abbrev pub part_end_first : Type 0
 part_end_first =
-    part_of_field Big LittleEndian twice_one (of LONG8 2 (0xff ∷ 0xff ∷ 0xff ∷ 0xff ∷ 0xff ∷ 0xff ∷ 0xff ∷ 0xff ∷ [])) 3 16 ≡ Ok []
+    part_of_field Big LittleEndian twice_one
+    (of LONG8 2 (0xff ∷ 0xff ∷ 0xff ∷ 0xff ∷ 0xff ∷ 0xff ∷ 0xff ∷ 0xff ∷ [])) 3 16 ≡ Ok []
 
--- a number of bytes that passes 2^64 is told first
+-- more than 2^64 bytes are refused first
 abbrev pub part_too_many : Type 0
 part_too_many =
-    part_of_field Big LittleEndian twice_one (of RATIONAL (2 ^ 61) (0xff ∷ 0xff ∷ 0xff ∷ 0xff ∷ 0xff ∷ 0xff ∷ 0xff ∷ 0xff ∷ [])) 0 0 ≡ Err LimitsExceeded
+    part_of_field Big LittleEndian twice_one
+    (of RATIONAL (2 ^ 61) (0xff ∷ 0xff ∷ 0xff ∷ 0xff ∷ 0xff ∷ 0xff ∷ 0xff ∷ 0xff ∷ [])) 0 0
+    ≡ Err LimitsExceeded

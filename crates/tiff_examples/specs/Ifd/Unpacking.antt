@@ -1,4 +1,4 @@
--- Worked reads of packed bytes in pieces.
+-- Worked examples of reads of packed bytes in pieces.
 use Rattle.std.specs.Prelude.{◌≡◌, ℕ, List, [], ◌∷◌, Ok, Err, false}
 use Rattle.tiff_base.specs.declared.error.TiffError.{TiffError}
 use Rattle.tiff_base.specs.declared.error.TiffError.TheVariants.{IoError, OutOfMemory}
@@ -10,43 +10,45 @@ use Rattle.tiff_ifd.specs.Unpacking.{Unpacking, unpacked_at, left_in, IsLastPart
 abbrev pub gives : List ℕ → End → Unpacked
 gives out end = record { out = out; end = end }
 
--- a run that stands behind another byte
+-- a run after another byte
 abbrev pub at_offset : Type 0
 at_offset = unpacked_at (0x09 ∷ 0xfe ∷ 0x07 ∷ []) 1 2 ≡ gives (0x07 ∷ 0x07 ∷ 0x07 ∷ []) Plain
 
--- no more than so many bytes
+-- no more than this number of packed bytes
 abbrev pub of_length : Type 0
 of_length = unpacked_at (0x00 ∷ 0x41 ∷ 0x00 ∷ 0x42 ∷ []) 0 2 ≡ gives (0x41 ∷ []) Plain
 
--- the source ends before them, and none are asked for past its end
+-- the source ends before the packed length, and nothing past its end is asked for
 abbrev pub past_end : Type 0
 past_end = unpacked_at (0x00 ∷ 0x41 ∷ []) 0 3 ≡ gives (0x41 ∷ []) Broken
 
 abbrev pub none_past_end : Type 0
 none_past_end = unpacked_at (0x00 ∷ []) 5 0 ≡ gives [] Plain
 
--- in the middle of a literal, and of a run
+-- unpacking goes on within a literal, and within a run
 abbrev pub in_literal : Type 0
-in_literal = left_in (Literal 2) false (0x01 ∷ 0x02 ∷ 0xff ∷ 0x07 ∷ []) ≡ gives (0x01 ∷ 0x02 ∷ 0x07 ∷ 0x07 ∷ []) Plain
+in_literal =
+    left_in (Literal 2) false (0x01 ∷ 0x02 ∷ 0xff ∷ 0x07 ∷ [])
+    ≡ gives (0x01 ∷ 0x02 ∷ 0x07 ∷ 0x07 ∷ []) Plain
 
 abbrev pub in_run : Type 0
 in_run = left_in (Run 0x07 2) false (0x00 ∷ 0x41 ∷ []) ≡ gives (0x07 ∷ 0x07 ∷ 0x41 ∷ []) Plain
 
--- the last three of seven packed bytes at 5
+-- the last three of seven packed bytes at 5 are the last part
 abbrev pub last_of_packed : Type 0
 last_of_packed = IsLastPart 5 7 (record { block = Literal 0; at = 9; len = 3 })
 
--- two of them don't end where those do
+-- two bytes at 9 aren't the last part of seven packed bytes at 5
 abbrev pub not_the_last : Type 0
 not_the_last = IsLastPart 5 7 (record { block = Literal 0; at = 9; len = 2 }) → ⊥
 
 -- ---- a piece
 
--- what is left: three bytes, or none
+-- the unpacked bytes that are left: three, or none
 abbrev pub some : Unpacked
 some = gives (0x01 ∷ 0x02 ∷ 0x03 ∷ []) Plain
 
--- two bytes are read, or one, with what stands behind it
+-- a read gives two bytes, or one, and leaves the rest
 abbrev pub two_read : Type 0
 two_read = GivesNext some (0x09 ∷ 0x09 ∷ []) 2 (0x01 ∷ 0x02 ∷ []) (gives (0x03 ∷ []) Plain)
 
@@ -54,57 +56,64 @@ abbrev pub one_read : Type 0
 one_read = GivesNext some (0x09 ∷ 0x09 ∷ []) 1 (0x01 ∷ 0x09 ∷ []) (gives (0x02 ∷ 0x03 ∷ []) Plain)
 
 abbrev pub one_spills : Type 0
-one_spills = GivesNext some (0x09 ∷ 0x09 ∷ []) 1 (0x01 ∷ 0x00 ∷ []) (gives (0x02 ∷ 0x03 ∷ []) Plain) → ⊥
+one_spills = GivesNext some (0x09 ∷ 0x09 ∷ []) 1 (0x01 ∷ 0x00 ∷ []) (gives (0x02 ∷ 0x03 ∷ []) Plain)
+    → ⊥
 
--- a byte is passed, or read again
+-- a read doesn't skip a byte, and doesn't repeat one
 abbrev pub one_passed : Type 0
 one_passed = GivesNext some (0x09 ∷ []) 1 (0x01 ∷ []) (gives (0x03 ∷ []) Plain) → ⊥
 
 abbrev pub one_again : Type 0
 one_again = GivesNext some (0x09 ∷ []) 1 (0x01 ∷ []) some → ⊥
 
--- the end is another one later
+-- a read doesn't change the kind of end
 abbrev pub end_turned : Type 0
 end_turned = GivesNext some (0x09 ∷ []) 1 (0x01 ∷ []) (gives (0x02 ∷ 0x03 ∷ []) Broken) → ⊥
 
--- none is read while there are some, but into an empty buffer
+-- a read gives at least one byte while there are some, except into an empty buffer
 abbrev pub none_read : Type 0
 none_read = GivesNext some (0x09 ∷ []) 0 (0x09 ∷ []) some → ⊥
 
 abbrev pub empty_read : Type 0
 empty_read = GivesNext some [] 0 [] some
 
--- at a plain end none is read, and at a broken one nothing is answered so
+-- a read gives no bytes at a plain end, but not at a broken one
 abbrev pub plain_read : Type 0
 plain_read = GivesNext (gives [] Plain) (0x09 ∷ []) 0 (0x09 ∷ []) (gives [] Plain)
 
 abbrev pub broken_read : Type 0
 broken_read = GivesNext (gives [] Broken) (0x09 ∷ []) 0 (0x09 ∷ []) (gives [] Broken) → ⊥
 
--- ---- refusals
+-- ---- errors
 
 abbrev pub left : Unpacked → ℕ → Unpacking
 left rest failures = record { bytes = []; failures = failures; rest = rest }
 
--- a read into a buffer of one byte, which then holds any
+-- a refused read into a buffer of one byte, which then contains any byte
 abbrev pub Refused : Unpacked → Unpacked → ℕ → TiffError → Type 0
-Refused before after failures e = PieceReads (Err e) (left before 0) (left after failures) (0x09 ∷ []) (0x00 ∷ [])
+Refused before after failures e =
+    PieceReads (Err e) (left before 0) (left after failures) (0x09 ∷ []) (0x00 ∷ [])
 
--- a broken end is told, and again
+-- a broken end is an error, and stays one
 abbrev pub broken_told : Type 0
 broken_told = Refused (gives [] Broken) (gives [] Broken) 0 (IoError UnexpectedEof)
 
--- but not into an empty buffer, at a plain end, or while there are bytes
+-- a broken end isn't an error for an empty buffer; there is no such error at a plain end, or while
+-- there are bytes
 abbrev pub broken_empty : Type 0
-broken_empty = PieceReads (Err (IoError UnexpectedEof)) (left (gives [] Broken) 0) (left (gives [] Broken) 0) [] [] → ⊥
+broken_empty =
+    PieceReads (Err (IoError UnexpectedEof)) (left (gives [] Broken) 0) (left (gives [] Broken) 0)
+    [] [] → ⊥
 
 abbrev pub plain_told : Type 0
 plain_told = Refused (gives [] Plain) (gives [] Plain) 0 (IoError UnexpectedEof) → ⊥
 
 abbrev pub told_early : Type 0
-told_early = Refused (gives (0x01 ∷ []) Broken) (gives (0x01 ∷ []) Broken) 0 (IoError UnexpectedEof) → ⊥
+told_early = Refused (gives (0x01 ∷ []) Broken) (gives (0x01 ∷ []) Broken) 0 (IoError UnexpectedEof)
+    → ⊥
 
--- a fault of the device, with a read that failed and without one; no byte is lost by it, and no memory is taken
+-- a device error, with a failed read and without one; it loses no byte, and a read allocates
+-- nothing
 abbrev pub device_told : Type 0
 device_told = Refused some some 1 (IoError Device)
 
@@ -121,14 +130,21 @@ memory_told = Refused some some 0 OutOfMemory → ⊥
 
 -- a row of two bytes is filled
 abbrev pub row_filled : Type 0
-row_filled = Fills {X = ℕ} (Ok 0) (left some 0) (left (gives (0x03 ∷ []) Plain) 0) (0x01 ∷ 0x02 ∷ [])
+row_filled =
+    Fills {X = ℕ} (Ok 0) (left some 0) (left (gives (0x03 ∷ []) Plain) 0) (0x01 ∷ 0x02 ∷ [])
 
--- three bytes are fewer than four, and stay to be read; they fill a row of three
+-- three bytes don't fill a row of four and stay to be read; they fill a row of three
 abbrev pub row_short : Type 0
-row_short = Fills {X = ℕ} (Err (IoError UnexpectedEof)) (left some 0) (left some 0) (0x01 ∷ 0x02 ∷ 0x03 ∷ 0x00 ∷ [])
+row_short =
+    Fills {X = ℕ} (Err (IoError UnexpectedEof)) (left some 0) (left some 0)
+    (0x01 ∷ 0x02 ∷ 0x03 ∷ 0x00 ∷ [])
 
 abbrev pub row_short_loses : Type 0
-row_short_loses = Fills {X = ℕ} (Err (IoError UnexpectedEof)) (left some 0) (left (gives [] Plain) 0) (0x01 ∷ 0x02 ∷ 0x03 ∷ 0x00 ∷ []) → ⊥
+row_short_loses =
+    Fills {X = ℕ} (Err (IoError UnexpectedEof)) (left some 0) (left (gives [] Plain) 0)
+    (0x01 ∷ 0x02 ∷ 0x03 ∷ 0x00 ∷ []) → ⊥
 
 abbrev pub row_enough : Type 0
-row_enough = Fills {X = ℕ} (Err (IoError UnexpectedEof)) (left some 0) (left some 0) (0x01 ∷ 0x02 ∷ 0x03 ∷ []) → ⊥
+row_enough =
+    Fills {X = ℕ} (Err (IoError UnexpectedEof)) (left some 0) (left some 0)
+    (0x01 ∷ 0x02 ∷ 0x03 ∷ []) → ⊥

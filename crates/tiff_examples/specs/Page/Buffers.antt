@@ -1,4 +1,4 @@
--- Worked layouts of buffers, and counts of chunks.
+-- Worked examples of buffer layouts, and of counts of chunks.
 use Rattle.std.specs.Prelude.{◌≡◌, ℕ, [], ◌∷◌, Some, None, Ok, Err}
 use Rattle.tiff_base.specs.declared.color.ChunkType.TheVariants.{Strip, Tile}
 use Rattle.tiff_base.specs.declared.error.TiffError.TheVariants.{UnsupportedError, UsageError, LimitsExceeded, IntSizeError}
@@ -16,7 +16,7 @@ use Rattle.tiff_page.specs.Buffers.{image_buffer_layout, image_chunk_buffer_layo
 use Rattle.tiff_examples.specs.Page.Layout.{gray_page, planar_tiles, rgb_page}
 use Rattle.tiff_examples.specs.Page.Pixels.{limits}
 
--- a strip of more rows than the image has is told as it is; in the image it has the image's rows
+-- a strip with more rows than the image keeps its own height, and has the image's rows in the image
 abbrev pub long_strip : PageRecord
 long_strip = record gray_page { chunk_height = 1000000 }
 
@@ -29,31 +29,33 @@ tile_dimensions = chunk_dimensions planar_tiles ≡ (16, 16)
 abbrev pub long_data : Type 0
 long_data = chunk_data_dimensions long_strip 0 ≡ (4, 3)
 
--- the corner of the second plane; an index past all planes is that of a chunk of the first
+-- the corner of the second plane; an index past all planes is that of a chunk of the first plane
 abbrev pub corner_data : Type 0
 corner_data = chunk_data_dimensions planar_tiles 7 ≡ (4, 4)
 
 abbrev pub past_data : Type 0
 past_data = chunk_data_dimensions planar_tiles 9 ≡ (4, 16)
 
--- strips: two of three rows; of three planes six
+-- three rows in strips of two rows are two strips; three planes have six
 abbrev pub strips_of_plane : Type 0
 strips_of_plane = strip_count (record gray_page { chunk_height = 2 }) ≡ Ok 2
 
 abbrev pub strips_of_planes : Type 0
 strips_of_planes = strip_count (record rgb_page { chunk_height = 2; planar = Planar }) ≡ Ok 6
 
--- as many rows of a strip as can be, of an image of one row, and of two
+-- the largest number of rows per strip, for an image of one row, and of two
 abbrev pub most_rows : Type 0
 most_rows = strip_count (record gray_page { height = 1; chunk_height = 4294967295 }) ≡ Ok 1
 
 abbrev pub too_many_rows : Type 0
-too_many_rows = strip_count (record gray_page { height = 2; chunk_height = 4294967295 }) ≡ Err IntSizeError
+too_many_rows = strip_count (record gray_page { height = 2; chunk_height = 4294967295 })
+    ≡ Err IntSizeError
 
--- tiles are no strips, however high; strips are no tiles
+-- tiles aren't strips, whatever their height; strips aren't tiles
 abbrev pub no_strips : Type 0
 no_strips =
-    strip_count (record planar_tiles { chunk_height = 4294967295 }) ≡ Err (UsageError (InvalidChunkType Strip Tile))
+    strip_count (record planar_tiles { chunk_height = 4294967295 })
+    ≡ Err (UsageError (InvalidChunkType Strip Tile))
 
 abbrev pub tiles_of_planes : Type 0
 tiles_of_planes = tile_count planar_tiles ≡ Ok 8
@@ -73,7 +75,7 @@ of_bytes len row planes complete = record {
   complete_len = complete;
 }
 
--- an image of two planes, and one of three
+-- the layouts of an image with two planes, and with three
 abbrev pub two_planes : Type 0
 two_planes = image_buffer_layout planar_tiles ≡ Ok (of_bytes 400 20 2 800)
 
@@ -88,7 +90,7 @@ three_planes =
     })
     ≡ Ok (of_bytes 186626 374 3 559878)
 
--- samples that stand together are one plane
+-- chunky samples are one plane
 abbrev pub one_plane : Type 0
 one_plane = image_buffer_layout rgb_page ≡ Ok (of_bytes 36 12 1 36)
 
@@ -98,7 +100,7 @@ of_12_bits =
     image_buffer_layout (record gray_page { width = 1; height = 1; depth = 12 })
     ≡ Ok (record (of_bytes 2 2 1 2) { sample_type = Some type.U16 })
 
--- a sample without a number type: an image's buffer has none, a chunk's is a fault
+-- a sample without a number type: the layout of an image has none, and that of a chunk is an error
 abbrev pub void_page : PageRecord
 void_page = record gray_page { format = format.Void }
 
@@ -114,9 +116,11 @@ float_image =
 
 abbrev pub void_chunk : Type 0
 void_chunk =
-    image_chunk_buffer_layout void_page 0 ≡ Err (UnsupportedError (UnsupportedSampleFormat (format.Void ∷ [])))
+    image_chunk_buffer_layout void_page 0
+    ≡ Err (UnsupportedError (UnsupportedSampleFormat (format.Void ∷ [])))
 
--- the largest sides: one plane is below 2^64 bytes, two are not, and a chunk is not below 2^63
+-- the largest dimensions: one plane has less than 2^64 bytes, two planes don't, and a chunk doesn't
+-- have less than 2^63
 abbrev pub largest_page : PageRecord
 largest_page = record gray_page {
   width = 4294967295;
@@ -127,23 +131,28 @@ largest_page = record gray_page {
 
 abbrev pub largest_image : Type 0
 largest_image =
-    image_buffer_layout largest_page ≡ Ok (of_bytes 18446744065119617025 4294967295 1 18446744065119617025)
+    image_buffer_layout largest_page
+    ≡ Ok (of_bytes 18446744065119617025 4294967295 1 18446744065119617025)
 
 abbrev pub largest_planes : Type 0
-largest_planes = image_buffer_layout (record largest_page { samples = 2; planar = Planar }) ≡ Err LimitsExceeded
+largest_planes = image_buffer_layout (record largest_page { samples = 2; planar = Planar })
+    ≡ Err LimitsExceeded
 
 abbrev pub largest_chunk : Type 0
 largest_chunk = image_chunk_buffer_layout largest_page 0 ≡ Err LimitsExceeded
 
--- of two planes of that size a chunk's buffer takes one: its fault is the number type's
+-- a chunk's buffer contains one of two planes with the largest dimensions: the error is that of the
+-- number type
 abbrev pub largest_void : Type 0
 largest_void =
-    image_chunk_buffer_layout (record largest_page { samples = 2; planar = Planar; format = format.Void }) 0
+    image_chunk_buffer_layout
+    (record largest_page { samples = 2; planar = Planar; format = format.Void }) 0
     ≡ Err (UnsupportedError (UnsupportedSampleFormat (format.Void ∷ [])))
 
--- tiles of half bytes: there is no buffer for the image, but for a tile
+-- tiles with half bytes: the image has no buffer layout, and a tile has one
 abbrev pub half_bytes : PageRecord
-half_bytes = record gray_page { width = 20; height = 20; depth = 4; chunk_width = 15; chunk_height = 15 }
+half_bytes =
+    record gray_page { width = 20; height = 20; depth = 4; chunk_width = 15; chunk_height = 15 }
 
 abbrev pub half_image : Type 0
 half_image = image_buffer_layout half_bytes ≡ Err (UnsupportedError MisalignedTileBoundaries)
@@ -151,7 +160,7 @@ half_image = image_buffer_layout half_bytes ≡ Err (UnsupportedError Misaligned
 abbrev pub half_tile : Type 0
 half_tile = image_chunk_buffer_layout half_bytes 0 ≡ Ok (of_bytes 120 8 1 120)
 
--- a sample of three bytes is handed out in four
+-- a sample of three bytes is returned in four
 abbrev pub rounded_up : Type 0
 rounded_up =
     image_chunk_buffer_layout (record gray_page { width = 1; height = 1; depth = 17 }) 0
@@ -165,18 +174,18 @@ rounded_up =
       complete_len = 4;
     })
 
--- a chunk of a planar page is of one plane; the coding unit of the same index is of both
+-- a chunk of a planar page is in one plane; the coding unit with its index is in both
 abbrev pub planar_chunk : Type 0
 planar_chunk = image_chunk_buffer_layout planar_tiles 3 ≡ Ok (of_bytes 16 4 1 16)
 
 abbrev pub planar_unit : Type 0
 planar_unit = image_coding_unit_layout planar_tiles 3 ≡ Ok (of_bytes 16 4 2 32)
 
--- there are four units
+-- there are four coding units, from 0 to 3
 abbrev pub unit_4 : Type 0
 unit_4 = image_coding_unit_layout planar_tiles 4 ≡ Err (UsageError (InvalidCodingUnit 4 4))
 
--- the faults of the layout, and too many bytes, come before that
+-- layout errors and too many bytes are checked before the index of a coding unit
 abbrev pub unit_of_no_color : Type 0
 unit_of_no_color =
     image_coding_unit_layout (record planar_tiles { interpretation = meaning.RGBPalette }) 4
@@ -184,13 +193,14 @@ unit_of_no_color =
 
 abbrev pub unit_too_long : Type 0
 unit_too_long =
-    image_coding_unit_layout (record largest_page { samples = 2; planar = Planar }) 1 ≡ Err LimitsExceeded
+    image_coding_unit_layout (record largest_page { samples = 2; planar = Planar }) 1
+    ≡ Err LimitsExceeded
 
--- where samples stand together a unit is a chunk, and its index is not tested
+-- with chunky samples a coding unit is a chunk, and its index isn't checked
 abbrev pub chunky_unit : Type 0
 chunky_unit = image_coding_unit_layout gray_page 9 ≡ Ok (of_bytes 12 4 1 12)
 
--- a planar page without a number type has a unit's buffer, one whose samples stand together has none
+-- without a number type, a planar page has a layout for a coding unit, and a chunky page has none
 abbrev pub void_unit : Type 0
 void_unit =
     image_coding_unit_layout (record planar_tiles { format = format.Void }) 3
@@ -198,19 +208,22 @@ void_unit =
 
 abbrev pub void_chunky_unit : Type 0
 void_chunky_unit =
-    image_coding_unit_layout void_page 0 ≡ Err (UnsupportedError (UnsupportedSampleFormat (format.Void ∷ [])))
+    image_coding_unit_layout void_page 0
+    ≡ Err (UnsupportedError (UnsupportedSampleFormat (format.Void ∷ [])))
 
--- zeros for three bytes as numbers of two; all planes count
+-- zeros for three bytes as 2-byte numbers; all planes count
 abbrev pub two_zeros : Type 0
 two_zeros =
     resized_samples (record (of_bytes 1 1 3 3) { sample_type = Some type.U16 }) (limits 4 0)
     ≡ Ok (record { sample_type = type.U16; numbers = 0 ∷ 0 ∷ [] })
 
--- three bytes are a limit of one number of two
+-- a limit of three bytes allows one 2-byte number
 abbrev pub too_many_zeros : Type 0
-too_many_zeros = resized_samples (record (of_bytes 1 1 3 3) { sample_type = Some type.U16 }) (limits 3 0) ≡ Err LimitsExceeded
+too_many_zeros =
+    resized_samples (record (of_bytes 1 1 3 3) { sample_type = Some type.U16 }) (limits 3 0)
+    ≡ Err LimitsExceeded
 
--- no number type, told before the limit
+-- a missing number type is refused before the limit is checked
 abbrev pub zeros_of_none : Type 0
 zeros_of_none =
     resized_samples (record (of_bytes 1 1 3 3) { sample_type = None }) (limits 0 0)

@@ -1,4 +1,4 @@
--- Worked checks of a page: which of two faults is told, and what lies just within.
+-- Worked examples of checks of a page: the first of two errors, and values that just pass.
 use Rattle.std.specs.Prelude.{◌≡◌, [], ◌∷◌, ◌++◌, ◌^◌, Ok, Err}
 use Rattle.tiff_base.specs.declared.color.ChunkType.TheVariants.{Tile}
 use Rattle.tiff_base.specs.declared.color.ColorType.TheVariants as color
@@ -12,45 +12,50 @@ use Rattle.tiff_base.specs.declared.tags.PlanarConfiguration.TheVariants.{Planar
 use Rattle.tiff_base.specs.declared.tags.Predictor.TheVariants as predictor
 use Rattle.tiff_base.specs.declared.tags.SampleFormat.TheVariants as format
 use Rattle.tiff_base.specs.declared.tags.Tag.TheVariants as tag
-use Rattle.tiff_ifd.specs.Datum.{Datum, none, more, list, short, unsigned}
+use Rattle.tiff_ifd.specs.PlainValue.{PlainValue, none, more, list, short, unsigned}
 use Rattle.tiff_page.specs.declared.layout.DecodingSampleType.TheVariants as type
 use Rattle.tiff_page.specs.Page.{PageRecord}
 use Rattle.tiff_page.specs.Checks.{page_of}
 use Rattle.tiff_page.specs.Layout.{color_of, sample_type_of, layout_of, size_of}
-use Rattle.tiff_examples.specs.Ifd.Look.{told}
+use Rattle.tiff_examples.specs.Ifd.TagLookup.{told}
 use Rattle.tiff_examples.specs.Page.Layout.{gray_tags, strip_tags, gray_page, rgb_page}
 
-abbrev pub one : Datum → Datum
+abbrev pub one : PlainValue → PlainValue
 one a = list (more a none)
 
-abbrev pub two : Datum → Datum → Datum
+abbrev pub two : PlainValue → PlainValue → PlainValue
 two a b = list (more a (more b none))
 
--- a height of 0; a width of 0 is told after the height is read
+-- a height of 0; the height is read before a width of 0 is refused
 abbrev pub height_0 : Type 0
-height_0 = page_of (told ((257, short 0) ∷ gray_tags ++ strip_tags)) ≡ Err (FormatError (InvalidDimensions 4 0))
+height_0 =
+    page_of (told ((257, short 0) ∷ gray_tags ++ strip_tags))
+    ≡ Err (FormatError (InvalidDimensions 4 0))
 
 abbrev pub width_0_no_height : Type 0
-width_0_no_height = page_of (told ((256, short 0) ∷ [])) ≡ Err (FormatError (RequiredTagNotFound tag.ImageLength))
+width_0_no_height =
+    page_of (told ((256, short 0) ∷ [])) ≡ Err (FormatError (RequiredTagNotFound tag.ImageLength))
 
--- a width that is a list of one number is none
+-- a list of one number isn't a width
 abbrev pub width_list : Type 0
-width_list = page_of (told ((256, one (short 4)) ∷ gray_tags ++ strip_tags)) ≡ Err (FormatError InvalidTypeForTag)
+width_list =
+    page_of (told ((256, one (short 4)) ∷ gray_tags ++ strip_tags))
+    ≡ Err (FormatError InvalidTypeForTag)
 
--- a method without a name
+-- a compression method without a name
 abbrev pub method_7777 : Type 0
 method_7777 =
     page_of (told ((259, short 7777) ∷ gray_tags ++ strip_tags)) ≡ Ok (record gray_page {
       method = method.Unknown 7777;
     })
 
--- no samples are told before extra samples that are too many
+-- 0 samples per pixel are refused before too many extra samples
 abbrev pub no_samples_first : Type 0
 no_samples_first =
     page_of (told ((277, short 0) ∷ (338, two (short 0) (short 1)) ∷ gray_tags ++ strip_tags))
     ≡ Err (FormatError SamplesPerPixelIsZero)
 
--- two formats of which one doesn't fit; and twice the same
+-- two sample formats, of which one doesn't fit, and two equal ones
 abbrev pub wide_format_first : Type 0
 wide_format_first =
     page_of (told ((339, two (unsigned 1) (unsigned 65537)) ∷ gray_tags ++ strip_tags))
@@ -58,16 +63,18 @@ wide_format_first =
 
 abbrev pub same_format : Type 0
 same_format =
-    page_of (told ((339, two (short 3) (short 3)) ∷ gray_tags ++ strip_tags)) ≡ Ok (record gray_page {
+    page_of (told ((339, two (short 3) (short 3)) ∷ gray_tags ++ strip_tags))
+    ≡ Ok (record gray_page {
       format = format.IEEEFP;
     })
 
--- a format that is told is no fault of the page though it has no name
+-- a sample format without a name isn't an error of the page
 abbrev pub format_9 : Type 0
 format_9 =
-    page_of (told ((339, short 9) ∷ gray_tags ++ strip_tags)) ≡ Ok (record gray_page { format = format.Unknown 9 })
+    page_of (told ((339, short 9) ∷ gray_tags ++ strip_tags))
+    ≡ Ok (record gray_page { format = format.Unknown 9 })
 
--- depths: one that doesn't fit before too many; too many before different ones; none; zeros
+-- depths: one that doesn't fit before too many, too many before different ones, none, and zeros
 abbrev pub wide_depth_first : Type 0
 wide_depth_first =
     page_of (told ((258, two (short 8) (short 256)) ∷ gray_tags ++ strip_tags))
@@ -80,22 +87,24 @@ many_depths_first =
 
 abbrev pub depths_of_none : Type 0
 depths_of_none =
-    page_of (told ((258, list none) ∷ gray_tags ++ strip_tags)) ≡ Err (FormatError InconsistentSizesEncountered)
+    page_of (told ((258, list none) ∷ gray_tags ++ strip_tags))
+    ≡ Err (FormatError InconsistentSizesEncountered)
 
 abbrev pub depths_0 : Type 0
 depths_0 =
     page_of (told ((277, short 2) ∷ (258, two (short 0) (short 0)) ∷ gray_tags ++ strip_tags))
     ≡ Err (UnsupportedError (InconsistentBitsPerSample (0 ∷ 0 ∷ [])))
 
--- one depth for two samples, and the deepest
+-- one depth for two samples, and the largest depth
 abbrev pub depth_255 : Type 0
 depth_255 =
-    page_of (told ((277, short 2) ∷ (258, short 255) ∷ gray_tags ++ strip_tags)) ≡ Ok (record gray_page {
+    page_of (told ((277, short 2) ∷ (258, short 255) ∷ gray_tags ++ strip_tags))
+    ≡ Ok (record gray_page {
       samples = 2;
       depth = 255;
     })
 
--- the depth before the predictor
+-- the depth is checked before the predictor
 abbrev pub depth_first : Type 0
 depth_first =
     page_of (told ((258, short 0) ∷ (317, short 4) ∷ gray_tags ++ strip_tags))
@@ -107,16 +116,19 @@ predictor_2 =
       predictor = predictor.Horizontal;
     })
 
--- the planar configuration before the chroma subsampling, and that before the kind of chunks
+-- the planar configuration is checked before the chroma subsampling, and that before the kind of
+-- chunks
 abbrev pub planar_first : Type 0
 planar_first =
-    page_of (told ((284, short 3) ∷ (530, short 2) ∷ gray_tags)) ≡ Err (FormatError (UnknownPlanarConfiguration 3))
+    page_of (told ((284, short 3) ∷ (530, short 2) ∷ gray_tags))
+    ≡ Err (FormatError (UnknownPlanarConfiguration 3))
 
 abbrev pub subsampling_first : Type 0
 subsampling_first =
-    page_of (told ((530, short 2) ∷ gray_tags)) ≡ Err (FormatError (InvalidCountForTag tag.ChromaSubsampling 1))
+    page_of (told ((530, short 2) ∷ gray_tags))
+    ≡ Err (FormatError (InvalidCountForTag tag.ChromaSubsampling 1))
 
--- chroma subsampling of no numbers, of one that doesn't fit, and of two
+-- chroma subsampling without numbers, with one that doesn't fit, and with two
 abbrev pub no_subsampling : Type 0
 no_subsampling =
     page_of (told ((530, list none) ∷ gray_tags ++ strip_tags))
@@ -129,20 +141,22 @@ wide_subsampling =
 
 abbrev pub subsampling_1_2 : Type 0
 subsampling_1_2 =
-    page_of (told ((530, two (short 1) (short 2)) ∷ gray_tags ++ strip_tags)) ≡ Ok (record gray_page {
+    page_of (told ((530, two (short 1) (short 2)) ∷ gray_tags ++ strip_tags))
+    ≡ Ok (record gray_page {
       subsampling = (1, 2);
     })
 
--- the tags of tiles and one of strips
+-- the tags of tiles together with a tag of strips
 abbrev pub tiles_and_counts : Type 0
 tiles_and_counts =
     page_of (told ((324, unsigned 8) ∷ (325, unsigned 8) ∷ (279, unsigned 8) ∷ gray_tags))
     ≡ Err (FormatError StripTileTagConflict)
 
--- rows that are no number are told before lists of unequal length
+-- rows per strip that aren't a number are refused before lists of different lengths
 abbrev pub rows_first : Type 0
 rows_first =
-    page_of (told ((278, list none) ∷ (279, two (unsigned 8) (unsigned 4)) ∷ gray_tags ++ strip_tags))
+    page_of (told
+    ((278, list none) ∷ (279, two (unsigned 8) (unsigned 4)) ∷ gray_tags ++ strip_tags))
     ≡ Err (FormatError InvalidTypeForTag)
 
 abbrev pub unequal_lists : Type 0
@@ -150,14 +164,19 @@ unequal_lists =
     page_of (told ((279, two (unsigned 8) (unsigned 4)) ∷ gray_tags ++ strip_tags))
     ≡ Err (FormatError InconsistentSizesEncountered)
 
--- a strip for each plane
+-- one strip for each plane
 abbrev pub two_planes : Type 0
 two_planes =
     page_of (told ((277, short 2) ∷ (284, short 2) ∷ (273, two (unsigned 8) (unsigned 20))
     ∷ (279, two (unsigned 12) (unsigned 12)) ∷ gray_tags))
-    ≡ Ok (record gray_page { samples = 2; planar = Planar; offsets = 8 ∷ 20 ∷ []; byte_counts = 12 ∷ 12 ∷ [] })
+    ≡ Ok (record gray_page {
+      samples = 2;
+      planar = Planar;
+      offsets = 8 ∷ 20 ∷ [];
+      byte_counts = 12 ∷ 12 ∷ [];
+    })
 
--- tiles of no width are told after the length is read, and before the offsets are
+-- tiles with width 0 are refused after their length is read, and before the offsets are
 abbrev pub tile_no_length : Type 0
 tile_no_length =
     page_of (told ((322, short 0) ∷ (324, unsigned 8) ∷ (325, unsigned 8) ∷ gray_tags))
@@ -165,18 +184,23 @@ tile_no_length =
 
 abbrev pub tile_length_0 : Type 0
 tile_length_0 =
-    page_of (told ((322, short 4) ∷ (323, short 0) ∷ (324, unsigned 8) ∷ (325, unsigned 8) ∷ gray_tags))
+    page_of (told
+    ((322, short 4) ∷ (323, short 0) ∷ (324, unsigned 8) ∷ (325, unsigned 8) ∷ gray_tags))
     ≡ Err (FormatError (InvalidTagValueType tag.TileLength))
 
 abbrev pub tile_width_first : Type 0
 tile_width_first =
-    page_of (told ((322, short 0) ∷ (323, short 4) ∷ (324, list (more (list none) none)) ∷ (325, unsigned 8) ∷ gray_tags))
+    page_of (told
+    ((322, short 0) ∷ (323, short 4) ∷ (324, list (more (list none) none))
+    ∷ (325, unsigned 8) ∷ gray_tags))
     ≡ Err (FormatError (InvalidTagValueType tag.TileWidth))
 
--- one tile larger than the image
+-- one tile that is larger than the image
 abbrev pub large_tile : Type 0
 large_tile =
-    page_of (told ((322, short 16) ∷ (323, short 32) ∷ (324, unsigned 8) ∷ (325, unsigned 512) ∷ gray_tags))
+    page_of (told
+    ((322, short 16) ∷ (323, short 32) ∷ (324, unsigned 8) ∷ (325, unsigned 512)
+    ∷ gray_tags))
     ≡ Ok (record gray_page {
       chunk_type = Tile;
       chunk_width = 16;
@@ -185,22 +209,24 @@ large_tile =
       byte_counts = 512 ∷ [];
     })
 
--- alpha counts where it is the first extra sample
+-- alpha counts only as the first extra sample
 abbrev pub alpha_second : Type 0
 alpha_second =
-    color_of (record rgb_page { samples = 5; extra = extra.Unspecified ∷ extra.AssociatedAlpha ∷ [] })
+    color_of (record rgb_page
+    { samples = 5; extra = extra.Unspecified ∷ extra.AssociatedAlpha ∷ [] })
     ≡ Ok (color.RGB 8)
 
 abbrev pub associated_alpha : Type 0
 associated_alpha =
-    color_of (record rgb_page { samples = 4; extra = extra.AssociatedAlpha ∷ [] }) ≡ Ok (color.RGBA 8)
+    color_of (record rgb_page { samples = 4; extra = extra.AssociatedAlpha ∷ [] })
+    ≡ Ok (color.RGBA 8)
 
 abbrev pub rgb_five : Type 0
 rgb_five =
     color_of (record rgb_page { samples = 5 })
     ≡ Err (UnsupportedError (InterpretationWithBits meaning.RGB (8 ∷ 8 ∷ 8 ∷ 8 ∷ 8 ∷ [])))
 
--- CMYK of four samples, with alpha as a fifth, and of three
+-- CMYK with four samples, with alpha as the fifth sample, and with three samples
 abbrev pub cmyk_page : PageRecord
 cmyk_page = record rgb_page { interpretation = meaning.CMYK; samples = 4 }
 
@@ -209,17 +235,22 @@ cmyk_four = color_of cmyk_page ≡ Ok (color.CMYK 8)
 
 abbrev pub cmyk_alpha : Type 0
 cmyk_alpha =
-    color_of (record cmyk_page { samples = 5; extra = extra.UnassociatedAlpha ∷ [] }) ≡ Ok (color.CMYKA 8)
+    color_of (record cmyk_page { samples = 5; extra = extra.UnassociatedAlpha ∷ [] })
+    ≡ Ok (color.CMYKA 8)
 
 abbrev pub cmyk_three : Type 0
 cmyk_three =
     color_of (record cmyk_page { samples = 3 })
     ≡ Err (UnsupportedError (InterpretationWithBits meaning.CMYK (8 ∷ 8 ∷ 8 ∷ [])))
 
--- YCbCr of three samples and an extra one, and of four; Lab; white as 0; another Lab
+-- YCbCr with three samples and an extra one, and with four; Lab; white as 0; another Lab
 abbrev pub ycbcr_extra : Type 0
 ycbcr_extra =
-    color_of (record rgb_page { interpretation = meaning.YCbCr; samples = 4; extra = extra.UnassociatedAlpha ∷ [] })
+    color_of (record rgb_page {
+      interpretation = meaning.YCbCr;
+      samples = 4;
+      extra = extra.UnassociatedAlpha ∷ [];
+    })
     ≡ Ok (color.YCbCr 8)
 
 abbrev pub ycbcr_four : Type 0
@@ -231,14 +262,15 @@ abbrev pub lab_color : Type 0
 lab_color = color_of (record rgb_page { interpretation = meaning.IccLab }) ≡ Ok (color.Lab 8)
 
 abbrev pub white_color : Type 0
-white_color = color_of (record gray_page { interpretation = meaning.WhiteIsZero }) ≡ Ok (color.Gray 8)
+white_color =
+    color_of (record gray_page { interpretation = meaning.WhiteIsZero }) ≡ Ok (color.Gray 8)
 
 abbrev pub itu_lab : Type 0
 itu_lab =
     color_of (record rgb_page { interpretation = meaning.ItuLab })
     ≡ Err (UnsupportedError (InterpretationWithBits meaning.ItuLab (8 ∷ 8 ∷ 8 ∷ [])))
 
--- the type of samples at the bounds of the depths
+-- the number type at the bounds of the depths
 abbrev pub bits_8 : Type 0
 bits_8 = sample_type_of gray_page ≡ Ok type.U8
 
@@ -255,7 +287,9 @@ abbrev pub signed_64 : Type 0
 signed_64 = sample_type_of (record gray_page { depth = 64; format = format.Int }) ≡ Ok type.I64
 
 abbrev pub float_8 : Type 0
-float_8 = sample_type_of (record gray_page { format = format.IEEEFP }) ≡ Err (UnsupportedError (UnsupportedSampleDepth 8))
+float_8 =
+    sample_type_of (record gray_page { format = format.IEEEFP })
+    ≡ Err (UnsupportedError (UnsupportedSampleDepth 8))
 
 abbrev pub float_64 : Type 0
 float_64 = sample_type_of (record gray_page { depth = 64; format = format.IEEEFP }) ≡ Ok type.F64
@@ -266,11 +300,12 @@ half_size = size_of type.F16 ≡ 2
 abbrev pub double_size : Type 0
 double_size = size_of type.F64 ≡ 8
 
--- layouts: a plane that is too long though its row is not
+-- layouts: a plane that is too long, with a row that isn't
 abbrev pub plane_too_long : Type 0
-plane_too_long = layout_of (record gray_page { depth = 64 }) 4294967295 4294967295 ≡ Err LimitsExceeded
+plane_too_long =
+    layout_of (record gray_page { depth = 64 }) 4294967295 4294967295 ≡ Err LimitsExceeded
 
--- too long comes before half bytes, and half bytes before chroma that is sampled less
+-- a row that is too long is refused before half bytes, and half bytes before subsampled chroma
 abbrev pub long_first : Type 0
 long_first =
     layout_of (record gray_page {
@@ -284,7 +319,8 @@ half_bytes_first =
     layout_of (record rgb_page { interpretation = meaning.YCbCr; depth = 4; chunk_width = 3 }) 4 3
     ≡ Err (UnsupportedError MisalignedTileBoundaries)
 
--- chroma that is sampled less in one direction; the method that decodes it
+-- chroma that is subsampled in one direction, and a compression method that decodes subsampled
+-- chroma
 abbrev pub chroma_1_2 : Type 0
 chroma_1_2 =
     layout_of (record rgb_page { interpretation = meaning.YCbCr; subsampling = (1, 2) }) 4 3

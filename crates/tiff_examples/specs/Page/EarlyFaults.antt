@@ -1,4 +1,4 @@
--- Worked faults that are found before memory is taken for samples, and where memory is wanted.
+-- Worked examples of errors found before samples are allocated, and of out-of-memory errors.
 use Rattle.std.specs.Prelude.{◌≡◌, ℕ, [], ◌∷◌, Ok, Err}
 use Rattle.tiff_base.specs.declared.error.TiffError.TheVariants.{UnsupportedError, UsageError, IoError, LimitsExceeded, OutOfMemory}
 use Rattle.tiff_base.specs.declared.error.TiffUnsupportedError.TheVariants.{UnsupportedCompressionMethod, UnsupportedSampleFormat}
@@ -16,27 +16,29 @@ use Rattle.tiff_examples.specs.Page.PixelCalls.{two_planes, two_faults, tiles}
 
 -- a page of 16384 by 16384 pixels, in a file of a few bytes
 abbrev pub claiming_page : PageRecord
-claiming_page = record pixel_page { width = 16384; height = 16384; chunk_width = 16384; chunk_height = 16384 }
+claiming_page =
+    record pixel_page { width = 16384; height = 16384; chunk_width = 16384; chunk_height = 16384 }
 
--- its last byte isn't there
+-- the file doesn't contain the last byte of the claimed image
 abbrev pub claim_cut : Type 0
 claim_cut = image_early gray_file claiming_page unlimited ≡ Err (IoError UnexpectedEof)
 
--- a limit is looked at before
+-- the limit is checked before the end of the file
 abbrev pub claim_past_limit : Type 0
 claim_past_limit = image_early gray_file claiming_page (limits 99 99) ≡ Err LimitsExceeded
 
--- packed, 2^28 bytes take 2^22 at least, and fewer are counted
+-- 2^28 bytes need at least 2^22 packed bytes, and the byte count is smaller
 abbrev pub packed_claim_cut : Type 0
 packed_claim_cut =
-    image_early gray_file (record claiming_page { method = method.PackBits; byte_counts = 4194303 ∷ [] }) unlimited
+    image_early gray_file
+    (record claiming_page { method = method.PackBits; byte_counts = 4194303 ∷ [] }) unlimited
     ≡ Err (IoError UnexpectedEof)
 
--- nothing is found of the page of one pixel
+-- the page of one pixel has no early error
 abbrev pub pixel_held : Type 0
 pixel_held = image_early gray_file pixel_page unlimited ≡ Ok tt
 
--- a method that isn't unpacked is found, and samples of no number type before it
+-- an unsupported compression method is found early, and a missing number type before it
 abbrev pub unpacked_not : Type 0
 unpacked_not =
     image_early gray_file (record pixel_page { method = method.LZW }) unlimited
@@ -44,40 +46,44 @@ unpacked_not =
 
 abbrev pub type_first : Type 0
 type_first =
-    image_early gray_file (record pixel_page { method = method.LZW; format = format.Void }) unlimited
+    image_early gray_file (record pixel_page { method = method.LZW; format = format.Void })
+    unlimited
     ≡ Err (UnsupportedError (UnsupportedSampleFormat (format.Void ∷ [])))
 
--- of two planes of 9 bytes a limit of 17 takes the first, and one of 8 none
+-- of two planes of 9 bytes, a limit of 17 allows the first, and a limit of 8 none
 abbrev pub first_plane_within : Type 0
 first_plane_within = planes_early tiles two_planes (limits 17 99) ≡ Ok tt
 
 abbrev pub no_plane_within : Type 0
 no_plane_within = planes_early tiles two_planes (limits 8 99) ≡ Err LimitsExceeded
 
--- the first tile is there, the second one past the end of the file
+-- the file contains the first tile, and the second is past its end
 abbrev pub first_chunk_held : Type 0
 first_chunk_held = chunk_early tiles two_faults unlimited 0 ≡ Ok tt
 
 abbrev pub second_chunk_cut : Type 0
 second_chunk_cut = chunk_early tiles two_faults unlimited 1 ≡ Err (IoError UnexpectedEof)
 
--- its rows are two bytes long
+-- the rows of the tile have two bytes
 abbrev pub stride_first : Type 0
-stride_first = strided_early tiles two_planes unlimited 0 1 ≡ Err (UsageError (InsufficientOutputRowStride 2 1))
+stride_first =
+    strided_early tiles two_planes unlimited 0 1
+    ≡ Err (UsageError (InsufficientOutputRowStride 2 1))
 
--- rows 7 bytes apart are 14 bytes
+-- two rows 7 bytes apart take 14 bytes
 abbrev pub strided_past_limit : Type 0
 strided_past_limit = strided_early tiles two_planes (limits 13 99) 0 7 ≡ Err LimitsExceeded
 
--- want of memory isn't what a call answers of the file that claims too much
+-- a call doesn't return an out-of-memory error for a file that claims too much
 abbrev pub claim_wants_none : Type 0
-claim_wants_none = WantsAfter {X = ℕ} (image_early gray_file claiming_page unlimited) (Err OutOfMemory) → ⊥
+claim_wants_none =
+    WantsAfter {X = ℕ} (image_early gray_file claiming_page unlimited) (Err OutOfMemory) → ⊥
 
--- of the one pixel it may be
+-- a call may return an out-of-memory error for a page of one pixel
 abbrev pub pixel_may_want : Type 0
 pixel_may_want = WantsAfter {X = ℕ} (image_early gray_file pixel_page unlimited) (Err OutOfMemory)
 
--- a fault without a list, and no fault
+-- an error without a list, and no error
 abbrev pub end_has_no_list : Type 0
 end_has_no_list = IsListFault {Y = ℕ} (Err (IoError UnexpectedEof)) → ⊥
 
@@ -85,28 +91,37 @@ abbrev pub answer_has_no_list : Type 0
 answer_has_no_list = IsListFault {Y = ℕ} (Ok 7) → ⊥
 
 abbrev pub method_has_no_list : Type 0
-method_has_no_list = IsListFault {Y = ℕ} (Err (UnsupportedError (UnsupportedCompressionMethod method.LZW))) → ⊥
+method_has_no_list =
+    IsListFault {Y = ℕ} (Err (UnsupportedError (UnsupportedCompressionMethod method.LZW))) → ⊥
 
 abbrev pub format_has_list : Type 0
-format_has_list = IsListFault {Y = ℕ} (Err (UnsupportedError (UnsupportedSampleFormat (format.Void ∷ []))))
+format_has_list =
+    IsListFault {Y = ℕ} (Err (UnsupportedError (UnsupportedSampleFormat (format.Void ∷ []))))
 
--- want of memory isn't what a call answers of a method that isn't unpacked; for the list of a fault there may be none
+-- an unsupported method isn't an out-of-memory error; the list of an error may be out of memory
 abbrev pub method_wants_none : Type 0
-method_wants_none = WantsAfter {X = ℕ} (image_early gray_file (record pixel_page { method = method.LZW }) unlimited) (Err OutOfMemory) → ⊥
+method_wants_none =
+    WantsAfter {X = ℕ} (image_early gray_file (record pixel_page { method = method.LZW }) unlimited)
+    (Err OutOfMemory) → ⊥
 
 abbrev pub format_may_want : Type 0
-format_may_want = WantsAfter {X = ℕ} (image_early gray_file (record pixel_page { format = format.Void }) unlimited) (Err OutOfMemory)
+format_may_want =
+    WantsAfter {X = ℕ}
+    (image_early gray_file (record pixel_page { format = format.Void }) unlimited) (Err OutOfMemory)
 
--- of a slice the room is looked at before the form of the first chunk, and the unit before the room
+-- a slice's room is checked before the form of the first chunk, and the coding unit before the room
 abbrev pub room_first : Type 0
-room_first = image_bytes_early (record pixel_page { method = method.LZW }) unlimited 0 ≡ Err (UsageError (InsufficientOutputBufferSize 1 0))
+room_first = image_bytes_early (record pixel_page { method = method.LZW }) unlimited 0
+    ≡ Err (UsageError (InsufficientOutputBufferSize 1 0))
 
 abbrev pub form_next : Type 0
 form_next =
-    image_bytes_early (record pixel_page { method = method.LZW }) unlimited 1 ≡ Err (UnsupportedError (UnsupportedCompressionMethod method.LZW))
+    image_bytes_early (record pixel_page { method = method.LZW }) unlimited 1
+    ≡ Err (UnsupportedError (UnsupportedCompressionMethod method.LZW))
 
 abbrev pub chunk_without_room : Type 0
-chunk_without_room = chunk_bytes_early pixel_page unlimited 0 0 ≡ Err (UsageError (InsufficientOutputBufferSize 1 0))
+chunk_without_room =
+    chunk_bytes_early pixel_page unlimited 0 0 ≡ Err (UsageError (InsufficientOutputBufferSize 1 0))
 
 abbrev pub unit_first : Type 0
 unit_first = unit_bytes_early pixel_page unlimited 1 0 ≡ Err (UsageError (InvalidCodingUnit 1 1))
@@ -114,6 +129,6 @@ unit_first = unit_bytes_early pixel_page unlimited 1 0 ≡ Err (UsageError (Inva
 abbrev pub unit_held : Type 0
 unit_held = unit_bytes_early pixel_page unlimited 0 1 ≡ Ok tt
 
--- an answer wants nothing
+-- a successful result isn't an out-of-memory error
 abbrev pub answer_wants_none : Type 0
 answer_wants_none = WantsWhere {X = ℕ} ⊥ (Ok 7)

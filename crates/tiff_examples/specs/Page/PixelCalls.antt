@@ -1,4 +1,4 @@
--- Worked calls that read pixels.
+-- Worked examples of calls that read pixels.
 use Rattle.std.specs.Prelude.{◌≡◌, ℕ, List, [], ◌∷◌, ◌++◌, ◌^◌, Result, Ok, Err, take, drop, replicate}
 use Rattle.std.specs.List.{range_with_len}
 use Rattle.tiff_base.specs.declared.color.ChunkType.TheVariants.{Tile}
@@ -29,12 +29,12 @@ use Rattle.tiff_examples.specs.Page.Buffers.{of_bytes, largest_page}
 abbrev pub bytes : List ℕ → Decoded
 bytes numbers = record { sample_type = type.U8; numbers = numbers }
 
--- the first 16 numbers of 256, and the last
+-- the first 16 of 256 numbers, and the last 16
 abbrev pub rows_of : Result Decoded TiffError → List ℕ × List ℕ
 rows_of (Ok d) = (take 16 d.numbers, drop 240 d.numbers)
 rows_of (Err e) = ([], [])
 
--- two planes of 3 by 3 samples in tiles of 2 by 2: each byte of chunk c is c + 1
+-- two planes of 3 by 3 samples in tiles of 2 by 2; each byte of chunk c is c + 1
 abbrev pub two_planes : PageRecord
 two_planes = record tiled_page {
   samples = 2;
@@ -44,7 +44,8 @@ two_planes = record tiled_page {
 }
 
 abbrev pub tiles : List ℕ
-tiles = replicate 4 1 ++ replicate 4 2 ++ replicate 4 3 ++ replicate 4 4 ++ replicate 4 5 ++ replicate 4 6
+tiles = replicate 4 1 ++ replicate 4 2 ++ replicate 4 3 ++ replicate 4 4 ++ replicate 4 5
+    ++ replicate 4 6
     ++ replicate 4 7 ++ replicate 4 8
 
 abbrev pub first_plane : List ℕ
@@ -53,35 +54,37 @@ first_plane = 1 ∷ 1 ∷ 2 ∷ 1 ∷ 1 ∷ 2 ∷ 3 ∷ 3 ∷ 4 ∷ []
 abbrev pub second_plane : List ℕ
 second_plane = 5 ∷ 5 ∷ 6 ∷ 5 ∷ 5 ∷ 6 ∷ 7 ∷ 7 ∷ 8 ∷ []
 
--- the image is the first plane
+-- the image of two planes is the first plane
 abbrev pub plane_read : Type 0
 plane_read = image_of tiles LittleEndian two_planes unlimited ≡ Ok (bytes first_plane)
 
--- into 20 bytes go both planes, and two bytes stay
+-- a slice of 20 bytes takes both planes, and two of its bytes stay
 abbrev pub both_planes : Type 0
 both_planes =
     read_image_bytes tiles LittleEndian two_planes unlimited (replicate 20 170)
     ≡ Ok (first_plane ++ second_plane ++ replicate 2 170)
 
--- into 17 goes one
+-- a slice of 17 bytes takes one plane
 abbrev pub only_plane : Type 0
 only_plane =
-    read_image_bytes tiles LittleEndian two_planes unlimited (replicate 17 170) ≡ Ok (first_plane ++ replicate 8 170)
+    read_image_bytes tiles LittleEndian two_planes unlimited (replicate 17 170)
+    ≡ Ok (first_plane ++ replicate 8 170)
 
--- 27 bytes have no third plane
+-- a slice of 27 bytes takes no third plane
 abbrev pub no_third_plane : Type 0
 no_third_plane =
     read_image_bytes tiles LittleEndian two_planes unlimited (replicate 27 170)
     ≡ Ok (first_plane ++ second_plane ++ replicate 9 170)
 
--- into 8 goes none, whatever faults the chunks have
+-- a slice of 8 bytes takes no plane, whatever errors the chunks have
 abbrev pub no_room : Type 0
 no_room =
-    read_image_bytes [] LittleEndian (record two_planes { method = method.LZW }) unlimited (replicate 8 170)
+    read_image_bytes [] LittleEndian (record two_planes { method = method.LZW }) unlimited
+    (replicate 8 170)
     ≡ Err (UsageError (InsufficientOutputBufferSize 9 8))
 
--- the first chunk of the second plane has a fault, then the second of the first plane another: the first chunk's is
--- told, unless its plane isn't read
+-- the first chunk of the second plane has an error, and the second chunk of the first plane has
+-- another one: the error of the first chunk is returned, unless its plane isn't read
 abbrev pub two_faults : PageRecord
 two_faults = record two_planes {
   offsets = 0 ∷ 40 ∷ 8 ∷ 12 ∷ 16 ∷ 20 ∷ 24 ∷ 28 ∷ [];
@@ -90,27 +93,32 @@ two_faults = record two_planes {
 
 abbrev pub first_chunk_first : Type 0
 first_chunk_first =
-    read_image_bytes tiles LittleEndian two_faults (limits 99 8) (replicate 18 170) ≡ Err LimitsExceeded
+    read_image_bytes tiles LittleEndian two_faults (limits 99 8) (replicate 18 170)
+    ≡ Err LimitsExceeded
 
 abbrev pub plane_not_read : Type 0
 plane_not_read =
-    read_image_bytes tiles LittleEndian two_faults (limits 99 8) (replicate 17 170) ≡ Err (IoError UnexpectedEof)
+    read_image_bytes tiles LittleEndian two_faults (limits 99 8) (replicate 17 170)
+    ≡ Err (IoError UnexpectedEof)
 
--- two planes of the largest sides are too many bytes, whatever room there is
+-- two planes with the largest dimensions have too many bytes, whatever the room is
 abbrev pub too_many_bytes : Type 0
 too_many_bytes =
-    read_image_bytes [] LittleEndian (record largest_page { samples = 2; planar = Planar }) unlimited []
+    read_image_bytes [] LittleEndian (record largest_page { samples = 2; planar = Planar })
+    unlimited []
     ≡ Err LimitsExceeded
 
 abbrev pub image_planes : Type 0
 image_planes =
-    image_of [] LittleEndian (record largest_page { samples = 2; planar = Planar; format = format.Void }) unlimited
+    image_of [] LittleEndian
+    (record largest_page { samples = 2; planar = Planar; format = format.Void }) unlimited
     ≡ Err LimitsExceeded
 
--- a pixel of two samples of which one is past the strip's byte count
+-- a pixel of two samples, of which one is past the strip's byte count
 abbrev pub past_count : Type 0
 past_count =
-    image_of gray_file LittleEndian (record pixel_page { samples = 2 }) unlimited ≡ Ok (bytes (7 ∷ 14 ∷ []))
+    image_of gray_file LittleEndian (record pixel_page { samples = 2 }) unlimited
+    ≡ Ok (bytes (7 ∷ 14 ∷ []))
 
 -- a strip past the end of the file
 abbrev pub past_end : Type 0
@@ -118,7 +126,7 @@ past_end =
     image_of gray_file LittleEndian (record pixel_page { offsets = 0xffff_ffff ∷ [] }) unlimited
     ≡ Err (IoError UnexpectedEof)
 
--- floating point of 8 bits, and samples that are no numbers
+-- floating point of 8 bits, and samples without a number type
 abbrev pub float_8 : Type 0
 float_8 =
     image_of gray_file LittleEndian (record pixel_page { format = format.IEEEFP }) unlimited
@@ -129,26 +137,31 @@ void =
     image_of gray_file LittleEndian (record pixel_page { format = format.Void }) unlimited
     ≡ Err (UnsupportedError (UnsupportedSampleFormat (format.Void ∷ [])))
 
--- a tile in a buffer of rows two apart, and the image in one of rows four apart: what isn't of a row stays
+-- a tile in a buffer with rows two bytes apart, and the image with rows four bytes apart: bytes
+-- outside the rows stay
 abbrev pub tile_placed : Type 0
 tile_placed =
-    bytes_with_region tiled_file LittleEndian tiled_page (color.Gray 8) (chunk_region tiled_page 1) 2 1
+    bytes_with_region tiled_file LittleEndian tiled_page (color.Gray 8) (chunk_region tiled_page 1)
+    2 1
     (replicate 5 170)
     ≡ (3 ∷ 170 ∷ 6 ∷ 170 ∷ 170 ∷ [])
 
 abbrev pub image_placed : Type 0
 image_placed =
-    bytes_with_region tiled_file LittleEndian tiled_page (color.Gray 8) (image_region tiled_page) 4 1
+    bytes_with_region tiled_file LittleEndian tiled_page (color.Gray 8) (image_region tiled_page) 4
+    1
     (replicate 13 170)
     ≡ (1 ∷ 2 ∷ 3 ∷ 170 ∷ 4 ∷ 5 ∷ 6 ∷ 170 ∷ 7 ∷ 8 ∷ 9 ∷ 170 ∷ 170 ∷ [])
 
--- three planes of two bytes: with a limit of six all are read, with less the first; the layout names all
+-- three planes of two bytes: a limit of six reads all, and a smaller limit the first; the layout
+-- names all
 abbrev pub planes : List ℕ
 planes = 1 ∷ 4 ∷ 2 ∷ 5 ∷ 3 ∷ 6 ∷ []
 
 abbrev pub all_planes_read : Type 0
 all_planes_read =
-    read_image_to_buffer planes LittleEndian planar_row (limits 6 99) ≡ Ok (of_bytes 2 2 3 6, bytes planes)
+    read_image_to_buffer planes LittleEndian planar_row (limits 6 99)
+    ≡ Ok (of_bytes 2 2 3 6, bytes planes)
 
 abbrev pub first_plane_read : Type 0
 first_plane_read =
@@ -156,32 +169,36 @@ first_plane_read =
     ≡ Ok (of_bytes 2 2 3 6, bytes (1 ∷ 4 ∷ []))
 
 abbrev pub no_plane_read : Type 0
-no_plane_read = read_image_to_buffer planes LittleEndian planar_row (limits 1 99) ≡ Err LimitsExceeded
+no_plane_read =
+    read_image_to_buffer planes LittleEndian planar_row (limits 1 99) ≡ Err LimitsExceeded
 
--- three bytes are within the limit, two numbers of two bytes are not
+-- three bytes are within the limit, and two 2-byte numbers aren't
 abbrev pub within_but_more : Type 0
 within_but_more =
-    read_image_to_buffer planes LittleEndian (record (row_page 2) { depth = 12 }) (limits 3 99) ≡ Err LimitsExceeded
+    read_image_to_buffer planes LittleEndian (record (row_page 2) { depth = 12 }) (limits 3 99)
+    ≡ Err LimitsExceeded
 
--- a fault of a plane that is read, and of one that is not
+-- an error in a plane that is read, and an error in a plane that isn't
 abbrev pub third_plane_cut : Type 0
 third_plane_cut =
-    read_image_to_buffer (take 5 planes) LittleEndian planar_row (limits 6 99) ≡ Err (IoError UnexpectedEof)
+    read_image_to_buffer (take 5 planes) LittleEndian planar_row (limits 6 99)
+    ≡ Err (IoError UnexpectedEof)
 
 abbrev pub third_plane_unread : Type 0
 third_plane_unread =
     read_image_to_buffer (take 5 planes) LittleEndian planar_row (limits 5 99)
     ≡ Ok (of_bytes 2 2 3 6, bytes (1 ∷ 4 ∷ []))
 
--- chunks of the second plane, and one past the list
+-- chunks of the second plane, and a chunk past the list
 abbrev pub chunk_of_plane : Type 0
 chunk_of_plane = read_chunk tiles LittleEndian two_planes unlimited 5 ≡ Ok (bytes (6 ∷ 6 ∷ []))
 
 abbrev pub chunk_past_list : Type 0
 chunk_past_list =
-    read_chunk tiles LittleEndian two_planes unlimited 8 ≡ Err (FormatError InconsistentSizesEncountered)
+    read_chunk tiles LittleEndian two_planes unlimited 8
+    ≡ Err (FormatError InconsistentSizesEncountered)
 
--- two numbers of two bytes as differences in a big-endian file
+-- two 2-byte numbers as differences, in a big-endian file
 abbrev pub chunk_of_differences : Type 0
 chunk_of_differences =
     read_chunk (0x00 ∷ 0x01 ∷ 0xff ∷ 0xff ∷ []) BigEndian (record (row_page 2) {
@@ -190,9 +207,10 @@ chunk_of_differences =
     }) unlimited 0
     ≡ Ok (record { sample_type = type.U16; numbers = 1 ∷ 0 ∷ [] })
 
--- a sample that isn't shown is needed all the same, in the last pixel too
+-- a sample that isn't shown is needed too, even in the last pixel
 abbrev pub dropped_row : PageRecord
-dropped_row = record rgb_row { samples = 4; extra = extra.Unspecified ∷ []; predictor = predictor.Horizontal }
+dropped_row =
+    record rgb_row { samples = 4; extra = extra.Unspecified ∷ []; predictor = predictor.Horizontal }
 
 abbrev pub dropped_read : Type 0
 dropped_read =
@@ -201,16 +219,19 @@ dropped_read =
 
 abbrev pub dropped_cut : Type 0
 dropped_cut =
-    read_chunk (1 ∷ 2 ∷ 3 ∷ 9 ∷ 1 ∷ 2 ∷ 3 ∷ []) LittleEndian dropped_row unlimited 0 ≡ Err (IoError UnexpectedEof)
+    read_chunk (1 ∷ 2 ∷ 3 ∷ 9 ∷ 1 ∷ 2 ∷ 3 ∷ []) LittleEndian dropped_row unlimited 0
+    ≡ Err (IoError UnexpectedEof)
 
--- of the last row of a tile that is cut at the right one byte is needed
+-- the last row of a tile that the right edge cuts needs one byte
 abbrev pub tile_read : Type 0
-tile_read = read_chunk (take 7 tiled_file) LittleEndian tiled_page unlimited 1 ≡ Ok (bytes (3 ∷ 6 ∷ []))
+tile_read =
+    read_chunk (take 7 tiled_file) LittleEndian tiled_page unlimited 1 ≡ Ok (bytes (3 ∷ 6 ∷ []))
 
 abbrev pub tile_cut : Type 0
-tile_cut = read_chunk (take 6 tiled_file) LittleEndian tiled_page unlimited 1 ≡ Err (IoError UnexpectedEof)
+tile_cut =
+    read_chunk (take 6 tiled_file) LittleEndian tiled_page unlimited 1 ≡ Err (IoError UnexpectedEof)
 
--- with byte planes the whole row
+-- with byte planes the last row of a cut tile needs all its bytes
 abbrev pub float_tiles : PageRecord
 float_tiles = record (row_page 3) {
   depth = 16;
@@ -231,12 +252,16 @@ float_read =
     ≡ Ok (record { sample_type = type.F16; numbers = 0x3c00 ∷ [] })
 
 abbrev pub float_cut : Type 0
-float_cut = read_chunk (take 7 float_file) LittleEndian float_tiles unlimited 1 ≡ Err (IoError UnexpectedEof)
+float_cut =
+    read_chunk (take 7 float_file) LittleEndian float_tiles unlimited 1
+    ≡ Err (IoError UnexpectedEof)
 
--- the limit of a chunk's bytes comes before the method, that of samples before both, and the number type before that
+-- the limit of a chunk's bytes is checked before the method, the limit of samples before both, and
+-- the number type first
 abbrev pub bytes_before_method : Type 0
 bytes_before_method =
-    read_chunk [] LittleEndian (record (row_page 2) { method = method.LZW }) (limits 99 98) 0 ≡ Err LimitsExceeded
+    read_chunk [] LittleEndian (record (row_page 2) { method = method.LZW }) (limits 99 98) 0
+    ≡ Err LimitsExceeded
 
 abbrev pub method_unread : Type 0
 method_unread =
@@ -248,7 +273,7 @@ type_before_limit =
     read_chunk [] LittleEndian (record (row_page 2) { format = format.Void }) (limits 0 0) 0
     ≡ Err (UnsupportedError (UnsupportedSampleFormat (format.Void ∷ [])))
 
--- the planes come before the number type
+-- the size of the planes is checked before the number type
 abbrev pub planes_before_type : Type 0
 planes_before_type =
     read_chunk [] LittleEndian (record largest_page {
@@ -258,16 +283,18 @@ planes_before_type =
     }) unlimited 0
     ≡ Err LimitsExceeded
 
--- a chunk goes into a slice as one plane, though there is room for two
+-- a chunk is written to a slice as one plane, though there is room for two
 abbrev pub chunk_in_slice : Type 0
 chunk_in_slice =
-    read_chunk_bytes tiles LittleEndian two_planes unlimited 2 (replicate 4 170) ≡ Ok (3 ∷ 3 ∷ 170 ∷ 170 ∷ [])
+    read_chunk_bytes tiles LittleEndian two_planes unlimited 2 (replicate 4 170)
+    ≡ Ok (3 ∷ 3 ∷ 170 ∷ 170 ∷ [])
 
 abbrev pub chunk_of_second : Type 0
 chunk_of_second =
-    read_chunk_bytes tiles LittleEndian two_planes unlimited 6 (replicate 3 170) ≡ Ok (7 ∷ 7 ∷ 170 ∷ [])
+    read_chunk_bytes tiles LittleEndian two_planes unlimited 6 (replicate 3 170)
+    ≡ Ok (7 ∷ 7 ∷ 170 ∷ [])
 
--- no room comes before an index past the list; and a slice is asked for no number type
+-- missing room is refused before an index past the list; a slice needs no number type
 abbrev pub chunk_no_room : Type 0
 chunk_no_room =
     read_chunk_bytes tiles LittleEndian two_planes unlimited 8 (replicate 3 170)
@@ -280,12 +307,13 @@ void_in_slice =
     }) (limits 0 99) 0 (replicate 2 170)
     ≡ Ok (7 ∷ 8 ∷ [])
 
--- a cut tile in rows as long as the tile's: what stands in the file beside it isn't shown
+-- a cut tile in rows as long as the tile: the file's bytes beside the image aren't shown
 abbrev pub tile_strided : Type 0
 tile_strided =
-    read_chunk_to_buffer tiled_file LittleEndian tiled_page unlimited 1 2 ≡ Ok (bytes (3 ∷ 0 ∷ 6 ∷ 0 ∷ []))
+    read_chunk_to_buffer tiled_file LittleEndian tiled_page unlimited 1 2
+    ≡ Ok (bytes (3 ∷ 0 ∷ 6 ∷ 0 ∷ []))
 
--- the first row of a tile of 16 by 16, of which the image has four columns, and its last
+-- the first and the last row of a tile of 16 by 16, of which four columns are in the image
 abbrev pub wide_tiles : PageRecord
 wide_tiles = record tiled_page {
   width = 20;
@@ -304,52 +332,59 @@ last_16 = 0xf0 ∷ 0xf1 ∷ 0xf2 ∷ 0xf3 ∷ replicate 12 0
 
 abbrev pub wide_tile_rows : Type 0
 wide_tile_rows =
-    rows_of (read_chunk_to_buffer (range_with_len 0 256) LittleEndian wide_tiles unlimited 1 16) ≡ (first_16, last_16)
+    rows_of (read_chunk_to_buffer (range_with_len 0 256) LittleEndian wide_tiles unlimited 1 16)
+    ≡ (first_16, last_16)
 
 abbrev pub wide_tile_short : Type 0
 wide_tile_short =
     read_chunk_to_buffer (range_with_len 0 256) LittleEndian wide_tiles unlimited 1 3
     ≡ Err (UsageError (InsufficientOutputRowStride 4 3))
 
--- rows that touch each other
+-- rows without gaps
 abbrev pub no_gaps : Type 0
 no_gaps =
-    read_chunk_to_buffer tiled_file LittleEndian tiled_page unlimited 0 2 ≡ Ok (bytes (1 ∷ 2 ∷ 4 ∷ 5 ∷ []))
+    read_chunk_to_buffer tiled_file LittleEndian tiled_page unlimited 0 2
+    ≡ Ok (bytes (1 ∷ 2 ∷ 4 ∷ 5 ∷ []))
 
--- rows of no byte, told before too many bytes, which are told before the number type
+-- a stride of 0 is refused before too many bytes, and those before a missing number type
 abbrev pub short_stride : Type 0
 short_stride =
-    read_chunk_to_buffer tiled_file LittleEndian (record tiled_page { format = format.Void }) unlimited 1 0
+    read_chunk_to_buffer tiled_file LittleEndian (record tiled_page { format = format.Void })
+    unlimited 1 0
     ≡ Err (UsageError (InsufficientOutputRowStride 1 0))
 
 abbrev pub long_stride : Type 0
 long_stride =
-    read_chunk_to_buffer tiled_file LittleEndian (record tiled_page { format = format.Void }) unlimited 1 (2 ^ 63)
+    read_chunk_to_buffer tiled_file LittleEndian (record tiled_page { format = format.Void })
+    unlimited 1 (2 ^ 63)
     ≡ Err LimitsExceeded
 
--- a stride is tested against the stored height of a chunk, not against what the image has of it
+-- a stride is tested with the stored height of a chunk, not with its height in the image
 abbrev pub long_stride_of_last : Type 0
 long_stride_of_last =
-    read_chunk_to_buffer tiled_file LittleEndian (record tiled_page { format = format.Void }) unlimited 3 (2 ^ 63)
+    read_chunk_to_buffer tiled_file LittleEndian (record tiled_page { format = format.Void })
+    unlimited 3 (2 ^ 63)
     ≡ Err LimitsExceeded
 
--- the gaps count as samples; the planes come before the stride
+-- gaps between rows count as samples; the planes are checked before the stride
 abbrev pub gaps_count : Type 0
 gaps_count =
     read_chunk_to_buffer tiled_file LittleEndian tiled_page (limits 3 99) 1 2 ≡ Err LimitsExceeded
 
 abbrev pub planes_before_stride : Type 0
 planes_before_stride =
-    read_chunk_to_buffer [] LittleEndian (record largest_page { samples = 2; planar = Planar }) unlimited 0 0
+    read_chunk_to_buffer [] LittleEndian (record largest_page { samples = 2; planar = Planar })
+    unlimited 0 0
     ≡ Err LimitsExceeded
 
--- numbers of two bytes in rows of three: the last is filled up by zeros
+-- 2-byte numbers in rows of three bytes: the last number is filled up with zeros
 abbrev pub odd_stride : Type 0
 odd_stride =
-    read_chunk_to_buffer (1 ∷ 2 ∷ []) LittleEndian (record (row_page 1) { depth = 16 }) unlimited 0 3
+    read_chunk_to_buffer (1 ∷ 2 ∷ []) LittleEndian (record (row_page 1) { depth = 16 }) unlimited 0
+    3
     ≡ Ok (record { sample_type = type.U16; numbers = 0x0201 ∷ 0 ∷ [] })
 
--- a coding unit: the chunk of each plane
+-- a coding unit contains the chunk of each plane
 abbrev pub unit_read : Type 0
 unit_read =
     read_coding_unit_bytes tiles LittleEndian two_planes unlimited 1 (replicate 4 170)
@@ -357,9 +392,10 @@ unit_read =
 
 abbrev pub unit_of_one_plane : Type 0
 unit_of_one_plane =
-    read_coding_unit_bytes tiles LittleEndian two_planes unlimited 1 (replicate 3 170) ≡ Ok (2 ∷ 2 ∷ 170 ∷ [])
+    read_coding_unit_bytes tiles LittleEndian two_planes unlimited 1 (replicate 3 170)
+    ≡ Ok (2 ∷ 2 ∷ 170 ∷ [])
 
--- samples of 4 bits too
+-- a coding unit of samples of 4 bits
 abbrev pub unit_of_4_bits : Type 0
 unit_of_4_bits =
     read_coding_unit_bytes (0x12 ∷ 0x34 ∷ []) LittleEndian
@@ -373,7 +409,7 @@ unit_of_4_bits =
     unlimited 0 (replicate 3 170)
     ≡ Ok (0x12 ∷ 0x34 ∷ 170 ∷ [])
 
--- no such unit, told before the room; too many bytes, told before it
+-- a coding unit past the last is refused before the room is checked, and too many bytes before it
 abbrev pub unit_past : Type 0
 unit_past =
     read_coding_unit_bytes tiles LittleEndian two_planes unlimited 4 []
@@ -386,16 +422,17 @@ unit_no_room =
 
 abbrev pub unit_too_long : Type 0
 unit_too_long =
-    read_coding_unit_bytes [] LittleEndian (record largest_page { samples = 2; planar = Planar }) unlimited 1 []
+    read_coding_unit_bytes [] LittleEndian (record largest_page { samples = 2; planar = Planar })
+    unlimited 1 []
     ≡ Err LimitsExceeded
 
--- the units of a page whose samples stand together are tested too
+-- the index of a coding unit of a chunky page is checked too
 abbrev pub chunky_unit_past : Type 0
 chunky_unit_past =
     read_coding_unit_bytes tiled_file LittleEndian tiled_page unlimited 4 (replicate 9 170)
     ≡ Err (UsageError (InvalidCodingUnit 4 4))
 
--- the second plane's chunk is cut
+-- the chunk of the second plane is cut off
 abbrev pub unit_cut : Type 0
 unit_cut =
     read_coding_unit_bytes (take 22 tiles) LittleEndian two_planes unlimited 1 (replicate 4 170)

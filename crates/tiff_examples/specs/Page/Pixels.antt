@@ -1,4 +1,4 @@
--- Worked samples: what a page shows, and the faults of reading it.
+-- Worked examples of samples: what a page shows, and the errors of reading it.
 use Rattle.std.specs.Prelude.{◌≡◌, ℕ, ◌*◌, List, [], ◌∷◌, Some, None, Ok, Err, take, replicate}
 use Rattle.tiff_base.specs.declared.color.ChunkType.TheVariants.{Strip, Tile}
 use Rattle.tiff_base.specs.declared.color.ColorType.{ColorType}
@@ -47,15 +47,16 @@ pixel_page = record {
   byte_counts = 1 ∷ [];
 }
 
--- it shows 7, and where white is 0 it shows 248
+-- `gray_file` shows 7, and with white as 0 it shows 248
 abbrev pub pixel_shown : Type 0
 pixel_shown = shown_sample gray_file LittleEndian pixel_page 0 0 0 ≡ 7
 
 abbrev pub pixel_inverted : Type 0
 pixel_inverted =
-    shown_sample gray_file LittleEndian (record pixel_page { interpretation = meaning.WhiteIsZero }) 0 0 0 ≡ 248
+    shown_sample gray_file LittleEndian (record pixel_page { interpretation = meaning.WhiteIsZero })
+    0 0 0 ≡ 248
 
--- one row of pixels in a strip at the front of a file
+-- one row of pixels, in a strip at offset 0
 abbrev pub row_page : ℕ → PageRecord
 row_page width = record pixel_page {
   width = width;
@@ -68,7 +69,8 @@ row_page width = record pixel_page {
 -- the bytes of the first plane of an image
 abbrev pub image_bytes : List ℕ → ByteOrder → PageRecord → ColorType → List ℕ
 image_bytes file order p shade =
-    let row = row_bytes p shade p.width in bytes_with_region file order p shade (image_region p) row 1 (replicate (row * p.height) 0)
+    let row = row_bytes p shade p.width in
+    bytes_with_region file order p shade (image_region p) row 1 (replicate (row * p.height) 0)
 
 -- two RGB pixels
 abbrev pub rgb_row : PageRecord
@@ -79,11 +81,12 @@ rgb_bytes =
     image_bytes (0x01 ∷ 0x02 ∷ 0x03 ∷ 0x04 ∷ 0x05 ∷ 0x06 ∷ []) LittleEndian rgb_row (color.RGB 8)
     ≡ (0x01 ∷ 0x02 ∷ 0x03 ∷ 0x04 ∷ 0x05 ∷ 0x06 ∷ [])
 
--- the green of the second
+-- the green sample of the second pixel
 abbrev pub rgb_sample : Type 0
-rgb_sample = shown_sample (0x01 ∷ 0x02 ∷ 0x03 ∷ 0x04 ∷ 0x05 ∷ 0x06 ∷ []) LittleEndian rgb_row 1 0 1 ≡ 5
+rgb_sample = shown_sample (0x01 ∷ 0x02 ∷ 0x03 ∷ 0x04 ∷ 0x05 ∷ 0x06 ∷ []) LittleEndian rgb_row 1 0 1
+    ≡ 5
 
--- two RGB pixels that stand as differences
+-- two RGB pixels as differences
 abbrev pub rgb_horizontal : Type 0
 rgb_horizontal =
     image_bytes (0x0a ∷ 0x14 ∷ 0x1e ∷ 0xf6 ∷ 0xec ∷ 0xe2 ∷ []) LittleEndian (record rgb_row {
@@ -91,7 +94,7 @@ rgb_horizontal =
     }) (color.RGB 8)
     ≡ (0x0a ∷ 0x14 ∷ 0x1e ∷ 0x00 ∷ 0x00 ∷ 0x00 ∷ [])
 
--- the sum of the first two numbers of red is past a byte
+-- the sum of the first two red numbers exceeds a byte
 abbrev pub difference_sample : Type 0
 difference_sample =
     shown_sample (0x0a ∷ 0x14 ∷ 0x1e ∷ 0xf6 ∷ 0xec ∷ 0xe2 ∷ []) LittleEndian (record rgb_row {
@@ -99,28 +102,36 @@ difference_sample =
     }) 1 0 0
     ≡ 0
 
--- the same with a fourth sample of each pixel, which is not shown
+-- two RGB pixels as differences, with a fourth sample that isn't shown
 abbrev pub rgb_dropped : Type 0
 rgb_dropped =
     image_bytes (0x01 ∷ 0x02 ∷ 0x03 ∷ 0x09 ∷ 0x01 ∷ 0x02 ∷ 0x03 ∷ 0x00 ∷ []) LittleEndian
-    (record rgb_row { samples = 4; extra = extra.Unspecified ∷ []; predictor = predictor.Horizontal }) (color.RGB 8)
+    (record rgb_row {
+      samples = 4;
+      extra = extra.Unspecified ∷ [];
+      predictor = predictor.Horizontal;
+    }) (color.RGB 8)
     ≡ (0x01 ∷ 0x02 ∷ 0x03 ∷ 0x02 ∷ 0x04 ∷ 0x06 ∷ [])
 
--- two numbers of two bytes, the most significant bytes first, as differences
+-- differences of two 2-byte numbers in byte planes, the most significant bytes first
 abbrev pub byte_planes : Type 0
 byte_planes =
     image_bytes (0x3c ∷ 0x00 ∷ 0xc4 ∷ 0x00 ∷ []) LittleEndian
-    (record (row_page 2) { format = format.IEEEFP; depth = 16; predictor = predictor.FloatingPoint }) (color.Gray 16)
+    (record (row_page 2) {
+      format = format.IEEEFP;
+      depth = 16;
+      predictor = predictor.FloatingPoint;
+    }) (color.Gray 16)
     ≡ (0x00 ∷ 0x3c ∷ 0x00 ∷ 0x3c ∷ [])
 
--- a number of two bytes in a big-endian file is handed out with the least byte first
+-- a 2-byte number of a big-endian file is returned in little-endian order
 abbrev pub big_endian_bytes : Type 0
 big_endian_bytes =
     image_bytes (0x01 ∷ 0x02 ∷ []) BigEndian (record (row_page 1) {
       depth = 16;
     }) (color.Gray 16) ≡ (0x02 ∷ 0x01 ∷ [])
 
--- differences of numbers of two bytes are added up in the byte order
+-- differences of 2-byte numbers are added in the file's byte order
 abbrev pub big_endian_horizontal : Type 0
 big_endian_horizontal =
     image_bytes (0x00 ∷ 0xff ∷ 0x00 ∷ 0x01 ∷ []) BigEndian (record (row_page 2) {
@@ -129,7 +140,7 @@ big_endian_horizontal =
     }) (color.Gray 16)
     ≡ (0xff ∷ 0x00 ∷ 0x00 ∷ 0x01 ∷ [])
 
--- three samples of 4 bits, white as 0: whole bytes are inverted
+-- three samples of 4 bits with white as 0: whole bytes are inverted
 abbrev pub inverted_4_bits : Type 0
 inverted_4_bits =
     image_bytes (0x12 ∷ 0x3f ∷ []) LittleEndian (record (row_page 3) {
@@ -138,7 +149,7 @@ inverted_4_bits =
     }) (color.Gray 4)
     ≡ (0xed ∷ 0xc0 ∷ [])
 
--- six samples of 4 bits in two tiles of four: of the second tile one byte is shown
+-- six samples of 4 bits in two tiles of four: one byte of the second tile is shown
 abbrev pub tiles_page : PageRecord
 tiles_page = record (row_page 6) {
   depth = 4;
@@ -150,9 +161,10 @@ tiles_page = record (row_page 6) {
 
 abbrev pub tiles_4_bits : Type 0
 tiles_4_bits =
-    image_bytes (0x12 ∷ 0x34 ∷ 0x56 ∷ 0x78 ∷ []) LittleEndian tiles_page (color.Gray 4) ≡ (0x12 ∷ 0x34 ∷ 0x56 ∷ [])
+    image_bytes (0x12 ∷ 0x34 ∷ 0x56 ∷ 0x78 ∷ []) LittleEndian tiles_page (color.Gray 4)
+    ≡ (0x12 ∷ 0x34 ∷ 0x56 ∷ [])
 
--- three packed samples
+-- three PackBits samples
 abbrev pub packed_bytes : Type 0
 packed_bytes =
     image_bytes (0xfe ∷ 0x07 ∷ []) LittleEndian (record (row_page 3) {
@@ -173,7 +185,8 @@ tiled_page = record (row_page 3) {
 }
 
 abbrev pub tiled_file : List ℕ
-tiled_file = (0x01 ∷ 0x02 ∷ 0x04 ∷ 0x05 ∷ 0x03 ∷ 0xee ∷ 0x06 ∷ 0xee ∷ 0x07 ∷ 0x08 ∷ 0xee ∷ 0xee ∷ 0x09 ∷ 0xee
+tiled_file =
+    (0x01 ∷ 0x02 ∷ 0x04 ∷ 0x05 ∷ 0x03 ∷ 0xee ∷ 0x06 ∷ 0xee ∷ 0x07 ∷ 0x08 ∷ 0xee ∷ 0xee ∷ 0x09 ∷ 0xee
     ∷ 0xee ∷ 0xee ∷ [])
 
 abbrev pub tiled_bytes : Type 0
@@ -181,7 +194,8 @@ tiled_bytes =
     image_bytes tiled_file LittleEndian tiled_page (color.Gray 8)
     ≡ (0x01 ∷ 0x02 ∷ 0x03 ∷ 0x04 ∷ 0x05 ∷ 0x06 ∷ 0x07 ∷ 0x08 ∷ 0x09 ∷ [])
 
--- a buffer of rows 4 apart: position 4 is the second row's first pixel, and position 3 a gap
+-- in a buffer with rows 4 bytes apart, byte 4 is the first pixel of the second row, and byte 3 is a
+-- gap
 abbrev pub second_row : Type 0
 second_row =
     byte_at tiled_file LittleEndian tiled_page (color.Gray 8) (image_region tiled_page) 4 1 4
@@ -192,13 +206,13 @@ in_gap =
     byte_at tiled_file LittleEndian tiled_page (color.Gray 8) (image_region tiled_page) 4 1 3
     ≡ None
 
--- past the only plane
+-- a byte past the only plane
 abbrev pub past_plane : Type 0
 past_plane =
     byte_at tiled_file LittleEndian tiled_page (color.Gray 8) (image_region tiled_page) 4 1 12
     ≡ None
 
--- of the tile in the lower right corner there is one pixel
+-- the tile in the lower right corner has one pixel in the image
 abbrev pub corner : Type 0
 corner =
     byte_at tiled_file LittleEndian tiled_page (color.Gray 8) (chunk_region tiled_page 3) 4
@@ -211,12 +225,15 @@ corner_gap =
     1 1
     ≡ None
 
--- two RGB pixels in three planes: the image is the first, a buffer of three planes has all
+-- two RGB pixels in three planes: the image is the first plane, and a buffer of three planes
+-- contains all
 abbrev pub planar_row : PageRecord
-planar_row = record rgb_row { planar = Planar; offsets = 0 ∷ 2 ∷ 4 ∷ []; byte_counts = 2 ∷ 2 ∷ 2 ∷ [] }
+planar_row =
+    record rgb_row { planar = Planar; offsets = 0 ∷ 2 ∷ 4 ∷ []; byte_counts = 2 ∷ 2 ∷ 2 ∷ [] }
 
 abbrev pub first_plane : Type 0
-first_plane = image_bytes (0x01 ∷ 0x04 ∷ 0x02 ∷ 0x05 ∷ 0x03 ∷ 0x06 ∷ []) LittleEndian planar_row (color.RGB 8)
+first_plane =
+    image_bytes (0x01 ∷ 0x04 ∷ 0x02 ∷ 0x05 ∷ 0x03 ∷ 0x06 ∷ []) LittleEndian planar_row (color.RGB 8)
     ≡ (0x01 ∷ 0x04 ∷ [])
 
 abbrev pub third_plane : Type 0
@@ -225,7 +242,7 @@ third_plane =
     (image_region planar_row) 2 3 5
     ≡ Some 6
 
--- numbers of two bytes each; the last is filled up by zeros
+-- numbers of two bytes each; the last is filled up with zeros
 abbrev pub two_numbers : Type 0
 two_numbers = numbers_in 2 (0x00 ∷ 0x3c ∷ 0x01 ∷ 0x02 ∷ []) ≡ 0x3c00 ∷ 0x0201 ∷ []
 
@@ -235,23 +252,25 @@ filled_up = numbers_in 2 (0x01 ∷ 0x02 ∷ 0x03 ∷ []) ≡ 0x0201 ∷ 3 ∷ []
 abbrev pub no_numbers : Type 0
 no_numbers = numbers_in 8 [] ≡ []
 
--- limits of so many bytes of samples, and of so many bytes of a chunk in the file
+-- limits for the bytes of samples, and for the bytes of a chunk in the file
 abbrev pub limits : ℕ → ℕ → Limits
-limits samples bytes = record unlimited { decoding_buffer_size = samples; intermediate_buffer_size = bytes }
+limits samples bytes =
+    record unlimited { decoding_buffer_size = samples; intermediate_buffer_size = bytes }
 
--- the file of one gray pixel is read under limits of one byte
+-- `gray_file` is read with limits of one byte
 abbrev pub pixel_read : Type 0
 pixel_read =
-    image_of gray_file LittleEndian pixel_page (limits 1 1) ≡ Ok (record { sample_type = type.U8; numbers = 7 ∷ [] })
+    image_of gray_file LittleEndian pixel_page (limits 1 1)
+    ≡ Ok (record { sample_type = type.U8; numbers = 7 ∷ [] })
 
--- with no bytes of samples it is not, nor with no bytes of a chunk
+-- a limit of no bytes for samples, or of no bytes for a chunk, refuses `gray_file`
 abbrev pub no_samples : Type 0
 no_samples = image_of gray_file LittleEndian pixel_page (limits 0 1) ≡ Err LimitsExceeded
 
 abbrev pub no_chunk_bytes : Type 0
 no_chunk_bytes = image_of gray_file LittleEndian pixel_page (limits 1 0) ≡ Err LimitsExceeded
 
--- a byte count of 0 is not looked at where the strip isn't packed
+-- a byte count of 0 isn't checked if the strip isn't packed
 abbrev pub count_0 : Type 0
 count_0 =
     image_of gray_file LittleEndian (record pixel_page { byte_counts = 0 ∷ [] }) (limits 1 0)
@@ -259,18 +278,20 @@ count_0 =
 
 -- the file is cut off before its pixel
 abbrev pub pixel_cut : Type 0
-pixel_cut = image_of (take 24 gray_file) LittleEndian pixel_page unlimited ≡ Err (IoError UnexpectedEof)
+pixel_cut =
+    image_of (take 24 gray_file) LittleEndian pixel_page unlimited ≡ Err (IoError UnexpectedEof)
 
--- a page of 4 by 3 pixels at 8 needs 20 bytes
+-- a page of 4 by 3 pixels at 8 needs a file of 20 bytes
 abbrev pub just_enough : Type 0
 just_enough =
     image_of (replicate 20 1) LittleEndian gray_page unlimited
     ≡ Ok (record { sample_type = type.U8; numbers = replicate 12 1 })
 
 abbrev pub one_missing : Type 0
-one_missing = image_of (replicate 19 1) LittleEndian gray_page unlimited ≡ Err (IoError UnexpectedEof)
+one_missing =
+    image_of (replicate 19 1) LittleEndian gray_page unlimited ≡ Err (IoError UnexpectedEof)
 
--- the last tile lacks what is not shown, and then a pixel
+-- the last tile lacks bytes that aren't shown, and then a pixel
 abbrev pub tile_padding : Type 0
 tile_padding =
     image_of (take 13 tiled_file) LittleEndian tiled_page unlimited
@@ -280,9 +301,10 @@ tile_padding =
     })
 
 abbrev pub tile_pixel : Type 0
-tile_pixel = image_of (take 12 tiled_file) LittleEndian tiled_page unlimited ≡ Err (IoError UnexpectedEof)
+tile_pixel =
+    image_of (take 12 tiled_file) LittleEndian tiled_page unlimited ≡ Err (IoError UnexpectedEof)
 
--- a packed strip whose last block is broken
+-- a PackBits strip whose last block is broken
 abbrev pub packed_cut : Type 0
 packed_cut =
     image_of (0xff ∷ 0x07 ∷ 0xfe ∷ []) LittleEndian (record (row_page 3) {
@@ -294,16 +316,17 @@ packed_cut =
 -- numbers of two bytes
 abbrev pub wide_read : Type 0
 wide_read =
-    image_of (0x01 ∷ 0x02 ∷ 0x03 ∷ 0x04 ∷ []) BigEndian (record (row_page 2) { depth = 16 }) (limits 4 99)
+    image_of (0x01 ∷ 0x02 ∷ 0x03 ∷ 0x04 ∷ []) BigEndian (record (row_page 2) { depth = 16 })
+    (limits 4 99)
     ≡ Ok (record { sample_type = type.U16; numbers = 0x0102 ∷ 0x0304 ∷ [] })
 
--- two of them don't fit into three bytes
+-- two 2-byte numbers don't fit into three bytes
 abbrev pub wide_limit : Type 0
 wide_limit = image_of (0x01 ∷ 0x02 ∷ 0x03 ∷ 0x04 ∷ []) BigEndian (record (row_page 2) {
   depth = 16;
 }) (limits 3 99) ≡ Err LimitsExceeded
 
--- the type of samples is told before the limit, and the limit of samples before the method
+-- the number type is checked before the limit, and the limit of samples before the method
 abbrev pub type_first : Type 0
 type_first =
     image_of [] LittleEndian (record (row_page 2) { depth = 65 }) (limits 0 0)
@@ -311,17 +334,19 @@ type_first =
 
 abbrev pub limit_first : Type 0
 limit_first =
-    image_of [] LittleEndian (record (row_page 2) { method = method.LZW }) (limits 0 0) ≡ Err LimitsExceeded
+    image_of [] LittleEndian (record (row_page 2) { method = method.LZW }) (limits 0 0)
+    ≡ Err LimitsExceeded
 
 abbrev pub lzw : Type 0
 lzw =
     image_of [] LittleEndian (record (row_page 2) { method = method.LZW }) unlimited
     ≡ Err (UnsupportedError (UnsupportedCompressionMethod method.LZW))
 
--- the faults of a chunk: an index past the list
+-- errors of a chunk: an index past the list
 abbrev pub past_list : Type 0
 past_list =
-    form_fault pixel_page unlimited (color.Gray 8) 1 ≡ Err (FormatError InconsistentSizesEncountered)
+    form_fault pixel_page unlimited (color.Gray 8) 1
+    ≡ Err (FormatError InconsistentSizesEncountered)
 
 abbrev pub no_fault : Type 0
 no_fault = form_fault pixel_page unlimited (color.Gray 8) 0 ≡ Ok tt
@@ -340,13 +365,15 @@ rgb_4 =
 
 abbrev pub horizontal_4 : Type 0
 horizontal_4 =
-    form_fault (record pixel_page { depth = 4; predictor = predictor.Horizontal }) unlimited (color.Gray 4) 0
+    form_fault (record pixel_page { depth = 4; predictor = predictor.Horizontal }) unlimited
+    (color.Gray 4) 0
     ≡ Err (UnsupportedError (HorizontalPredictor (color.Gray 4)))
 
--- byte planes of whole numbers, and of a byte
+-- byte planes of integers, and of one byte
 abbrev pub planes_of_uint : Type 0
 planes_of_uint =
-    form_fault (record pixel_page { depth = 16; predictor = predictor.FloatingPoint }) unlimited (color.Gray 16) 0
+    form_fault (record pixel_page { depth = 16; predictor = predictor.FloatingPoint }) unlimited
+    (color.Gray 16) 0
     ≡ Err (UnsupportedError (FloatingPointPredictor (color.Gray 16)))
 
 abbrev pub planes_of_byte : Type 0
@@ -357,7 +384,7 @@ planes_of_byte =
     }) unlimited (color.Gray 8) 0
     ≡ Err (UnsupportedError (FloatingPointPredictor (color.Gray 8)))
 
--- floating point and gray of three bits can't be inverted
+-- floating point, and gray of three bits, can't be inverted
 abbrev pub white_float : Type 0
 white_float =
     form_fault (record pixel_page {
@@ -370,15 +397,16 @@ white_float =
 
 abbrev pub white_3_bits : Type 0
 white_3_bits =
-    form_fault (record pixel_page { depth = 3; interpretation = meaning.WhiteIsZero }) unlimited (color.Gray 3) 0
+    form_fault (record pixel_page { depth = 3; interpretation = meaning.WhiteIsZero }) unlimited
+    (color.Gray 3) 0
     ≡ Err (UnsupportedError UnknownInterpretation)
 
--- the page of 16 bits
+-- `gray_page` with 16 bits
 abbrev pub two_bytes : PageRecord
 two_bytes = record gray_page { depth = 16 }
 
--- what comes before too few data, under limits that just suffice: the layout's fault, planes that are too long together,
--- the number type's fault, ..
+-- errors that come before too little data, with limits that just suffice: the layout, planes that
+-- are too long together, the number type
 abbrev pub data_told : Type 0
 data_told = image_of [] LittleEndian two_bytes (limits 24 12) ≡ Err (IoError UnexpectedEof)
 
@@ -401,12 +429,14 @@ type_told =
     image_of [] LittleEndian (record gray_page { depth = 65 }) (limits 0 0)
     ≡ Err (UnsupportedError (UnsupportedSampleDepth 65))
 
--- .. the limit of samples, which comes before the method, the limit of the file's bytes, the method, ..
+-- errors that come before too little data: the limit of samples, which comes before the method, the
+-- limit of the file's bytes, and the method
 abbrev pub samples_told : Type 0
 samples_told = image_of [] LittleEndian two_bytes (limits 23 12) ≡ Err LimitsExceeded
 
 abbrev pub samples_first : Type 0
-samples_first = image_of [] LittleEndian (record gray_page { method = method.LZW }) (limits 11 12) ≡ Err LimitsExceeded
+samples_first = image_of [] LittleEndian (record gray_page { method = method.LZW }) (limits 11 12)
+    ≡ Err LimitsExceeded
 
 abbrev pub bytes_told : Type 0
 bytes_told = image_of [] LittleEndian two_bytes (limits 24 11) ≡ Err LimitsExceeded
@@ -416,10 +446,11 @@ lzw_told =
     image_of [] LittleEndian (record gray_page { method = method.LZW }) unlimited
     ≡ Err (UnsupportedError (UnsupportedCompressionMethod method.LZW))
 
--- .. and white as 0 that can't be inverted
+-- errors that come before too little data: white as 0 that can't be inverted
 abbrev pub white_told : Type 0
 white_told =
-    image_of [] LittleEndian (record gray_page { format = format.Int; interpretation = meaning.WhiteIsZero }) unlimited
+    image_of [] LittleEndian
+    (record gray_page { format = format.Int; interpretation = meaning.WhiteIsZero }) unlimited
     ≡ Err (UnsupportedError UnknownInterpretation)
 
 -- differences begin anew in each row
@@ -432,11 +463,17 @@ rows_of_differences =
     }) (color.Gray 8)
     ≡ (1 ∷ 2 ∷ 1 ∷ 2 ∷ [])
 
--- byte planes of two samples: each byte is added to the one two before it, whatever the byte order is
+-- byte planes of two samples: each byte is added to the one two bytes before it, in both byte
+-- orders
 abbrev pub byte_planes_of_two : Type 0
 byte_planes_of_two =
     image_bytes (0x3c ∷ 0x40 ∷ 0xc4 ∷ 0xc1 ∷ []) BigEndian
-    (record (row_page 1) { samples = 2; format = format.IEEEFP; depth = 16; predictor = predictor.FloatingPoint })
+    (record (row_page 1) {
+      samples = 2;
+      format = format.IEEEFP;
+      depth = 16;
+      predictor = predictor.FloatingPoint;
+    })
     (color.Multiband 16 2) ≡ (0x00 ∷ 0x3c ∷ 0x01 ∷ 0x40 ∷ [])
 
 -- white as 0 in two bytes
@@ -448,7 +485,7 @@ inverted_16_bits =
     }) (color.Gray 16)
     ≡ (0xfe ∷ 0xfd ∷ [])
 
--- the second tile of 4 bits by itself, and the second plane
+-- the second tile of 4-bit samples alone, and the second plane
 abbrev pub tile_4_bits : Type 0
 tile_4_bits =
     byte_at (0x12 ∷ 0x34 ∷ 0x56 ∷ 0x78 ∷ []) LittleEndian tiles_page (color.Gray 4)
@@ -470,7 +507,7 @@ planar_4_bits =
     (image_region planar_4_page) 1 2 1
     ≡ Some 0x34
 
--- a packed strip is cut at its byte count
+-- a PackBits strip is cut at its byte count
 abbrev pub packed_within : Type 0
 packed_within =
     image_of (0xfe ∷ 0x07 ∷ []) LittleEndian (record (row_page 3) {
@@ -480,9 +517,10 @@ packed_within =
 
 -- a number of eight bytes
 abbrev pub eight_bytes : Type 0
-eight_bytes = numbers_in 8 (0x01 ∷ 0x00 ∷ 0x00 ∷ 0x00 ∷ 0x00 ∷ 0x00 ∷ 0x00 ∷ 0x80 ∷ []) ≡ 0x8000_0000_0000_0001 ∷ []
+eight_bytes = numbers_in 8 (0x01 ∷ 0x00 ∷ 0x00 ∷ 0x00 ∷ 0x00 ∷ 0x00 ∷ 0x00 ∷ 0x80 ∷ [])
+    ≡ 0x8000_0000_0000_0001 ∷ []
 
--- an index past the list comes before the depth, and the depth before the predictor
+-- an index past the list is refused before the depth, and the depth before the predictor
 abbrev pub list_first : Type 0
 list_first =
     form_fault (record pixel_page { depth = 12 }) unlimited (color.Gray 12) 1
@@ -490,37 +528,43 @@ list_first =
 
 abbrev pub depth_first : Type 0
 depth_first =
-    form_fault (record pixel_page { depth = 12; predictor = predictor.FloatingPoint }) unlimited (color.Gray 12) 0
+    form_fault (record pixel_page { depth = 12; predictor = predictor.FloatingPoint }) unlimited
+    (color.Gray 12) 0
     ≡ Err (UnsupportedError (UnsupportedColorType (color.Gray 12)))
 
--- Lab is a color that isn't read
+-- Lab is a color type that isn't read
 abbrev pub lab_8 : Type 0
 lab_8 =
     form_fault (record rgb_row { interpretation = meaning.IccLab }) unlimited (color.Lab 8) 0
     ≡ Err (UnsupportedError (UnsupportedColorType (color.Lab 8)))
 
--- several samples of 4 bits are read, but not with byte planes
+-- several samples of 4 bits are read, but not as byte planes
 abbrev pub multiband_4 : Type 0
 multiband_4 =
-    form_fault (record pixel_page { depth = 4; samples = 2 }) unlimited (color.Multiband 4 2) 0 ≡ Ok tt
+    form_fault (record pixel_page { depth = 4; samples = 2 }) unlimited (color.Multiband 4 2) 0
+    ≡ Ok tt
 
 abbrev pub planes_of_4 : Type 0
 planes_of_4 =
-    form_fault (record pixel_page { depth = 4; predictor = predictor.FloatingPoint }) unlimited (color.Gray 4) 0
+    form_fault (record pixel_page { depth = 4; predictor = predictor.FloatingPoint }) unlimited
+    (color.Gray 4) 0
     ≡ Err (UnsupportedError (FloatingPointPredictor (color.Gray 4)))
 
--- differences of signed numbers, and of samples that are none; the predictor comes before the limit
+-- differences of signed numbers, and of samples without a number type; the predictor is checked
+-- before the limit
 abbrev pub horizontal_int : Type 0
 horizontal_int =
-    form_fault (record pixel_page { format = format.Int; predictor = predictor.Horizontal }) unlimited (color.Gray 8) 0
+    form_fault (record pixel_page { format = format.Int; predictor = predictor.Horizontal })
+    unlimited (color.Gray 8) 0
     ≡ Ok tt
 
 abbrev pub horizontal_void : Type 0
 horizontal_void =
-    form_fault (record pixel_page { format = format.Void; predictor = predictor.Horizontal }) (limits 0 0) (color.Gray 8) 0
+    form_fault (record pixel_page { format = format.Void; predictor = predictor.Horizontal })
+    (limits 0 0) (color.Gray 8) 0
     ≡ Err (UnsupportedError (HorizontalPredictor (color.Gray 8)))
 
--- byte planes of two bytes
+-- byte planes of 2-byte numbers
 abbrev pub planes_of_float : Type 0
 planes_of_float =
     form_fault (record pixel_page {
@@ -530,16 +574,18 @@ planes_of_float =
     }) unlimited (color.Gray 16) 0
     ≡ Ok tt
 
--- a chunk of as many bytes as the limit, and of one more
+-- a chunk with as many bytes as the limit, and with one more
 abbrev pub bytes_within : Type 0
 bytes_within = form_fault pixel_page (limits 0 1) (color.Gray 8) 0 ≡ Ok tt
 
 abbrev pub bytes_past : Type 0
 bytes_past = form_fault pixel_page (limits 0 0) (color.Gray 8) 0 ≡ Err LimitsExceeded
 
--- a packed chunk has no fault of its form, a facsimile one has, before white as 0 is looked at
+-- a PackBits chunk has no form error, and a fax chunk has one, which is found before white as 0 is
+-- checked
 abbrev pub packed_form : Type 0
-packed_form = form_fault (record pixel_page { method = method.PackBits }) unlimited (color.Gray 8) 0 ≡ Ok tt
+packed_form = form_fault (record pixel_page { method = method.PackBits }) unlimited (color.Gray 8) 0
+    ≡ Ok tt
 
 abbrev pub method_first : Type 0
 method_first =
@@ -550,23 +596,26 @@ method_first =
     }) unlimited (color.Multiband 8 2) 0
     ≡ Err (UnsupportedError (UnsupportedCompressionMethod method.Fax4))
 
--- several samples can't be inverted, four bits of one can; that is told before too few data
+-- several samples can't be inverted, and 4-bit samples can; this is checked before too little data
 abbrev pub white_several : Type 0
 white_several =
-    form_fault (record pixel_page { samples = 2; interpretation = meaning.WhiteIsZero }) unlimited (color.Multiband 8 2) 0
+    form_fault (record pixel_page { samples = 2; interpretation = meaning.WhiteIsZero }) unlimited
+    (color.Multiband 8 2) 0
     ≡ Err (UnsupportedError UnknownInterpretation)
 
 abbrev pub white_4_bits : Type 0
 white_4_bits =
-    form_fault (record pixel_page { depth = 4; interpretation = meaning.WhiteIsZero }) unlimited (color.Gray 4) 0
+    form_fault (record pixel_page { depth = 4; interpretation = meaning.WhiteIsZero }) unlimited
+    (color.Gray 4) 0
     ≡ Ok tt
 
 abbrev pub white_first : Type 0
 white_first =
-    image_of [] LittleEndian (record pixel_page { format = format.Int; interpretation = meaning.WhiteIsZero }) unlimited
+    image_of [] LittleEndian
+    (record pixel_page { format = format.Int; interpretation = meaning.WhiteIsZero }) unlimited
     ≡ Err (UnsupportedError UnknownInterpretation)
 
--- the first chunk's fault: the second has another
+-- the error of the first chunk is returned; the second has another one
 abbrev pub first_chunk : Type 0
 first_chunk =
     image_of (replicate 11 1) LittleEndian (record gray_page {

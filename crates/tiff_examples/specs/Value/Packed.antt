@@ -1,4 +1,4 @@
--- Worked color types, differences, and packed lists that are written.
+-- Worked examples of color types, differences, and PackBits lists that are written.
 use Rattle.std.specs.Prelude.{◌≡◌, true, false, [], ◌∷◌, replicate, Some, None, Ok, Err}
 use Rattle.tiff_base.specs.declared.error.TiffError.TheVariants.{IoError, UsageError}
 use Rattle.tiff_base.specs.declared.error.UsageError.TheVariants.{PredictorIncompatible}
@@ -13,7 +13,7 @@ use Rattle.tiff_value.specs.Differences.{differences, restored_number}
 use Rattle.tiff_value.specs.Predicted.{row_of_type}
 use Rattle.tiff_value.specs.Packed.{is_sparing, packed_bound, IsPacked, IsStored, store_fault}
 
--- what color types say of their samples
+-- the samples of color types
 abbrev pub gray8 : Type 0
 gray8 =
     color_type n.Gray8
@@ -34,16 +34,24 @@ rgb16 =
     color_type n.RGB16
     ≡ record { interpretation = RGB; bits = 16 ∷ 16 ∷ 16 ∷ []; formats = Uint ∷ Uint ∷ Uint ∷ [] }
 
--- RGBA is RGB with a sample more
+-- RGBA is RGB with one more sample
 abbrev pub rgba8 : Type 0
 rgba8 =
     color_type n.RGBA8
-    ≡ record { interpretation = RGB; bits = 8 ∷ 8 ∷ 8 ∷ 8 ∷ []; formats = Uint ∷ Uint ∷ Uint ∷ Uint ∷ [] }
+    ≡ record {
+      interpretation = RGB;
+      bits = 8 ∷ 8 ∷ 8 ∷ 8 ∷ [];
+      formats = Uint ∷ Uint ∷ Uint ∷ Uint ∷ [];
+    }
 
 abbrev pub cmyk32_float : Type 0
 cmyk32_float =
     color_type n.CMYK32Float
-    ≡ record { interpretation = CMYK; bits = 32 ∷ 32 ∷ 32 ∷ 32 ∷ []; formats = IEEEFP ∷ IEEEFP ∷ IEEEFP ∷ IEEEFP ∷ [] }
+    ≡ record {
+      interpretation = CMYK;
+      bits = 32 ∷ 32 ∷ 32 ∷ 32 ∷ [];
+      formats = IEEEFP ∷ IEEEFP ∷ IEEEFP ∷ IEEEFP ∷ [];
+    }
 
 abbrev pub ycbcr8 : Type 0
 ycbcr8 =
@@ -53,9 +61,13 @@ ycbcr8 =
 abbrev pub cmyka8 : Type 0
 cmyka8 =
     color_type n.CMYKA8
-    ≡ record { interpretation = CMYK; bits = 8 ∷ 8 ∷ 8 ∷ 8 ∷ 8 ∷ []; formats = Uint ∷ Uint ∷ Uint ∷ Uint ∷ Uint ∷ [] }
+    ≡ record {
+      interpretation = CMYK;
+      bits = 8 ∷ 8 ∷ 8 ∷ 8 ∷ 8 ∷ [];
+      formats = Uint ∷ Uint ∷ Uint ∷ Uint ∷ Uint ∷ [];
+    }
 
--- the bytes of their numbers
+-- the number of bytes of a sample
 abbrev pub size_gray8 : Type 0
 size_gray8 =
     inner_size n.Gray8 ≡ 1
@@ -75,24 +87,26 @@ size_rgba32_float =
 -- a row of two pixels of three numbers
 abbrev pub two_pixels : Type 0
 two_pixels =
-    row_of_type (inner_type n.RGB8) 3 (10 ∷ 20 ∷ 30 ∷ 0 ∷ 0 ∷ 0 ∷ []) ≡ Ok (10 ∷ 20 ∷ 30 ∷ 246 ∷ 236 ∷ 226 ∷ [])
+    row_of_type (inner_type n.RGB8) 3 (10 ∷ 20 ∷ 30 ∷ 0 ∷ 0 ∷ 0 ∷ [])
+    ≡ Ok (10 ∷ 20 ∷ 30 ∷ 246 ∷ 236 ∷ 226 ∷ [])
 
 -- extra samples count in a pixel
 abbrev pub extra_number : Type 0
 extra_number =
-    row_of_type (inner_type n.RGB8) 4 (1 ∷ 2 ∷ 3 ∷ 9 ∷ 2 ∷ 4 ∷ 6 ∷ 9 ∷ []) ≡ Ok (1 ∷ 2 ∷ 3 ∷ 9 ∷ 1 ∷ 2 ∷ 3 ∷ 0 ∷ [])
+    row_of_type (inner_type n.RGB8) 4 (1 ∷ 2 ∷ 3 ∷ 9 ∷ 2 ∷ 4 ∷ 6 ∷ 9 ∷ [])
+    ≡ Ok (1 ∷ 2 ∷ 3 ∷ 9 ∷ 1 ∷ 2 ∷ 3 ∷ 0 ∷ [])
 
--- numbers of two bytes
+-- 2-byte numbers
 abbrev pub wide_numbers : Type 0
 wide_numbers =
     row_of_type (inner_type n.Gray16) 1 (1 ∷ 0 ∷ []) ≡ Ok (1 ∷ 65535 ∷ [])
 
--- signed numbers, by their bits: 1, -1
+-- signed numbers as their bits: 1 and -1
 abbrev pub signed_numbers : Type 0
 signed_numbers =
     row_of_type (inner_type n.GrayI8) 1 (1 ∷ 255 ∷ []) ≡ Ok (1 ∷ 254 ∷ [])
 
--- a pixel without numbers, and a row shorter than a pixel
+-- a pixel without numbers, and a row that is shorter than a pixel
 abbrev pub no_pixel : Type 0
 no_pixel =
     row_of_type (inner_type n.Gray8) 0 (1 ∷ 2 ∷ []) ≡ Ok []
@@ -106,7 +120,7 @@ abbrev pub one_pixel : Type 0
 one_pixel =
     row_of_type (inner_type n.RGB8) 3 (1 ∷ 2 ∷ 3 ∷ []) ≡ Ok (1 ∷ 2 ∷ 3 ∷ [])
 
--- floating numbers have no differences, whatever the row
+-- floating-point numbers have no differences, whatever the row is
 abbrev pub floating_row : Type 0
 floating_row =
     row_of_type (inner_type n.Gray32Float) 1 (1 ∷ 2 ∷ []) ≡ Err (UsageError PredictorIncompatible)
@@ -115,17 +129,17 @@ abbrev pub floating_no_pixel : Type 0
 floating_no_pixel =
     row_of_type (inner_type n.Gray64Float) 0 [] ≡ Err (UsageError PredictorIncompatible)
 
--- two rows of two numbers: each row begins anew
+-- two rows of two numbers: the differences begin anew in each row
 abbrev pub two_rows : Type 0
 two_rows =
     differences predictor.Horizontal 256 2 1 (1 ∷ 2 ∷ 5 ∷ 7 ∷ []) ≡ 1 ∷ 1 ∷ 5 ∷ 2 ∷ []
 
--- without a predictor
+-- no differences without a predictor
 abbrev pub no_predictor : Type 0
 no_predictor =
     differences predictor.None 256 2 1 (1 ∷ 2 ∷ 5 ∷ 7 ∷ []) ≡ 1 ∷ 2 ∷ 5 ∷ 7 ∷ []
 
--- differences undone
+-- numbers restored from differences
 abbrev pub restored_0 : Type 0
 restored_0 =
     restored_number 256 3 (10 ∷ 20 ∷ 30 ∷ 246 ∷ 236 ∷ 226 ∷ []) 4 ≡ 0
@@ -147,7 +161,7 @@ abbrev pub pack_literal : Type 0
 pack_literal =
     IsPacked (0x41 ∷ 0x42 ∷ 0x42 ∷ []) (0x02 ∷ 0x41 ∷ 0x42 ∷ 0x42 ∷ [])
 
--- 128 equal bytes, and one more
+-- 128 equal bytes, and 129
 abbrev pub pack_128 : Type 0
 pack_128 =
     IsPacked (replicate 128 0x41) (0x81 ∷ 0x41 ∷ [])
@@ -156,7 +170,7 @@ abbrev pub pack_129 : Type 0
 pack_129 =
     IsPacked (replicate 129 0x41) (0x81 ∷ 0x41 ∷ 0x00 ∷ 0x41 ∷ [])
 
--- a literal may not begin with two equal bytes, nor hold three
+-- a literal doesn't begin with two equal bytes, and doesn't contain three
 abbrev pub literal_pair : Type 0
 literal_pair =
     IsPacked (0x41 ∷ 0x41 ∷ []) (0x01 ∷ 0x41 ∷ 0x41 ∷ []) → ⊥
@@ -165,22 +179,22 @@ abbrev pub literal_three : Type 0
 literal_three =
     IsPacked (0x40 ∷ 0x41 ∷ 0x41 ∷ 0x41 ∷ []) (0x03 ∷ 0x40 ∷ 0x41 ∷ 0x41 ∷ 0x41 ∷ []) → ⊥
 
--- nor be one byte each
+-- two literals of one byte each aren't written one after the other
 abbrev pub literals_alone : Type 0
 literals_alone =
     IsPacked (0x41 ∷ 0x42 ∷ []) (0x00 ∷ 0x41 ∷ 0x00 ∷ 0x42 ∷ []) → ⊥
 
--- a header 128 stands for nothing, and may not be written
+-- a header 128 encodes nothing, and isn't written
 abbrev pub with_128 : Type 0
 with_128 =
     IsPacked (0x41 ∷ 0x41 ∷ []) (0xff ∷ 0x41 ∷ 0x80 ∷ []) → ⊥
 
--- a literal is written whole
+-- a literal has all its bytes
 abbrev pub literal_cut : Type 0
 literal_cut =
     IsPacked (0x41 ∷ 0x42 ∷ []) (0x02 ∷ 0x41 ∷ 0x42 ∷ []) → ⊥
 
--- a list stands for no other bytes
+-- a list doesn't encode other bytes
 abbrev pub pack_other : Type 0
 pack_other =
     IsPacked (0x41 ∷ []) (0x00 ∷ 0x42 ∷ []) → ⊥
@@ -189,11 +203,13 @@ pack_other =
 abbrev pub pack_standard : Type 0
 pack_standard =
     IsPacked
-    (0xaa ∷ 0xaa ∷ 0xaa ∷ 0x80 ∷ 0x00 ∷ 0x2a ∷ 0xaa ∷ 0xaa ∷ 0xaa ∷ 0xaa ∷ 0x80 ∷ 0x00 ∷ 0x2a ∷ 0x22 ∷ 0xaa
+    (0xaa ∷ 0xaa ∷ 0xaa ∷ 0x80 ∷ 0x00 ∷ 0x2a ∷ 0xaa ∷ 0xaa ∷ 0xaa ∷ 0xaa ∷ 0x80 ∷ 0x00 ∷ 0x2a ∷ 0x22
+    ∷ 0xaa
     ∷ 0xaa ∷ 0xaa ∷ 0xaa ∷ 0xaa ∷ 0xaa ∷ 0xaa ∷ 0xaa ∷ 0xaa ∷ 0xaa ∷ [])
-    (0xfe ∷ 0xaa ∷ 0x02 ∷ 0x80 ∷ 0x00 ∷ 0x2a ∷ 0xfd ∷ 0xaa ∷ 0x03 ∷ 0x80 ∷ 0x00 ∷ 0x2a ∷ 0x22 ∷ 0xf7 ∷ 0xaa ∷ [])
+    (0xfe ∷ 0xaa ∷ 0x02 ∷ 0x80 ∷ 0x00 ∷ 0x2a ∷ 0xfd ∷ 0xaa ∷ 0x03 ∷ 0x80 ∷ 0x00 ∷ 0x2a ∷ 0x22 ∷ 0xf7
+    ∷ 0xaa ∷ [])
 
--- the most bytes that bytes are packed to
+-- the largest number of packed bytes
 abbrev pub bound_0 : Type 0
 bound_0 =
     packed_bound 0 ≡ 0
@@ -206,22 +222,22 @@ abbrev pub bound_129 : Type 0
 bound_129 =
     packed_bound 129 ≡ 131
 
--- bytes as they stand
+-- bytes stored without compression
 abbrev pub stored_plain : Type 0
 stored_plain =
     IsStored method.None (0x01 ∷ 0x02 ∷ []) (0x01 ∷ 0x02 ∷ [])
 
--- bytes that are packed: 01 four times
+-- bytes stored with PackBits: 01 four times
 abbrev pub stored_packed : Type 0
 stored_packed =
     IsStored method.PackBits (0xfd ∷ 0x01 ∷ []) (0x01 ∷ 0x01 ∷ 0x01 ∷ 0x01 ∷ [])
 
--- by no other method
+-- bytes aren't stored with another method
 abbrev pub stored_else : Type 0
 stored_else =
     IsStored method.LZW (0x01 ∷ 0x02 ∷ []) (0x01 ∷ 0x02 ∷ []) → ⊥
 
--- nothing can be packed, but stored as it is
+-- an empty list can't be packed, but can be stored without compression
 abbrev pub fault_of_none : Type 0
 fault_of_none =
     store_fault method.PackBits [] ≡ Some (IoError WriteZero)
@@ -234,7 +250,8 @@ abbrev pub no_fault : Type 0
 no_fault =
     store_fault method.PackBits (1 ∷ []) ≡ None
 
--- a literal that begins with two equal bytes, one that holds three, and one that does neither
+-- a literal that begins with two equal bytes, a literal that contains three, and a literal that
+-- does neither
 abbrev pub plain_literal : Type 0
 plain_literal =
     is_sparing (0x41 ∷ 0x41 ∷ 0x42 ∷ []) ≡ false

@@ -1,4 +1,5 @@
--- Worked values that are written, bytes that are stored, rows as differences; and where chunks stand in an image.
+-- Worked examples of values that are written, stored bytes, rows as differences, and the places of
+-- chunks in an image.
 use Rattle.std.specs.Prelude.{◌≡◌, ℕ, ◌^◌, ◌-◌, [], ◌∷◌, Some, None, true, false, Ok, Err}
 use Rattle.tiff_base.specs.declared.color.ColorType.TheVariants.{Multiband}
 use Rattle.tiff_base.specs.declared.error.TiffError.TheVariants.{FormatError, IntSizeError, IoError, OutOfMemory, UsageError}
@@ -24,17 +25,24 @@ use Rattle.tiff_encode.specs.Kind.{WritesWithin}
 use Rattle.tiff_examples.specs.Page.Layout.{planar_tiles}
 use Rattle.tiff_examples.specs.Decode.Steps.{Never}
 
--- a writer that stands behind the first of three bytes
+-- a writer of three bytes, after the first one
 abbrev pub three : Written
-three = record { bytes = 1 ∷ 2 ∷ 3 ∷ []; at = 1; fault = None; failures = 0; last = 0; method = method.None }
+three = record {
+  bytes = 1 ∷ 2 ∷ 3 ∷ [];
+  at = 1;
+  fault = None;
+  failures = 0;
+  last = 0;
+  method = method.None;
+}
 
--- the same after a fault of its sink's device
+-- the writer of three bytes after a device error of its sink
 abbrev pub broken : Written
 broken = record three { fault = Some fault.Device; failures = 1 }
 
 -- ---- values
 
--- one SHORT, by its bytes; it isn't two
+-- one SHORT as its bytes, which isn't two
 abbrev pub value_given : Type 0
 value_given = values_in t.SHORT 1 (5 ∷ 0 ∷ []) ≡ data_of (u16s (5 ∷ []))
 
@@ -48,18 +56,19 @@ is_not_value = Never (IsValue t.SHORT 2 (Ok (data_of (u16s (5 ∷ [])))))
 abbrev pub value_refused : Type 0
 value_refused = IsValue t.ASCII 2 (text_data (0xe9 ∷ []))
 
--- such a text can't be written, where numbers can
+-- a text that isn't ASCII can't be written, and numbers can
 abbrev pub value_writable : Type 0
-value_writable = IsWritable (Ok (data_of (u16s (5 ∷ [])))) × Never (IsWritable (text_data (0xe9 ∷ [])))
+value_writable = IsWritable (Ok (data_of (u16s (5 ∷ []))))
+    × Never (IsWritable (text_data (0xe9 ∷ [])))
 
--- one SHORT behind a byte, which stays
+-- one SHORT is appended to a byte, which stays
 abbrev pub value_pushed : Type 0
 value_pushed = Pushes {A = ℕ} (Ok (data_of (u16s (5 ∷ [])))) (9 ∷ []) (9 ∷ 5 ∷ 0 ∷ []) (Ok 0)
 
 abbrev pub value_not_alone : Type 0
 value_not_alone = Never (Pushes {A = ℕ} (Ok (data_of (u16s (5 ∷ [])))) (9 ∷ []) (5 ∷ 0 ∷ []) (Ok 0))
 
--- a text that can't be written has no bytes, and wants no memory
+-- a text that can't be written appends no bytes, and allocates nothing
 abbrev pub text_not_pushed : Type 0
 text_not_pushed = Never (Pushes {A = ℕ} (text_data (0xe9 ∷ [])) [] (0xe9 ∷ 0 ∷ []) (Ok 0))
 
@@ -69,14 +78,16 @@ text_push_not_wanting = Never (Pushes {A = ℕ} (text_data (0xe9 ∷ [])) [] [] 
 abbrev pub bytes_three : Type 0
 bytes_three = byte_count 3 t.SHORT ≡ 6
 
--- 2^65 bytes don't fit
+-- a count of 2^65 bytes is cut to the largest 64-bit number
 abbrev pub bytes_most : Type 0
 bytes_most = byte_count (2 ^ 62) t.DOUBLE ≡ 2 ^ 64 - 1
 
 abbrev pub value_writes : Type 0
-value_writes = WritesValue {A = ℕ} (Ok (data_of (u8s (9 ∷ [])))) three (record three { bytes = 1 ∷ 9 ∷ 3 ∷ []; at = 2; last = 1 }) (Ok 0)
+value_writes =
+    WritesValue {A = ℕ} (Ok (data_of (u8s (9 ∷ [])))) three
+    (record three { bytes = 1 ∷ 9 ∷ 3 ∷ []; at = 2; last = 1 }) (Ok 0)
 
--- no text is written
+-- a text that can't be written isn't written
 abbrev pub value_writes_not : Type 0
 value_writes_not = Never (WritesValue {A = ℕ} (text_data (0xe9 ∷ [])) three three (Ok 0))
 
@@ -86,32 +97,39 @@ wanting = IsWanting OutOfMemory three three
 abbrev pub refused : Type 0
 refused = ValueIsRefused (FormatError InvalidTag) (FormatError InvalidTag) three three
 
--- no memory is wanted for a text that is refused
+-- a text that is refused gives no out-of-memory error
 abbrev pub text_not_wanting : Type 0
 text_not_wanting = Never (WritesValue {A = ℕ} (text_data (0xe9 ∷ [])) three three (Err OutOfMemory))
 
--- after a failed write a value is neither refused nor wanting: that write is told first
+-- after a failed write, the failed write is returned before a refused value or an out-of-memory
+-- error
 abbrev pub value_stopped : Type 0
 value_stopped =
-    WritesValue {A = ℕ} (Ok (data_of (u8s (9 ∷ [])))) broken broken (Err (UsageError usage.WriterFailed))
-    × WritesValue {A = ℕ} (text_data (0xe9 ∷ [])) broken broken (Err (UsageError usage.WriterFailed))
+    WritesValue {A = ℕ} (Ok (data_of (u8s (9 ∷ [])))) broken broken
+    (Err (UsageError usage.WriterFailed))
+    × WritesValue {A = ℕ} (text_data (0xe9 ∷ [])) broken broken
+    (Err (UsageError usage.WriterFailed))
 
 abbrev pub value_not_wanting : Type 0
-value_not_wanting = Never (WritesValue {A = ℕ} (Ok (data_of (u8s (9 ∷ [])))) broken broken (Err OutOfMemory))
+value_not_wanting =
+    Never (WritesValue {A = ℕ} (Ok (data_of (u8s (9 ∷ [])))) broken broken (Err OutOfMemory))
 
 abbrev pub value_not_refused : Type 0
-value_not_refused = Never (WritesValue {A = ℕ} (text_data (0xe9 ∷ [])) broken broken (Err (FormatError InvalidTag)))
+value_not_refused =
+    Never (WritesValue {A = ℕ} (text_data (0xe9 ∷ [])) broken broken (Err (FormatError InvalidTag)))
 
 abbrev pub not_refused : Type 0
 not_refused = Never (ValueIsRefused (FormatError InvalidTag) OutOfMemory three three)
 
 abbrev pub buffer_of_short : Type 0
-buffer_of_short = buffer_given (Ok (data_of (u16s (5 ∷ [])))) ≡ Ok (record { order = LittleEndian; data_type = t.SHORT; bytes = 5 ∷ 0 ∷ [] })
+buffer_of_short =
+    buffer_given (Ok (data_of (u16s (5 ∷ []))))
+    ≡ Ok (record { order = LittleEndian; data_type = t.SHORT; bytes = 5 ∷ 0 ∷ [] })
 
 abbrev pub buffer_refused : Type 0
 buffer_refused = buffer_given (text_data (0xe9 ∷ [])) ≡ Err (FormatError InvalidTag)
 
--- an offset past a classic file's: nothing is written
+-- an offset beyond a classic file's offsets: nothing is written
 abbrev pub offset_past : Type 0
 offset_past = WritesWithin {A = ℕ} true (5 ∷ 0 ∷ 0 ∷ 0 ∷ []) three three (Err IntSizeError)
 
@@ -126,22 +144,24 @@ plain_takes_none = takes_memory method.None ≡ false
 abbrev pub packing_takes : Type 0
 packing_takes = takes_memory method.PackBits ≡ true
 
--- no bytes are stored as they are, and can't be packed
+-- an empty list is stored without compression, and can't be packed
 abbrev pub stores_none : Type 0
 stores_none = Stores method.None [] three three (Ok 0)
 
--- another length is answered
+-- another number of bytes isn't returned
 abbrev pub stores_miscounted : Type 0
 stores_miscounted = Never (Stores method.None [] three three (Ok 1))
 
--- a byte that is packed is told as two
+-- one packed byte is counted as two
 abbrev pub packs_one : Type 0
-packs_one = StoresBytes {A = ℕ} method.PackBits (9 ∷ []) three (record three { bytes = 1 ∷ 0 ∷ 9 ∷ []; at = 3; last = 2 }) (Ok 0)
+packs_one =
+    StoresBytes {A = ℕ} method.PackBits (9 ∷ []) three
+    (record three { bytes = 1 ∷ 0 ∷ 9 ∷ []; at = 3; last = 2 }) (Ok 0)
 
 abbrev pub packs_none : Type 0
 packs_none = Stores method.PackBits [] three three (Err (IoError WriteZero))
 
--- memory is wanted for packing alone
+-- only packing allocates memory
 abbrev pub plain_wants_none : Type 0
 plain_wants_none = Never (StoreWants method.None (9 ∷ []) OutOfMemory three three)
 
@@ -157,44 +177,52 @@ abbrev pub row_added : Type 0
 row_added = AppendsRow {A = ℕ} {B = ℕ} (λ n. n) (Ok (1 ∷ 2 ∷ [])) (5 ∷ []) (5 ∷ 1 ∷ 2 ∷ []) (Ok 0)
 
 abbrev pub row_refused : Type 0
-row_refused = AppendsRow {A = ℕ} {B = ℕ} (λ n. n) (Err IntSizeError) (5 ∷ []) (5 ∷ []) (Err IntSizeError)
+row_refused =
+    AppendsRow {A = ℕ} {B = ℕ} (λ n. n) (Err IntSizeError) (5 ∷ []) (5 ∷ []) (Err IntSizeError)
 
--- what the list held is kept, refused or not
+-- a list keeps its content, whether the row is refused or not
 abbrev pub row_not_lost : Type 0
-row_not_lost = Never (AppendsRow {A = ℕ} {B = ℕ} (λ n. n) (Err IntSizeError) (5 ∷ []) [] (Err IntSizeError))
+row_not_lost =
+    Never (AppendsRow {A = ℕ} {B = ℕ} (λ n. n) (Err IntSizeError) (5 ∷ []) [] (Err IntSizeError))
 
 -- ---- chunks in an image
 
--- the layout of 20 by 20 pixels, in two planes
+-- the layout of two planes of 20 by 20 pixels
 abbrev pub two_bands : LayoutRecord
 two_bands = record { color = Multiband 8 2; row_bytes = 20; plane_stride = 400 }
 
--- a slice of 805 bytes takes both planes, one of 799 the first
+-- a slice of 805 bytes takes both planes, and one of 799 bytes the first
 abbrev pub eight_chunks : Type 0
 eight_chunks = chunks_used planar_tiles two_bands 805 ≡ 8
 
 abbrev pub four_chunks : Type 0
 four_chunks = chunks_used planar_tiles two_bands 799 ≡ 4
 
--- the last tile of the second plane shows four pixels of four rows
+-- the last tile of the second plane has four pixels in each of four rows in the image
 abbrev pub corner_row : Type 0
 corner_row = chunk_row planar_tiles two_bands 7 ≡ 4
 
 abbrev pub corner_bytes : Type 0
 corner_bytes = chunk_byte_count planar_tiles two_bands 7 ≡ 16
 
--- byte 2 of its row 1 alone, and in the image, behind a plane, 17 rows and 16 columns
+-- byte 2 of row 1 of the last tile: in the tile alone, and in the image after a plane, 17 rows and
+-- 16 columns
 abbrev pub corner_at_chunk : Type 0
 corner_at_chunk = at_chunk planar_tiles two_bands 7 1 2 ≡ 6
 
 abbrev pub corner_at_image : Type 0
 corner_at_image = at_image planar_tiles two_bands 7 1 2 ≡ 758
 
--- which byte of which row of which chunk a byte of the two planes is
+-- the chunk, the row and the byte within the row of a byte of the two planes
 abbrev pub found_at : ℕ → ℕ × ℕ × ℕ
-found_at at = (chunk_of_byte planar_tiles two_bands at, row_of_byte planar_tiles two_bands at, byte_in_row planar_tiles two_bands at)
+found_at at = (
+  chunk_of_byte planar_tiles two_bands at,
+  row_of_byte planar_tiles two_bands at,
+  byte_in_row planar_tiles two_bands at,
+)
 
--- that byte again, by its position; the first of the second plane; and the first behind the first tile's first row
+-- byte 2 of row 1 of the last tile, found by its position; the first byte of the second plane; and
+-- the first byte after the first tile's first row
 abbrev pub corner_found : Type 0
 corner_found = found_at 758 ≡ (7, 1, 2)
 
@@ -204,6 +232,6 @@ plane_found = found_at 400 ≡ (4, 0, 0)
 abbrev pub edge_found : Type 0
 edge_found = found_at 16 ≡ (1, 0, 0)
 
--- the last tile of the first plane, in the second
+-- the chunk in the second plane for the last tile of the first plane
 abbrev pub corner_unit : Type 0
 corner_unit = unit_chunk planar_tiles 3 1 ≡ 7

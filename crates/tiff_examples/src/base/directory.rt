@@ -1,17 +1,20 @@
-//! Worked entries and directories.
+//! Worked examples of entries and directories.
 #![tactic(auto, using(crate::proofs::OfBase::Directory::worked), unfolding(tiff::proofs::OnLiterals::tiff_on_literals))]
 
 ghost use Rattle.tiff_examples.specs.Base.Directory as s;
 
-/// Entries that are read, that are skipped, and that are cut off.
+/// Entries that are read, entries that are skipped, and entries that are cut off.
 pub fn entries()
-    ensures { s.classic_entry × s.big_endian_entry × s.unknown_entry × s.wide_entry × s.unknown_wide_entry ×
+    ensures { s.classic_entry × s.big_endian_entry × s.unknown_entry × s.wide_entry
+        × s.unknown_wide_entry ×
         s.entry_at_1 × s.cut_entry }
 {}
 
-/// Directories that are read, or cut off; of entries with one tag number the last of known type stands.
+/// Directories that are read, and directories that are cut off. Of several entries with one tag
+/// number, the last one of a known type is kept.
 pub fn directories()
-    ensures computed { s.no_entries × s.linked × s.cut_link × s.past_end × s.twice_found × s.wide_directory }
+    ensures computed { s.no_entries × s.linked × s.cut_link × s.past_end × s.twice_found
+        × s.wide_directory }
     ensures by_lemma { s.last_stands × s.one_stands × s.first_stands }
 {}
 

@@ -1,4 +1,4 @@
-//! Worked headers of files.
+//! Worked examples of file headers.
 #![tactic(auto, unfolding(tiff::proofs::OnLiterals::tiff_on_literals))]
 
 ghost use Rattle.tiff_examples.specs.Base.Header as s;

@@ -1,9 +1,10 @@
-//! Worked numbers, and the bytes at an offset.
+//! Worked examples of numbers, and of the bytes at an offset.
 #![tactic(auto, unfolding(tiff::proofs::OnLiterals::tiff_on_literals))]
 
 ghost use Rattle.tiff_examples.specs.Base.Number as s;
 
-/// Numbers in both byte orders, bytes that stand at an offset, and bytes that don't; a sum of differences.
+/// Numbers in both byte orders, bytes at an offset, bytes that aren't in the file, and a sum of
+/// differences.
 pub fn numbers()
     ensures { s.one_little × s.one_big × s.two_little × s.two_big × s.four_little × s.four_big ×
         s.eight_little × s.eight_big × s.greatest × s.million × s.lowest_two × s.two_at_1 × s.one_too_many ×

@@ -1,9 +1,9 @@
-//! Worked answers of sources and sinks, and values looked up in a directory.
+//! Worked examples of sources and sinks, and of values looked up in a directory.
 #![tactic(auto, using(crate::proofs::OfBase::SourceAndSink::worked), unfolding(tiff::proofs::OnLiterals::tiff_on_literals))]
 
 ghost use Rattle.tiff_examples.specs.Base.SourceAndSink as s;
 
-/// Answers of a source.
+/// Reads of a source.
 pub fn reads()
     ensures computed { s.two_in_middle × s.read_two × s.read_one × s.read_none × s.read_at_end ×
         s.read_past_end × s.read_elsewhere × s.read_into_none × s.octets × s.last_of_six × s.one_more_than_six ×
@@ -11,15 +11,16 @@ pub fn reads()
     ensures by_lemma { s.no_octets }
 {}
 
-/// Bytes that a source answers for, and a buffer over it.
+/// The readable bytes of a source, and of a buffered source.
 pub fn stretches()
     ensures { s.second_stretch × s.within_gap × s.no_stretch × s.all_readable × s.nine_buffered ×
         s.ten_buffered × s.short_buffered × s.all_buffered }
 {}
 
-/// Answers of a sink.
+/// Writes of a sink.
 pub fn writes()
-    ensures { s.append_two × s.append_one × s.append_none × s.append_nothing × s.append_too_many × s.over_one ×
+    ensures { s.append_two × s.append_one × s.append_none × s.append_nothing × s.append_too_many
+        × s.over_one ×
         s.over_two × s.over_end × s.over_none × s.over_elsewhere }
 {}
 

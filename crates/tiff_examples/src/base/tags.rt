@@ -1,11 +1,12 @@
-//! Worked numbers of tags, types and the other enums.
+//! Worked examples of the numbers of tags, types and other enums.
 #![tactic(auto, unfolding(tiff::proofs::OnLiterals::tiff_on_literals))]
 
 ghost use Rattle.tiff_examples.specs.Base.Tags as s;
 
-/// Numbers that have a name, and numbers that have none.
+/// Numbers with a name, and numbers without one.
 pub fn kinds()
-    ensures { s.width_tag × s.nodata_tag × s.unknown_tag × s.short_type × s.last_type × s.type_0 × s.type_14 ×
+    ensures { s.width_tag × s.nodata_tag × s.unknown_tag × s.short_type × s.last_type × s.type_0
+        × s.type_14 ×
         s.type_15 × s.type_19 × s.short_number × s.long8_number × s.rational_size × s.undefined_size ×
         s.packbits × s.unknown_method × s.lzw_number × s.unknown_method_number × s.white_is_zero × s.itu_lab ×
         s.interpretation_7 × s.camera_raw × s.lab_number × s.in_planes × s.planar_0 × s.chunky_number ×

@@ -1,11 +1,13 @@
-//! Worked reads of tags: of the page's directory or of another one, and their numbers as another type.
+//! Worked examples of reads of tags: from the page's directory or another one, and numbers as
+//! another type.
 #![tactic(auto, using(crate::proofs::OfDecode::Reader::worked), unfolding(tiff::proofs::OnLiterals::tiff_on_literals))]
 
 ghost use Rattle.tiff_examples.specs.Decode.Reader as s;
 
 /// The directory whose tags are read, and reads that move nothing.
 pub fn directories()
-    ensures { s.own_chosen × s.other_chosen × s.own_read × s.other_read × s.seven_read × s.eight_read ×
+    ensures { s.own_chosen × s.other_chosen × s.own_read × s.other_read × s.seven_read
+        × s.eight_read ×
         s.failures_swallowed × s.failures_forgotten × s.offset_moved × s.seven_wanting × s.seven_failed ×
         s.seven_not_failed × s.held × s.held_moved × s.held_forgotten × s.reading_own × s.reading_another ×
         s.reading_counted × s.tags_eight }
@@ -18,7 +20,7 @@ pub fn numbers()
         s.number_missing_given × s.number_wanting × s.missing_wanting × s.number_failed × s.number_not_failed }
 {}
 
-/// The number of a tag that may be missing.
+/// The number of an optional tag.
 pub fn options()
     ensures { s.none_none × s.none_some × s.none_unfit × s.some_fits × s.some_none × s.some_great ×
         s.some_great_none × s.if_no_number × s.if_no_number_unfit × s.if_wanting × s.if_failed ×
@@ -35,9 +37,10 @@ pub fn lists()
     ensures by_answer { s.third_later }
 {}
 
-/// The numbers of a tag that may be missing.
+/// The numbers of an optional tag.
 pub fn whole_lists()
-    ensures computed { s.lists_none × s.list_not_none × s.list_of_none × s.list_fits × s.list_fewer ×
+    ensures computed { s.lists_none × s.list_not_none × s.list_of_none × s.list_fits × s.list_fewer
+        ×
         s.list_cut × s.list_cut_unfit × s.list_wanting × s.list_failed × s.list_not_failed }
     ensures by_lemma { s.list_great }
 {}

@@ -1,4 +1,4 @@
-//! Worked lists of calls of decoders.
+//! Worked examples of lists of decoder calls.
 #![tactic(auto, using(crate::proofs::OfDecode::Steps::worked), unfolding(tiff::proofs::OnLiterals::tiff_on_literals))]
 
 ghost use Rattle.tiff_examples.specs.Decode.Steps as s;
@@ -10,7 +10,7 @@ pub fn one_call()
         s.not_wanting × s.color_told × s.color_wanting }
 {}
 
-/// Want of memory for samples.
+/// Out-of-memory errors for samples.
 pub fn samples()
     ensures { s.image_wanting × s.image_not_wanting × s.buffer_wanting × s.buffer_not_wanting ×
         s.chunk_wanting × s.chunk_not_wanting × s.strided_wanting × s.strided_not_wanting }
@@ -18,11 +18,12 @@ pub fn samples()
 
 /// Several calls with their replies.
 pub fn several_calls()
-    ensures computed { s.none_called × s.one_unanswered × s.one_unasked × s.two_failures × s.no_failures }
+    ensures computed { s.none_called × s.one_unanswered × s.one_unasked × s.two_failures
+        × s.no_failures }
     ensures by_lemma { s.gray_read × s.cycle_steps × s.failing_ran }
 {}
 
-/// What replies tell.
+/// The results in replies.
 pub fn replies()
     ensures { s.next_of_long × s.next_of_limits × s.next_of_tag × s.next_of_sides × s.fault_told ×
         s.no_fault_told × s.named × s.not_named × s.same × s.not_same × s.not_same_call × s.tells_nothing ×
@@ -31,7 +32,8 @@ pub fn replies()
 
 /// Items of tags, and the buffers that refused reads leave.
 pub fn items()
-    ensures computed { s.no_items × s.item_missing × s.item_unasked × s.items_told × s.item_not_failed ×
+    ensures computed { s.no_items × s.item_missing × s.item_unasked × s.items_told
+        × s.item_not_failed ×
         s.item_swallowed × s.no_list × s.buffer_held × s.buffer_emptied × s.buffer_changed }
     ensures by_lemma { s.item_told }
 {}

@@ -1,17 +1,19 @@
-//! Worked calls of images that are written.
+//! Worked examples of calls that write images.
 #![tactic(auto, unfolding(tiff::proofs::OnLiterals::tiff_on_literals))]
 
 ghost use Rattle.tiff_examples.specs.Encode.Chunks as s;
 
 /// New images, and their tags.
 pub fn begins()
-    ensures { s.gray_begun × s.gray_begun_big × s.no_side × s.rows_300 × s.rows_packed × s.tags_gray ×
+    ensures { s.gray_begun × s.gray_begun_big × s.no_side × s.rows_300 × s.rows_packed × s.tags_gray
+        ×
         s.tags_ycbcr × s.tags_end × s.tags_extra }
 {}
 
 /// Settings of an image.
 pub fn settings()
-    ensures { s.extra_set × s.extra_late × s.rows_set × s.rows_none × s.resolved × s.unresolved × s.resolved_x ×
+    ensures { s.extra_set × s.extra_late × s.rows_set × s.rows_none × s.resolved × s.unresolved
+        × s.resolved_x ×
         s.resolved_y × s.stopped_x × s.stopped_y × s.unit_set × s.unit_stopped }
 {}
 
@@ -24,6 +26,7 @@ pub fn strips()
 /// Images that are finished.
 pub fn wholes()
     ensures computed { s.pixel_stopped × s.pixel_few × s.rgb_few × s.stopped_image }
-    ensures by_answer { s.pixel_finished × s.pixel_data × s.pixel_written × s.pixel_chain × s.after_few ×
+    ensures by_answer { s.pixel_finished × s.pixel_data × s.pixel_written × s.pixel_chain
+        × s.after_few ×
         s.packed_written × s.packed_bytes × s.second_page × s.third_page × s.third_link × s.ycbcr_written }
 {}

@@ -1,4 +1,4 @@
-//! Worked writes: what each may leave.
+//! Worked examples of writes, and what each may leave.
 #![tactic(auto, using(crate::proofs::OfEncode::Encoder::worked), unfolding(tiff::proofs::OnLiterals::tiff_on_literals))]
 
 ghost use Rattle.tiff_examples.specs.Encode.Encoder as s;
@@ -11,13 +11,15 @@ pub fn encoders()
 
 /// Writes that fail.
 pub fn faults()
-    ensures computed { s.cut × s.not_cut × s.cut_swapped × s.cut_whole × s.torn × s.not_torn × s.torn_swapped ×
+    ensures computed { s.cut × s.not_cut × s.cut_swapped × s.cut_whole × s.torn × s.not_torn
+        × s.torn_swapped ×
         s.header_not_cut }
     ensures by_lemma { s.header_cut }
 {}
 
-/// What stands.
+/// What the file contains.
 pub fn facts()
-    ensures { s.placed × s.not_placed × s.grown_one × s.listable × s.not_listable × s.leaves_header ×
+    ensures { s.placed × s.not_placed × s.grown_one × s.listable × s.not_listable × s.leaves_header
+        ×
         s.leaves_no_header }
 {}

@@ -1,11 +1,12 @@
-//! Worked files of the writer.
+//! Worked examples of files of the writer.
 #![tactic(auto, using(crate::proofs::OfEncode::FileBytes::worked), unfolding(tiff::proofs::OnLiterals::tiff_on_literals))]
 
 ghost use Rattle.tiff_examples.specs.Encode.FileBytes as s;
 
 /// Headers, entries, padding and rows.
 pub fn parts()
-    ensures { s.classic_header × s.big_header × s.classic_entry × s.big_entry × s.padding_8 × s.padding_199 ×
+    ensures { s.classic_header × s.big_header × s.classic_entry × s.big_entry × s.padding_8
+        × s.padding_199 ×
         s.padding_201 × s.rows_3 × s.rows_300 × s.rows_long }
 {}
 

@@ -1,15 +1,15 @@
-//! Worked whole images, and what stands then.
+//! Worked examples of whole images, and of what the file contains then.
 #![tactic(auto, using(crate::proofs::OfEncode::ImageDataWholes::worked), unfolding(tiff::proofs::OnLiterals::tiff_on_literals))]
 
 ghost use Rattle.tiff_examples.specs.Encode.ImageDataWholes as s;
 
-/// Samples of an image that was begun.
+/// Samples of an image that has begun.
 pub fn data()
     ensures computed { s.data_refused × s.data_changed }
     ensures by_answer { s.data_left × s.data_other }
 {}
 
-/// The end of one with its chunk.
+/// The end of an image with its chunk.
 pub fn finished()
     ensures { s.end_shown × s.end_other × s.end_unchained }
 {}

@@ -1,4 +1,4 @@
-//! Worked lists of jobs.
+//! Worked examples of lists of jobs.
 #![tactic(auto, using(crate::proofs::OfEncode::JobLists::worked), unfolding(tiff::proofs::OnLiterals::tiff_on_literals))]
 
 ghost use Rattle.tiff_examples.specs.Encode.JobLists as s;
@@ -9,7 +9,7 @@ pub fn called()
     ensures by_lemma { s.three_jobs }
 {}
 
-/// Jobs that are not called.
+/// Jobs that aren't called.
 pub fn uncalled()
     ensures computed { s.no_room × s.no_room_run × s.header_swapped × s.other_cause × s.replied }
     ensures by_answer { s.header_cut × s.header_cut_run × s.header_whole }

@@ -1,11 +1,12 @@
-//! Worked steps by which a file is written, and what calls leave.
+//! Worked examples of the steps that write a file, and of what calls leave.
 #![tactic(auto, unfolding(tiff::proofs::OnLiterals::tiff_on_literals))]
 
 ghost use Rattle.tiff_examples.specs.Encode.Leaves as s;
 
-/// Steps by which a file is written.
+/// Steps that write a file.
 pub fn parts()
-    ensures { s.short_value × s.link_past × s.appends_one × s.appends_none × s.header_goes × s.header_counted ×
+    ensures { s.short_value × s.link_past × s.appends_one × s.appends_none × s.header_goes
+        × s.header_counted ×
         s.links_25 × s.links_stay }
 {}
 

@@ -1,4 +1,4 @@
-//! Worked fields that are written in part.
+//! Worked examples of fields that are written in part.
 #![tactic(auto, unfolding(tiff::proofs::OnLiterals::tiff_on_literals))]
 
 ghost use Rattle.tiff_examples.specs.Encode.Tagging as s;
@@ -9,7 +9,7 @@ pub fn in_part()
     ensures by_answer { s.all_stopped × s.left_out }
 {}
 
-/// An image's.
+/// The resolution of an image.
 pub fn of_image()
     ensures computed { s.resolving_failed × s.resolving_chunk }
     ensures by_answer { s.resolving_unit × s.resolving_refused × s.resolving_far × s.resolving_all }

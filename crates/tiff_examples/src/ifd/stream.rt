@@ -1,18 +1,19 @@
-//! Worked reads of numbers one after another, and texts at an offset.
+//! Worked examples of reads of consecutive numbers, and of texts at an offset.
 #![tactic(auto, unfolding(tiff::proofs::OnLiterals::tiff_on_literals))]
 
 ghost use Rattle.tiff_examples.specs.Ifd.Stream as s;
 
-/// Numbers that are read one after another.
+/// Reads of consecutive numbers.
 pub fn numbers()
     ensures { s.behind_read × s.behind_refused × s.short_read × s.short_turned × s.short_little ×
         s.short_stays × s.short_reordered × s.short_cut × s.short_cut_moved × s.short_refused ×
         s.short_wanting × s.short_failed × s.short_not_failed × s.short_swallowed × s.short_forgotten }
 {}
 
-/// Signed and floating numbers.
+/// Signed and floating-point numbers.
 pub fn others()
-    ensures { s.signed_read × s.signed_positive × s.float_read × s.double_read × s.bits_32 × s.bits_64 }
+    ensures { s.signed_read × s.signed_positive × s.float_read × s.double_read × s.bits_32
+        × s.bits_64 }
 {}
 
 /// Texts at an offset.

@@ -1,4 +1,4 @@
-//! Worked questions to the tags of a directory: numbers, all tags, and bytes.
+//! Worked examples of tag queries in a directory: numbers, all tags, and bytes.
 #![tactic(auto, using(crate::proofs::OfIfd::TagQueries::worked), unfolding(tiff::proofs::OnLiterals::tiff_on_literals))]
 
 ghost use Rattle.tiff_examples.specs.Ifd.TagQueries as s;
@@ -10,15 +10,16 @@ pub fn numbers()
         s.float_got_not }
 {}
 
-/// Tags of numbers, and all tags of a directory.
+/// Tags by their numbers, and all tags of a directory.
 pub fn items()
     ensures computed { s.tag_256 × s.tag_42113 × s.tag_531 × s.tag_0 × s.tag_65000 }
     ensures by_lemma { s.three_items × s.fault_between × s.no_items }
 {}
 
-/// Raw bytes, and what a buffer holds after a refusal.
+/// Raw bytes, and the content of a buffer after a refusal.
 pub fn buffers()
-    ensures { s.raw_longs × s.raw_short × s.raw_limit × s.raw_at_limit × s.raw_past_end × s.raw_limit_first ×
+    ensures { s.raw_longs × s.raw_short × s.raw_limit × s.raw_at_limit × s.raw_past_end
+        × s.raw_limit_first ×
         s.raw_too_many × s.held × s.not_held }
 {}
 

@@ -1,20 +1,21 @@
-//! Worked numbers of a row, undone.
+//! Worked examples of the numbers of a row after the predictor is undone.
 #![tactic(auto, using(crate::proofs::OfPage::Row::worked), unfolding(tiff::proofs::OnLiterals::tiff_on_literals))]
 
 ghost use Rattle.tiff_examples.specs.Page.Row as s;
 
-/// Numbers as they stand, and as sums along a row.
+/// Numbers as the file contains them, and as sums along a row.
 pub fn sums()
-    ensures { s.little_second × s.big_second × s.eight_bytes × s.first_stays × s.second_summed × s.third_wraps ×
+    ensures { s.little_second × s.big_second × s.eight_bytes × s.first_stays × s.second_summed
+        × s.third_wraps ×
         s.carried }
 {}
 
-/// Numbers of planes.
+/// Numbers of byte planes.
 pub fn planes()
     ensures { s.byte_summed × s.byte_first × s.joined_one × s.joined_two }
 {}
 
-/// Rows that became others.
+/// Rows that are replaced.
 pub fn rows()
     ensures computed { s.row_unturned × s.row_end_changed }
     ensures by_lemma { s.second_unturned }

@@ -1,6 +1,6 @@
 //! The laws of `tiff::encoder`: functions that do nothing and state what holds.
 
-use tiff::encoder::{data_laws, fit_laws, image_laws, laws, reading_laws};
+use tiff::encoder::laws;
 
 // How a file is kept and grows.
 fn name_files() {
@@ -21,13 +21,13 @@ fn name_files() {
 }
 
 // How the effects of calls are joined.
-fn name_deeds() {
-    let _law = laws::deeds_stand;
-    let _law = laws::deeds_grow;
-    let _law = laws::deeds_begun;
-    let _law = laws::deeds_torn;
-    let _law = laws::deeds_join;
-    let _law = laws::deeds_append;
+fn name_ops() {
+    let _law = laws::ops_stand;
+    let _law = laws::ops_grow;
+    let _law = laws::ops_begun;
+    let _law = laws::ops_torn;
+    let _law = laws::ops_join;
+    let _law = laws::ops_append;
     let _law = laws::first_told;
     let _law = laws::models_agree;
     let _law = laws::page_told;
@@ -40,48 +40,48 @@ fn name_deeds() {
 
 // How an open image is held.
 fn name_images() {
-    let _law = image_laws::begins_open;
-    let _law = image_laws::grown_open;
-    let _law = image_laws::tags_keep_open;
-    let _law = image_laws::fields_keep_open;
-    let _law = image_laws::resolutions_keep_open;
-    let _law = image_laws::settings_keep_open;
-    let _law = image_laws::chunks_keep_open;
-    let _law = image_laws::ends_held;
-    let _law = image_laws::grown_ended;
-    let _law = image_laws::ended_shown;
-    let _law = image_laws::ends_shown;
+    let _law = laws::image::begins_open;
+    let _law = laws::image::grown_open;
+    let _law = laws::image::tags_keep_open;
+    let _law = laws::image::fields_keep_open;
+    let _law = laws::image::resolutions_keep_open;
+    let _law = laws::image::settings_keep_open;
+    let _law = laws::image::chunks_keep_open;
+    let _law = laws::image::ends_held;
+    let _law = laws::image::grown_ended;
+    let _law = laws::image::ended_shown;
+    let _law = laws::image::ends_shown;
 }
 
 // The effects of an image's calls fit the file that they find.
 fn name_fits() {
-    let _law = fit_laws::new_image_fits;
-    let _law = fit_laws::settings_fit;
-    let _law = fit_laws::resolutions_fit;
-    let _law = fit_laws::chunks_fit;
-    let _law = fit_laws::finish_image_fits;
+    let _law = laws::fit::new_image_fits;
+    let _law = laws::fit::settings_fit;
+    let _law = laws::fit::resolutions_fit;
+    let _law = laws::fit::chunks_fit;
+    let _law = laws::fit::finish_image_fits;
 }
 
 // Samples that were written stand in the file, and are read back.
 fn name_data() {
-    let _law = data_laws::data_leaves;
-    let _law = data_laws::parts_show;
-    let _law = data_laws::image_leaves;
-    let _law = data_laws::first_shown;
-    let _law = data_laws::gray_shown;
-    let _law = reading_laws::reads_shown;
-    let _law = reading_laws::reads_back;
-    let _law = reading_laws::written_reads_back;
-    let _law = reading_laws::shown_in_order;
-    let _law = reading_laws::all_shown;
-    let _law = reading_laws::shown_is_read;
-    let _law = reading_laws::written_is_read;
+    let _law = laws::data::data_leaves;
+    let _law = laws::data::parts_show;
+    let _law = laws::data::image_leaves;
+    let _law = laws::data::first_shown;
+    let _law = laws::data::gray_shown;
+    let _law = laws::reading::reads_shown;
+    let _law = laws::reading::reads_back;
+    let _law = laws::reading::written_reads_back;
+    let _law = laws::reading::shown_in_order;
+    let _law = laws::reading::all_shown;
+    let _law = laws::reading::shown_is_read;
+    let _law = laws::reading::written_is_read;
 }
 
 /// Names the laws.
 pub fn name_laws() {
     name_files();
-    name_deeds();
+    name_ops();
     name_images();
     name_fits();
     name_data();

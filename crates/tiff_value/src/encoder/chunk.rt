@@ -30,7 +30,9 @@ pub fn push_chunk<T: Sample>(
     requires stride { (0 < stride) × (stride ≤ row) }
     requires whole { length samples.now % row ≡ 0 }
     ensures { MatchResult result
-        (λ _. out.new.items ≡ out.old.items ++ flat_map (le (type_size T.value_type)) (differences predictor (256 ^ type_size T.value_type) row stride (map (sample_number (type_size T.value_type) T.bits) samples.now)))
+        (λ _. out.new.items ≡ out.old.items ++ flat_map (le (type_size T.value_type))
+        (differences predictor (256 ^ type_size T.value_type) row stride
+        (map (sample_number (type_size T.value_type) T.bits) samples.now)))
         (λ e. e ≡ TiffError.OutOfMemory) }
 {
     let size = usize::from(T::BYTE_LEN);
@@ -54,7 +56,11 @@ pub fn write_chunk<W: Sink, T: Sample>(
 ) -> TiffResult<()>
     requires stride { (0 < stride) × (stride ≤ row) }
     requires whole { length samples.now % row ≡ 0 }
-    ensures { WritesCounted (flat_map (le (type_size T.value_type)) (differences predictor (256 ^ type_size T.value_type) row stride (map (sample_number (type_size T.value_type) T.bits) samples.now))) writer.old writer.new result }
+    ensures { WritesCounted
+        (flat_map (le (type_size T.value_type))
+        (differences predictor (256 ^ type_size T.value_type) row stride
+        (map (sample_number (type_size T.value_type) T.bits) samples.now))) writer.old
+        writer.new result }
 {
     writer.write_samples(samples, predictor, row, stride)
 }
@@ -69,7 +75,9 @@ fn push_rows<T: Sample>(
     requires stride { (0 < stride) × (stride ≤ row) }
     requires whole { length samples.now % row ≡ 0 }
     ensures { MatchResult result
-        (λ _. out.new.items ≡ out.old.items ++ flat_map (le (type_size T.value_type)) (differences Predictor.Horizontal (256 ^ type_size T.value_type) row stride (map (sample_number (type_size T.value_type) T.bits) samples.now)))
+        (λ _. out.new.items ≡ out.old.items ++ flat_map (le (type_size T.value_type))
+        (differences Predictor.Horizontal (256 ^ type_size T.value_type) row stride
+        (map (sample_number (type_size T.value_type) T.bits) samples.now)))
         (λ e. e ≡ TiffError.OutOfMemory) }
 {
     let mut at = 0;
@@ -85,7 +93,8 @@ fn push_rows<T: Sample>(
 /// memory for another chunk of as many bytes. The only error is `OutOfMemory`, after which the list
 /// may contain anything.
 pub fn pack_chunk(bytes: &[u8], out: &mut Vec<u8>) -> TiffResult<()>
-    ensures { MatchResult result (λ _. IsPacked bytes.now out.new.items) (λ e. e ≡ TiffError.OutOfMemory) }
+    ensures { MatchResult result (λ _. IsPacked bytes.now out.new.items)
+        (λ e. e ≡ TiffError.OutOfMemory) }
 {
     out.clear();
     out.reserve(bytes.len().saturating_add(bytes.len().div_ceil(128)))?;

@@ -58,7 +58,9 @@ pub trait ColorType {
         stride: usize,
         out: &mut Vec<Self::Inner>,
     ) -> TiffResult<()>
-        ensures { AppendsRow Self.Inner.bits (row_of_type Self.Inner.value_type stride (map Self.Inner.bits row.now)) out.old.items out.new.items result }
+        ensures { AppendsRow Self.Inner.bits
+            (row_of_type Self.Inner.value_type stride (map Self.Inner.bits row.now)) out.old.items
+            out.new.items result }
     {
         Self::Inner::predict_row(row, stride, out)
     }
@@ -66,7 +68,9 @@ pub trait ColorType {
     /// Appends the differences of a row, as `horizontal_predict_stride` does, with a stride of the
     /// number of samples of a pixel.
     final fn horizontal_predict(row: &[Self::Inner], out: &mut Vec<Self::Inner>) -> TiffResult<()>
-        ensures { AppendsRow Self.Inner.bits (row_of_type Self.Inner.value_type (length described.bits) (map Self.Inner.bits row.now)) out.old.items out.new.items result }
+        ensures { AppendsRow Self.Inner.bits
+            (row_of_type Self.Inner.value_type (length described.bits)
+            (map Self.Inner.bits row.now)) out.old.items out.new.items result }
     {
         Self::horizontal_predict_stride(row, Self::sample_bits().len(), out)
     }
@@ -103,7 +107,11 @@ impl ColorType for Gray8 {
 
     type Inner = u8;
 
-    ghost described = { record { interpretation = interpretation.BlackIsZero; bits = 8 ∷ []; formats = format.Uint ∷ [] } };
+    ghost described = { record {
+      interpretation = interpretation.BlackIsZero;
+      bits = 8 ∷ [];
+      formats = format.Uint ∷ [];
+    } };
 
     ghost TIFF_VALUE = { interpretation.BlackIsZero };
 

@@ -33,13 +33,15 @@ pub trait Sample: TiffScalar + Copy {
 
     /// Returns the sample with the lowest bits of a number, as many as the sample has.
     fn cut(number: u64) -> Self
-        ensures { sample_number (type_size Self.value_type) bits result ≡ number % 256 ^ type_size Self.value_type };
+        ensures { sample_number (type_size Self.value_type) bits result ≡ number % 256
+            ^ type_size Self.value_type };
 
     /// Appends the first `stride` samples of a row, and then each further sample minus the sample
     /// `stride` before it, modulo its width. Appends nothing for a stride of 0 or for a row shorter
     /// than the stride. Returns `UsageError(PredictorIncompatible)` for floating-point numbers.
     fn predict_row(row: &[Self], stride: usize, out: &mut Vec<Self>) -> TiffResult<()>
-        ensures { AppendsRow bits (row_of_type Self.value_type stride (map bits row.now)) out.old.items out.new.items result };
+        ensures { AppendsRow bits (row_of_type Self.value_type stride (map bits row.now))
+            out.old.items out.new.items result };
 
     /// Appends the bytes of the differences of a row, the lowest byte of each number first.
     /// Floating-point numbers count as their bits. Appends nothing for a stride of 0 or for a row
@@ -47,7 +49,9 @@ pub trait Sample: TiffScalar + Copy {
     /// anything.
     fn push_row(row: &[Self], stride: usize, out: &mut Vec<u8>) -> TiffResult<()>
         ensures { MatchResult result
-            (λ _. out.new.items ≡ out.old.items ++ flat_map (le (type_size Self.value_type)) (predicted_row (256 ^ type_size Self.value_type) stride (map (sample_number (type_size Self.value_type) bits) row.now)))
+            (λ _. out.new.items ≡ out.old.items ++ flat_map (le (type_size Self.value_type))
+            (predicted_row (256 ^ type_size Self.value_type) stride
+            (map (sample_number (type_size Self.value_type) bits) row.now)))
             (λ e. e ≡ TiffError.OutOfMemory) };
 
     /// Fills `out` with the bytes of the differences of a row, from sample `at` up to `end`, the
@@ -56,13 +60,19 @@ pub trait Sample: TiffScalar + Copy {
     /// stays unchanged if these samples are not all in the row, or if their number of bytes is not
     /// the length of `out`.
     fn put_part(row: &[Self], at: usize, end: usize, stride: usize, out: &mut [u8])
-        ensures part { IsPart (length row.now) at end (type_size Self.value_type) (length out.old) → out.new ≡ flat_map (le (type_size Self.value_type)) (predicted_part (256 ^ type_size Self.value_type) stride at end (map (sample_number (type_size Self.value_type) bits) row.now)) }
-        ensures other { (IsPart (length row.now) at end (type_size Self.value_type) (length out.old) → ⊥) → out.new ≡ out.old };
+        ensures part { IsPart (length row.now) at end (type_size Self.value_type) (length out.old)
+            → out.new ≡ flat_map (le (type_size Self.value_type))
+            (predicted_part (256 ^ type_size Self.value_type) stride at end
+            (map (sample_number (type_size Self.value_type) bits) row.now)) }
+        ensures other { (IsPart (length row.now) at end (type_size Self.value_type) (length out.old) → ⊥)
+            → out.new ≡ out.old };
 
     /// Returns the bytes that the samples are written as, without a copy, if each sample is one
     /// unsigned byte (`u8`). Returns `None` for other samples.
     fn as_bytes(samples: &[Self]) -> Option<&[u8]>
-        ensures { IfSome result (λ b. b.now ≡ flat_map (le (type_size Self.value_type)) (map (sample_number (type_size Self.value_type) bits) samples.now)) };
+        ensures { IfSome result
+            (λ b. b.now ≡ flat_map (le (type_size Self.value_type))
+            (map (sample_number (type_size Self.value_type) bits) samples.now)) };
 
     // A sample is written as the bytes of its bits, the lowest byte first.
     ghost by_bits: { (x : Self) → Self.spelled x ≡ le (type_size Self.value_type) (bits x) };
@@ -144,7 +154,9 @@ fn less_all<T: Whole>(row: &[T], stride: usize, out: &mut [T])
 fn put_row_part<T: Whole>(row: &[T], at: usize, end: usize, stride: usize, out: &mut [u8])
     requires order { (at ≤ end) × (end ≤ length row.now) }
     requires room { length out.old ≡ (end - at) * type_size T.value_type }
-    ensures { out.new ≡ flat_map (le (type_size T.value_type)) (predicted_part T.modulus stride at end (map (sample_number (type_size T.value_type) T.bits) row.now)) }
+    ensures { out.new ≡ flat_map (le (type_size T.value_type))
+        (predicted_part T.modulus stride at end
+        (map (sample_number (type_size T.value_type) T.bits) row.now)) }
 {
     let (_kind, len) = T::type_and_len();
     let width = usize::from(len);
@@ -176,8 +188,12 @@ fn is_part(long: usize, at: usize, end: usize, width: usize, room: usize) -> boo
 // Fills `out` with the bytes of a part of a row as differences, if the part is in the row and has
 // as many bytes as `out`. Otherwise `out` stays unchanged.
 fn put_fitting_part<T: Whole>(row: &[T], at: usize, end: usize, stride: usize, out: &mut [u8])
-    ensures part { IsPart (length row.now) at end (type_size T.value_type) (length out.old) → out.new ≡ flat_map (le (type_size T.value_type)) (predicted_part T.modulus stride at end (map (sample_number (type_size T.value_type) T.bits) row.now)) }
-    ensures other { (IsPart (length row.now) at end (type_size T.value_type) (length out.old) → ⊥) → out.new ≡ out.old }
+    ensures part { IsPart (length row.now) at end (type_size T.value_type) (length out.old)
+        → out.new ≡ flat_map (le (type_size T.value_type))
+        (predicted_part T.modulus stride at end
+        (map (sample_number (type_size T.value_type) T.bits) row.now)) }
+    ensures other { (IsPart (length row.now) at end (type_size T.value_type) (length out.old) → ⊥)
+        → out.new ≡ out.old }
 {
     let (_kind, len) = T::type_and_len();
     if is_part(row.len(), at, end, usize::from(len), out.len()) {
@@ -187,7 +203,8 @@ fn put_fitting_part<T: Whole>(row: &[T], at: usize, end: usize, stride: usize, o
 
 // Appends a row to `out`, and then replaces it by its differences.
 fn push_differences<T: Whole>(row: &[T], stride: usize, out: &mut Vec<T>) -> TiffResult<()>
-    ensures { AppendsRow T.bits (Ok (predicted_row T.modulus stride (map T.bits row.now))) out.old.items out.new.items result }
+    ensures { AppendsRow T.bits (Ok (predicted_row T.modulus stride (map T.bits row.now)))
+        out.old.items out.new.items result }
 {
     if stride == 0 || row.len() < stride {
         return Ok(());
@@ -202,7 +219,9 @@ fn push_differences<T: Whole>(row: &[T], stride: usize, out: &mut Vec<T>) -> Tif
 // appends zeros, and then replaces them by these bytes.
 fn push_row_differences<T: Whole>(row: &[T], stride: usize, out: &mut Vec<u8>) -> TiffResult<()>
     ensures { MatchResult result
-        (λ _. out.new.items ≡ out.old.items ++ flat_map (le (type_size T.value_type)) (predicted_row T.modulus stride (map (sample_number (type_size T.value_type) T.bits) row.now)))
+        (λ _. out.new.items ≡ out.old.items ++ flat_map (le (type_size T.value_type))
+        (predicted_row T.modulus stride
+        (map (sample_number (type_size T.value_type) T.bits) row.now)))
         (λ e. e ≡ TiffError.OutOfMemory) }
 {
     if stride == 0 || row.len() < stride {

@@ -54,7 +54,8 @@ impl TiffScalar for Rational {
 
     ghost one = { λ r. refl };
 
-    ghost listed = { λ rs. unfold data_of in mapped_values RATIONAL (λ r. (r.n, r.d)) (λ r. le 4 r.0 ++ le 4 r.1) rs };
+    ghost listed = { λ rs. unfold data_of in
+        mapped_values RATIONAL (λ r. (r.n, r.d)) (λ r. le 4 r.0 ++ le 4 r.1) rs };
 }
 
 impl TiffValue for SRational {
@@ -100,5 +101,6 @@ impl TiffScalar for SRational {
 
     ghost one = { λ r. refl };
 
-    ghost listed = { λ rs. unfold data_of in mapped_values SRATIONAL (λ r. (r.n, r.d)) (λ r. signed_le w32 r.0 ++ signed_le w32 r.1) rs };
+    ghost listed = { λ rs. unfold data_of in
+        mapped_values SRATIONAL (λ r. (r.n, r.d)) (λ r. signed_le w32 r.0 ++ signed_le w32 r.1) rs };
 }

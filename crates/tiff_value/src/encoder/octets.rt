@@ -140,7 +140,8 @@ fn octets_of<T: Octets<N>, const N: usize>(
 // Appends the bytes of the numbers at once.
 #[tactic(auto, using(crate::proofs::Bytes::flattened, crate::proofs::Bytes::front_appended))]
 fn push_block<T: Octets<N>, const N: usize>(numbers: &[T], out: &mut Vec<u8>) -> TiffResult<()>
-    ensures answer { MatchResult result (λ _. out.new.items ≡ out.old.items ++ flat_map T.written numbers.now) (λ e. e ≡ TiffError.OutOfMemory) }
+    ensures answer { MatchResult result (λ _. out.new.items ≡ out.old.items ++ flat_map T.written numbers.now)
+        (λ e. e ≡ TiffError.OutOfMemory) }
     ensures front { StartsWith out.new.items out.old.items }
 {
     let octets = octets_of::<T, N>(out.allocator().clone()?, numbers)?;
@@ -155,7 +156,8 @@ pub(crate) fn push_numbers<T: Octets<N>, const N: usize>(
     numbers: &[T],
     out: &mut Vec<u8>,
 ) -> TiffResult<()>
-    ensures answer { MatchResult result (λ _. out.new.items ≡ out.old.items ++ flat_map T.written numbers.now) (λ e. e ≡ TiffError.OutOfMemory) }
+    ensures answer { MatchResult result (λ _. out.new.items ≡ out.old.items ++ flat_map T.written numbers.now)
+        (λ e. e ≡ TiffError.OutOfMemory) }
     ensures front { StartsWith out.new.items out.old.items }
 {
     let mut at = 0;

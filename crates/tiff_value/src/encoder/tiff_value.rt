@@ -58,7 +58,8 @@ pub trait TiffValue: Drop {
     /// Checks whether a field can have this value. The check allocates nothing. Returns
     /// `FormatError(InvalidTag)` for a text that can't be written. This project adds this function.
     fn check(&self) -> TiffResult<()>
-        ensures { MatchResult result (λ _. IsWritable (field_data self.now)) (λ e. field_data self.now ≡ Err e) };
+        ensures { MatchResult result (λ _. IsWritable (field_data self.now))
+            (λ e. field_data self.now ≡ Err e) };
 
     /// Appends the bytes of the values, the least significant byte of each number first. Returns
     /// `FormatError(InvalidTag)` for a text that can't be written. The other error is
@@ -73,7 +74,8 @@ pub trait TiffValue: Drop {
     /// `OutOfMemory`, only for a value that can be written.
     #[tactic(auto, using(crate::proofs::Values::value_made))]
     final fn data(&self, alloc: Global) -> TiffResult<Vec<u8>>
-        ensures { AnswersBut (IsWritable (field_data self.now)) ⊥ (λ v. values_in value_type (value_count self.now) v.items) result (field_data self.now) }
+        ensures { AnswersBut (IsWritable (field_data self.now)) ⊥
+            (λ v. values_in value_type (value_count self.now) v.items) result (field_data self.now) }
     {
         self.check()?;
         let mut bytes = Vec::with_capacity(alloc, self.bytes())?;
@@ -117,7 +119,8 @@ pub trait TiffScalar: TiffValue + Sized {
     /// begins with its earlier contents.
     #[tactic(auto, using(crate::proofs::Bytes::front_kept, crate::proofs::Values::scalar_pushed))]
     fn push_all(items: &[Self], out: &mut Vec<u8>) -> TiffResult<()>
-        ensures answer { MatchResult result (λ _. out.new.items ≡ out.old.items ++ flat_map spelled items.now) (λ e. e ≡ TiffError.OutOfMemory) }
+        ensures answer { MatchResult result (λ _. out.new.items ≡ out.old.items ++ flat_map spelled items.now)
+            (λ e. e ≡ TiffError.OutOfMemory) }
         ensures front { StartsWith out.new.items out.old.items }
     {
         for item in items {
@@ -208,7 +211,8 @@ impl<'a, T: TiffScalar> TiffValue for Slice<'a, T> {
         T::push_all(self.0, out)
     }
 
-    ghost sized = { λ s. several T.value_type T.spelled T.scalars T.listed T.value_count T.field_data T.sized T.alone s.0.now };
+    ghost sized = { λ s. several T.value_type T.spelled T.scalars T.listed T.value_count T.field_data T.sized
+        T.alone s.0.now };
 }
 
 /// A text of ASCII without a zero byte. The written value has a zero byte after it. This type is in

@@ -46,7 +46,8 @@ impl<W: Sink> Model for TiffWriter<W> {
       method = compressor_method w.compressor;
     } };
 
-    ghost invariant = { λ w. (w.at ≤ length (W.told w.sink)) × (w.failed ≡ is_some (if w.failed then W.fault w.sink else None)) };
+    ghost invariant = { λ w. (w.at ≤ length (W.told w.sink))
+        × (w.failed ≡ is_some (if w.failed then W.fault w.sink else None)) };
 }
 
 impl<W: Sink> TiffWriter<W> {
@@ -113,7 +114,8 @@ impl<W: Sink> TiffWriter<W> {
     pub fn goto_offset(&mut self, offset: u64) -> TiffResult<()>
         ensures { MatchResult result
             (λ _. (offset ≤ length self.old.bytes) × (self.new ≡ record self.old { at = offset }))
-            (λ e. (length self.old.bytes < offset) × (e ≡ TiffError.IoError IoKind.InvalidInput) × (self.new ≡ self.old)) }
+            (λ e. (length self.old.bytes < offset) × (e ≡ TiffError.IoError IoKind.InvalidInput)
+            × (self.new ≡ self.old)) }
     {
         if self.sink.len() < offset {
             return Err(TiffError::IoError(IoKind::InvalidInput));
@@ -126,7 +128,8 @@ impl<W: Sink> TiffWriter<W> {
     fn write_some(&mut self, bytes: &[u8]) -> TiffResult<usize>
         requires some { 0 < length bytes.now }
         requires fresh { self.old.fault ≡ None }
-        ensures ok { IfOk result (λ n. (0 < n) × (n ≤ length bytes.now) × (self.new ≡ writer_after self.old (take n bytes.now))) }
+        ensures ok { IfOk result (λ n. (0 < n) × (n ≤ length bytes.now)
+            × (self.new ≡ writer_after self.old (take n bytes.now))) }
         ensures err { IfErr result (λ e. SinkFails e self.old self.new) }
     {
         let room = self.sink.len() - self.at;

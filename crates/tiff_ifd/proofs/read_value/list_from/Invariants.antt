@@ -1,6 +1,6 @@
 use Rattle.std.proofs.Common.{◌≡◌, ◌*◌, ◌++◌, length}
 use Rattle.tiff_base.specs.Types.{type_size}
-use Rattle.tiff_ifd.specs.View.{datum_list}
+use Rattle.tiff_ifd.specs.View.{plain_values}
 use Rattle.tiff_ifd.specs.Item as spec
 use Rattle.tiff_ifd.proofs.read_value.list_from.Given as goal
 
@@ -8,7 +8,7 @@ abbrev pub invariant-loop-left : goal.invariant-loop-left
 invariant-loop-left l = record {
   room : length l.rest ≡ l.left * type_size l.field_type;
   so_far : spec.items (spec.list_item l.inline l.field_type l.order) (type_size l.field_type) l.fn.count l.fn.bytes
-      ≡ datum_list l.all.items ++ spec.items (spec.list_item l.inline l.field_type l.order) (type_size l.field_type) l.left l.rest;
+      ≡ plain_values l.all.items ++ spec.items (spec.list_item l.inline l.field_type l.order) (type_size l.field_type) l.left l.rest;
 }
 
 abbrev pub decreases-loop-left : goal.decreases-loop-left

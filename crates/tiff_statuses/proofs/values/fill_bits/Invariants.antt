@@ -1,5 +1,5 @@
 use Rattle.std.proofs.Common.{◌≡◌, ◌++◌, take, drop, map}
-use Rattle.tiff_decode.specs.Sight.{bits_64}
+use Rattle.tiff_decode.specs.ReplyView.{bits_64}
 use Rattle.tiff_statuses.proofs.values.fill_bits.Given as goal
 
 abbrev pub invariant-loop-i : goal.invariant-loop-i

@@ -44,7 +44,8 @@ fn literal_len(bytes: &[u8]) -> usize
 // bytes begin with two equal bytes, else a literal.
 fn pack_block(bytes: &[u8], out: &mut Vec<u8>) -> TiffResult<usize>
     requires { 0 < length bytes.now }
-    ensures { MatchResult result (λ n. PacksAtEnd out.old.items bytes.now n out.new.items) (λ e. e ≡ TiffError.OutOfMemory) }
+    ensures { MatchResult result (λ n. PacksAtEnd out.old.items bytes.now n out.new.items)
+        (λ e. e ≡ TiffError.OutOfMemory) }
 {
     let run = run_len(bytes);
     if run > 1 {
@@ -61,7 +62,8 @@ fn pack_block(bytes: &[u8], out: &mut Vec<u8>) -> TiffResult<usize>
 // Appends all blocks to an empty list.
 pub(crate) fn push_packed(bytes: &[u8], out: &mut Vec<u8>) -> TiffResult<()>
     requires { out.old.items ≡ [] }
-    ensures { MatchResult result (λ _. IsPacked bytes.now out.new.items) (λ e. e ≡ TiffError.OutOfMemory) }
+    ensures { MatchResult result (λ _. IsPacked bytes.now out.new.items)
+        (λ e. e ≡ TiffError.OutOfMemory) }
 {
     let mut at = 0;
     while at < bytes.len() {
@@ -73,7 +75,8 @@ pub(crate) fn push_packed(bytes: &[u8], out: &mut Vec<u8>) -> TiffResult<()>
 /// Returns the bytes packed by PackBits (TIFF 6.0 section 9). The packed bytes have at most one
 /// byte more for each 128 bytes or part of 128. The only error is `OutOfMemory`.
 pub fn pack_bits(alloc: Global, bytes: &[u8]) -> TiffResult<Vec<u8>>
-    ensures { MatchResult result (λ packed. IsPacked bytes.now packed.items) (λ e. e ≡ TiffError.OutOfMemory) }
+    ensures { MatchResult result (λ packed. IsPacked bytes.now packed.items)
+        (λ e. e ≡ TiffError.OutOfMemory) }
 {
     let mut out = Vec::new(alloc);
     push_packed(bytes, &mut out)?;

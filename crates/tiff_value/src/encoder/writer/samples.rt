@@ -26,8 +26,15 @@ impl<W: Sink> TiffWriter<W> {
         requires room { length room.old ≡ BAND }
         requires fresh { self.old.fault ≡ None }
         ensures { MatchResult result
-            (λ _. self.new ≡ writer_after self.old (flat_map (le (type_size T.value_type)) (predicted_row (256 ^ type_size T.value_type) stride (map (sample_number (type_size T.value_type) T.bits) row.now))))
-            (λ e. IsCut (flat_map (le (type_size T.value_type)) (predicted_row (256 ^ type_size T.value_type) stride (map (sample_number (type_size T.value_type) T.bits) row.now))) e self.old self.new) }
+            (λ _. self.new ≡ writer_after self.old
+            (flat_map (le (type_size T.value_type))
+            (predicted_row (256 ^ type_size T.value_type) stride
+            (map (sample_number (type_size T.value_type) T.bits) row.now))))
+            (λ e. IsCut
+            (flat_map (le (type_size T.value_type))
+            (predicted_row (256 ^ type_size T.value_type) stride
+            (map (sample_number (type_size T.value_type) T.bits) row.now))) e self.old
+            self.new) }
     {
         let (_kind, len) = T::type_and_len();
         let width = usize::from(len);
@@ -50,8 +57,15 @@ impl<W: Sink> TiffWriter<W> {
         requires whole { length samples.now % row ≡ 0 }
         requires fresh { self.old.fault ≡ None }
         ensures { MatchResult result
-            (λ _. self.new ≡ writer_after self.old (flat_map (le (type_size T.value_type)) (differences Predictor.Horizontal (256 ^ type_size T.value_type) row stride (map (sample_number (type_size T.value_type) T.bits) samples.now))))
-            (λ e. IsCut (flat_map (le (type_size T.value_type)) (differences Predictor.Horizontal (256 ^ type_size T.value_type) row stride (map (sample_number (type_size T.value_type) T.bits) samples.now))) e self.old self.new) }
+            (λ _. self.new ≡ writer_after self.old
+            (flat_map (le (type_size T.value_type))
+            (differences Predictor.Horizontal (256 ^ type_size T.value_type) row stride
+            (map (sample_number (type_size T.value_type) T.bits) samples.now))))
+            (λ e. IsCut
+            (flat_map (le (type_size T.value_type))
+            (differences Predictor.Horizontal (256 ^ type_size T.value_type) row stride
+            (map (sample_number (type_size T.value_type) T.bits) samples.now))) e
+            self.old self.new) }
     {
         let mut room = [0u8; BAND];
         let _start = self.offset();
@@ -74,7 +88,11 @@ impl<W: Sink> TiffWriter<W> {
     ) -> TiffResult<()>
         requires stride { (0 < stride) × (stride ≤ row) }
         requires whole { length samples.now % row ≡ 0 }
-        ensures { WritesRaw (flat_map (le (type_size T.value_type)) (differences predictor (256 ^ type_size T.value_type) row stride (map (sample_number (type_size T.value_type) T.bits) samples.now))) self.old self.new result }
+        ensures { WritesRaw
+            (flat_map (le (type_size T.value_type))
+            (differences predictor (256 ^ type_size T.value_type) row stride
+            (map (sample_number (type_size T.value_type) T.bits) samples.now))) self.old
+            self.new result }
     {
         if self.failed {
             return Err(TiffError::UsageError(UsageError::WriterFailed));
@@ -98,7 +116,11 @@ impl<W: Sink> TiffWriter<W> {
     ) -> TiffResult<()>
         requires stride { (0 < stride) × (stride ≤ row) }
         requires whole { length samples.now % row ≡ 0 }
-        ensures { WritesCounted (flat_map (le (type_size T.value_type)) (differences predictor (256 ^ type_size T.value_type) row stride (map (sample_number (type_size T.value_type) T.bits) samples.now))) self.old self.new result }
+        ensures { WritesCounted
+            (flat_map (le (type_size T.value_type))
+            (differences predictor (256 ^ type_size T.value_type) row stride
+            (map (sample_number (type_size T.value_type) T.bits) samples.now))) self.old
+            self.new result }
     {
         let start = self.at;
         self.write_predicted(samples, predictor, row, stride)?;

@@ -1,5 +1,5 @@
 use Rattle.std.proofs.Common.{ℕ}
-use Rattle.tiff_encode.proofs.Leaving.{data_leaves}
+use Rattle.tiff_encode.proofs.Guarding.{data_leaves}
 use Rattle.tiff_encode.proofs.encoder.TiffEncoder.append_given.Goals as goal
 
 pub returns-clause-leaves : goal.returns-clause-leaves

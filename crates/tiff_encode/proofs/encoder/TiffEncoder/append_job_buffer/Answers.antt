@@ -4,7 +4,7 @@ use Rattle.tiff_value.specs.Buffer.{BufferRecord}
 use Rattle.tiff_encode.specs.Calls.{write_data_buf}
 use Rattle.tiff_encode.specs.Ends.{Ends}
 use Rattle.tiff_encode.specs.JobValues.{buffer_in}
-use Rattle.tiff_encode.proofs.Leaving.{data_buf_leaves}
+use Rattle.tiff_encode.proofs.Guarding.{data_buf_leaves}
 use Rattle.tiff_encode.proofs.encoder.TiffEncoder.append_job_buffer.Goals as goal
 
 pub returns-clause-leaves : goal.returns-clause-leaves

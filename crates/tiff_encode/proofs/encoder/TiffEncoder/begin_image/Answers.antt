@@ -1,7 +1,7 @@
 use Rattle.std.proofs.Common.{rules, Ok, ◌∙◌, ap, refl, subst}
 use Rattle.tiff_base.specs.Types.{type_size}
 use Rattle.tiff_encode.specs.Calls as calls
-use Rattle.tiff_encode.specs.Ends.{IsTold, CallFails}
+use Rattle.tiff_encode.specs.Ends.{EndsAsDefined, CallFails}
 use Rattle.tiff_encode.specs.Tagging.{write_fields, fields_of}
 use Rattle.tiff_encode.proofs.Images.{image_refused, image_short, image_unpadded, image_untagged, image_begun}
 use Rattle.tiff_encode.proofs.encoder.TiffEncoder.begin_image.Goals as goal
@@ -27,7 +27,7 @@ returns g c =
     let old = c.args.self.now in
     let is = c.image.view_is ∙ c.blank-image.ensures in
     let values = c.deref.ensures.value ∙ c.in-Ok.ensures ∙ ap (λ i. fields_of (calls.first_tags i)) c.blank-image.ensures in
-    let done = subst (λ d. IsTold (write_fields d c.deref.result.now c.pad.new.self) (Ok c.set_tags.new.fields) c.set_tags.new.self) (ap (λ i. i.directory) is) c.in_ok-set_tags.ensures.answer in
+    let done = subst (λ d. EndsAsDefined (write_fields d c.deref.result.now c.pad.new.self) (Ok c.set_tags.new.fields) c.set_tags.new.self) (ap (λ i. i.directory) is) c.in_ok-set_tags.ensures.answer in
     image_begun g.C.ColorType.described (type_size g.C.Inner.TiffValue.value_type) c.args.width c.args.height old c.deref.result.now c.set_tags.new.fields _ c.pad.new.self c.set_tags.new.self
     c.in_ok-check_new_image.ensures.3 c.in_ok-check_new_image.ensures.0 c.in_ok-pad.ensures.1 values done (ap (λ i. calls.with_directory_of i c.set_tags.new.fields) is)
 

@@ -1,6 +1,6 @@
 use Rattle.std.proofs.Common.{Err, None, false, ap, refl}
 use Rattle.std.proofs.lemmas.Result.{err_from_is_err_and}
-use Rattle.tiff_encode.proofs.Leaving.{extra_leaves}
+use Rattle.tiff_encode.proofs.Guarding.{extra_leaves}
 use Rattle.tiff_encode.proofs.Guarding.{extra_told, extra_fails, extra_left}
 use Rattle.tiff_encode.proofs.encoder.TiffEncoder.extra_directory.Goals as goal
 

@@ -1,6 +1,6 @@
 use Rattle.std.proofs.Common.{Err, Some, true, ap, refl}
 use Rattle.std.proofs.lemmas.Result.{err_from_is_err_and}
-use Rattle.tiff_encode.proofs.Leaving.{begin_leaves}
+use Rattle.tiff_encode.proofs.Guarding.{begin_leaves}
 use Rattle.tiff_encode.proofs.Guarding.{begun_told, begun_fails, begun_left}
 use Rattle.tiff_encode.proofs.encoder.TiffEncoder.image_directory.Goals as goal
 

@@ -1,6 +1,7 @@
 use Rattle.std.proofs.Common.{rules}
-use Rattle.tiff_encode.proofs.Leaving.{entry_plain}
-use Rattle.tiff_encode.proofs.Guarding.{entry_left, failed_leaves}
+use Rattle.tiff_encode.proofs.Joining.{entry_adds}
+use Rattle.tiff_encode.proofs.Guarding.{entry_left}
+use Rattle.tiff_encode.proofs.Keeping.{failed_leaves}
 use Rattle.tiff_encode.proofs.encoder.TiffEncoder.place_given.Goals as goal
 
 pub returns-clause-leaves : goal.returns-clause-leaves
@@ -12,5 +13,5 @@ pub returns-in_err-entry-clause-leaves : goal.returns-in_err-entry-clause-leaves
 returns-in_err-entry-clause-leaves g c m s =
     let told =
     let old = c.args.self.now in
-    failed_leaves _ c.in_err-entry.field-0.0 old c.place_value.new.self m (entry_plain (g.T.TiffValue.field_data c.args.value.now) old) c.in_err-entry.ensures s in
+    failed_leaves _ c.in_err-entry.field-0.0 old c.place_value.new.self m (entry_adds (g.T.TiffValue.field_data c.args.value.now) old) c.in_err-entry.ensures s in
     search rules

@@ -5,8 +5,9 @@ use Rattle.tiff_value.specs.Buffer.{BufferRecord}
 use Rattle.tiff_encode.specs.Calls.{write_entry_buf}
 use Rattle.tiff_encode.specs.Ends.{Ends}
 use Rattle.tiff_encode.specs.JobValues.{buffer_in}
-use Rattle.tiff_encode.proofs.Leaving.{buf_plain}
-use Rattle.tiff_encode.proofs.Guarding.{entry_buf_left, failed_leaves}
+use Rattle.tiff_encode.proofs.Joining.{entry_buf_adds}
+use Rattle.tiff_encode.proofs.Guarding.{entry_buf_left}
+use Rattle.tiff_encode.proofs.Keeping.{failed_leaves}
 use Rattle.tiff_encode.proofs.encoder.TiffEncoder.place_job_buffer.Goals as goal
 
 pub returns-clause-leaves : goal.returns-clause-leaves
@@ -29,6 +30,6 @@ returns-in_err-entry-clause-leaves g c m s =
     let new = c.place_ordered.new.self in
     let view : Field → Field = λ entry. entry in
     let r : Result Field TiffError = Err c.in_err-entry.field-0.0 in
-    failed_leaves _ c.in_err-entry.field-0.0 old new m (buf_plain b old)
+    failed_leaves _ c.in_err-entry.field-0.0 old new m (entry_buf_adds b old)
     (subst (λ (bytes : List ℕ). Ends view (write_entry_buf (record b { bytes = bytes }) old) r old new) c.deref.ensures.value c.in_err-entry.ensures) s in
     search rules

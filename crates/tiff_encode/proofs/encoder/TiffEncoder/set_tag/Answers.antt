@@ -1,6 +1,6 @@
 use Rattle.std.proofs.Common.{◌≡◌, rules, Ok, sym, subst}
 use Rattle.tiff_encode.specs.Calls as calls
-use Rattle.tiff_encode.specs.Ends.{IsTold}
+use Rattle.tiff_encode.specs.Ends.{EndsAsDefined}
 use Rattle.tiff_encode.specs.Machine.{OpenDirectory}
 use Rattle.tiff_encode.proofs.Guarding.{tag_told, tag_fails, tag_short}
 use Rattle.tiff_encode.proofs.encoder.TiffEncoder.set_tag.Goals as goal
@@ -13,7 +13,7 @@ returns-in_err-entry-clause-answer g c =
 
 pub returns-clause-answer : goal.returns-clause-answer
 returns-clause-answer g c =
-    subst (λ d. IsTold (calls.write_tag c.args.fields.now c.args.tag (g.T.TiffValue.field_data c.args.value.now) c.args.self.now) (Ok d) c.place_value.new.self)
+    subst (λ d. EndsAsDefined (calls.write_tag c.args.fields.now c.args.tag (g.T.TiffValue.field_data c.args.value.now) c.args.self.now) (Ok d) c.place_value.new.self)
     (sym (subst (λ (d : OpenDirectory). c.set.new.self ≡ calls.with_field d c.args.tag c.in_ok-entry.entry) c.make_room-has_room.ensures c.in_ok-set.ensures))
     (tag_told c.args.fields.now c.args.tag (g.T.TiffValue.field_data c.args.value.now) c.in_ok-entry.entry c.args.self.now c.place_value.new.self c.in_ok-entry.ensures)
 

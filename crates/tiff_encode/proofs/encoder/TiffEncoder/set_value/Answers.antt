@@ -3,7 +3,7 @@ use Rattle.tiff_base.specs.declared.tags.Tag.{Tag}
 use Rattle.tiff_value.specs.Data.{FieldData}
 use Rattle.tiff_encode.specs.Calls as calls
 use Rattle.tiff_encode.specs.Calls.{with_field}
-use Rattle.tiff_encode.specs.Ends.{IsTold}
+use Rattle.tiff_encode.specs.Ends.{EndsAsDefined}
 use Rattle.tiff_encode.specs.Machine.{OpenDirectory}
 use Rattle.tiff_encode.proofs.Guarding.{tag_told, tag_fails, tag_short}
 use Rattle.tiff_encode.proofs.Tagging.{kept_told, kept_fails}
@@ -21,7 +21,7 @@ pub returns-clause-answer : goal.returns-clause-answer
 returns-clause-answer g c =
     let v = c.value.inside in
     let value : Tag × FieldData = c.args.value.now in
-    subst (λ d. IsTold (calls.write_tag c.args.fields.now value.0 (Ok value.1) c.args.self.now) (Ok d) c.place_entry_bytes.new.self)
+    subst (λ d. EndsAsDefined (calls.write_tag c.args.fields.now value.0 (Ok value.1) c.args.self.now) (Ok d) c.place_entry_bytes.new.self)
     (sym (subst (λ (d : OpenDirectory). c.set.new.self ≡ with_field d v.tag c.in_ok-entry.entry) c.make_room-has_room.ensures c.in_ok-set.ensures ∙ ap (λ x. with_field c.args.fields.now x.0 c.in_ok-entry.entry) c.value.view_is))
     (tag_told c.args.fields.now value.0 (Ok value.1) c.in_ok-entry.entry c.args.self.now c.place_entry_bytes.new.self
     (kept_told value v.tag v.field_type v.len v.bytes c.in_ok-entry.entry c.args.self.now c.place_entry_bytes.new.self c.value.invariant.0 c.value.told c.value.invariant.1 c.value.view_is c.in_ok-entry.ensures))

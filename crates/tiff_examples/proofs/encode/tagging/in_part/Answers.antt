@@ -1,4 +1,4 @@
--- Automation does not see that these lemmas are the examples.
+-- Automation doesn't see that these lemmas are the examples.
 use Rattle.tiff_examples.proofs.OfEncode.Tagging as p
 use Rattle.tiff_examples.proofs.encode.tagging.in_part.Goals as goal
 

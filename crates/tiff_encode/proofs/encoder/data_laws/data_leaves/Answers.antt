@@ -1,5 +1,0 @@
-use Rattle.tiff_encode.proofs.Data.Shows.{data_leaves}
-use Rattle.tiff_encode.proofs.encoder.data_laws.data_leaves.Goals as goal
-
-pub returns : goal.returns
-returns c = data_leaves

@@ -1,5 +1,0 @@
-use Rattle.tiff_encode.proofs.Shown.Gray.{first_shown}
-use Rattle.tiff_encode.proofs.encoder.data_laws.first_shown.Goals as goal
-
-pub returns : goal.returns
-returns c = first_shown

@@ -1,5 +1,0 @@
-use Rattle.tiff_encode.proofs.Shown.Gray.{gray_shown}
-use Rattle.tiff_encode.proofs.encoder.data_laws.gray_shown.Goals as goal
-
-pub returns : goal.returns
-returns c = gray_shown

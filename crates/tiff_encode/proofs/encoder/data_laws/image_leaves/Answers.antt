@@ -1,6 +1,0 @@
-use Rattle.tiff_encode.proofs.Shown.Parts.{parts_show}
-use Rattle.tiff_encode.proofs.Data.Image.{image_leaves_by}
-use Rattle.tiff_encode.proofs.encoder.data_laws.image_leaves.Goals as goal
-
-pub returns : goal.returns
-returns c = image_leaves_by parts_show

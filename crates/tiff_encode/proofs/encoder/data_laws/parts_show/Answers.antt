@@ -1,5 +1,0 @@
-use Rattle.tiff_encode.proofs.Shown.Parts.{parts_show}
-use Rattle.tiff_encode.proofs.encoder.data_laws.parts_show.Goals as goal
-
-pub returns : goal.returns
-returns c = parts_show

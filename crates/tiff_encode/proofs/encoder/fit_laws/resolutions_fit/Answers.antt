@@ -1,5 +1,0 @@
-use Rattle.tiff_encode.proofs.Image.Fits.{resolutions_fit}
-use Rattle.tiff_encode.proofs.encoder.fit_laws.resolutions_fit.Goals as goal
-
-pub returns : goal.returns
-returns c = resolutions_fit

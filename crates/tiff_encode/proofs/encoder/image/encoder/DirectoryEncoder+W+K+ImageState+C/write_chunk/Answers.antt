@@ -1,0 +1,16 @@
+use Rattle.std.proofs.Common.{Ok, Err, length, map}
+use Rattle.tiff_base.specs.Types.{type_size}
+use Rattle.tiff_value.specs.ColorType.{sample_number}
+use Rattle.tiff_encode.specs.Causes.{write_chunk_cause}
+use Rattle.tiff_encode.proofs.Data.Strips.{chunk_left}
+use Rattle.tiff_encode.proofs.encoder.image.encoder.DirectoryEncoder+W+K+ImageState+C.write_chunk.Goals as goal
+
+pub returns-in-Ok-clause-leaves : goal.returns-in-Ok-clause-leaves
+returns-in-Ok-clause-leaves g c m s =
+    chunk_left c.args.self.now.state (map (sample_number (type_size g.C.Inner.TiffValue.value_type) g.C.Inner.Sample.bits) c.args.samples.now) c.args.self.now.encoder.now c.store_chunk.new.self c.store_chunk.new.image m
+    (write_chunk_cause c.args.self.now.encoder.now c.args.self.now.state (length c.args.samples.now) 0) (Ok tt) c.fits.ensures c.is_short.ensures s c.in-Ok.ensures
+
+pub returns-in-Err-clause-leaves : goal.returns-in-Err-clause-leaves
+returns-in-Err-clause-leaves g c m s =
+    chunk_left c.args.self.now.state (map (sample_number (type_size g.C.Inner.TiffValue.value_type) g.C.Inner.Sample.bits) c.args.samples.now) c.args.self.now.encoder.now c.store_chunk.new.self c.store_chunk.new.image m
+    (write_chunk_cause c.args.self.now.encoder.now c.args.self.now.state (length c.args.samples.now) 0) (Err c.in-Err.fault) c.fits.ensures c.is_short-in-Err.ensures s c.in-Err.ensures

@@ -1,5 +1,0 @@
-use Rattle.tiff_encode.proofs.Open.Begun.{begins_open}
-use Rattle.tiff_encode.proofs.encoder.image_laws.begins_open.Goals as goal
-
-pub returns : goal.returns
-returns c = begins_open

@@ -1,5 +1,0 @@
-use Rattle.tiff_encode.proofs.Open.Chunks.{chunks_keep_open}
-use Rattle.tiff_encode.proofs.encoder.image_laws.chunks_keep_open.Goals as goal
-
-pub returns : goal.returns
-returns c = chunks_keep_open

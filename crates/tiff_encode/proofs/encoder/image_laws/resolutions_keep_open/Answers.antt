@@ -1,5 +1,0 @@
-use Rattle.tiff_encode.proofs.Open.Kept.{resolutions_keep_open}
-use Rattle.tiff_encode.proofs.encoder.image_laws.resolutions_keep_open.Goals as goal
-
-pub returns : goal.returns
-returns c = resolutions_keep_open

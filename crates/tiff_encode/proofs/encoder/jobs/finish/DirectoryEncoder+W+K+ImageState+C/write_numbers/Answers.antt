@@ -1,0 +1,13 @@
+use Rattle.std.proofs.Common.{List, map, ℕ, ap, sym, ◌∙◌}
+use Rattle.tiff_base.specs.Types.{type_size}
+use Rattle.tiff_value.specs.ColorType.{sample_number}
+use Rattle.tiff_encode.specs.JobValues.{cut_to}
+use Rattle.tiff_encode.proofs.Running.Images.{cut_moves}
+use Rattle.tiff_encode.proofs.encoder.jobs.finish.DirectoryEncoder+W+K+ImageState+C.write_numbers.Goals as goal
+
+pub returns : goal.returns
+returns g c =
+    let number = sample_number (type_size g.C.Inner.TiffValue.value_type) g.C.Inner.Sample.bits in
+    let cut : ℕ → List ℕ = λ size. cut_to size c.args.numbers.now in
+    cut_moves c.args.self.state c.write_samples.result (map number c.deref.result.now) (cut c.args.self.state.size) c.args.self.encoder.now c.write_samples.new.self.0
+    (ap (map number) c.deref.ensures.value ∙ c.in-Ok.ensures ∙ sym (ap cut c.is_of_type.ensures)) c.write_samples.ensures

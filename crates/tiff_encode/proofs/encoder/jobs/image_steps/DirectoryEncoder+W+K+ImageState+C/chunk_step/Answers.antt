@@ -1,0 +1,29 @@
+use Rattle.std.proofs.Common.{rules, ◌≡◌, length, map, ap, sym, ◌∙◌, subst}
+use Rattle.std.proofs.lemmas.List.{length-map}
+use Rattle.tiff_base.specs.Types.{type_size}
+use Rattle.tiff_value.specs.ColorType.{sample_number}
+use Rattle.tiff_encode.specs.JobValues.{cut_to}
+use Rattle.tiff_encode.specs.ImageStepping.{ChunkDraws}
+use Rattle.tiff_encode.proofs.Image.StepsStored.{chunk_draws, chunk_unfound, cut_small, cut_few}
+use Rattle.tiff_encode.proofs.encoder.jobs.image_steps.DirectoryEncoder+W+K+ImageState+C.chunk_step.Goals as goal
+
+pub returns-in_err-samples-clause-draws : goal.returns-in_err-samples-clause-draws
+returns-in_err-samples-clause-draws g c =
+    let told = chunk_unfound c.args.self.now.state c.args.numbers.now c.in_err-samples.field-0.0 c.args.self.now.encoder.now c.in_err-samples.ensures in
+    search rules
+
+pub returns-clause-draws : goal.returns-clause-draws
+returns-clause-draws g c =
+    let i = c.args.self.now.state in
+    let number = sample_number (type_size g.C.Inner.TiffValue.value_type) g.C.Inner.Sample.bits in
+    let r = c.write_chunk-answer.result in
+    let cut : cut_to i.size c.args.numbers.now ≡ map number c.deref.result.now =
+    ap (λ z. cut_to z c.args.numbers.now) c.is_of_type.ensures ∙ sym c.in_ok-samples.ensures ∙ ap (map number) (sym c.deref.ensures.value) in
+    let count : length c.deref.result.now ≡ length (map number c.deref.result.now) = sym (length-map c.deref.result.now number) in
+    subst (λ y. ChunkDraws i c.args.numbers.now y c.args.self.now.encoder.now c.write_chunk-answer.new.self.encoder.now c.write_chunk-answer.new.self.state)
+    (sym c.replied.ensures)
+    (chunk_draws i c.write_chunk-answer.new.self.state c.args.numbers.now (map number c.deref.result.now) (length c.deref.result.now) r
+    c.args.self.now.encoder.now c.write_chunk-answer.new.self.encoder.now cut count
+    (cut_small i.size c.args.numbers.now (map number c.deref.result.now) cut)
+    (cut_few i.size c.args.numbers.now (map number c.deref.result.now) cut (length c.deref.result.now) count c.requires.few)
+    c.is_short.ensures c.is_short-2.ensures c.write_chunk-answer.ensures.answer c.write_chunk-answer.ensures.leaves)

@@ -1,0 +1,5 @@
+use Rattle.tiff_encode.proofs.Shown.Parts.{parts_show}
+use Rattle.tiff_encode.proofs.encoder.laws.data.parts_show.Goals as goal
+
+pub returns : goal.returns
+returns c = parts_show

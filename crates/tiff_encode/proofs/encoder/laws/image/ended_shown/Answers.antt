@@ -1,0 +1,7 @@
+use Rattle.tiff_encode.proofs.PageTold.Page.{page_told}
+use Rattle.tiff_encode.proofs.Shown.Images.{images_show_by}
+use Rattle.tiff_encode.proofs.Open.Ends.{ended_shown_by}
+use Rattle.tiff_encode.proofs.encoder.laws.image.ended_shown.Goals as goal
+
+pub returns : goal.returns
+returns c = ended_shown_by (images_show_by page_told)

@@ -1,0 +1,5 @@
+use Rattle.tiff_encode.proofs.WriteOps.{ops_join}
+use Rattle.tiff_encode.proofs.encoder.laws.ops_join.Goals as goal
+
+pub returns : goal.returns
+returns c = ops_join

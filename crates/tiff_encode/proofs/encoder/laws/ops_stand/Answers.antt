@@ -1,0 +1,5 @@
+use Rattle.tiff_encode.proofs.WriteOps.{ops_stand}
+use Rattle.tiff_encode.proofs.encoder.laws.ops_stand.Goals as goal
+
+pub returns : goal.returns
+returns c = ops_stand

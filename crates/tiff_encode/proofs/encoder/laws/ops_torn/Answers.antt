@@ -1,0 +1,5 @@
+use Rattle.tiff_encode.proofs.WriteOps.{ops_torn}
+use Rattle.tiff_encode.proofs.encoder.laws.ops_torn.Goals as goal
+
+pub returns : goal.returns
+returns c = ops_torn

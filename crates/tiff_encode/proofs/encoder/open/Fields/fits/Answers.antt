@@ -1,6 +1,0 @@
-use Rattle.std.proofs.Common.{ap, subst}
-use Rattle.tiff_base.specs.Field.{AreEntries}
-use Rattle.tiff_encode.proofs.encoder.open.Fields.fits.Goals as goal
-
-pub returns-clause-entries : goal.returns-clause-entries
-returns-clause-entries c = subst (λ fields. AreEntries fields) (ap (λ d. d.fields) c.self.view_is) c.entries_fit.ensures

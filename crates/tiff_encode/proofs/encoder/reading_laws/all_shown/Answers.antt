@@ -1,5 +1,0 @@
-use Rattle.tiff_encode.proofs.ReadsBack.Whole.{all_shown}
-use Rattle.tiff_encode.proofs.encoder.reading_laws.all_shown.Goals as goal
-
-pub returns : goal.returns
-returns c = all_shown

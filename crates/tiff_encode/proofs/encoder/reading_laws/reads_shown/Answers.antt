@@ -1,5 +1,0 @@
-use Rattle.tiff_encode.proofs.ReadsBack.Entries.{reads_shown}
-use Rattle.tiff_encode.proofs.encoder.reading_laws.reads_shown.Goals as goal
-
-pub returns : goal.returns
-returns c = reads_shown

@@ -1,0 +1,8 @@
+//! Open directories: their state, their tags and values, their bytes, and their end.
+
+pub(crate) mod encoder;
+pub(crate) mod finish;
+pub(crate) mod listing;
+pub(crate) mod state;
+pub(crate) mod tags;
+pub(crate) mod values;

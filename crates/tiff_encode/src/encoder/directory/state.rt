@@ -1,0 +1,148 @@
+//! The state of an open directory.
+
+ghost use Rattle.std.specs.Prelude.{◌≡◌, ◌^◌, ◌<◌, MatchResult, Some};
+ghost use Rattle.std.specs.FinMap as map;
+ghost use Rattle.tiff_base.specs.declared.error.TiffError.TheVariants.{OutOfMemory};
+ghost use Rattle.tiff_base.specs.Field.{AreEntries};
+ghost use Rattle.tiff_encode.specs.Calls.{with_field, without_field};
+ghost use Rattle.tiff_encode.specs.Extending.{Extends};
+
+use std::alloc::Global;
+use std::marker::Model;
+use tiff_base::directory::{Directory, Entry};
+use tiff_base::error::{TiffError, TiffResult};
+use tiff_base::tags::Tag;
+
+/// An open directory: its fields, the offset of the link that points to it when it ends, and
+/// whether it is in the IFD chain, so that its own link becomes the last link of the chain.
+#[derive(Drop)]
+pub struct DirectoryState {
+    pub(crate) directory: Directory,
+    pub(crate) parent: Option<u64>,
+    pub(crate) chained: bool,
+}
+
+impl Model for DirectoryState {
+    ghost use Rattle.tiff_encode.specs.Machine.{OpenDirectory};
+    ghost use Rattle.std.specs.Coded.{codes};
+    ghost use Rattle.std.specs.FinMap as map;
+
+    ghost Value = { OpenDirectory };
+
+    ghost coded = { Prim.hlevel (codes, map.code) };
+
+    ghost view = { λ d. record { fields = d.directory.entries; parent = d.parent; chained = d.chained } };
+}
+
+/// What is open in the file of an encoder: a directory, alone or with the state of an image (this
+/// project's).
+pub trait HasDirectory {
+    ghost use Rattle.std.specs.Prelude.{◌≡◌};
+    ghost use Rattle.tiff_encode.specs.Machine.{OpenDirectory};
+
+    // The open directory.
+    ghost open_directory: { Self → OpenDirectory };
+
+    // The same state with another directory.
+    ghost with_directory: { Self → OpenDirectory → Self };
+
+    /// Reserves memory for the field of a tag, before a byte of its value is written. Returns
+    /// whether the memory is available.
+    fn make_room(&mut self, tag: Tag) -> bool
+        ensures { self.new ≡ self.old };
+
+    /// Sets the field of a tag. It replaces an earlier field of that tag. The only error is
+    /// `OutOfMemory`; then the fields don't change.
+    fn set(&mut self, tag: Tag, entry: Entry) -> TiffResult<()>
+        ensures { MatchResult result
+            (λ _. self.new ≡ with_directory self.old
+            (with_field (open_directory self.old) tag entry))
+            (λ e. (e ≡ OutOfMemory) × (self.new ≡ self.old)) };
+
+    /// Sets each field of a directory in turn. Each field replaces an earlier field of its tag. The
+    /// only error is `OutOfMemory`; then the fields before the one that failed are set.
+    fn extend_from(&mut self, directory: &Directory) -> TiffResult<()>
+        ensures set { Extends (map.entries directory.now.entries) (open_directory self.old)
+            (open_directory self.new) result }
+        ensures rest { self.new ≡ with_directory self.old (open_directory self.new) };
+
+    // A state with a given directory has that directory.
+    ghost given_directory: { (s : Self) (d : OpenDirectory)
+        → open_directory (with_directory s d) ≡ d };
+
+    // A state with its own directory doesn't change.
+    ghost with_its_own: { (s : Self) → with_directory s (open_directory s) ≡ s };
+}
+
+impl HasDirectory for DirectoryState {
+    ghost use Rattle.std.specs.Prelude.{refl};
+
+    ghost open_directory = { λ d. d };
+
+    ghost with_directory = { λ s d. d };
+
+    fn make_room(&mut self, tag: Tag) -> bool {
+        self.directory.make_room(tag).is_ok()
+    }
+
+    fn set(&mut self, tag: Tag, entry: Entry) -> TiffResult<()> {
+        match self.directory.insert(tag.to_u16(), entry) {
+            Ok(()) => return Ok(()),
+            Err(_) => return Err(TiffError::OutOfMemory),
+        }
+    }
+
+    fn extend_from(&mut self, directory: &Directory) -> TiffResult<()> {
+        for (tag, entry) in directory.iter() {
+            let copy = Entry::new_u64(entry.field_type(), entry.count(), entry.value());
+            match self.directory.insert(tag.to_u16(), copy) {
+                Ok(()) => {}
+                Err(_) => return Err(TiffError::OutOfMemory),
+            }
+        }
+        Ok(())
+    }
+
+    ghost given_directory = { λ s d. refl };
+
+    ghost with_its_own = { λ s. refl };
+}
+
+impl DirectoryState {
+    /// Sets the offset of the link that points to the directory when it ends.
+    pub(crate) fn set_parent(&mut self, link: u64)
+        ensures { self.new ≡ record self.old { parent = Some link } }
+    {
+        self.parent = Some(link);
+    }
+
+    /// Removes the field of a tag.
+    pub(crate) fn remove(&mut self, tag: Tag)
+        ensures { self.new ≡ without_field self.old tag }
+    {
+        let _taken = self.directory.remove(tag);
+    }
+
+    /// Returns a copy of the directory. The only error is `OutOfMemory`.
+    pub(crate) fn copy(&self, alloc: Global) -> TiffResult<DirectoryState>
+        ensures { MatchResult result (λ d. d ≡ self.now) (λ e. e ≡ OutOfMemory) }
+    {
+        let mut copy = DirectoryState {
+            directory: Directory::empty(alloc),
+            parent: self.parent,
+            chained: self.chained,
+        };
+        copy.extend_from(&self.directory)?;
+        Ok(copy)
+    }
+
+    /// States that the fields are entries that a directory can have, and that they are fewer than
+    /// 2^64.
+    pub(crate) fn fits(&self)
+        ensures entries { AreEntries self.now.fields }
+        ensures few { map.len self.now.fields < 2 ^ 64 }
+    {
+        self.directory.entries_fit();
+        let _count = self.directory.len();
+    }
+}

@@ -1,0 +1,241 @@
+//! Begins images.
+
+ghost use Rattle.std.specs.Prelude.{◌≡◌, ℕ, ◌+◌, ◌*◌, ◌^◌, ◌<◌, [], ◌∷◌, length, IfOk, MatchOption, MatchResult, None, Some, true};
+ghost use Rattle.tiff_base.specs.Types.{type_size};
+ghost use Rattle.tiff_encode.specs.Calls as calls;
+ghost use Rattle.tiff_encode.specs.Calls.{default_rows, image_in, new_directory};
+ghost use Rattle.tiff_encode.specs.Causes as causes;
+ghost use Rattle.tiff_encode.specs.Causes.{end_of, image_cause, is_past, new_image_cause};
+ghost use Rattle.tiff_encode.specs.Ends.{Ends};
+ghost use Rattle.tiff_encode.specs.Machine.{compression_method};
+ghost use Rattle.tiff_encode.specs.Placing.{Checks};
+ghost use Rattle.tiff_encode.specs.Tagging.{fields_of};
+ghost use Rattle.tiff_encode.specs.FileBytes.{resolutions_offset};
+
+use crate::encoder::TiffEncoder;
+use crate::encoder::directory::state::DirectoryState;
+use crate::encoder::directory::tags::TagValue;
+use crate::encoder::image::chunk_rooms::ChunkRooms;
+use crate::encoder::image::state::{ChunkLayout, ImageState};
+use crate::encoder::kind::TiffKind;
+use crate::encoder::settings::Compression;
+use std::alloc::{AllocError, Global};
+use std::marker::PhantomData;
+use tiff_base::color::ChunkType;
+use tiff_base::directory::Directory;
+use tiff_base::error::{TiffError, TiffFormatError, TiffResult, UsageError};
+use tiff_base::io::Sink;
+use tiff_base::tags::{
+    CompressionMethod, FileKind, PhotometricInterpretation, PlanarConfiguration, Predictor,
+    ResolutionUnit, SampleFormat, Tag,
+};
+use tiff_value::encoder::colortype::ColorType;
+use tiff_value::encoder::tiff_value::TiffValue;
+
+// Returns whether differences of these samples, taken as integers, have no meaning: the first
+// sample format is IEEE floating point or undefined.
+fn is_not_whole(formats: &[SampleFormat]) -> bool
+    ensures { result ≡ causes.is_not_whole formats.now }
+{
+    matches!(formats, [SampleFormat::IEEEFP | SampleFormat::Void, ..])
+}
+
+// Returns whether the offset of the second resolution, after padding, exceeds what the kind of file
+// can hold.
+#[tactic(auto, using(crate::proofs::Offsets::resolutions_of))]
+fn is_past_resolutions(kind: FileKind, end: u64) -> bool
+    ensures { result ≡ is_past kind (resolutions_offset end + 8) }
+{
+    let limit = u64::from(u32::MAX);
+    match kind {
+        FileKind::Classic => end > limit || end + (4 - end % 4) % 4 + 8 > limit,
+        FileKind::Big => false,
+    }
+}
+
+/// Returns the first error of `new_image` that applies, except that of an earlier failed write.
+#[tactic(auto, unfolding(crate::specs::Causes::image_cause))]
+fn check_image(
+    kind: FileKind,
+    end: u64,
+    predictor: Predictor,
+    formats: &[SampleFormat],
+    sides: (u32, u32),
+) -> TiffResult<()>
+    ensures { Checks (image_cause kind end predictor formats.now sides.0 sides.1) result }
+{
+    if sides.0 == 0 || sides.1 == 0 {
+        return Err(TiffError::FormatError(TiffFormatError::InvalidDimensions(sides.0, sides.1)));
+    }
+    match predictor {
+        Predictor::None => {}
+        Predictor::Horizontal => {
+            if is_not_whole(formats) {
+                return Err(TiffError::UsageError(UsageError::PredictorIncompatible));
+            }
+        }
+        _ => return Err(TiffError::UsageError(UsageError::PredictorUnavailable)),
+    }
+    if is_past_resolutions(kind, end) {
+        return Err(TiffError::IntSizeError);
+    }
+    Ok(())
+}
+
+// Returns the compression method that a `Compression` means.
+fn method(compression: Compression) -> CompressionMethod
+    ensures { result ≡ compression_method compression }
+{
+    match compression {
+        Compression::Uncompressed => CompressionMethod::None,
+        Compression::Packbits => CompressionMethod::PackBits,
+    }
+}
+
+// Returns the number of rows of a strip by default. `row_bytes` is the number of bytes of a row.
+fn rows_of_strip(compression: Compression, row_bytes: u64) -> u32
+    requires { 0 < row_bytes }
+    ensures rows { result ≡ default_rows (compression_method compression) row_bytes }
+    ensures some { 0 < result }
+{
+    match compression {
+        Compression::Uncompressed => 1_000_000u64.div_ceil(row_bytes) as u32,
+        Compression::Packbits => 1,
+    }
+}
+
+impl<W: Sink, K: TiffKind> TiffEncoder<W, K> {
+    // Returns the first error of `new_image` that applies before a byte is written.
+    #[tactic(auto, unfolding(crate::specs::Causes::new_image_cause))]
+    fn check_new_image<C: ColorType>(&self, width: u32, height: u32) -> TiffResult<()>
+        ensures { MatchResult result
+            (λ _. (self.now.fault ≡ None) × (0 < width) × (0 < height)
+            × (new_image_cause self.now C.described width height ≡ None))
+            (λ e. new_image_cause self.now C.described width height ≡ Some e) }
+    {
+        let end = self.end()?;
+        check_image(
+            self.file_kind(),
+            end,
+            self.predictor,
+            C::sample_formats(),
+            (width, height),
+        )?;
+        Ok(())
+    }
+
+    // Returns an image without chunks, with a directory of the IFD chain that has no fields.
+    fn blank<C: ColorType>(&self, width: u32, height: u32) -> ImageState<C>
+        requires sides { (0 < width) × (0 < height) }
+        ensures { result ≡ image_in self.now (new_directory (Some self.now.chain) true) C.described
+            (type_size C.Inner.value_type) width height }
+    {
+        let (_kind, len) = C::Inner::type_and_len();
+        let pixel = C::sample_bits().len() as u64 * u64::from(len);
+        let rows = rows_of_strip(self.compression, u64::from(width) * pixel);
+        ImageState {
+            directory: DirectoryState {
+                directory: Directory::empty(self.alloc),
+                parent: Some(self.chain),
+                chained: true,
+            },
+            width,
+            height,
+            extra: Vec::new(self.alloc),
+            predictor: self.predictor,
+            compression: self.compression,
+            form: ChunkLayout {
+                chunk_type: ChunkType::Strip,
+                chunk_width: width,
+                chunk_height: rows,
+                planar: PlanarConfiguration::Chunky,
+            },
+            chunks: Vec::new(self.alloc),
+            rooms: ChunkRooms::empty(self.alloc),
+            color: PhantomData,
+        }
+    }
+}
+
+// Returns the tags of the width, the height, the compression, the predictor and the interpretation
+// of the samples.
+#[tactic(auto, unfolding(tiff_value::specs::Data::data_of))]
+fn meaning_values<C: ColorType>(image: &ImageState<C>) -> [TagValue; 5]
+    ensures { result ≡ fields_of (calls.meaning_tags image.now) }
+{
+    [
+        TagValue::long(Tag::ImageWidth, image.width),
+        TagValue::long(Tag::ImageLength, image.height),
+        TagValue::short(Tag::Compression, method(image.compression).to_u16()),
+        TagValue::short(Tag::Predictor, image.predictor.to_u16()),
+        TagValue::short(Tag::PhotometricInterpretation, C::TIFF_VALUE.to_u16()),
+    ]
+}
+
+// Returns the tag that says that YCbCr samples aren't subsampled, or `None` for another color.
+fn chroma_value<C: ColorType>(image: &ImageState<C>) -> Option<TagValue>
+    ensures { MatchOption result
+        (fields_of (calls.chroma_tags image.now.color.interpretation) ≡ [])
+        (λ v. fields_of (calls.chroma_tags image.now.color.interpretation) ≡ v ∷ []) }
+{
+    let _form = &image.form;
+    match C::TIFF_VALUE {
+        PhotometricInterpretation::YCbCr => Some(TagValue::shorts(Tag::ChromaSubsampling, 1, 1)),
+        _ => None,
+    }
+}
+
+// Returns the tags of the rows of a strip, the samples of a pixel, and a resolution of 1/1 without
+// a unit.
+#[tactic(auto, unfolding(tiff_value::specs::Data::data_of))]
+fn layout_values<C: ColorType>(image: &ImageState<C>) -> [TagValue; 5]
+    ensures { result ≡ fields_of (calls.layout_tags image.now) }
+{
+    [
+        TagValue::long(Tag::RowsPerStrip, image.form.chunk_height),
+        TagValue::short(Tag::SamplesPerPixel, C::sample_bits().len() as u16),
+        TagValue::rational(Tag::XResolution, 1, 1),
+        TagValue::rational(Tag::YResolution, 1, 1),
+        TagValue::short(Tag::ResolutionUnit, ResolutionUnit::None.to_u16()),
+    ]
+}
+
+impl<W: Sink, K: TiffKind> TiffEncoder<W, K> {
+    // `new_image`, without the `DirectoryEncoder` around the image.
+    pub(crate) fn begin_image<C: ColorType>(
+        &mut self,
+        width: u32,
+        height: u32,
+    ) -> TiffResult<ImageState<C>>
+        ensures { Ends (λ i. i)
+            (calls.new_image C.described (type_size C.Inner.value_type) width height self.old)
+            result
+            self.old self.new }
+    {
+        self.check_new_image::<C>(width, height)?;
+        let mut image = self.blank::<C>(width, height);
+        let Ok(values) = first_values(self.alloc, &image) else {
+            return Err(TiffError::OutOfMemory);
+        };
+        self.pad()?;
+        self.set_tags(&mut image.directory, &values)?;
+        Ok(image)
+    }
+}
+
+// Returns the tags that `new_image` writes, in the order in which it writes them.
+#[tactic(auto, unfolding(crate::specs::Calls::first_tags))]
+fn first_values<C: ColorType>(
+    alloc: Global,
+    image: &ImageState<C>,
+) -> Result<Vec<TagValue>, AllocError>
+    ensures { IfOk result (λ v. v.items ≡ fields_of (calls.first_tags image.now)) }
+{
+    let mut values = Vec::new(alloc);
+    values.extend_from_slice(&meaning_values(image))?;
+    if let Some(chroma) = chroma_value(image) {
+        values.push(chroma)?;
+    }
+    values.extend_from_slice(&layout_values(image))?;
+    Ok(values)
+}

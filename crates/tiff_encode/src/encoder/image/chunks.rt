@@ -1,0 +1,275 @@
+//! Writes chunks.
+
+ghost use Rattle.std.specs.Prelude.{◌≡◌, ℕ, ◌-◌, ◌*◌, ◌^◌, ◌<◌, ◌≤◌, length, map, IfSome, MatchResult, None, Some};
+ghost use Rattle.tiff_base.specs.Types.{type_size};
+ghost use Rattle.tiff_value.specs.ColorType.{sample_number};
+ghost use Rattle.tiff_base.specs.declared.tags.CompressionMethod.TheVariants as method;
+ghost use Rattle.tiff_value.specs.Packed.{IsPacked, IsStored};
+ghost use Rattle.tiff_encode.specs.Calls as calls;
+ghost use Rattle.tiff_encode.specs.Causes.{end_of, write_chunk_cause, write_strip_cause};
+ghost use Rattle.tiff_page.specs.Pixels.{stored_samples};
+ghost use Rattle.tiff_encode.specs.Chunks.{image_page, next_chunk_sample_count, row_samples};
+ghost use Rattle.tiff_encode.specs.Placing.{Checks};
+ghost use Rattle.tiff_encode.specs.Storing.{chunk_test, AppendsChunk, StoresChunk, WritesStoredChunk};
+ghost use Rattle.tiff_encode.specs.Stored as stored;
+
+use crate::encoder::TiffEncoder;
+use crate::encoder::image::chunk_rooms::ChunkRooms;
+use crate::encoder::image::state::{Chunk, ImageState};
+use crate::encoder::kind::TiffKind;
+use crate::encoder::limits::is_past_offset;
+use crate::encoder::settings::Compression;
+use std::mem;
+use tiff_base::color::ChunkType;
+use tiff_base::error::{TiffError, TiffResult, UsageError};
+use tiff_base::io::{IoKind, Sink};
+use tiff_base::tags::{FileKind, Predictor};
+use tiff_value::encoder::colortype::ColorType;
+use tiff_value::encoder::differences::Sample;
+
+// Returns the number of bytes of `count` samples. The only error is `OutOfMemory`, if `count` is
+// `usize::MAX` or the number of bytes exceeds it: no memory holds so many samples.
+fn byte_count<T: Sample>(count: usize) -> TiffResult<usize>
+    ensures { MatchResult result (λ n. (n ≡ count * type_size T.value_type)
+        × (count < 2 ^ 64 - 1)) (λ e. e ≡ TiffError.OutOfMemory) }
+{
+    if count == usize::MAX {
+        return Err(TiffError::OutOfMemory);
+    }
+    let (_kind, len) = T::type_and_len();
+    match count.checked_mul(usize::from(len)) {
+        Some(bytes) => Ok(bytes),
+        None => Err(TiffError::OutOfMemory),
+    }
+}
+
+impl<C: ColorType> ImageState<C> {
+    // Returns the number of samples of a row of a chunk, and the number of samples of a pixel in a
+    // chunk.
+    fn row_and_stride(&self) -> (usize, usize)
+        ensures row { result.0 ≡ row_samples (image_page self.now) }
+        ensures stride { result.1 ≡ stored_samples (image_page self.now) }
+        ensures order { (0 < result.1) × (result.1 ≤ result.0) }
+    {
+        let stride = self.stored_samples() as usize;
+        (self.form.chunk_width as usize * stride, stride)
+    }
+
+    // Compresses the samples of the next chunk. The only error is `OutOfMemory`, also if the number
+    // of bytes exceeds `usize`: no memory holds so many samples.
+    fn pack_samples(&self, samples: &[C::Inner], rooms: &mut ChunkRooms) -> TiffResult<()>
+        requires { length samples.now ≡ next_chunk_sample_count self.now }
+        ensures { MatchResult result
+            (λ _. IsPacked
+            (stored.unpacked_chunk self.now
+            (map (sample_number (type_size C.Inner.value_type) C.Inner.bits) samples.now))
+            rooms.new.packed.items)
+            (λ e. e ≡ TiffError.OutOfMemory) }
+    {
+        byte_count::<C::Inner>(samples.len())?;
+        let (row, stride) = self.row_and_stride();
+        rooms.pack(samples, self.predictor, row, stride)
+    }
+
+    // Returns the bytes to store for the samples of the next chunk, without a copy. Returns `None`
+    // unless the samples have 8 bits and are neither compressed nor stored as differences.
+    fn lent_bytes<'a>(&self, samples: &'a [C::Inner]) -> Option<&'a [u8]>
+        ensures { IfSome result (λ b. IsStored self.now.method b.now (stored.unpacked_chunk self.now
+            (map (sample_number (type_size C.Inner.value_type) C.Inner.bits) samples.now))) }
+    {
+        match self.compression {
+            Compression::Uncompressed => match self.predictor {
+                Predictor::None => C::Inner::as_bytes(samples),
+                _ => None,
+            },
+            Compression::Packbits => None,
+        }
+    }
+
+    // Checks whether a chunk of `count` samples can be written at the end of a file of `end` bytes.
+    // Returns the first error that doesn't depend on the compressed bytes.
+    fn check_chunk(&self, kind: FileKind, end: u64, count: usize) -> TiffResult<()>
+        ensures { Checks (chunk_test kind end self.now count) result }
+    {
+        if self.is_past_chunks() {
+            return Err(TiffError::IntSizeError);
+        }
+        if !self.is_left() || count as u64 != self.next_samples() {
+            return Err(TiffError::IoError(IoKind::InvalidData));
+        }
+        if is_past_offset(kind, end) {
+            return Err(TiffError::IntSizeError);
+        }
+        Ok(())
+    }
+}
+
+impl<W: Sink, K: TiffKind> TiffEncoder<W, K> {
+    // Checks whether a chunk of `count` samples, stored as `stored` bytes, can be written at the
+    // end of the file. Returns the end of the file, or the first error of `write_chunk` that
+    // applies.
+    #[tactic(auto, unfolding(crate::specs::Causes::write_chunk_cause))]
+    fn chunk_offset<C: ColorType>(
+        &self,
+        image: &ImageState<C>,
+        count: usize,
+        stored: usize,
+    ) -> TiffResult<u64>
+        ensures { MatchResult result
+            (λ end. (self.now.fault ≡ None) × (end ≡ end_of self.now)
+            × (write_chunk_cause self.now image.now count stored ≡ None))
+            (λ e. write_chunk_cause self.now image.now count stored ≡ Some e) }
+    {
+        let end = self.end()?;
+        image.check_chunk(self.file_kind(), end, count)?;
+        if is_past_offset(self.file_kind(), stored as u64) {
+            return Err(TiffError::IntSizeError);
+        }
+        Ok(end)
+    }
+
+    // Appends a chunk of `count` samples, which is stored as the bytes `stored`.
+    fn append_chunk<C: ColorType>(
+        &mut self,
+        image: &mut ImageState<C>,
+        count: usize,
+        stored: &[u8],
+    ) -> TiffResult<()>
+        ensures { AppendsChunk (calls.write_chunk image.old count stored.now self.old) image.old
+            result self.old self.new image.new }
+    {
+        let offset = self.chunk_offset(image, count, stored.len())?;
+        let Ok(()) = image.chunks.reserve(1) else {
+            return Err(TiffError::OutOfMemory);
+        };
+        self.append(stored)?;
+        image.chunks.push_reserved(Chunk {
+            offset,
+            stored: stored.len() as u64,
+        });
+        Ok(())
+    }
+
+    // Appends the next chunk of an image that isn't compressed. It converts the samples to bytes
+    // while it writes them to the sink.
+    fn append_samples<C: ColorType>(
+        &mut self,
+        image: &mut ImageState<C>,
+        samples: &[C::Inner],
+    ) -> TiffResult<()>
+        requires { length samples.now ≡ next_chunk_sample_count image.old }
+        ensures { AppendsChunk
+            (calls.write_chunk image.old (length samples.now) (stored.unpacked_chunk image.old
+            (map (sample_number (type_size C.Inner.value_type) C.Inner.bits) samples.now)) self.old)
+            image.old result self.old self.new image.new }
+    {
+        let bytes = byte_count::<C::Inner>(samples.len())?;
+        let (row, stride) = image.row_and_stride();
+        let predictor = image.predictor;
+        let offset = self.chunk_offset(image, samples.len(), bytes)?;
+        let Ok(()) = image.chunks.reserve(1) else {
+            return Err(TiffError::OutOfMemory);
+        };
+        self.append_rows(samples, predictor, row, stride)?;
+        image.chunks.push_reserved(Chunk {
+            offset,
+            stored: bytes as u64,
+        });
+        Ok(())
+    }
+
+    // Appends the next chunk of an image that is compressed, with the given buffers.
+    fn append_packed<C: ColorType>(
+        &mut self,
+        image: &mut ImageState<C>,
+        samples: &[C::Inner],
+        rooms: &mut ChunkRooms,
+    ) -> TiffResult<()>
+        requires next { length samples.now ≡ next_chunk_sample_count image.old }
+        requires packed { image.old.method ≡ method.PackBits }
+        ensures { StoresChunk calls.write_chunk image.old
+            (map (sample_number (type_size C.Inner.value_type) C.Inner.bits)
+            samples.now) result self.old self.new image.new }
+    {
+        image.pack_samples(samples, rooms)?;
+        self.append_chunk(image, samples.len(), &rooms.packed)
+    }
+
+    // Appends the next chunk of an image that is compressed, with the image's own buffers. The
+    // image has its buffers again after the call.
+    fn put_packed<C: ColorType>(
+        &mut self,
+        image: &mut ImageState<C>,
+        samples: &[C::Inner],
+    ) -> TiffResult<()>
+        requires next { length samples.now ≡ next_chunk_sample_count image.old }
+        requires packed { image.old.method ≡ method.PackBits }
+        ensures { StoresChunk calls.write_chunk image.old
+            (map (sample_number (type_size C.Inner.value_type) C.Inner.bits)
+            samples.now) result self.old self.new image.new }
+    {
+        let mut rooms = mem::replace(&mut image.rooms, ChunkRooms::empty(self.alloc));
+        let result = self.append_packed(image, samples, &mut rooms);
+        image.rooms = rooms;
+        result
+    }
+
+    /// Appends the next chunk. `samples` has as many samples as this chunk. If the image isn't
+    /// compressed, no list of bytes is allocated: samples of 8 bits that are stored as they are go
+    /// to the sink directly. If it is compressed, the buffers of the previous chunk are used again.
+    pub(crate) fn put_chunk<C: ColorType>(
+        &mut self,
+        image: &mut ImageState<C>,
+        samples: &[C::Inner],
+    ) -> TiffResult<()>
+        requires { length samples.now ≡ next_chunk_sample_count image.old }
+        ensures { StoresChunk calls.write_chunk image.old
+            (map (sample_number (type_size C.Inner.value_type) C.Inner.bits)
+            samples.now) result self.old self.new image.new }
+    {
+        if let Some(bytes) = image.lent_bytes(samples) {
+            return self.append_chunk(image, samples.len(), bytes);
+        }
+        match image.compression {
+            Compression::Uncompressed => self.append_samples(image, samples),
+            Compression::Packbits => self.put_packed(image, samples),
+        }
+    }
+
+    /// `write_chunk`. It returns the errors that don't depend on the compressed bytes before it
+    /// compresses the samples.
+    pub(crate) fn store_chunk<C: ColorType>(
+        &mut self,
+        image: &mut ImageState<C>,
+        samples: &[C::Inner],
+    ) -> TiffResult<()>
+        ensures { WritesStoredChunk calls.write_chunk
+            (write_chunk_cause self.old image.old (length samples.now) 0) image.old
+            (map (sample_number (type_size C.Inner.value_type) C.Inner.bits) samples.now) result
+            self.old self.new image.new }
+    {
+        self.chunk_offset(image, samples.len(), 0)?;
+        self.put_chunk(image, samples)
+    }
+
+    // `write_strip`. For an image of tiles it returns `UsageError(InvalidChunkType)`.
+    pub(crate) fn store_strip<C: ColorType>(
+        &mut self,
+        image: &mut ImageState<C>,
+        samples: &[C::Inner],
+    ) -> TiffResult<()>
+        ensures { WritesStoredChunk calls.write_strip
+            (write_strip_cause self.old image.old (length samples.now) 0) image.old
+            (map (sample_number (type_size C.Inner.value_type) C.Inner.bits) samples.now) result
+            self.old self.new image.new }
+    {
+        self.end()?;
+        if let ChunkType::Tile = image.form.chunk_type {
+            return Err(TiffError::UsageError(UsageError::InvalidChunkType(
+                ChunkType::Strip,
+                ChunkType::Tile,
+            )));
+        }
+        self.store_chunk(image, samples)
+    }
+}

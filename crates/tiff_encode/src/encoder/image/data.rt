@@ -1,0 +1,308 @@
+//! Writes the samples of a whole image.
+
+ghost use Rattle.std.specs.Prelude.{◌≡◌, ℕ, ◌+◌, ◌*◌, ◌^◌, ◌<◌, ◌≤◌, ◌++◌, length, map, replicate, slice_index, MatchResult, None, Some, false, true};
+ghost use Rattle.tiff_base.specs.Types.{type_size};
+ghost use Rattle.tiff_page.specs.Counts.{all_chunks};
+ghost use Rattle.tiff_page.specs.Pixels.{tabulate, stored_samples};
+ghost use Rattle.tiff_page.specs.Rect.{rect};
+ghost use Rattle.tiff_value.specs.ColorType.{sample_number};
+ghost use Rattle.tiff_encode.specs.Causes.{image_samples, write_image_data_cause};
+ghost use Rattle.tiff_encode.specs.Chunks.{image_page, is_in_order, is_left, next_chunk_sample_count, parts_left, row_samples};
+ghost use Rattle.tiff_encode.specs.Chunks as chunks;
+ghost use Rattle.tiff_encode.specs.ImageData.{WritesChunks, WritesImage, WritesImageData};
+ghost use Rattle.tiff_encode.specs.Parts.{next_part, next_slice, pixel_sample, rect_of, row_sample, IsPatch, WritesPart};
+
+use crate::encoder::TiffEncoder;
+use crate::encoder::image::state::{ImageState, parts_of};
+use crate::encoder::kind::TiffKind;
+use std::alloc::Global;
+use tiff_base::error::{TiffError, TiffResult};
+use tiff_base::io::{IoKind, Sink};
+use tiff_base::tags::PlanarConfiguration;
+use tiff_value::encoder::colortype::ColorType;
+use tiff_value::encoder::differences::Sample;
+
+// Appends samples of value 0.
+fn push_zeros<T: Sample>(count: u64, out: &mut Vec<T>) -> TiffResult<()>
+    ensures { MatchResult result
+        (λ _. map (sample_number (type_size T.value_type) T.bits) out.new.items ≡ map
+        (sample_number (type_size T.value_type) T.bits) out.old.items ++ tabulate count (λ _. 0))
+        (λ e. e ≡ TiffError.OutOfMemory) }
+{
+    for _ in 0..count {
+        out.push(T::zero())?;
+    }
+    Ok(())
+}
+
+// Appends the sample of the plane `plane` of each of `count` pixels. A pixel has `samples` samples.
+fn push_plane<T: Sample>(
+    pixels: &[T],
+    count: usize,
+    samples: usize,
+    plane: usize,
+    out: &mut Vec<T>,
+) -> TiffResult<()>
+    requires one { plane < samples }
+    requires whole { count * samples ≤ length pixels.now }
+    ensures { MatchResult result
+        (λ _. map (sample_number (type_size T.value_type) T.bits) out.new.items ≡ map
+        (sample_number (type_size T.value_type) T.bits) out.old.items ++ tabulate count
+        (λ column.
+        slice_index (map (sample_number (type_size T.value_type) T.bits) pixels.now)
+        (column * samples + plane)))
+        (λ e. e ≡ TiffError.OutOfMemory) }
+{
+    for column in 0..count {
+        out.push(pixels[column * samples + plane])?;
+    }
+    Ok(())
+}
+
+/// The part of the image that a chunk contains, as a rectangle in pixels, and the plane of the
+/// chunk.
+#[derive(Clone, Copy, Drop)]
+pub struct ChunkArea {
+    pub plane: u64,
+    pub x: u64,
+    pub y: u64,
+    pub width: u64,
+    pub height: u64,
+}
+
+impl<C: ColorType> ImageState<C> {
+    // Returns the part of the image that a chunk contains.
+    #[tactic(auto, unfolding(tiff_page::specs::Rect::rect))]
+    fn patch(&self, chunk: u64) -> ChunkArea
+        ensures { rect_of result ≡ rect (image_page self.now) chunk }
+    {
+        let (wide, high) = (
+            u64::from(self.form.chunk_width),
+            u64::from(self.form.chunk_height),
+        );
+        let across = parts_of(self.width, self.form.chunk_width);
+        let of_plane = across * parts_of(self.height, self.form.chunk_height);
+        let x = chunk % of_plane % across * wide;
+        let y = chunk % of_plane / across * high;
+        ChunkArea {
+            plane: chunk / of_plane,
+            x,
+            y,
+            width: wide.min(u64::from(self.width).saturating_sub(x)),
+            height: high.min(u64::from(self.height).saturating_sub(y)),
+        }
+    }
+
+    // Appends the samples of one row of a part of the image.
+    fn push_pixels(
+        &self,
+        samples: &[C::Inner],
+        patch: ChunkArea,
+        row: u64,
+        out: &mut Vec<C::Inner>,
+    ) -> TiffResult<()>
+        requires part { IsPatch (image_page self.now) (rect_of patch) }
+        requires row { row < patch.height }
+        requires fits { image_samples self.now < 2 ^ 64 }
+        requires whole { image_samples self.now ≤ length samples.now }
+        ensures { MatchResult result
+            (λ _. map (sample_number (type_size C.Inner.value_type) C.Inner.bits) out.new.items
+            ≡ map (sample_number (type_size C.Inner.value_type) C.Inner.bits) out.old.items
+            ++ tabulate (patch.width * stored_samples (image_page self.now))
+            (pixel_sample (image_page self.now)
+            (map (sample_number (type_size C.Inner.value_type) C.Inner.bits) samples.now)
+            (rect_of patch) row))
+            (λ e. e ≡ TiffError.OutOfMemory) }
+    {
+        let width = u64::from(self.width);
+        let all = self.samples();
+        let start = ((patch.y + row) * width + patch.x) * all;
+        let end = start + patch.width * all;
+        let pixels = &samples[start as usize..end as usize];
+        match self.form.planar {
+            PlanarConfiguration::Planar => push_plane(
+                pixels,
+                patch.width as usize,
+                all as usize,
+                patch.plane as usize,
+                out,
+            ),
+            _ => Ok(out.extend_from_slice(pixels)?),
+        }
+    }
+
+    // Appends one row of a chunk: the samples of a part of the image, and zeros up to the width of
+    // the chunk.
+    fn push_row(
+        &self,
+        samples: &[C::Inner],
+        patch: ChunkArea,
+        row: u64,
+        out: &mut Vec<C::Inner>,
+    ) -> TiffResult<()>
+        requires part { IsPatch (image_page self.now) (rect_of patch) }
+        requires fits { image_samples self.now < 2 ^ 64 }
+        requires whole { image_samples self.now ≤ length samples.now }
+        ensures { MatchResult result
+            (λ _. map (sample_number (type_size C.Inner.value_type) C.Inner.bits) out.new.items
+            ≡ map (sample_number (type_size C.Inner.value_type) C.Inner.bits) out.old.items
+            ++ tabulate (row_samples (image_page self.now))
+            (row_sample (image_page self.now)
+            (map (sample_number (type_size C.Inner.value_type) C.Inner.bits) samples.now)
+            (rect_of patch) row))
+            (λ e. e ≡ TiffError.OutOfMemory) }
+    {
+        let stored = self.stored_samples();
+        let len = u64::from(self.form.chunk_width) * stored;
+        if row >= patch.height {
+            return push_zeros(len, out);
+        }
+        self.push_pixels(samples, patch, row, out)?;
+        push_zeros(len - patch.width * stored, out)
+    }
+
+    // Returns the samples of a chunk out of all samples of the image, with zeros beyond the edges
+    // of the image.
+    fn cut_out(&self, alloc: Global, samples: &[C::Inner], chunk: u64) -> TiffResult<Vec<C::Inner>>
+        requires one { chunk < all_chunks (image_page self.now) }
+        requires fits { image_samples self.now < 2 ^ 64 }
+        requires whole { image_samples self.now ≤ length samples.now }
+        ensures { MatchResult result
+            (λ v. map (sample_number (type_size C.Inner.value_type) C.Inner.bits) v.items
+            ≡ chunks.cut_out (image_page self.now)
+            (map (sample_number (type_size C.Inner.value_type) C.Inner.bits) samples.now) chunk)
+            (λ e. e ≡ TiffError.OutOfMemory) }
+    {
+        let patch = self.patch(chunk);
+        let rows = self.rows_of(chunk);
+        let row = u64::from(self.form.chunk_width) * self.stored_samples();
+        let Some(count) = rows.checked_mul(row) else {
+            return Err(TiffError::OutOfMemory);
+        };
+        let mut out = Vec::with_capacity(alloc, count as usize)?;
+        for at in 0..rows {
+            self.push_row(samples, patch, at, &mut out)?;
+        }
+        Ok(out)
+    }
+
+    // Returns the samples of the next chunk out of samples in row order, after `written` chunks of
+    // them were written.
+    fn slice_out<'a>(&self, samples: &'a [C::Inner], written: u64) -> &'a [C::Inner]
+        requires order { is_in_order self.now.form ≡ true }
+        requires left { is_left self.now ≡ true }
+        requires known { written ≤ length self.now.chunks }
+        requires fits { image_samples self.now < 2 ^ 64 }
+        requires whole { image_samples self.now ≤ length samples.now }
+        ensures part { result.now ≡ next_slice self.now samples.now written }
+        ensures count { length result.now ≡ next_chunk_sample_count self.now }
+    {
+        let row = u64::from(self.form.chunk_width) * self.stored_samples();
+        let start = written * u64::from(self.form.chunk_height) * row;
+        let end = start + self.next_samples();
+        &samples[start as usize..end as usize]
+    }
+}
+
+impl<W: Sink, K: TiffKind> TiffEncoder<W, K> {
+    // Writes the next chunk out of all samples, after `written` chunks of them were written.
+    fn write_part<C: ColorType>(
+        &mut self,
+        image: &mut ImageState<C>,
+        samples: &[C::Inner],
+        written: u64,
+    ) -> TiffResult<()>
+        requires left { is_left image.old ≡ true }
+        requires known { written ≤ length image.old.chunks }
+        requires fits { image_samples image.old < 2 ^ 64 }
+        requires whole { image_samples image.old ≤ length samples.now }
+        ensures { WritesPart image.old
+            (next_part image.old (map (sample_number (type_size C.Inner.value_type) C.Inner.bits)
+            samples.now) written) result self.old self.new image.new }
+    {
+        if image.is_in_order() {
+            let part = image.slice_out(samples, written);
+            return self.put_chunk(image, part);
+        }
+        let part = image.cut_out(self.alloc, samples, image.chunks.len() as u64)?;
+        if part.len() == usize::MAX {
+            return Err(TiffError::OutOfMemory);
+        }
+        self.put_chunk(image, &part)
+    }
+
+    // Writes the chunks that are left, one after another. After an error the chunks before the one
+    // that failed are in the file.
+    fn write_chunks_left<C: ColorType>(
+        &mut self,
+        image: &mut ImageState<C>,
+        samples: &[C::Inner],
+    ) -> TiffResult<()>
+        requires { write_image_data_cause self.old image.old (length samples.now) ≡ None }
+        ensures { WritesChunks image.old (parts_left image.old
+            (map (sample_number (type_size C.Inner.value_type) C.Inner.bits) samples.now)) result
+            self.old self.new image.new }
+    {
+        for written in 0..image.chunks_left() {
+            self.write_part(image, samples, written)?;
+        }
+        Ok(())
+    }
+
+    // Returns the first error of `write_data` of an image that applies to this number of samples,
+    // before a chunk is written.
+    #[tactic(auto, unfolding(crate::specs::Causes::write_image_data_cause))]
+    fn check_data<C: ColorType>(&self, image: &ImageState<C>, count: usize) -> TiffResult<()>
+        ensures { MatchResult result
+            (λ _. write_image_data_cause self.now image.now count ≡ None)
+            (λ e. write_image_data_cause self.now image.now count ≡ Some e) }
+    {
+        self.end()?;
+        let Some(all) = image.image_samples() else {
+            return Err(TiffError::IoError(IoKind::InvalidInput));
+        };
+        if image.is_begun() && !image.is_in_order() {
+            return Err(TiffError::IoError(IoKind::InvalidInput));
+        }
+        if (count as u64) < all {
+            return Err(TiffError::IoError(IoKind::InvalidData));
+        }
+        if image.is_past_chunks() {
+            return Err(TiffError::IntSizeError);
+        }
+        Ok(())
+    }
+
+    // `write_data` of an image: writes the chunks that are left, and then ends the image. After an
+    // error the image must not be used.
+    pub(crate) fn write_image_data<C: ColorType>(
+        &mut self,
+        image: &mut ImageState<C>,
+        samples: &[C::Inner],
+    ) -> TiffResult<()>
+        ensures { WritesImageData image.old
+            (map (sample_number (type_size C.Inner.value_type) C.Inner.bits) samples.now) result
+            self.old self.new }
+    {
+        self.check_data(image, samples.len())?;
+        self.write_chunks_left(image, samples)?;
+        self.finish_image(image)?;
+        Ok(())
+    }
+
+    // `write_image`: begins an image and writes all of it.
+    pub(crate) fn write_new_image<C: ColorType>(
+        &mut self,
+        width: u32,
+        height: u32,
+        samples: &[C::Inner],
+    ) -> TiffResult<()>
+        ensures { WritesImage C.described (type_size C.Inner.value_type) width height
+            (map (sample_number (type_size C.Inner.value_type) C.Inner.bits) samples.now) result
+            self.old self.new }
+    {
+        let mut image = self.begin_image::<C>(width, height)?;
+        self.write_image_data(&mut image, samples)?;
+        Ok(())
+    }
+}

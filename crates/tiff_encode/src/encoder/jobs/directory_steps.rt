@@ -1,0 +1,136 @@
+//! Runs the steps of a job in a directory.
+
+ghost use Rattle.std.specs.Prelude.{◌≡◌, ◌+◌, ◌++◌, ◌∷◌, [], ◌<◌, ◌≤◌, length, vec_len, vec_capacity, OnErr};
+ghost use Rattle.tiff_encode.specs.Calls as calls;
+ghost use Rattle.tiff_encode.specs.Ends.{Ends};
+ghost use Rattle.tiff_encode.specs.JobValues.{buffer_in, value_data};
+ghost use Rattle.tiff_encode.specs.Jobs.{AllStepped, DirectoryStepped};
+ghost use Rattle.tiff_encode.specs.Leaves.{Leaves};
+ghost use Rattle.tiff_encode.specs.Model.{Model, Stands};
+ghost use Rattle.tiff_encode.specs.Stepping.{Moves};
+
+use crate::encoder::directory::encoder::DirectoryEncoder;
+use crate::encoder::directory::state::{DirectoryState, HasDirectory};
+use crate::encoder::kind::TiffKind;
+use crate::encoder::script::{DirectoryStep, JobBuffer, JobValue, StepReply};
+use tiff_base::error::TiffResult;
+use tiff_base::io::Sink;
+use tiff_base::tags::Tag;
+
+// Appends an item to a list that has room for it.
+pub(crate) fn put<T: Drop>(items: &mut Vec<T>, item: T)
+    requires { vec_len items.old < vec_capacity items.old }
+    ensures items { items.new.items ≡ items.old.items ++ item ∷ [] }
+    ensures len { vec_len items.new ≡ vec_len items.old + 1 }
+    ensures capacity { vec_capacity items.old ≤ vec_capacity items.new }
+{
+    if items.push(item).is_err() {
+        unreachable!();
+    }
+}
+
+impl<'a, W: Sink, K: TiffKind, D: HasDirectory> DirectoryEncoder<'a, W, K, D> {
+    // `write_tag` of a value of a job.
+    fn write_job_tag(&mut self, tag: Tag, value: &JobValue) -> TiffResult<()>
+        ensures same_reference { self.new.encoder.ghost_name ≡ self.old.encoder.ghost_name }
+        ensures stays { OnErr result (self.new.state ≡ self.old.state) }
+        ensures rest { self.new.state ≡ D.with_directory self.old.state (D.open_directory self.new.state) }
+        ensures answer { Ends (λ _. D.open_directory self.new.state)
+            (calls.write_tag (D.open_directory self.old.state) tag (value_data value.now)
+            self.old.encoder.now) result
+            self.old.encoder.now self.new.encoder.now }
+        ensures leaves { (m : Model) → Stands self.old.encoder.now.kind self.old.encoder.now.bytes m
+            → Leaves (calls.write_tag (D.open_directory self.old.state) tag (value_data value.now)
+            self.old.encoder.now) result self.old.encoder.now self.new.encoder.now m }
+    {
+        let has_room = self.state.make_room(tag);
+        let entry = self.encoder.place_job_value(value, has_room)?;
+        self.state.set(tag, entry)?;
+        Ok(())
+    }
+
+    // `write_tag_buf` of a buffer of a job.
+    fn write_job_tag_buf(&mut self, tag: Tag, buffer: &JobBuffer) -> TiffResult<()>
+        ensures same_reference { self.new.encoder.ghost_name ≡ self.old.encoder.ghost_name }
+        ensures stays { OnErr result (self.new.state ≡ self.old.state) }
+        ensures rest { self.new.state ≡ D.with_directory self.old.state (D.open_directory self.new.state) }
+        ensures answer { Ends (λ _. D.open_directory self.new.state)
+            (calls.write_tag_buf (D.open_directory self.old.state) tag (buffer_in buffer.now)
+            self.old.encoder.now) result
+            self.old.encoder.now self.new.encoder.now }
+        ensures leaves { (m : Model) → Stands self.old.encoder.now.kind self.old.encoder.now.bytes m
+            → Leaves (calls.write_tag_buf (D.open_directory self.old.state) tag
+            (buffer_in buffer.now) self.old.encoder.now) result self.old.encoder.now
+            self.new.encoder.now m }
+    {
+        let has_room = self.state.make_room(tag);
+        let entry = self.encoder.place_job_buffer(buffer, has_room)?;
+        self.state.set(tag, entry)?;
+        Ok(())
+    }
+
+    /// Runs one step of a directory.
+    pub(crate) fn step(&mut self, step: &DirectoryStep) -> TiffResult<StepReply>
+        ensures same_reference { self.new.encoder.ghost_name ≡ self.old.encoder.ghost_name }
+        ensures rest { self.new.state ≡ D.with_directory self.old.state (D.open_directory self.new.state) }
+        ensures moves { Moves (λ s t. DirectoryStepped s (D.open_directory self.old.state) step.now result t
+            (D.open_directory self.new.state)) self.old.encoder.now self.new.encoder.now }
+    {
+        match step {
+            DirectoryStep::WriteTag(tag, value) => {
+                self.write_job_tag(*tag, value)?;
+                Ok(StepReply::Nothing)
+            }
+            DirectoryStep::WriteTagBuf(tag, buffer) => {
+                self.write_job_tag_buf(*tag, buffer)?;
+                Ok(StepReply::Nothing)
+            }
+            DirectoryStep::WriteData(value) => {
+                let offset = self.encoder.append_job_value(value)?;
+                Ok(StepReply::Number(offset))
+            }
+            DirectoryStep::WriteDataBuf(buffer) => {
+                let offset = self.encoder.append_job_buffer(buffer)?;
+                Ok(StepReply::Number(offset))
+            }
+            DirectoryStep::WriteEntry(value) => {
+                let entry = self.encoder.place_job_value(value, true)?;
+                Ok(StepReply::Written(entry))
+            }
+            DirectoryStep::WriteEntryBuf(buffer) => {
+                let entry = self.encoder.place_job_buffer(buffer, true)?;
+                Ok(StepReply::Written(entry))
+            }
+            DirectoryStep::WriteEntryBytes(field_type, bytes) => {
+                let entry = self.write_entry_bytes(*field_type, bytes)?;
+                Ok(StepReply::Written(entry))
+            }
+            DirectoryStep::ExtendFrom(directory) => {
+                self.extend_from(directory)?;
+                Ok(StepReply::Nothing)
+            }
+        }
+    }
+}
+
+impl<'a, W: Sink, K: TiffKind> DirectoryEncoder<'a, W, K, DirectoryState> {
+    /// Runs steps one after another, and appends their replies to a list that has room for them.
+    pub(crate) fn steps(
+        &mut self,
+        steps: &[DirectoryStep],
+        replies: &mut Vec<TiffResult<StepReply>>,
+    )
+        requires room { length steps.now ≤ vec_capacity replies.old }
+        requires none { replies.old.items ≡ [] }
+        ensures same_reference { self.new.encoder.ghost_name ≡ self.old.encoder.ghost_name }
+        ensures moves { Moves (λ s t.
+            AllStepped DirectoryStepped s self.old.state steps.now replies.new.items t
+            self.new.state)
+            self.old.encoder.now self.new.encoder.now }
+    {
+        for step in steps {
+            let reply = self.step(step);
+            put(replies, reply);
+        }
+    }
+}

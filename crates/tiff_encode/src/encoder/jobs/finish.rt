@@ -1,0 +1,147 @@
+//! Ends jobs.
+
+ghost use Rattle.std.specs.Prelude.{◌≡◌, map};
+ghost use Rattle.tiff_base.specs.Types.{type_size};
+ghost use Rattle.tiff_value.specs.ColorType.{sample_number};
+ghost use Rattle.tiff_encode.specs.Calls as calls;
+ghost use Rattle.tiff_encode.specs.JobEnding.{DataHeld};
+ghost use Rattle.tiff_encode.specs.JobValues.{cut_to};
+ghost use Rattle.tiff_encode.specs.Jobs.{DirectoryEnds, FinishesSilently, FinishesWith, ImageEnds, WritesData, WritesDataIfFound};
+ghost use Rattle.tiff_encode.specs.Stepping.{EndMoves, ImageHeld};
+
+use crate::encoder::directory::encoder::DirectoryEncoder;
+use crate::encoder::directory::state::DirectoryState;
+use crate::encoder::image::state::ImageState;
+use crate::encoder::jobs::values::cut_samples;
+use crate::encoder::kind::TiffKind;
+use crate::encoder::script::{DirectoryEnd, EndReply, ImageEnd};
+use tiff_base::error::TiffResult;
+use tiff_base::io::Sink;
+use tiff_value::encoder::colortype::ColorType;
+use tiff_value::encoder::tiff_value::TiffScalar;
+
+impl<'a, W: Sink, K: TiffKind> DirectoryEncoder<'a, W, K, DirectoryState> {
+    // `finish_with_offsets`
+    fn end_with_offsets(self) -> TiffResult<EndReply>
+        ensures { EndMoves
+            (λ s t offset. FinishesWith (calls.finish self.entry.state s.file) result s t offset)
+            self.entry.state.parent self.entry.encoder.now self.exit.0.now (λ s t offset. Unit {0}) }
+    {
+        self.encoder.fits();
+        self.state.fits();
+        let offsets = self.finish_with_offsets()?;
+        Ok(EndReply::Offsets {
+            pointer: offsets.pointer.0,
+            link: offsets.link(),
+        })
+    }
+
+    // `discard`
+    fn end_silently(self) -> TiffResult<EndReply>
+        ensures { EndMoves
+            (λ s t offset.
+            FinishesSilently (calls.finish self.entry.state s.file) result s t offset)
+            self.entry.state.parent self.entry.encoder.now self.exit.0.now (λ s t offset. Unit {0}) }
+    {
+        self.encoder.fits();
+        self.state.fits();
+        self.discard()?;
+        Ok(EndReply::Nothing)
+    }
+
+    /// Ends the directory of a job.
+    pub(crate) fn end(self, end: DirectoryEnd) -> TiffResult<EndReply>
+        ensures { EndMoves (λ s t offset. DirectoryEnds s self.entry.state end result t offset)
+            self.entry.state.parent
+            self.entry.encoder.now self.exit.0.now (λ s t offset. Unit {0}) }
+    {
+        match end {
+            DirectoryEnd::Finish => return self.end_with_offsets(),
+            DirectoryEnd::Discard => return self.end_silently(),
+        }
+    }
+}
+
+impl<'a, W: Sink, K: TiffKind, C: ColorType> DirectoryEncoder<'a, W, K, ImageState<C>> {
+    // Drops an open image. It writes no directory.
+    fn abandon(self)
+        ensures { self.exit.0.now ≡ self.entry.encoder.now }
+    {
+        let DirectoryEncoder {
+            encoder: _,
+            state: _,
+        } = self;
+    }
+
+    // `write_data`
+    fn write_samples(self, samples: &[C::Inner]) -> TiffResult<EndReply>
+        ensures { EndMoves (λ s t offset. WritesData self.entry.state
+            (map (sample_number (type_size C.Inner.value_type) C.Inner.bits) samples.now) result s t
+            offset)
+            self.entry.state.directory.parent self.entry.encoder.now self.exit.0.now
+            (DataHeld self.entry.state
+            (map (sample_number (type_size C.Inner.value_type) C.Inner.bits) samples.now)) }
+    {
+        self.state.fits();
+        self.state.is_of_type();
+        self.write_data(samples)?;
+        Ok(EndReply::Nothing)
+    }
+
+    // `write_data` of samples, each of which is the lowest bits of a number. It returns
+    // `OutOfMemory` if there is no memory for the samples.
+    fn write_numbers(self, numbers: &[u64]) -> TiffResult<EndReply>
+        ensures { EndMoves
+            (λ s t offset.
+            WritesDataIfFound self.entry.state (cut_to self.entry.state.size numbers.now) result
+            s
+            t offset) self.entry.state.directory.parent self.entry.encoder.now self.exit.0.now
+            (DataHeld self.entry.state (cut_to self.entry.state.size numbers.now)) }
+    {
+        self.state.is_of_type();
+        let samples = match cut_samples::<C::Inner>(self.encoder.alloc(), numbers) {
+            Ok(samples) => samples,
+            Err(fault) => {
+                self.abandon();
+                return Err(fault);
+            }
+        };
+        self.write_samples(&samples)
+    }
+
+    // `finish`
+    fn finish_drawn(self) -> TiffResult<EndReply>
+        ensures { EndMoves
+            (λ s t offset. ImageEnds s self.entry.state ImageEnd.Finish result t offset)
+            self.entry.state.directory.parent self.entry.encoder.now self.exit.0.now (ImageHeld self.entry.state ImageEnd.Finish) }
+    {
+        self.state.fits();
+        self.finish()?;
+        Ok(EndReply::Nothing)
+    }
+
+    // `discard`
+    fn discard_drawn(self) -> TiffResult<EndReply>
+        ensures { EndMoves
+            (λ s t offset. ImageEnds s self.entry.state ImageEnd.Discard result t offset)
+            self.entry.state.directory.parent self.entry.encoder.now self.exit.0.now
+            (ImageHeld self.entry.state ImageEnd.Discard) }
+    {
+        self.state.fits();
+        self.discard()?;
+        Ok(EndReply::Nothing)
+    }
+
+    /// Ends the image of a job. If there is no memory for its samples, the image has no directory.
+    pub(crate) fn end_image(self, end: &ImageEnd) -> TiffResult<EndReply>
+        ensures { EndMoves (λ s t offset. ImageEnds s self.entry.state end.now result t offset)
+            self.entry.state.directory.parent
+            self.entry.encoder.now self.exit.0.now (ImageHeld self.entry.state end.now) }
+    {
+        match end {
+            ImageEnd::WriteData(numbers) => return self.write_numbers(numbers),
+            ImageEnd::Finish => return self.finish_drawn(),
+            ImageEnd::Discard => return self.discard_drawn(),
+        }
+    }
+}

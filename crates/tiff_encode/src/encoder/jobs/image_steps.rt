@@ -1,0 +1,127 @@
+//! Runs the steps of a job in an image.
+
+ghost use Rattle.std.specs.Prelude.{◌≡◌, ◌-◌, ◌^◌, ◌<◌, [], ◌≤◌, length, vec_capacity};
+ghost use Rattle.tiff_encode.specs.ImageStepping.{ChunkDraws, ResolutionDraws, StripDraws, reply_to};
+ghost use Rattle.tiff_encode.specs.Stepping.{StepDraws, StepsDraw};
+
+use crate::encoder::directory::encoder::DirectoryEncoder;
+use crate::encoder::image::state::ImageState;
+use crate::encoder::jobs::directory_steps::put;
+use crate::encoder::jobs::values::cut_samples;
+use crate::encoder::kind::TiffKind;
+use crate::encoder::script::{ImageStep, StepReply};
+use tiff_base::error::TiffResult;
+use tiff_base::io::Sink;
+use tiff_base::tags::ResolutionUnit;
+use tiff_value::encoder::colortype::ColorType;
+use tiff_value::encoder::tiff_value::Rational;
+
+// Returns the reply to a step whose call returns `()`.
+fn replied(answer: TiffResult<()>) -> TiffResult<StepReply>
+    ensures { result ≡ reply_to answer }
+{
+    answer?;
+    Ok(StepReply::Nothing)
+}
+
+// Returns a copy of a fraction.
+fn copied(value: &Rational) -> Rational
+    ensures { result ≡ value.now }
+{
+    Rational {
+        n: value.n,
+        d: value.d,
+    }
+}
+
+impl<'a, W: Sink, K: TiffKind, C: ColorType> DirectoryEncoder<'a, W, K, ImageState<C>> {
+    // `write_strip` of samples, each of which is the lowest bits of a number.
+    fn strip_step(&mut self, numbers: &[u64]) -> TiffResult<StepReply>
+        requires few { length numbers.now < 2 ^ 64 - 1 }
+        ensures same_reference { self.new.encoder.ghost_name ≡ self.old.encoder.ghost_name }
+        ensures draws { StripDraws self.old.state numbers.now result self.old.encoder.now self.new.encoder.now
+            self.new.state }
+    {
+        self.state.is_of_type();
+        let samples = cut_samples::<C::Inner>(self.encoder.alloc(), numbers)?;
+        self.encoder.is_short();
+        let answer = self.write_strip(&samples);
+        self.encoder.is_short();
+        replied(answer)
+    }
+
+    // `write_chunk` of samples, each of which is the lowest bits of a number.
+    fn chunk_step(&mut self, numbers: &[u64]) -> TiffResult<StepReply>
+        requires few { length numbers.now < 2 ^ 64 - 1 }
+        ensures same_reference { self.new.encoder.ghost_name ≡ self.old.encoder.ghost_name }
+        ensures draws { ChunkDraws self.old.state numbers.now result self.old.encoder.now self.new.encoder.now
+            self.new.state }
+    {
+        self.state.is_of_type();
+        let samples = cut_samples::<C::Inner>(self.encoder.alloc(), numbers)?;
+        self.encoder.is_short();
+        let answer = self.write_chunk(&samples);
+        self.encoder.is_short();
+        replied(answer)
+    }
+
+    // `resolution`. After an error the first of its tags can be set.
+    fn resolution_step(&mut self, unit: ResolutionUnit, value: Rational) -> TiffResult<StepReply>
+        ensures same_reference { self.new.encoder.ghost_name ≡ self.old.encoder.ghost_name }
+        ensures draws { ResolutionDraws self.old.state unit (value.n, value.d) result self.old.encoder.now
+            self.new.encoder.now
+            self.new.state }
+    {
+        self.state.fits();
+        let answer = self.resolution(unit, value);
+        self.encoder.is_short();
+        replied(answer)
+    }
+
+    // Runs one step of an image.
+    fn image_step(&mut self, step: &ImageStep) -> TiffResult<StepReply>
+        ensures same_reference { self.new.encoder.ghost_name ≡ self.old.encoder.ghost_name }
+        ensures draws { StepDraws self.old.state step.now result self.old.encoder.now self.new.encoder.now
+            self.new.state }
+    {
+        match step {
+            ImageStep::Directory(step) => self.step(step),
+            ImageStep::ExtraSamples(extra) => replied(self.extra_samples(extra)),
+            ImageStep::Tiles(width, length) => replied(self.tiles(*width, *length)),
+            ImageStep::Planar => replied(self.planar()),
+            ImageStep::NextStripSampleCount => {
+                Ok(StepReply::Number(self.next_strip_sample_count()))
+            }
+            ImageStep::NextChunkSampleCount => {
+                Ok(StepReply::Number(self.next_chunk_sample_count()))
+            }
+            ImageStep::WriteStrip(numbers) => self.strip_step(numbers),
+            ImageStep::WriteChunk(numbers) => self.chunk_step(numbers),
+            ImageStep::Resolution(unit, value) => self.resolution_step(*unit, copied(value)),
+            ImageStep::ResolutionUnit(unit) => replied(self.resolution_unit(*unit)),
+            ImageStep::XResolution(value) => replied(self.x_resolution(copied(value))),
+            ImageStep::YResolution(value) => replied(self.y_resolution(copied(value))),
+            ImageStep::RowsPerStrip(rows) => replied(self.rows_per_strip(*rows)),
+        }
+    }
+
+    /// Runs steps one after another, and appends their replies to a list that has room for them.
+    pub(crate) fn image_steps(
+        &mut self,
+        steps: &[ImageStep],
+        replies: &mut Vec<TiffResult<StepReply>>,
+    )
+        requires room { length steps.now ≤ vec_capacity replies.old }
+        requires none { replies.old.items ≡ [] }
+        ensures same_reference { self.new.encoder.ghost_name ≡ self.old.encoder.ghost_name }
+        ensures draws { StepsDraw self.old.state steps.now replies.new.items self.old.encoder.now
+            self.new.encoder.now self.new.state }
+    {
+        self.encoder.is_of_kind();
+        for step in steps {
+            let reply = self.image_step(step);
+            self.encoder.is_of_kind();
+            put(replies, reply);
+        }
+    }
+}
