@@ -15,3 +15,5 @@ mod UnitBytes
 mod Walking
 mod OnTheWay
 pub mod Listed
+mod Totals
+mod PixelCosts

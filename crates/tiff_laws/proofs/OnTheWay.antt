@@ -12,22 +12,22 @@ use Rattle.tiff_base.specs.Number.{number_at}
 use Rattle.tiff_base.specs.SourceAndSink.{SourceRecord}
 use Rattle.tiff_ifd.specs.Chain.{chain}
 use Rattle.tiff_ifd.specs.Stretches.{LinkReadable}
-use Rattle.tiff_ifd.specs.Walk.{ChainBegins, NextLinkReadable, Walked, link_behind}
+use Rattle.tiff_ifd.specs.IfdChainWalk.{ChainBegins, NextLinkReadable, Walked, link_behind}
 use Rattle.tiff_ifd.proofs.Begun.{offset_begun}
 use Rattle.tiff_laws.specs.Costs as spec
 use Rattle.tiff_laws.specs.Costs.{AreAllReadable, stretch_bytes}
 
 -- ---- stretches one after another
 
-bytes_of_both : (xs ys : List (ℕ × ℕ)) → stretch_bytes (xs ++ ys) ≡ stretch_bytes xs + stretch_bytes ys
+pub bytes_of_both : (xs ys : List (ℕ × ℕ)) → stretch_bytes (xs ++ ys) ≡ stretch_bytes xs + stretch_bytes ys
 bytes_of_both [] ys = omega arith
 bytes_of_both (x ∷ xs) ys = omega (arith, bytes_of_both xs ys)
 
-front_read : (source : SourceRecord) (xs ys : List (ℕ × ℕ)) → AreAllReadable source (xs ++ ys) → AreAllReadable source xs
+pub front_read : (source : SourceRecord) (xs ys : List (ℕ × ℕ)) → AreAllReadable source (xs ++ ys) → AreAllReadable source xs
 front_read source [] ys a = tt
 front_read source (x ∷ xs) ys a = (a.0, front_read source xs ys a.1)
 
-rest_read : (source : SourceRecord) (xs ys : List (ℕ × ℕ)) → AreAllReadable source (xs ++ ys) → AreAllReadable source ys
+pub rest_read : (source : SourceRecord) (xs ys : List (ℕ × ℕ)) → AreAllReadable source (xs ++ ys) → AreAllReadable source ys
 rest_read source [] ys a = a
 rest_read source (x ∷ xs) ys a = rest_read source xs ys a.1
 

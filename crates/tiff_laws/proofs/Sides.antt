@@ -12,7 +12,7 @@ use Rattle.tiff_base.specs.declared.color.ChunkType.{ChunkType}
 use Rattle.tiff_base.specs.declared.color.ChunkType.TheVariants.{Strip, Tile}
 use Rattle.tiff_base.specs.Answers.{◌>>=◌}
 use Rattle.tiff_ifd.specs.Into.{into_u16, into_u32, into_u64_vec}
-use Rattle.tiff_ifd.specs.Look.{Look, find, find_or, require}
+use Rattle.tiff_ifd.specs.TagLookup.{TagLookup, find, find_or, require}
 use Rattle.tiff_ifd.specs.Fitted.{fitted_numbers}
 use Rattle.tiff_page.specs.Counts.{planes_of}
 use Rattle.tiff_page.specs.Page.{PageRecord, Chunks}
@@ -46,7 +46,7 @@ and_right false b h = cc
 
 -- ---- the results of the checks
 
-module _ (look : Look) where
+module _ (look : TagLookup) where
   size_some : (s : ℕ × ℕ) → size_in look ≡ Ok s → (0 < s.0) × (0 < s.1)
   unfolding size_in
   size_some s h =
@@ -165,7 +165,7 @@ page_has_sides look p given =
       record { sampled = samples_some look samples h4; deep = depth_some look samples depth h7 },
     )))))))))))))
 
-abbrev SameMethod : Look → PageRecord → Type 0
+abbrev SameMethod : TagLookup → PageRecord → Type 0
 SameMethod look p = method_in look ≡ Ok p.method
 
 pub page_has_method : PageHasMethod

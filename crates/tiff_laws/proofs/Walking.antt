@@ -14,7 +14,7 @@ use Rattle.tiff_base.specs.Directory.{directory_at}
 use Rattle.tiff_base.specs.Field.{DirectoryRecord}
 use Rattle.tiff_base.specs.Header.{Header, header_at}
 use Rattle.tiff_ifd.specs.Chain.{IsChain, enter_at, link_from, unless_met}
-use Rattle.tiff_ifd.specs.Look.{ok_or_fault}
+use Rattle.tiff_ifd.specs.TagLookup.{ok_or_fault}
 use Rattle.tiff_ifd.proofs.Chain.{the_chain, apart_chain, same_ok}
 use Rattle.tiff_page.specs.Page.{PageRecord}
 use Rattle.tiff_decode.specs.Machine.{State, Decoding, Outcome, GivesOutcome, stays}

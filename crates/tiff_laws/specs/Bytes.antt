@@ -25,7 +25,9 @@ full_row p layout = row_bytes p layout.color p.chunk_width
 -- and the byte of the row
 abbrev pub chunk_of_byte : PageRecord → LayoutRecord → ℕ → ℕ
 chunk_of_byte p layout at =
-    plane_of_byte layout at * chunks_of_plane p + (line_of_byte layout at / p.chunk_height * across p + column_of_byte layout at / full_row p layout)
+    plane_of_byte layout at * chunks_of_plane p
+    + (line_of_byte layout at / p.chunk_height * across p + column_of_byte layout at
+    / full_row p layout)
 
 abbrev pub row_of_byte : PageRecord → LayoutRecord → ℕ → ℕ
 row_of_byte p layout at = line_of_byte layout at % p.chunk_height
@@ -34,7 +36,8 @@ abbrev pub byte_in_row : PageRecord → LayoutRecord → ℕ → ℕ
 byte_in_row p layout at = column_of_byte layout at % full_row p layout
 
 -- A byte of a row of a chunk of one of several planes is at this position in the planes.
-pub record IsByteAt (p : PageRecord) (layout : LayoutRecord) (planes plane chunk row byte at : ℕ) : Type 0 where
+pub record IsByteAt (p : PageRecord) (layout : LayoutRecord) (planes plane chunk row byte at : ℕ)
+    : Type 0 where
   pub used : plane < planes
   pub in_plane : (rect p chunk).plane ≡ plane
   pub in_chunk : row < (rect p chunk).height
@@ -42,7 +45,8 @@ pub record IsByteAt (p : PageRecord) (layout : LayoutRecord) (planes plane chunk
   pub here : at_image p layout chunk row byte ≡ at
 
 -- This position is in the planes, and contains this byte of this row of this chunk of this plane.
-pub record IsFoundAt (p : PageRecord) (layout : LayoutRecord) (planes plane chunk row byte at : ℕ) : Type 0 where
+pub record IsFoundAt (p : PageRecord) (layout : LayoutRecord) (planes plane chunk row byte at : ℕ)
+    : Type 0 where
   pub within : at < planes * layout.plane_stride
   pub its_plane : plane_of_byte layout at ≡ plane
   pub its_chunk : chunk_of_byte p layout at ≡ chunk
@@ -52,5 +56,7 @@ pub record IsFoundAt (p : PageRecord) (layout : LayoutRecord) (planes plane chun
 -- each position of several planes contains one byte of one row of one chunk of one plane, and each
 -- of these bytes has one position
 abbrev pub OneByte : Type 0
-OneByte = (p : PageRecord) (layout : LayoutRecord) (planes plane chunk row byte at : ℕ) → HasSides p → IsLayout p layout
-    → IsFoundAt p layout planes plane chunk row byte at ↔ IsByteAt p layout planes plane chunk row byte at
+OneByte = (p : PageRecord) (layout : LayoutRecord) (planes plane chunk row byte at : ℕ) → HasSides p
+    → IsLayout p layout
+    → IsFoundAt p layout planes plane chunk row byte at ↔ IsByteAt p layout planes plane chunk row
+    byte at

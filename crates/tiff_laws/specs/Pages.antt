@@ -40,12 +40,14 @@ pub record IsAlong (start : Decoding) (number : ℕ) (d : Decoding) : Type 0 whe
 abbrev pub PageAnswers : Decoding → ℕ → Result (Unit {0}) TiffError → Decoding → Type 0
 PageAnswers start offset (Ok u) d =
     (directory_at start.kind start.order start.bytes offset ≡ Ok d.state.directory)
-    × (page_in start.kind start.order start.bytes start.state.limits d.state.directory ≡ Ok d.state.page)
+    × (page_in start.kind start.order start.bytes start.state.limits d.state.directory
+    ≡ Ok d.state.page)
 PageAnswers start offset (Err e) d = page_at start offset ≡ Err e
 
 -- A decoder is at the directory with this number. The call that moved it there has the result of a
 -- seek to that number.
-pub record Arrives (start : Decoding) (number : ℕ) (answer : Result (Unit {0}) TiffError) (d : Decoding) : Type 0 where
+pub record Arrives (start : Decoding) (number : ℕ) (answer : Result (Unit {0}) TiffError)
+    (d : Decoding) : Type 0 where
   pub along : IsAlong start number d
   pub sought : (seek_to_image start number).answer ≡ answer
   pub page : PageAnswers start along.offset answer d
@@ -58,10 +60,12 @@ pub record EndsBehind (start : Decoding) (number : ℕ) (end : Option TiffError)
 -- An open decoder went on, with this result: it is at the directory after the one with this number;
 -- or there is none, the result is the error by which the chain ends, and the decoder stays where it
 -- is and is no longer open.
-abbrev pub GoesOn : Decoding → ℕ → Option ℕ → Decoding → Result (Unit {0}) TiffError → Decoding → Type 0
+abbrev pub GoesOn : Decoding → ℕ → Option ℕ → Decoding → Result (Unit {0}) TiffError → Decoding
+    → Type 0
 GoesOn start number (Some offset) old answer new = Arrives start (suc number) answer new
 GoesOn start number None old answer new =
-    (e : TiffError) × (answer ≡ Err e) × EndsBehind start number (Some e) × (new ≡ record old { state = record old.state { more = false } })
+    (e : TiffError) × (answer ≡ Err e) × EndsBehind start number (Some e)
+    × (new ≡ record old { state = record old.state { more = false } })
 
 -- ---- the laws
 
@@ -75,30 +79,37 @@ pub record IsAtFirst (file : List ℕ) (d : Decoding) : Type 0 where
   pub arrives : Arrives d 0 (Ok tt) d
 
 abbrev pub WalkOpens : Type 0
-WalkOpens = (file : List ℕ) (failures : ℕ) (d : Decoding) → decoder_of file failures ≡ Ok d → IsAtFirst file d
+WalkOpens = (file : List ℕ) (failures : ℕ) (d : Decoding) → decoder_of file failures ≡ Ok d
+    → IsAtFirst file d
 
 -- a decoder that seeks a directory of the chain comes to it from wherever it is
 abbrev pub WalkSeeks : Type 0
-WalkSeeks = (start old new : Decoding) (number : ℕ) (answer : Result (Unit {0}) TiffError) → SameFile start old → number < length (chain_of start).offsets
+WalkSeeks = (start old new : Decoding) (number : ℕ) (answer : Result (Unit {0}) TiffError)
+    → SameFile start old → number < length (chain_of start).offsets
     → GivesOutcome answer (seek_to_image old number) old new → Arrives start number answer new
 
 -- an open decoder goes on along the chain
 abbrev pub WalkGoesOn : Type 0
-WalkGoesOn = (start old new : Decoding) (number : ℕ) (answer : Result (Unit {0}) TiffError) → IsAlong start number old → old.state.more ≡ true
-    → GivesOutcome answer (next_image old) old new → GoesOn start number (slice_get (chain_of start).offsets (suc number)) old answer new
+WalkGoesOn = (start old new : Decoding) (number : ℕ) (answer : Result (Unit {0}) TiffError)
+    → IsAlong start number old → old.state.more ≡ true
+    → GivesOutcome answer (next_image old) old new
+    → GoesOn start number (slice_get (chain_of start).offsets (suc number)) old answer new
 
 -- a decoder that isn't open is at the end of the chain, which ends by no error
 abbrev pub WalkEnds : Type 0
-WalkEnds = (start d : Decoding) (number : ℕ) → IsAlong start number d → d.state.more ≡ false → EndsBehind start number None
+WalkEnds = (start d : Decoding) (number : ℕ) → IsAlong start number d → d.state.more ≡ false
+    → EndsBehind start number None
 
 -- the pointer of a decoder defines the number of its directory
 abbrev pub WalkMoves : Type 0
-WalkMoves = (start a b : Decoding) (n m : ℕ) → IsAlong start n a → IsAlong start m b → a.state.pointer ≡ b.state.pointer → n ≡ m
+WalkMoves = (start a b : Decoding) (n m : ℕ) → IsAlong start n a → IsAlong start m b
+    → a.state.pointer ≡ b.state.pointer → n ≡ m
 
 -- ---- lists that grow along the pages
 
 -- The list has one item for each directory of the chain, up to the directory of the decoder.
-pub record ListedAlong {A : Type 0} (item : ℕ → A) (start d : Decoding) (items : List A) : Type 0 where
-  pub number : ℕ
-  pub along : IsAlong start number d
-  pub listed : items ≡ map item (take (suc number) (chain_of start).offsets)
+pub record ListedAlong {A : Type 0} (item : ℕ → A) (start d : Decoding) (items : List A) : Type 0
+  where
+    pub number : ℕ
+    pub along : IsAlong start number d
+    pub listed : items ≡ map item (take (suc number) (chain_of start).offsets)

@@ -18,7 +18,8 @@ use Rattle.tiff_laws.specs.Whole.{IsFirstRefused, IsMadeOfChunks}
 
 -- the numbers of bytes that are read into `len` zeros; the errors of the page's number type come
 -- first, then those of the limit, then those of the read
-abbrev pub numbers_by : Decoding → (List ℕ → Result (List ℕ) TiffError) → ℕ → Result Decoded TiffError
+abbrev pub numbers_by : Decoding → (List ℕ → Result (List ℕ) TiffError) → ℕ
+    → Result Decoded TiffError
 numbers_by d read len = do
   type ← sample_type_of d.state.page
   _ ← limit_fault d.state.limits (size_of type) len
@@ -58,17 +59,20 @@ chunk_by_bytes d i = do
 
 -- the calls that return samples return the samples from these bytes, or the first error
 abbrev pub ImageByBytes : Type 0
-ImageByBytes = (d : Decoding) → HasSides d.state.page → HasSamples d.state.page → (outcome.read_image d).answer ≡ image_by_bytes d
+ImageByBytes = (d : Decoding) → HasSides d.state.page → HasSamples d.state.page
+    → (outcome.read_image d).answer ≡ image_by_bytes d
 
 abbrev pub BufferByBytes : Type 0
-BufferByBytes = (d : Decoding) → HasSides d.state.page → HasSamples d.state.page → (outcome.read_image_to_buffer d).answer ≡ buffer_by_bytes d
+BufferByBytes = (d : Decoding) → HasSides d.state.page → HasSamples d.state.page
+    → (outcome.read_image_to_buffer d).answer ≡ buffer_by_bytes d
 
 abbrev pub ChunkByBytes : Type 0
 ChunkByBytes = (d : Decoding) (i : ℕ) → (outcome.read_chunk d i).answer ≡ chunk_by_bytes d i
 
 -- The planes of the image have this layout, its numbers have this type, and the limit allows the
 -- numbers of `len` bytes.
-pub record HasNumbers (d : Decoding) (layout : LayoutRecord) (type : DecodingSampleType) (len : ℕ) : Type 0 where
+pub record HasNumbers (d : Decoding) (layout : LayoutRecord) (type : DecodingSampleType) (len : ℕ)
+    : Type 0 where
   pub laid : planes_layout d.state.page d.state.page.width d.state.page.height ≡ Ok layout
   pub typed : sample_type_of d.state.page ≡ Ok type
   pub few : limit_fault d.state.limits (size_of type) len ≡ Ok tt
@@ -76,21 +80,31 @@ pub record HasNumbers (d : Decoding) (layout : LayoutRecord) (type : DecodingSam
 -- these are the numbers of the bytes that the chunks of an image make, read one by one and placed
 -- into `len` zeros
 abbrev pub AreOfChunks : Decoding → LayoutRecord → DecodingSampleType → ℕ → Decoded → Type 0
-AreOfChunks d layout type len numbers = (made : List ℕ) × (IsMadeOfChunks d layout (replicate len 0) made × (decoded_samples type made ≡ numbers))
+AreOfChunks d layout type len numbers = (made : List ℕ)
+    × (IsMadeOfChunks d layout (replicate len 0) made × (decoded_samples type made ≡ numbers))
 
 -- the samples of an image are the numbers of the bytes that the chunks of one plane make; the image
 -- is refused with the error of the first of these chunks that is refused
 abbrev pub SamplesOfChunks : Type 0
-SamplesOfChunks = (d : Decoding) (layout : LayoutRecord) (type : DecodingSampleType) → HasSides d.state.page → HasSamples d.state.page
+SamplesOfChunks = (d : Decoding) (layout : LayoutRecord) (type : DecodingSampleType)
+    → HasSides d.state.page → HasSamples d.state.page
     → HasNumbers d layout type layout.plane_stride
-    → ((x : Decoded) → ((outcome.read_image d).answer ≡ Ok x) ↔ AreOfChunks d layout type layout.plane_stride x)
-    × ((e : TiffError) → ((outcome.read_image d).answer ≡ Err e) ↔ ((plane k : ℕ) × IsFirstRefused d layout 1 plane k e))
+    → ((x : Decoded)
+    → ((outcome.read_image d).answer ≡ Ok x) ↔ AreOfChunks d layout type layout.plane_stride
+    x)
+    × ((e : TiffError)
+    → ((outcome.read_image d).answer ≡ Err e) ↔ ((plane k : ℕ)
+    × IsFirstRefused d layout 1 plane k e))
 
 -- the samples of the planes within the limit are the numbers of the bytes that the chunks of these
 -- planes make; the planes are refused with the error of the first of these chunks that is refused
 abbrev pub BufferOfChunks : Type 0
-BufferOfChunks = (d : Decoding) (layout : LayoutRecord) (type : DecodingSampleType) → HasSides d.state.page → HasSamples d.state.page
+BufferOfChunks = (d : Decoding) (layout : LayoutRecord) (type : DecodingSampleType)
+    → HasSides d.state.page → HasSamples d.state.page
     → HasNumbers d layout type (layout.plane_stride * planes_let d layout)
-    → ((x : Decoded) → ((outcome.read_image_to_buffer d).answer ≡ Ok (all_planes d.state.page layout, x))
+    → ((x : Decoded)
+    → ((outcome.read_image_to_buffer d).answer ≡ Ok (all_planes d.state.page layout, x))
     ↔ AreOfChunks d layout type (layout.plane_stride * planes_let d layout) x)
-    × ((e : TiffError) → ((outcome.read_image_to_buffer d).answer ≡ Err e) ↔ ((plane k : ℕ) × IsFirstRefused d layout (planes_let d layout) plane k e))
+    × ((e : TiffError)
+    → ((outcome.read_image_to_buffer d).answer ≡ Err e) ↔ ((plane k : ℕ)
+    × IsFirstRefused d layout (planes_let d layout) plane k e))

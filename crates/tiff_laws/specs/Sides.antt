@@ -1,6 +1,6 @@
 -- A page that the tags define has sides and samples (this project's).
 use Rattle.std.specs.Prelude.{◌≡◌, ◌<◌, Ok}
-use Rattle.tiff_ifd.specs.Look.{Look}
+use Rattle.tiff_ifd.specs.TagLookup.{TagLookup}
 use Rattle.tiff_page.specs.Page.{PageRecord}
 use Rattle.tiff_page.specs.Checks.{method_in, page_of}
 use Rattle.tiff_page.specs.Laws.{HasSides}
@@ -12,8 +12,9 @@ pub record HasSamples (p : PageRecord) : Type 0 where
 
 -- the page that the tags define has sides, and its pixels have samples
 abbrev pub PageHasSides : Type 0
-PageHasSides = (look : Look) (p : PageRecord) → page_of look ≡ Ok p → HasSides p × HasSamples p
+PageHasSides = (look : TagLookup) (p : PageRecord) → page_of look ≡ Ok p → HasSides p × HasSamples p
 
 -- the page has the compression method that the tags define
 abbrev pub PageHasMethod : Type 0
-PageHasMethod = (look : Look) (p : PageRecord) → page_of look ≡ Ok p → method_in look ≡ Ok p.method
+PageHasMethod = (look : TagLookup) (p : PageRecord) → page_of look ≡ Ok p
+    → method_in look ≡ Ok p.method

@@ -39,17 +39,20 @@ at_chunk p layout i r b = r * chunk_row p layout i + b
 
 abbrev pub at_image : PageRecord → LayoutRecord → ℕ → ℕ → ℕ → ℕ
 at_image p layout i r b =
-    ((rect p i).plane * p.height + (rect p i).y + r) * layout.row_bytes + row_bits p layout.color (rect p i).x / 8 + b
+    ((rect p i).plane * p.height + (rect p i).y + r) * layout.row_bytes + row_bits p layout.color
+    (rect p i).x / 8 + b
 
 -- The image contains each byte of each row of a chunk.
-pub record IsPlacedIn (p : PageRecord) (layout : LayoutRecord) (i : ℕ) (chunk image : List ℕ) : Type 0 where
+pub record IsPlacedIn (p : PageRecord) (layout : LayoutRecord) (i : ℕ) (chunk image : List ℕ) : Type
+    0 where
   pub each : (r b : ℕ) → r < (rect p i).height → b < chunk_row p layout i
       → slice_index image (at_image p layout i r b) ≡ slice_index chunk (at_chunk p layout i r b)
 
 -- after an image is read into a slice, the slice contains each chunk, as it is read alone, of the
 -- planes that it holds whole
 abbrev pub PlaneOfChunks : Type 0
-PlaneOfChunks = (d : Decoding) (layout : LayoutRecord) (buf image part chunk : List ℕ) (i : ℕ) → HasSides d.state.page → IsLayout d.state.page layout
+PlaneOfChunks = (d : Decoding) (layout : LayoutRecord) (buf image part chunk : List ℕ) (i : ℕ)
+    → HasSides d.state.page → IsLayout d.state.page layout
     → i < chunks_used d.state.page layout (length buf)
     → (outcome.read_image_bytes d buf).answer ≡ Ok image
     → (outcome.read_chunk_bytes d i part).answer ≡ Ok chunk
@@ -67,25 +70,30 @@ pub record ByteIsOfChunk (p : PageRecord) (layout : LayoutRecord) (planes at : �
 
 -- each byte of the planes belongs to a row of one of their chunks
 abbrev pub PlanesCovered : Type 0
-PlanesCovered = (p : PageRecord) (layout : LayoutRecord) (planes at : ℕ) → HasSides p → IsLayout p layout → at < planes * layout.plane_stride
+PlanesCovered = (p : PageRecord) (layout : LayoutRecord) (planes at : ℕ) → HasSides p
+    → IsLayout p layout → at < planes * layout.plane_stride
     → ByteIsOfChunk p layout planes at
 
 -- a chunk was read alone, into a slice of its own, and placed
 abbrev pub IsReadAndPlaced : Decoding → LayoutRecord → List ℕ → ℕ → Type 0
 IsReadAndPlaced d layout made i =
-    (part chunk : List ℕ) × (((outcome.read_chunk_bytes d i part).answer ≡ Ok chunk) × IsPlacedIn d.state.page layout i chunk made)
+    (part chunk : List ℕ)
+    × (((outcome.read_chunk_bytes d i part).answer ≡ Ok chunk)
+    × IsPlacedIn d.state.page layout i chunk made)
 
 -- A slice was made of chunks: each chunk of the planes that it holds was read and placed, and the
 -- bytes after them are unchanged.
 pub record IsMadeOfChunks (d : Decoding) (layout : LayoutRecord) (buf made : List ℕ) : Type 0 where
   pub long : length made ≡ length buf
   pub placed : EachUsed d.state.page layout (length buf) (IsReadAndPlaced d layout made)
-  pub stays : (at : ℕ) → planes_used d.state.page layout (length buf) * layout.plane_stride ≤ at → at < length buf
+  pub stays : (at : ℕ) → planes_used d.state.page layout (length buf) * layout.plane_stride ≤ at
+      → at < length buf
       → slice_index made at ≡ slice_index buf at
 
 -- reading an image into a slice that has room gives exactly the slice that its chunks make
 abbrev pub ImageIsItsChunks : Type 0
-ImageIsItsChunks = (d : Decoding) (layout : LayoutRecord) (buf made : List ℕ) → HasSides d.state.page → HasRoom d.state.page layout (length buf)
+ImageIsItsChunks = (d : Decoding) (layout : LayoutRecord) (buf made : List ℕ)
+    → HasSides d.state.page → HasRoom d.state.page layout (length buf)
     → ((outcome.read_image_bytes d buf).answer ≡ Ok made) ↔ IsMadeOfChunks d layout buf made
 
 -- ---- where chunks are read
@@ -96,36 +104,46 @@ chunk_byte_count p layout i = chunk_row p layout i * (rect p i).height
 
 -- a chunk is read into each slice that has room for it
 abbrev pub IsChunkRead : Decoding → LayoutRecord → ℕ → Type 0
-IsChunkRead d layout i = (part : List ℕ) → chunk_byte_count d.state.page layout i ≤ length part → IsOk (outcome.read_chunk_bytes d i part).answer
+IsChunkRead d layout i = (part : List ℕ) → chunk_byte_count d.state.page layout i ≤ length part
+    → IsOk (outcome.read_chunk_bytes d i part).answer
 
 -- an image is read into a slice that has room exactly if each chunk of the planes that the slice
 -- holds is read
 abbrev pub ReadWhereChunks : Type 0
 ReadWhereChunks = (d : Decoding) (buf : List ℕ) → HasSides d.state.page
     → (IsOk (outcome.read_image_bytes d buf).answer
-    → (layout : LayoutRecord) × (HasRoom d.state.page layout (length buf) × EachUsed d.state.page layout (length buf) (IsChunkRead d layout)))
+    → (layout : LayoutRecord)
+    × (HasRoom d.state.page layout (length buf)
+    × EachUsed d.state.page layout (length buf) (IsChunkRead d layout)))
     × ((layout : LayoutRecord) → HasRoom d.state.page layout (length buf)
-    → EachUsed d.state.page layout (length buf) (λ i. (part : List ℕ) × IsOk (outcome.read_chunk_bytes d i part).answer)
+    → EachUsed d.state.page layout (length buf) (λ i. (part : List ℕ)
+    × IsOk (outcome.read_chunk_bytes d i part).answer)
     → IsOk (outcome.read_image_bytes d buf).answer)
 
 -- a chunk is refused with this error, in each slice that has room for it
 abbrev pub IsChunkRefused : Decoding → LayoutRecord → TiffError → ℕ → Type 0
 IsChunkRefused d layout e i =
-    (part : List ℕ) → chunk_byte_count d.state.page layout i ≤ length part → (outcome.read_chunk_bytes d i part).answer ≡ Err e
+    (part : List ℕ) → chunk_byte_count d.state.page layout i ≤ length part
+    → (outcome.read_chunk_bytes d i part).answer ≡ Err e
 
 -- Chunk k of a plane is the first that is refused, with this error: the chunks before it are read
 -- in each plane, and chunk k is read in the planes before.
-pub record IsFirstRefused (d : Decoding) (layout : LayoutRecord) (planes plane k : ℕ) (e : TiffError) : Type 0 where
+pub record IsFirstRefused (d : Decoding) (layout : LayoutRecord) (planes plane k : ℕ)
+    (e : TiffError) : Type 0 where
   pub used : plane < planes
   pub of_plane : k < chunks_of_plane d.state.page
   pub refused : IsChunkRefused d layout e (plane * chunks_of_plane d.state.page + k)
-  pub before : (n j : ℕ) → n < planes → j < k → IsChunkRead d layout (n * chunks_of_plane d.state.page + j)
+  pub before : (n j : ℕ) → n < planes → j < k
+      → IsChunkRead d layout (n * chunks_of_plane d.state.page + j)
   pub above : (n : ℕ) → n < plane → IsChunkRead d layout (n * chunks_of_plane d.state.page + k)
 
 -- an image that has room is refused with the error of the first chunk that is refused
 abbrev pub RefusedWhereChunks : Type 0
-RefusedWhereChunks = (d : Decoding) (layout : LayoutRecord) (buf : List ℕ) (e : TiffError) → HasSides d.state.page → HasRoom d.state.page layout (length buf)
+RefusedWhereChunks = (d : Decoding) (layout : LayoutRecord) (buf : List ℕ) (e : TiffError)
+    → HasSides d.state.page → HasRoom d.state.page layout (length buf)
     → ((outcome.read_image_bytes d buf).answer ≡ Err e
-    → (plane k : ℕ) × IsFirstRefused d layout (planes_used d.state.page layout (length buf)) plane k e)
-    × ((plane k : ℕ) → IsFirstRefused d layout (planes_used d.state.page layout (length buf)) plane k e
+    → (plane k : ℕ)
+    × IsFirstRefused d layout (planes_used d.state.page layout (length buf)) plane k e)
+    × ((plane k : ℕ)
+    → IsFirstRefused d layout (planes_used d.state.page layout (length buf)) plane k e
     → (outcome.read_image_bytes d buf).answer ≡ Err e)
