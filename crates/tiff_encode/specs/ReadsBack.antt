@@ -12,7 +12,8 @@ use Rattle.tiff_page.specs.declared.layout.DecodingSampleType.{DecodingSampleTyp
 use Rattle.tiff_page.specs.Page.{PageRecord}
 use Rattle.tiff_page.specs.Rect.{chunks_of_plane}
 use Rattle.tiff_page.specs.Layout.{samples_in_chunk, planes, row_bytes, whole_chroma, color_of, sample_type_of}
-use Rattle.tiff_page.specs.PixelFault.{is_supported_color, predictor_fault, method_fault, inversion_fault}
+use Rattle.tiff_page.specs.Methods.{method_fault}
+use Rattle.tiff_page.specs.PixelFault.{is_supported_color, predictor_fault, inversion_fault}
 use Rattle.tiff_page.specs.Pixels.{tabulate}
 use Rattle.tiff_page.specs.Row.{IsSize}
 use Rattle.tiff_page.specs.PixelCalls.{image_of}

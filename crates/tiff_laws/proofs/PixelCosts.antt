@@ -10,7 +10,7 @@ use Rattle.tiff_base.specs.declared.error.TiffError.{TiffError}
 use Rattle.tiff_base.specs.SourceAndSink.{AreReadable, SourceRecord}
 use Rattle.tiff_page.specs.Buffers.{planes_layout}
 use Rattle.tiff_page.specs.Counts.{parts}
-use Rattle.tiff_page.specs.EarlyFaults.{is_packed}
+use Rattle.tiff_page.specs.Methods.{is_packed}
 use Rattle.tiff_page.specs.Laws.{HasSides}
 use Rattle.tiff_page.specs.Layout.{LayoutRecord, row_bits, row_bytes, samples_in_chunk}
 use Rattle.tiff_page.specs.Page.{PageRecord}

@@ -16,7 +16,8 @@ use Rattle.tiff_ifd.specs.declared.limits.Limits.{Limits}
 use Rattle.tiff_page.specs.Page.{PageRecord}
 use Rattle.tiff_page.specs.Rect.{rect, chunks_of_plane}
 use Rattle.tiff_page.specs.Layout.{LayoutRecord, layout_of, planes, row_bits, row_bytes, samples_in_chunk}
-use Rattle.tiff_page.specs.PixelFault.{fail_if, depth_fault, predictor_fault, method_fault, inversion_fault, form_fault, chunk_fault}
+use Rattle.tiff_page.specs.Methods.{method_fault}
+use Rattle.tiff_page.specs.PixelFault.{fail_if, depth_fault, predictor_fault, inversion_fault, form_fault, chunk_fault}
 use Rattle.tiff_page.specs.Pixels.{Region, is_short, byte_at, region_byte, image_region, chunk_region}
 use Rattle.tiff_page.specs.PixelCalls as pixels
 use Rattle.tiff_page.specs.PixelCalls.{Part, image_part, chunk_part, planes_used, bytes_with_region}

@@ -7,7 +7,7 @@ use Rattle.tiff_base.specs.declared.tags.FileKind.{FileKind}
 use Rattle.tiff_base.specs.SourceAndSink.{AreReadable, SourceRecord}
 use Rattle.tiff_ifd.specs.IfdChainWalk.{WayReadable}
 use Rattle.tiff_page.specs.Buffers.{planes_layout}
-use Rattle.tiff_page.specs.EarlyFaults.{is_packed}
+use Rattle.tiff_page.specs.Methods.{is_packed}
 use Rattle.tiff_page.specs.Laws.{HasSides}
 use Rattle.tiff_page.specs.Layout.{LayoutRecord, samples_in_chunk}
 use Rattle.tiff_page.specs.Page.{PageRecord}

@@ -29,8 +29,10 @@ use Rattle.tiff_page.specs.Buffers.{planes_layout, unit_fault}
 use Rattle.tiff_page.specs.Layout.{LayoutRecord, sample_type_of, size_of}
 use Rattle.tiff_page.specs.PixelFault.{fail_if, form_fault, chunk_fault, limit_fault, each_below}
 use Rattle.tiff_page.specs.PixelCalls.{Part, part_fault, fill_buffer, samples, image_part, chunk_part, planes_used, read_chunk_bytes, read_coding_unit_bytes, read_image_bytes, room_fault}
-use Rattle.tiff_page.specs.Pixels.{data_by_method, chunk_data, needed_bytes, is_short}
-use Rattle.tiff_page.specs.EarlyFaults.{least_stored, bytes_held, is_cut, early_fault}
+use Rattle.tiff_page.specs.Methods.{data_by_method}
+use Rattle.tiff_page.specs.Pixels.{chunk_data, needed_bytes, is_short}
+use Rattle.tiff_page.specs.Methods.{least_stored, bytes_held}
+use Rattle.tiff_page.specs.EarlyFaults.{is_cut, early_fault}
 use Rattle.tiff_page.proofs.Sizes.{plane_some}
 use Rattle.tiff_page.proofs.PositionLaws.{cases_fault}
 use Rattle.tiff_page.proofs.Filling.{first_at}
@@ -115,7 +117,7 @@ packed_short file position count n early h =
     omega (arith, h, few, ceil.1, length-take count (drop position file), length-drop position file)
 
 cut_short : (file : List ℕ) (order : ByteOrder) (p : PageRecord) (m : CompressionMethod) (position count n : ℕ) → bytes_held file m position count < least_stored m n
-    → length (data_by_method file order p m position count) < n
+    → length (data_by_method file m position count) < n
 cut_short file order p method.None position count n h = omega (arith, h, length-drop position file)
 cut_short file order p method.PackBits position count n h = packed_short file position count n (nat_lt (length file - position) count) h
 cut_short file order p m position count n h = omega (arith, h)

@@ -14,17 +14,17 @@ use Rattle.tiff_page.specs.ChunkData.{bytes_left, IsTooShort}
 use Rattle.tiff_page.proofs.Rects.{copied, holds_put_mid}
 
 -- a row that was read straight to its position
-pub put_in_place : (file : List ℕ) (order : ByteOrder) (p : PageRecord) (color : ColorType) (position : ChunkCursor) (failed : Type 0) (at len : ℕ) (old row : List ℕ) (r : Result ChunkCursor TiffError)
-    → length row ≡ len → at + len ≤ length old → RowRead file order p color position (Unit {0}) failed row r
-    → RowPut file order p color position failed at len old (put_mid at (at + len - at) old row) r
-put_in_place file order p color position failed at len old row (Ok rest) e fits h = record {
+pub put_in_place : (file : List ℕ) (order : ByteOrder) (p : PageRecord) (color : ColorType) (from to : ChunkCursor) (failed : Type 0) (at len : ℕ) (old row : List ℕ) (r : Result (Unit {0}) TiffError)
+    → length row ≡ len → at + len ≤ length old → RowRead file order p color from to failed row r
+    → RowPut file order p color from to failed at len old (put_mid at (at + len - at) old row) r
+put_in_place file order p color from to failed at len old row (Ok done) e fits h = record {
   row = row;
   all = e;
   takes = h;
   put = copied old row (put_mid at (at + len - at) old row) at (subst (λ (n : ℕ). at + n ≤ length old) (sym e) fits) (holds_put_mid old row at len e);
 }
-put_in_place file order p color position failed at len old row (Err f) e fits h =
-    subst (λ (n : ℕ). IsCause (Unit {0}) failed f (IsTooShort (bytes_left file position) (needed_of_row p color n) f)) e h
+put_in_place file order p color from to failed at len old row (Err f) e fits h =
+    subst (λ (n : ℕ). IsCause (Unit {0}) failed f (IsTooShort (bytes_left file from) (needed_of_row p color n) f)) e h
 
 -- a row that is written from a scratch buffer
 pub put_from_room : (order : ByteOrder) (p : PageRecord) (color : ColorType) (left rest : List ℕ) (at len : ℕ) (row old new : List ℕ)

@@ -13,7 +13,7 @@ use Rattle.tiff_page.specs.declared.chunk_data.ChunkCursor.{ChunkCursor}
 use Rattle.tiff_page.specs.declared.chunk_data.ChunkCursor.TheVariants.{Plain, Packed, Ended}
 use Rattle.tiff_page.specs.declared.samples.ReadRequest.{ReadRequest}
 use Rattle.tiff_page.specs.declared.samples.ReadRequest.TheVariants.{Image, Chunk}
-use Rattle.tiff_page.specs.EarlyFaults.{is_packed}
+use Rattle.tiff_page.specs.Methods.{is_packed}
 use Rattle.tiff_page.specs.Laws.{HasSides}
 use Rattle.tiff_page.specs.Page.{PageRecord}
 use Rattle.tiff_page.specs.PixelCalls.{Part, image_part, chunk_part}

@@ -57,10 +57,10 @@ pub numbers_cause : (failed : Type 0) (left : List ℕ) (n m : ℕ) (e : TiffErr
 numbers_cause failed left n m e q c =
     cause_along e (λ z. Prim.absurd z) (λ f. f) (λ t. record { fault = t.fault; short = omega (arith, t.short, q) }) c
 
-pub numbers_stood : (file : List ℕ) (order : ByteOrder) (p : PageRecord) (position : ChunkCursor) (failed : Type 0) (n : ℕ) (out : List ℕ) (result : Result ChunkCursor TiffError)
-    → needs_swap order p.depth ≡ false → n ≡ length out → Takes file position ⊥ failed n out result → NumbersRead file order p position failed out result
-numbers_stood file order p position failed n out (Ok rest) t e k = stood_taken order p (bytes_left file position) (bytes_left file rest) out t k.0
-numbers_stood file order p position failed n out (Err fault) t e k = numbers_cause failed (bytes_left file position) n (length out) fault e k
+pub numbers_stood : (file : List ℕ) (order : ByteOrder) (p : PageRecord) (old new : ChunkCursor) (failed : Type 0) (n : ℕ) (out : List ℕ) (result : Result (Unit {0}) TiffError)
+    → needs_swap order p.depth ≡ false → n ≡ length out → Takes file old new ⊥ failed n out result → NumbersRead file order p old new failed out result
+numbers_stood file order p old new failed n out (Ok done) t e k = stood_taken order p (bytes_left file old) (bytes_left file new) out t k.0
+numbers_stood file order p old new failed n out (Err fault) t e k = numbers_cause failed (bytes_left file old) n (length out) fault e k
 
 pub row_taken : (order : ByteOrder) (p : PageRecord) (color : ColorType) (left rest filled out : List ℕ) → needs_whole_rows p color ≡ false → left ≡ filled ++ rest
     → length filled ≡ length out → ((b : ℕ) → b < length out → slice_index out b ≡ handed_byte order p filled color b)

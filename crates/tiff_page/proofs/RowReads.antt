@@ -22,7 +22,8 @@ use Rattle.tiff_base.specs.Color.{num_samples}
 use Rattle.tiff_ifd.specs.declared.limits.Limits.{Limits}
 use Rattle.tiff_page.specs.Page.{PageRecord}
 use Rattle.tiff_page.specs.Layout.{color_of, color_from, no_color, gray, lab, photometric, first_is_alpha, samples_in_chunk}
-use Rattle.tiff_page.specs.PixelFault.{fail_if, is_byte_multiple, is_gray, refuse_predictor, depth_fault, predictor_fault, method_fault, form_fault}
+use Rattle.tiff_page.specs.Methods.{method_fault}
+use Rattle.tiff_page.specs.PixelFault.{fail_if, is_byte_multiple, is_gray, refuse_predictor, depth_fault, predictor_fault, form_fault}
 use Rattle.tiff_page.specs.Pixels.{stored_samples}
 use Rattle.tiff_page.specs.Row.{IsSize}
 use Rattle.tiff_page.specs.ReadablePage.{IsRead, FormRead}

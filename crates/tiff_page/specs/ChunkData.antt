@@ -20,14 +20,15 @@ pub record IsTooShort (left : List ℕ) (wanted : ℕ) (e : TiffError) : Type 0 
   pub short : length left < wanted
 
 -- a buffer was filled with the next bytes, or fewer are left
-abbrev pub Takes : List ℕ → ChunkCursor → Type 0 → Type 0 → ℕ → List ℕ
-    → Result ChunkCursor TiffError → Type 0
-Takes bytes stored wanting failed len filled (Ok rest) =
-    (bytes_left bytes stored ≡ filled ++ bytes_left bytes rest) × (length filled ≡ len)
-Takes bytes stored wanting failed len filled (Err e) =
-    IsCause wanting failed e (IsTooShort (bytes_left bytes stored) len e)
+abbrev pub Takes : List ℕ → ChunkCursor → ChunkCursor → Type 0 → Type 0 → ℕ → List ℕ
+    → Result (Unit {0}) TiffError → Type 0
+Takes bytes old new wanting failed len filled (Ok done) =
+    (bytes_left bytes old ≡ filled ++ bytes_left bytes new) × (length filled ≡ len)
+Takes bytes old new wanting failed len filled (Err e) =
+    IsCause wanting failed e (IsTooShort (bytes_left bytes old) len e)
 
 -- n bytes were skipped, or all that are left if there are fewer
-abbrev pub Passes : List ℕ → ChunkCursor → Type 0 → ℕ → Result ChunkCursor TiffError → Type 0
-Passes bytes stored failed n (Ok rest) = bytes_left bytes rest ≡ drop n (bytes_left bytes stored)
-Passes bytes stored failed n (Err e) = IsCause ⊥ failed e ⊥
+abbrev pub Passes : List ℕ → ChunkCursor → ChunkCursor → Type 0 → ℕ
+    → Result (Unit {0}) TiffError → Type 0
+Passes bytes old new failed n (Ok done) = bytes_left bytes new ≡ drop n (bytes_left bytes old)
+Passes bytes old new failed n (Err e) = IsCause ⊥ failed e ⊥

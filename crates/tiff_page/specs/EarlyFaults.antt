@@ -1,11 +1,8 @@
 -- Errors that the decoder finds before it allocates memory for samples.
-use Rattle.std.specs.Prelude.{◌≡◌, ℕ, ◌-◌, ◌*◌, min, Bool, true, false, if◌then◌else◌, nat_lt, List, length, slice_index, Result, Ok, Err}
-use Rattle.std.specs.Int.{div_ceil}
+use Rattle.std.specs.Prelude.{◌≡◌, ℕ, ◌*◌, Bool, nat_lt, List, slice_index, Result, Ok, Err}
 use Rattle.tiff_base.specs.declared.color.ColorType.{ColorType}
 use Rattle.tiff_base.specs.declared.error.TiffError.{TiffError}
 use Rattle.tiff_base.specs.declared.error.TiffError.TheVariants.{OutOfMemory}
-use Rattle.tiff_base.specs.declared.tags.CompressionMethod.{CompressionMethod}
-use Rattle.tiff_base.specs.declared.tags.CompressionMethod.TheVariants as method
 use Rattle.tiff_base.specs.Answers.{◌>>=◌}
 use Rattle.tiff_base.specs.Sparing.{IsOkOrList}
 use Rattle.tiff_ifd.specs.declared.limits.Limits.{Limits}
@@ -13,24 +10,11 @@ use Rattle.tiff_page.specs.declared.layout.DecodingSampleType.{DecodingSampleTyp
 use Rattle.tiff_page.specs.Page.{PageRecord}
 use Rattle.tiff_page.specs.Buffers.{planes_layout, unit_fault}
 use Rattle.tiff_page.specs.Layout.{sample_type_of, size_of, wide}
+use Rattle.tiff_page.specs.Methods.{bytes_held, least_stored}
 use Rattle.tiff_page.specs.PixelCalls.{planes_within, room_fault, stride_fault}
 use Rattle.tiff_page.specs.PixelFault.{limit_fault, chunk_fault, form_fault}
 use Rattle.tiff_page.specs.Pixels.{needed_bytes}
 use Rattle.tiff_page.specs.Rect.{rect}
-
-abbrev pub is_packed : CompressionMethod → Bool
-is_packed method.PackBits = true
-is_packed _ = false
-
--- how many bytes n bytes of decompressed data take in a file at least: two bytes of PackBits data
--- decompress to at most 128
-abbrev pub least_stored : CompressionMethod → ℕ → ℕ
-least_stored m n = if is_packed m then div_ceil n 64 else n
-
--- how many bytes a file has from an offset on; of PackBits data at most `count`
-abbrev pub bytes_held : List ℕ → CompressionMethod → ℕ → ℕ → ℕ
-bytes_held file m offset count = if is_packed m then min count (length file - offset)
-    else length file - offset
 
 -- a file has fewer bytes of a chunk than the data of the chunk take at least
 abbrev pub is_cut : List ℕ → PageRecord → ColorType → ℕ → Bool

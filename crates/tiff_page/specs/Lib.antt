@@ -4,6 +4,7 @@ pub mod Checks
 pub mod PageView
 pub mod Rect
 pub mod Layout
+pub mod Methods
 pub mod PixelFault
 pub mod Pixels
 pub mod Row

@@ -4,13 +4,11 @@ use Rattle.tiff_base.specs.declared.error.TiffError.{TiffError}
 use Rattle.tiff_base.specs.declared.error.TiffError.TheVariants.{FormatError, UnsupportedError, IoError, LimitsExceeded}
 use Rattle.tiff_base.specs.declared.io.IoKind.TheVariants.{UnexpectedEof}
 use Rattle.tiff_base.specs.declared.error.TiffFormatError.TheVariants.{InconsistentSizesEncountered}
-use Rattle.tiff_base.specs.declared.error.TiffUnsupportedError.TheVariants.{UnsupportedColorType, HorizontalPredictor, FloatingPointPredictor, UnsupportedCompressionMethod, UnknownInterpretation}
+use Rattle.tiff_base.specs.declared.error.TiffUnsupportedError.TheVariants.{UnsupportedColorType, HorizontalPredictor, FloatingPointPredictor, UnknownInterpretation}
 use Rattle.tiff_base.specs.declared.tags.PhotometricInterpretation.{PhotometricInterpretation}
 use Rattle.tiff_base.specs.declared.tags.PhotometricInterpretation.TheVariants as meaning
 use Rattle.tiff_base.specs.declared.color.ColorType.{ColorType}
 use Rattle.tiff_base.specs.declared.color.ColorType.TheVariants.{Gray, Palette, GrayA, Lab, Multiband}
-use Rattle.tiff_base.specs.declared.tags.CompressionMethod.{CompressionMethod}
-use Rattle.tiff_base.specs.declared.tags.CompressionMethod.TheVariants as method
 use Rattle.tiff_base.specs.declared.tags.Predictor.{Predictor}
 use Rattle.tiff_base.specs.declared.tags.Predictor.TheVariants as predictor
 use Rattle.tiff_base.specs.declared.tags.SampleFormat.{SampleFormat}
@@ -18,6 +16,7 @@ use Rattle.tiff_base.specs.declared.tags.SampleFormat.TheVariants as format
 use Rattle.tiff_base.specs.Answers.{◌>>=◌}
 use Rattle.std.specs.Int.{div_ceil}
 use Rattle.tiff_ifd.specs.declared.limits.Limits.{Limits}
+use Rattle.tiff_page.specs.Methods.{method_fault}
 use Rattle.tiff_page.specs.Page.{PageRecord}
 
 -- an error if a test holds
@@ -71,11 +70,6 @@ fault_of_predictor predictor.FloatingPoint p color =
 
 unfoldable pub predictor_fault : PageRecord → ColorType → Result (Unit {0}) TiffError
 predictor_fault p color = fault_of_predictor p.predictor p color
-
-abbrev pub method_fault : CompressionMethod → Result (Unit {0}) TiffError
-method_fault method.None = Ok tt
-method_fault method.PackBits = Ok tt
-method_fault m = Err (UnsupportedError (UnsupportedCompressionMethod m))
 
 abbrev pub can_invert : SampleFormat → ColorType → Bool
 can_invert format.Uint (Gray d) = is_byte_multiple d || d == 1 || d == 2 || d == 4

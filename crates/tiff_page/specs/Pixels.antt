@@ -1,13 +1,11 @@
 -- The samples of a page: where they are in the file, and what they are (TIFF 6.0 sections 2, 8, 9,
 -- 14; supplement 3).
-use Rattle.std.specs.Prelude.{ℕ, ◌+◌, ◌-◌, ◌*◌, ◌/◌, ◌%◌, ◌^◌, Bool, true, false, ◌&&◌, ◌||◌, ◌==◌, if◌then◌else◌, nat_lt, List, [], map, take, drop, length, slice_index, sum_by, Option, Some, None, unwrap_or}
+use Rattle.std.specs.Prelude.{ℕ, ◌+◌, ◌-◌, ◌*◌, ◌/◌, ◌%◌, ◌^◌, Bool, true, false, ◌&&◌, ◌||◌, ◌==◌, if◌then◌else◌, nat_lt, List, map, length, slice_index, sum_by, Option, Some, None, unwrap_or}
 use Rattle.std.specs.Int.{Width, w8, w16, w32, w64, div_ceil}
 use Rattle.std.specs.List.{range_with_len}
 use Rattle.tiff_base.specs.declared.color.ColorType.{ColorType}
 use Rattle.tiff_base.specs.declared.tags.ByteOrder.{ByteOrder}
 use Rattle.tiff_base.specs.declared.tags.ByteOrder.TheVariants.{LittleEndian, BigEndian}
-use Rattle.tiff_base.specs.declared.tags.CompressionMethod.{CompressionMethod}
-use Rattle.tiff_base.specs.declared.tags.CompressionMethod.TheVariants as method
 use Rattle.tiff_base.specs.declared.tags.PhotometricInterpretation.{PhotometricInterpretation}
 use Rattle.tiff_base.specs.declared.tags.PhotometricInterpretation.TheVariants as meaning
 use Rattle.tiff_base.specs.declared.tags.PlanarConfiguration.{PlanarConfiguration}
@@ -15,11 +13,11 @@ use Rattle.tiff_base.specs.declared.tags.PlanarConfiguration.TheVariants.{Chunky
 use Rattle.tiff_base.specs.declared.tags.Predictor.{Predictor}
 use Rattle.tiff_base.specs.declared.tags.Predictor.TheVariants as predictor
 use Rattle.tiff_base.specs.Number.{number, sample_sum}
-use Rattle.tiff_base.specs.Runs.{runs}
 use Rattle.tiff_base.specs.SourceAndSink.{bytes_at}
 use Rattle.tiff_page.specs.Page.{PageRecord}
 use Rattle.tiff_page.specs.Rect.{across, chunks_of_plane, rect, chunk_of_pixel}
 use Rattle.tiff_page.specs.Layout.{samples_in_chunk, row_bytes}
+use Rattle.tiff_page.specs.Methods.{data_by_method}
 
 -- the list f 0, f 1, .. below n
 abbrev pub tabulate : {A : Type 0} → ℕ → (ℕ → A) → List A
@@ -140,17 +138,10 @@ chunk_region p i =
 
 -- a file, its byte order, and a page of it
 module _ (file : List ℕ) (order : ByteOrder) (p : PageRecord) where
-  -- the data at an offset: the file from that offset on, or the decompressed bytes; other methods
-  -- aren't decompressed
-  abbrev pub data_by_method : CompressionMethod → ℕ → ℕ → List ℕ
-  data_by_method method.None offset count = drop offset file
-  data_by_method method.PackBits offset count =
-      (runs (nat_lt (length file - offset) count) (take count (drop offset file))).out
-  data_by_method _ offset count = []
-
   -- the data of a chunk
   abbrev pub chunk_data : ℕ → List ℕ
-  chunk_data i = data_by_method p.method (slice_index p.offsets i) (slice_index p.byte_counts i)
+  chunk_data i =
+      data_by_method file p.method (slice_index p.offsets i) (slice_index p.byte_counts i)
 
   -- the bytes of a row of a chunk as the file stores them
   abbrev pub stored_row : ℕ → ℕ → List ℕ

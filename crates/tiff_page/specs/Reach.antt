@@ -14,7 +14,7 @@ use Rattle.tiff_ifd.specs.Unpacking.{PackedReadable}
 use Rattle.tiff_page.specs.declared.chunk_data.ChunkCursor.{ChunkCursor}
 use Rattle.tiff_page.specs.declared.chunk_data.ChunkCursor.TheVariants.{Plain, Packed, Ended}
 use Rattle.tiff_page.specs.Buffers.{planes_layout}
-use Rattle.tiff_page.specs.EarlyFaults.{is_packed}
+use Rattle.tiff_page.specs.Methods.{is_packed}
 use Rattle.tiff_page.specs.Layout.{LayoutRecord}
 use Rattle.tiff_page.specs.Page.{PageRecord}
 use Rattle.tiff_page.specs.PixelCalls.{Part, image_part, chunk_part}

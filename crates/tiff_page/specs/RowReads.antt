@@ -27,21 +27,21 @@ pub record TakesNumbers (order : ByteOrder) (p : PageRecord) (left rest out : Li
   pub holds : HoldsNumbersOf order p row out
 
 -- the result of a call that reads numbers into a buffer
-abbrev pub NumbersRead : List ℕ → ByteOrder → PageRecord → ChunkCursor → Type 0 → List ℕ
-    → Result ChunkCursor TiffError → Type 0
-NumbersRead file order p position failed out (Ok rest) =
-    TakesNumbers order p (bytes_left file position) (bytes_left file rest) out
-NumbersRead file order p position failed out (Err e) =
-    IsCause (Unit {0}) failed e (IsTooShort (bytes_left file position) (length out) e)
+abbrev pub NumbersRead : List ℕ → ByteOrder → PageRecord → ChunkCursor → ChunkCursor → Type 0
+    → List ℕ → Result (Unit {0}) TiffError → Type 0
+NumbersRead file order p old new failed out (Ok done) =
+    TakesNumbers order p (bytes_left file old) (bytes_left file new) out
+NumbersRead file order p old new failed out (Err e) =
+    IsCause (Unit {0}) failed e (IsTooShort (bytes_left file old) (length out) e)
 
 -- the result of a call that reads a row into a buffer
-abbrev pub RowRead : List ℕ → ByteOrder → PageRecord → ColorType → ChunkCursor → Type 0 → Type 0
-    → List ℕ → Result ChunkCursor TiffError → Type 0
-RowRead file order p color position wanting failed out (Ok rest) =
-    TakesRow order p color (bytes_left file position) (bytes_left file rest) out
-RowRead file order p color position wanting failed out (Err e) =
-    IsCause wanting failed e
-    (IsTooShort (bytes_left file position) (needed_of_row p color (length out)) e)
+abbrev pub RowRead : List ℕ → ByteOrder → PageRecord → ColorType → ChunkCursor → ChunkCursor
+    → Type 0 → List ℕ → Result (Unit {0}) TiffError → Type 0
+RowRead file order p color old new failed out (Ok done) =
+    TakesRow order p color (bytes_left file old) (bytes_left file new) out
+RowRead file order p color old new failed out (Err e) =
+    IsCause (Unit {0}) failed e
+    (IsTooShort (bytes_left file old) (needed_of_row p color (length out)) e)
 
 -- A row was read and output, and its bytes were written at a position among the bytes of a list.
 pub record PutsRow (order : ByteOrder) (p : PageRecord) (color : ColorType) (left rest : List ℕ)
@@ -51,11 +51,11 @@ pub record PutsRow (order : ByteOrder) (p : PageRecord) (color : ColorType) (lef
   pub takes : TakesRow order p color left rest row
   pub put : IsPut at row old new
 
--- the result of a call that reads a row of `len` bytes into a list
-abbrev pub RowPut : List ℕ → ByteOrder → PageRecord → ColorType → ChunkCursor → Type 0 → ℕ → ℕ
-    → List ℕ → List ℕ → Result ChunkCursor TiffError → Type 0
-RowPut file order p color position failed at len old new (Ok rest) =
-    PutsRow order p color (bytes_left file position) (bytes_left file rest) at len old new
-RowPut file order p color position failed at len old new (Err e) =
-    IsCause (Unit {0}) failed e
-    (IsTooShort (bytes_left file position) (needed_of_row p color len) e)
+-- The result of a call that reads a row of `len` bytes into the bytes of a list, `before` the call
+-- and `after` it.
+abbrev pub RowPut : List ℕ → ByteOrder → PageRecord → ColorType → ChunkCursor → ChunkCursor → Type 0
+    → ℕ → ℕ → List ℕ → List ℕ → Result (Unit {0}) TiffError → Type 0
+RowPut file order p color old new failed at len before after (Ok done) =
+    PutsRow order p color (bytes_left file old) (bytes_left file new) at len before after
+RowPut file order p color old new failed at len before after (Err e) =
+    IsCause (Unit {0}) failed e (IsTooShort (bytes_left file old) (needed_of_row p color len) e)

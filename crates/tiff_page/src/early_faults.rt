@@ -14,6 +14,7 @@ ghost use Rattle.tiff_page.specs.PageView as view;
 
 use crate::faults::form_fault;
 use crate::layout::chunk_data_dimensions;
+use crate::methods::is_packed;
 use crate::output_row::{needs_whole_rows, row_len, stored_row_bytes};
 use crate::page::Page;
 use crate::read_chunks::PageReader;
@@ -21,13 +22,6 @@ use tiff_base::color::ColorType;
 use tiff_base::error::{TiffError, TiffResult};
 use tiff_base::io::{IoKind, Source};
 use tiff_base::read::read_exact_at;
-use tiff_base::tags::CompressionMethod;
-
-fn is_packed(method: CompressionMethod) -> bool
-    ensures { result ≡ spec.is_packed method }
-{
-    matches!(method, CompressionMethod::PackBits)
-}
 
 // Returns how many bytes of a stored row are read to output `len` bytes.
 fn needed_of_row(page: &Page, color: ColorType, len: usize) -> usize

@@ -8,11 +8,12 @@ ghost use Rattle.tiff_page.specs.PageView as view;
 ghost use Rattle.tiff_page.specs.Rect as rects;
 ghost use Rattle.tiff_page.specs.PixelFault as spec;
 
+use crate::methods::method_fault;
 use crate::page::Page;
 use std::alloc::Global;
 use tiff_base::color::ColorType;
 use tiff_base::error::{TiffError, TiffFormatError, TiffResult, TiffUnsupportedError};
-use tiff_base::tags::{CompressionMethod, PhotometricInterpretation, Predictor, SampleFormat};
+use tiff_base::tags::{PhotometricInterpretation, Predictor, SampleFormat};
 use tiff_ifd::limits::Limits;
 
 fn is_byte_multiple(depth: u8) -> bool
@@ -64,15 +65,6 @@ fn predictor_fault(page: &Page, color: ColorType) -> TiffResult<()>
         (Predictor::Horizontal, _) => Err(TiffUnsupportedError::HorizontalPredictor(color).into()),
         (Predictor::FloatingPoint, SampleFormat::IEEEFP) if page.depth != 8 => Ok(()),
         _ => Err(TiffUnsupportedError::FloatingPointPredictor(color).into()),
-    }
-}
-
-fn method_fault(method: CompressionMethod) -> TiffResult<()>
-    ensures { Gives (λ _. tt) result (spec.method_fault method) }
-{
-    match method {
-        CompressionMethod::None | CompressionMethod::PackBits => Ok(()),
-        method => Err(TiffUnsupportedError::UnsupportedCompressionMethod(method).into()),
     }
 }
 

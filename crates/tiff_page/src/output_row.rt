@@ -11,12 +11,21 @@ ghost use Rattle.tiff_page.specs.OutputRow.{HoldsNumbersOf, handed_byte};
 ghost use Rattle.tiff_page.specs.ReadablePage.{FormRead, IsRead};
 ghost use Rattle.tiff_page.specs.PageView as view;
 
-use crate::chunk_rows::ChunkReader;
 use crate::layout::{bits, row_bits, samples_in_chunk};
 use crate::page::Page;
 use crate::predictors::{invert, to_little_endian, undo_float_predictor, undo_horizontal};
 use tiff_base::color::ColorType;
 use tiff_base::tags::{ByteOrder, PhotometricInterpretation, PlanarConfiguration, Predictor};
+
+/// How the rows of a chunk are stored and output: the page and the byte order of its numbers, and
+/// the color and the number of columns of the output.
+#[derive(Clone, Copy)]
+pub struct RowFormat<'a> {
+    pub(crate) page: &'a Page,
+    pub(crate) order: ByteOrder,
+    pub(crate) color: ColorType,
+    pub(crate) width: u32,
+}
 
 /// Returns how many samples of a pixel a chunk stores.
 pub fn stored_samples(page: &Page) -> u16
@@ -197,7 +206,7 @@ fn keep_pixels(row: &[u8], pixel: PixelBytes, out: &mut [u8], width: usize)
     }
 }
 
-impl ChunkReader<'_> {
+impl RowFormat<'_> {
     /// Makes a whole stored row the output row of the chunk's columns, in `out`: joins byte planes,
     /// and keeps the output samples of each pixel. If byte planes are joined or numbers are
     /// byte-swapped, `room` needs the length of the row. The bytes of `row` and `room` afterwards

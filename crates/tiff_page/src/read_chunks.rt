@@ -14,6 +14,7 @@ ghost use Rattle.tiff_page.specs.PageView as view;
 use crate::chunk_rows::{ChunkReader, Destination};
 use crate::faults::form_fault;
 use crate::layout::{PlaneLayout, chunk_data_dimensions, chunks_of_plane, rect, row_bits};
+use crate::output_row::RowFormat;
 use crate::page::Page;
 use crate::writer::RowSink;
 use std::alloc::Global;
@@ -137,12 +138,15 @@ impl PageReader<'_> {
             form_fault(page, self.limits, layout.color, index)?;
             let destination = image_destination(page, layout, plane, next.chunk);
             let (width, height) = chunk_data_dimensions(page, index as u32);
-            let reader = ChunkReader {
+            let format = RowFormat {
                 page,
                 order: self.order,
                 color: layout.color,
-                index: index as u32,
                 width,
+            };
+            let reader = ChunkReader {
+                format,
+                index: index as u32,
                 height,
             };
             reader.read_rows(source, destination, writer, buf)?;
@@ -269,12 +273,15 @@ impl PageReader<'_> {
                 stride: unit.stride,
             };
             let (width, height) = chunk_data_dimensions(page, index as u32);
-            let reader = ChunkReader {
+            let format = RowFormat {
                 page,
                 order: self.order,
                 color: unit.color,
-                index: index as u32,
                 width,
+            };
+            let reader = ChunkReader {
+                format,
+                index: index as u32,
                 height,
             };
             reader.read_rows(source, destination, writer, buf)?;

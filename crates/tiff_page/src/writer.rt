@@ -1,6 +1,6 @@
 //! Writes the rows of a chunk into a list of bytes or of numbers.
 
-ghost use Rattle.std.specs.Prelude.{◌≡◌, ℕ, ◌+◌, ◌-◌, ◌*◌, ◌/◌, ◌^◌, ◌<◌, ◌≤◌, ◌⊎◌, ◌++◌, List, [], length, map, replicate, false, IfOk, OnOk, refl};
+ghost use Rattle.std.specs.Prelude.{◌≡◌, ℕ, ◌+◌, ◌-◌, ◌*◌, ◌/◌, ◌^◌, ◌<◌, ◌≤◌, ◌⊎◌, ◌++◌, List, [], length, map, replicate, false, OnOk, refl};
 ghost use Rattle.std.specs.Int.{div_ceil};
 ghost use Rattle.tiff_base.specs.Answers.{AsksOnly, IsKept};
 ghost use Rattle.tiff_page.specs.Layout.{row_bytes};
@@ -12,11 +12,21 @@ ghost use Rattle.tiff_page.specs.Reach.{StoredReadable, Moves};
 ghost use Rattle.tiff_page.specs.PageView as view;
 
 use crate::chunk_data::ChunkCursor;
-use crate::chunk_rows::{ChunkReader, RowScratch, RowSlot};
 use crate::numbers::{Number, grow, put_row};
+use crate::output_row::RowFormat;
+use crate::row_reader::RowScratch;
 use std::alloc::{AllocError, Global};
 use tiff_base::error::TiffResult;
 use tiff_base::io::Source;
+
+/// The bytes of a chunk that are read next: the format of their rows, their number as they are
+/// output, and the first byte of a list that they go to.
+#[derive(Clone, Copy)]
+pub struct RowSlot<'a> {
+    pub format: RowFormat<'a>,
+    pub len: usize,
+    pub at: usize,
+}
 
 /// Writes the rows of chunks into a list, which is seen as bytes.
 pub trait RowSink<T> {
@@ -30,50 +40,56 @@ pub trait RowSink<T> {
     fn read_row<R: Source>(
         &mut self,
         source: &mut R,
-        reader: &ChunkReader<'_>,
-        next: RowSlot,
+        cursor: &mut ChunkCursor,
+        next: &RowSlot<'_>,
         out: &mut [T],
-    ) -> TiffResult<ChunkCursor>
-        requires read { IsRead (view.page reader.now.page.now) reader.now.color }
-        requires width { reader.now.width ≤ reader.now.page.now.chunk_width }
-        requires len { next.len ≡ row_bytes (view.page reader.now.page.now) reader.now.color reader.now.width }
-        requires room { next.at + next.len ≤ length (bytes out.old) }
-        requires fits { next.at + next.len < 2 ^ 64 }
+    ) -> TiffResult<()>
+        requires read { IsRead (view.page next.now.format.page.now) next.now.format.color }
+        requires width { next.now.format.width ≤ next.now.format.page.now.chunk_width }
+        requires len { next.now.len ≡ row_bytes (view.page next.now.format.page.now)
+            next.now.format.color next.now.format.width }
+        requires room { next.now.at + next.now.len ≤ length (bytes out.old) }
+        requires fits { next.now.at + next.now.len < 2 ^ 64 }
         ensures kept { IsKept R.told R.failures result source.old source.new }
-        ensures row { RowPut (R.told source.old).bytes reader.now.order (view.page reader.now.page.now)
-            reader.now.color next.position
-            (R.failures source.old < R.failures source.new) next.at next.len (bytes out.old)
+        ensures row { RowPut (R.told source.old).bytes next.now.format.order
+            (view.page next.now.format.page.now)
+            next.now.format.color cursor.old cursor.new
+            (R.failures source.old < R.failures source.new) next.now.at next.now.len (bytes out.old)
             (bytes out.new) result }
         ensures asked { AsksOnly
-            (StoredReadable (R.told source.old) next.position
-            (needed_of_row (view.page reader.now.page.now) reader.now.color
-            next.len)) result }
-        ensures moves { IfOk result
-            (λ rest. Moves next.position (needed_of_row (view.page reader.now.page.now)
-            reader.now.color next.len) rest) };
+            (StoredReadable (R.told source.old) cursor.old
+            (needed_of_row (view.page next.now.format.page.now) next.now.format.color
+            next.now.len)) result }
+        ensures moves { OnOk result (Moves cursor.old
+            (needed_of_row (view.page next.now.format.page.now) next.now.format.color next.now.len)
+            cursor.new) };
 
     /// Reads the next bytes of a chunk, as they are output, into the bytes of a list, if this needs
     /// no whole stored rows.
     fn read_band<R: Source>(
         &mut self,
         source: &mut R,
-        reader: &ChunkReader<'_>,
-        next: RowSlot,
+        cursor: &mut ChunkCursor,
+        next: &RowSlot<'_>,
         out: &mut [T],
-    ) -> TiffResult<ChunkCursor>
-        requires read { IsRead (view.page reader.now.page.now) reader.now.color }
-        requires in_place { needs_whole_rows (view.page reader.now.page.now) reader.now.color ≡ false }
-        requires whole { (reader.now.page.now.depth < 8)
-            ⊎ (next.len / (reader.now.page.now.depth / 8) * (reader.now.page.now.depth / 8) ≡ next.len) }
-        requires room { next.at + next.len ≤ length (bytes out.old) }
-        requires fits { next.at + next.len < 2 ^ 64 }
+    ) -> TiffResult<()>
+        requires read { IsRead (view.page next.now.format.page.now) next.now.format.color }
+        requires in_place { needs_whole_rows (view.page next.now.format.page.now)
+            next.now.format.color ≡ false }
+        requires whole { (next.now.format.page.now.depth < 8)
+            ⊎ (next.now.len / (next.now.format.page.now.depth / 8) *
+            (next.now.format.page.now.depth / 8) ≡ next.now.len) }
+        requires room { next.now.at + next.now.len ≤ length (bytes out.old) }
+        requires fits { next.now.at + next.now.len < 2 ^ 64 }
         ensures kept { IsKept R.told R.failures result source.old source.new }
-        ensures row { RowPut (R.told source.old).bytes reader.now.order (view.page reader.now.page.now)
-            reader.now.color next.position
-            (R.failures source.old < R.failures source.new) next.at next.len (bytes out.old)
+        ensures row { RowPut (R.told source.old).bytes next.now.format.order
+            (view.page next.now.format.page.now)
+            next.now.format.color cursor.old cursor.new
+            (R.failures source.old < R.failures source.new) next.now.at next.now.len (bytes out.old)
             (bytes out.new) result }
-        ensures asked { AsksOnly (StoredReadable (R.told source.old) next.position next.len) result }
-        ensures moves { IfOk result (λ rest. Moves next.position next.len rest) };
+        ensures asked { AsksOnly (StoredReadable (R.told source.old) cursor.old next.now.len)
+            result }
+        ensures moves { OnOk result (Moves cursor.old next.now.len cursor.new) };
 
     /// Grows a list to `len` bytes by zeros, rounded up to whole items, if it is shorter.
     fn grow(list: &mut Vec<T>, len: usize) -> Result<(), AllocError>
@@ -113,27 +129,30 @@ impl RowSink<u8> for ByteRows {
     ghost whole = { λ n. n };
 
     #[tactic(auto, using(crate::proofs::PositionsPut::put_in_place))]
+    #[inline(always)]
     fn read_row<R: Source>(
         &mut self,
         source: &mut R,
-        reader: &ChunkReader<'_>,
-        next: RowSlot,
+        cursor: &mut ChunkCursor,
+        next: &RowSlot<'_>,
         out: &mut [u8],
-    ) -> TiffResult<ChunkCursor> {
+    ) -> TiffResult<()> {
         let row = &mut out[next.at..next.at + next.len];
-        reader.read_row(source, next.position, &mut self.room, row)
+        next.format.read_row(source, cursor, &mut self.room, row)
     }
 
     #[tactic(auto, using(crate::proofs::PositionsPut::put_in_place))]
+    #[inline(always)]
     fn read_band<R: Source>(
         &mut self,
         source: &mut R,
-        reader: &ChunkReader<'_>,
-        next: RowSlot,
+        cursor: &mut ChunkCursor,
+        next: &RowSlot<'_>,
         out: &mut [u8],
-    ) -> TiffResult<ChunkCursor> {
+    ) -> TiffResult<()> {
         let row = &mut out[next.at..next.at + next.len];
-        reader.read_finished(source, next.position, &mut self.room, row)
+        next.format
+            .read_finished(source, cursor, &mut self.room, row)
     }
 
     #[tactic(auto, using(crate::proofs::NumberBytes::plain_zeros_behind))]
@@ -173,31 +192,35 @@ impl<T: Number<N>, const N: usize> RowSink<T> for TypedRows<N> {
     ghost whole = { λ n. div_ceil n N * N };
 
     #[tactic(auto, using(crate::proofs::PositionsPut::put_from_room, crate::proofs::NumberBytes::some_size))]
+    #[inline(always)]
     fn read_row<R: Source>(
         &mut self,
         source: &mut R,
-        reader: &ChunkReader<'_>,
-        next: RowSlot,
+        cursor: &mut ChunkCursor,
+        next: &RowSlot<'_>,
         out: &mut [T],
-    ) -> TiffResult<ChunkCursor> {
+    ) -> TiffResult<()> {
         self.row.resize(next.len, 0)?;
-        let rest = reader.read_row(source, next.position, &mut self.room, &mut self.row)?;
+        next.format
+            .read_row(source, cursor, &mut self.room, &mut self.row)?;
         put_row(out, next.at, &self.row);
-        Ok(rest)
+        Ok(())
     }
 
     #[tactic(auto, using(crate::proofs::PositionsPut::put_from_room, crate::proofs::NumberBytes::some_size))]
+    #[inline(always)]
     fn read_band<R: Source>(
         &mut self,
         source: &mut R,
-        reader: &ChunkReader<'_>,
-        next: RowSlot,
+        cursor: &mut ChunkCursor,
+        next: &RowSlot<'_>,
         out: &mut [T],
-    ) -> TiffResult<ChunkCursor> {
+    ) -> TiffResult<()> {
         self.row.resize(next.len, 0)?;
-        let rest = reader.read_finished(source, next.position, &mut self.room, &mut self.row)?;
+        next.format
+            .read_finished(source, cursor, &mut self.room, &mut self.row)?;
         put_row(out, next.at, &self.row);
-        Ok(rest)
+        Ok(())
     }
 
     #[tactic(auto, using(crate::proofs::NumberBytes::some_size))]

@@ -22,7 +22,8 @@ use Rattle.tiff_page.specs.declared.layout.DecodingSampleType.{DecodingSampleTyp
 use Rattle.tiff_page.specs.declared.layout.DecodingSampleType.TheVariants.{U8, U16, U32, U64, F32, F64, I8, I16, I32, I64}
 use Rattle.tiff_page.specs.Page.{PageRecord}
 use Rattle.tiff_page.specs.Layout.{samples_in_chunk, first_is_alpha, photometric, no_color, color_from, color_of, whole_chroma, sample_type_from, sample_type_of}
-use Rattle.tiff_page.specs.PixelFault.{is_supported_color, is_number, fault_of_predictor, predictor_fault, method_fault, white_from, inversion_fault}
+use Rattle.tiff_page.specs.Methods.{method_fault}
+use Rattle.tiff_page.specs.PixelFault.{is_supported_color, is_number, fault_of_predictor, predictor_fault, white_from, inversion_fault}
 use Rattle.tiff_page.specs.Pixels.{tabulate}
 use Rattle.tiff_page.proofs.Rows.{each_same}
 use Rattle.tiff_page.proofs.Planes.{given_if}

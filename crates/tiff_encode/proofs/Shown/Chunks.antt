@@ -12,7 +12,8 @@ use Rattle.tiff_value.specs.ColorTypes.{color_type}
 use Rattle.tiff_page.specs.Page.{PageRecord}
 use Rattle.tiff_page.specs.Counts.{all_chunks}
 use Rattle.tiff_page.specs.Rect.{chunk_of_pixel}
-use Rattle.tiff_page.specs.Pixels.{planar_or, stored_samples, stored_row_bytes, data_by_method, chunk_data, stored_number, needed_bytes, is_short, shown_sample}
+use Rattle.tiff_page.specs.Methods.{data_by_method}
+use Rattle.tiff_page.specs.Pixels.{planar_or, stored_samples, stored_row_bytes, chunk_data, stored_number, needed_bytes, is_short, shown_sample}
 use Rattle.tiff_page.specs.Laws.{HasSides}
 use Rattle.tiff_encode.specs.Machine.{OpenImage}
 use Rattle.tiff_encode.specs.Chunks.{image_page, chunk_rows, row_samples, sample_in}
@@ -49,7 +50,7 @@ module _ (kind : FileKind) (file : List ℕ) (i : OpenImage) (samples : List (Li
       let t = there k b in
       let bytes : List ℕ = unpacked_chunk i (samples_of_chunk samples k) in
       let offset : ℕ = slice_index p.offsets k in
-      let P : ℕ → Type 0 = λ n. (rest : List ℕ) × (data_by_method file LittleEndian p i.method offset n ≡ bytes ++ rest) in
+      let P : ℕ → Type 0 = λ n. (rest : List ℕ) × (data_by_method file i.method offset n ≡ bytes ++ rest) in
       subst P t.1.1.0 (data_begin file LittleEndian p offset t.0 bytes t.1.0 i.method w.packed_by t.1.1.1)
 
   -- no chunk has too few data

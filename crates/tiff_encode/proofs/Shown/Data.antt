@@ -21,7 +21,8 @@ use Rattle.tiff_value.specs.Differences.{stored_difference, differences}
 use Rattle.tiff_value.specs.Packed.{IsStored}
 use Rattle.tiff_value.proofs.Packing.{unpacks}
 use Rattle.tiff_page.specs.Page.{PageRecord}
-use Rattle.tiff_page.specs.Pixels.{tabulate, width_of, stored_samples, stored_row_bytes, data_by_method, chunk_data, stored_row, number_size, row_number, number_by, stored_number}
+use Rattle.tiff_page.specs.Methods.{data_by_method}
+use Rattle.tiff_page.specs.Pixels.{tabulate, width_of, stored_samples, stored_row_bytes, chunk_data, stored_row, number_size, row_number, number_by, stored_number}
 use Rattle.tiff_page.proofs.ChunkRows.{bits_are}
 use Rattle.tiff_encode.specs.Machine.{OpenImage}
 use Rattle.tiff_encode.specs.Chunks.{image_page, row_samples}
@@ -36,7 +37,7 @@ module _ (file : List ℕ) (order : ByteOrder) (p : PageRecord) (offset : ℕ) (
     (there : exactly_at file offset (length stored) ≡ Ok stored) where
   -- the data begin with the given bytes
   abbrev Begins : CompressionMethod → Type 0
-  Begins m = (rest : List ℕ) × (data_by_method file order p m offset (length stored) ≡ bytes ++ rest)
+  Begins m = (rest : List ℕ) × (data_by_method file m offset (length stored) ≡ bytes ++ rest)
 
   as_they_are : stored ≡ bytes → Begins method.None
   as_they_are e =

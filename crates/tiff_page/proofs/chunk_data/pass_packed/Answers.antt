@@ -18,5 +18,5 @@ loop-left-preserved g c =
       same = told;
       count = omega (arith, c.in-Ok.ensures.kept.swallowed, c.loop-left.invariant.count);
       behind = search rules;
-      passed = more_passed (left_at bytes c.args.position) (left_at bytes c.loop-left.position) (left_at bytes c.read_exact.new.self) c.read_exact.new.buf c.args.n c.loop-left.left c.min-len.result c.loop-left.invariant.within (omega arith) len c.loop-left.invariant.passed given;
+      passed = more_passed (left_at bytes c.args.position.now) (left_at bytes c.loop-left.position) (left_at bytes c.read_exact.new.self) c.read_exact.new.buf c.args.n c.loop-left.left c.min-len.result c.loop-left.invariant.within (omega arith) len c.loop-left.invariant.passed given;
     }

@@ -11,8 +11,8 @@ invariant-loop-row g l =
       within : length l.row.items ≤ l.fn.len;
       same : g.R.Source.told l.source ≡ g.R.Source.told l.fn.source;
       count : g.R.Source.failures l.source ≡ g.R.Source.failures l.fn.source;
-      moves : Moves l.fn.self (length l.row.items) l.position;
-      read : bytes_left bytes l.fn.self ≡ l.row.items ++ bytes_left bytes l.position;
+      moves : Moves l.fn.self (length l.row.items) l.self;
+      read : bytes_left bytes l.fn.self ≡ l.row.items ++ bytes_left bytes l.self;
     }
 
 abbrev pub decreases-loop-row : goal.decreases-loop-row

@@ -12,17 +12,17 @@ use Rattle.tiff_page.proofs.chunk_rows.ChunkReader.read_contiguous.Given as goal
 abbrev pub invariant-loop-row : goal.invariant-loop-row
 invariant-loop-row g l =
     let bytes = (g.R.Source.told l.fn.source).bytes in
-    let p = view.page l.self.page.now in
-    let stored = chunk_data bytes l.self.order p l.self.index in
+    let p = view.page l.self.format.page.now in
+    let stored = chunk_data bytes l.self.format.order p l.self.index in
     let destination = l.destination in
     record {
       within : l.row ≤ (rect p l.self.index).height;
       same : g.R.Source.told l.source ≡ g.R.Source.told l.fn.source;
       count : g.R.Source.failures l.source ≡ g.R.Source.failures l.fn.source;
-      stands : StandsAt p l.self.index (l.row * destination.stride) l.position;
-      position : bytes_left bytes l.position ≡ drop (l.row * destination.stride) stored;
+      stands : StandsAt p l.self.index (l.row * destination.stride) l.cursor;
+      position : bytes_left bytes l.cursor ≡ drop (l.row * destination.stride) stored;
       enough : l.row * destination.stride ≤ length stored;
-      written : Writes (IsIn destination.stride destination.top l.row destination.left (row_bytes p l.self.color (rect p l.self.index).width)) (in_rect (chunk_byte bytes l.self.order p l.self.color l.self.index) destination.stride destination.top destination.left) (g.W.RowSink.bytes l.fn.buf) (g.W.RowSink.bytes l.buf);
+      written : Writes (IsIn destination.stride destination.top l.row destination.left (row_bytes p l.self.format.color (rect p l.self.index).width)) (in_rect (chunk_byte bytes l.self.format.order p l.self.format.color l.self.index) destination.stride destination.top destination.left) (g.W.RowSink.bytes l.fn.buf) (g.W.RowSink.bytes l.buf);
     }
 
 abbrev pub decreases-loop-row : goal.decreases-loop-row

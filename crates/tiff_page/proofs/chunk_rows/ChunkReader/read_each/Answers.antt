@@ -22,62 +22,62 @@ sides_of p = record { wide = p.wide; high = p.high; chunk_wide = p.chunk_wide; c
 pub loop-row-init : goal.loop-row-init
 loop-row-init g c =
     let bytes = (g.R.Source.told c.args.source.now).bytes in
-    let p = view.page c.args.self.now.page.now in
+    let p = view.page c.args.self.now.format.page.now in
     let none : 0 ≡ 0 * stored_row_bytes p = omega arith in
     record {
       same = refl;
       count = omega arith;
-      stands = front_stands p c.args.self.now.index (0 * stored_row_bytes p) c.front-position.result c.front-position.ensures.readable;
-      position = λ z. c.front-position.ensures.rest bytes c.args.self.now.order ∙ ap (λ (m : ℕ). drop m (chunk_data bytes c.args.self.now.order p c.args.self.now.index)) none;
+      stands = front_stands p c.args.self.now.index (0 * stored_row_bytes p) c.front-cursor.result c.front-cursor.ensures.readable;
+      position = λ z. c.front-cursor.ensures.rest bytes c.args.self.now.format.order ∙ ap (λ (m : ℕ). drop m (chunk_data bytes c.args.self.now.format.order p c.args.self.now.index)) none;
       enough = λ z. Prim.absurd (omega (arith, z));
-      written = no_row (chunk_byte (g.R.Source.told c.args.source.now).bytes c.args.self.now.order (view.page c.args.self.now.page.now) c.args.self.now.color c.args.self.now.index) c.args.destination.stride c.args.destination.top c.args.destination.left (row_bytes (view.page c.args.self.now.page.now) c.args.self.now.color (rect (view.page c.args.self.now.page.now) c.args.self.now.index).width) (g.W.RowSink.bytes c.args.buf.now);
+      written = no_row (chunk_byte (g.R.Source.told c.args.source.now).bytes c.args.self.now.format.order (view.page c.args.self.now.format.page.now) c.args.self.now.format.color c.args.self.now.index) c.args.destination.stride c.args.destination.top c.args.destination.left (row_bytes (view.page c.args.self.now.format.page.now) c.args.self.now.format.color (rect (view.page c.args.self.now.format.page.now) c.args.self.now.index).width) (g.W.RowSink.bytes c.args.buf.now);
     }
 
 pub overflow_add-at : goal.overflow_add-at
 overflow_add-at g c =
     let h = c.args.self.now.high in
-    let height = (rect (view.page c.args.self.now.page.now) c.args.self.now.index).height in
+    let height = (rect (view.page c.args.self.now.format.page.now) c.args.self.now.index).height in
     let l = row_below c.args.destination.top height c.args.destination.stride ((c.args.destination.top + height) * c.args.destination.stride) c.loop-row.row c.requires.some (omega arith) (omega (arith, h, c.loop-row-test.true)) in
     omega (arith, l, c.requires.few)
 
 pub read_row-requires-clause-width : goal.read_row-requires-clause-width
 read_row-requires-clause-width g c =
     let w = c.args.self.now.wide in
-    omega (arith, w, width_within (view.page c.args.self.now.page.now) c.args.self.now.index)
+    omega (arith, w, width_within (view.page c.args.self.now.format.page.now) c.args.self.now.index)
 
-pub returns-in_err-rest-clause-answer : goal.returns-in_err-rest-clause-answer
-returns-in_err-rest-clause-answer g c =
+pub returns-in_err-read_row-clause-answer : goal.returns-in_err-read_row-clause-answer
+returns-in_err-read_row-clause-answer g c =
     let bytes = (g.R.Source.told c.args.source.now).bytes in
-    let p = view.page c.args.self.now.page.now in
-    let len = row_bytes p c.args.self.now.color (rect p c.args.self.now.index).width in
+    let p = view.page c.args.self.now.format.page.now in
+    let len = row_bytes p c.args.self.now.format.color (rect p c.args.self.now.index).width in
     let h = c.args.self.now.high in
     let w = c.args.self.now.wide in
-    let n : c.row_len-len.result ≡ len = c.row_len-len.ensures.value ∙ ap (row_bytes p c.args.self.now.color) w in
+    let n : c.row_len-len.result ≡ len = c.row_len-len.ensures.value ∙ ap (row_bytes p c.args.self.now.format.color) w in
     let rl : c.loop-row.row < (rect p c.args.self.now.index).height = omega (arith, h, c.loop-row-test.true) in
-    let given = rw (same_bytes c.loop-row.invariant.same) at c.in_err-rest.ensures.row in
-    let listed : c.args.self.now.index < all_chunks p = omega (arith, c.requires.listed, c.args.self.now.page.now.counted) in
+    let given = rw (same_bytes c.loop-row.invariant.same) at c.in_err-read_row.ensures.row in
+    let listed : c.args.self.now.index < all_chunks p = omega (arith, c.requires.listed, c.args.self.now.format.page.now.counted) in
     let answered = err_from_is_err_and c.from_residual.result c.from_residual.ensures.1 in
-    rw (answered.1, answered.2) (too_short bytes c.args.self.now.order p c.args.self.now.color c.args.self.now.index (sides_of c.args.self.now.page.now) c.requires.read.stored listed _ _ c.loop-row.row c.row_len-len.result _ c.in_err-rest.field-0.0 (λ f. omega (arith, f, c.loop-row.invariant.count)) rl
+    rw (answered.1, answered.2) (too_short bytes c.args.self.now.format.order p c.args.self.now.format.color c.args.self.now.index (sides_of c.args.self.now.format.page.now) c.requires.read.stored listed _ _ c.loop-row.row c.row_len-len.result _ c.in_err-read_row.field-0.0 (λ f. omega (arith, f, c.loop-row.invariant.count)) rl
     n (c.loop-row.invariant.position rl) given)
 
 pub read_row-requires-clause-room : goal.read_row-requires-clause-room
 read_row-requires-clause-room g c =
-    let p = view.page c.args.self.now.page.now in
+    let p = view.page c.args.self.now.format.page.now in
     let w = c.args.self.now.wide in
     let h = c.args.self.now.high in
-    let len = row_bytes p c.args.self.now.color (rect p c.args.self.now.index).width in
-    let n : c.row_len-len.result ≡ len = c.row_len-len.ensures.value ∙ ap (row_bytes p c.args.self.now.color) w in
+    let len = row_bytes p c.args.self.now.format.color (rect p c.args.self.now.index).width in
+    let n : c.row_len-len.result ≡ len = c.row_len-len.ensures.value ∙ ap (row_bytes p c.args.self.now.format.color) w in
     let size = length (g.W.RowSink.bytes c.loop-row.buf) in
     let fits = row_room c.args.destination.stride c.args.destination.top (rect p c.args.self.now.index).height c.loop-row.row c.args.destination.left len size (omega (arith, h, c.loop-row-test.true)) c.requires.columns (omega (arith, c.requires.rows, c.loop-row.invariant.written.0)) in
     omega (arith, fits, n)
 
 pub read_row-requires-clause-fits : goal.read_row-requires-clause-fits
 read_row-requires-clause-fits g c =
-    let p = view.page c.args.self.now.page.now in
+    let p = view.page c.args.self.now.format.page.now in
     let w = c.args.self.now.wide in
     let h = c.args.self.now.high in
-    let len = row_bytes p c.args.self.now.color (rect p c.args.self.now.index).width in
-    let n : c.row_len-len.result ≡ len = c.row_len-len.ensures.value ∙ ap (row_bytes p c.args.self.now.color) w in
+    let len = row_bytes p c.args.self.now.format.color (rect p c.args.self.now.index).width in
+    let n : c.row_len-len.result ≡ len = c.row_len-len.ensures.value ∙ ap (row_bytes p c.args.self.now.format.color) w in
     let size = (c.args.destination.top + (rect p c.args.self.now.index).height) * c.args.destination.stride in
     let fits = row_room c.args.destination.stride c.args.destination.top (rect p c.args.self.now.index).height c.loop-row.row c.args.destination.left len size (omega (arith, h, c.loop-row-test.true)) c.requires.columns (omega arith) in
     omega (arith, fits, n, c.requires.few)
@@ -85,9 +85,9 @@ read_row-requires-clause-fits g c =
 pub loop-row-preserved : goal.loop-row-preserved
 loop-row-preserved g c =
     let bytes = (g.R.Source.told c.args.source.now).bytes in
-    let p = view.page c.args.self.now.page.now in
-    let order = c.args.self.now.order in
-    let color = c.args.self.now.color in
+    let p = view.page c.args.self.now.format.page.now in
+    let order = c.args.self.now.format.order in
+    let color = c.args.self.now.format.color in
     let k = c.args.self.now.index in
     let len = row_bytes p color (rect p k).width in
     let destination = c.args.destination in
@@ -98,18 +98,18 @@ loop-row-preserved g c =
     let n : c.row_len-len.result ≡ len = c.row_len-len.ensures.value ∙ ap (row_bytes p color) w in
     let rl : row < (rect p k).height = omega (arith, h, c.loop-row-test.true) in
     let same = (same_bytes c.loop-row.invariant.same) in
-    let told = same_bytes (c.in_ok-rest.ensures.kept.told ∙ c.loop-row.invariant.same) in
-    let given = rw same at c.in_ok-rest.ensures.row in
-    let passed = rw told at c.in_ok-position.ensures.passed in
-    let listed : k < all_chunks p = omega (arith, c.requires.listed, c.args.self.now.page.now.counted) in
+    let told = same_bytes (c.in_ok-read_row.ensures.kept.told ∙ c.loop-row.invariant.same) in
+    let given = rw same at c.in_ok-read_row.ensures.row in
+    let passed = rw told at c.in_ok-pass.ensures.passed in
+    let listed : k < all_chunks p = omega (arith, c.requires.listed, c.args.self.now.format.page.now.counted) in
     let out : length given.row ≡ c.row_len-len.result = given.all in
-    let sides = sides_of c.args.self.now.page.now in
+    let sides = sides_of c.args.self.now.format.page.now in
     let stored = c.requires.read.stored in
     let wide : 0 < (rect p k).width = omega (arith, c.args.self.now.some_columns, w) in
-    let some : 0 < len = row_some p color (rect p k).width wide c.args.self.now.page.now.deep stored.shows in
-    let left = bytes_left bytes c.loop-row.position in
-    let rest = bytes_left bytes c.in_ok-rest.rest in
-    let next = bytes_left bytes c.in_ok-position.position in
+    let some : 0 < len = row_some p color (rect p k).width wide c.args.self.now.format.page.now.deep stored.shows in
+    let left = bytes_left bytes c.loop-row.cursor in
+    let rest = bytes_left bytes c.read_row.new.cursor in
+    let next = bytes_left bytes c.pass.new.self in
     let from = c.loop-row.invariant.position rl in
     let held = row_held bytes order p color k sides stored listed row left rest given.row some rl (out ∙ n) from given.takes in
     let now : (row + 1 - 1) * stored_row_bytes p ≡ row * stored_row_bytes p = ap (λ (m : ℕ). m * stored_row_bytes p) (omega arith) in
@@ -122,15 +122,15 @@ loop-row-preserved g c =
     (λ b bl. row_bytes_are bytes order p color k sides stored listed row left rest given.row rl (out ∙ n) from given.takes b bl)
     c.loop-row.invariant.written given.put in
     let within = need_within bytes order p color k row 0 sides stored listed rl some in
-    let between : row + 1 < (rect p k).height → c.gap_behind-behind.result ≡ stored_row_bytes p - needed_of_row p color len = λ z.
-    c.gap_behind-behind.ensures.between (omega (arith, z, h)) ∙ (c.gap-gap.ensures ∙ ap (λ (m : ℕ). stored_row_bytes p - needed_of_row p color m) n) in
-    let last : row + 1 ≡ (rect p k).height → c.gap_behind-behind.result ≡ 0 = λ z. c.gap_behind-behind.ensures.last (omega (arith, z, h)) in
+    let between : row + 1 < (rect p k).height → c.gap_behind.result ≡ stored_row_bytes p - needed_of_row p color len = λ z.
+    c.gap_behind.ensures.between (omega (arith, z, h)) ∙ (c.gap-gap.ensures ∙ ap (λ (m : ℕ). stored_row_bytes p - needed_of_row p color m) n) in
+    let last : row + 1 ≡ (rect p k).height → c.gap_behind.result ≡ 0 = λ z. c.gap_behind.ensures.last (omega (arith, z, h)) in
     record {
-      same = c.in_ok-position.ensures.kept.told ∙ (c.in_ok-rest.ensures.kept.told ∙ c.loop-row.invariant.same);
-      count = omega (arith, c.in_ok-position.ensures.kept.swallowed, c.in_ok-rest.ensures.kept.swallowed, c.loop-row.invariant.count);
-      stands = next_stands p color k row c.row_len-len.result c.loop-row.position rl n c.loop-row.invariant.stands
-          c.in_ok-rest.rest c.gap_behind-behind.result within c.in_ok-rest.ensures.moves between last c.in_ok-position.position c.in_ok-position.ensures.moves;
-      position = λ z. next_row bytes order p color k sides stored listed row c.gap_behind-behind.result left rest next given.row some z (out ∙ n) from given.takes (between z) passed;
+      same = c.in_ok-pass.ensures.kept.told ∙ (c.in_ok-read_row.ensures.kept.told ∙ c.loop-row.invariant.same);
+      count = omega (arith, c.in_ok-pass.ensures.kept.swallowed, c.in_ok-read_row.ensures.kept.swallowed, c.loop-row.invariant.count);
+      stands = next_stands p color k row c.row_len-len.result c.loop-row.cursor rl n c.loop-row.invariant.stands
+          c.read_row.new.cursor c.gap_behind.result within c.in_ok-read_row.ensures.moves between last c.pass.new.self c.in_ok-pass.ensures.moves;
+      position = λ z. next_row bytes order p color k sides stored listed row c.gap_behind.result left rest next given.row some z (out ∙ n) from given.takes (between z) passed;
       enough = λ z. omega (arith, held, now);
       written = after;
     }
@@ -138,29 +138,29 @@ loop-row-preserved g c =
 pub returns-clause-ok : goal.returns-clause-ok
 returns-clause-ok g c =
     let bytes = (g.R.Source.told c.args.source.now).bytes in
-    let p = view.page c.args.self.now.page.now in
-    let len = row_bytes p c.args.self.now.color (rect p c.args.self.now.index).width in
+    let p = view.page c.args.self.now.format.page.now in
+    let len = row_bytes p c.args.self.now.format.color (rect p c.args.self.now.index).width in
     let destination = c.args.destination in
     let h = c.args.self.now.high in
     let e : c.loop-row.row ≡ (rect p c.args.self.now.index).height = omega (arith, h, c.loop-row-test.false, c.loop-row.auto.row-end) in
-    subst (λ (m : ℕ). Writes (IsIn destination.stride destination.top m destination.left len) (in_rect (chunk_byte bytes c.args.self.now.order p c.args.self.now.color c.args.self.now.index) destination.stride destination.top destination.left) (g.W.RowSink.bytes c.args.buf.now) (g.W.RowSink.bytes c.loop-row.buf)) e c.loop-row.invariant.written
+    subst (λ (m : ℕ). Writes (IsIn destination.stride destination.top m destination.left len) (in_rect (chunk_byte bytes c.args.self.now.format.order p c.args.self.now.format.color c.args.self.now.index) destination.stride destination.top destination.left) (g.W.RowSink.bytes c.args.buf.now) (g.W.RowSink.bytes c.loop-row.buf)) e c.loop-row.invariant.written
 
-pub returns-in_err-rest-clause-asked : goal.returns-in_err-rest-clause-asked
-returns-in_err-rest-clause-asked g c =
-    let p = view.page c.args.self.now.page.now in
-    let color = c.args.self.now.color in
+pub returns-in_err-read_row-clause-asked : goal.returns-in_err-read_row-clause-asked
+returns-in_err-read_row-clause-asked g c =
+    let p = view.page c.args.self.now.format.page.now in
+    let color = c.args.self.now.format.color in
     let k = c.args.self.now.index in
     let h = c.args.self.now.high in
     let w = c.args.self.now.wide in
     let n : c.row_len-len.result ≡ row_bytes p color (rect p k).width = c.row_len-len.ensures.value ∙ ap (row_bytes p color) w in
     let answered = err_from_is_err_and c.from_residual.result c.from_residual.ensures.1 in
-    rw (answered.1, answered.2) (row_asked p color k c.loop-row.row c.row_len-len.result c.loop-row.position (omega (arith, h, c.loop-row-test.true)) n c.loop-row.invariant.stands _ (g.R.Source.told c.args.source.now) (g.R.Source.told c.loop-row.source) c.loop-row.invariant.same c.in_err-rest.ensures.asked)
+    rw (answered.1, answered.2) (row_asked p color k c.loop-row.row c.row_len-len.result c.loop-row.cursor (omega (arith, h, c.loop-row-test.true)) n c.loop-row.invariant.stands _ (g.R.Source.told c.args.source.now) (g.R.Source.told c.loop-row.source) c.loop-row.invariant.same c.in_err-read_row.ensures.asked)
 
-pub returns-in_err-position-clause-asked : goal.returns-in_err-position-clause-asked
-returns-in_err-position-clause-asked g c =
+pub returns-in_err-pass-clause-asked : goal.returns-in_err-pass-clause-asked
+returns-in_err-pass-clause-asked g c =
     let bytes = (g.R.Source.told c.args.source.now).bytes in
-    let p = view.page c.args.self.now.page.now in
-    let color = c.args.self.now.color in
+    let p = view.page c.args.self.now.format.page.now in
+    let color = c.args.self.now.format.color in
     let k = c.args.self.now.index in
     let row = c.loop-row.row in
     let len = row_bytes p color (rect p k).width in
@@ -168,14 +168,14 @@ returns-in_err-position-clause-asked g c =
     let w = c.args.self.now.wide in
     let n : c.row_len-len.result ≡ len = c.row_len-len.ensures.value ∙ ap (row_bytes p color) w in
     let rl : row < (rect p k).height = omega (arith, h, c.loop-row-test.true) in
-    let listed : k < all_chunks p = omega (arith, c.requires.listed, c.args.self.now.page.now.counted) in
+    let listed : k < all_chunks p = omega (arith, c.requires.listed, c.args.self.now.format.page.now.counted) in
     let stored = c.requires.read.stored in
     let wide : 0 < (rect p k).width = omega (arith, c.args.self.now.some_columns, w) in
-    let some : 0 < len = row_some p color (rect p k).width wide c.args.self.now.page.now.deep stored.shows in
-    let within = need_within bytes c.args.self.now.order p color k row 0 (sides_of c.args.self.now.page.now) stored listed rl some in
-    let between : row + 1 < (rect p k).height → c.gap_behind-behind.result ≡ stored_row_bytes p - needed_of_row p color len = λ z.
-    c.gap_behind-behind.ensures.between (omega (arith, z, h)) ∙ (c.gap-gap.ensures ∙ ap (λ (m : ℕ). stored_row_bytes p - needed_of_row p color m) n) in
-    let last : row + 1 ≡ (rect p k).height → c.gap_behind-behind.result ≡ 0 = λ z. c.gap_behind-behind.ensures.last (omega (arith, z, h)) in
-    let answered = err_from_is_err_and c.from_residual-in_err-position.result c.from_residual-in_err-position.ensures.1 in
-    rw (answered.1, answered.2) (behind_asked p color k row c.row_len-len.result c.loop-row.position rl n c.loop-row.invariant.stands c.in_ok-rest.rest c.gap_behind-behind.result within c.in_ok-rest.ensures.moves between last
-    _ (g.R.Source.told c.args.source.now) (g.R.Source.told c.read_row.new.source) (c.in_ok-rest.ensures.kept.told ∙ c.loop-row.invariant.same) c.in_err-position.ensures.asked)
+    let some : 0 < len = row_some p color (rect p k).width wide c.args.self.now.format.page.now.deep stored.shows in
+    let within = need_within bytes c.args.self.now.format.order p color k row 0 (sides_of c.args.self.now.format.page.now) stored listed rl some in
+    let between : row + 1 < (rect p k).height → c.gap_behind.result ≡ stored_row_bytes p - needed_of_row p color len = λ z.
+    c.gap_behind.ensures.between (omega (arith, z, h)) ∙ (c.gap-gap.ensures ∙ ap (λ (m : ℕ). stored_row_bytes p - needed_of_row p color m) n) in
+    let last : row + 1 ≡ (rect p k).height → c.gap_behind.result ≡ 0 = λ z. c.gap_behind.ensures.last (omega (arith, z, h)) in
+    let answered = err_from_is_err_and c.from_residual-in_err-pass.result c.from_residual-in_err-pass.ensures.1 in
+    rw (answered.1, answered.2) (behind_asked p color k row c.row_len-len.result c.loop-row.cursor rl n c.loop-row.invariant.stands c.read_row.new.cursor c.gap_behind.result within c.in_ok-read_row.ensures.moves between last
+    _ (g.R.Source.told c.args.source.now) (g.R.Source.told c.read_row.new.source) (c.in_ok-read_row.ensures.kept.told ∙ c.loop-row.invariant.same) c.in_err-pass.ensures.asked)

@@ -12,14 +12,14 @@ use Rattle.tiff_page.proofs.chunk_rows.ChunkReader.read_each.Given as goal
 abbrev pub invariant-loop-row : goal.invariant-loop-row
 invariant-loop-row g l =
     let bytes = (g.R.Source.told l.fn.source).bytes in
-    let p = view.page l.self.page.now in
-    let stored = chunk_data bytes l.self.order p l.self.index in
-    let len = row_bytes p l.self.color (rect p l.self.index).width in
+    let p = view.page l.self.format.page.now in
+    let stored = chunk_data bytes l.self.format.order p l.self.index in
+    let len = row_bytes p l.self.format.color (rect p l.self.index).width in
     record {
       same : g.R.Source.told l.source ≡ g.R.Source.told l.fn.source;
       count : g.R.Source.failures l.source ≡ g.R.Source.failures l.fn.source;
-      stands : StandsAt p l.self.index (l.row * stored_row_bytes p) l.position;
-      position : l.row < (rect p l.self.index).height → bytes_left bytes l.position ≡ drop (l.row * stored_row_bytes p) stored;
-      enough : 0 < l.row → (l.row - 1) * stored_row_bytes p + needed_of_row p l.self.color len ≤ length stored;
-      written : Writes (IsIn l.destination.stride l.destination.top l.row l.destination.left len) (in_rect (chunk_byte bytes l.self.order p l.self.color l.self.index) l.destination.stride l.destination.top l.destination.left) (g.W.RowSink.bytes l.fn.buf) (g.W.RowSink.bytes l.buf);
+      stands : StandsAt p l.self.index (l.row * stored_row_bytes p) l.cursor;
+      position : l.row < (rect p l.self.index).height → bytes_left bytes l.cursor ≡ drop (l.row * stored_row_bytes p) stored;
+      enough : 0 < l.row → (l.row - 1) * stored_row_bytes p + needed_of_row p l.self.format.color len ≤ length stored;
+      written : Writes (IsIn l.destination.stride l.destination.top l.row l.destination.left len) (in_rect (chunk_byte bytes l.self.format.order p l.self.format.color l.self.index) l.destination.stride l.destination.top l.destination.left) (g.W.RowSink.bytes l.fn.buf) (g.W.RowSink.bytes l.buf);
     }

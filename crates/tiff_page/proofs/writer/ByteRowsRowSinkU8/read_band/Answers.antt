@@ -5,4 +5,4 @@ use Rattle.tiff_page.proofs.writer.ByteRowsRowSinkU8.read_band.Goals as goal
 
 pub returns-clause-asked : goal.returns-clause-asked
 returns-clause-asked g c =
-    asked_as c.args.next.position _ _ (g.R.Source.told c.args.source.now) _ (grind (arith, common_steps)) c.read_finished.ensures.asked
+    asked_as c.args.cursor.now _ _ (g.R.Source.told c.args.source.now) _ (grind (arith, common_steps)) c.read_finished.ensures.asked

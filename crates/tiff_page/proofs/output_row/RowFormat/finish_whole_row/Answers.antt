@@ -1,7 +1,7 @@
 use Rattle.std.proofs.Common.{◌≡◌, ◌∙◌, ◌*◌, length, arith, sym}
 use Rattle.tiff_page.specs.PageView as view
 use Rattle.tiff_page.proofs.OutputRow.{whole, whole_deep, whole_handed, shown_bytes, stored_fill}
-use Rattle.tiff_page.proofs.chunk_rows.ChunkReader.finish_whole_row.Goals as goal
+use Rattle.tiff_page.proofs.output_row.RowFormat.finish_whole_row.Goals as goal
 
 pub keep_pixels-requires-clause-row : goal.keep_pixels-requires-clause-row
 keep_pixels-requires-clause-row c =
