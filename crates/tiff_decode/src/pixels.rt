@@ -14,7 +14,7 @@ use crate::result::DecodingResult;
 use tiff_base::error::TiffResult;
 use tiff_base::io::Source;
 use tiff_page::layout::{BufferLayoutPreference, TiffCodingUnit};
-use tiff_page::pixels;
+use tiff_page::read_chunks::PageReader;
 
 /// These calls leave the decoder unchanged, also after an error. Each call returns the first of
 /// these errors: those of the layout, as `image_buffer_layout` and `image_chunk_buffer_layout` list
@@ -39,9 +39,13 @@ impl<R: Source> Decoder<R> {
             result }
         ensures asked { AsksOnly (ImageReadable (source_of self.old) self.old.state.page (λ l. 1)) result }
     {
-        let (alloc, order) = (self.alloc, self.tags.order);
-        let source = &mut self.tags.source;
-        let samples = pixels::read_image(alloc, source, order, &self.page, &self.tags.limits)?;
+        let reader = PageReader {
+            alloc: self.alloc,
+            order: self.tags.order,
+            page: &self.page,
+            limits: &self.tags.limits,
+        };
+        let samples = reader.read_image(&mut self.tags.source)?;
         Ok(DecodingResult::of(samples))
     }
 
@@ -64,15 +68,13 @@ impl<R: Source> Decoder<R> {
             (ImageReadable (source_of self.old) self.old.state.page
             (λ l. planes_within self.old.state.page self.old.state.limits l)) result }
     {
-        let (alloc, order) = (self.alloc, self.tags.order);
-        let source = &mut self.tags.source;
-        let (layout, read) = pixels::read_image_to_buffer(
-            alloc,
-            source,
-            order,
-            &self.page,
-            &self.tags.limits,
-        )?;
+        let reader = PageReader {
+            alloc: self.alloc,
+            order: self.tags.order,
+            page: &self.page,
+            limits: &self.tags.limits,
+        };
+        let (layout, read) = reader.read_image_to_buffer(&mut self.tags.source)?;
         *samples = DecodingResult::of(read);
         Ok(layout)
     }
@@ -90,9 +92,13 @@ impl<R: Source> Decoder<R> {
             (ImageReadable (source_of self.old) self.old.state.page
             (λ l. planes_used self.old.state.page l (length buffer.old))) result }
     {
-        let (alloc, order) = (self.alloc, self.tags.order);
-        let source = &mut self.tags.source;
-        pixels::read_image_bytes(alloc, source, order, &self.page, &self.tags.limits, buffer)
+        let reader = PageReader {
+            alloc: self.alloc,
+            order: self.tags.order,
+            page: &self.page,
+            limits: &self.tags.limits,
+        };
+        reader.read_image_bytes(&mut self.tags.source, buffer)
     }
 
     /// Reads the samples of a chunk in one plane, cropped to the image, row by row. Returns
@@ -107,9 +113,13 @@ impl<R: Source> Decoder<R> {
         ensures asked { AsksOnly
             (ChunksReadable (source_of self.old) self.old.state.page chunk_index (λ l. 1)) result }
     {
-        let (alloc, order) = (self.alloc, self.tags.order);
-        let (source, limits) = (&mut self.tags.source, &self.tags.limits);
-        let samples = pixels::read_chunk(alloc, source, order, &self.page, limits, chunk_index)?;
+        let reader = PageReader {
+            alloc: self.alloc,
+            order: self.tags.order,
+            page: &self.page,
+            limits: &self.tags.limits,
+        };
+        let samples = reader.read_chunk(&mut self.tags.source, chunk_index)?;
         Ok(DecodingResult::of(samples))
     }
 
@@ -125,17 +135,13 @@ impl<R: Source> Decoder<R> {
         ensures asked { AsksOnly
             (ChunksReadable (source_of self.old) self.old.state.page chunk_index (λ l. 1)) result }
     {
-        let (alloc, order) = (self.alloc, self.tags.order);
-        let (source, limits) = (&mut self.tags.source, &self.tags.limits);
-        pixels::read_chunk_bytes(
-            alloc,
-            source,
-            order,
-            &self.page,
-            limits,
-            chunk_index,
-            buffer,
-        )
+        let reader = PageReader {
+            alloc: self.alloc,
+            order: self.tags.order,
+            page: &self.page,
+            limits: &self.tags.limits,
+        };
+        reader.read_chunk_bytes(&mut self.tags.source, chunk_index, buffer)
     }
 
     /// Reads the samples of a chunk into `buffer`, with rows `output_width` bytes apart and zeros
@@ -160,17 +166,13 @@ impl<R: Source> Decoder<R> {
         ensures asked { AsksOnly
             (ChunksReadable (source_of self.old) self.old.state.page chunk_index (λ l. 1)) result }
     {
-        let (alloc, order) = (self.alloc, self.tags.order);
-        let (source, limits) = (&mut self.tags.source, &self.tags.limits);
-        let read = pixels::read_chunk_to_buffer(
-            alloc,
-            source,
-            order,
-            &self.page,
-            limits,
-            chunk_index,
-            output_width,
-        )?;
+        let reader = PageReader {
+            alloc: self.alloc,
+            order: self.tags.order,
+            page: &self.page,
+            limits: &self.tags.limits,
+        };
+        let read = reader.read_chunk_to_buffer(&mut self.tags.source, chunk_index, output_width)?;
         *buffer = DecodingResult::of(read);
         Ok(())
     }
@@ -195,8 +197,12 @@ impl<R: Source> Decoder<R> {
             (ChunksReadable (source_of self.old) self.old.state.page slice.0
             (λ l. planes_used self.old.state.page l (length buffer.old))) result }
     {
-        let (alloc, order) = (self.alloc, self.tags.order);
-        let (source, limits) = (&mut self.tags.source, &self.tags.limits);
-        pixels::read_coding_unit_bytes(alloc, source, order, &self.page, limits, slice.0, buffer)
+        let reader = PageReader {
+            alloc: self.alloc,
+            order: self.tags.order,
+            page: &self.page,
+            limits: &self.tags.limits,
+        };
+        reader.read_coding_unit_bytes(&mut self.tags.source, slice.0, buffer)
     }
 }

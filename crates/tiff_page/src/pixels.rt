@@ -41,7 +41,6 @@ use std::alloc::Global;
 use tiff_base::color::ColorType;
 use tiff_base::error::{TiffResult, UsageError};
 use tiff_base::io::Source;
-use tiff_base::tags::ByteOrder;
 use tiff_ifd::limits::Limits;
 
 // Returns `InsufficientOutputBufferSize` if a slice has no room for one plane.
@@ -367,250 +366,205 @@ impl PageReader<'_> {
                 .map(Samples::I64),
         }
     }
-}
 
-/// Returns the samples of an image, row by row; of a planar image, those of its first plane.
-#[tactic(auto, using(crate::proofs::Planes::image_is_first_plane))]
-pub fn read_image<R: Source>(
-    alloc: Global,
-    source: &mut R,
-    order: ByteOrder,
-    page: &Page,
-    limits: &Limits,
-) -> TiffResult<Samples>
-    ensures kept { IsKept R.told R.failures result source.old source.new }
-    ensures memory { WantsAfter (image_early (R.told source.old).bytes (view.page page.now) limits.now) result }
-    ensures answer { Answers samples_as result
-        (image_of (R.told source.old).bytes order (view.page page.now) limits.now)
-        (R.failures source.old) (R.failures source.new) }
-    ensures asked { AsksOnly (ImageReadable (R.told source.old) (view.page page.now) (λ l. 1)) result }
-{
-    let reader = PageReader {
-        alloc,
-        order,
-        page,
-        limits,
-    };
-    let layout = planes_layout(page, alloc, page.width, page.height)?;
-    let request = ReadRequest::Image(layout, 1);
-    reader.read_samples(source, request, layout.plane_stride)
-}
+    /// Returns the samples of an image, row by row; of a planar image, those of its first plane.
+    #[tactic(auto, using(crate::proofs::Planes::image_is_first_plane))]
+    pub fn read_image<R: Source>(&self, source: &mut R) -> TiffResult<Samples>
+        ensures kept { IsKept R.told R.failures result source.old source.new }
+        ensures memory { WantsAfter
+            (image_early (R.told source.old).bytes (view.page self.now.page.now)
+            self.now.limits.now) result }
+        ensures answer { Answers samples_as result
+            (image_of (R.told source.old).bytes self.now.order (view.page self.now.page.now)
+            self.now.limits.now)
+            (R.failures source.old) (R.failures source.new) }
+        ensures asked { AsksOnly
+            (ImageReadable (R.told source.old) (view.page self.now.page.now) (λ l. 1)) result }
+    {
+        let page = self.page;
+        let layout = planes_layout(page, self.alloc, page.width, page.height)?;
+        let request = ReadRequest::Image(layout, 1);
+        self.read_samples(source, request, layout.plane_stride)
+    }
 
-/// Returns the samples of all planes of an image, with the layout of all planes. If all planes
-/// aren't within `decoding_buffer_size`, returns the samples of the first plane only.
-#[tactic(auto, unfolding(crate::specs::PixelCalls::read_image_to_buffer))]
-pub fn read_image_to_buffer<R: Source>(
-    alloc: Global,
-    source: &mut R,
-    order: ByteOrder,
-    page: &Page,
-    limits: &Limits,
-) -> TiffResult<(BufferLayoutPreference, Samples)>
-    ensures kept { IsKept R.told R.failures result source.old source.new }
-    ensures memory { WantsAfter (planes_early (R.told source.old).bytes (view.page page.now) limits.now) result }
-    ensures answer { Answers (λ r. (r.0, samples_as r.1)) result
-        (calls.read_image_to_buffer (R.told source.old).bytes order (view.page page.now) limits.now)
-        (R.failures source.old)
-        (R.failures source.new) }
-    ensures asked { AsksOnly
-        (ImageReadable (R.told source.old) (view.page page.now)
-        (λ l. calls.planes_within (view.page page.now) limits.now l)) result }
-{
-    let reader = PageReader {
-        alloc,
-        order,
-        page,
-        limits,
-    };
-    let layout = planes_layout(page, alloc, page.width, page.height)?;
-    let preference = all_planes(page, layout);
-    let planes = planes_within(page, limits, layout);
-    let len = layout.plane_stride * usize::from(planes);
-    let request = ReadRequest::Image(layout, planes);
-    let samples = reader.read_samples(source, request, len)?;
-    Ok((preference, samples))
-}
+    /// Returns the samples of all planes of an image, with the layout of all planes. If all planes
+    /// aren't within `decoding_buffer_size`, returns the samples of the first plane only.
+    #[tactic(auto, unfolding(crate::specs::PixelCalls::read_image_to_buffer))]
+    pub fn read_image_to_buffer<R: Source>(
+        &self,
+        source: &mut R,
+    ) -> TiffResult<(BufferLayoutPreference, Samples)>
+        ensures kept { IsKept R.told R.failures result source.old source.new }
+        ensures memory { WantsAfter
+            (planes_early (R.told source.old).bytes (view.page self.now.page.now)
+            self.now.limits.now) result }
+        ensures answer { Answers (λ r. (r.0, samples_as r.1)) result
+            (calls.read_image_to_buffer (R.told source.old).bytes self.now.order
+            (view.page self.now.page.now) self.now.limits.now)
+            (R.failures source.old)
+            (R.failures source.new) }
+        ensures asked { AsksOnly
+            (ImageReadable (R.told source.old) (view.page self.now.page.now)
+            (λ l. calls.planes_within (view.page self.now.page.now) self.now.limits.now l)) result }
+    {
+        let page = self.page;
+        let layout = planes_layout(page, self.alloc, page.width, page.height)?;
+        let preference = all_planes(page, layout);
+        let planes = planes_within(page, self.limits, layout);
+        let len = layout.plane_stride * usize::from(planes);
+        let request = ReadRequest::Image(layout, planes);
+        let samples = self.read_samples(source, request, len)?;
+        Ok((preference, samples))
+    }
 
-/// Reads an image into a slice: as many whole planes as the slice holds, one after another. The
-/// bytes after them stay unchanged. Returns `InsufficientOutputBufferSize` if the slice has fewer
-/// bytes than a plane.
-#[tactic(auto, using(crate::proofs::Wants::may_want), unfolding(crate::specs::PixelCalls::read_image_bytes))]
-pub fn read_image_bytes<R: Source>(
-    alloc: Global,
-    source: &mut R,
-    order: ByteOrder,
-    page: &Page,
-    limits: &Limits,
-    buf: &mut [u8],
-) -> TiffResult<()>
-    ensures kept { IsKept R.told R.failures result source.old source.new }
-    ensures memory { WantsAfter (image_bytes_early (view.page page.now) limits.now (length buf.old)) result }
-    ensures answer { Answers (λ _. buf.new) result
-        (calls.read_image_bytes (R.told source.old).bytes order (view.page page.now)
-        limits.now buf.old) (R.failures source.old) (R.failures source.new) }
-    ensures asked { AsksOnly
-        (ImageReadable (R.told source.old) (view.page page.now)
-        (λ l. calls.planes_used (view.page page.now) l (length buf.old))) result }
-{
-    let reader = PageReader {
-        alloc,
-        order,
-        page,
-        limits,
-    };
-    let layout = planes_layout(page, alloc, page.width, page.height)?;
-    room_fault(buf.len(), layout.plane_stride)?;
-    let planes = planes_used(page, layout, buf.len());
-    form_fault(page, limits, layout.color, 0)?;
-    let part = ImagePlanes { layout, planes };
-    reader.fill_image(source, part, &mut ByteRows::new(alloc), buf)
-}
+    /// Reads an image into a slice: as many whole planes as the slice holds, one after another. The
+    /// bytes after them stay unchanged. Returns `InsufficientOutputBufferSize` if the slice has
+    /// fewer bytes than a plane.
+    #[tactic(auto, using(crate::proofs::Wants::may_want), unfolding(crate::specs::PixelCalls::read_image_bytes))]
+    pub fn read_image_bytes<R: Source>(&self, source: &mut R, buf: &mut [u8]) -> TiffResult<()>
+        ensures kept { IsKept R.told R.failures result source.old source.new }
+        ensures memory { WantsAfter
+            (image_bytes_early (view.page self.now.page.now) self.now.limits.now (length buf.old))
+            result }
+        ensures answer { Answers (λ _. buf.new) result
+            (calls.read_image_bytes (R.told source.old).bytes self.now.order
+            (view.page self.now.page.now) self.now.limits.now buf.old)
+            (R.failures source.old) (R.failures source.new) }
+        ensures asked { AsksOnly
+            (ImageReadable (R.told source.old) (view.page self.now.page.now)
+            (λ l. calls.planes_used (view.page self.now.page.now) l (length buf.old))) result }
+    {
+        let page = self.page;
+        let layout = planes_layout(page, self.alloc, page.width, page.height)?;
+        room_fault(buf.len(), layout.plane_stride)?;
+        let planes = planes_used(page, layout, buf.len());
+        form_fault(page, self.limits, layout.color, 0)?;
+        let part = ImagePlanes { layout, planes };
+        self.fill_image(source, part, &mut ByteRows::new(self.alloc), buf)
+    }
 
-/// Returns the samples of a chunk, in rows of its own width in the image. Returns
-/// `InconsistentSizesEncountered` if the index is past the list of chunks.
-#[tactic(auto, unfolding(crate::specs::PixelCalls::read_chunk))]
-pub fn read_chunk<R: Source>(
-    alloc: Global,
-    source: &mut R,
-    order: ByteOrder,
-    page: &Page,
-    limits: &Limits,
-    index: u32,
-) -> TiffResult<Samples>
-    ensures kept { IsKept R.told R.failures result source.old source.new }
-    ensures memory { WantsAfter (chunk_early (R.told source.old).bytes (view.page page.now) limits.now index)
-        result }
-    ensures answer { Answers samples_as result
-        (calls.read_chunk (R.told source.old).bytes order (view.page page.now) limits.now
-        index) (R.failures source.old) (R.failures source.new) }
-    ensures asked { AsksOnly (ChunksReadable (R.told source.old) (view.page page.now) index (λ l. 1)) result }
-{
-    let reader = PageReader {
-        alloc,
-        order,
-        page,
-        limits,
-    };
-    let layout = chunk_layout(page, alloc, index)?;
-    let request = ReadRequest::Chunk(layout.color, index, layout.row_bytes);
-    reader.read_samples(source, request, layout.plane_stride)
-}
+    /// Returns the samples of a chunk, in rows of its own width in the image. Returns
+    /// `InconsistentSizesEncountered` if the index is past the list of chunks.
+    #[tactic(auto, unfolding(crate::specs::PixelCalls::read_chunk))]
+    pub fn read_chunk<R: Source>(&self, source: &mut R, index: u32) -> TiffResult<Samples>
+        ensures kept { IsKept R.told R.failures result source.old source.new }
+        ensures memory { WantsAfter
+            (chunk_early (R.told source.old).bytes (view.page self.now.page.now)
+            self.now.limits.now index) result }
+        ensures answer { Answers samples_as result
+            (calls.read_chunk (R.told source.old).bytes self.now.order
+            (view.page self.now.page.now) self.now.limits.now index)
+            (R.failures source.old) (R.failures source.new) }
+        ensures asked { AsksOnly
+            (ChunksReadable (R.told source.old) (view.page self.now.page.now) index (λ l. 1))
+            result }
+    {
+        let layout = chunk_layout(self.page, self.alloc, index)?;
+        let request = ReadRequest::Chunk(layout.color, index, layout.row_bytes);
+        self.read_samples(source, request, layout.plane_stride)
+    }
 
-/// Reads a chunk into a slice, in rows of its own width in the image. The bytes after the chunk
-/// stay unchanged. Returns `InsufficientOutputBufferSize` if the slice has fewer bytes than the
-/// chunk, and `InconsistentSizesEncountered` if the index is past the list of chunks.
-#[tactic(auto, using(crate::proofs::Wants::may_want), unfolding(crate::specs::PixelCalls::read_chunk_bytes))]
-pub fn read_chunk_bytes<R: Source>(
-    alloc: Global,
-    source: &mut R,
-    order: ByteOrder,
-    page: &Page,
-    limits: &Limits,
-    index: u32,
-    buf: &mut [u8],
-) -> TiffResult<()>
-    ensures kept { IsKept R.told R.failures result source.old source.new }
-    ensures memory { WantsAfter (chunk_bytes_early (view.page page.now) limits.now index (length buf.old))
-        result }
-    ensures answer { Answers (λ _. buf.new) result
-        (calls.read_chunk_bytes (R.told source.old).bytes order (view.page page.now)
-        limits.now index buf.old) (R.failures source.old) (R.failures source.new) }
-    ensures asked { AsksOnly (ChunksReadable (R.told source.old) (view.page page.now) index (λ l. 1)) result }
-{
-    let reader = PageReader {
-        alloc,
-        order,
-        page,
-        limits,
-    };
-    let layout = chunk_layout(page, alloc, index)?;
-    room_fault(buf.len(), layout.plane_stride)?;
-    form_fault(page, limits, layout.color, index as usize)?;
-    let unit = UnitRequest {
-        color: layout.color,
-        index,
-        planes: 1,
-        stride: layout.row_bytes,
-    };
-    reader.fill_unit(source, unit, &mut ByteRows::new(alloc), buf)
-}
+    /// Reads a chunk into a slice, in rows of its own width in the image. The bytes after the chunk
+    /// stay unchanged. Returns `InsufficientOutputBufferSize` if the slice has fewer bytes than the
+    /// chunk, and `InconsistentSizesEncountered` if the index is past the list of chunks.
+    #[tactic(auto, using(crate::proofs::Wants::may_want), unfolding(crate::specs::PixelCalls::read_chunk_bytes))]
+    pub fn read_chunk_bytes<R: Source>(
+        &self,
+        source: &mut R,
+        index: u32,
+        buf: &mut [u8],
+    ) -> TiffResult<()>
+        ensures kept { IsKept R.told R.failures result source.old source.new }
+        ensures memory { WantsAfter
+            (chunk_bytes_early (view.page self.now.page.now) self.now.limits.now index
+            (length buf.old)) result }
+        ensures answer { Answers (λ _. buf.new) result
+            (calls.read_chunk_bytes (R.told source.old).bytes self.now.order
+            (view.page self.now.page.now) self.now.limits.now index buf.old)
+            (R.failures source.old) (R.failures source.new) }
+        ensures asked { AsksOnly
+            (ChunksReadable (R.told source.old) (view.page self.now.page.now) index (λ l. 1))
+            result }
+    {
+        let layout = chunk_layout(self.page, self.alloc, index)?;
+        room_fault(buf.len(), layout.plane_stride)?;
+        form_fault(self.page, self.limits, layout.color, index as usize)?;
+        let unit = UnitRequest {
+            color: layout.color,
+            index,
+            planes: 1,
+            stride: layout.row_bytes,
+        };
+        self.fill_unit(source, unit, &mut ByteRows::new(self.alloc), buf)
+    }
 
-/// Returns the samples of a chunk, with its rows `stride` bytes apart and zeros between them.
-/// Returns `InsufficientOutputRowStride` if the stride is below the number of bytes of a row;
-/// `LimitsExceeded` if the stored height of a chunk in such rows has 2^64 bytes or more;
-/// `InconsistentSizesEncountered` if the index is past the list of chunks.
-#[tactic(auto, unfolding(crate::specs::PixelCalls::read_chunk_to_buffer))]
-pub fn read_chunk_to_buffer<R: Source>(
-    alloc: Global,
-    source: &mut R,
-    order: ByteOrder,
-    page: &Page,
-    limits: &Limits,
-    index: u32,
-    stride: usize,
-) -> TiffResult<Samples>
-    ensures kept { IsKept R.told R.failures result source.old source.new }
-    ensures memory { WantsAfter
-        (strided_early (R.told source.old).bytes (view.page page.now) limits.now index stride)
-        result }
-    ensures answer { Answers samples_as result
-        (calls.read_chunk_to_buffer (R.told source.old).bytes order (view.page page.now)
-        limits.now index stride) (R.failures source.old) (R.failures source.new) }
-    ensures asked { AsksOnly (ChunksReadable (R.told source.old) (view.page page.now) index (λ l. 1)) result }
-{
-    let reader = PageReader {
-        alloc,
-        order,
-        page,
-        limits,
-    };
-    let layout = chunk_layout(page, alloc, index)?;
-    stride_fault(stride, layout.row_bytes)?;
-    checked_byte_count(stride, page.chunk_height as usize)?;
-    let len = rows_len(page, index, stride);
-    let request = ReadRequest::Chunk(layout.color, index, stride);
-    reader.read_samples(source, request, len)
-}
+    /// Returns the samples of a chunk, with its rows `stride` bytes apart and zeros between them.
+    /// Returns `InsufficientOutputRowStride` if the stride is below the number of bytes of a row;
+    /// `LimitsExceeded` if the stored height of a chunk in such rows has 2^64 bytes or more;
+    /// `InconsistentSizesEncountered` if the index is past the list of chunks.
+    #[tactic(auto, unfolding(crate::specs::PixelCalls::read_chunk_to_buffer))]
+    pub fn read_chunk_to_buffer<R: Source>(
+        &self,
+        source: &mut R,
+        index: u32,
+        stride: usize,
+    ) -> TiffResult<Samples>
+        ensures kept { IsKept R.told R.failures result source.old source.new }
+        ensures memory { WantsAfter
+            (strided_early (R.told source.old).bytes (view.page self.now.page.now)
+            self.now.limits.now index stride) result }
+        ensures answer { Answers samples_as result
+            (calls.read_chunk_to_buffer (R.told source.old).bytes self.now.order
+            (view.page self.now.page.now) self.now.limits.now index stride)
+            (R.failures source.old) (R.failures source.new) }
+        ensures asked { AsksOnly
+            (ChunksReadable (R.told source.old) (view.page self.now.page.now) index (λ l. 1))
+            result }
+    {
+        let page = self.page;
+        let layout = chunk_layout(page, self.alloc, index)?;
+        stride_fault(stride, layout.row_bytes)?;
+        checked_byte_count(stride, page.chunk_height as usize)?;
+        let len = rows_len(page, index, stride);
+        let request = ReadRequest::Chunk(layout.color, index, stride);
+        self.read_samples(source, request, len)
+    }
 
-/// Reads the chunk of each plane of a coding unit into a slice: as many whole chunks as the slice
-/// holds, one after another. The bytes after them stay unchanged. Returns
-/// `InvalidCodingUnit(unit, chunks)` if the unit isn't below the number of chunks of a plane, and
-/// `InsufficientOutputBufferSize` if the slice has fewer bytes than a chunk.
-#[tactic(auto, using(crate::proofs::Wants::may_want), unfolding(crate::specs::PixelCalls::read_coding_unit_bytes))]
-pub fn read_coding_unit_bytes<R: Source>(
-    alloc: Global,
-    source: &mut R,
-    order: ByteOrder,
-    page: &Page,
-    limits: &Limits,
-    unit: u32,
-    buf: &mut [u8],
-) -> TiffResult<()>
-    ensures kept { IsKept R.told R.failures result source.old source.new }
-    ensures memory { WantsAfter (unit_bytes_early (view.page page.now) limits.now unit (length buf.old)) result }
-    ensures answer { Answers (λ _. buf.new) result
-        (calls.read_coding_unit_bytes (R.told source.old).bytes order (view.page page.now)
-        limits.now unit buf.old) (R.failures source.old) (R.failures source.new) }
-    ensures asked { AsksOnly
-        (ChunksReadable (R.told source.old) (view.page page.now) unit
-        (λ l. calls.planes_used (view.page page.now) l (length buf.old))) result }
-{
-    let reader = PageReader {
-        alloc,
-        order,
-        page,
-        limits,
-    };
-    let layout = chunk_layout(page, alloc, unit)?;
-    unit_fault(page, unit)?;
-    room_fault(buf.len(), layout.plane_stride)?;
-    let planes = planes_used(page, layout, buf.len());
-    form_fault(page, limits, layout.color, unit as usize)?;
-    let unit = UnitRequest {
-        color: layout.color,
-        index: unit,
-        planes,
-        stride: layout.row_bytes,
-    };
-    reader.fill_unit(source, unit, &mut ByteRows::new(alloc), buf)
+    /// Reads the chunk of each plane of a coding unit into a slice: as many whole chunks as the
+    /// slice holds, one after another. The bytes after them stay unchanged. Returns
+    /// `InvalidCodingUnit(unit, chunks)` if the unit isn't below the number of chunks of a plane,
+    /// and `InsufficientOutputBufferSize` if the slice has fewer bytes than a chunk.
+    #[tactic(auto, using(crate::proofs::Wants::may_want), unfolding(crate::specs::PixelCalls::read_coding_unit_bytes))]
+    pub fn read_coding_unit_bytes<R: Source>(
+        &self,
+        source: &mut R,
+        unit: u32,
+        buf: &mut [u8],
+    ) -> TiffResult<()>
+        ensures kept { IsKept R.told R.failures result source.old source.new }
+        ensures memory { WantsAfter
+            (unit_bytes_early (view.page self.now.page.now) self.now.limits.now unit
+            (length buf.old)) result }
+        ensures answer { Answers (λ _. buf.new) result
+            (calls.read_coding_unit_bytes (R.told source.old).bytes self.now.order
+            (view.page self.now.page.now) self.now.limits.now unit buf.old)
+            (R.failures source.old) (R.failures source.new) }
+        ensures asked { AsksOnly
+            (ChunksReadable (R.told source.old) (view.page self.now.page.now) unit
+            (λ l. calls.planes_used (view.page self.now.page.now) l (length buf.old))) result }
+    {
+        let page = self.page;
+        let layout = chunk_layout(page, self.alloc, unit)?;
+        unit_fault(page, unit)?;
+        room_fault(buf.len(), layout.plane_stride)?;
+        let planes = planes_used(page, layout, buf.len());
+        form_fault(page, self.limits, layout.color, unit as usize)?;
+        let unit = UnitRequest {
+            color: layout.color,
+            index: unit,
+            planes,
+            stride: layout.row_bytes,
+        };
+        self.fill_unit(source, unit, &mut ByteRows::new(self.alloc), buf)
+    }
 }

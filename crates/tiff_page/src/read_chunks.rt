@@ -27,10 +27,10 @@ use tiff_ifd::limits::Limits;
 /// Reads the pixels of a page.
 #[derive(Clone, Copy)]
 pub struct PageReader<'a> {
-    pub(crate) alloc: Global,
-    pub(crate) order: ByteOrder,
-    pub(crate) page: &'a Page,
-    pub(crate) limits: &'a Limits,
+    pub alloc: Global,
+    pub order: ByteOrder,
+    pub page: &'a Page,
+    pub limits: &'a Limits,
 }
 
 /// A number of planes of an image, with the layout of a plane.

@@ -10,7 +10,7 @@ use tiff_ifd::decode::read_directory;
 use tiff_ifd::header::read_header;
 use tiff_ifd::limits::Limits;
 use tiff_ifd::value_reader::ValueReader;
-use tiff_page::pixels::read_image;
+use tiff_page::read_chunks::PageReader;
 use tiff_page::read_page::read_page;
 
 // A page of four by two gray pixels in a strip, which lists twice the bytes that its rows need.
@@ -62,7 +62,13 @@ fn reached(alloc: Global, file: &[u8]) -> TiffResult<String> {
     };
     let page = read_page(&mut tags, alloc)?;
     let before = tags.source.furthest();
-    let image = read_image(alloc, &mut tags.source, header.order, &page, &tags.limits)?;
+    let reader = PageReader {
+        alloc,
+        order: header.order,
+        page: &page,
+        limits: &tags.limits,
+    };
+    let image = reader.read_image(&mut tags.source)?;
     let after = tags.source.furthest();
     Ok(format!(in alloc; "{before} {after} {image:?}")?)
 }
