@@ -16,8 +16,7 @@ use tiff_base::directory::{Directory, Entry};
 use tiff_base::error::{TiffError, TiffFormatError, TiffResult};
 use tiff_base::io::Source;
 use tiff_base::tags::{Bits32, Bits64, Tag};
-use tiff_ifd::read_bytes::{read_field_bytes, read_part};
-use tiff_ifd::read_value::find_value;
+use tiff_ifd::field_reader::FieldReader;
 use tiff_ifd::value::Value;
 use tiff_value::buffer::ValueBuffer;
 
@@ -125,15 +124,13 @@ impl<R: Source> Decoder<R> {
     {
         let tags = &mut self.tags;
         let directory = chosen(&tags.directory, other);
-        find_value(
-            self.alloc,
-            &mut tags.source,
-            tags.kind,
-            tags.order,
-            &tags.limits,
-            directory,
-            tag,
-        )
+        let fields = FieldReader {
+            alloc: self.alloc,
+            kind: tags.kind,
+            order: tags.order,
+            limits: &tags.limits,
+        };
+        fields.find_value(&mut tags.source, directory, tag)
     }
 
     // The page's directory, or another directory.
@@ -180,14 +177,13 @@ impl<R: Source> Decoder<R> {
         };
         let alloc = self.alloc;
         let tags = &mut self.tags;
-        match read_field_bytes(
+        let fields = FieldReader {
             alloc,
-            &mut tags.source,
-            tags.kind,
-            tags.order,
-            &tags.limits,
-            &entry,
-        ) {
+            kind: tags.kind,
+            order: tags.order,
+            limits: &tags.limits,
+        };
+        match fields.read_field_bytes(&mut tags.source, &entry) {
             Ok(bytes) => {
                 *buf = ValueBuffer::from_parts(tags.order, entry.field_type(), bytes);
                 return Ok(Some(entry));
@@ -222,7 +218,13 @@ impl<R: Source> Decoder<R> {
             return Ok(None);
         };
         let tags = &mut self.tags;
-        let n = read_part(&mut tags.source, tags.kind, tags.order, &entry, at, buf)?;
+        let fields = FieldReader {
+            alloc: self.alloc,
+            kind: tags.kind,
+            order: tags.order,
+            limits: &tags.limits,
+        };
+        let n = fields.read_part(&mut tags.source, &entry, at, buf)?;
         Ok(Some(n))
     }
 

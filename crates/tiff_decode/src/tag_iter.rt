@@ -12,13 +12,11 @@ ghost use Rattle.tiff_decode.specs.Step.{ItemIs, Items};
 
 use crate::decoder::Decoder;
 use crate::ifd_decoder::{IfdDecoder, chosen};
-use std::alloc::Global;
 use tiff_base::directory::{Directory, Entry};
 use tiff_base::error::TiffResult;
 use tiff_base::io::Source;
-use tiff_base::tags::{ByteOrder, FileKind, Tag};
-use tiff_ifd::limits::Limits;
-use tiff_ifd::read_value::read_value;
+use tiff_base::tags::Tag;
+use tiff_ifd::field_reader::FieldReader;
 use tiff_ifd::value::Value;
 
 // The field after a tag number, or the first field, with its tag number.
@@ -38,20 +36,17 @@ fn next_field(directory: &Directory, last: Option<u16>) -> Option<(u16, &Entry)>
 // Reads the value of a field, and returns it with the tag.
 #[tactic(auto, using(crate::proofs::Items::item_refused))]
 fn read_item<R: Source>(
-    alloc: Global,
+    fields: &FieldReader<'_>,
     source: &mut R,
-    kind: FileKind,
-    order: ByteOrder,
-    limits: &Limits,
     number: u16,
     entry: &Entry,
 ) -> TiffResult<(Tag, Value)>
     ensures kept { IsKept R.told R.failures result source.old source.new }
-    ensures item { ItemIs (item_of kind order (R.told source.old).bytes limits.now (number, entry.now))
-        result (R.failures source.old)
+    ensures item { ItemIs (item_of fields.now.kind fields.now.order (R.told source.old).bytes
+        fields.now.limits.now (number, entry.now)) result (R.failures source.old)
         (R.failures source.new) }
 {
-    let value = read_value(alloc, source, kind, order, limits, entry)?;
+    let value = fields.read_value(source, entry)?;
     Ok((Tag::from_u16_exhaustive(number), value))
 }
 
@@ -86,15 +81,13 @@ impl<R: Source> Decoder<R> {
             return None;
         };
         *last = Some(number);
-        Some(read_item(
+        let fields = FieldReader {
             alloc,
-            &mut tags.source,
-            tags.kind,
-            tags.order,
-            &tags.limits,
-            number,
-            entry,
-        ))
+            kind: tags.kind,
+            order: tags.order,
+            limits: &tags.limits,
+        };
+        Some(read_item(&fields, &mut tags.source, number, entry))
     }
 
     // Reads all tags of the page with their values. An item is a tag with its value, or the error

@@ -137,29 +137,37 @@ fn add(entries: &mut Vec<(u16, Entry)>, entry: Option<(u16, Entry)>) -> Result<(
     Ok(())
 }
 
-// Reads `count` entries from an offset on. Returns the fields in file order, each with its tag
-// number, and the offset after the entries.
+// A table of entries: the offset of its first entry, and their number.
+#[derive(Clone, Copy)]
+struct EntryTable {
+    first: u64,
+    count: u64,
+}
+
+// Reads the entries of a table. Returns the fields in file order, each with its tag number, and the
+// offset after the entries.
 #[tactic(auto, using(crate::proofs::Entries::no_entries, crate::proofs::Entries::read_there, crate::proofs::Entries::entries_more))]
 fn read_entries<R: Source>(
     alloc: Global,
     source: &mut R,
-    first: u64,
-    count: u64,
+    table: EntryTable,
     kind: FileKind,
     order: ByteOrder,
 ) -> TiffResult<(Vec<(u16, Entry)>, u64)>
     ensures kept { IsKept R.told R.failures result source.old source.new }
     ensures fields { IfOk result
-        (λ r. r.0.items ≡ entries_from kind order (R.told source.old).bytes first count) }
-    ensures offset { IfOk result (λ r. r.1 ≡ first + entry_len kind * count) }
+        (λ r. r.0.items
+        ≡ entries_from kind order (R.told source.old).bytes table.first table.count) }
+    ensures offset { IfOk result (λ r. r.1 ≡ table.first + entry_len kind * table.count) }
     ensures cut { IfErr result (λ e. IsCause (Unit {0}) (R.failures source.old < R.failures source.new) e
         ((e ≡ tiff.IoError io_kind.UnexpectedEof)
-        × (length (R.told source.old).bytes ≤ first + entry_len kind * count))) }
-    ensures asked { AsksOnly (AreReadable (R.told source.old) first (entry_len kind * count)) result }
+        × (length (R.told source.old).bytes ≤ table.first + entry_len kind * table.count))) }
+    ensures asked { AsksOnly
+        (AreReadable (R.told source.old) table.first (entry_len kind * table.count)) result }
 {
     let mut entries = Vec::new(alloc);
-    let mut offset = first;
-    for i in 0..count {
+    let mut offset = table.first;
+    for i in 0..table.count {
         let entry = read_entry_at(source, offset, kind, order)?;
         add(&mut entries, entry)?;
         offset += entry_len(kind) as u64;
@@ -184,7 +192,8 @@ pub fn read_directory<R: Source>(
 {
     let count = read_count_at(source, at, kind, order)?;
     let first = at + count_len(kind);
-    let (entries, offset) = read_entries(alloc, source, first, count, kind, order)?;
+    let table = EntryTable { first, count };
+    let (entries, offset) = read_entries(alloc, source, table, kind, order)?;
     let next = read_link_at(source, offset, kind, order)?;
     let mut directory = Directory::from_entries(entries)?;
     directory.link_to(next);

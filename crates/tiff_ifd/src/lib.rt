@@ -3,6 +3,7 @@
 
 pub mod cycles;
 pub mod decode;
+pub mod field_reader;
 pub mod header;
 pub mod laws;
 pub mod limits;

@@ -9,8 +9,7 @@ ghost use Rattle.tiff_base.specs.Directory.{offset_width};
 ghost use Rattle.tiff_ifd.specs.Stretches.{FieldReadable};
 ghost use Rattle.tiff_ifd.specs.TagQueries.{buffer_of, part_of_field};
 
-use crate::limits::Limits;
-use std::alloc::Global;
+use crate::field_reader::FieldReader;
 use tiff_base::directory::Entry;
 use tiff_base::error::{TiffError, TiffFormatError, TiffResult};
 use tiff_base::io::Source;
@@ -40,78 +39,84 @@ pub(crate) fn offset_in(kind: FileKind, order: ByteOrder, value: [u8; 8]) -> u64
     }
 }
 
-/// Reads the bytes of a field, in the file's byte order. Returns `LimitsExceeded` for 2^64 bytes or
-/// more, and for more bytes than `decoding_buffer_size`. Returns `IoError(UnexpectedEof)` for bytes
-/// past the end of the source. Allocates memory only after these checks.
-#[tactic(auto, unfolding(crate::specs::TagQueries::buffer_of, tiff_base::specs::FieldBytes::field_bytes))]
-pub fn read_field_bytes<R: Source>(
-    alloc: Global,
-    source: &mut R,
-    kind: FileKind,
-    order: ByteOrder,
-    limits: &Limits,
-    entry: &Entry,
-) -> TiffResult<Vec<u8>>
-    ensures kept { IsKept R.told R.failures result source.old source.new }
-    ensures answer { AnswersSparingly
-        (λ v. record { order = order; data_type = entry.now.field_type; bytes = v.items }) result
-        (buffer_of kind order (R.told source.old).bytes limits.now entry.now)
-        (R.failures source.old) (R.failures source.new) }
-    ensures asked { AsksOnly (FieldReadable (R.told source.old) kind order entry.now) result }
-{
-    let size = u64::from(entry.field_type().byte_len());
-    let Some(len) = entry.count().checked_mul(size) else {
-        return Err(TiffError::LimitsExceeded);
-    };
-    if len > limits.decoding_buffer_size as u64 {
-        return Err(TiffError::LimitsExceeded);
+impl FieldReader<'_> {
+    /// Reads the bytes of a field, in the file's byte order. Returns `LimitsExceeded` for 2^64
+    /// bytes or more, and for more bytes than `decoding_buffer_size`. Returns
+    /// `IoError(UnexpectedEof)` for bytes past the end of the source. Allocates memory only after
+    /// these checks.
+    #[tactic(auto, unfolding(crate::specs::TagQueries::buffer_of, tiff_base::specs::FieldBytes::field_bytes))]
+    pub fn read_field_bytes<R: Source>(&self, source: &mut R, entry: &Entry) -> TiffResult<Vec<u8>>
+        ensures kept { IsKept R.told R.failures result source.old source.new }
+        ensures answer { AnswersSparingly
+            (λ v. record {
+              order = self.now.order;
+              data_type = entry.now.field_type;
+              bytes = v.items;
+            }) result
+            (buffer_of self.now.kind self.now.order (R.told source.old).bytes self.now.limits.now
+            entry.now) (R.failures source.old) (R.failures source.new) }
+        ensures asked { AsksOnly
+            (FieldReadable (R.told source.old) self.now.kind self.now.order entry.now) result }
+    {
+        let size = u64::from(entry.field_type().byte_len());
+        let Some(len) = entry.count().checked_mul(size) else {
+            return Err(TiffError::LimitsExceeded);
+        };
+        if len > self.limits.decoding_buffer_size as u64 {
+            return Err(TiffError::LimitsExceeded);
+        }
+        let value = entry.value();
+        if len <= offset_len(self.kind) {
+            let mut bytes = vec![in self.alloc; 0u8; len as usize]?;
+            bytes.copy_from_slice(&value[..len as usize]);
+            return Ok(bytes);
+        }
+        read_bytes_at(
+            self.alloc,
+            source,
+            offset_in(self.kind, self.order, value),
+            len as usize,
+        )
     }
-    let value = entry.value();
-    if len <= offset_len(kind) {
-        let mut bytes = vec![in alloc; 0u8; len as usize]?;
-        bytes.copy_from_slice(&value[..len as usize]);
-        return Ok(bytes);
-    }
-    read_bytes_at(alloc, source, offset_in(kind, order, value), len as usize)
-}
 
-/// Copies the bytes of a field from the byte `at` on, as many as fit, and returns their number.
-/// Returns 0 where `at` is not below the number of bytes of the field. Returns `LimitsExceeded` for
-/// a field of 2^64 bytes or more, `InconsistentSizesEncountered` for an offset of 2^64 or more, and
-/// `IoError(UnexpectedEof)` where it copies bytes past the end of the source.
-#[tactic(auto, unfolding(crate::specs::TagQueries::part_of_field))]
-pub fn read_part<R: Source>(
-    source: &mut R,
-    kind: FileKind,
-    order: ByteOrder,
-    entry: &Entry,
-    at: u64,
-    buf: &mut [u8],
-) -> TiffResult<usize>
-    ensures kept { IsKept R.told R.failures result source.old source.new }
-    ensures answer { AnswersWithoutMemory (λ n. take n buf.new) result
-        (part_of_field kind order (R.told source.old).bytes entry.now (length buf.old) at)
-        (R.failures source.old) (R.failures source.new) }
-    ensures asked { AsksOnly (FieldReadable (R.told source.old) kind order entry.now) result }
-    ensures rest { IfOk result (λ n. (n ≤ length buf.old) × (drop n buf.new ≡ drop n buf.old)) }
-{
-    let size = u64::from(entry.field_type().byte_len());
-    let Some(len) = entry.count().checked_mul(size) else {
-        return Err(TiffError::LimitsExceeded);
-    };
-    if len <= at {
-        return Ok(0);
+    /// Copies the bytes of a field from the byte `at` on, as many as fit, and returns their number.
+    /// Returns 0 where `at` is not below the number of bytes of the field. Returns `LimitsExceeded`
+    /// for a field of 2^64 bytes or more, `InconsistentSizesEncountered` for an offset of 2^64 or
+    /// more, and `IoError(UnexpectedEof)` where it copies bytes past the end of the source.
+    #[tactic(auto, unfolding(crate::specs::TagQueries::part_of_field))]
+    pub fn read_part<R: Source>(
+        &self,
+        source: &mut R,
+        entry: &Entry,
+        at: u64,
+        buf: &mut [u8],
+    ) -> TiffResult<usize>
+        ensures kept { IsKept R.told R.failures result source.old source.new }
+        ensures answer { AnswersWithoutMemory (λ n. take n buf.new) result
+            (part_of_field self.now.kind self.now.order (R.told source.old).bytes entry.now
+            (length buf.old) at) (R.failures source.old) (R.failures source.new) }
+        ensures asked { AsksOnly
+            (FieldReadable (R.told source.old) self.now.kind self.now.order entry.now) result }
+        ensures rest { IfOk result (λ n. (n ≤ length buf.old) × (drop n buf.new ≡ drop n buf.old)) }
+    {
+        let size = u64::from(entry.field_type().byte_len());
+        let Some(len) = entry.count().checked_mul(size) else {
+            return Err(TiffError::LimitsExceeded);
+        };
+        if len <= at {
+            return Ok(0);
+        }
+        let n = std::cmp::min(buf.len() as u64, len - at) as usize;
+        let value = entry.value();
+        if len <= offset_len(self.kind) {
+            let first = at as usize;
+            buf[..n].copy_from_slice(&value[first..first + n]);
+            return Ok(n);
+        }
+        let Some(offset) = offset_in(self.kind, self.order, value).checked_add(at) else {
+            return Err(TiffError::FormatError(TiffFormatError::InconsistentSizesEncountered));
+        };
+        read_exact_at(source, offset, &mut buf[..n])?;
+        Ok(n)
     }
-    let n = std::cmp::min(buf.len() as u64, len - at) as usize;
-    let value = entry.value();
-    if len <= offset_len(kind) {
-        let first = at as usize;
-        buf[..n].copy_from_slice(&value[first..first + n]);
-        return Ok(n);
-    }
-    let Some(offset) = offset_in(kind, order, value).checked_add(at) else {
-        return Err(TiffError::FormatError(TiffFormatError::InconsistentSizesEncountered));
-    };
-    read_exact_at(source, offset, &mut buf[..n])?;
-    Ok(n)
 }

@@ -16,15 +16,15 @@ ghost use Rattle.tiff_ifd.specs.TagLookup.{AnswersFound, find, look_in};
 ghost use Rattle.tiff_ifd.specs.Stretches.{FieldReadable, TagReadable};
 ghost use Rattle.tiff_ifd.specs.Unsigned.{IsUnsigned, field_numbers, numbers_from, placed_numbers, unsigned_width};
 
-use crate::limits::Limits;
+use crate::field_reader::FieldReader;
 use crate::read_bytes::{offset_in, offset_len};
-use crate::read_value::{is_allowed, read_value, u16_of, u32_of, u64_of};
+use crate::read_value::{is_allowed, u16_of, u32_of, u64_of};
 use std::alloc::Global;
 use tiff_base::directory::{Directory, Entry};
 use tiff_base::error::{TiffError, TiffResult};
 use tiff_base::io::Source;
 use tiff_base::read::read_bytes_at;
-use tiff_base::tags::{ByteOrder, FileKind, Tag, Type};
+use tiff_base::tags::{ByteOrder, Tag, Type};
 
 // Whether the values of a type are unsigned numbers of two, four or eight bytes.
 fn is_unsigned(field_type: Type) -> bool
@@ -109,83 +109,81 @@ fn unsigned_from(
     Ok(all)
 }
 
-// Reads the numbers of a SHORT, LONG or LONG8 field whose values are outside the entry.
-#[tactic(auto, using(crate::proofs::Within::placed_within), unfolding(tiff_base::specs::FieldBytes::field_bytes))]
-fn read_placed<R: Source>(
-    alloc: Global,
-    source: &mut R,
-    kind: FileKind,
-    order: ByteOrder,
-    limits: &Limits,
-    entry: &Entry,
-    len: u64,
-) -> TiffResult<Vec<u64>>
-    requires numbers { IsUnsigned entry.now.field_type }
-    requires len { len ≡ field_len entry.now }
-    requires elsewhere { byte_len (offset_width kind) < len }
-    ensures kept { IsKept R.told R.failures result source.old source.new }
-    ensures answer { AnswersWithin (λ v. v.items) result
-        (placed_numbers kind order (R.told source.old).bytes limits.now entry.now)
-        (R.failures source.old) (R.failures source.new) }
-    ensures asked { AsksOnly (FieldReadable (R.told source.old) kind order entry.now) result }
-{
-    let (field_type, count) = (entry.field_type(), entry.count());
-    if !is_allowed(limits, field_type, count) {
-        return Err(TiffError::LimitsExceeded);
+impl FieldReader<'_> {
+    // Reads the numbers of a SHORT, LONG or LONG8 field whose values are outside the entry.
+    #[tactic(auto, using(crate::proofs::Within::placed_within), unfolding(tiff_base::specs::FieldBytes::field_bytes))]
+    fn read_placed<R: Source>(
+        &self,
+        source: &mut R,
+        entry: &Entry,
+        len: u64,
+    ) -> TiffResult<Vec<u64>>
+        requires numbers { IsUnsigned entry.now.field_type }
+        requires len { len ≡ field_len entry.now }
+        requires elsewhere { byte_len (offset_width self.now.kind) < len }
+        ensures kept { IsKept R.told R.failures result source.old source.new }
+        ensures answer { AnswersWithin (λ v. v.items) result
+            (placed_numbers self.now.kind self.now.order (R.told source.old).bytes
+            self.now.limits.now entry.now)
+            (R.failures source.old) (R.failures source.new) }
+        ensures asked { AsksOnly
+            (FieldReadable (R.told source.old) self.now.kind self.now.order entry.now) result }
+    {
+        let (field_type, count) = (entry.field_type(), entry.count());
+        if !is_allowed(self.limits, field_type, count) {
+            return Err(TiffError::LimitsExceeded);
+        }
+        let offset = offset_in(self.kind, self.order, entry.value());
+        let bytes = read_bytes_at(self.alloc, source, offset, len as usize)?;
+        unsigned_from(self.alloc, field_type, self.order, count, &bytes)
     }
-    let offset = offset_in(kind, order, entry.value());
-    let bytes = read_bytes_at(alloc, source, offset, len as usize)?;
-    unsigned_from(alloc, field_type, order, count, &bytes)
-}
 
-/// Reads the numbers of a field, converted as by `Value::into_u64_vec`. Returns the errors of
-/// `read_value` and of `Value::into_u64_vec`. Allocates memory only within the limits and the
-/// source.
-#[tactic(auto, using(crate::proofs::Unsigned::placed_converted, crate::proofs::Within::field_numbers_within, crate::proofs::Within::numbers_within), unfolding(crate::specs::FieldValue::field_value))]
-pub fn read_numbers<R: Source>(
-    alloc: Global,
-    source: &mut R,
-    kind: FileKind,
-    order: ByteOrder,
-    limits: &Limits,
-    entry: &Entry,
-) -> TiffResult<Vec<u64>>
-    ensures kept { IsKept R.told R.failures result source.old source.new }
-    ensures answer { AnswersWithin (λ v. v.items) result
-        (field_numbers kind order (R.told source.old).bytes limits.now entry.now)
-        (R.failures source.old) (R.failures source.new) }
-    ensures asked { AsksOnly (FieldReadable (R.told source.old) kind order entry.now) result }
-{
-    let field_type = entry.field_type();
-    let Some(len) = entry.count().checked_mul(u64::from(field_type.byte_len())) else {
-        return Err(TiffError::LimitsExceeded);
-    };
-    if is_unsigned(field_type) && len > offset_len(kind) {
-        return read_placed(alloc, source, kind, order, limits, entry, len);
+    /// Reads the numbers of a field, converted as by `Value::into_u64_vec`. Returns the errors of
+    /// `read_value` and of `Value::into_u64_vec`. Allocates memory only within the limits and the
+    /// source.
+    #[tactic(auto, using(crate::proofs::Unsigned::placed_converted, crate::proofs::Within::field_numbers_within, crate::proofs::Within::numbers_within), unfolding(crate::specs::FieldValue::field_value))]
+    pub fn read_numbers<R: Source>(&self, source: &mut R, entry: &Entry) -> TiffResult<Vec<u64>>
+        ensures kept { IsKept R.told R.failures result source.old source.new }
+        ensures answer { AnswersWithin (λ v. v.items) result
+            (field_numbers self.now.kind self.now.order (R.told source.old).bytes
+            self.now.limits.now entry.now)
+            (R.failures source.old) (R.failures source.new) }
+        ensures asked { AsksOnly
+            (FieldReadable (R.told source.old) self.now.kind self.now.order entry.now) result }
+    {
+        let field_type = entry.field_type();
+        let Some(len) = entry.count().checked_mul(u64::from(field_type.byte_len())) else {
+            return Err(TiffError::LimitsExceeded);
+        };
+        if is_unsigned(field_type) && len > offset_len(self.kind) {
+            return self.read_placed(source, entry, len);
+        }
+        self.read_value(source, entry)?.into_u64_vec(self.alloc)
     }
-    read_value(alloc, source, kind, order, limits, entry)?.into_u64_vec(alloc)
-}
 
-/// Reads the numbers of a tag. Returns `None` if the directory does not have the tag.
-#[tactic(auto, using(crate::proofs::Within::numbers_found), unfolding(crate::specs::TagLookup::look_in, crate::specs::TagLookup::find))]
-pub fn find_numbers<R: Source>(
-    alloc: Global,
-    source: &mut R,
-    kind: FileKind,
-    order: ByteOrder,
-    limits: &Limits,
-    directory: &Directory,
-    tag: Tag,
-) -> TiffResult<Option<Vec<u64>>>
-    ensures kept { IsKept R.told R.failures result source.old source.new }
-    ensures none { get directory.now.entries (tag_number tag) ≡ None → result ≡ Ok None }
-    ensures answer { let look = look_in kind order (R.told source.old).bytes limits.now directory.now.entries
-        in
-        AnswersFound (λ o. option_map (λ v. v.items) o) result (find into_u64_vec look tag) look tag (R.failures source.old) (R.failures source.new) }
-    ensures asked { AsksOnly (TagReadable (R.told source.old) kind order directory.now tag) result }
-{
-    match directory.get(tag) {
-        None => Ok(None),
-        Some(entry) => Ok(Some(read_numbers(alloc, source, kind, order, limits, entry)?)),
+    /// Reads the numbers of a tag. Returns `None` if the directory does not have the tag.
+    #[tactic(auto, using(crate::proofs::Within::numbers_found), unfolding(crate::specs::TagLookup::look_in, crate::specs::TagLookup::find))]
+    pub fn find_numbers<R: Source>(
+        &self,
+        source: &mut R,
+        directory: &Directory,
+        tag: Tag,
+    ) -> TiffResult<Option<Vec<u64>>>
+        ensures kept { IsKept R.told R.failures result source.old source.new }
+        ensures none { get directory.now.entries (tag_number tag) ≡ None → result ≡ Ok None }
+        ensures answer { let look
+            = look_in self.now.kind self.now.order (R.told source.old).bytes self.now.limits.now
+            directory.now.entries
+            in
+            AnswersFound (λ o. option_map (λ v. v.items) o) result (find into_u64_vec look tag) look
+            tag (R.failures source.old) (R.failures source.new) }
+        ensures asked { AsksOnly
+            (TagReadable (R.told source.old) self.now.kind self.now.order directory.now tag)
+            result }
+    {
+        match directory.get(tag) {
+            None => Ok(None),
+            Some(entry) => Ok(Some(self.read_numbers(source, entry)?)),
+        }
     }
 }

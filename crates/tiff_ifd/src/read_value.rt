@@ -20,6 +20,7 @@ ghost use Rattle.tiff_base.specs.SourceAndSink.{AreReadable};
 ghost use Rattle.tiff_ifd.specs.TagLookup.{look_in};
 ghost use Rattle.tiff_ifd.specs.Stretches.{FieldReadable, TagReadable};
 
+use crate::field_reader::FieldReader;
 use crate::limits::Limits;
 use crate::read_bytes::{offset_in, offset_len};
 use crate::value::Value;
@@ -29,7 +30,17 @@ use tiff_base::directory::{Directory, Entry};
 use tiff_base::error::{TiffError, TiffFormatError, TiffResult};
 use tiff_base::io::Source;
 use tiff_base::read::{read_bytes_at, u16_from, u32_from, u64_from};
-use tiff_base::tags::{Bits32, Bits64, ByteOrder, FileKind, Tag, Type};
+use tiff_base::tags::{Bits32, Bits64, ByteOrder, Tag, Type};
+
+// How the values of a field are stored: in the entry itself or elsewhere in the file, their type,
+// their byte order, and their number.
+#[derive(Clone, Copy)]
+struct StoredValues {
+    inline: bool,
+    field_type: Type,
+    order: ByteOrder,
+    count: u64,
+}
 
 // The number in one byte, the same in both byte orders.
 #[tactic(auto, unfolding(tiff_base::specs::Number::number))]
@@ -123,27 +134,20 @@ fn list_item(inline: bool, field_type: Type, order: ByteOrder, bytes: &[u8]) -> 
     }
 }
 
-// Decodes `count` consecutive values.
-fn list_from(
-    alloc: Global,
-    inline: bool,
-    field_type: Type,
-    order: ByteOrder,
-    count: u64,
-    bytes: &[u8],
-) -> TiffResult<Vec<Value>>
-    requires { length bytes.now ≡ count * type_size field_type }
+// Decodes `stored.count` consecutive values.
+fn list_from(alloc: Global, stored: StoredValues, bytes: &[u8]) -> TiffResult<Vec<Value>>
+    requires { length bytes.now ≡ stored.count * type_size stored.field_type }
     ensures { AnswersWithoutSource (λ l. plain_values l.items) result
-        (Ok (spec.items (spec.list_item inline field_type order) (type_size field_type) count
-        bytes.now)) }
+        (Ok (spec.items (spec.list_item stored.inline stored.field_type stored.order)
+        (type_size stored.field_type) stored.count bytes.now)) }
 {
-    let width = usize::from(field_type.byte_len());
+    let width = usize::from(stored.field_type.byte_len());
     let mut all = Vec::new(alloc);
     let mut rest = bytes;
-    let mut left = count;
+    let mut left = stored.count;
     while left > 0 {
         let (unit, after) = rest.split_at(width);
-        all.push(list_item(inline, field_type, order, unit))?;
+        all.push(list_item(stored.inline, stored.field_type, stored.order, unit))?;
         rest = after;
         left -= 1;
     }
@@ -151,22 +155,15 @@ fn list_from(
 }
 
 // Decodes numbers: one number gives a single value, several numbers give a list.
-fn numbers_from(
-    alloc: Global,
-    inline: bool,
-    field_type: Type,
-    order: ByteOrder,
-    count: u64,
-    bytes: &[u8],
-) -> TiffResult<Value>
-    requires { length bytes.now ≡ count * type_size field_type }
+fn numbers_from(alloc: Global, stored: StoredValues, bytes: &[u8]) -> TiffResult<Value>
+    requires { length bytes.now ≡ stored.count * type_size stored.field_type }
     ensures { AnswersWithoutSource plain_value result
-        (Ok (value.numbers inline field_type order count bytes.now)) }
+        (Ok (value.numbers stored.inline stored.field_type stored.order stored.count bytes.now)) }
 {
-    if count == 1 {
-        Ok(item_from(field_type, order, bytes))
+    if stored.count == 1 {
+        Ok(item_from(stored.field_type, stored.order, bytes))
     } else {
-        Ok(Value::List(list_from(alloc, inline, field_type, order, count, bytes)?))
+        Ok(Value::List(list_from(alloc, stored, bytes)?))
     }
 }
 
@@ -260,23 +257,16 @@ fn inline_text(alloc: Global, bytes: &[u8]) -> TiffResult<Value>
 }
 
 // Decodes the value of a field from all its bytes.
-fn value_from(
-    alloc: Global,
-    inline: bool,
-    field_type: Type,
-    order: ByteOrder,
-    count: u64,
-    bytes: &[u8],
-) -> TiffResult<Value>
-    requires whole { length bytes.now ≡ count * type_size field_type }
-    requires some { 0 < count }
+fn value_from(alloc: Global, stored: StoredValues, bytes: &[u8]) -> TiffResult<Value>
+    requires whole { length bytes.now ≡ stored.count * type_size stored.field_type }
+    requires some { 0 < stored.count }
     ensures { GivesSparingly plain_value result
-        (value.value_from inline field_type order count bytes.now) }
+        (value.value_from stored.inline stored.field_type stored.order stored.count bytes.now) }
 {
-    match field_type {
-        Type::ASCII if inline => inline_text(alloc, bytes),
+    match stored.field_type {
+        Type::ASCII if stored.inline => inline_text(alloc, bytes),
         Type::ASCII => placed_text(alloc, bytes),
-        _ => numbers_from(alloc, inline, field_type, order, count, bytes),
+        _ => numbers_from(alloc, stored, bytes),
     }
 }
 
@@ -310,74 +300,75 @@ pub(crate) fn is_allowed(limits: &Limits, field_type: Type, count: u64) -> bool
     }
 }
 
-/// Reads the value of a field. Returns `LimitsExceeded` for 2^64 bytes or more, and for values
-/// outside the entry that are more than the limits allow. Returns `IoError(UnexpectedEof)` for
-/// bytes past the end of the source. Returns `InvalidTag` for a text in the entry that does not end
-/// there, and for bytes that are no text. Allocates memory only for values within the limits and
-/// within the source, and for a value in the entry only where it is valid.
-#[tactic(auto, using(crate::proofs::Within::value_within, crate::proofs::Within::read_within), unfolding(crate::specs::FieldValue::field_value, tiff_base::specs::FieldBytes::field_bytes))]
-pub fn read_value<R: Source>(
-    alloc: Global,
-    source: &mut R,
-    kind: FileKind,
-    order: ByteOrder,
-    limits: &Limits,
-    entry: &Entry,
-) -> TiffResult<Value>
-    ensures kept { IsKept R.told R.failures result source.old source.new }
-    ensures answer { let given = value.field_value kind order (R.told source.old).bytes limits.now entry.now in
-        AnswersBut (value.WantsValue (value.stands_in_entry kind entry.now) given) (R.failures source.old < R.failures source.new) plain_value result given }
-    ensures asked { AsksOnly (FieldReadable (R.told source.old) kind order entry.now) result }
-{
-    let count = entry.count();
-    if count == 0 {
-        return Ok(Value::List(Vec::new(alloc)));
-    }
-    let field_type = entry.field_type();
-    let Some(len) = count.checked_mul(u64::from(field_type.byte_len())) else {
-        return Err(TiffError::LimitsExceeded);
-    };
-    let field = entry.value();
-    if len <= offset_len(kind) {
-        return value_from(
-            alloc,
-            true,
+impl FieldReader<'_> {
+    /// Reads the value of a field. Returns `LimitsExceeded` for 2^64 bytes or more, and for values
+    /// outside the entry that are more than the limits allow. Returns `IoError(UnexpectedEof)` for
+    /// bytes past the end of the source. Returns `InvalidTag` for a text in the entry that does not
+    /// end there, and for bytes that are no text. Allocates memory only for values within the
+    /// limits and within the source, and for a value in the entry only where it is valid.
+    #[tactic(auto, using(crate::proofs::Within::value_within, crate::proofs::Within::read_within), unfolding(crate::specs::FieldValue::field_value, tiff_base::specs::FieldBytes::field_bytes))]
+    pub fn read_value<R: Source>(&self, source: &mut R, entry: &Entry) -> TiffResult<Value>
+        ensures kept { IsKept R.told R.failures result source.old source.new }
+        ensures answer { let given
+            = value.field_value self.now.kind self.now.order (R.told source.old).bytes
+            self.now.limits.now entry.now
+            in
+            AnswersBut (value.WantsValue (value.stands_in_entry self.now.kind entry.now) given)
+            (R.failures source.old < R.failures source.new) plain_value result given }
+        ensures asked { AsksOnly
+            (FieldReadable (R.told source.old) self.now.kind self.now.order entry.now) result }
+    {
+        let count = entry.count();
+        if count == 0 {
+            return Ok(Value::List(Vec::new(self.alloc)));
+        }
+        let field_type = entry.field_type();
+        let Some(len) = count.checked_mul(u64::from(field_type.byte_len())) else {
+            return Err(TiffError::LimitsExceeded);
+        };
+        let field = entry.value();
+        let stored = StoredValues {
+            inline: len <= offset_len(self.kind),
             field_type,
-            order,
+            order: self.order,
             count,
-            &field[..len as usize],
-        );
+        };
+        if stored.inline {
+            return value_from(self.alloc, stored, &field[..len as usize]);
+        }
+        if !is_allowed(self.limits, field_type, count) {
+            return Err(TiffError::LimitsExceeded);
+        }
+        let offset = offset_in(self.kind, self.order, field);
+        let bytes = read_bytes_at(self.alloc, source, offset, len as usize)?;
+        value_from(self.alloc, stored, &bytes)
     }
-    if !is_allowed(limits, field_type, count) {
-        return Err(TiffError::LimitsExceeded);
-    }
-    let offset = offset_in(kind, order, field);
-    let bytes = read_bytes_at(alloc, source, offset, len as usize)?;
-    value_from(alloc, false, field_type, order, count, &bytes)
-}
 
-/// Reads the value of a tag. Returns `None` if the directory does not have the tag.
-#[tactic(auto, using(crate::proofs::Within::found_wanted), unfolding(crate::specs::TagLookup::look_in))]
-pub fn find_value<R: Source>(
-    alloc: Global,
-    source: &mut R,
-    kind: FileKind,
-    order: ByteOrder,
-    limits: &Limits,
-    directory: &Directory,
-    tag: Tag,
-) -> TiffResult<Option<Value>>
-    ensures kept { IsKept R.told R.failures result source.old source.new }
-    ensures none { get directory.now.entries (tag_number tag) ≡ None → result ≡ Ok None }
-    ensures answer { let given
-        = (look_in kind order (R.told source.old).bytes limits.now directory.now.entries).value tag
-        in
-        AnswersBut (value.WantsFound kind (get directory.now.entries (tag_number tag)) given) (R.failures source.old < R.failures source.new)
-        (λ v. option_map plain_value v) result given }
-    ensures asked { AsksOnly (TagReadable (R.told source.old) kind order directory.now tag) result }
-{
-    match directory.get(tag) {
-        None => Ok(None),
-        Some(entry) => Ok(Some(read_value(alloc, source, kind, order, limits, entry)?)),
+    /// Reads the value of a tag. Returns `None` if the directory does not have the tag.
+    #[tactic(auto, using(crate::proofs::Within::found_wanted), unfolding(crate::specs::TagLookup::look_in))]
+    pub fn find_value<R: Source>(
+        &self,
+        source: &mut R,
+        directory: &Directory,
+        tag: Tag,
+    ) -> TiffResult<Option<Value>>
+        ensures kept { IsKept R.told R.failures result source.old source.new }
+        ensures none { get directory.now.entries (tag_number tag) ≡ None → result ≡ Ok None }
+        ensures answer { let given
+            = (look_in self.now.kind self.now.order (R.told source.old).bytes self.now.limits.now
+            directory.now.entries).value tag
+            in
+            AnswersBut
+            (value.WantsFound self.now.kind (get directory.now.entries (tag_number tag)) given)
+            (R.failures source.old < R.failures source.new) (λ v. option_map plain_value v) result
+            given }
+        ensures asked { AsksOnly
+            (TagReadable (R.told source.old) self.now.kind self.now.order directory.now tag)
+            result }
+    {
+        match directory.get(tag) {
+            None => Ok(None),
+            Some(entry) => Ok(Some(self.read_value(source, entry)?)),
+        }
     }
 }

@@ -5,10 +5,9 @@ ghost use Rattle.tiff_base.specs.Answers.{IsKept};
 ghost use Rattle.tiff_ifd.specs.View.{plain_value};
 ghost use Rattle.tiff_ifd.specs.TagLookup.{look_in};
 
+use crate::field_reader::FieldReader;
 use crate::limits::Limits;
 use crate::lookup::Tags;
-use crate::read_numbers::find_numbers;
-use crate::read_value::find_value;
 use crate::value::Value;
 use std::alloc::Global;
 use tiff_base::directory::Directory;
@@ -45,26 +44,22 @@ impl<R: Source> Tags for ValueReader<R> {
 
     #[tactic(auto, using(crate::proofs::Within::look_within), unfolding(crate::specs::TagLookup::look_in))]
     fn find(&mut self, alloc: Global, tag: Tag) -> TiffResult<Option<Value>> {
-        find_value(
+        let fields = FieldReader {
             alloc,
-            &mut self.source,
-            self.kind,
-            self.order,
-            &self.limits,
-            &self.directory,
-            tag,
-        )
+            kind: self.kind,
+            order: self.order,
+            limits: &self.limits,
+        };
+        fields.find_value(&mut self.source, &self.directory, tag)
     }
 
     fn find_u64_vec(&mut self, alloc: Global, tag: Tag) -> TiffResult<Option<Vec<u64>>> {
-        find_numbers(
+        let fields = FieldReader {
             alloc,
-            &mut self.source,
-            self.kind,
-            self.order,
-            &self.limits,
-            &self.directory,
-            tag,
-        )
+            kind: self.kind,
+            order: self.order,
+            limits: &self.limits,
+        };
+        fields.find_numbers(&mut self.source, &self.directory, tag)
     }
 }

@@ -8,6 +8,6 @@ invariant-loop-i g l =
     record {
       same : g.R.Source.told l.source ≡ g.R.Source.told l.fn.source;
       failures : g.R.Source.failures l.source ≡ g.R.Source.failures l.fn.source;
-      here : l.offset ≡ l.first + entry_len l.kind * l.i;
-      so_far : l.entries.items ≡ entries_from l.kind l.order bytes l.first l.i;
+      here : l.offset ≡ l.fn.table.first + entry_len l.kind * l.i;
+      so_far : l.entries.items ≡ entries_from l.kind l.order bytes l.fn.table.first l.i;
     }
