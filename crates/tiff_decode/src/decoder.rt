@@ -185,17 +185,28 @@ fn replace_directory<R: Source>(
     }
 }
 
-// Enters a directory that was read, of this index and offset in the chain: moves the decoder to it
-// and reads its page. Where the page has an error, the decoder keeps its former page. After out of
+// A place in the chain: the index of a directory, and its offset.
+#[derive(Clone, Copy)]
+struct ChainPlace {
+    at: usize,
+    offset: u64,
+}
+
+// A directory of the chain that was read, and its place.
+#[derive(Drop)]
+struct ChainDirectory {
+    place: ChainPlace,
+    directory: Directory,
+}
+
+// Enters a directory of the chain that was read: moves the decoder to it and reads its page. Where the page has an error, the decoder keeps its former page. After out of
 // memory and after an error of the device the decoder is unchanged.
 fn enter_directory<R: Source>(
     alloc: Global,
     tags: &mut ValueReader<R>,
     page: &mut Page,
     standing: &mut CurrentDirectory,
-    at: usize,
-    offset: u64,
-    directory: Directory,
+    read: ChainDirectory,
 ) -> TiffResult<()>
     ensures kept { IsKept R.told R.failures result tags.old.source tags.new.source }
     ensures kind { tags.new.kind ≡ tags.old.kind }
@@ -203,7 +214,8 @@ fn enter_directory<R: Source>(
     ensures follows { (first here : ℕ) → Follows (λ x. x) (outcome.entry_outcome
         (decoding (R.told tags.old.source) tags.old.kind tags.old.order first
         (R.failures tags.old.source) standing.old.pointer
-        standing.old.more (page_record page.old) tags.old.directory here tags.old.limits) offset (Ok directory)) result
+        standing.old.more (page_record page.old) tags.old.directory here tags.old.limits) read.place.offset
+        (Ok read.directory)) result
         (decoding (R.told tags.old.source) tags.old.kind tags.old.order first
         (R.failures tags.old.source) standing.old.pointer
         standing.old.more (page_record page.old) tags.old.directory here tags.old.limits)
@@ -212,12 +224,13 @@ fn enter_directory<R: Source>(
         standing.new.more (page_record page.new) tags.new.directory here tags.new.limits) }
     ensures stands { (offsets : List ℕ)
         → IsAt offsets standing.old.pointer standing.old.at standing.old.more → slice_get offsets
-        at ≡ Some offset → IsAt offsets standing.new.pointer standing.new.at standing.new.more }
-    ensures asked { AsksOnly (PageReadable (R.told tags.old.source) tags.old.kind tags.old.order directory)
+        read.place.at ≡ Some read.place.offset → IsAt offsets standing.new.pointer standing.new.at standing.new.more }
+    ensures asked { AsksOnly (PageReadable (R.told tags.old.source) tags.old.kind tags.old.order read.directory)
         result }
 {
-    let to = CurrentDirectory::at_directory(at, offset, &directory);
-    match replace_directory(alloc, tags, directory) {
+    let place = read.place;
+    let to = CurrentDirectory::at_directory(place.at, place.offset, &read.directory);
+    match replace_directory(alloc, tags, read.directory) {
         Ok(found) => {
             *page = found;
             *standing = to;
@@ -233,15 +246,14 @@ fn enter_directory<R: Source>(
     }
 }
 
-// Reads the directory of this index and offset in the chain, and enters it.
+// Reads the directory at a place in the chain, and enters it.
 #[tactic(auto, unfolding(crate::specs::Outcome::enter))]
 fn enter_offset<R: Source>(
     alloc: Global,
     tags: &mut ValueReader<R>,
     page: &mut Page,
     standing: &mut CurrentDirectory,
-    at: usize,
-    offset: u64,
+    place: ChainPlace,
 ) -> TiffResult<()>
     ensures kept { IsKept R.told R.failures result tags.old.source tags.new.source }
     ensures kind { tags.new.kind ≡ tags.old.kind }
@@ -249,7 +261,7 @@ fn enter_offset<R: Source>(
     ensures follows { (first here : ℕ) → Follows (λ x. x) (outcome.enter
         (decoding (R.told tags.old.source) tags.old.kind tags.old.order first
         (R.failures tags.old.source) standing.old.pointer
-        standing.old.more (page_record page.old) tags.old.directory here tags.old.limits) offset) result
+        standing.old.more (page_record page.old) tags.old.directory here tags.old.limits) place.offset) result
         (decoding (R.told tags.old.source) tags.old.kind tags.old.order first
         (R.failures tags.old.source) standing.old.pointer
         standing.old.more (page_record page.old) tags.old.directory here tags.old.limits)
@@ -258,13 +270,14 @@ fn enter_offset<R: Source>(
         standing.new.more (page_record page.new) tags.new.directory here tags.new.limits) }
     ensures stands { (offsets : List ℕ)
         → IsAt offsets standing.old.pointer standing.old.at standing.old.more → slice_get offsets
-        at ≡ Some offset → IsAt offsets standing.new.pointer standing.new.at standing.new.more }
-    ensures asked { AsksOnly (EntryReadable (R.told tags.old.source) tags.old.kind tags.old.order offset)
+        place.at ≡ Some place.offset → IsAt offsets standing.new.pointer standing.new.at standing.new.more }
+    ensures asked { AsksOnly (EntryReadable (R.told tags.old.source) tags.old.kind tags.old.order place.offset)
         result }
 {
     let (kind, order) = (tags.kind, tags.order);
-    let directory = read_directory(alloc, &mut tags.source, offset, kind, order)?;
-    enter_directory(alloc, tags, page, standing, at, offset, directory)
+    let directory = read_directory(alloc, &mut tags.source, place.offset, kind, order)?;
+    let read = ChainDirectory { place, directory };
+    enter_directory(alloc, tags, page, standing, read)
 }
 
 // Shows a directory that was read: its page and its fields replace the former ones. Where the page
@@ -565,13 +578,16 @@ impl<R: Source> Decoder<R> {
         let known = self.walk.get(at);
         if let Some(offset) = known {
             let (tags, page) = (&mut self.tags, &mut self.page);
-            return enter_offset(alloc, tags, page, &mut self.standing, at, offset);
+            let place = ChainPlace { at, offset };
+            return enter_offset(alloc, tags, page, &mut self.standing, place);
         }
         match enter_behind(alloc, &mut self.walk, &mut self.tags.source, kind, order) {
             Ok(Some((offset, directory))) => {
                 let (tags, page) = (&mut self.tags, &mut self.page);
                 let standing = &mut self.standing;
-                return enter_directory(alloc, tags, page, standing, at, offset, directory);
+                let place = ChainPlace { at, offset };
+                let read = ChainDirectory { place, directory };
+                return enter_directory(alloc, tags, page, standing, read);
             }
             Ok(None) => {
                 self.standing.more = false;
@@ -605,7 +621,11 @@ impl<R: Source> Decoder<R> {
         match self.walk.offset_of(source, kind, order, ifd_index) {
             Ok(Some(offset)) => {
                 let (tags, page) = (&mut self.tags, &mut self.page);
-                return enter_offset(alloc, tags, page, &mut self.standing, ifd_index, offset);
+                let place = ChainPlace {
+                    at: ifd_index,
+                    offset,
+                };
+                return enter_offset(alloc, tags, page, &mut self.standing, place);
             }
             Ok(None) => {
                 self.standing = CurrentDirectory::past(&self.walk, self.standing.more);

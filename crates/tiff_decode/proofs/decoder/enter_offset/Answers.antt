@@ -10,5 +10,5 @@ returns-clause-follows g c = λ first here.
     (g.R.Source.failures c.args.tags.now.source) c.args.standing.now.pointer c.args.standing.now.more (view.page c.args.page.now)
     c.args.tags.now.directory here c.args.tags.now.limits in
     let mid : Decoding = record old { bytes = (g.R.Source.told c.read_directory.new.source).bytes; readable = (g.R.Source.told c.read_directory.new.source).readable; failures = g.R.Source.failures c.read_directory.new.source } in
-    enters_read c.enter_directory.result _ c.args.offset c.in_ok-directory.directory old mid _ (told_same old _ _ c.in_ok-directory.ensures.kept.told c.in_ok-directory.ensures.kept.swallowed) refl
+    enters_read c.enter_directory.result _ c.args.place.offset c.in_ok-directory.directory old mid _ (told_same old _ _ c.in_ok-directory.ensures.kept.told c.in_ok-directory.ensures.kept.swallowed) refl
     c.in_ok-directory.ensures.answer (c.enter_directory.ensures.follows first here)
