@@ -35,17 +35,17 @@ WayCosts = (kind : FileKind) (order : ByteOrder) (bytes : List ℕ) (first index
 
 -- ---- pixels
 
--- At most as many bytes are asked for to read an image in some planes. Of PackBits data: the
--- counted bytes of each chunk. Else, in each plane: as many stored rows of each chunk side by side
--- as the image has rows.
+-- The most bytes that a read of an image in some planes asks for: of PackBits data the counted bytes
+-- of each chunk; else, in each plane, as many stored rows of each chunk side by side as the image
+-- has rows.
 abbrev pub most_of_image : PageRecord → ℕ → ℕ
 most_of_image p planes =
     if is_packed p.method
     then sum_by (slice_index p.byte_counts) (range_with_len 0 (planes * chunks_of_plane p))
     else planes * (p.height * (across p * stored_row_bytes p))
 
--- At most as many bytes are asked for to read chunk i in some planes. Of PackBits data: the counted
--- bytes of the chunk in each plane. Else: as many stored rows as a chunk has, in each plane.
+-- The most bytes that a read of chunk i in some planes asks for: of PackBits data the counted bytes
+-- of the chunk in each plane; else, in each plane, as many stored rows as a chunk has.
 abbrev pub most_of_chunk : PageRecord → ℕ → ℕ → ℕ
 most_of_chunk p i planes =
     if is_packed p.method
@@ -69,8 +69,8 @@ ChunkCosts = (p : PageRecord) (i : ℕ) (planes : LayoutRecord → ℕ) (l : Lay
     → (stretches : List (ℕ × ℕ)) × ((stretch_bytes stretches ≤ most_of_chunk p i (planes l))
     × ((source : SourceRecord) → AreAllReadable source stretches → ChunksReadable source p i planes))
 
--- The most that is asked for of strips without PackBits data, of which all samples are shown, is the
--- number of bytes of the planes that are read.
+-- For strips that aren't packed, of which all samples are shown, that is the number of bytes of the
+-- planes that are read.
 abbrev pub StripsCost : Type 0
 StripsCost = (p : PageRecord) (l : LayoutRecord) (n : ℕ) → HasSides p
     → planes_layout p p.width p.height ≡ Ok l
