@@ -1,6 +1,6 @@
 -- The numbers of the enums come back.
-use Rattle.std.proofs.Common.{◌≡◌, ℕ, Bool, true, false, Option, Some, None, refl, ap, sym, subst}
-use Rattle.std.specs.Prelude.{if◌then◌else◌, ◌==◌}
+use Rattle.std.proofs.Common.{◌≡◌, ℕ, Bool, true, false, List, [], ◌∷◌, Option, Some, None, refl, ap, sym, ◌∙◌, subst}
+use Rattle.std.specs.Prelude.{if◌then◌else◌, ◌==◌, unwrap_or}
 use Rattle.std.proofs.lemmas.Bool.{eqb-true}
 use Rattle.tiff_base.specs.declared.tags.Tag.{Tag}
 use Rattle.tiff_base.specs.declared.tags.Tag.TheVariants as t
@@ -20,84 +20,39 @@ use Rattle.tiff_base.specs.declared.tags.SampleFormat.{SampleFormat}
 use Rattle.tiff_base.specs.declared.tags.SampleFormat.TheVariants as f
 use Rattle.tiff_base.specs.declared.tags.ExtraSamples.{ExtraSamples}
 use Rattle.tiff_base.specs.declared.tags.ExtraSamples.TheVariants as e
-use Rattle.tiff_base.specs.Tags.{tag_number, tag_of, named_tag, type_number, type_of, method_number, method_of, named_method, interpretation_number, interpretation_of, planar_number, planar_of, predictor_number, predictor_of, unit_number, unit_of, format_number, format_of, named_format, extra_number, extra_of}
+use Rattle.tiff_base.specs.Tags.{find_by, tag_number, tag_of, named_tag, named_tags, type_number, type_of, method_number, method_of, named_method, named_methods, interpretation_number, interpretation_of, planar_number, planar_of, predictor_number, predictor_of, unit_number, unit_of, format_number, format_of, named_format, named_formats, extra_number, extra_of}
 use Rattle.tiff_base.specs.Named.{NumbersComeBack, NamesComeBack}
 
 abbrev is_none : {A : Type 0} → Option A → Type 0
 is_none None = Unit {0}
 is_none (Some x) = ⊥
 
--- a choice by a test, where the number is n in both cases
-chosen : {A : Type 0} (number : A → ℕ) (n : ℕ) (b : Bool) (x y : A) → (b ≡ true → number x ≡ n) → number y ≡ n → number (if b then x else y) ≡ n
-chosen number n true x y p q = p refl
-chosen number n false x y p q = q
+none_some : {A : Type 0} (x : A) → None ≡ Some x → ⊥
+none_some x h = (let P : Option _ → Type 0 = λ o. is_none o in subst P h tt)
 
-same : (n k : ℕ) → (n == k) ≡ true → k ≡ n
-same n k h = sym (eqb-true n k h)
+module _ {A : Type 0} (number : A → ℕ) (n : ℕ) where
+  -- a value that is found by a number has this number
+  by_test : (b : Bool) (x : A) (other : Option A) (y : A) → (n == number x) ≡ b → (if b then Some x else other) ≡ Some y
+      → (other ≡ Some y → number y ≡ n) → number y ≡ n
+  by_test true x other y h e later =
+      let same : x ≡ y = cc in
+      ap number (sym same) ∙ sym (eqb-true n (number x) h)
+  by_test false x other y h e later = later e
+
+  found : (values : List A) (y : A) → find_by number n values ≡ Some y → number y ≡ n
+  found [] y e = absurd (none_some y e)
+  found (x ∷ rest) y e = by_test (n == number x) x (find_by number n rest) y refl e (found rest y)
+
+  or_other : (o : Option A) (other : A) → ((y : A) → o ≡ Some y → number y ≡ n) → number other ≡ n → number (unwrap_or o other) ≡ n
+  or_other (Some y) other h k = h y refl
+  or_other None other h k = k
+
+  comes_back : (values : List A) (other : A) → number other ≡ n → number (unwrap_or (find_by number n values) other) ≡ n
+  comes_back values other = or_other (find_by number n values) other (found values)
 
 pub tags : (n : ℕ) → tag_number (tag_of n) ≡ n
 unfolding tag_of
-tags n =
-    chosen tag_number n (n == 254) _ _ (same n 254) (
-    chosen tag_number n (n == 255) _ _ (same n 255) (
-    chosen tag_number n (n == 256) _ _ (same n 256) (
-    chosen tag_number n (n == 257) _ _ (same n 257) (
-    chosen tag_number n (n == 258) _ _ (same n 258) (
-    chosen tag_number n (n == 259) _ _ (same n 259) (
-    chosen tag_number n (n == 262) _ _ (same n 262) (
-    chosen tag_number n (n == 263) _ _ (same n 263) (
-    chosen tag_number n (n == 264) _ _ (same n 264) (
-    chosen tag_number n (n == 265) _ _ (same n 265) (
-    chosen tag_number n (n == 266) _ _ (same n 266) (
-    chosen tag_number n (n == 270) _ _ (same n 270) (
-    chosen tag_number n (n == 271) _ _ (same n 271) (
-    chosen tag_number n (n == 272) _ _ (same n 272) (
-    chosen tag_number n (n == 273) _ _ (same n 273) (
-    chosen tag_number n (n == 274) _ _ (same n 274) (
-    chosen tag_number n (n == 277) _ _ (same n 277) (
-    chosen tag_number n (n == 278) _ _ (same n 278) (
-    chosen tag_number n (n == 279) _ _ (same n 279) (
-    chosen tag_number n (n == 280) _ _ (same n 280) (
-    chosen tag_number n (n == 281) _ _ (same n 281) (
-    chosen tag_number n (n == 282) _ _ (same n 282) (
-    chosen tag_number n (n == 283) _ _ (same n 283) (
-    chosen tag_number n (n == 284) _ _ (same n 284) (
-    chosen tag_number n (n == 288) _ _ (same n 288) (
-    chosen tag_number n (n == 289) _ _ (same n 289) (
-    chosen tag_number n (n == 290) _ _ (same n 290) (
-    chosen tag_number n (n == 291) _ _ (same n 291) (
-    chosen tag_number n (n == 296) _ _ (same n 296) (
-    chosen tag_number n (n == 305) _ _ (same n 305) (
-    chosen tag_number n (n == 306) _ _ (same n 306) (
-    chosen tag_number n (n == 315) _ _ (same n 315) (
-    chosen tag_number n (n == 316) _ _ (same n 316) (
-    chosen tag_number n (n == 317) _ _ (same n 317) (
-    chosen tag_number n (n == 320) _ _ (same n 320) (
-    chosen tag_number n (n == 322) _ _ (same n 322) (
-    chosen tag_number n (n == 323) _ _ (same n 323) (
-    chosen tag_number n (n == 324) _ _ (same n 324) (
-    chosen tag_number n (n == 325) _ _ (same n 325) (
-    chosen tag_number n (n == 330) _ _ (same n 330) (
-    chosen tag_number n (n == 338) _ _ (same n 338) (
-    chosen tag_number n (n == 339) _ _ (same n 339) (
-    chosen tag_number n (n == 340) _ _ (same n 340) (
-    chosen tag_number n (n == 341) _ _ (same n 341) (
-    chosen tag_number n (n == 347) _ _ (same n 347) (
-    chosen tag_number n (n == 530) _ _ (same n 530) (
-    chosen tag_number n (n == 531) _ _ (same n 531) (
-    chosen tag_number n (n == 33432) _ _ (same n 33432) (
-    chosen tag_number n (n == 33550) _ _ (same n 33550) (
-    chosen tag_number n (n == 33922) _ _ (same n 33922) (
-    chosen tag_number n (n == 34264) _ _ (same n 34264) (
-    chosen tag_number n (n == 34665) _ _ (same n 34665) (
-    chosen tag_number n (n == 34675) _ _ (same n 34675) (
-    chosen tag_number n (n == 34735) _ _ (same n 34735) (
-    chosen tag_number n (n == 34736) _ _ (same n 34736) (
-    chosen tag_number n (n == 34737) _ _ (same n 34737) (
-    chosen tag_number n (n == 34853) _ _ (same n 34853) (
-    chosen tag_number n (n == 36864) _ _ (same n 36864) (
-    chosen tag_number n (n == 42113) _ _ (same n 42113) (
-    refl)))))))))))))))))))))))))))))))))))))))))))))))))))))))))))
+tags n = comes_back tag_number n named_tags (t.Unknown n) refl
 
 -- the tag that its own number names
 pub tag_again : (n : ℕ) → tag_of n ≡ tag_of (tag_number (tag_of n))
@@ -105,32 +60,11 @@ tag_again n = ap tag_of (sym (tags n))
 
 methods : (n : ℕ) → method_number (method_of n) ≡ n
 unfolding method_of
-methods n =
-    chosen method_number n (n == 1) _ _ (same n 1) (
-    chosen method_number n (n == 2) _ _ (same n 2) (
-    chosen method_number n (n == 3) _ _ (same n 3) (
-    chosen method_number n (n == 4) _ _ (same n 4) (
-    chosen method_number n (n == 5) _ _ (same n 5) (
-    chosen method_number n (n == 6) _ _ (same n 6) (
-    chosen method_number n (n == 7) _ _ (same n 7) (
-    chosen method_number n (n == 8) _ _ (same n 8) (
-    chosen method_number n (n == 32773) _ _ (same n 32773) (
-    chosen method_number n (n == 32946) _ _ (same n 32946) (
-    chosen method_number n (n == 50000) _ _ (same n 50000) (
-    chosen method_number n (n == 50001) _ _ (same n 50001) (
-    refl))))))))))))
+methods n = comes_back method_number n named_methods (m.Unknown n) refl
 
 formats : (n : ℕ) → format_number (format_of n) ≡ n
 unfolding format_of
-formats n =
-    chosen format_number n (n == 1) _ _ (same n 1) (
-    chosen format_number n (n == 2) _ _ (same n 2) (
-    chosen format_number n (n == 3) _ _ (same n 3) (
-    chosen format_number n (n == 4) _ _ (same n 4) (
-    refl))))
-
-none_some : {A : Type 0} (x : A) → None ≡ Some x → ⊥
-none_some x h = (let P : Option _ → Type 0 = λ o. is_none o in subst P h tt)
+formats n = comes_back format_number n named_formats (f.Unknown n) refl
 
 tags_named : (x named : Tag) → named_tag x ≡ Some named → named_tag (tag_of (tag_number x)) ≡ Some x
 unfolding tag_of

@@ -1,5 +1,5 @@
 -- The numbers of TIFF's enums.
-use Rattle.std.specs.Prelude.{ℕ, Option, Some, None, if◌then◌else◌, ◌==◌}
+use Rattle.std.specs.Prelude.{ℕ, Option, Some, None, unwrap_or, List, [], ◌∷◌, if◌then◌else◌, ◌==◌}
 use Rattle.tiff_base.specs.declared.tags.Tag.{Tag}
 use Rattle.tiff_base.specs.declared.tags.Tag.TheVariants as t
 use Rattle.tiff_base.specs.declared.tags.«Type».{«Type»}
@@ -18,6 +18,11 @@ use Rattle.tiff_base.specs.declared.tags.SampleFormat.{SampleFormat}
 use Rattle.tiff_base.specs.declared.tags.SampleFormat.TheVariants as f
 use Rattle.tiff_base.specs.declared.tags.ExtraSamples.{ExtraSamples}
 use Rattle.tiff_base.specs.declared.tags.ExtraSamples.TheVariants as e
+
+-- the first of these values that has the number n, if one has it
+abbrev pub find_by : {A : Type 0} → (A → ℕ) → ℕ → List A → Option A
+find_by number n [] = None
+find_by number n (x ∷ rest) = if n == number x then Some x else find_by number n rest
 
 -- The numbers of the tags of a directory (TIFF 6.0, its supplements, GeoTIFF, EXIF, ICC, GDAL).
 abbrev pub tag_number : Tag → ℕ
@@ -82,44 +87,26 @@ tag_number t.ExifVersion = 36864
 tag_number t.GdalNodata = 42113
 tag_number (t.Unknown n) = n
 
+-- the tags that have a name
+abbrev pub named_tags : List Tag
+named_tags =
+    t.NewSubfileType ∷ t.SubfileType ∷ t.ImageWidth ∷ t.ImageLength ∷ t.BitsPerSample
+    ∷ t.Compression ∷ t.PhotometricInterpretation ∷ t.Threshholding ∷ t.CellWidth ∷ t.CellLength
+    ∷ t.FillOrder ∷ t.ImageDescription ∷ t.Make ∷ t.Model ∷ t.StripOffsets ∷ t.Orientation
+    ∷ t.SamplesPerPixel ∷ t.RowsPerStrip ∷ t.StripByteCounts ∷ t.MinSampleValue ∷ t.MaxSampleValue
+    ∷ t.XResolution ∷ t.YResolution ∷ t.PlanarConfiguration ∷ t.FreeOffsets ∷ t.FreeByteCounts
+    ∷ t.GrayResponseUnit ∷ t.GrayResponseCurve ∷ t.ResolutionUnit ∷ t.Software ∷ t.DateTime
+    ∷ t.Artist ∷ t.HostComputer ∷ t.Predictor ∷ t.ColorMap ∷ t.TileWidth ∷ t.TileLength
+    ∷ t.TileOffsets ∷ t.TileByteCounts ∷ t.SubIfd ∷ t.ExtraSamples ∷ t.SampleFormat
+    ∷ t.SMinSampleValue ∷ t.SMaxSampleValue ∷ t.JPEGTables ∷ t.ChromaSubsampling
+    ∷ t.ChromaPositioning ∷ t.Copyright ∷ t.ModelPixelScaleTag ∷ t.ModelTiepointTag
+    ∷ t.ModelTransformationTag ∷ t.ExifDirectory ∷ t.IccProfile ∷ t.GeoKeyDirectoryTag
+    ∷ t.GeoDoubleParamsTag ∷ t.GeoAsciiParamsTag ∷ t.GpsDirectory ∷ t.ExifVersion ∷ t.GdalNodata
+    ∷ []
+
 -- the tag of a number
 unfoldable pub tag_of : ℕ → Tag
-tag_of n =
-    if n == 254 then t.NewSubfileType else if n == 255 then t.SubfileType else
-    if n == 256 then t.ImageWidth else if n == 257 then t.ImageLength else if n == 258
-    then t.BitsPerSample else
-    if n == 259 then t.Compression else if n == 262 then t.PhotometricInterpretation else
-    if n == 263 then t.Threshholding else if n == 264 then t.CellWidth else if n == 265
-    then t.CellLength else
-    if n == 266 then t.FillOrder else if n == 270 then t.ImageDescription else if n == 271
-    then t.Make else
-    if n == 272 then t.Model else if n == 273 then t.StripOffsets else if n == 274
-    then t.Orientation else
-    if n == 277 then t.SamplesPerPixel else if n == 278 then t.RowsPerStrip else
-    if n == 279 then t.StripByteCounts else if n == 280 then t.MinSampleValue else
-    if n == 281 then t.MaxSampleValue else if n == 282 then t.XResolution else
-    if n == 283 then t.YResolution else if n == 284 then t.PlanarConfiguration else
-    if n == 288 then t.FreeOffsets else if n == 289 then t.FreeByteCounts else
-    if n == 290 then t.GrayResponseUnit else if n == 291 then t.GrayResponseCurve else
-    if n == 296 then t.ResolutionUnit else if n == 305 then t.Software else if n == 306
-    then t.DateTime else
-    if n == 315 then t.Artist else if n == 316 then t.HostComputer else if n == 317 then t.Predictor
-    else
-    if n == 320 then t.ColorMap else if n == 322 then t.TileWidth else if n == 323 then t.TileLength
-    else
-    if n == 324 then t.TileOffsets else if n == 325 then t.TileByteCounts else if n == 330
-    then t.SubIfd else
-    if n == 338 then t.ExtraSamples else if n == 339 then t.SampleFormat else
-    if n == 340 then t.SMinSampleValue else if n == 341 then t.SMaxSampleValue else
-    if n == 347 then t.JPEGTables else if n == 530 then t.ChromaSubsampling else
-    if n == 531 then t.ChromaPositioning else if n == 33432 then t.Copyright else
-    if n == 33550 then t.ModelPixelScaleTag else if n == 33922 then t.ModelTiepointTag else
-    if n == 34264 then t.ModelTransformationTag else if n == 34665 then t.ExifDirectory else
-    if n == 34675 then t.IccProfile else if n == 34735 then t.GeoKeyDirectoryTag else
-    if n == 34736 then t.GeoDoubleParamsTag else if n == 34737 then t.GeoAsciiParamsTag else
-    if n == 34853 then t.GpsDirectory else if n == 36864 then t.ExifVersion else
-    if n == 42113 then t.GdalNodata else
-    t.Unknown n
+tag_of n = unwrap_or (find_by tag_number n named_tags) (t.Unknown n)
 
 -- the tag, if it has a name
 abbrev pub named_tag : Tag → Option Tag
@@ -145,19 +132,15 @@ type_number y.LONG8 = 16
 type_number y.SLONG8 = 17
 type_number y.IFD8 = 18
 
+-- the types
+abbrev pub types : List «Type»
+types =
+    y.BYTE ∷ y.ASCII ∷ y.SHORT ∷ y.LONG ∷ y.RATIONAL ∷ y.SBYTE ∷ y.UNDEFINED ∷ y.SSHORT ∷ y.SLONG
+    ∷ y.SRATIONAL ∷ y.FLOAT ∷ y.DOUBLE ∷ y.IFD ∷ y.LONG8 ∷ y.SLONG8 ∷ y.IFD8 ∷ []
+
 -- the type of a number, if there is one
 unfoldable pub type_of : ℕ → Option «Type»
-type_of n =
-    if n == 1 then Some y.BYTE else if n == 2 then Some y.ASCII else if n == 3 then Some y.SHORT
-    else
-    if n == 4 then Some y.LONG else if n == 5 then Some y.RATIONAL else if n == 6 then Some y.SBYTE
-    else
-    if n == 7 then Some y.UNDEFINED else if n == 8 then Some y.SSHORT else if n == 9
-    then Some y.SLONG else
-    if n == 10 then Some y.SRATIONAL else if n == 11 then Some y.FLOAT else
-    if n == 12 then Some y.DOUBLE else if n == 13 then Some y.IFD else if n == 16 then Some y.LONG8
-    else
-    if n == 17 then Some y.SLONG8 else if n == 18 then Some y.IFD8 else None
+type_of n = find_by type_number n types
 
 -- The numbers of the compression methods of strips and tiles (TIFF 6.0 sections 3, 9 and later
 -- ones).
@@ -176,16 +159,15 @@ method_number m.ZSTD = 50000
 method_number m.WebP = 50001
 method_number (m.Unknown n) = n
 
+-- the compression methods that have a name
+abbrev pub named_methods : List CompressionMethod
+named_methods =
+    m.None ∷ m.Huffman ∷ m.Fax3 ∷ m.Fax4 ∷ m.LZW ∷ m.JPEG ∷ m.ModernJPEG ∷ m.Deflate ∷ m.PackBits
+    ∷ m.OldDeflate ∷ m.ZSTD ∷ m.WebP ∷ []
+
 -- the compression method of a number
 unfoldable pub method_of : ℕ → CompressionMethod
-method_of n =
-    if n == 1 then m.None else if n == 2 then m.Huffman else if n == 3 then m.Fax3 else
-    if n == 4 then m.Fax4 else if n == 5 then m.LZW else if n == 6 then m.JPEG else
-    if n == 7 then m.ModernJPEG else if n == 8 then m.Deflate else if n == 32773 then m.PackBits
-    else
-    if n == 32946 then m.OldDeflate else if n == 50000 then m.ZSTD else if n == 50001 then m.WebP
-    else
-    m.Unknown n
+method_of n = unwrap_or (find_by method_number n named_methods) (m.Unknown n)
 
 -- the compression method, if it has a name
 abbrev pub named_method : CompressionMethod → Option CompressionMethod
@@ -206,15 +188,15 @@ interpretation_number i.CIELab = 8
 interpretation_number i.IccLab = 9
 interpretation_number i.ItuLab = 10
 
+-- the photometric interpretations
+abbrev pub interpretations : List PhotometricInterpretation
+interpretations =
+    i.WhiteIsZero ∷ i.BlackIsZero ∷ i.RGB ∷ i.RGBPalette ∷ i.TransparencyMask ∷ i.CMYK ∷ i.YCbCr
+    ∷ i.CIELab ∷ i.IccLab ∷ i.ItuLab ∷ []
+
 -- the interpretation of a number, if there is one
 unfoldable pub interpretation_of : ℕ → Option PhotometricInterpretation
-interpretation_of n =
-    if n == 0 then Some i.WhiteIsZero else if n == 1 then Some i.BlackIsZero else
-    if n == 2 then Some i.RGB else if n == 3 then Some i.RGBPalette else
-    if n == 4 then Some i.TransparencyMask else if n == 5 then Some i.CMYK else
-    if n == 6 then Some i.YCbCr else if n == 8 then Some i.CIELab else if n == 9 then Some i.IccLab
-    else
-    if n == 10 then Some i.ItuLab else None
+interpretation_of n = find_by interpretation_number n interpretations
 
 -- The numbers of the planar configurations: whether the samples of a pixel lie together or in
 -- separate planes (TIFF 6.0 section 8).
@@ -222,10 +204,14 @@ abbrev pub planar_number : PlanarConfiguration → ℕ
 planar_number c.Chunky = 1
 planar_number c.Planar = 2
 
+-- the planar configurations
+abbrev pub planars : List PlanarConfiguration
+planars =
+    c.Chunky ∷ c.Planar ∷ []
+
 -- the planar configuration of a number, if there is one
 unfoldable pub planar_of : ℕ → Option PlanarConfiguration
-planar_of n =
-    if n == 1 then Some c.Chunky else if n == 2 then Some c.Planar else None
+planar_of n = find_by planar_number n planars
 
 -- The numbers of the predictors: what a writer does to samples before compression (TIFF 6.0 section
 -- 14).
@@ -234,11 +220,14 @@ predictor_number p.None = 1
 predictor_number p.Horizontal = 2
 predictor_number p.FloatingPoint = 3
 
+-- the predictors
+abbrev pub predictors : List Predictor
+predictors =
+    p.None ∷ p.Horizontal ∷ p.FloatingPoint ∷ []
+
 -- the predictor of a number, if there is one
 unfoldable pub predictor_of : ℕ → Option Predictor
-predictor_of n =
-    if n == 1 then Some p.None else if n == 2 then Some p.Horizontal else
-    if n == 3 then Some p.FloatingPoint else None
+predictor_of n = find_by predictor_number n predictors
 
 -- The numbers of the units of a resolution (TIFF 6.0 section 8).
 abbrev pub unit_number : ResolutionUnit → ℕ
@@ -246,11 +235,14 @@ unit_number u.None = 1
 unit_number u.Inch = 2
 unit_number u.Centimeter = 3
 
+-- the units
+abbrev pub units : List ResolutionUnit
+units =
+    u.None ∷ u.Inch ∷ u.Centimeter ∷ []
+
 -- the unit of a number, if there is one
 unfoldable pub unit_of : ℕ → Option ResolutionUnit
-unit_of n =
-    if n == 1 then Some u.None else if n == 2 then Some u.Inch else if n == 3 then Some u.Centimeter
-    else None
+unit_of n = find_by unit_number n units
 
 -- The numbers of the sample formats: what kind of number the bits of a sample are (TIFF 6.0 section
 -- 19).
@@ -261,11 +253,14 @@ format_number f.IEEEFP = 3
 format_number f.Void = 4
 format_number (f.Unknown n) = n
 
+-- the sample formats that have a name
+abbrev pub named_formats : List SampleFormat
+named_formats =
+    f.Uint ∷ f.Int ∷ f.IEEEFP ∷ f.Void ∷ []
+
 -- the sample format of a number
 unfoldable pub format_of : ℕ → SampleFormat
-format_of n =
-    if n == 1 then f.Uint else if n == 2 then f.Int else if n == 3 then f.IEEEFP else
-    if n == 4 then f.Void else f.Unknown n
+format_of n = unwrap_or (find_by format_number n named_formats) (f.Unknown n)
 
 -- the sample format, if it has a name
 abbrev pub named_format : SampleFormat → Option SampleFormat
@@ -279,8 +274,11 @@ extra_number e.Unspecified = 0
 extra_number e.AssociatedAlpha = 1
 extra_number e.UnassociatedAlpha = 2
 
+-- the meanings
+abbrev pub extras : List ExtraSamples
+extras =
+    e.Unspecified ∷ e.AssociatedAlpha ∷ e.UnassociatedAlpha ∷ []
+
 -- the meaning of a number, if there is one
 unfoldable pub extra_of : ℕ → Option ExtraSamples
-extra_of n =
-    if n == 0 then Some e.Unspecified else if n == 1 then Some e.AssociatedAlpha else
-    if n == 2 then Some e.UnassociatedAlpha else None
+extra_of n = find_by extra_number n extras

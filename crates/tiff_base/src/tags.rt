@@ -230,22 +230,22 @@ impl Tag {
 #[derive(Clone, Copy, Debug, PartialEq, Eq, Hash)]
 #[non_exhaustive]
 pub enum Type {
-    BYTE,
-    ASCII,
-    SHORT,
-    LONG,
-    RATIONAL,
-    SBYTE,
-    UNDEFINED,
-    SSHORT,
-    SLONG,
-    SRATIONAL,
-    FLOAT,
-    DOUBLE,
-    IFD,
-    LONG8,
-    SLONG8,
-    IFD8,
+    BYTE = 1,
+    ASCII = 2,
+    SHORT = 3,
+    LONG = 4,
+    RATIONAL = 5,
+    SBYTE = 6,
+    UNDEFINED = 7,
+    SSHORT = 8,
+    SLONG = 9,
+    SRATIONAL = 10,
+    FLOAT = 11,
+    DOUBLE = 12,
+    IFD = 13,
+    LONG8 = 16,
+    SLONG8 = 17,
+    IFD8 = 18,
 }
 
 impl Type {
@@ -279,24 +279,7 @@ impl Type {
     pub fn to_u16(&self) -> u16
         ensures { result ≡ type_number self.now }
     {
-        match *self {
-            Type::BYTE => 1,
-            Type::ASCII => 2,
-            Type::SHORT => 3,
-            Type::LONG => 4,
-            Type::RATIONAL => 5,
-            Type::SBYTE => 6,
-            Type::UNDEFINED => 7,
-            Type::SSHORT => 8,
-            Type::SLONG => 9,
-            Type::SRATIONAL => 10,
-            Type::FLOAT => 11,
-            Type::DOUBLE => 12,
-            Type::IFD => 13,
-            Type::LONG8 => 16,
-            Type::SLONG8 => 17,
-            Type::IFD8 => 18,
-        }
+        *self as u16
     }
 
     /// Returns the number of bytes of one value.
@@ -403,16 +386,16 @@ impl CompressionMethod {
 #[derive(Clone, Copy, Debug, PartialEq, Eq, Hash)]
 #[non_exhaustive]
 pub enum PhotometricInterpretation {
-    WhiteIsZero,
-    BlackIsZero,
-    RGB,
-    RGBPalette,
-    TransparencyMask,
-    CMYK,
-    YCbCr,
-    CIELab,
-    IccLab,
-    ItuLab,
+    WhiteIsZero = 0,
+    BlackIsZero = 1,
+    RGB = 2,
+    RGBPalette = 3,
+    TransparencyMask = 4,
+    CMYK = 5,
+    YCbCr = 6,
+    CIELab = 8,
+    IccLab = 9,
+    ItuLab = 10,
 }
 
 impl PhotometricInterpretation {
@@ -440,18 +423,7 @@ impl PhotometricInterpretation {
     pub fn to_u16(&self) -> u16
         ensures { result ≡ interpretation_number self.now }
     {
-        match *self {
-            PhotometricInterpretation::WhiteIsZero => 0,
-            PhotometricInterpretation::BlackIsZero => 1,
-            PhotometricInterpretation::RGB => 2,
-            PhotometricInterpretation::RGBPalette => 3,
-            PhotometricInterpretation::TransparencyMask => 4,
-            PhotometricInterpretation::CMYK => 5,
-            PhotometricInterpretation::YCbCr => 6,
-            PhotometricInterpretation::CIELab => 8,
-            PhotometricInterpretation::IccLab => 9,
-            PhotometricInterpretation::ItuLab => 10,
-        }
+        *self as u16
     }
 }
 
@@ -459,8 +431,8 @@ impl PhotometricInterpretation {
 #[derive(Clone, Copy, Debug, PartialEq, Eq, Hash)]
 #[non_exhaustive]
 pub enum PlanarConfiguration {
-    Chunky,
-    Planar,
+    Chunky = 1,
+    Planar = 2,
 }
 
 impl PlanarConfiguration {
@@ -480,10 +452,7 @@ impl PlanarConfiguration {
     pub fn to_u16(&self) -> u16
         ensures { result ≡ planar_number self.now }
     {
-        match *self {
-            PlanarConfiguration::Chunky => 1,
-            PlanarConfiguration::Planar => 2,
-        }
+        *self as u16
     }
 }
 
@@ -491,9 +460,9 @@ impl PlanarConfiguration {
 #[derive(Clone, Copy, Debug, PartialEq, Eq, Hash)]
 #[non_exhaustive]
 pub enum Predictor {
-    None,
-    Horizontal,
-    FloatingPoint,
+    None = 1,
+    Horizontal = 2,
+    FloatingPoint = 3,
 }
 
 impl Predictor {
@@ -514,11 +483,7 @@ impl Predictor {
     pub fn to_u16(&self) -> u16
         ensures { result ≡ predictor_number self.now }
     {
-        match *self {
-            Predictor::None => 1,
-            Predictor::Horizontal => 2,
-            Predictor::FloatingPoint => 3,
-        }
+        *self as u16
     }
 }
 
@@ -526,9 +491,9 @@ impl Predictor {
 #[derive(Clone, Copy, Debug, PartialEq, Eq, Hash)]
 #[non_exhaustive]
 pub enum ResolutionUnit {
-    None,
-    Inch,
-    Centimeter,
+    None = 1,
+    Inch = 2,
+    Centimeter = 3,
 }
 
 impl ResolutionUnit {
@@ -549,11 +514,7 @@ impl ResolutionUnit {
     pub fn to_u16(&self) -> u16
         ensures { result ≡ unit_number self.now }
     {
-        match *self {
-            ResolutionUnit::None => 1,
-            ResolutionUnit::Inch => 2,
-            ResolutionUnit::Centimeter => 3,
-        }
+        *self as u16
     }
 }
 
@@ -612,9 +573,9 @@ impl SampleFormat {
 #[derive(Clone, Copy, Debug, PartialEq, Eq, Hash)]
 #[non_exhaustive]
 pub enum ExtraSamples {
-    Unspecified,
-    AssociatedAlpha,
-    UnassociatedAlpha,
+    Unspecified = 0,
+    AssociatedAlpha = 1,
+    UnassociatedAlpha = 2,
 }
 
 impl ExtraSamples {
@@ -635,11 +596,7 @@ impl ExtraSamples {
     pub fn to_u16(&self) -> u16
         ensures { result ≡ extra_number self.now }
     {
-        match *self {
-            ExtraSamples::Unspecified => 0,
-            ExtraSamples::AssociatedAlpha => 1,
-            ExtraSamples::UnassociatedAlpha => 2,
-        }
+        *self as u16
     }
 }
 
