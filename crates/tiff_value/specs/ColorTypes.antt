@@ -1,8 +1,8 @@
 -- What each color type says about its samples (TIFF 6.0 sections 4 to 6, 16, 19, 21; their names as
 -- in the Rust crate).
-use Rattle.std.specs.Prelude.{ℕ, replicate}
+use Rattle.std.specs.Prelude.{ℕ, ◌*◌, replicate}
 use Rattle.tiff_base.specs.declared.tags.PhotometricInterpretation.{PhotometricInterpretation}
-use Rattle.tiff_base.specs.declared.tags.PhotometricInterpretation.TheVariants.{BlackIsZero, RGB, CMYK, YCbCr}
+use Rattle.tiff_base.specs.declared.tags.PhotometricInterpretation.TheVariants as meaning
 use Rattle.tiff_base.specs.declared.tags.SampleFormat.{SampleFormat}
 use Rattle.tiff_base.specs.declared.tags.SampleFormat.TheVariants.{Uint, Int, IEEEFP}
 use Rattle.tiff_base.specs.declared.tags.«Type».{«Type»}
@@ -21,71 +21,88 @@ samples_of interpretation samples bits format =
       formats = replicate samples format;
     }
 
+-- A family of color types: what the samples of a pixel mean, and how many they are (TIFF 6.0
+-- sections 4 to 6, 16, 21).
+pub data Family : Type 0 where
+  Gray : Family
+  RGB : Family
+  RGBA : Family
+  CMYK : Family
+  CMYKA : Family
+  YCbCr : Family
+
+-- the interpretation of a family
+abbrev pub meaning_of : Family → PhotometricInterpretation
+meaning_of Gray = meaning.BlackIsZero
+meaning_of RGB = meaning.RGB
+meaning_of RGBA = meaning.RGB
+meaning_of CMYK = meaning.CMYK
+meaning_of CMYKA = meaning.CMYK
+meaning_of YCbCr = meaning.YCbCr
+
+-- the number of samples of a pixel of a family
+abbrev pub count_of : Family → ℕ
+count_of Gray = 1
+count_of RGB = 3
+count_of RGBA = 4
+count_of CMYK = 4
+count_of CMYKA = 5
+count_of YCbCr = 3
+
+-- the sample format of samples of a field type (TIFF 6.0 section 19)
+abbrev pub format_of_type : «Type» → SampleFormat
+format_of_type t.SBYTE = Int
+format_of_type t.SSHORT = Int
+format_of_type t.SLONG = Int
+format_of_type t.SLONG8 = Int
+format_of_type t.FLOAT = IEEEFP
+format_of_type t.DOUBLE = IEEEFP
+format_of_type type = Uint
+
+-- the family of each color type, and the field type of its samples in memory; floating-point
+-- samples are their bits
+abbrev pub form_of : ColorTypeName → Family × «Type»
+form_of n.Gray8 = (Gray, t.BYTE)
+form_of n.Gray16 = (Gray, t.SHORT)
+form_of n.Gray32 = (Gray, t.LONG)
+form_of n.Gray64 = (Gray, t.LONG8)
+form_of n.GrayI8 = (Gray, t.SBYTE)
+form_of n.GrayI16 = (Gray, t.SSHORT)
+form_of n.GrayI32 = (Gray, t.SLONG)
+form_of n.GrayI64 = (Gray, t.SLONG8)
+form_of n.Gray32Float = (Gray, t.FLOAT)
+form_of n.Gray64Float = (Gray, t.DOUBLE)
+form_of n.RGB8 = (RGB, t.BYTE)
+form_of n.RGB16 = (RGB, t.SHORT)
+form_of n.RGB32 = (RGB, t.LONG)
+form_of n.RGB64 = (RGB, t.LONG8)
+form_of n.RGB32Float = (RGB, t.FLOAT)
+form_of n.RGB64Float = (RGB, t.DOUBLE)
+form_of n.RGBA8 = (RGBA, t.BYTE)
+form_of n.RGBA16 = (RGBA, t.SHORT)
+form_of n.RGBA32 = (RGBA, t.LONG)
+form_of n.RGBA64 = (RGBA, t.LONG8)
+form_of n.RGBA32Float = (RGBA, t.FLOAT)
+form_of n.RGBA64Float = (RGBA, t.DOUBLE)
+form_of n.CMYK8 = (CMYK, t.BYTE)
+form_of n.CMYK16 = (CMYK, t.SHORT)
+form_of n.CMYK32 = (CMYK, t.LONG)
+form_of n.CMYK64 = (CMYK, t.LONG8)
+form_of n.CMYK32Float = (CMYK, t.FLOAT)
+form_of n.CMYK64Float = (CMYK, t.DOUBLE)
+form_of n.YCbCr8 = (YCbCr, t.BYTE)
+form_of n.CMYKA8 = (CMYKA, t.BYTE)
+
 -- the interpretation, the numbers of bits and the sample formats of each color type
 unfoldable pub color_type : ColorTypeName → ColorTypeRecord
-color_type n.Gray8 = samples_of BlackIsZero 1 8 Uint
-color_type n.Gray16 = samples_of BlackIsZero 1 16 Uint
-color_type n.Gray32 = samples_of BlackIsZero 1 32 Uint
-color_type n.Gray64 = samples_of BlackIsZero 1 64 Uint
-color_type n.GrayI8 = samples_of BlackIsZero 1 8 Int
-color_type n.GrayI16 = samples_of BlackIsZero 1 16 Int
-color_type n.GrayI32 = samples_of BlackIsZero 1 32 Int
-color_type n.GrayI64 = samples_of BlackIsZero 1 64 Int
-color_type n.Gray32Float = samples_of BlackIsZero 1 32 IEEEFP
-color_type n.Gray64Float = samples_of BlackIsZero 1 64 IEEEFP
-color_type n.RGB8 = samples_of RGB 3 8 Uint
-color_type n.RGB16 = samples_of RGB 3 16 Uint
-color_type n.RGB32 = samples_of RGB 3 32 Uint
-color_type n.RGB64 = samples_of RGB 3 64 Uint
-color_type n.RGB32Float = samples_of RGB 3 32 IEEEFP
-color_type n.RGB64Float = samples_of RGB 3 64 IEEEFP
-color_type n.RGBA8 = samples_of RGB 4 8 Uint
-color_type n.RGBA16 = samples_of RGB 4 16 Uint
-color_type n.RGBA32 = samples_of RGB 4 32 Uint
-color_type n.RGBA64 = samples_of RGB 4 64 Uint
-color_type n.RGBA32Float = samples_of RGB 4 32 IEEEFP
-color_type n.RGBA64Float = samples_of RGB 4 64 IEEEFP
-color_type n.CMYK8 = samples_of CMYK 4 8 Uint
-color_type n.CMYK16 = samples_of CMYK 4 16 Uint
-color_type n.CMYK32 = samples_of CMYK 4 32 Uint
-color_type n.CMYK64 = samples_of CMYK 4 64 Uint
-color_type n.CMYK32Float = samples_of CMYK 4 32 IEEEFP
-color_type n.CMYK64Float = samples_of CMYK 4 64 IEEEFP
-color_type n.YCbCr8 = samples_of YCbCr 3 8 Uint
-color_type n.CMYKA8 = samples_of CMYK 5 8 Uint
+color_type name =
+    let family = (form_of name).0 in
+    let inner = (form_of name).1 in
+    samples_of (meaning_of family) (count_of family) (8 * type_size inner) (format_of_type inner)
 
--- the field type of the samples of a color type in memory; floating-point samples are their bits
+-- the field type of the samples of a color type in memory
 unfoldable pub inner_type : ColorTypeName → «Type»
-inner_type n.Gray8 = t.BYTE
-inner_type n.Gray16 = t.SHORT
-inner_type n.Gray32 = t.LONG
-inner_type n.Gray64 = t.LONG8
-inner_type n.GrayI8 = t.SBYTE
-inner_type n.GrayI16 = t.SSHORT
-inner_type n.GrayI32 = t.SLONG
-inner_type n.GrayI64 = t.SLONG8
-inner_type n.Gray32Float = t.FLOAT
-inner_type n.Gray64Float = t.DOUBLE
-inner_type n.RGB8 = t.BYTE
-inner_type n.RGB16 = t.SHORT
-inner_type n.RGB32 = t.LONG
-inner_type n.RGB64 = t.LONG8
-inner_type n.RGB32Float = t.FLOAT
-inner_type n.RGB64Float = t.DOUBLE
-inner_type n.RGBA8 = t.BYTE
-inner_type n.RGBA16 = t.SHORT
-inner_type n.RGBA32 = t.LONG
-inner_type n.RGBA64 = t.LONG8
-inner_type n.RGBA32Float = t.FLOAT
-inner_type n.RGBA64Float = t.DOUBLE
-inner_type n.CMYK8 = t.BYTE
-inner_type n.CMYK16 = t.SHORT
-inner_type n.CMYK32 = t.LONG
-inner_type n.CMYK64 = t.LONG8
-inner_type n.CMYK32Float = t.FLOAT
-inner_type n.CMYK64Float = t.DOUBLE
-inner_type n.YCbCr8 = t.BYTE
-inner_type n.CMYKA8 = t.BYTE
+inner_type name = (form_of name).1
 
 -- the number of bytes of a sample of a color type in memory
 abbrev pub inner_size : ColorTypeName → ℕ
