@@ -125,6 +125,7 @@ impl<W: Sink> TiffWriter<W> {
     }
 
     // Writes some of the bytes by one call of the sink.
+    #[inline(always)]
     fn write_some(&mut self, bytes: &[u8]) -> TiffResult<usize>
         requires some { 0 < length bytes.now }
         requires fresh { self.old.fault ≡ None }
@@ -156,6 +157,7 @@ impl<W: Sink> TiffWriter<W> {
     }
 
     // Writes all of the bytes, without an update of `last_written`.
+    #[inline(always)]
     fn write_raw(&mut self, bytes: &[u8]) -> TiffResult<()>
         ensures { WritesRaw bytes.now self.old self.new result }
     {
