@@ -12,7 +12,7 @@ use Rattle.tiff_base.specs.Number.{le}
 use Rattle.tiff_base.specs.SourceAndSink.{put}
 use Rattle.tiff_value.specs.declared.encoder.colortype.ColorTypeName.{ColorTypeName}
 use Rattle.tiff_value.specs.ColorType.{ColorTypeRecord}
-use Rattle.tiff_value.specs.ColorTypes.{color_type, inner_size}
+use Rattle.tiff_value.specs.ColorTypes.{Family, count_of, color_type, inner_size}
 use Rattle.tiff_page.specs.Page.{PageRecord}
 use Rattle.tiff_page.specs.Layout.{color_from, color_of}
 use Rattle.tiff_encode.specs.FileBytes.{offset_len}
@@ -34,7 +34,7 @@ use Rattle.tiff_encode.proofs.WriteOps.{ops_stand, ops_grow, link_kept}
 use Rattle.tiff_encode.proofs.Open.Begun.{begins_open}
 use Rattle.tiff_encode.proofs.Image.FitsCalls.{put_longer, done_longer}
 use Rattle.tiff_encode.proofs.Image.Fits.{new_image_fits}
-use Rattle.tiff_encode.proofs.Shown.Color.{Family, count_of, HasColor, IsOf, of_family, family_has}
+use Rattle.tiff_encode.proofs.Shown.Color.{HasColor, IsOf, of_family, family_has}
 use Rattle.tiff_encode.proofs.Image.FitsCalls.{adding_done}
 use Rattle.tiff_encode.proofs.Data.Chunks.{data_chunks, chunks_done, data_patches, same_directory}
 use Rattle.tiff_encode.proofs.Data.Leaves.{StillStands, appended_stands, data_stopped, data_torn, IsWritten, data_written, data_stands}

@@ -1,20 +1,20 @@
 -- All samples of a named color type have the same depth and the same format.
-use Rattle.std.proofs.Common.{zero, suc, ◌≡◌, ℕ, ◌+◌, ◌^◌, ◌<◌, ◌==◌, List, ◌∷◌, ◌++◌, length, map, replicate, get_or, true, Some, Ok, refl, ap, sym, ◌∙◌, subst, arith, lit<}
+use Rattle.std.proofs.Common.{zero, suc, ◌≡◌, ℕ, ◌+◌, ◌-◌, ◌*◌, ◌^◌, ◌<◌, ◌==◌, List, ◌∷◌, ◌++◌, length, map, replicate, get_or, true, Some, Ok, refl, ap, sym, ◌∙◌, subst, arith, lit<}
 use Rattle.std.proofs.lemmas.Bool.{eq-eqb, ne_eqb}
 use Rattle.std.proofs.lemmas.List.{length-replicate}
 use Rattle.std.specs.List.{list_all}
 use Rattle.tiff_base.specs.declared.tags.FileKind.{FileKind}
-use Rattle.tiff_base.specs.declared.tags.PhotometricInterpretation.{PhotometricInterpretation}
-use Rattle.tiff_base.specs.declared.tags.PhotometricInterpretation.TheVariants as meaning
 use Rattle.tiff_base.specs.declared.tags.SampleFormat.{SampleFormat}
-use Rattle.tiff_base.specs.declared.tags.SampleFormat.TheVariants.{Uint, Int, IEEEFP}
 use Rattle.tiff_base.specs.declared.tags.Tag.TheVariants as tag
+use Rattle.tiff_base.specs.declared.tags.«Type».{«Type»}
+use Rattle.tiff_base.specs.declared.tags.«Type».TheVariants as field
 use Rattle.tiff_base.specs.Tags.{format_number}
 use Rattle.tiff_base.specs.Tags as kinds
+use Rattle.tiff_base.specs.Types.{type_size}
 use Rattle.tiff_value.specs.ColorType.{ColorTypeRecord}
 use Rattle.tiff_value.specs.declared.encoder.colortype.ColorTypeName.{ColorTypeName}
-use Rattle.tiff_value.specs.declared.encoder.colortype.ColorTypeName.TheVariants as n
-use Rattle.tiff_value.specs.ColorTypes.{samples_of, color_type}
+use Rattle.tiff_value.specs.ColorTypes.{Family, count_of, format_of_type, form_of, color_type}
+use Rattle.tiff_value.proofs.ColorTypes.{are_color_types}
 use Rattle.tiff_ifd.proofs.Fitted.{all_fit}
 use Rattle.tiff_page.specs.Checks.{format_from, depth_from}
 use Rattle.tiff_encode.specs.Machine.{OpenImage}
@@ -37,82 +37,44 @@ pub record AreAlike (c : ColorTypeRecord) : Type 0 where
   pub named : kinds.format_of (format_number format) ≡ format
   pub small : format_number format < 2 ^ 16
 
--- colors of k unsigned integers, signed integers or floats
-uints : (x : PhotometricInterpretation) (k b : ℕ) → 0 < b → b < 2 ^ 8 → AreAlike (samples_of x (suc k) b Uint)
-unfolding kinds.format_of
-uints x k b p q = record {
-  more = k;
-  depth = b;
-  format = Uint;
-  bits = refl;
-  formats = refl;
-  some = p;
-  few = q;
-  named = refl;
-  small = lit< tt;
-}
+-- a number of a field type has at least one bit, and fewer than 256
+some_bits : (type : «Type») → 0 < 8 * type_size type
+some_bits field.BYTE = lit< tt
+some_bits type = lit< tt
 
-ints : (x : PhotometricInterpretation) (k b : ℕ) → 0 < b → b < 2 ^ 8 → AreAlike (samples_of x (suc k) b Int)
-unfolding kinds.format_of
-ints x k b p q = record {
-  more = k;
-  depth = b;
-  format = Int;
-  bits = refl;
-  formats = refl;
-  some = p;
-  few = q;
-  named = refl;
-  small = lit< tt;
-}
+few_bits : (type : «Type») → 8 * type_size type < 2 ^ 8
+few_bits field.BYTE = lit< tt
+few_bits type = lit< tt
 
-floats : (x : PhotometricInterpretation) (k b : ℕ) → 0 < b → b < 2 ^ 8 → AreAlike (samples_of x (suc k) b IEEEFP)
+-- the sample format of a field type is a named one, and its number fits in two bytes
+named_format : (type : «Type») → kinds.format_of (format_number (format_of_type type)) ≡ format_of_type type
 unfolding kinds.format_of
-floats x k b p q = record {
-  more = k;
-  depth = b;
-  format = IEEEFP;
-  bits = refl;
-  formats = refl;
-  some = p;
-  few = q;
-  named = refl;
-  small = lit< tt;
-}
+named_format field.BYTE = refl
+named_format type = refl
+
+small_format : (type : «Type») → format_number (format_of_type type) < 2 ^ 16
+small_format field.BYTE = lit< tt
+small_format type = lit< tt
 
 -- the samples of each named color type are alike
 pub named_alike : (name : ColorTypeName) → AreAlike (color_type name)
 unfolding color_type
-named_alike n.Gray8 = uints meaning.BlackIsZero 0 8 (lit< tt) (lit< tt)
-named_alike n.Gray16 = uints meaning.BlackIsZero 0 16 (lit< tt) (lit< tt)
-named_alike n.Gray32 = uints meaning.BlackIsZero 0 32 (lit< tt) (lit< tt)
-named_alike n.Gray64 = uints meaning.BlackIsZero 0 64 (lit< tt) (lit< tt)
-named_alike n.GrayI8 = ints meaning.BlackIsZero 0 8 (lit< tt) (lit< tt)
-named_alike n.GrayI16 = ints meaning.BlackIsZero 0 16 (lit< tt) (lit< tt)
-named_alike n.GrayI32 = ints meaning.BlackIsZero 0 32 (lit< tt) (lit< tt)
-named_alike n.GrayI64 = ints meaning.BlackIsZero 0 64 (lit< tt) (lit< tt)
-named_alike n.Gray32Float = floats meaning.BlackIsZero 0 32 (lit< tt) (lit< tt)
-named_alike n.Gray64Float = floats meaning.BlackIsZero 0 64 (lit< tt) (lit< tt)
-named_alike n.RGB8 = uints meaning.RGB 2 8 (lit< tt) (lit< tt)
-named_alike n.RGB16 = uints meaning.RGB 2 16 (lit< tt) (lit< tt)
-named_alike n.RGB32 = uints meaning.RGB 2 32 (lit< tt) (lit< tt)
-named_alike n.RGB64 = uints meaning.RGB 2 64 (lit< tt) (lit< tt)
-named_alike n.RGB32Float = floats meaning.RGB 2 32 (lit< tt) (lit< tt)
-named_alike n.RGB64Float = floats meaning.RGB 2 64 (lit< tt) (lit< tt)
-named_alike n.RGBA8 = uints meaning.RGB 3 8 (lit< tt) (lit< tt)
-named_alike n.RGBA16 = uints meaning.RGB 3 16 (lit< tt) (lit< tt)
-named_alike n.RGBA32 = uints meaning.RGB 3 32 (lit< tt) (lit< tt)
-named_alike n.RGBA64 = uints meaning.RGB 3 64 (lit< tt) (lit< tt)
-named_alike n.RGBA32Float = floats meaning.RGB 3 32 (lit< tt) (lit< tt)
-named_alike n.RGBA64Float = floats meaning.RGB 3 64 (lit< tt) (lit< tt)
-named_alike n.CMYK8 = uints meaning.CMYK 3 8 (lit< tt) (lit< tt)
-named_alike n.CMYK16 = uints meaning.CMYK 3 16 (lit< tt) (lit< tt)
-named_alike n.CMYK32 = uints meaning.CMYK 3 32 (lit< tt) (lit< tt)
-named_alike n.CMYK64 = uints meaning.CMYK 3 64 (lit< tt) (lit< tt)
-named_alike n.CMYK32Float = floats meaning.CMYK 3 32 (lit< tt) (lit< tt)
-named_alike n.CMYK64Float = floats meaning.CMYK 3 64 (lit< tt) (lit< tt)
-named_alike n.YCbCr8 = uints meaning.YCbCr 2 8 (lit< tt) (lit< tt)
-named_alike n.CMYKA8 = uints meaning.CMYK 4 8 (lit< tt) (lit< tt)
+named_alike name =
+    let f : Family = (form_of name).0 in
+    let type : «Type» = (form_of name).1 in
+    let bits : ℕ = 8 * type_size type in
+    let count : count_of f ≡ suc (count_of f - 1) = omega (arith, (are_color_types name).some, length-replicate (count_of f) bits) in
+    record {
+      more = count_of f - 1;
+      depth = bits;
+      format = format_of_type type;
+      bits = ap (λ k. replicate k bits) count;
+      formats = ap (λ k. replicate k (format_of_type type)) count;
+      some = some_bits type;
+      few = few_bits type;
+      named = named_format type;
+      small = small_format type;
+    }
 
 -- ---- equal numbers
 

@@ -9,18 +9,19 @@ use Rattle.tiff_base.specs.declared.tags.PlanarConfiguration.{PlanarConfiguratio
 use Rattle.tiff_base.specs.declared.tags.PlanarConfiguration.TheVariants.{Chunky}
 use Rattle.tiff_base.specs.Color.{num_samples}
 use Rattle.tiff_value.specs.ColorType.{ColorTypeRecord}
-use Rattle.tiff_value.specs.ColorTypes.{color_type}
+use Rattle.tiff_value.specs.ColorTypes.{Family, meaning_of, count_of, color_type}
+use Rattle.tiff_value.specs.ColorTypes as family
 use Rattle.tiff_page.specs.Page.{PageRecord}
 use Rattle.tiff_page.specs.Layout.{color_from, color_of, samples_in_chunk}
 use Rattle.tiff_encode.specs.Machine.{OpenImage}
-use Rattle.tiff_encode.specs.Chunks.{all_samples, image_page}
+use Rattle.tiff_encode.specs.Chunks.{all_samples}
 use Rattle.tiff_encode.specs.Open.{IsOpen}
 use Rattle.tiff_encode.specs.ImageData.{AreNumbers, image_of_samples}
 use Rattle.tiff_encode.specs.ReadsBack.{AllShown, HasSamplesOf, ShownIsRead, WrittenIsRead}
 use Rattle.tiff_encode.proofs.Data.Begun.{new_is}
 use Rattle.tiff_encode.proofs.ReadsBack.Entries.{reads_shown}
 use Rattle.tiff_encode.proofs.ReadsBack.Written.{shown_in_order}
-use Rattle.tiff_encode.proofs.Shown.Color.{Family, OneGray, ThreeRgb, FourRgb, FourCmyk, FiveCmyk, ThreeYcbcr, meaning_of, count_of, IsOf, of_family, IsColored, colored}
+use Rattle.tiff_encode.proofs.Shown.Color.{IsOf, of_family, IsColored, colored}
 use Rattle.tiff_encode.proofs.Slices.{ok_inj}
 
 -- ---- a color with all samples
@@ -29,12 +30,12 @@ module _ (p : PageRecord) where
   -- a page of a family without extra samples has a color with the same number of samples
   counted : (f : Family) (color : ColorType) → color_from (meaning_of f) (record p { samples = count_of f; extra = [] }) ≡ Ok color
       → num_samples color ≡ count_of f
-  counted OneGray color e = ap num_samples (sym (ok_inj (Gray p.depth) color e))
-  counted ThreeRgb color e = ap num_samples (sym (ok_inj (RGB p.depth) color e))
-  counted FourRgb color e = ap num_samples (sym (ok_inj (RGBA p.depth) color e))
-  counted FourCmyk color e = ap num_samples (sym (ok_inj (CMYK p.depth) color e))
-  counted FiveCmyk color e = ap num_samples (sym (ok_inj (CMYKA p.depth) color e))
-  counted ThreeYcbcr color e = ap num_samples (sym (ok_inj (YCbCr p.depth) color e))
+  counted family.Gray color e = ap num_samples (sym (ok_inj (Gray p.depth) color e))
+  counted family.RGB color e = ap num_samples (sym (ok_inj (RGB p.depth) color e))
+  counted family.RGBA color e = ap num_samples (sym (ok_inj (RGBA p.depth) color e))
+  counted family.CMYK color e = ap num_samples (sym (ok_inj (CMYK p.depth) color e))
+  counted family.CMYKA color e = ap num_samples (sym (ok_inj (CMYKA p.depth) color e))
+  counted family.YCbCr color e = ap num_samples (sym (ok_inj (YCbCr p.depth) color e))
 
   all_counted : (f : Family) (color : ColorType) → p.samples ≡ count_of f → p.extra ≡ [] → color_from (meaning_of f) p ≡ Ok color
       → num_samples color ≡ count_of f

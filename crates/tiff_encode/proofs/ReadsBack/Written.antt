@@ -14,12 +14,14 @@ use Rattle.tiff_base.specs.declared.tags.Predictor.{Predictor}
 use Rattle.tiff_base.specs.declared.tags.Predictor.TheVariants as predictor
 use Rattle.tiff_base.specs.declared.tags.SampleFormat.{SampleFormat}
 use Rattle.tiff_base.specs.declared.tags.SampleFormat.TheVariants.{Uint, Int, IEEEFP, Void, Unknown}
+use Rattle.tiff_base.specs.declared.tags.«Type».{«Type»}
+use Rattle.tiff_base.specs.declared.tags.«Type».TheVariants as field
+use Rattle.tiff_base.specs.Types.{type_size}
 use Rattle.tiff_value.specs.declared.encoder.colortype.ColorTypeName.{ColorTypeName}
-use Rattle.tiff_value.specs.declared.encoder.colortype.ColorTypeName.TheVariants as n
 use Rattle.tiff_value.specs.ColorType.{ColorTypeRecord}
-use Rattle.tiff_value.specs.ColorTypes.{color_type}
+use Rattle.tiff_value.specs.ColorTypes.{Family, meaning_of, format_of_type, form_of, color_type}
+use Rattle.tiff_value.specs.ColorTypes as family
 use Rattle.tiff_page.specs.declared.layout.DecodingSampleType.{DecodingSampleType}
-use Rattle.tiff_page.specs.declared.layout.DecodingSampleType.TheVariants.{U8, U16, U32, U64, F32, F64, I8, I16, I32, I64}
 use Rattle.tiff_page.specs.Page.{PageRecord}
 use Rattle.tiff_page.specs.Layout.{samples_in_chunk, first_is_alpha, photometric, no_color, color_from, color_of, whole_chroma, sample_type_from, sample_type_of}
 use Rattle.tiff_page.specs.Methods.{method_fault}
@@ -31,44 +33,28 @@ use Rattle.tiff_encode.specs.Machine.{OpenImage}
 use Rattle.tiff_encode.specs.Chunks.{all_samples, subsampling_of, image_page}
 use Rattle.tiff_encode.specs.Open.{IsOpen}
 use Rattle.tiff_encode.specs.ReadsBack.{IsReadable, WrittenReadsBack, ShownInOrder}
-use Rattle.tiff_encode.proofs.Shown.Color.{Family, OneGray, ThreeRgb, FourRgb, FourCmyk, FiveCmyk, ThreeYcbcr, meaning_of, IsOf, of_family, IsColored, colored}
+use Rattle.tiff_encode.proofs.Shown.Color.{IsOf, of_family, first_of, IsColored, colored}
 use Rattle.tiff_encode.proofs.ReadsBack.Entries.{reads_back}
 
 -- ---- the sample type
 
+-- samples of each field type have a sample type
+type_of_numbers : (type : «Type») → (t : DecodingSampleType) × (sample_type_from (format_of_type type) (8 * type_size type) ≡ Ok t)
+type_of_numbers field.BYTE = (_, refl)
+type_of_numbers type = (_, refl)
+
 -- each named color type has a sample type
 typed : (name : ColorTypeName) → (t : DecodingSampleType) × (sample_type_from (get_or (color_type name).formats 0 Void) (get_or (color_type name).bits 0 0) ≡ Ok t)
 unfolding color_type
-typed n.Gray8 = (U8, refl)
-typed n.Gray16 = (U16, refl)
-typed n.Gray32 = (U32, refl)
-typed n.Gray64 = (U64, refl)
-typed n.GrayI8 = (I8, refl)
-typed n.GrayI16 = (I16, refl)
-typed n.GrayI32 = (I32, refl)
-typed n.GrayI64 = (I64, refl)
-typed n.Gray32Float = (F32, refl)
-typed n.Gray64Float = (F64, refl)
-typed n.RGB8 = (U8, refl)
-typed n.RGB16 = (U16, refl)
-typed n.RGB32 = (U32, refl)
-typed n.RGB64 = (U64, refl)
-typed n.RGB32Float = (F32, refl)
-typed n.RGB64Float = (F64, refl)
-typed n.RGBA8 = (U8, refl)
-typed n.RGBA16 = (U16, refl)
-typed n.RGBA32 = (U32, refl)
-typed n.RGBA64 = (U64, refl)
-typed n.RGBA32Float = (F32, refl)
-typed n.RGBA64Float = (F64, refl)
-typed n.CMYK8 = (U8, refl)
-typed n.CMYK16 = (U16, refl)
-typed n.CMYK32 = (U32, refl)
-typed n.CMYK64 = (U64, refl)
-typed n.CMYK32Float = (F32, refl)
-typed n.CMYK64Float = (F64, refl)
-typed n.YCbCr8 = (U8, refl)
-typed n.CMYKA8 = (U8, refl)
+typed name =
+    let f : Family = (form_of name).0 in
+    let type : «Type» = (form_of name).1 in
+    let there = type_of_numbers type in (
+      there.0,
+      ap (λ (format : SampleFormat). sample_type_from format (get_or (color_type name).bits 0 0)) (first_of f (format_of_type type) Void)
+          ∙ ap (λ (depth : ℕ). sample_type_from (format_of_type type) depth) (first_of f (8 * type_size type) 0)
+          ∙ there.1,
+    )
 
 -- samples of a sample type are numbers
 numbered : (f : SampleFormat) (d : ℕ) (t : DecodingSampleType) → sample_type_from f d ≡ Ok t → is_number f ≡ true
@@ -100,28 +86,24 @@ module _ (p : PageRecord) where
   one_taken : (k : ℕ) (x : ColorType) → IsTaken p (Ok x) → IsTaken p (cond (photometric p == k) (Ok x) (no_color p))
   one_taken k x a = given_if (IsTaken p) (photometric p == k) (Ok x) (no_color p) a none_taken
 
-  rgb_taken : IsTaken p (color_from (meaning_of ThreeRgb) p)
+  rgb_taken : IsTaken p (color_from (meaning_of family.RGB) p)
   rgb_taken = some_taken 3 (RGBA p.depth) (RGB p.depth) (cond (photometric p == 4) (Ok (RGBA p.depth)) (no_color p)) (refl, refl) (refl, refl) (one_taken 4 (RGBA p.depth) (refl, refl))
 
-  cmyk_taken : IsTaken p (color_from (meaning_of FourCmyk) p)
+  cmyk_taken : IsTaken p (color_from (meaning_of family.CMYK) p)
   cmyk_taken = some_taken 4 (CMYKA p.depth) (CMYK p.depth) (cond (photometric p == 5) (Ok (CMYKA p.depth)) (no_color p)) (refl, refl) (refl, refl) (one_taken 5 (CMYKA p.depth) (refl, refl))
 
   family_taken : (f : Family) → p.subsampling ≡ subsampling_of (meaning_of f) → IsTaken p (color_from (meaning_of f) p)
-  family_taken OneGray e = given_if (IsTaken p) (p.samples == 1) (Ok (Gray p.depth)) (Ok (Multiband p.depth p.samples)) (refl, refl) (refl, refl)
-  family_taken ThreeRgb e = rgb_taken
-  family_taken FourRgb e = rgb_taken
-  family_taken FourCmyk e = cmyk_taken
-  family_taken FiveCmyk e = cmyk_taken
-  family_taken ThreeYcbcr e = one_taken 3 (YCbCr p.depth) (refl, rw e refl)
+  family_taken family.Gray e = given_if (IsTaken p) (p.samples == 1) (Ok (Gray p.depth)) (Ok (Multiband p.depth p.samples)) (refl, refl) (refl, refl)
+  family_taken family.RGB e = rgb_taken
+  family_taken family.RGBA e = rgb_taken
+  family_taken family.CMYK e = cmyk_taken
+  family_taken family.CMYKA e = cmyk_taken
+  family_taken family.YCbCr e = one_taken 3 (YCbCr p.depth) (refl, rw e refl)
 
   -- no color of a family is inverted
   family_upright : (f : Family) (c : ColorType) → white_from (meaning_of f) p c ≡ Ok tt
-  family_upright OneGray c = refl
-  family_upright ThreeRgb c = refl
-  family_upright FourRgb c = refl
-  family_upright FourCmyk c = refl
-  family_upright FiveCmyk c = refl
-  family_upright ThreeYcbcr c = refl
+  family_upright family.Gray c = refl
+  family_upright f c = refl
 
   -- the decoder supports the predictors that the encoder writes
   undone : (q : Predictor) (c : ColorType) → (q ≡ predictor.None) ⊎ (q ≡ predictor.Horizontal) → is_number p.format ≡ true → fault_of_predictor q p c ≡ Ok tt

@@ -1,5 +1,5 @@
 -- The page of an image of a named color type has a color with no more samples than a pixel.
-use Rattle.std.proofs.Common.{◌≡◌, ◌==◌, ℕ, ◌+◌, ◌*◌, ◌≤◌, ◌⊎◌, true, false, cond, Bool, List, [], ◌∷◌, length, get_or, replicate, Ok, refl, ap, ◌∙◌, inl, inr, arith}
+use Rattle.std.proofs.Common.{◌≡◌, ◌==◌, ℕ, ◌+◌, ◌*◌, ◌≤◌, ◌⊎◌, true, false, cond, Bool, List, [], ◌∷◌, length, get_or, replicate, Ok, refl, ap, ◌∙◌, arith}
 use Rattle.std.proofs.lemmas.Bool.{ne_eqb}
 use Rattle.std.proofs.lemmas.List.{length-replicate}
 use Rattle.tiff_base.specs.declared.color.ColorType.{ColorType}
@@ -7,45 +7,21 @@ use Rattle.tiff_base.specs.declared.color.ColorType.TheVariants.{Gray, RGB, RGBA
 use Rattle.tiff_base.specs.declared.tags.ExtraSamples.{ExtraSamples}
 use Rattle.tiff_base.specs.declared.tags.PhotometricInterpretation.{PhotometricInterpretation}
 use Rattle.tiff_base.specs.declared.tags.PhotometricInterpretation.TheVariants as meaning
-use Rattle.tiff_base.specs.declared.tags.SampleFormat.{SampleFormat}
-use Rattle.tiff_base.specs.declared.tags.SampleFormat.TheVariants.{Uint, Int, IEEEFP}
+use Rattle.tiff_base.specs.declared.tags.«Type».{«Type»}
+use Rattle.tiff_base.specs.declared.tags.«Type».TheVariants as field
 use Rattle.tiff_base.specs.Color.{num_samples}
+use Rattle.tiff_base.specs.Types.{type_size}
 use Rattle.tiff_value.specs.declared.encoder.colortype.ColorTypeName.{ColorTypeName}
-use Rattle.tiff_value.specs.declared.encoder.colortype.ColorTypeName.TheVariants as n
 use Rattle.tiff_value.specs.ColorType.{ColorTypeRecord}
-use Rattle.tiff_value.specs.ColorTypes.{samples_of, color_type, inner_type, inner_size}
+use Rattle.tiff_value.specs.ColorTypes.{Family, meaning_of, count_of, form_of, color_type, inner_type, inner_size}
+use Rattle.tiff_value.specs.ColorTypes as family
 use Rattle.tiff_page.specs.Page.{PageRecord}
 use Rattle.tiff_page.specs.Layout.{first_is_alpha, photometric, color_from, color_of}
 use Rattle.tiff_page.specs.Pixels.{shown_number}
 use Rattle.tiff_encode.specs.Machine.{OpenImage}
 use Rattle.tiff_encode.specs.Chunks.{all_samples, image_page}
 
--- ---- six families
-
--- a photometric interpretation and a number of samples
-pub data Family : Type 0 where
-  OneGray : Family
-  ThreeRgb : Family
-  FourRgb : Family
-  FourCmyk : Family
-  FiveCmyk : Family
-  ThreeYcbcr : Family
-
-abbrev pub meaning_of : Family → PhotometricInterpretation
-meaning_of OneGray = meaning.BlackIsZero
-meaning_of ThreeRgb = meaning.RGB
-meaning_of FourRgb = meaning.RGB
-meaning_of FourCmyk = meaning.CMYK
-meaning_of FiveCmyk = meaning.CMYK
-meaning_of ThreeYcbcr = meaning.YCbCr
-
-abbrev pub count_of : Family → ℕ
-count_of OneGray = 1
-count_of ThreeRgb = 3
-count_of FourRgb = 4
-count_of FourCmyk = 4
-count_of FiveCmyk = 5
-count_of ThreeYcbcr = 3
+-- ---- the form of a color type
 
 -- the number of bytes that a sample may have
 abbrev pub IsSize : ℕ → Type 0
@@ -58,55 +34,20 @@ pub record IsOf (c : ColorTypeRecord) (size : ℕ) : Type 0 where
   pub bits : c.bits ≡ replicate (count_of family) (8 * size)
   pub is_size : IsSize size
 
-alike : (f : Family) (size : ℕ) (format : SampleFormat) → IsSize size
-    → IsOf (samples_of (meaning_of f) (count_of f) (8 * size) format) size
-alike f size format s = record { family = f; interpretation = refl; bits = refl; is_size = s }
-
-one : IsSize 1
-one = inl refl
-
-two : IsSize 2
-two = inr (inl refl)
-
-four : IsSize 4
-four = inr (inr (inl refl))
-
-eight : IsSize 8
-eight = inr (inr (inr refl))
+-- a number of each field type has a number of bytes that a sample may have
+size_of_type : (type : «Type») → IsSize (type_size type)
+size_of_type field.BYTE = grind arith
+size_of_type type = grind arith
 
 -- each named color type is of a family
 pub of_family : (name : ColorTypeName) → IsOf (color_type name) (inner_size name)
 unfolding color_type inner_type
-of_family n.Gray8 = alike OneGray 1 Uint one
-of_family n.Gray16 = alike OneGray 2 Uint two
-of_family n.Gray32 = alike OneGray 4 Uint four
-of_family n.Gray64 = alike OneGray 8 Uint eight
-of_family n.GrayI8 = alike OneGray 1 Int one
-of_family n.GrayI16 = alike OneGray 2 Int two
-of_family n.GrayI32 = alike OneGray 4 Int four
-of_family n.GrayI64 = alike OneGray 8 Int eight
-of_family n.Gray32Float = alike OneGray 4 IEEEFP four
-of_family n.Gray64Float = alike OneGray 8 IEEEFP eight
-of_family n.RGB8 = alike ThreeRgb 1 Uint one
-of_family n.RGB16 = alike ThreeRgb 2 Uint two
-of_family n.RGB32 = alike ThreeRgb 4 Uint four
-of_family n.RGB64 = alike ThreeRgb 8 Uint eight
-of_family n.RGB32Float = alike ThreeRgb 4 IEEEFP four
-of_family n.RGB64Float = alike ThreeRgb 8 IEEEFP eight
-of_family n.RGBA8 = alike FourRgb 1 Uint one
-of_family n.RGBA16 = alike FourRgb 2 Uint two
-of_family n.RGBA32 = alike FourRgb 4 Uint four
-of_family n.RGBA64 = alike FourRgb 8 Uint eight
-of_family n.RGBA32Float = alike FourRgb 4 IEEEFP four
-of_family n.RGBA64Float = alike FourRgb 8 IEEEFP eight
-of_family n.CMYK8 = alike FourCmyk 1 Uint one
-of_family n.CMYK16 = alike FourCmyk 2 Uint two
-of_family n.CMYK32 = alike FourCmyk 4 Uint four
-of_family n.CMYK64 = alike FourCmyk 8 Uint eight
-of_family n.CMYK32Float = alike FourCmyk 4 IEEEFP four
-of_family n.CMYK64Float = alike FourCmyk 8 IEEEFP eight
-of_family n.YCbCr8 = alike ThreeYcbcr 1 Uint one
-of_family n.CMYKA8 = alike FiveCmyk 1 Uint one
+of_family name = record {
+  family = (form_of name).0;
+  interpretation = refl;
+  bits = refl;
+  is_size = size_of_type (form_of name).1;
+}
 
 -- ---- the color of a family
 
@@ -139,35 +80,27 @@ module _ (p : PageRecord) (most : ℕ) (all : p.samples ≤ most) where
       ] e
 
   pub family_has : (f : Family) → p.samples ≡ count_of f + length p.extra → photometric p ≡ count_of f → HasColor (meaning_of f) p most
-  family_has OneGray e h = gray_has e
-  family_has ThreeRgb e h =
+  family_has family.Gray e h = gray_has e
+  family_has family.RGB e h =
       by_test (first_is_alpha p.extra) (RGBA p.depth) (RGB p.depth) meaning.RGB p most (rw h refl)
       (λ t. omega (arith, all, e, some_alpha p.extra t)) (omega (arith, all, e))
-  family_has FourRgb e h = (RGBA p.depth, (rw h refl, omega (arith, all, e)))
-  family_has FourCmyk e h =
+  family_has family.RGBA e h = (RGBA p.depth, (rw h refl, omega (arith, all, e)))
+  family_has family.CMYK e h =
       by_test (first_is_alpha p.extra) (CMYKA p.depth) (CMYK p.depth) meaning.CMYK p most (rw h refl)
       (λ t. omega (arith, all, e, some_alpha p.extra t)) (omega (arith, all, e))
-  family_has FiveCmyk e h = (CMYKA p.depth, (rw h refl, omega (arith, all, e)))
-  family_has ThreeYcbcr e h = (YCbCr p.depth, (rw h refl, omega (arith, all, e)))
+  family_has family.CMYKA e h = (CMYKA p.depth, (rw h refl, omega (arith, all, e)))
+  family_has family.YCbCr e h = (YCbCr p.depth, (rw h refl, omega (arith, all, e)))
 
 -- the numbers of no family are inverted
 plain_family : (f : Family) (limit v : ℕ)
     → shown_number (meaning_of f) limit v ≡ v
-plain_family OneGray limit v = refl
-plain_family ThreeRgb limit v = refl
-plain_family FourRgb limit v = refl
-plain_family FourCmyk limit v = refl
-plain_family FiveCmyk limit v = refl
-plain_family ThreeYcbcr limit v = refl
+plain_family family.Gray limit v = refl
+plain_family f limit v = refl
 
--- the first of equal numbers
-first_of : (f : Family) (x : ℕ) → get_or (replicate (count_of f) x) 0 0 ≡ x
-first_of OneGray x = refl
-first_of ThreeRgb x = refl
-first_of FourRgb x = refl
-first_of FourCmyk x = refl
-first_of FiveCmyk x = refl
-first_of ThreeYcbcr x = refl
+-- the first of equal values
+pub first_of : {A : Type 0} (f : Family) (x default : A) → get_or (replicate (count_of f) x) 0 default ≡ x
+first_of family.Gray x default = refl
+first_of f x default = refl
 
 -- The required properties of an image's color.
 pub record IsColored (i : OpenImage) : Type 0 where
@@ -190,7 +123,7 @@ colored i c =
       color = has.0;
       is_color = ap (λ (m : PhotometricInterpretation). color_from m p) c.interpretation ∙ has.1.0;
       few = has.1.1;
-      depth = ap (λ (l : List ℕ). get_or l 0 0) c.bits ∙ first_of f (8 * i.size);
+      depth = ap (λ (l : List ℕ). get_or l 0 0) c.bits ∙ first_of f (8 * i.size) 0;
       is_size = c.is_size;
       upright = λ limit v.
           ap (λ (m : PhotometricInterpretation). shown_number m limit v) c.interpretation
