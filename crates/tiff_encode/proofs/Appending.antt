@@ -18,7 +18,7 @@ use Rattle.tiff_encode.specs.AppendLaws.{DirectoryCallsAppend, ImageCallsAppend,
 use Rattle.tiff_encode.proofs.Joining.{IsAdding, appended_both, begin_adds, extra_adds, entry_adds, entry_bytes_adds, tag_adds}
 use Rattle.tiff_encode.proofs.Joining.{entry_buf_adds, tag_buf_adds, data_adds, data_buf_adds}
 use Rattle.tiff_encode.proofs.Open.Tags.{tags_adding}
-use Rattle.tiff_encode.proofs.Image.Steps.{extra_adding, rows_adding, tiles_adding, planar_adding, resolution_adding, x_adding, y_adding, unit_adding}
+use Rattle.tiff_encode.proofs.Image.Table.{Extra, Rows, Sides, Planes, Both, Across, Down, Measure, setting_adding}
 use Rattle.tiff_encode.proofs.Data.Strips.{strip_adding}
 use Rattle.tiff_encode.proofs.Data.Chunks.{chunk_adds, chunks_adding, directory_kept, tags_placed}
 use Rattle.tiff_encode.proofs.Data.Begun.{new_adding, new_is}
@@ -41,14 +41,14 @@ directory_calls_append = record {
 pub image_calls_append : ImageCallsAppend
 image_calls_append = record {
   begun = λ color size width height file. (new_adding color size width height file).next;
-  extra = λ i extra file. (extra_adding i file extra).next;
-  rows = λ i rows file. (rows_adding i file rows).next;
-  sides = λ i width length file. (tiles_adding i file width length).next;
-  planes = λ i file. (planar_adding i file).next;
-  both = λ i u value file. (resolution_adding i file u value).next;
-  across = λ i value file. (x_adding i file value).next;
-  down = λ i value file. (y_adding i file value).next;
-  unit = λ i u file. (unit_adding i file u).next;
+  extra = λ i extra file. (setting_adding (Extra extra) i file).next;
+  rows = λ i rows file. (setting_adding (Rows rows) i file).next;
+  sides = λ i width length file. (setting_adding (Sides width length) i file).next;
+  planes = λ i file. (setting_adding Planes i file).next;
+  both = λ i u value file. (setting_adding (Both u value) i file).next;
+  across = λ i value file. (setting_adding (Across value) i file).next;
+  down = λ i value file. (setting_adding (Down value) i file).next;
+  unit = λ i u file. (setting_adding (Measure u) i file).next;
   strip = λ i count stored file. (strip_adding i count stored file).next;
   chunk = λ i count stored file. (chunk_adds i count stored file).next;
 }

@@ -69,7 +69,7 @@ offset_read Classic f n l = number-le w32 n (inr (inl refl)) l
 offset_read Big f n l = number-le w64 n (inr (inr refl)) l
 
 -- a value field has at most eight bytes
-offset_len_8 : (kind : FileKind) → offset_len kind ≤ 8
+pub offset_len_8 : (kind : FileKind) → offset_len kind ≤ 8
 offset_len_8 Classic = lit≤ tt
 offset_len_8 Big = lit≤ tt
 

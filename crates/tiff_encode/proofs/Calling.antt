@@ -1,5 +1,5 @@
 -- How the calls of a directory end.
-use Rattle.std.proofs.Common.{◌≡◌, ℕ, ◌*◌, ◌^◌, ◌<◌, ◌≤◌, suc, Bool, true, false, cond, List, [], ◌∷◌, length, take, Option, Some, None, Result, Ok, Err, refl, ap, sym, ◌∙◌, inl, inr, ◌⊎◌, subst, arith, lit≤, append-nil}
+use Rattle.std.proofs.Common.{◌≡◌, ℕ, ◌*◌, ◌^◌, ◌<◌, ◌≤◌, suc, Bool, true, false, cond, List, [], ◌∷◌, length, take, Option, Some, None, Result, Ok, Err, refl, ap, sym, ◌∙◌, inl, inr, ◌⊎◌, subst, arith, append-nil}
 use Rattle.std.proofs.lemmas.Bool.{lt-ltb, le-ltb, ltb-true, ltb-false}
 use Rattle.std.proofs.Math.Nat.{le-min, min-eq_left}
 use Rattle.std.specs.Prelude.{◌&&◌, ◌-◌, ◌%◌, ◌/◌, ◌==◌, min, nat_lt, IsSome, not}
@@ -12,7 +12,6 @@ use Rattle.tiff_base.specs.declared.io.SinkFault.{SinkFault}
 use Rattle.tiff_base.specs.declared.tags.ByteOrder.{ByteOrder}
 use Rattle.tiff_base.specs.declared.tags.ByteOrder.TheVariants.{LittleEndian, BigEndian}
 use Rattle.tiff_base.specs.declared.tags.FileKind.{FileKind}
-use Rattle.tiff_base.specs.declared.tags.FileKind.TheVariants.{Classic, Big}
 use Rattle.tiff_base.specs.declared.tags.«Type».{«Type»}
 use Rattle.tiff_base.specs.Field.{Field}
 use Rattle.tiff_base.specs.Number.{le}
@@ -30,6 +29,7 @@ use Rattle.tiff_encode.specs.Causes.{is_past, end_of, unless_ended, data_cause, 
 use Rattle.tiff_encode.specs.Calls.{placed_field, appends, write_entry, write_entry_buf, write_entry_bytes, write_data, write_data_buf}
 use Rattle.tiff_encode.specs.Ends.{EndsAsDefined, IsCutOff, HasBegun, CallFails, Ends}
 use Rattle.tiff_encode.specs.Placing.{field_test, appended_for, Places}
+use Rattle.tiff_encode.proofs.CallFits.{offset_len_8}
 
 -- ---- errors that refuse a call
 
@@ -141,10 +141,6 @@ long_by false p n e l =
 
 long_cut : (p n : ℕ) → p ≤ 8 → nat_lt p (min n (2 ^ 64 - 1)) ≡ nat_lt p n
 long_cut p n l = long_by (nat_lt p n) p n refl l
-
-offset_len_8 : (kind : FileKind) → offset_len kind ≤ 8
-offset_len_8 Classic = lit≤ tt
-offset_len_8 Big = lit≤ tt
 
 -- the test of a field returns the error that refuses the call
 pub test_is : (file : FileState) (kind : FileKind) (type : «Type») (count : ℕ) (d : FieldData) (end n len : ℕ) → kind ≡ file.kind

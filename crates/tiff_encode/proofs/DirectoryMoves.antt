@@ -62,11 +62,11 @@ Kept told old new = (m : Model) → Stands old.kind old.bytes m → Stands old.k
 abbrev Stood : FileState → FileState → Type 0
 Stood old new = (m : Model) → Stands old.kind old.bytes m → Stands old.kind new.bytes m
 
-module _ (d e : OpenDirectory) (old new : FileState) where
+module _ (d e : OpenDirectory) {old new : FileState} where
   -- equal steps lead to the same results
-  pub stepped_by : (r : Result StepReply TiffError) (x y : DirectoryStep) → x ≡ y
-      → Moves (λ s t. DirectoryStepped s d y r t e) old new → Moves (λ s t. DirectoryStepped s d x r t e) old new
-  stepped_by r x y q h =
+  pub stepped_by : (r : Result StepReply TiffError) {x y : DirectoryStep} → x ≡ y → Moves (λ s t. DirectoryStepped s d y r t e) old new
+      → Moves (λ s t. DirectoryStepped s d x r t e) old new
+  stepped_by r q h =
       let P : DirectoryStep → Type 0 = λ z. Moves (λ s t. DirectoryStepped s d z r t e) old new in subst P (sym q) h
 
   -- a step whose call returns a directory changes the directory

@@ -1,5 +1,5 @@
 -- How the calls of an open directory end, and what they leave in the file.
-use Rattle.std.proofs.Common.{◌≡◌, ℕ, ◌+◌, ◌^◌, ◌<◌, ◌≤◌, ◌⊎◌, Bool, true, false, cond, List, [], ◌∷◌, ◌++◌, length, take, Option, Some, None, Result, Ok, Err, refl, ap, sym, ◌∙◌, inl, inr, subst, arith, lit≤, append-nil}
+use Rattle.std.proofs.Common.{◌≡◌, ℕ, ◌+◌, ◌^◌, ◌<◌, ◌≤◌, ◌⊎◌, Bool, true, false, cond, List, [], ◌∷◌, ◌++◌, length, take, Option, Some, None, Result, Ok, Err, refl, ap, sym, ◌∙◌, inl, inr, subst, arith, append-nil}
 use Rattle.std.proofs.Math.Seq.{take-length}
 use Rattle.std.proofs.lemmas.Bool.{ltb-false}
 use Rattle.std.proofs.lemmas.List.{length-append, take_at}
@@ -11,7 +11,6 @@ use Rattle.tiff_base.specs.declared.error.TiffError.{TiffError}
 use Rattle.tiff_base.specs.declared.error.TiffError.TheVariants.{OutOfMemory}
 use Rattle.tiff_base.specs.declared.io.SinkFault.{SinkFault}
 use Rattle.tiff_base.specs.declared.tags.FileKind.{FileKind}
-use Rattle.tiff_base.specs.declared.tags.FileKind.TheVariants.{Classic, Big}
 use Rattle.tiff_base.specs.declared.tags.Tag.{Tag}
 use Rattle.tiff_base.specs.declared.tags.«Type».{«Type»}
 use Rattle.tiff_base.specs.Field.{Field, AreEntries}
@@ -31,7 +30,7 @@ use Rattle.tiff_encode.specs.Calls.{Offsets, offsets_of, links_to, chains, new_d
 use Rattle.tiff_encode.specs.Ends.{EndsAsDefined, IsCutOff, IsTornOff, CallFails, Ends}
 use Rattle.tiff_encode.specs.Leaves.{IsGiven, Leaves, LeavesTorn, LeavesLinked}
 use Rattle.tiff_encode.proofs.Calling.{cut_off, refused, uncaused, stopped_cause, fresh_cause}
-use Rattle.tiff_encode.proofs.CallFits.{caused_fits, followed_fits, placed_fits}
+use Rattle.tiff_encode.proofs.CallFits.{caused_fits, followed_fits, offset_len_8, placed_fits}
 use Rattle.tiff_encode.proofs.Joining.{Adds, begin_adds, bind_ends, bind_fails, bind_told, data_adds, data_buf_adds, entry_adds, entry_buf_adds, entry_bytes_adds, extra_adds, tag_adds, tag_buf_adds}
 use Rattle.tiff_encode.proofs.Keeping.{adds_leaves}
 use Rattle.tiff_encode.proofs.Leaving.{refused_leaves, ok_err, unended, in_order, passed, data_whole, data_short, finish_plain, finish_leaves}
@@ -285,11 +284,6 @@ module _ {A : Type 0} (told : WriteOutcome A) (old new : FileState) (g : Adds to
 
   old_short : end_of old < 2 ^ 64
   old_short = let h = grown_short in omega (arith, h)
-
--- a value field has at most eight bytes
-offset_len_8 : (kind : FileKind) → offset_len kind ≤ 8
-offset_len_8 Classic = lit≤ tt
-offset_len_8 Big = lit≤ tt
 
 -- the number of bytes of a written value is a 64-bit number
 value_short : (kind : FileKind) (long : Bool) (bytes : List ℕ) (h : SuppliedField) → nat_lt (offset_len kind) (length bytes) ≡ long

@@ -16,10 +16,10 @@ use Rattle.tiff_encode.specs.Model.{SuppliedField}
 use Rattle.tiff_encode.specs.WriteOps.{WriteOp, Appended, Supplied, Listed, Linked, all_appended}
 use Rattle.tiff_encode.specs.Laws.{AreAppending}
 use Rattle.tiff_encode.specs.Value.{is_long, field_at, data_in, buffer_data}
-use Rattle.tiff_encode.specs.Machine.{FileState, OpenDirectory, WriteOutcome, WriteCall, answers, gives, does, after_ops, by_cause, and_then, ◌>>=◌}
+use Rattle.tiff_encode.specs.Machine.{FileState, OpenDirectory, OpenImage, WriteOutcome, WriteCall, answers, gives, does, after_ops, by_cause, and_then, ◌>>=◌}
 use Rattle.tiff_encode.specs.FileWrites.{file_with_bytes}
 use Rattle.tiff_encode.specs.Causes.{end_of, begin_cause, write_tag_cause, write_buf_cause, write_entry_bytes_cause, write_data_cause, write_data_buf_cause}
-use Rattle.tiff_encode.specs.Calls.{new_directory, pad, image_directory, extra_directory, with_field, placed_field, appends, write_entry, write_entry_buf, write_entry_bytes, write_tag, write_tag_buf, write_data, write_data_buf}
+use Rattle.tiff_encode.specs.Calls.{new_directory, pad, image_directory, extra_directory, with_field, placed_field, appends, with_chunk, appends_chunk, write_entry, write_entry_buf, write_entry_bytes, write_tag, write_tag_buf, write_data, write_data_buf}
 use Rattle.tiff_encode.specs.Ends.{EndsAsDefined, HasBegun, CallFails, Ends}
 use Rattle.tiff_encode.proofs.WriteOps.{ops_append}
 use Rattle.tiff_encode.proofs.Leaving.{ok_err}
@@ -325,6 +325,11 @@ pub caused_adds : {A : Type 0} (cause : Option TiffError) (call : WriteCall A) (
 caused_adds None call file a = a
 caused_adds (Some e) call file a = refusal_adds e file
 
+pub caused_adding : {A : Type 0} (cause : Option TiffError) (call : WriteCall A) (file : FileState) → IsAdding (call file) file
+    → IsAdding (by_cause cause call file) file
+caused_adding None call file a = a
+caused_adding (Some e) call file a = answers_adding (Err e) file
+
 -- changes that only append
 pub does_adds : (op : WriteOp) (ops : List WriteOp) (file : FileState) → AreAppending (op ∷ ops) → Adds (does (op ∷ ops) file) file
 does_adds op ops file a = record {
@@ -356,6 +361,14 @@ extra_adds file = opens_adds (begin_cause file) (new_directory None false) file
 -- appending bytes only appends
 pub appends_adds : (bytes : List ℕ) (file : FileState) → Adds (appends bytes file) file
 appends_adds bytes file = done_adds (end_of file) (Appended bytes) [] file tt
+
+-- a chunk only appends, unless the checks refuse it
+pub stored_adds : (cause : Option TiffError) (i : OpenImage) (stored : List ℕ) (file : FileState) → Adds (by_cause cause (appends_chunk i stored) file) file
+stored_adds cause i stored file =
+    let rest : ℕ → WriteCall OpenImage = λ offset. gives (with_chunk i offset (length stored)) in
+    caused_adds cause (appends_chunk i stored) file
+    (bind_adds (appends stored) rest file (appends_adds stored file)
+    (λ offset _. answers_adding (Ok (with_chunk i offset (length stored))) (appends stored file).next))
 
 -- writing a value only appends, by whether the value is too long for the entry
 supplied_adds : (long : Bool) (bytes : List ℕ) (h : SuppliedField) (field : Field) (file : FileState)

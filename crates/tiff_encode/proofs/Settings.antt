@@ -1,5 +1,5 @@
 -- How calls end that set the tags and the layout of an open image.
-use Rattle.std.proofs.Common.{◌≡◌, ℕ, ◌+◌, cond, List, [], ◌∷◌, ◌++◌, length, Option, Some, None, Ok, Err, refl, ap, sym, ◌∙◌, subst, reverse}
+use Rattle.std.proofs.Common.{◌≡◌, ℕ, ◌+◌, cond, List, [], ◌∷◌, ◌++◌, length, drop, Option, Some, None, Ok, Err, refl, ap, sym, ◌∙◌, subst, reverse}
 use Rattle.std.proofs.lemmas.List.{reverse-append}
 use Rattle.std.specs.FinMap.{FinMap, empty, insert, entries, from_entries}
 use Rattle.std.specs.List.{fold}
@@ -21,7 +21,7 @@ use Rattle.tiff_base.specs.Tags.{extra_number}
 use Rattle.tiff_value.specs.Data.{FieldData, Scalars, extras, rationals, u32s, data_of}
 use Rattle.tiff_value.specs.ValueLaws.{each_whole}
 use Rattle.tiff_value.specs.Values.{IsValue}
-use Rattle.tiff_encode.specs.Machine.{FileState, OpenDirectory, OpenImage, WriteCall, gives, by_cause, ◌>>=◌}
+use Rattle.tiff_encode.specs.Machine.{FileState, OpenDirectory, OpenImage, WriteCall, gives, ◌>>=◌}
 use Rattle.tiff_encode.specs.Placing.{field_test}
 use Rattle.tiff_encode.specs.Chunks.{is_begun}
 use Rattle.tiff_encode.specs.Causes.{end_of, field_cause, extra_samples_cause, tiles_cause}
@@ -33,6 +33,7 @@ use Rattle.tiff_encode.proofs.Entries.{last_of_entries}
 use Rattle.tiff_encode.proofs.Guarding.{tag_fails, fresh_by}
 use Rattle.tiff_encode.proofs.Leaving.{passed, unended}
 use Rattle.tiff_encode.proofs.Joining.{Adds, bind_told, bind_fails, tag_adds}
+use Rattle.tiff_encode.proofs.Image.Table.{Setting, Extra, Sides, call_of, row, called}
 use Rattle.tiff_encode.proofs.Tagging.{tags_are_fields, fields_adds}
 
 -- ---- errors that refuse a call
@@ -78,35 +79,6 @@ copied d now next none s n h =
     (in_turn empty (entries d.fields) ∙ onto_empty (reverse (entries d.fields)) ∙ last_of_entries d.fields)
     ∙ s
 
--- ---- a setting, unless the checks refuse it
-
-module _ (cause : Option TiffError) (call : OpenDirectory → WriteCall OpenDirectory) (g : OpenDirectory → OpenImage) (d : OpenDirectory) (old : FileState) where
-  -- the call writes to the directory, and the image has that directory
-  abbrev set_in : WriteCall OpenImage
-  set_in = call d >>= (λ x. gives (g x))
-
-  abbrev view : OpenImage → OpenImage
-  view i = i
-
-  -- the setting is refused
-  pub set_refused : (e : TiffError) → cause ≡ Some e → CallFails (by_cause cause set_in old) e old old
-  set_refused e c = refused view cause set_in old e c
-
-  -- the setting fails at its tags
-  pub set_fails : (e : TiffError) (b : OpenDirectory) (new : FileState) → cause ≡ None → b ≡ d → Adds (call d old) old
-      → CallFails (call b old) e old new → CallFails (by_cause cause set_in old) e old new
-  set_fails e b new c s a h =
-      uncaused view cause set_in (Err e) old new c
-      (bind_fails (call d) (λ x. gives (g x)) e old new a (subst (λ x. CallFails (call x old) e old new) s h))
-
-  -- the setting succeeds
-  pub set_so : (b next : OpenDirectory) (i : OpenImage) (new : FileState) → cause ≡ None → b ≡ d → EndsAsDefined (call b old) (Ok next) new
-      → i ≡ g next → EndsAsDefined (by_cause cause set_in old) (Ok i) new
-  set_so b next i new c s h q =
-      uncaused view cause set_in (Ok i) old new c
-      (bind_told (call d) (λ x. gives (g x)) next (Ok i) old new new (subst (λ x. EndsAsDefined (call x old) (Ok next) new) s h)
-      (record { answer = ap Ok (sym q); state = refl }))
-
 -- ---- tags
 
 module _ (t : Tag) (value : Scalars) where
@@ -117,7 +89,7 @@ module _ (t : Tag) (value : Scalars) where
   one_adds d file = tag_adds d t (Ok (data_of value)) file
 
   -- writing one tag fails if the call runs out of memory
-  pub one_short : (d : OpenDirectory) (e : TiffError) (file : FileState) → file.fault ≡ None → field_cause file (data_of value) ≡ None
+  one_short : (d : OpenDirectory) (e : TiffError) (file : FileState) → file.fault ≡ None → field_cause file (data_of value) ≡ None
       → e ≡ OutOfMemory → CallFails (one_tag d file) e file file
   one_short d e file f c q =
       let same : Field → Field = λ x. x in
@@ -125,11 +97,11 @@ module _ (t : Tag) (value : Scalars) where
       (entry_uncaused same (Ok (data_of value)) (data_of value) (Err e) file file f refl c (wanting same (placed_field (data_of value) file) e file f q tt))
 
   -- writing a list of one tag fails if writing the tag fails
-  pub tags_of_one : (d : OpenDirectory) (e : TiffError) (old new : FileState) → CallFails (one_tag d old) e old new
+  tags_of_one : (d : OpenDirectory) (e : TiffError) (old new : FileState) → CallFails (one_tag d old) e old new
       → CallFails (write_tags d ((t, value) ∷ []) old) e old new
   tags_of_one d e old new h = bind_fails (one_tag d) (λ next. gives next) e old new (one_adds d old) h
 
-  pub tags_are_one : (d next : OpenDirectory) (old new : FileState) → EndsAsDefined (one_tag d old) (Ok next) new
+  tags_are_one : (d next : OpenDirectory) (old new : FileState) → EndsAsDefined (one_tag d old) (Ok next) new
       → EndsAsDefined (write_tags d ((t, value) ∷ []) old) (Ok next) new
   tags_are_one d next old new h =
       bind_told (one_tag d) (λ next. gives next) next (Ok next) old new new h (record { answer = refl; state = refl })
@@ -139,6 +111,59 @@ pub several_adds : (t : Tag) (value : Scalars) (values : List (Tag × Scalars)) 
 several_adds t value values d file =
     subst (λ told. Adds told file) (sym (tags_are_fields d ((t, value) ∷ values) file))
     (fields_adds d (t, data_of value) (fields_of values) file)
+
+-- the tags of a row are written with a change, unless a tag is refused
+row_adds : (s : Setting) (d : OpenDirectory) (file : FileState) → Adds (write_tags d (row s).tags file) file
+row_adds (Extra extra) d file = several_adds tag.ExtraSamples (extras extra) [] d file
+row_adds s d file = several_adds _ _ (drop 1 (row s).tags) d file
+
+-- ---- a call of the table, from its directory as it is found
+
+module _ (s : Setting) (i : OpenImage) (old : FileState) where
+  abbrev set_in : WriteCall OpenImage
+  set_in = write_tags i.directory (row s).tags >>= (λ d. gives ((row s).image i d))
+
+  abbrev view : OpenImage → OpenImage
+  view j = j
+
+  -- the call is refused
+  pub set_refused : (e : TiffError) → (row s).cause i old ≡ Some e → CallFails (call_of s i old) e old old
+  set_refused e c = subst (λ told. CallFails told e old old) (sym (called s i old)) (refused view ((row s).cause i old) set_in old e c)
+
+  -- the call fails at its tags
+  pub set_fails : (e : TiffError) (b : OpenDirectory) (new : FileState) → (row s).cause i old ≡ None → b ≡ i.directory
+      → CallFails (write_tags b (row s).tags old) e old new → CallFails (call_of s i old) e old new
+  set_fails e b new c same h =
+      let written : CallFails (write_tags i.directory (row s).tags old) e old new =
+      subst (λ x. CallFails (write_tags x (row s).tags old) e old new) same h in
+      subst (λ told. CallFails told e old new) (sym (called s i old))
+      (uncaused view ((row s).cause i old) set_in (Err e) old new c
+      (bind_fails (write_tags i.directory (row s).tags) (λ d. gives ((row s).image i d)) e old new (row_adds s i.directory old) written))
+
+  -- the call succeeds
+  pub set_so : (b next : OpenDirectory) (j : OpenImage) (new : FileState) → (row s).cause i old ≡ None → b ≡ i.directory
+      → EndsAsDefined (write_tags b (row s).tags old) (Ok next) new → j ≡ (row s).image i next → EndsAsDefined (call_of s i old) (Ok j) new
+  set_so b next j new c same h q =
+      let written : EndsAsDefined (write_tags i.directory (row s).tags old) (Ok next) new =
+      subst (λ x. EndsAsDefined (write_tags x (row s).tags old) (Ok next) new) same h in
+      subst (λ told. EndsAsDefined told (Ok j) new) (sym (called s i old))
+      (uncaused view ((row s).cause i old) set_in (Ok j) old new c
+      (bind_told (write_tags i.directory (row s).tags) (λ d. gives ((row s).image i d)) next (Ok j) old new new written
+      (record { answer = ap Ok (sym q); state = refl })))
+
+  -- a call that writes one tag, from its image as it is found
+  pub one_fails : {t : Tag} {value : Scalars} {k : OpenImage} (e : TiffError) (new : FileState) → (row s).tags ≡ (t, value) ∷ []
+      → (row s).cause i old ≡ None → k ≡ i → CallFails (one_tag t value k.directory old) e old new → CallFails (call_of s i old) e old new
+  one_fails {t = t} {value = value} {k = k} e new only c same h =
+      set_fails e k.directory new c (ap (λ x. x.directory) same)
+      (subst (λ tags. CallFails (write_tags k.directory tags old) e old new) (sym only) (tags_of_one t value k.directory e old new h))
+
+  pub one_so : {t : Tag} {value : Scalars} {k : OpenImage} (next : OpenDirectory) (j : OpenImage) (new : FileState) → (row s).tags ≡ (t, value) ∷ []
+      → (row s).cause i old ≡ None → k ≡ i → EndsAsDefined (one_tag t value k.directory old) (Ok next) new → j ≡ (row s).image i next
+      → EndsAsDefined (call_of s i old) (Ok j) new
+  one_so {t = t} {value = value} {k = k} next j new only c same h q =
+      set_so k.directory next j new c (ap (λ x. x.directory) same)
+      (subst (λ tags. EndsAsDefined (write_tags k.directory tags old) (Ok next) new) (sym only) (tags_are_one t value k.directory next old new h)) q
 
 module _ (values : List (Tag × FieldData)) (tags : List (Tag × Scalars)) (same : values ≡ fields_of tags) where
   pub tags_fail : (d : OpenDirectory) (e : TiffError) (old new : FileState) → CallFails (write_fields d values old) e old new
@@ -184,16 +209,12 @@ pub extra_short : (file : FileState) (i : OpenImage) (extra : List ExtraSamples)
 extra_short file i extra e c q =
     let p = extra_parts file i extra c in one_short tag.ExtraSamples (extras extra) i.directory e file p.0 p.1 q
 
--- the tags of the sides of a tile
-abbrev pub side_tags : ℕ → ℕ → List (Tag × Scalars)
-side_tags width length = (tag.TileWidth, u32s (width ∷ [])) ∷ (tag.TileLength, u32s (length ∷ [])) ∷ []
-
 tiles_fresh : (file : FileState) (i : OpenImage) (width length : ℕ) → tiles_cause file i width length ≡ None → file.fault ≡ None
 unfolding tiles_cause
 tiles_fresh file i width length c = fresh_by file.fault _ c
 
 pub tiles_short : (file : FileState) (i : OpenImage) (width length : ℕ) (e : TiffError) → tiles_cause file i width length ≡ None
-    → e ≡ OutOfMemory → CallFails (write_tags i.directory (side_tags width length) file) e file file
+    → e ≡ OutOfMemory → CallFails (write_tags i.directory (row (Sides width length)).tags file) e file file
 tiles_short file i width length e c q =
     let first : WriteCall OpenDirectory = one_tag tag.TileWidth (u32s (width ∷ [])) i.directory in
     let rest : OpenDirectory → WriteCall OpenDirectory = λ d. write_tags d ((tag.TileLength, u32s (length ∷ [])) ∷ []) in

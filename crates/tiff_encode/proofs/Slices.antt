@@ -1,5 +1,5 @@
 -- Bytes that are read from a file after an append, or after a patch of a part of it.
-use Rattle.std.proofs.Common.{zero, suc, ◌≡◌, ℕ, ◌+◌, ◌-◌, ◌^◌, ◌<◌, ◌≤◌, ◌⊎◌, List, ◌++◌, length, take, drop, Bool, true, false, cond, Result, Ok, Err, refl, ap, sym, ◌∙◌, inl, inr, subst, arith, append_assoc, length-append, length-drop}
+use Rattle.std.proofs.Common.{zero, suc, ◌≡◌, ℕ, ◌+◌, ◌-◌, ◌^◌, ◌<◌, ◌≤◌, ◌⊎◌, List, ◌++◌, length, take, drop, Bool, true, false, cond, Option, Some, None, Result, Ok, Err, refl, ap, sym, ◌∙◌, inl, inr, subst, arith, append_assoc, length-append, length-drop}
 use Rattle.std.proofs.lemmas.List.{drop-drop, take_at, drop_at, take_all, take-append-le, drop-append-le, length-take-le, drop-take, take-take}
 use Rattle.std.proofs.lemmas.Bool.{leb-true, le-leb}
 use Rattle.std.proofs.lemmas.Nat.{from_le_bytes-to_le_bytes_2, from_le_bytes-to_le_bytes_4, from_le_bytes-to_le_bytes_8}
@@ -25,6 +25,13 @@ ok_bind r f x y e h = ap (λ z. z >>= f) e ∙ h
 pub ok_inj : {A : Type 0} (x y : A) → let a : Result A TiffError = Ok x in let b : Result A TiffError = Ok y in a ≡ b
     → x ≡ y
 ok_inj x y e = cc
+
+-- equal options have equal values
+pub some_inj : {A : Type 0} (x y : A) → (let a : Option A = Some x in let b : Option A = Some y in a ≡ b) → x ≡ y
+some_inj x y h = cc
+
+pub none_some : {A : Type 0} {x : A} → (let a : Option A = None in let b : Option A = Some x in a ≡ b) → ⊥
+none_some h = cc
 
 -- a test that chooses between a value and an error holds if the choice succeeds
 opened : (b : Bool) (x s : List ℕ) (e : TiffError) → cond b (Ok x) (Err e) ≡ Ok s → (b ≡ true) × (x ≡ s)

@@ -9,12 +9,12 @@ use Rattle.tiff_encode.specs.Laws.{AreAppending}
 use Rattle.tiff_encode.specs.Machine.{FileState, OpenDirectory, OpenImage, WriteCall, gives, does, by_cause, ◌>>=◌}
 use Rattle.tiff_encode.specs.Chunks.{parts_left}
 use Rattle.tiff_encode.specs.Causes.{end_of, finish_cause, write_chunk_cause, write_image_data_cause}
-use Rattle.tiff_encode.specs.Calls.{Offsets, offsets_of, links_to, chains, with_field, write_entry, write_tag, write_tags, finish, with_chunk, appends, appends_chunk, write_chunk, last_tags, finish_image, write_chunks, write_image_data}
+use Rattle.tiff_encode.specs.Calls.{Offsets, offsets_of, links_to, chains, with_field, write_entry, write_tag, write_tags, finish, with_chunk, appends_chunk, write_chunk, last_tags, finish_image, write_chunks, write_image_data}
 use Rattle.tiff_encode.proofs.Slices.{ok_inj}
 use Rattle.tiff_encode.proofs.WriteOps.{ops_grow, link_kept}
 use Rattle.tiff_encode.proofs.Runs.{uncaused}
 use Rattle.tiff_encode.proofs.Leaving.{finish_plain}
-use Rattle.tiff_encode.proofs.Joining.{IsAdding, Adds, adding, caused_adds, bind_adds, bind_adding, appends_adds, answers_adding}
+use Rattle.tiff_encode.proofs.Joining.{IsAdding, Adds, adding, stored_adds, bind_adding, answers_adding}
 use Rattle.tiff_encode.proofs.Open.Tags.{tags_adding}
 use Rattle.tiff_encode.proofs.Image.FitsCalls.{IsDone, plain_done, Fits, gives_fits, cause_fits, bind_fits}
 use Rattle.tiff_encode.proofs.Image.Fits.{finish_image_fits}
@@ -25,11 +25,7 @@ use Rattle.tiff_encode.proofs.Image.FitsCalls.{adding_done}
 
 pub chunk_adds : (i : OpenImage) (count : ℕ) (stored : List ℕ) (file : FileState) → Adds (write_chunk i count stored file) file
 unfolding write_chunk
-chunk_adds i count stored file =
-    let chunk : ℕ → WriteCall OpenImage = λ offset. gives (with_chunk i offset (length stored)) in
-    caused_adds (write_chunk_cause file i count (length stored)) (appends_chunk i stored) file
-    (bind_adds (appends stored) chunk file (appends_adds stored file)
-    (λ offset _. answers_adding (Ok (with_chunk i offset (length stored))) (appends stored file).next))
+chunk_adds i count stored file = stored_adds (write_chunk_cause file i count (length stored)) i stored file
 
 -- after `write_chunk` succeeds, the image has the chunk
 pub chunk_is : (i next : OpenImage) (count : ℕ) (stored : List ℕ) (file : FileState) → (write_chunk i count stored file).answer ≡ Ok next
@@ -98,7 +94,7 @@ pub record IsPlacedAs (d next : OpenDirectory) : Type 0 where
   pub parent : next.parent ≡ d.parent
   pub chained : next.chained ≡ d.chained
 
-tag_placed : (d next : OpenDirectory) (t : _) (value : _) (file : FileState) → (write_tag d t value file).answer ≡ Ok next → IsPlacedAs d next
+pub tag_placed : (d next : OpenDirectory) (t : _) (value : _) (file : FileState) → (write_tag d t value file).answer ≡ Ok next → IsPlacedAs d next
 unfolding write_tag
 tag_placed d next t value file h =
     let a = bind_answered (write_entry value) (λ field. gives (with_field d t field)) file next h in

@@ -1,5 +1,5 @@
 -- What the file contains after a call writes a whole image, or fails to write it.
-use Rattle.std.proofs.Common.{◌≡◌, ℕ, ◌*◌, ◌^◌, ◌<◌, ◌≤◌, ◌⊎◌, inl, inr, true, List, [], ◌++◌, length, take, Option, Some, None, Result, Ok, Err, refl, ap, sym, ◌∙◌, subst, arith}
+use Rattle.std.proofs.Common.{◌≡◌, ℕ, ◌*◌, ◌^◌, ◌<◌, ◌≤◌, ◌⊎◌, inl, inr, true, List, [], ◌++◌, length, take, Some, None, Result, Ok, Err, refl, ap, sym, ◌∙◌, subst, arith}
 use Rattle.std.proofs.lemmas.List.{length-append, length-replicate}
 use Rattle.tiff_base.specs.declared.color.ColorType.{ColorType}
 use Rattle.tiff_base.specs.declared.error.TiffError.{TiffError}
@@ -29,7 +29,7 @@ use Rattle.tiff_encode.specs.Shows.{Shows}
 use Rattle.tiff_encode.specs.Held.{image_with}
 use Rattle.tiff_encode.specs.Open.{HoldsOpen, model_by}
 use Rattle.tiff_encode.specs.ImageData.{image_of_samples, WritesImageData, WritesImage, IsShortFile, AreNumbers, LeavesImage, LeavesNewImage, PartsShow, ImageLeaves}
-use Rattle.tiff_encode.proofs.Slices.{ok_inj}
+use Rattle.tiff_encode.proofs.Slices.{ok_inj, some_inj}
 use Rattle.tiff_encode.proofs.WriteOps.{ops_stand, ops_grow, link_kept}
 use Rattle.tiff_encode.proofs.Open.Begun.{begins_open}
 use Rattle.tiff_encode.proofs.Image.FitsCalls.{put_longer, done_longer}
@@ -90,13 +90,6 @@ shown_whole show kind file offset i samples m h none s =
     }
 
 -- ---- the image after its beginning
-
--- equal options have equal values
-some_inj : (x y : ℕ) → (let a : Option ℕ = Some x in let b : Option ℕ = Some y in a ≡ b) → x ≡ y
-some_inj x y h = ap held h where
-  held : Option ℕ → ℕ
-  held (Some n) = n
-  held None = 0
 
 module _ (color : ColorTypeRecord) (size width height : ℕ) (old : FileState) (i : OpenImage) (mid : FileState)
     (begun : EndsAsDefined (new_image color size width height old) (Ok i) mid) where

@@ -6,17 +6,17 @@ use Rattle.tiff_base.specs.declared.error.TiffError.TheVariants.{UsageError}
 use Rattle.tiff_base.specs.declared.error.UsageError.TheVariants.{InvalidChunkType, WriterFailed}
 use Rattle.tiff_base.specs.Field.{AreEntries}
 use Rattle.tiff_encode.specs.Model.{Model, Stands}
-use Rattle.tiff_encode.specs.Machine.{FileState, OpenImage, WriteOutcome, WriteCall, by_cause, gives}
+use Rattle.tiff_encode.specs.Machine.{FileState, OpenImage, WriteOutcome, WriteCall, by_cause}
 use Rattle.tiff_encode.specs.Chunks.{is_tile}
 use Rattle.tiff_encode.specs.Causes.{unless_failed, end_of, chunk_cause, write_chunk_cause, write_strip_cause}
-use Rattle.tiff_encode.specs.Calls.{appends, appends_chunk, with_chunk, write_chunk, write_strip}
+use Rattle.tiff_encode.specs.Calls.{appends_chunk, write_chunk, write_strip}
 use Rattle.tiff_encode.specs.Ends.{EndsAsDefined, IsCutOff, CallFails}
 use Rattle.tiff_encode.specs.CallLaws.{CallFits}
 use Rattle.tiff_encode.specs.ImageData.{LeavesChunk}
 use Rattle.tiff_encode.specs.Storing.{WritesStoredChunk}
 use Rattle.tiff_encode.proofs.Calling.{stopped_cause, fresh_cause}
 use Rattle.tiff_encode.proofs.Image.Fits.{chunks_fit}
-use Rattle.tiff_encode.proofs.Joining.{Adds, IsAdding, adding, answers_adding, bind_adds, appends_adds, caused_adds}
+use Rattle.tiff_encode.proofs.Joining.{IsAdding, adding, stored_adds}
 use Rattle.tiff_encode.proofs.Keeping.{left_so}
 
 -- ---- a strip is written as a chunk
@@ -81,17 +81,10 @@ module _ (old : FileState) (i : OpenImage) where
 
 -- ---- what the calls leave
 
--- appending a chunk adds bytes unless the call is refused
-appending_adds : (cause : Option TiffError) (i : OpenImage) (stored : List ℕ) (file : FileState) → Adds (by_cause cause (appends_chunk i stored) file) file
-appending_adds cause i stored file =
-    caused_adds cause (appends_chunk i stored) file
-    (bind_adds (appends stored) (λ offset. gives (with_chunk i offset (length stored))) file (appends_adds stored file)
-    (λ offset _. answers_adding (Ok (with_chunk i offset (length stored))) (appends stored file).next))
-
 pub strip_adding : (i : OpenImage) (count : ℕ) (stored : List ℕ) (file : FileState) → IsAdding (write_strip i count stored file) file
 unfolding write_strip
 strip_adding i count stored file =
-    adding (write_strip i count stored file) file (appending_adds (write_strip_cause file i count (length stored)) i stored file)
+    adding (write_strip i count stored file) file (stored_adds (write_strip_cause file i count (length stored)) i stored file)
 
 module _ (call : OpenImage → ℕ → List ℕ → WriteCall OpenImage) (i : OpenImage) (samples : List ℕ) (old new : FileState) (next : OpenImage) (m : Model)
     (adds : (stored : List ℕ) → IsAdding (call i (length samples) stored old) old)
@@ -135,7 +128,7 @@ module _ {A : Type 0} (i : OpenImage) (samples : List ℕ) (old new : FileState)
   unfolding write_chunk
   chunk_left h =
       left_by write_chunk i samples old new next m
-      (λ stored. adding (write_chunk i (length samples) stored old) old (appending_adds (write_chunk_cause old i (length samples) (length stored)) i stored old))
+      (λ stored. adding (write_chunk i (length samples) stored old) old (stored_adds (write_chunk_cause old i (length samples) (length stored)) i stored old))
       (λ stored. (chunks_fit (length samples) stored).1) entries short s cause r h
 
   pub strip_left : WritesStoredChunk write_strip cause i samples r old new next → LeavesChunk write_strip i samples r old new next m

@@ -11,7 +11,7 @@ use Rattle.tiff_base.specs.declared.io.IoKind.TheVariants.{InvalidData, InvalidI
 use Rattle.tiff_base.specs.declared.io.SinkFault.{SinkFault}
 use Rattle.tiff_page.specs.Rect.{rect}
 use Rattle.tiff_value.specs.Packed.{IsStored}
-use Rattle.tiff_encode.specs.Calls.{Offsets, appends, with_chunk, appends_chunk, finish_image, write_chunk, write_chunks, write_image_data}
+use Rattle.tiff_encode.specs.Calls.{Offsets, with_chunk, appends_chunk, finish_image, write_chunk, write_chunks, write_image_data}
 use Rattle.tiff_encode.specs.Causes.{unless_ended, image_samples, is_past_chunks, write_chunk_cause, write_image_data_cause}
 use Rattle.tiff_encode.specs.Chunks.{image_page, row_samples, chunk_samples, is_begun, is_in_order, chunks_left, cut_out, part, parts_left}
 use Rattle.tiff_encode.specs.WriteOps.{WriteOp, all_appended}
@@ -22,8 +22,9 @@ use Rattle.tiff_encode.specs.Parts.{next_part, WritesPart}
 use Rattle.tiff_encode.specs.FileWrites.{file_with_bytes}
 use Rattle.tiff_encode.specs.Stored.{AreStored, unpacked_chunk}
 use Rattle.tiff_encode.proofs.Calling.{uncaused}
-use Rattle.tiff_encode.proofs.Joining.{IsAdding, Adds, adding, answers_adding, appends_adds, appended_len, begun_both, bind_told, bind_ends_adding, bind_adding, bind_adds, caused_adds}
+use Rattle.tiff_encode.proofs.Joining.{IsAdding, appended_len, begun_both, bind_told, bind_ends_adding}
 use Rattle.tiff_encode.proofs.Leaving.{ok_err}
+use Rattle.tiff_encode.proofs.Data.Chunks.{chunks_adding}
 use Rattle.tiff_encode.proofs.Tagging.{going_alike, going_further}
 
 -- The first k parts are written as chunks, one after another, and the image has these chunks.
@@ -34,24 +35,6 @@ pub record HasWritten (i : OpenImage) (parts : List (List ℕ)) (k : ℕ) (old n
   pub told : EndsAsDefined (write_chunks i parts stored old) (Ok next) new
   pub same : next ≡ record i { chunks = next.chunks }
   pub chunks : length next.chunks ≡ length i.chunks + k
-
--- ---- a chunk appends
-
-pub chunk_adds : (i : OpenImage) (n : ℕ) (stored : List ℕ) (file : FileState) → Adds (write_chunk i n stored file) file
-unfolding write_chunk
-chunk_adds i n stored file =
-    let rest : ℕ → WriteCall OpenImage = λ offset. gives (with_chunk i offset (length stored)) in
-    caused_adds (write_chunk_cause file i n (length stored)) (appends_chunk i stored) file
-    (bind_adds (appends stored) rest file (appends_adds stored file)
-    (λ offset _. answers_adding (Ok (with_chunk i offset (length stored))) (appends stored file).next))
-
-pub chunks_adding : (i : OpenImage) (parts stored : List (List ℕ)) (file : FileState) → IsAdding (write_chunks i parts stored file) file
-chunks_adding i [] stored file = answers_adding (Ok i) file
-chunks_adding i (p ∷ ps) [] file = answers_adding (Ok i) file
-chunks_adding i (p ∷ ps) (x ∷ xs) file =
-    let call : WriteCall OpenImage = write_chunk i (length p) x in
-    bind_adding call (λ next. write_chunks next ps xs) file (adding (call file) file (chunk_adds i (length p) x file))
-    (λ next _. chunks_adding next ps xs (call file).next)
 
 -- ---- one chunk more
 

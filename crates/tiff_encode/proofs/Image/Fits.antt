@@ -6,46 +6,45 @@ use Rattle.std.specs.Prelude.{nat_lt}
 use Rattle.tiff_base.specs.declared.color.ChunkType.{ChunkType}
 use Rattle.tiff_base.specs.declared.color.ChunkType.TheVariants.{Strip, Tile}
 use Rattle.tiff_base.specs.declared.error.TiffError.{TiffError}
-use Rattle.tiff_base.specs.declared.tags.ExtraSamples.{ExtraSamples}
 use Rattle.tiff_base.specs.declared.tags.FileKind.{FileKind}
 use Rattle.tiff_base.specs.declared.tags.FileKind.TheVariants.{Classic, Big}
 use Rattle.tiff_base.specs.declared.tags.PhotometricInterpretation.{PhotometricInterpretation}
 use Rattle.tiff_base.specs.declared.tags.PhotometricInterpretation.TheVariants.{WhiteIsZero, BlackIsZero, RGB, RGBPalette, TransparencyMask, CMYK, YCbCr, CIELab, IccLab, ItuLab}
-use Rattle.tiff_base.specs.declared.tags.PlanarConfiguration.TheVariants.{Planar}
 use Rattle.tiff_base.specs.declared.tags.Tag.{Tag}
 use Rattle.tiff_base.specs.declared.tags.Tag.TheVariants as tag
 use Rattle.tiff_base.specs.Directory.{link_offset}
 use Rattle.tiff_base.specs.Field.{AreEntries}
 use Rattle.tiff_base.specs.Tags.{tag_number}
 use Rattle.tiff_value.specs.ColorType.{ColorTypeRecord}
-use Rattle.tiff_value.specs.Data.{Scalars, u16s, u32s, planars, units, extras, rationals, data_of}
+use Rattle.tiff_value.specs.Data.{Scalars, u16s}
 use Rattle.tiff_value.proofs.Data.{data_is_whole}
 use Rattle.tiff_encode.specs.FileBytes.{directory_bytes}
 use Rattle.tiff_encode.specs.Model.{Model, IsLink}
 use Rattle.tiff_encode.specs.WriteOps.{WriteOp, Listed, bytes_after, model_after}
 use Rattle.tiff_encode.specs.Machine.{FileState, OpenDirectory, OpenImage, WriteCall, gives, does, by_cause, ◌>>=◌}
 use Rattle.tiff_encode.specs.Chunks.{all_samples}
-use Rattle.tiff_encode.specs.Causes.{end_of, begin_cause, finish_cause, new_image_cause, extra_samples_cause, rows_per_strip_cause, tiles_cause, planar_cause, resolution_cause, one_resolution_cause, resolution_unit_cause, write_strip_cause, write_chunk_cause}
-use Rattle.tiff_encode.specs.Calls.{new_directory, pad, image_directory, without_field, appends, Offsets, offsets_of, links_to, chain_after, chains, finish, write_tag, write_tags, chroma_tags, strips_of, tiles_of, first_tags, image_in, with_directory_of, new_image, extra_samples, set_rows_per_strip, tiles, planar, with_tags, resolution_tags, resolution, x_resolution, y_resolution, resolution_unit, with_chunk, appends_chunk, write_strip, write_chunk, chunk_tags, last_tags, finish_image}
+use Rattle.tiff_encode.specs.Causes.{end_of, begin_cause, finish_cause, new_image_cause, write_strip_cause, write_chunk_cause}
+use Rattle.tiff_encode.specs.Calls.{new_directory, pad, image_directory, appends, Offsets, offsets_of, links_to, chain_after, chains, finish, write_tags, chroma_tags, first_tags, image_in, new_image, with_chunk, appends_chunk, write_strip, write_chunk, chunk_tags, last_tags, finish_image}
 use Rattle.tiff_encode.specs.CallLaws.{CallFits, NewImageFits, SettingsFit, ResolutionsFit, ChunksFit, FinishImageFits}
 use Rattle.tiff_encode.proofs.Slices.{ok_inj}
 use Rattle.tiff_encode.proofs.WriteOps.{ops_grow, link_kept}
 use Rattle.tiff_encode.proofs.Ending.{length-listed}
-use Rattle.tiff_encode.proofs.Joining.{adding, appends_adds, begin_adds, tag_adds}
+use Rattle.tiff_encode.proofs.Joining.{adding, appends_adds, begin_adds}
 use Rattle.tiff_encode.proofs.Leaving.{ok_err, finish_plain, entries_fit}
 use Rattle.tiff_encode.specs.Tagging.{fields_of}
 use Rattle.tiff_encode.proofs.Tagging.{tags_are_fields}
+use Rattle.tiff_encode.proofs.Image.Table.{Row, written, Setting, Extra, Rows, Sides, Planes, Both, Across, Down, Measure, call_of, row, called}
 use Rattle.tiff_encode.proofs.Image.FitsEntries.{no_entries, remove_entries, data_bytes}
-use Rattle.tiff_encode.proofs.Image.FitsCalls.{IsDone, adding_done, plain_done, gives_done, bind_done, ops_longer, done_longer, Fits, cause_fits, bind_fits, viewed_fits, IsData, AreData, Keeps, tag_fits, fields_done, fields_fit}
+use Rattle.tiff_encode.proofs.Image.FitsCalls.{IsDone, adding_done, plain_done, gives_done, bind_done, ops_longer, done_longer, Fits, cause_fits, bind_fits, viewed_fits, AreData, Keeps, fields_done, fields_fit}
 
 -- ---- several tags
 
 -- whether each tag number has at most 16 bits
-abbrev are_short : List (Tag × Scalars) → Bool
+abbrev pub are_short : List (Tag × Scalars) → Bool
 are_short [] = true
 are_short (value ∷ values) = nat_lt (tag_number value.0) (2 ^ 16) && are_short values
 
-both : (a b : Bool) → (a && b) ≡ true → (a ≡ true) × (b ≡ true)
+pub both : (a b : Bool) → (a && b) ≡ true → (a ≡ true) × (b ≡ true)
 both true b h = (refl, h)
 both false b h = absurd cc
 
@@ -72,7 +71,7 @@ module _ (d : OpenDirectory) (values : List (Tag × Scalars)) (file : FileState)
       (fields_fit parent d (fields_of values) file m (tags_data values s) k)
 
 -- the fields of an image's directory are entries
-abbrev IsKept : OpenImage → Type 0
+abbrev pub IsKept : OpenImage → Type 0
 IsKept i = AreEntries i.directory.fields
 
 -- several tags, and an image with the directory that has them
@@ -87,16 +86,6 @@ module _ (d : OpenDirectory) (g : OpenDirectory → OpenImage) (kept : (x : Open
   made_fits m values s a =
       viewed_fits (write_tags d values) g file m IsKept (tags_done d values file)
       (λ x h l. let f = tags_fit d values file d.parent m s (a, refl) x h l in (f.0, kept x f.1.0))
-
-  -- the changes of one tag fit
-  one_fits : (m : Model) (t : Tag) (value : Scalars) → nat_lt (tag_number t) (2 ^ 16) ≡ true → AreEntries d.fields
-      → Fits ((write_tag d t (Ok (data_of value)) >>= (λ x. gives (g x))) file) file m IsKept
-  one_fits m t value s a =
-      let call : WriteCall OpenDirectory = write_tag d t (Ok (data_of value)) in
-      let n = ltb-true (tag_number t) (2 ^ 16) s in
-      let given : IsData (t, data_of value) = record { tag = n; whole = data_is_whole value; bytes = data_bytes value } in
-      viewed_fits call g file m IsKept (adding_done (call file) file (adding _ _ (tag_adds d t (Ok (data_of value)) file)))
-      (λ x h l. let f = tag_fits d.parent d (t, data_of value) file m given (a, refl) x h l in (f.0, kept x f.1.0))
 
 -- ---- a new image
 
@@ -148,59 +137,35 @@ new_image_fits file m color size width height i h l = new_fits file m color size
 
 -- ---- settings
 
-extra_fits : (extra : List ExtraSamples) → CallFits (λ i. extra_samples i extra)
-unfolding extra_samples
-extra_fits extra file m i next a h l =
-    let g : OpenDirectory → OpenImage = λ d. record i { directory = d; extra = extra } in
-    cause_fits (extra_samples_cause file i extra) (write_tag i.directory tag.ExtraSamples (Ok (data_of (extras extra))) >>= (λ d. gives (g d)))
-    file m IsKept (λ c. one_fits i.directory g (λ x e. e) file m tag.ExtraSamples (extras extra) refl a) next h l
+-- a row of the table with short tag numbers, whose image has entries if the directory has
+pub row_fits : (w : Row) → are_short w.tags ≡ true → ((i : OpenImage) (d : OpenDirectory) → AreEntries d.fields → IsKept (w.image i d))
+    → (i : OpenImage) (file : FileState) (m : Model) → IsKept i → Fits (written w i file) file m IsKept
+row_fits w s kept i file m a =
+    cause_fits (w.cause i file) (write_tags i.directory w.tags >>= (λ d. gives (w.image i d))) file m IsKept
+    (λ c. made_fits i.directory (w.image i) (kept i) file m w.tags s a)
 
-rows_fit : (rows : ℕ) → CallFits (λ i. set_rows_per_strip i rows)
-unfolding set_rows_per_strip
-rows_fit rows file m i next a h l =
-    let g : OpenDirectory → OpenImage = λ d. record i { directory = d; form = strips_of i.width rows i.form.planar } in
-    cause_fits (rows_per_strip_cause file i rows) (write_tag i.directory tag.RowsPerStrip (Ok (data_of (u32s (rows ∷ [])))) >>= (λ d. gives (g d)))
-    file m IsKept (λ c. one_fits i.directory g (λ x e. e) file m tag.RowsPerStrip (u32s (rows ∷ [])) refl a) next h l
+row_short : (s : Setting) → are_short (row s).tags ≡ true
+row_short (Extra extra) = refl
+row_short s = refl
 
-tiles_fit : (width length : ℕ) → CallFits (λ i. tiles i width length)
-unfolding tiles
-tiles_fit width length file m i next a h l =
-    let g : OpenDirectory → OpenImage = λ d.
-    record i { directory = without_field d tag.RowsPerStrip; form = tiles_of width length i.form.planar } in
-    let values : List (Tag × Scalars) = (tag.TileWidth, u32s (width ∷ [])) ∷ (tag.TileLength, u32s (length ∷ [])) ∷ [] in
-    cause_fits (tiles_cause file i width length) (write_tags i.directory values >>= (λ d. gives (g d))) file m IsKept
-    (λ c. made_fits i.directory g (λ x e. remove_entries x.fields (tag_number tag.RowsPerStrip) e) file m values refl a) next h l
+row_kept : (s : Setting) (i : OpenImage) (d : OpenDirectory) → AreEntries d.fields → IsKept ((row s).image i d)
+row_kept (Sides width length) i d e = remove_entries d.fields (tag_number tag.RowsPerStrip) e
+row_kept s i d e = e
 
-planar_fits : CallFits planar
-unfolding planar
-planar_fits file m i next a h l =
-    let g : OpenDirectory → OpenImage = λ d. record i { directory = d; form = record i.form { planar = Planar } } in
-    cause_fits (planar_cause file i) (write_tag i.directory tag.PlanarConfiguration (Ok (data_of (planars (Planar ∷ [])))) >>= (λ d. gives (g d)))
-    file m IsKept (λ c. one_fits i.directory g (λ x e. e) file m tag.PlanarConfiguration (planars (Planar ∷ [])) refl a) next h l
+pub setting_fits : (s : Setting) → CallFits (call_of s)
+setting_fits s file m i next a h l =
+    subst (λ told. Fits told file m IsKept) (sym (called s i file)) (row_fits (row s) (row_short s) (row_kept s) i file m a) next h l
 
 pub settings_fit : SettingsFit
-settings_fit = (extra_fits, (rows_fit, (tiles_fit, planar_fits)))
-
--- ---- resolutions
-
--- some more tags, unless a check refuses the call
-with_fit : (cause : Option TiffError) (i : OpenImage) (values : List (Tag × Scalars)) (file : FileState) (m : Model)
-    → are_short values ≡ true → IsKept i → Fits (by_cause cause (with_tags i values) file) file m IsKept
-with_fit cause i values file m s a =
-    cause_fits cause (with_tags i values) file m IsKept
-    (λ c. made_fits i.directory (λ d. with_directory_of i d) (λ x e. e) file m values s a)
+settings_fit = (
+  λ extra. setting_fits (Extra extra),
+  (λ rows. setting_fits (Rows rows), (λ width length. setting_fits (Sides width length), setting_fits Planes)),
+)
 
 pub resolutions_fit : ResolutionsFit
-unfolding resolution x_resolution y_resolution resolution_unit
 resolutions_fit = (
-  λ u value file m i next a h l. with_fit (resolution_cause file) i (resolution_tags u value) file m refl a next h l,
-  (
-    λ value file m i next a h l. with_fit (one_resolution_cause file) i ((tag.XResolution, rationals (value ∷ [])) ∷ []) file m refl a next h l,
-    (
-      λ value file m i next a h l. with_fit (one_resolution_cause file) i ((tag.YResolution, rationals (value ∷ [])) ∷ []) file m refl a next h l,
-      λ u file m i next a h l. with_fit (resolution_unit_cause file) i ((tag.ResolutionUnit, units (u ∷ [])) ∷ []) file m refl a next h l,
-    ),
-  ),
+  λ u value. setting_fits (Both u value),
+  (λ value. setting_fits (Across value), (λ value. setting_fits (Down value), λ u. setting_fits (Measure u))),
 )
 
 -- ---- chunks

@@ -1,10 +1,9 @@
 -- The changes of calls in sequence fit if the calls succeed and the file is not too long.
-use Rattle.std.proofs.Common.{◌≡◌, ℕ, ◌+◌, ◌^◌, ◌<◌, ◌≤◌, Bool, true, false, cond, List, [], ◌∷◌, ◌++◌, length, take, drop, Option, Some, None, Result, Ok, Err, refl, ap, sym, ◌∙◌, subst, arith, length-append, lit≤}
+use Rattle.std.proofs.Common.{◌≡◌, ℕ, ◌+◌, ◌^◌, ◌<◌, ◌≤◌, Bool, true, false, cond, List, [], ◌∷◌, ◌++◌, length, take, drop, Option, Some, None, Result, Ok, Err, refl, ap, sym, ◌∙◌, subst, arith, length-append}
 use Rattle.std.proofs.lemmas.Bool.{ltb-false}
 use Rattle.std.proofs.lemmas.List.{length-take, length-drop}
 use Rattle.tiff_base.specs.declared.error.TiffError.{TiffError}
 use Rattle.tiff_base.specs.declared.tags.FileKind.{FileKind}
-use Rattle.tiff_base.specs.declared.tags.FileKind.TheVariants.{Classic, Big}
 use Rattle.tiff_base.specs.declared.tags.Tag.{Tag}
 use Rattle.tiff_base.specs.Field.{Field, IsEntry, AreEntries}
 use Rattle.tiff_base.specs.Number.{le}
@@ -22,7 +21,7 @@ use Rattle.tiff_encode.specs.Calls.{with_field, placed_field, write_entry, write
 use Rattle.tiff_encode.specs.Tagging.{write_fields}
 use Rattle.tiff_encode.proofs.Slices.{ok_inj}
 use Rattle.tiff_encode.proofs.WriteOps.{bytes_joined, fits_joined, ops_append}
-use Rattle.tiff_encode.proofs.CallFits.{placed_fits}
+use Rattle.tiff_encode.proofs.CallFits.{offset_len_8, placed_fits}
 use Rattle.tiff_encode.proofs.Joining.{IsAdding, adding, entry_adds, tag_adds}
 use Rattle.tiff_encode.proofs.Leaving.{IsPlain, ok_err, unended}
 use Rattle.tiff_encode.proofs.Image.FitsEntries.{insert_entries, AreBytes, field_entry}
@@ -162,11 +161,6 @@ abbrev pub AreData : List (Tag × FieldData) → Type 0
 AreData [] = Unit {0}
 AreData (value ∷ values) = IsData value × AreData values
 
--- a value field has at most eight bytes
-at_most_8 : (kind : FileKind) → offset_len kind ≤ 8
-at_most_8 Classic = lit≤ tt
-at_most_8 Big = lit≤ tt
-
 -- a value is short, or the file has room for its offset
 room : (kind : FileKind) (long : Bool) (bytes xs : List ℕ) (h : SuppliedField) → (long ≡ false → length xs ≤ 8)
     → length (bytes_after kind bytes (cond long (Appended xs ∷ Supplied h ∷ []) (Supplied h ∷ []))) < 2 ^ 64
@@ -186,7 +180,7 @@ module _ (t : ℕ) (value : FieldData) (file : FileState) (m : Model) (n : t < 2
   placed_entry c f h l =
       let field : Field = field_at file.kind (end_of file) value in
       let hand : SuppliedField = record { field = field; bytes = value.bytes } in
-      let eight = at_most_8 file.kind in
+      let eight = offset_len_8 file.kind in
       let r = room file.kind (is_long file.kind value) file.bytes value.bytes hand
       (λ s. let below = ltb-false (offset_len file.kind) (length value.bytes) s in omega (arith, below, eight)) l in (
         placed_fits file m value w c r.0 r.1,

@@ -1,5 +1,5 @@
 -- The steps of an image in sequence.
-use Rattle.std.proofs.Common.{◌≡◌, ℕ, ◌+◌, ◌<◌, Bool, true, false, List, [], ◌∷◌, ◌++◌, length, take, get_or, Result, refl, ap, sym, ◌∙◌, subst}
+use Rattle.std.proofs.Common.{◌≡◌, ℕ, ◌+◌, ◌<◌, Bool, true, List, [], ◌∷◌, ◌++◌, length, take, get_or, Result, refl, ap, sym, ◌∙◌, subst}
 use Rattle.std.proofs.lemmas.List.{take_more}
 use Rattle.std.specs.Prelude.{◌&&◌}
 use Rattle.tiff_base.specs.declared.error.TiffError.{TiffError}
@@ -9,13 +9,10 @@ use Rattle.tiff_encode.specs.Machine.{FileState, OpenImage}
 use Rattle.tiff_encode.specs.Open.{HoldsOpen}
 use Rattle.tiff_encode.specs.Jobs.{FileAndModel, Drawn, ImageStepped, AllStepped, is_apart, are_apart}
 use Rattle.tiff_encode.specs.Stepping.{StepDraws, StepsDraw}
+use Rattle.tiff_encode.proofs.Image.Fits.{both}
 use Rattle.tiff_encode.proofs.Image.Steps.{asked}
 use Rattle.tiff_encode.proofs.Moving.{grows_on}
 use Rattle.tiff_encode.proofs.Stepped.{all_none, all_next}
-
-both : (a b : Bool) → (a && b) ≡ true → (a ≡ true) × (b ≡ true)
-both true b h = (refl, h)
-both false b h = absurd cc
 
 -- if all steps pass `are_apart`, so do the steps before the last one, and the last passes
 -- `is_apart`

@@ -1,9 +1,8 @@
 -- What `resolution` does from a `FileAndModel` of its file: after an error of the sink, or if the call
 -- runs out of memory, the file may contain its first tags.
 use Rattle.std.proofs.Common.{zero, suc, ◌≡◌, ℕ, ◌^◌, ◌<◌, ◌≤◌, ◌⊎◌, Bool, true, List, [], ◌∷◌, ◌++◌, length, take, drop, None, Result, Ok, Err, refl, ap, sym, ◌∙◌, inl, inr, subst, arith, length-append}
-use Rattle.std.proofs.lemmas.Bool.{ltb-true}
 use Rattle.std.proofs.lemmas.List.{take-map, drop-map, take-append-drop}
-use Rattle.std.specs.Prelude.{IfErr, nat_lt}
+use Rattle.std.specs.Prelude.{IfErr, nat_lt, ◌&&◌}
 use Rattle.tiff_base.specs.declared.error.TiffError.{TiffError}
 use Rattle.tiff_base.specs.declared.tags.ResolutionUnit.{ResolutionUnit}
 use Rattle.tiff_base.specs.declared.tags.Tag.{Tag}
@@ -14,8 +13,7 @@ use Rattle.tiff_value.specs.Data.{FieldData, Scalars, units, rationals, data_of}
 use Rattle.tiff_encode.specs.Model.{Model, Stands, Grows}
 use Rattle.tiff_encode.specs.WriteOps.{all_appended}
 use Rattle.tiff_encode.specs.Laws.{AreAppending}
-use Rattle.tiff_value.proofs.Data.{data_is_whole}
-use Rattle.tiff_encode.specs.Machine.{FileState, OpenDirectory, OpenImage, WriteOutcome, WriteCall, gives, and_then, ◌>>=◌}
+use Rattle.tiff_encode.specs.Machine.{FileState, OpenDirectory, OpenImage, WriteOutcome, gives, and_then, ◌>>=◌}
 use Rattle.tiff_encode.specs.Causes.{end_of, resolution_cause}
 use Rattle.tiff_encode.specs.Calls.{write_tags, with_directory_of, with_tags, resolution_tags, resolution}
 use Rattle.tiff_encode.specs.Ends.{EndsAsDefined, IsCutOff, IsShortOfMemory, CallFails, Ends}
@@ -24,46 +22,35 @@ use Rattle.tiff_encode.specs.Tagging.{write_fields, fields_of, StopsInPart, Stop
 use Rattle.tiff_encode.specs.Held.{is_page_tag}
 use Rattle.tiff_encode.specs.Open.{HoldsOpen, model_by}
 use Rattle.tiff_encode.specs.Jobs as jobs
-use Rattle.tiff_encode.specs.Jobs.{FileAndModel, IsDone, IsCutShort, IsWithoutMemory}
+use Rattle.tiff_encode.specs.Jobs.{FileAndModel, IsCutShort, IsWithoutMemory}
 use Rattle.tiff_encode.specs.Stepping.{StandsIfKnown}
 use Rattle.tiff_encode.specs.ImageStepping.{reply_to, ResolutionDraws}
 use Rattle.tiff_encode.proofs.WriteOps.{ops_grow}
-use Rattle.tiff_encode.proofs.Image.FitsCalls.{Fits, Keeps, IsData, AreData, fields_done, fields_fit, viewed_fits}
-use Rattle.tiff_encode.proofs.Image.FitsCalls as fit
-use Rattle.tiff_encode.proofs.Image.FitsEntries.{data_bytes}
-use Rattle.tiff_encode.proofs.Image.Steps.{CallDraws, call_draws, resolution_adding}
+use Rattle.tiff_encode.proofs.Image.Fits.{are_short, both, row_fits}
+use Rattle.tiff_encode.proofs.Image.FitsCalls.{Fits}
+use Rattle.tiff_encode.proofs.Image.Steps.{CallDraws, call_draws}
+use Rattle.tiff_encode.proofs.Image.Table.{tagged, Both, row_adding, setting_adding}
 use Rattle.tiff_encode.proofs.Image.StepsDirected.{few_none}
 use Rattle.tiff_encode.proofs.Image.StepsUnrefused.{never_refused}
-use Rattle.tiff_encode.proofs.Joining.{IsAdding, Adds, answers_adding, bind_adding, bind_fails, bind_told, ends_torn}
+use Rattle.tiff_encode.proofs.Joining.{IsAdding, Adds, bind_fails, bind_told, ends_torn}
 use Rattle.tiff_encode.proofs.Keeping.{left_so}
 use Rattle.tiff_encode.proofs.Open.Kept.{resolutions_keep_open, with_tags_kept}
-use Rattle.tiff_encode.proofs.Open.Tags.{no_answer, tags_adding}
+use Rattle.tiff_encode.proofs.Open.Tags.{no_answer}
 use Rattle.tiff_encode.proofs.Settings.{several_adds}
 use Rattle.tiff_encode.proofs.Tagging.{tags_are_fields, fields_told}
 
 -- ---- an image with some more tags
 
 with_adding : (i : OpenImage) (values : List (Tag × Scalars)) (file : FileState) → IsAdding (with_tags i values file) file
-with_adding i values file =
-    bind_adding (write_tags i.directory values) (λ d. gives (with_directory_of i d)) file (tags_adding i.directory values file)
-    (λ d _. answers_adding (Ok (with_directory_of i d)) (write_tags i.directory values file).next)
+with_adding i values file = row_adding (tagged (λ f. None) values) i file
 
--- the changes of the tags fit
-with_fits : (i : OpenImage) (values : List (Tag × Scalars)) (file : FileState) (m : Model) → AreData (fields_of values) → AreEntries i.directory.fields
-    → Fits (with_tags i values file) file m (λ j. Unit {0})
-with_fits i values file m g a =
-    let call : WriteCall OpenDirectory = write_tags i.directory values in
-    let same = sym (tags_are_fields i.directory values file) in
-    let parent = i.directory.parent in
-    viewed_fits call (λ d. with_directory_of i d) file m (λ j. Unit {0})
-    (subst (λ told. fit.IsDone told file) same (fields_done i.directory (fields_of values) file))
-    (λ x h l. ((subst (λ told. Fits told file m (Keeps parent)) same (fields_fit parent i.directory (fields_of values) file m g (a, refl)) x h l).0, tt))
-
--- the first tags of some have data if all have
-few_data : (k : ℕ) (xs : List (Tag × FieldData)) → AreData xs → AreData (take k xs)
-few_data zero xs g = tt
-few_data (suc k) [] g = tt
-few_data (suc k) (x ∷ xs) g = (g.0, few_data k xs g.1)
+-- the first tags of some have short numbers if all have
+few_short : (k : ℕ) (xs : List (Tag × Scalars)) → are_short xs ≡ true → are_short (take k xs) ≡ true
+few_short zero xs h = refl
+few_short (suc k) [] h = refl
+few_short (suc k) (x ∷ xs) h =
+    let each = both (nat_lt (tag_number x.0) (2 ^ 16)) (are_short xs) h in
+    ap (λ b. b && are_short (take k xs)) each.0 ∙ few_short k xs each.1
 
 -- equal results have equal errors
 refused_alike : {B : Type 0} (f e : TiffError) → (let a : Result B TiffError = Err f in let b : Result B TiffError = Err e in a ≡ b) → f ≡ e
@@ -85,16 +72,6 @@ module _ (u : ResolutionUnit) (value : ℕ × ℕ) where
 
   abbrev fields : List (Tag × FieldData)
   fields = fields_of (resolution_tags u value)
-
-  data_so : (t : Tag) (values : Scalars) → nat_lt (tag_number t) (2 ^ 16) ≡ true → IsData (t, data_of values)
-  data_so t values s = record { tag = ltb-true (tag_number t) (2 ^ 16) s; whole = data_is_whole values; bytes = data_bytes values }
-
-  first_data : (k : ℕ) → AreData (fields_of (take k tags))
-  first_data k =
-      let rational : Scalars = rationals (value ∷ []) in
-      subst AreData (take-map (λ v. (v.0, data_of v.1)) k tags)
-      (few_data k fields
-      (data_so tag.ResolutionUnit (units (u ∷ [])) refl, (data_so tag.XResolution rational refl, (data_so tag.YResolution rational refl, tt))))
 
   -- writing the tags that are left makes a change unless it is refused
   left_adds : (k : ℕ) → k < 3 → (d : OpenDirectory) (file : FileState) → Adds (write_tags d (drop k tags) file) file
@@ -219,9 +196,9 @@ module _ (u : ResolutionUnit) (value : ℕ × ℕ) (i j : OpenImage) (e : TiffEr
       ] in
       let part : jobs.ResolvesInPart i all e s t (with_directory_of i d) = (c, (k, (p.1.0, (middle, (record { ended = told; model = refl }, failed))))) in
       let stands : StandsIfKnown known t = λ y. stands_after one two (with_directory_of i d) e s.file mid new s.model told
-      (with_adding i (take k all) s.file) (with_adding (with_directory_of i d) (drop k all) mid) (with_fits i (take k all) s.file s.model (first_data u value k) a) stop short (q y) in
+      (with_adding i (take k all) s.file) (with_adding (with_directory_of i d) (drop k all) mid) (λ x h l. ((row_fits (tagged (λ f. None) (take k all)) (few_short k all refl) (λ j d e. e) i s.file s.model a x h l).0, tt)) stop short (q y) in
       let kept : HoldsOpen s.file.kind s.model i before → HoldsOpen s.file.kind m (with_directory_of i d) before = λ h.
-      with_tags_kept (take k all) None s.file s.model i (with_directory_of i d) before (few_none (λ v. is_page_tag (tag_number v.0)) all k refl) h told.answer in (
+      with_tags_kept (λ f. None) (take k all) (few_none (λ v. is_page_tag (tag_number v.0)) all k refl) s.file s.model i (with_directory_of i d) before h told.answer in (
         t,
         (
           before,
@@ -242,11 +219,11 @@ pub resolution_draws : (i j : OpenImage) (u : ResolutionUnit) (value : ℕ × �
     → ((m : Model) → Stands old.kind old.bytes m → Leaves (resolution i u value old) r old new m)
     → ResolutionDraws i u value (reply_to r) old new j
 resolution_draws i j u value (Ok x) old new a short p e l =
-    call_draws (λ i. resolution i u value) i j (Ok x) old new (resolution_adding i old u value) (resolutions_keep_open.0 u value) tt e l
+    call_draws (λ i. resolution i u value) i j (Ok x) old new (setting_adding (Both u value) i old) (resolutions_keep_open.0 u value) tt e l
 resolution_draws i j u value (Err f) old new a short p e l =
     elim p as (λ _. ResolutionDraws i u value (Err f) old new j) [
       | inl x ↦ (let drawn : CallDraws (λ i. resolution i u value) i (Err f) old new j =
-          call_draws (λ i. resolution i u value) i j (Err f) old new (resolution_adding i old u value) (resolutions_keep_open.0 u value) x.0 e l in
+          call_draws (λ i. resolution i u value) i j (Err f) old new (setting_adding (Both u value) i old) (resolutions_keep_open.0 u value) x.0 e l in
           λ known s before q k. let d = drawn known s before q k in (d.0, (d.1.0, (d.1.1.0, ((d.1.1.1.0.0, inl d.1.1.1.0.1), d.1.1.1.1)))))
       | inr y ↦ (λ known s before q k.
           let P : FileState → Type 0 = λ old. resolution_cause old ≡ None → StopsInPart i.directory (fields_of (resolution_tags u value)) f old new y.1.0

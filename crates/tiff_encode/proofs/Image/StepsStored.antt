@@ -5,9 +5,9 @@ use Rattle.tiff_base.specs.declared.error.TiffError.TheVariants.{OutOfMemory}
 use Rattle.tiff_value.specs.Packed.{IsStored}
 use Rattle.tiff_encode.specs.declared.encoder.script.StepReply.{StepReply}
 use Rattle.tiff_encode.specs.Model.{Model, Stands, Grows}
-use Rattle.tiff_encode.specs.Machine.{FileState, OpenImage, WriteOutcome, WriteCall, gives, by_cause}
+use Rattle.tiff_encode.specs.Machine.{FileState, OpenImage, WriteOutcome, WriteCall, by_cause}
 use Rattle.tiff_encode.specs.Causes.{end_of, write_chunk_cause, write_strip_cause}
-use Rattle.tiff_encode.specs.Calls.{appends, with_chunk, appends_chunk, write_chunk, write_strip}
+use Rattle.tiff_encode.specs.Calls.{with_chunk, appends_chunk, write_chunk, write_strip}
 use Rattle.tiff_encode.specs.Ends.{EndsAsDefined, IsCutOff}
 use Rattle.tiff_encode.specs.ImageData.{LeavesChunk}
 use Rattle.tiff_encode.specs.Open.{HoldsOpen, model_by}
@@ -18,8 +18,9 @@ use Rattle.tiff_encode.specs.Jobs as jobs
 use Rattle.tiff_encode.specs.Jobs.{FileAndModel, Drawn}
 use Rattle.tiff_encode.specs.Stepping.{StandsIfKnown, DrawMoves}
 use Rattle.tiff_encode.specs.ImageStepping.{ChunkDraws, StripDraws, reply_to}
+use Rattle.tiff_encode.proofs.Slices.{ok_inj}
 use Rattle.tiff_encode.proofs.WriteOps.{ops_grow}
-use Rattle.tiff_encode.proofs.Joining.{IsAdding, adding, answers_adding, caused_adds, bind_adds, appends_adds}
+use Rattle.tiff_encode.proofs.Joining.{IsAdding, adding, stored_adds}
 use Rattle.tiff_encode.proofs.Moving.{grows_here}
 use Rattle.tiff_encode.proofs.Open.Chunks.{chunks_keep_open}
 use Rattle.tiff_encode.proofs.Open.Tags.{no_answer}
@@ -29,18 +30,17 @@ use Rattle.std.proofs.lemmas.List.{length-map}
 
 -- ---- a chunk is appended
 
-chunk_adding : (cause : Option TiffError) (i : OpenImage) (stored : List ℕ) (file : FileState) → IsAdding (by_cause cause (appends_chunk i stored) file) file
-chunk_adding cause i stored file =
-    adding (by_cause cause (appends_chunk i stored) file) file
-    (caused_adds cause (appends_chunk i stored) file
-    (bind_adds (appends stored) (λ offset. gives (with_chunk i offset (length stored))) file (appends_adds stored file)
-    (λ offset _. answers_adding (Ok (with_chunk i offset (length stored))) (appends stored file).next)))
-
 -- the file is at least as long as the stored bytes
 chunk_within : (cause : Option TiffError) (i next : OpenImage) (stored : List ℕ) (file : FileState)
     → (by_cause cause (appends_chunk i stored) file).answer ≡ Ok next → length stored ≤ end_of (by_cause cause (appends_chunk i stored) file).next
 chunk_within None i next stored file a = omega (arith, length-append file.bytes stored)
 chunk_within (Some e) i next stored file a = absurd (no_answer a)
+
+-- the image with the chunk has the same directory
+chunk_parent : (cause : Option TiffError) (i next : OpenImage) (stored : List ℕ) (file : FileState)
+    → (by_cause cause (appends_chunk i stored) file).answer ≡ Ok next → next.directory.parent ≡ i.directory.parent
+chunk_parent None i next stored file a = ap (λ j. j.directory.parent) (sym (ok_inj (with_chunk i (end_of file) (length stored)) next a))
+chunk_parent (Some e) i next stored file a = absurd (no_answer a)
 
 -- ---- a call that writes a chunk
 
@@ -51,31 +51,35 @@ StoresIfFound call cause i samples r old new t =
     (t.samples ≡ jobs.samples_after r i samples)
     × (jobs.StoresBy call cause i.image samples r old new t.image ⊎ jobs.IsUnfound r i.image old new t.image)
 
--- Properties of a call that writes a chunk: it only appends, the file contains the bytes, and a
--- held image stays held with the chunk.
-record IsStoring (call : OpenImage → ℕ → List ℕ → WriteCall OpenImage) : Type 0 where
-  adds : (i : OpenImage) (n : ℕ) (stored : List ℕ) (file : FileState) → IsAdding (call i n stored file) file
-  within : (i next : OpenImage) (n : ℕ) (stored : List ℕ) (file : FileState) → (call i n stored file).answer ≡ Ok next
+-- Properties of a call that writes a chunk: it only appends, the directory of the image keeps its parent, the file
+-- contains the bytes, and a held image stays held with the chunk.
+pub record IsStoring (call : OpenImage → ℕ → List ℕ → WriteCall OpenImage) : Type 0 where
+  pub adds : (i : OpenImage) (n : ℕ) (stored : List ℕ) (file : FileState) → IsAdding (call i n stored file) file
+  pub parent : (i next : OpenImage) (n : ℕ) (stored : List ℕ) (file : FileState) → (call i n stored file).answer ≡ Ok next
+      → next.directory.parent ≡ i.directory.parent
+  pub within : (i next : OpenImage) (n : ℕ) (stored : List ℕ) (file : FileState) → (call i n stored file).answer ≡ Ok next
       → length stored ≤ end_of (call i n stored file).next
-  keeps : (file : FileState) (m : Model) (i next : OpenImage) (samples : List (List ℕ)) (numbers stored : List ℕ)
+  pub keeps : (file : FileState) (m : Model) (i next : OpenImage) (samples : List (List ℕ)) (numbers stored : List ℕ)
       → HoldsOpen file.kind m i samples → ((n : ℕ) → get_or numbers n 0 < 256 ^ i.size) → length numbers < 2 ^ 64 - 1
       → IsStored i.method stored (unpacked_chunk i numbers) → end_of file < 2 ^ 64 → length stored < 2 ^ 64
       → (call i (length numbers) stored file).answer ≡ Ok next
       → HoldsOpen file.kind (model_by file m (call i (length numbers) stored file)) next (samples ++ numbers ∷ [])
 
-strips_store : IsStoring write_strip
+pub strips_store : IsStoring write_strip
 unfolding write_strip
 strips_store = record {
-  adds = λ i n stored file. chunk_adding (write_strip_cause file i n (length stored)) i stored file;
+  adds = λ i n stored file. adding _ file (stored_adds (write_strip_cause file i n (length stored)) i stored file);
+  parent = λ i next n stored file a. chunk_parent (write_strip_cause file i n (length stored)) i next stored file a;
   within = λ i next n stored file a. chunk_within (write_strip_cause file i n (length stored)) i next stored file a;
   keeps = λ file m i next samples numbers stored h s l is near short a.
       (chunks_keep_open file m i next samples numbers stored h s l is near short).1 a;
 }
 
-chunks_store : IsStoring write_chunk
+pub chunks_store : IsStoring write_chunk
 unfolding write_chunk
 chunks_store = record {
-  adds = λ i n stored file. chunk_adding (write_chunk_cause file i n (length stored)) i stored file;
+  adds = λ i n stored file. adding _ file (stored_adds (write_chunk_cause file i n (length stored)) i stored file);
+  parent = λ i next n stored file a. chunk_parent (write_chunk_cause file i n (length stored)) i next stored file a;
   within = λ i next n stored file a. chunk_within (write_chunk_cause file i n (length stored)) i next stored file a;
   keeps = λ file m i next samples numbers stored h s l is near short a.
       (chunks_keep_open file m i next samples numbers stored h s l is near short).0 a;

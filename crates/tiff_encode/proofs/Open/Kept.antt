@@ -1,5 +1,5 @@
 -- What is held of an open image if a call changes one part of it.
-use Rattle.std.proofs.Common.{◌≡◌, ℕ, false, List, [], ◌∷◌, Option, Some, Ok, refl, ap, sym, ◌∙◌, subst}
+use Rattle.std.proofs.Common.{◌≡◌, ℕ, false, List, [], ◌∷◌, Option, Some, None, Ok, refl, ap, sym, ◌∙◌, subst}
 use Rattle.std.specs.List.{list_any}
 use Rattle.std.specs.FinMap.{insert}
 use Rattle.tiff_base.proofs.Common.{neither}
@@ -13,15 +13,16 @@ use Rattle.tiff_base.specs.Field.{Field}
 use Rattle.tiff_base.specs.Tags.{tag_number}
 use Rattle.tiff_value.specs.Data.{Scalars, u32s, rationals, units}
 use Rattle.tiff_encode.specs.Model.{Model}
-use Rattle.tiff_encode.specs.Machine.{FileState, OpenDirectory, Chunk, OpenImage, WriteCall, gives, by_cause}
+use Rattle.tiff_encode.specs.Machine.{FileState, OpenDirectory, Chunk, OpenImage, WriteCall, gives, ◌>>=◌}
 use Rattle.tiff_encode.specs.Causes.{resolution_cause, one_resolution_cause, resolution_unit_cause}
-use Rattle.tiff_encode.specs.Calls.{write_tag, write_tag_buf, write_tags, extend_from, with_directory_of, with_tags, resolution_tags, resolution, x_resolution, y_resolution, resolution_unit}
+use Rattle.tiff_encode.specs.Calls.{write_tag, write_tag_buf, write_tags, extend_from, with_directory_of, resolution_tags, resolution, x_resolution, y_resolution, resolution_unit}
 use Rattle.tiff_encode.specs.Stored.{unpacked_chunk}
 use Rattle.tiff_encode.specs.Held.{is_page_tag, Given, HoldsValues}
-use Rattle.tiff_encode.specs.Open.{TellsForm, TellsOpen, IsOpen, HoldsChunks, HoldsOpen, model_by, TagsKeepOpen, FieldsKeepOpen, ResolutionsKeepOpen}
+use Rattle.tiff_encode.specs.Open.{TellsForm, TellsOpen, IsOpen, HoldsChunks, HoldsOpen, model_by, KeepsOpen, TagsKeepOpen, FieldsKeepOpen, ResolutionsKeepOpen}
 use Rattle.tiff_encode.proofs.Slices.{ok_inj}
 use Rattle.tiff_encode.proofs.WriteOps.{ops_grow}
 use Rattle.tiff_encode.proofs.Open.Held.{chunks_grown, other_held}
+use Rattle.tiff_encode.proofs.Image.Table.{Row, written, tagged}
 use Rattle.tiff_encode.proofs.Open.Tags.{both_held, caused_held, tags_adding, other_tag_held, other_buf_held, others_held}
 
 -- ---- one part
@@ -121,34 +122,42 @@ fields_keep_open kind m i samples fields h q =
     directory_kept kind m m i (extend_from i.directory fields) samples h
     (extended_held m h.given i.directory fields q h.holds) h.chunks
 
--- ---- resolutions
+-- ---- rows of the table
+
+-- what is held of an image after a call as a row says
+pub row_held : (w : Row) (file : FileState) (m : Model) (i next : OpenImage) (samples : List (List ℕ)) → HoldsOpen file.kind m i samples
+    → (written w i file).answer ≡ Ok next
+    → ((d : OpenDirectory) → w.cause i file ≡ None → (write_tags i.directory w.tags file).answer ≡ Ok d
+    → HoldsChunks file.kind (model_by file m (write_tags i.directory w.tags file)) i samples
+    → HoldsOpen file.kind (model_by file m (write_tags i.directory w.tags file)) (w.image i d) samples)
+    → HoldsOpen file.kind (model_by file m (written w i file)) next samples
+row_held w file m i next samples h a f =
+    let P : Model → Type 0 = λ n. HoldsOpen file.kind n next samples in
+    let call : WriteCall OpenDirectory = write_tags i.directory w.tags in
+    let rest : OpenDirectory → WriteCall OpenImage = λ d. gives (w.image i d) in
+    let n : Model = model_by file m (call file) in
+    caused_held (w.cause i file) (call >>= rest) file m P next a
+    (λ c b. both_held call rest file m P next (tags_adding i.directory w.tags file) b
+    (λ d x y. subst (λ j. HoldsOpen file.kind n j samples) (ok_inj (w.image i d) next y)
+    (f d c x (chunks_grown file.kind m n i samples (ops_grow file.kind file.bytes m (call file).ops) h.chunks))))
 
 -- some more tags that a page isn't read by
-pub with_tags_kept : (values : List (Tag × Scalars)) (cause : Option TiffError) (file : FileState) (m : Model) (i next : OpenImage)
-    (samples : List (List ℕ)) → list_any (λ v. is_page_tag (tag_number v.0)) values ≡ false → HoldsOpen file.kind m i samples
-    → (by_cause cause (with_tags i values) file).answer ≡ Ok next
-    → HoldsOpen file.kind (model_by file m (by_cause cause (with_tags i values) file)) next samples
-with_tags_kept values cause file m i next samples q h a =
-    let P : Model → Type 0 = λ n. HoldsOpen file.kind n next samples in
-    let call : WriteCall OpenDirectory = write_tags i.directory values in
-    let rest : OpenDirectory → WriteCall OpenImage = λ d. gives (with_directory_of i d) in
-    caused_held cause (with_tags i values) file m P next a
-    (λ _ b. both_held call rest file m P next (tags_adding i.directory values file) b
-    (λ d x y.
-    let n : Model = model_by file m (call file) in
-    subst (λ j. HoldsOpen file.kind n j samples) (ok_inj (with_directory_of i d) next y)
-    (directory_kept file.kind m n i d samples h (others_held i.directory values file m h.given d q h.holds x)
-    (chunks_grown file.kind m n i samples (ops_grow file.kind file.bytes m (call file).ops) h.chunks))))
+pub with_tags_kept : (cause : FileState → Option TiffError) (values : List (Tag × Scalars))
+    → list_any (λ v. is_page_tag (tag_number v.0)) values ≡ false → KeepsOpen (written (tagged cause values))
+with_tags_kept cause values q file m i next samples h a =
+    row_held (tagged cause values) file m i next samples h a
+    (λ d c x g. directory_kept file.kind m (model_by file m (write_tags i.directory values file)) i d samples h
+    (others_held i.directory values file m h.given d q h.holds x) g)
 
 pub resolutions_keep_open : ResolutionsKeepOpen
 unfolding resolution x_resolution y_resolution resolution_unit
 resolutions_keep_open = (
-  λ u value file m i next samples h a. with_tags_kept (resolution_tags u value) (resolution_cause file) file m i next samples refl h a,
+  λ u value. with_tags_kept resolution_cause (resolution_tags u value) refl,
   (
-    λ value file m i next samples h a. with_tags_kept ((tag.XResolution, rationals (value ∷ [])) ∷ []) (one_resolution_cause file) file m i next samples refl h a,
+    λ value. with_tags_kept one_resolution_cause ((tag.XResolution, rationals (value ∷ [])) ∷ []) refl,
     (
-      λ value file m i next samples h a. with_tags_kept ((tag.YResolution, rationals (value ∷ [])) ∷ []) (one_resolution_cause file) file m i next samples refl h a,
-      λ u file m i next samples h a. with_tags_kept ((tag.ResolutionUnit, units (u ∷ [])) ∷ []) (resolution_unit_cause file) file m i next samples refl h a,
+      λ value. with_tags_kept one_resolution_cause ((tag.YResolution, rationals (value ∷ [])) ∷ []) refl,
+      λ u. with_tags_kept resolution_unit_cause ((tag.ResolutionUnit, units (u ∷ [])) ∷ []) refl,
     ),
   ),
 )

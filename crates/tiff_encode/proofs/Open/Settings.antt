@@ -12,21 +12,19 @@ use Rattle.tiff_base.specs.declared.tags.PlanarConfiguration.TheVariants.{Planar
 use Rattle.tiff_base.specs.declared.tags.Tag.{Tag}
 use Rattle.tiff_base.specs.declared.tags.Tag.TheVariants as tag
 use Rattle.tiff_base.specs.Tags.{tag_number}
-use Rattle.tiff_value.specs.Data.{Scalars, u32s, planars, extras, data_of}
+use Rattle.tiff_value.specs.Data.{Scalars, u32s, planars, extras}
 use Rattle.tiff_encode.specs.Model.{In, Model}
-use Rattle.tiff_encode.specs.Machine.{FileState, OpenDirectory, ChunkLayout, OpenImage, WriteCall, gives, by_cause, ◌>>=◌}
+use Rattle.tiff_encode.specs.Machine.{FileState, OpenDirectory, ChunkLayout, OpenImage, WriteOutcome}
 use Rattle.tiff_encode.specs.Drawn.{IsForm}
 use Rattle.tiff_encode.specs.Chunks.{is_tile, is_begun}
 use Rattle.tiff_encode.specs.Causes.{unless_ended, is_no_side, extra_samples_cause, rows_per_strip_cause, tiles_cause, planar_cause}
-use Rattle.tiff_encode.specs.Calls.{write_tag, write_tags, strips_of, tiles_of, without_field, extra_samples, set_rows_per_strip, tiles, planar}
+use Rattle.tiff_encode.specs.Calls.{write_tags, strips_of, tiles_of, without_field, extra_samples, set_rows_per_strip, tiles, planar}
 use Rattle.tiff_encode.specs.Held.{Given, HoldsValues, samples_of_chunk}
 use Rattle.tiff_encode.specs.Open.{TellsOpen, IsOpen, HoldsChunks, HoldsOpen, model_by, KeepsOpen, SettingsKeepOpen}
-use Rattle.tiff_encode.proofs.Slices.{ok_inj}
-use Rattle.tiff_encode.proofs.WriteOps.{ops_grow}
-use Rattle.tiff_encode.proofs.Joining.{adding, tag_adds}
-use Rattle.tiff_encode.proofs.Open.Held.{chunks_grown, set, unset_held}
-use Rattle.tiff_encode.proofs.Open.Tags.{both_held, caused_held, tags_adding, tag_held, tags_held, after}
-use Rattle.tiff_encode.proofs.Open.Kept.{form_kept}
+use Rattle.tiff_encode.proofs.Image.Table.{Setting, Extra, Rows, Sides, Planes, call_of, row, called}
+use Rattle.tiff_encode.proofs.Open.Held.{set, unset_held}
+use Rattle.tiff_encode.proofs.Open.Tags.{tags_held, after}
+use Rattle.tiff_encode.proofs.Open.Kept.{form_kept, row_held}
 
 -- ---- what the checks of these calls imply
 
@@ -65,32 +63,25 @@ none_held kind m i next samples h b c s =
       fit = λ x l. h.fit x (subst (λ cs. In x cs) c l);
     }
 
--- one tag is written, and the image is held with it
-one_set : (call : OpenDirectory → OpenImage) (t : Tag) (values : Scalars) (cause : Option TiffError) (file : FileState) (m : Model)
-    (i next : OpenImage) (samples : List (List ℕ)) (h : HoldsOpen file.kind m i samples)
-    → (let write : WriteCall OpenImage = write_tag i.directory t (Ok (data_of values)) >>= (λ d. gives (call d)) in
-    (by_cause cause write file).answer ≡ Ok next
-    → ((d : OpenDirectory) (n : Model) → cause ≡ None → HoldsChunks file.kind n i samples
-    → HoldsValues n d.fields (set h.given (tag_number t) (Some values)) → HoldsOpen file.kind n (call d) samples)
-    → HoldsOpen file.kind (model_by file m (by_cause cause write file)) next samples)
-one_set call t values cause file m i next samples h a f =
-    let first : WriteCall OpenDirectory = write_tag i.directory t (Ok (data_of values)) in
-    let P : Model → Type 0 = λ n. HoldsOpen file.kind n next samples in
-    caused_held cause (first >>= (λ d. gives (call d))) file m P next a
-    (λ c b. both_held first (λ d. gives (call d)) file m P next (adding (first file) file (tag_adds i.directory t (Ok (data_of values)) file)) b
-    (λ d x y.
-    let n : Model = model_by file m (first file) in
-    let grown = ops_grow file.kind file.bytes m (first file).ops in
-    subst (λ j. HoldsOpen file.kind n j samples) (ok_inj (call d) next y)
-    (f d n c (chunks_grown file.kind m n i samples grown h.chunks) (tag_held i.directory t values file m h.given d h.holds x))))
+-- what is held of an image after a call of the table: its directory has the values of the tags
+setting_held : (s : Setting) (file : FileState) (m : Model) (i next : OpenImage) (samples : List (List ℕ)) (h : HoldsOpen file.kind m i samples)
+    → (call_of s i file).answer ≡ Ok next
+    → ((d : OpenDirectory) (n : Model) → (row s).cause i file ≡ None → HoldsChunks file.kind n i samples
+    → HoldsValues n d.fields (after h.given (row s).tags) → HoldsOpen file.kind n ((row s).image i d) samples)
+    → HoldsOpen file.kind (model_by file m (call_of s i file)) next samples
+setting_held s file m i next samples h a f =
+    let tags : List (Tag × Scalars) = (row s).tags in
+    subst (λ told. HoldsOpen file.kind (model_by file m told) next samples) (sym (called s i file))
+    (row_held (row s) file m i next samples h (subst (λ (told : WriteOutcome OpenImage). told.answer ≡ Ok next) (called s i file) a)
+    (λ d c x g. f d (model_by file m (write_tags i.directory tags file)) c g (tags_held i.directory tags file m h.given d h.holds x)))
 
 -- ---- extra samples
 
 extra_kept : (extra : List ExtraSamples) → KeepsOpen (λ i. extra_samples i extra)
-unfolding extra_samples extra_samples_cause
+unfolding extra_samples_cause
 extra_kept extra file m i next samples h a =
     let call : OpenDirectory → OpenImage = λ d. record i { directory = d; extra = extra } in
-    one_set call tag.ExtraSamples (extras extra) (extra_samples_cause file i extra) file m i next samples h a
+    setting_held (Extra extra) file m i next samples h a
     (λ d n c g o.
     let tests = first_test _ _ _ (fresh file.fault _ c) in
     let count = first_test _ _ _ tests.1 in
@@ -157,11 +148,10 @@ cut_kept kind m i d form later samples s c b f o t =
     }
 
 rows_kept : (rows : ℕ) → rows < 2 ^ 32 → KeepsOpen (λ i. set_rows_per_strip i rows)
-unfolding set_rows_per_strip rows_per_strip_cause
+unfolding rows_per_strip_cause
 rows_kept rows l file m i next samples h a =
     let form : ChunkLayout = strips_of i.width rows i.form.planar in
-    let call : OpenDirectory → OpenImage = λ d. record i { directory = d; form = form } in
-    one_set call tag.RowsPerStrip (u32s (rows ∷ [])) (rows_per_strip_cause file i rows) file m i next samples h a
+    setting_held (Rows rows) file m i next samples h a
     (λ d n c g o.
     let tests = first_test _ _ _ (fresh file.fault _ c) in
     let some = neither (rows == 0) _ tests.0 in
@@ -187,11 +177,11 @@ rows_kept rows l file m i next samples h a =
     }))
 
 planar_kept : KeepsOpen planar
-unfolding planar planar_cause
+unfolding planar_cause
 planar_kept file m i next samples h a =
     let form : ChunkLayout = record i.form { planar = Planar } in
     let call : OpenDirectory → OpenImage = λ d. record i { directory = d; form = form } in
-    one_set call tag.PlanarConfiguration (planars (Planar ∷ [])) (planar_cause file i) file m i next samples h a
+    setting_held Planes file m i next samples h a
     (λ d n c g o.
     let tests = first_test _ _ _ (fresh file.fault _ c) in
     let t : TellsOpen i h.given = h.tells in
@@ -221,27 +211,19 @@ side : (n : ℕ) → is_no_side n ≡ false → 0 < n
 side n h = above n (neither (n == 0) _ h).0
 
 tiles_kept : (width length : ℕ) → width < 2 ^ 32 → length < 2 ^ 32 → KeepsOpen (λ i. tiles i width length)
-unfolding tiles tiles_cause
+unfolding tiles_cause
 tiles_kept width length w l file m i next samples h a =
     let form : ChunkLayout = tiles_of width length i.form.planar in
     let values : List (Tag × Scalars) = (tag.TileWidth, u32s (width ∷ [])) ∷ (tag.TileLength, u32s (length ∷ [])) ∷ [] in
-    let first : WriteCall OpenDirectory = write_tags i.directory values in
-    let call : OpenDirectory → OpenImage = λ d. record i { directory = without_field d tag.RowsPerStrip; form = form } in
-    let P : Model → Type 0 = λ n. HoldsOpen file.kind n next samples in
-    caused_held (tiles_cause file i width length) (first >>= (λ d. gives (call d))) file m P next a
-    (λ c b. both_held first (λ d. gives (call d)) file m P next (tags_adding i.directory values file) b
-    (λ d x y.
-    let n : Model = model_by file m (first file) in
-    let g : HoldsChunks file.kind n i samples =
-    chunks_grown file.kind m n i samples (ops_grow file.kind file.bytes m (first file).ops) h.chunks in
+    setting_held (Sides width length) file m i next samples h a
+    (λ d n c g o.
     let tests = first_test _ _ _ (fresh file.fault _ c) in
     let sides = neither (is_no_side width) (is_no_side length) (first_test _ _ _ tests.1).0 in
     let t : TellsOpen i h.given = h.tells in
     let later : Given = set (after h.given values) (tag_number tag.RowsPerStrip) None in
-    subst (λ j. HoldsOpen file.kind n j samples) (ok_inj (call d) next y)
-    (cut_kept file.kind n i (without_field d tag.RowsPerStrip) form later samples h.open_so g tests.0
+    cut_kept file.kind n i (without_field d tag.RowsPerStrip) form later samples h.open_so g tests.0
     (record { wide = (side width sides.0, w); high = (side length sides.1, l); strips = λ e. absurd (no_strip e) })
-    (unset_held n d.fields (after h.given values) (tag_number tag.RowsPerStrip) (tags_held i.directory values file m h.given d h.holds x))
+    (unset_held n d.fields (after h.given values) (tag_number tag.RowsPerStrip) o)
     (record {
       width = t.width;
       height = t.height;
@@ -257,7 +239,7 @@ tiles_kept width length w l file m i next samples h a =
       no_strip_counts = t.no_strip_counts;
       no_tiles = t.no_tiles;
       no_tile_counts = t.no_tile_counts;
-    }))))
+    }))
 
 pub settings_keep_open : SettingsKeepOpen
 settings_keep_open = (extra_kept, (rows_kept, (tiles_kept, planar_kept)))

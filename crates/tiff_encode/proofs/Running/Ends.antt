@@ -6,7 +6,7 @@ use Rattle.tiff_base.specs.declared.error.TiffError.{TiffError}
 use Rattle.tiff_base.specs.Field.{AreEntries}
 use Rattle.tiff_encode.specs.Model.{Model, IsLink, Stands, Grows, with_link}
 use Rattle.tiff_encode.specs.WriteOps.{model_after}
-use Rattle.tiff_encode.specs.Machine.{FileState, OpenDirectory, OpenImage, WriteOutcome}
+use Rattle.tiff_encode.specs.Machine.{FileState, OpenDirectory, OpenImage, WriteOutcome, WriteCall}
 use Rattle.tiff_encode.specs.Causes.{end_of}
 use Rattle.tiff_encode.specs.Calls.{Offsets, finish, finish_image}
 use Rattle.tiff_encode.specs.Ends.{EndsAsDefined, IsTornOff, CallFails}
@@ -16,6 +16,7 @@ use Rattle.tiff_encode.specs.Open.{model_by}
 use Rattle.tiff_encode.specs.declared.encoder.script.EndReply.TheVariants as last
 use Rattle.tiff_encode.specs.Jobs.{FileAndModel, IsDone, Refuses, FinishesWith, FinishesSilently}
 use Rattle.tiff_encode.specs.Stepping.{StandsIfKnown, HasLink, EndMoves}
+use Rattle.tiff_encode.proofs.Slices.{some_inj, none_some}
 use Rattle.tiff_encode.proofs.Moving.{grows_here}
 use Rattle.tiff_encode.proofs.WriteOps.{ops_grow, link_kept}
 use Rattle.tiff_encode.proofs.Leaving.{begun_leaves, torn_leaves, entries_fit, finish_plain}
@@ -75,16 +76,6 @@ image_ending i old new a short =
 
 -- ---- the `FileAndModel` after an end
 
--- equal options have equal offsets
-told_offset : (x o : Offsets) → (let a : Option Offsets = Some x in let b : Option Offsets = Some o in a ≡ b) → x ≡ o
-told_offset x o h = ap held h where
-  held : Option Offsets → Offsets
-  held (Some p) = p
-  held None = x
-
-pub no_offset : {o : Offsets} → let a : Option Offsets = None in a ≡ Some o → ⊥
-no_offset h = cc
-
 -- The properties of the `FileAndModel` after an end, except those of its result.
 pub record Leads (known : Bool) (s t : FileAndModel) (offset : Option Offsets) : Type 0 where
   pub known_so : StandsIfKnown known t
@@ -126,7 +117,7 @@ module _ (known : Bool) (old new : FileState) (m : Model) where
   leads_still kind chain s = record {
     known_so = λ q. subst (λ k. Stands k new.bytes m) (sym kind) (s q);
     grows = grows_here m;
-    own = λ o h. absurd (no_offset h);
+    own = λ o h. absurd (none_some h);
     chain = λ i. subst (λ k. IsLink k m new.chain) (sym kind) (subst (λ q. IsLink old.kind m q) (sym chain) i);
   }
 
@@ -148,7 +139,7 @@ module _ (parent : Option ℕ) (told : WriteOutcome Offsets) (old new : FileStat
         grows = ops_grow old.kind old.bytes m told.ops;
         own = λ o h.
             subst (λ x. IsLink x n o.link) (sym kind)
-            (subst (λ p. IsLink old.kind n p.link) (told_offset offsets o h) (links.own offsets t.answer));
+            (subst (λ p. IsLink old.kind n p.link) (some_inj offsets o h) (links.own offsets t.answer));
         chain = λ i.
             subst (λ x. IsLink x n new.chain) (sym kind)
             (subst (λ q. IsLink old.kind n q) (sym (ap (λ f. f.chain) t.state)) (links.chain offsets t.answer i));
@@ -169,7 +160,7 @@ module _ (parent : Option ℕ) (told : WriteOutcome Offsets) (old new : FileStat
       record {
         known_so = λ q. subst (λ x. Stands x new.bytes n) (sym kind) (s q);
         grows = grows;
-        own = λ o h. absurd (no_offset h);
+        own = λ o h. absurd (none_some h);
         chain = λ i.
             subst (λ x. IsLink x n new.chain) (sym kind)
             (subst (λ q. IsLink old.kind n q) (sym (ap (λ f. f.chain) t.state)) (link_kept old.kind m n old.chain grows i));
@@ -254,6 +245,23 @@ moves_as Ended Held Known_so Held_so parent old new f g e known s same k l =
     let z = y.1.1.1.1.1 in
     (t, (offset, (y.0, (f s t offset y.1.0, (y.1.1.0, (y.1.1.1.0, (y.1.1.1.1.0, (z.0, g s t offset z.1))))))))
 
+-- ---- ends that return nothing
+
+module _ (call : WriteCall Offsets) (Held : FileAndModel → FileAndModel → Option Offsets → Type 0) (parent : Option ℕ) (old new : FileState)
+    (ending : IsEnding parent (call old) old new) where
+  pub silently_told : (offsets : Offsets) → EndsAsDefined (call old) (Ok offsets) new
+      → ((m : Model) → Held (at old m) (at new (model_by old m (call old))) (Some offsets))
+      → EndMoves (λ s t offset. FinishesSilently (call s.file) (Ok last.Nothing) s t offset) parent old new Held
+  silently_told offsets t held =
+      told_moves (λ s t offset. FinishesSilently (call s.file) (Ok last.Nothing) s t offset) Held parent (call old) old new ending
+      offsets t (λ m done. (offsets, (done, refl))) held
+
+  pub silently_failed : (e : TiffError) → CallFails (call old) e old new → ((m n : Model) → Held (at old m) (at new n) None)
+      → EndMoves (λ s t offset. FinishesSilently (call s.file) (Err e) s t offset) parent old new Held
+  silently_failed e h held =
+      fails_moves (λ s t offset. FinishesSilently (call s.file) (Err e) s t offset) Held parent (call old) old new ending
+      e h (λ m n r. (r, refl)) held
+
 -- ---- a directory
 
 -- a directory's end holds no image
@@ -275,16 +283,4 @@ module _ (d : OpenDirectory) (old new : FileState) (ending : IsEnding d.parent (
       → EndMoves (λ s t offset. FinishesWith (finish d s.file) (Err e) s t offset) d.parent old new Nothing_held
   offsets_failed e h =
       fails_moves (λ s t offset. FinishesWith (finish d s.file) (Err e) s t offset) Nothing_held d.parent (finish d old) old new ending
-      e h (λ m n r. (r, refl)) (λ m n. tt)
-
-  pub silently_told : (offsets : Offsets) → EndsAsDefined (finish d old) (Ok offsets) new
-      → EndMoves (λ s t offset. FinishesSilently (finish d s.file) (Ok last.Nothing) s t offset) d.parent old new Nothing_held
-  silently_told offsets t =
-      told_moves (λ s t offset. FinishesSilently (finish d s.file) (Ok last.Nothing) s t offset) Nothing_held d.parent (finish d old) old new ending
-      offsets t (λ m done. (offsets, (done, refl))) (λ m. tt)
-
-  pub silently_failed : (e : TiffError) → CallFails (finish d old) e old new
-      → EndMoves (λ s t offset. FinishesSilently (finish d s.file) (Err e) s t offset) d.parent old new Nothing_held
-  silently_failed e h =
-      fails_moves (λ s t offset. FinishesSilently (finish d s.file) (Err e) s t offset) Nothing_held d.parent (finish d old) old new ending
       e h (λ m n r. (r, refl)) (λ m n. tt)

@@ -19,6 +19,7 @@ use Rattle.tiff_encode.specs.ImageData as data_
 use Rattle.tiff_encode.specs.Jobs.{FileAndModel, FinishesSilently, EndsWithin, WritesData, JobWritesDataBy, WritesDataIfFound}
 use Rattle.tiff_encode.specs.Stepping.{EndMoves, IsHeld}
 use Rattle.tiff_encode.specs.JobEnding.{DataHeld}
+use Rattle.tiff_encode.proofs.Slices.{some_inj, none_some}
 use Rattle.tiff_encode.proofs.Open.Ends.{ends_held}
 use Rattle.tiff_encode.proofs.Data.Calls.{behind_model}
 use Rattle.tiff_encode.proofs.Data.Chunks.{chunks_adding, chunks_done, data_chunks, data_patches}
@@ -26,14 +27,7 @@ use Rattle.tiff_encode.proofs.Data.Open.{chunks_last}
 use Rattle.tiff_encode.proofs.Data.Leaves.{within_stands, IsWritten, data_written, data_stands, data_torn}
 use Rattle.tiff_encode.proofs.Data.Shows.{shown_as, data_ended, none_left, last_held}
 use Rattle.tiff_encode.proofs.EndLinks.{data_links}
-use Rattle.tiff_encode.proofs.Running.Ends.{IsEnding, no_offset, at, led, leads_still, moves_from, told_moves, fails_moves, moves_as}
-
--- equal options have equal values
-held_so : {A : Type 0} (x y : A) → (let a : Option A = Some x in let b : Option A = Some y in a ≡ b) → x ≡ y
-held_so {A = A} x y h = ap held h where
-  held : Option A → A
-  held (Some z) = z
-  held None = x
+use Rattle.tiff_encode.proofs.Running.Ends.{IsEnding, at, led, leads_still, moves_from, told_moves, fails_moves, silently_told, silently_failed, moves_as}
 
 -- the reply of a call that returns nothing
 replied : Result (Unit {0}) TiffError → Result EndReply TiffError
@@ -45,7 +39,7 @@ replied (Err e) = Err e
 -- an image ends with samples only if no chunk is left, and they are its samples before the end
 samples_kept : (b : Bool) (before samples : List (List ℕ)) → cond b None (Some before) ≡ Some samples → (b ≡ false) × (before ≡ samples)
 samples_kept true before samples h = absurd cc
-samples_kept false before samples h = (refl, held_so before samples h)
+samples_kept false before samples h = (refl, some_inj before samples h)
 
 -- the image that is held after its end
 abbrev HeldWhole : OpenImage → FileAndModel → FileAndModel → Option Offsets → Type 0
@@ -62,7 +56,7 @@ module _ (i : OpenImage) (old new : FileState) (ending : IsEnding i.directory.pa
       let x = samples_kept (is_left i) before samples e in
       let kind : new.kind ≡ old.kind = ap (λ f. f.kind) t.state ∙ ending.patches.done.kind in
       let P : Offsets → List (List ℕ) → Type 0 = λ q all. IsHeld (at new n) (record { offset = q.pointer; image = image_with i all }) in
-      subst (λ q. P q samples) (held_so offsets o p)
+      subst (λ q. P q samples) (some_inj offsets o p)
       (subst (λ all. P offsets all) x.1 (record {
         image = i;
         samples = before;
@@ -73,16 +67,13 @@ module _ (i : OpenImage) (old new : FileState) (ending : IsEnding i.directory.pa
   pub finish_told : (offsets : Offsets) → EndsAsDefined (finish_image i old) (Ok offsets) new
       → EndMoves (λ s t offset. FinishesSilently (finish_image i s.file) (Ok last.Nothing) s t offset) i.directory.parent old new (HeldWhole i)
   finish_told offsets t =
-      told_moves (λ s t offset. FinishesSilently (finish_image i s.file) (Ok last.Nothing) s t offset) (HeldWhole i)
-      i.directory.parent (finish_image i old) old new ending
-      offsets t (λ m done. (offsets, (done, refl))) (finish_held offsets t)
+      silently_told (finish_image i) (HeldWhole i) i.directory.parent old new ending offsets t (finish_held offsets t)
 
   pub finish_failed : (e : TiffError) → CallFails (finish_image i old) e old new
       → EndMoves (λ s t offset. FinishesSilently (finish_image i s.file) (Err e) s t offset) i.directory.parent old new (HeldWhole i)
   finish_failed e h =
-      fails_moves (λ s t offset. FinishesSilently (finish_image i s.file) (Err e) s t offset) (HeldWhole i)
-      i.directory.parent (finish_image i old) old new ending
-      e h (λ m n r. (r, refl)) (λ m n before samples o h p. absurd (no_offset p))
+      silently_failed (finish_image i) (HeldWhole i) i.directory.parent old new ending
+      e h (λ m n before samples o h p. absurd (none_some p))
 
 -- ---- `write_data`
 
@@ -144,8 +135,8 @@ module _ (i : OpenImage) (samples : List ℕ) (old new : FileState) (entries : A
         (λ m before all o h p e.
         let n : Model = model_by old m told in
         let P : Offsets → List (List ℕ) → Type 0 = λ q xs. IsHeld (at new n) (record { offset = q.pointer; image = image_with i xs }) in
-        subst (λ q. P q all) (held_so w.offsets o p)
-        (subst (λ xs. P w.offsets xs) (held_so (before ++ parts_left i samples) all e) (data_held m before h)))
+        subst (λ q. P q all) (some_inj w.offsets o p)
+        (subst (λ xs. P w.offsets xs) (some_inj (before ++ parts_left i samples) all e) (data_held m before h)))
 
   -- `write_data` stops
   module _ (e : TiffError) where
@@ -196,19 +187,19 @@ module _ (i : OpenImage) (samples : List ℕ) (old new : FileState) (entries : A
         (λ known m k l.
         led known (at old m) (at old m) new Stops (DataHeld i samples) None (sym h.1)
         (stops_by (Some c) q m (at old m) (ap replied h.0, (refl, refl)))
-        (λ before all o x p. absurd (no_offset p)) (leads_still known old old m refl refl k))
+        (λ before all o x p. absurd (none_some p)) (leads_still known old old m refl refl k))
     stopped_by None q h =
         elim h as (λ _. EndMoves Stops i.directory.parent old new (DataHeld i samples)) [
           | inl w ↦ fails_moves Stops (DataHeld i samples) i.directory.parent (write_image_data i samples w.0 old) old new
               (data_ending w.0) e w.1.1.1
               (λ m n r. stops_by None q m (at new n) (inl (w.0, (w.1.0, (w.1.1.0, (r, refl))))))
-              (λ m n before all o x p. absurd (no_offset p))
+              (λ m n before all o x p. absurd (none_some p))
           | inr w ↦ moves_from Stops (DataHeld i samples) i.directory.parent old new
               (λ known m k l.
               let kept = stop_kept w in
               led known (at old m) (at new m) new Stops (DataHeld i samples) None refl
               (stops_by None q m (at new m) (inr (stop_within m w, refl)))
-              (λ before all o x p. absurd (no_offset p))
+              (λ before all o x p. absurd (none_some p))
               (leads_still known old new m kept.0 kept.1 (λ q. within_stands i (parts_left i samples) e old new w m (k q))))
         ]
 

@@ -37,7 +37,7 @@ use Rattle.tiff_encode.specs.JobValues.{cut_to}
 use Rattle.tiff_encode.specs.Jobs.{FileAndModel, IsDone, Refuses, Drawn, Run, FinishedImage, DirectoryStepped, AllStepped, FinishesSilently, DirectoryEnds, ImageEnds, EndsWithin, JobWritesDataBy, DirectoryRan, DirectoryRanBy, ImageRan, JobRan, IsSet, run_after_job, with_parent, parent_of, named_parent, open_directory, ended_samples, images_at, job_images, are_apart, offsets_in, IsRefusedAtOnce, JobIsNotBegun}
 use Rattle.tiff_encode.specs.Stepping.{StandsIfKnown, HasLink, Moves, StepsDraw, EndMoves, ImageHeld, IsHeld, IsSound, JobMoves, offsets_answered}
 use Rattle.tiff_encode.specs.Running.{NamesLink, link_in, linked_from, DirectoryGoes, DirectoryGoesOn, ImageGoes, ImageGoesOn, DirectoryRunsOn, ImageRunsOn}
-use Rattle.tiff_encode.proofs.Slices.{ok_inj}
+use Rattle.tiff_encode.proofs.Slices.{ok_inj, some_inj, none_some}
 use Rattle.tiff_encode.proofs.WriteOps.{link_kept}
 use Rattle.tiff_encode.proofs.Joining.{IsAdding, adding, begin_adds, extra_adds}
 use Rattle.tiff_encode.proofs.Moving.{grows_here, grows_on, Led, seen}
@@ -65,13 +65,6 @@ chain_on s t same g l =
 parent_on : (known : Bool) (s t : FileAndModel) (before after : Option ℕ) → t.file.kind ≡ s.file.kind → Grows s.model t.model
     → after ≡ before → HasLink known s before → HasLink known t after
 parent_on known s t before after k g same h q offset p = link_on s t offset k g (h q offset (sym same ∙ p))
-
--- equal options have equal values
-pub some_inj : {A : Type 0} (x y : A) → (let a : Option A = Some x in let b : Option A = Some y in a ≡ b) → x ≡ y
-some_inj x y h = cc
-
-pub none_some : {A : Type 0} {x : A} → (let a : Option A = None in let b : Option A = Some x in a ≡ b) → ⊥
-none_some h = cc
 
 -- each image that an end adds is held
 at_held : (t : FileAndModel) (i : OpenImage) (offset : Option Offsets) (samples : Option (List (List ℕ))) (f : FinishedImage)
@@ -266,10 +259,11 @@ module _ {A : Type 0} (call : WriteCall A) (known : Bool) (s : FileAndModel) (a 
       seen view (call s.file) s new known k a (Err e) here.fails here.leaves
 
 -- a job whose directory or image fails to begin
-pub not_begun_runs : {A : Type 0} (call : WriteCall A) (e : TiffError) (r : JobReply) (old new : FileState) (known : Bool) (run : Run)
+not_begun_runs : {A : Type 0} (call : WriteCall A) (Ran : Run → Run → Type 0) (e : TiffError) (r : JobReply) (old new : FileState) (known : Bool)
+    (run : Run) → ((after : Run) → JobIsNotBegun (call run.standing.file) run r after → Ran run after)
     → IsAdding (call run.standing.file) run.standing.file → NotBegun call old e new → IsRefusedAtOnce e r → run.standing.file ≡ old
-    → IsSound known run → RunOn (λ run after. JobIsNotBegun (call run.standing.file) run r after) r known run new
-not_begun_runs call e r old new known run a b refused q s =
+    → IsSound known run → RunOn Ran r known run new
+not_begun_runs call Ran e r old new known run ran a b refused q s =
     let l = not_begun_led call known run.standing a s.stands old e new q b in
     let t : FileAndModel = l.0 in
     let same = refused_same (call run.standing.file) run.standing t a e l.1.1.0 in
@@ -283,8 +277,7 @@ not_begun_runs call e r old new known run a b refused q s =
       own = λ o q. absurd (no_offsets r.last e o refused.1 q);
       held = λ f i. absurd i;
     } in
-    run_on (λ run after. JobIsNotBegun (call run.standing.file) run r after) r known run new t [] l.1.0
-    (e, (t, (refused, (l.1.1.0, refl)))) s more
+    run_on Ran r known run new t [] l.1.0 (ran (run_after_job run t r.last []) (e, (t, (refused, (l.1.1.0, refl))))) s more
 
 -- ---- directories
 
@@ -293,23 +286,13 @@ pub open_adding : (chained : Bool) (file : FileState) → IsAdding (open_directo
 open_adding true file = adding (image_directory file) file (begin_adds file)
 open_adding false file = adding (extra_directory file) file (extra_adds file)
 
--- a directory begins in the chain or outside of it
-pub begun_chained : (chained b : Bool) (old : FileState) (d : OpenDirectory) (mid : FileState) → chained ≡ b
-    → Begun (open_directory b) old d mid → Begun (open_directory chained) old d mid
-begun_chained chained b old d mid h x = subst (λ c. Begun (open_directory c) old d mid) (sym h) x
-
-pub not_begun_chained : (chained b : Bool) (old : FileState) (e : TiffError) (new : FileState) → chained ≡ b
-    → NotBegun (open_directory b) old e new → NotBegun (open_directory chained) old e new
-not_begun_chained chained b old e new h x = subst (λ c. NotBegun (open_directory c) old e new) (sym h) x
-
 -- a job whose directory fails to begin
 pub directory_refused : (j : DirectoryJob) (r : JobReply) (e : TiffError) (old new : FileState) (known : Bool) (run : Run)
     (parent : Option Offsets) → NotBegun (open_directory j.chained) old e new → IsRefusedAtOnce e r → run.standing.file ≡ old
     → IsSound known run → RunOn (λ run after. DirectoryRan run parent j r after) r known run new
 directory_refused j r e old new known run parent b refused q s =
-    let call : WriteCall OpenDirectory = open_directory j.chained in
-    let x = not_begun_runs call e r old new known run (open_adding j.chained run.standing.file) b refused q s in
-    (x.0, (x.1.0, (inl x.1.1.0, x.1.1.1)))
+    not_begun_runs (open_directory j.chained) (λ run after. DirectoryRan run parent j r after) e r old new known run (λ after x. inl x)
+    (open_adding j.chained run.standing.file) b refused q s
 
 -- the parent of a chained directory is the last link of the chain
 chained_parent : (file : FileState) (d : OpenDirectory) → (image_directory file).answer ≡ Ok d → d.parent ≡ Some file.chain
@@ -442,27 +425,17 @@ abbrev pub job_image : ImageJob → WriteCall OpenImage
 job_image j = calls.new_image (color_type j.color) (inner_size j.color) j.width j.height
 
 -- the call of a job, by its color type
-module _ (j : ImageJob) (color : ColorTypeRecord) (size : ℕ) (c : color ≡ color_type j.color) (n : size ≡ inner_size j.color) where
-  pub begun_named : (old : FileState) (i : OpenImage) (mid : FileState) → Begun (calls.new_image color size j.width j.height) old i mid
-      → Begun (job_image j) old i mid
-  begun_named old i mid b =
-      subst (λ x. Begun (calls.new_image x (inner_size j.color) j.width j.height) old i mid) c
-      (subst (λ x. Begun (calls.new_image color x j.width j.height) old i mid) n b)
-
-  pub not_begun_named : (old : FileState) (e : TiffError) (new : FileState)
-      → NotBegun (calls.new_image color size j.width j.height) old e new → NotBegun (job_image j) old e new
-  not_begun_named old e new b =
-      subst (λ x. NotBegun (calls.new_image x (inner_size j.color) j.width j.height) old e new) c
-      (subst (λ x. NotBegun (calls.new_image color x j.width j.height) old e new) n b)
+pub job_image_is : (j : ImageJob) (color : ColorTypeRecord) (size : ℕ) → color ≡ color_type j.color → size ≡ inner_size j.color
+    → calls.new_image color size j.width j.height ≡ job_image j
+job_image_is j color size c n = λ k. calls.new_image (c k) (n k) j.width j.height
 
 -- a job whose image fails to begin
 pub image_refused : (j : ImageJob) (r : JobReply) (e : TiffError) (old new : FileState) (known : Bool) (run : Run)
     → NotBegun (job_image j) old e new → IsRefusedAtOnce e r → run.standing.file ≡ old → IsSound known run
     → RunOn (λ run after. ImageRan run j r after) r known run new
 image_refused j r e old new known run b refused q s =
-    let adds = new_adding (color_type j.color) (inner_size j.color) j.width j.height run.standing.file in
-    let x = not_begun_runs (job_image j) e r old new known run adds b refused q s in
-    (x.0, (x.1.0, (inl x.1.1.0, x.1.1.1)))
+    not_begun_runs (job_image j) (λ run after. ImageRan run j r after) e r old new known run (λ after x. inl x)
+    (new_adding (color_type j.color) (inner_size j.color) j.width j.height run.standing.file) b refused q s
 
 -- a job that begins an image and runs to its end
 pub image_runs : (j : ImageJob) (r : JobReply) (old mid left new : FileState) (i : OpenImage) (known : Bool) (run : Run)
@@ -520,7 +493,7 @@ image_runs j r old mid left new i known run wide high packed b goes is_left kind
 -- ---- jobs
 
 -- a setting changes neither the bytes nor the model
-pub set_runs : (set : FileState → FileState) (j : Job) (r : JobReply) (old new : FileState) (known : Bool) (run : Run)
+set_runs : (set : FileState → FileState) (j : Job) (r : JobReply) (old new : FileState) (known : Bool) (run : Run)
     → ((file : FileState) → IsSame file (set file) × ((set file).bytes ≡ file.bytes))
     → ((run after : Run) → IsSet set run r after → JobRan run j r after)
     → new ≡ set old → r.steps.items ≡ [] → r.last ≡ Ok last.Nothing → run.standing.file ≡ old → IsSound known run
@@ -564,21 +537,23 @@ pub moves_as : (j k : Job) (earlier : List JobReply) (r : JobReply) (old new : F
     → JobMoves j earlier r old new
 moves_as j k earlier r old new h m = subst (λ x. JobMoves x earlier r old new) (sym h) m
 
+-- a job that sets the predictor or the compression
+set_moves : (set : FileState → FileState) (j : Job) (earlier : List JobReply) (r : JobReply) (old new : FileState)
+    → ((file : FileState) → IsSame file (set file) × ((set file).bytes ≡ file.bytes))
+    → ((run after : Run) → IsSet set run r after → JobRan run j r after)
+    → new ≡ set old → r.steps.items ≡ [] → r.last ≡ Ok last.Nothing → JobMoves j earlier r old new
+set_moves set j earlier r old new keeps is h none ok =
+    job_moves j earlier r old new (λ known run q o s. set_runs set j r old new known run keeps is h none ok q s)
+
 pub predictor_moves : (p : Predictor) (earlier : List JobReply) (r : JobReply) (old new : FileState) → new ≡ calls.with_predictor p old
     → r.steps.items ≡ [] → r.last ≡ Ok last.Nothing → JobMoves (job.Predictor p) earlier r old new
-predictor_moves p earlier r old new h none ok =
-    job_moves (job.Predictor p) earlier r old new
-    (λ known run q o s.
-    set_runs (calls.with_predictor p) (job.Predictor p) r old new known run
-    (λ file. (record { kind = refl; chain = refl }, refl)) (λ run after x. x) h none ok q s)
+predictor_moves p earlier r old new =
+    set_moves (calls.with_predictor p) (job.Predictor p) earlier r old new (λ file. (record { kind = refl; chain = refl }, refl)) (λ run after x. x)
 
 pub compression_moves : (c : Compression) (earlier : List JobReply) (r : JobReply) (old new : FileState)
     → new ≡ calls.with_compression c old → r.steps.items ≡ [] → r.last ≡ Ok last.Nothing → JobMoves (job.Compression c) earlier r old new
-compression_moves c earlier r old new h none ok =
-    job_moves (job.Compression c) earlier r old new
-    (λ known run q o s.
-    set_runs (calls.with_compression c) (job.Compression c) r old new known run
-    (λ file. (record { kind = refl; chain = refl }, refl)) (λ run after x. x) h none ok q s)
+compression_moves c earlier r old new =
+    set_moves (calls.with_compression c) (job.Compression c) earlier r old new (λ file. (record { kind = refl; chain = refl }, refl)) (λ run after x. x)
 
 pub image_moves : (j : ImageJob) (earlier : List JobReply) (r : JobReply) (old new : FileState) → new.kind ≡ old.kind
     → ImageRunsOn j r old new → JobMoves (job.Image j) earlier r old new

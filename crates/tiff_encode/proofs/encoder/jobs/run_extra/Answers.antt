@@ -1,6 +1,7 @@
-use Rattle.std.proofs.Common.{rules, false, refl}
+use Rattle.std.proofs.Common.{rules, refl, sym, subst}
 use Rattle.tiff_encode.specs.Calls.{extra_directory}
-use Rattle.tiff_encode.proofs.Running.Steps.{begun_chained, not_begun_chained, not_begun_as, directory_runs, directory_refused}
+use Rattle.tiff_encode.specs.Jobs.{open_directory}
+use Rattle.tiff_encode.proofs.Running.Steps.{Begun, NotBegun, not_begun_as, directory_runs, directory_refused}
 use Rattle.tiff_encode.proofs.encoder.jobs.run_extra.Goals as goal
 
 pub returns-in-Ok : goal.returns-in-Ok
@@ -10,7 +11,7 @@ returns-in-Ok g c = λ kind known run parent q s named l.
     let d = c.in-Ok.directory.state in
     let mid = c.in-Ok.directory.encoder.now in
     directory_runs c.args.parent j c.lead_directory.result old mid c.lead_directory.new.encoder _ d c.link_from.new.self known run parent
-    (begun_chained j.chained false old d mid c.requires.chained (record { told = c.in-Ok.ensures.begun; leaves = c.in-Ok.ensures.leaves }))
+    (subst (λ b. Begun (open_directory b) old d mid) (sym c.requires.chained) (record { told = c.in-Ok.ensures.begun; leaves = c.in-Ok.ensures.leaves }))
     c.link_from.ensures c.lead_directory.ensures (search rules) kind q s named l
 
 pub returns-in-Err : goal.returns-in-Err
@@ -19,6 +20,6 @@ returns-in-Err g c = λ kind known run parent q s named l.
     let old = c.args.encoder.now in
     let new = c.extra_directory.follows.lender-at-none in
     directory_refused j _ c.in-Err.fault old new known run parent
-    (not_begun_chained j.chained false old c.in-Err.fault new c.requires.chained
+    (subst (λ b. NotBegun (open_directory b) old c.in-Err.fault new) (sym c.requires.chained)
     (not_begun_as extra_directory c.extra_directory.result c.in-Err.fault old new c.in-Err.is c.extra_directory.follows.holds-at-none))
     (c.requires.room.0, refl) q s

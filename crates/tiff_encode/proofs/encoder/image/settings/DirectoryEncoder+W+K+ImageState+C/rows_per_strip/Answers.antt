@@ -1,6 +1,7 @@
-use Rattle.tiff_encode.proofs.Open.SettingsLeft.{rows_left}
+use Rattle.tiff_encode.proofs.Image.Table.{Rows}
+use Rattle.tiff_encode.proofs.Open.SettingsLeft.{setting_left}
 use Rattle.tiff_encode.proofs.encoder.image.settings.DirectoryEncoder+W+K+ImageState+C.rows_per_strip.Goals as goal
 
 pub returns-clause-leaves : goal.returns-clause-leaves
 returns-clause-leaves g c m s =
-    rows_left (λ _. c.set_rows_per_strip-answer.new.image) c.set_rows_per_strip-answer.result c.args.self.now.encoder.now c.set_rows_per_strip-answer.new.self m c.fits-2.ensures s c.args.self.now.state c.fits.ensures c.args.value c.set_rows_per_strip-answer.ensures.answer
+    setting_left (λ _. c.set_rows_per_strip-answer.new.image) c.set_rows_per_strip-answer.result c.args.self.now.encoder.now c.set_rows_per_strip-answer.new.self m c.fits-2.ensures s c.args.self.now.state c.fits.ensures (Rows c.args.value) c.set_rows_per_strip-answer.ensures.answer

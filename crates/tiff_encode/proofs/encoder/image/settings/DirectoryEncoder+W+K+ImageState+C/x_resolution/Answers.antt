@@ -1,8 +1,7 @@
-use Rattle.std.proofs.Common.{ℕ}
-use Rattle.tiff_encode.proofs.Open.SettingsLeft.{x_left}
+use Rattle.tiff_encode.proofs.Image.Table.{Across}
+use Rattle.tiff_encode.proofs.Open.SettingsLeft.{setting_left}
 use Rattle.tiff_encode.proofs.encoder.image.settings.DirectoryEncoder+W+K+ImageState+C.x_resolution.Goals as goal
 
 pub returns-clause-leaves : goal.returns-clause-leaves
 returns-clause-leaves g c m s =
-    let value : ℕ × ℕ = (c.args.value.n, c.args.value.d) in
-    x_left (λ _. c.set_x_resolution-answer.new.image) c.set_x_resolution-answer.result c.args.self.now.encoder.now c.set_x_resolution-answer.new.self m c.fits-2.ensures s c.args.self.now.state c.fits.ensures value c.set_x_resolution-answer.ensures.answer
+    setting_left (λ _. c.set_x_resolution-answer.new.image) c.set_x_resolution-answer.result c.args.self.now.encoder.now c.set_x_resolution-answer.new.self m c.fits-2.ensures s c.args.self.now.state c.fits.ensures (Across (c.args.value.n, c.args.value.d)) c.set_x_resolution-answer.ensures.answer
