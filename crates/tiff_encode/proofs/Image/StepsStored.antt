@@ -17,7 +17,7 @@ use Rattle.tiff_encode.specs.JobValues.{cut_to}
 use Rattle.tiff_encode.specs.Jobs as jobs
 use Rattle.tiff_encode.specs.Jobs.{FileAndModel, Drawn}
 use Rattle.tiff_encode.specs.Stepping.{StandsIfKnown, DrawMoves}
-use Rattle.tiff_encode.specs.ImageStepping.{ChunkDraws, StripDraws, reply_to}
+use Rattle.tiff_encode.specs.ImageStepping.{reply_to}
 use Rattle.tiff_encode.proofs.Slices.{ok_inj}
 use Rattle.tiff_encode.proofs.WriteOps.{ops_grow}
 use Rattle.tiff_encode.proofs.Joining.{IsAdding, adding, stored_adds}
@@ -197,7 +197,7 @@ abbrev StoresAll : (OpenImage → ℕ → List ℕ → WriteCall OpenImage) → 
 StoresAll call cause numbers r s before t after = StoresIfFound call (cause s.file before.image (length numbers)) before numbers r s t after
 
 -- a chunk of the lowest bits of numbers, if memory for them is available
-abbrev StoresCut : (OpenImage → ℕ → List ℕ → WriteCall OpenImage) → (FileState → OpenImage → ℕ → Option TiffError) → List ℕ
+abbrev pub StoresCut : (OpenImage → ℕ → List ℕ → WriteCall OpenImage) → (FileState → OpenImage → ℕ → Option TiffError) → List ℕ
     → Result StepReply TiffError → FileAndModel → Drawn → FileAndModel → Drawn → Type 0
 StoresCut call cause given r s before t after = StoresAll call cause (cut_to before.image.size given) r s before t after
 
@@ -218,50 +218,32 @@ storing_draws call cause c i j numbers r old new small few near short w l known 
 
 module _ (size : ℕ) (given numbers : List ℕ) (cut : cut_to size given ≡ numbers) where
   -- the cut samples fit their number of bytes
-  pub cut_small : (k : ℕ) → get_or numbers k 0 < 256 ^ size
+  cut_small : (k : ℕ) → get_or numbers k 0 < 256 ^ size
   cut_small k =
       let same : ℕ → ℕ = λ n. n in
       subst (λ xs. get_or xs k 0 < 256 ^ size) cut (are_numbers size same given k)
 
   -- the number of cut samples stays below the limit of the given ones
-  pub cut_few : (n : ℕ) → n ≡ length numbers → length given < 2 ^ 64 - 1 → n < 2 ^ 64 - 1
-  cut_few n e l =
-      let same : n ≡ length given = e ∙ ap (λ xs. length xs) (sym cut) ∙ length-map given (λ n. n % 256 ^ size) in
+  cut_few : length given < 2 ^ 64 - 1 → length numbers < 2 ^ 64 - 1
+  cut_few l =
+      let same : length numbers ≡ length given = ap (λ xs. length xs) (sym cut) ∙ length-map given (λ n. n % 256 ^ size) in
       subst (λ k. k < 2 ^ 64 - 1) (sym same) l
 
-module _ (i j : OpenImage) (given numbers : List ℕ) (n : ℕ) (r : Result (Unit {0}) TiffError) (old new : FileState)
-    (cut : cut_to i.size given ≡ numbers) (count : n ≡ length numbers)
-    (small : (k : ℕ) → get_or numbers k 0 < 256 ^ i.size) (few : n < 2 ^ 64 - 1) (near : end_of old < 2 ^ 64) (short : end_of new < 2 ^ 64) where
-  drawn_by : (call : OpenImage → ℕ → List ℕ → WriteCall OpenImage) (cause : FileState → OpenImage → ℕ → Option TiffError) → IsStoring call
-      → WritesStoredChunk call (cause old i n) i numbers r old new j
-      → ((m : Model) → Stands old.kind old.bytes m → LeavesChunk call i numbers r old new j m)
-      → DrawMoves i (StoresCut call cause given (reply_to r)) true old new j
-  drawn_by call cause c w l =
-      let few : length numbers < 2 ^ 64 - 1 = subst (λ k. k < 2 ^ 64 - 1) count few in
-      let P : List ℕ → Type 0 = λ xs. DrawMoves i (λ s before t after. StoresIfFound call (cause s.file i (length xs)) before xs (reply_to r) s t after) true old new j in
-      subst P (sym cut)
-      (storing_draws call cause c i j numbers r old new small few near short
-      (subst (λ k. WritesStoredChunk call (cause old i k) i numbers r old new j) count w) l)
-
-  pub strip_draws : WritesStoredChunk write_strip (write_strip_cause old i n 0) i numbers r old new j
-      → ((m : Model) → Stands old.kind old.bytes m → LeavesChunk write_strip i numbers r old new j m)
-      → StripDraws i given (reply_to r) old new j
-  strip_draws w l = drawn_by write_strip (λ file i k. write_strip_cause file i k 0) strips_store w l
-
-  pub chunk_draws : WritesStoredChunk write_chunk (write_chunk_cause old i n 0) i numbers r old new j
-      → ((m : Model) → Stands old.kind old.bytes m → LeavesChunk write_chunk i numbers r old new j m)
-      → ChunkDraws i given (reply_to r) old new j
-  chunk_draws w l = drawn_by write_chunk (λ file i k. write_chunk_cause file i k 0) chunks_store w l
+-- `write_strip` or `write_chunk` of cut samples
+pub cut_draws : (call : OpenImage → ℕ → List ℕ → WriteCall OpenImage) (cause : FileState → OpenImage → ℕ → Option TiffError) → IsStoring call
+    → (i j : OpenImage) (given numbers : List ℕ) (n : ℕ) (r : Result (Unit {0}) TiffError) (old new : FileState) → cut_to i.size given ≡ numbers
+    → n ≡ length numbers → length given < 2 ^ 64 - 1 → end_of old < 2 ^ 64 → end_of new < 2 ^ 64
+    → WritesStoredChunk call (cause old i n) i numbers r old new j
+    → ((m : Model) → Stands old.kind old.bytes m → LeavesChunk call i numbers r old new j m)
+    → DrawMoves i (StoresCut call cause given (reply_to r)) true old new j
+cut_draws call cause c i j given numbers n r old new cut count few near short w l =
+    let P : List ℕ → Type 0 = λ xs. DrawMoves i (λ s before t after. StoresIfFound call (cause s.file i (length xs)) before xs (reply_to r) s t after) true old new j in
+    subst P (sym cut)
+    (storing_draws call cause c i j numbers r old new (cut_small i.size given numbers cut) (cut_few i.size given numbers cut few) near short
+    (subst (λ k. WritesStoredChunk call (cause old i k) i numbers r old new j) count w) l)
 
 -- no memory is available for the cut samples
-module _ (i : OpenImage) (given : List ℕ) (e : TiffError) (file : FileState) (short : e ≡ OutOfMemory) where
-  unfound : (call : OpenImage → ℕ → List ℕ → WriteCall OpenImage) (cause : FileState → OpenImage → ℕ → Option TiffError)
-      → DrawMoves i (StoresCut call cause given (Err e)) true file file i
-  unfound call cause =
-      asked i (StoresCut call cause given (Err e)) true file (λ s before. (refl, inr (ap Err short, (refl, refl))))
-
-  pub strip_unfound : StripDraws i given (Err e) file file i
-  strip_unfound = unfound write_strip (λ file i k. write_strip_cause file i k 0)
-
-  pub chunk_unfound : ChunkDraws i given (Err e) file file i
-  chunk_unfound = unfound write_chunk (λ file i k. write_chunk_cause file i k 0)
+pub unfound_draws : (call : OpenImage → ℕ → List ℕ → WriteCall OpenImage) (cause : FileState → OpenImage → ℕ → Option TiffError) (i : OpenImage)
+    (given : List ℕ) (e : TiffError) (file : FileState) → e ≡ OutOfMemory → DrawMoves i (StoresCut call cause given (Err e)) true file file i
+unfound_draws call cause i given e file short =
+    asked i (StoresCut call cause given (Err e)) true file (λ s before. (refl, inr (ap Err short, (refl, refl))))

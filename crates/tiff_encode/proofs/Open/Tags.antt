@@ -14,15 +14,15 @@ use Rattle.tiff_value.specs.Buffer.{BufferRecord}
 use Rattle.tiff_value.specs.Data.{FieldData, Scalars, data_of}
 use Rattle.tiff_encode.specs.Model.{In, SuppliedField, Model}
 use Rattle.tiff_encode.specs.WriteOps.{WriteOp, Appended, Supplied, bytes_after, model_after}
-use Rattle.tiff_encode.specs.Value.{is_long, filled_field, field_at, buffer_data}
+use Rattle.tiff_encode.specs.Value.{is_long, filled_field, field_at}
 use Rattle.tiff_encode.specs.Machine.{FileState, OpenDirectory, WriteCall, gives, by_cause, and_then, ◌>>=◌}
-use Rattle.tiff_encode.specs.Causes.{end_of, write_tag_cause, write_buf_cause}
+use Rattle.tiff_encode.specs.Causes.{end_of, write_tag_cause}
 use Rattle.tiff_encode.specs.Calls.{with_field, placed_field, write_entry, write_entry_buf, write_tag, write_tag_buf, write_tags}
 use Rattle.tiff_encode.specs.Held.{is_page_tag, Given, HasValues, HoldsValues}
 use Rattle.tiff_encode.specs.Open.{model_by}
 use Rattle.tiff_encode.proofs.Slices.{ok_inj, length-le}
 use Rattle.tiff_encode.proofs.WriteOps.{model_joined, ops_append, ops_grow}
-use Rattle.tiff_encode.proofs.Joining.{IsAdding, Adds, adding, caused_adds, placed_adds, entry_adds, tag_adds, answers_adding, bind_adding}
+use Rattle.tiff_encode.proofs.Joining.{IsAdding, Adds, adding, entry_adds, entry_buf_adds, tag_adds, answers_adding, bind_adding}
 use Rattle.tiff_encode.proofs.Open.Held.{holds_grown, set, set_held, other_held}
 
 -- ---- calls that succeed
@@ -167,15 +167,11 @@ pub other_tag_held : (d : OpenDirectory) (t : Tag) (value : Result FieldData Tif
 unfolding write_tag
 other_tag_held d t value file m given next q o h = other_by (write_entry value) d t file m given next (entry_adds value file) q o h
 
-buf_adds : (b : BufferRecord) (file : FileState) → Adds (write_entry_buf b file) file
-unfolding write_entry_buf
-buf_adds b file = caused_adds (write_buf_cause file b) (placed_field (buffer_data b)) file (placed_adds (buffer_data b) file)
-
 pub other_buf_held : (d : OpenDirectory) (t : Tag) (b : BufferRecord) (file : FileState) (m : Model) (given : Given)
     (next : OpenDirectory) → is_page_tag (tag_number t) ≡ false → HoldsValues m d.fields given → (write_tag_buf d t b file).answer ≡ Ok next
     → HoldsValues (model_by file m (write_tag_buf d t b file)) next.fields given
 unfolding write_tag_buf
-other_buf_held d t b file m given next q o h = other_by (write_entry_buf b) d t file m given next (buf_adds b file) q o h
+other_buf_held d t b file m given next q o h = other_by (write_entry_buf b) d t file m given next (entry_buf_adds b file) q o h
 
 -- several tags that a page isn't read by
 pub others_held : (d : OpenDirectory) (values : List (Tag × Scalars)) (file : FileState) (m : Model) (given : Given) (next : OpenDirectory)

@@ -24,7 +24,7 @@ use Rattle.tiff_encode.specs.declared.encoder.script.JobReply.{JobReply}
 use Rattle.tiff_encode.specs.declared.encoder.settings.Compression.{Compression}
 use Rattle.tiff_encode.specs.Model.{In, IsLink, Model, Stands, Grows}
 use Rattle.tiff_encode.specs.WriteOps.{model_after}
-use Rattle.tiff_encode.specs.Machine.{FileState, OpenDirectory, OpenImage, WriteOutcome, WriteCall, gives, ◌>>=◌}
+use Rattle.tiff_encode.specs.Machine.{FileState, OpenDirectory, OpenImage, WriteOutcome, WriteCall, gives, by_cause, ◌>>=◌}
 use Rattle.tiff_encode.specs.Causes.{begin_cause, write_image_data_cause}
 use Rattle.tiff_encode.specs.Calls as calls
 use Rattle.tiff_encode.specs.Calls.{Offsets, new_directory, pad, image_directory, extra_directory, set_parent}
@@ -294,23 +294,23 @@ directory_refused j r e old new known run parent b refused q s =
     not_begun_runs (open_directory j.chained) (λ run after. DirectoryRan run parent j r after) e r old new known run (λ after x. inl x)
     (open_adding j.chained run.standing.file) b refused q s
 
+-- a directory that opens has the given parent
+opened_parent : (cause : Option TiffError) (d e : OpenDirectory) (file : FileState) → (by_cause cause (pad >>= (λ _. gives d)) file).answer ≡ Ok e
+    → e.parent ≡ d.parent
+opened_parent cause d e file h =
+    let call : WriteCall OpenDirectory = pad >>= (λ _. gives d) in
+    let c = cause_answered cause call file e h in
+    ap (λ x. x.parent) (sym (ok_inj d e (ap (λ told. told.answer) (sym c.1) ∙ h)))
+
 -- the parent of a chained directory is the last link of the chain
 chained_parent : (file : FileState) (d : OpenDirectory) → (image_directory file).answer ≡ Ok d → d.parent ≡ Some file.chain
 unfolding image_directory
-chained_parent file d h =
-    let empty : OpenDirectory = new_directory (Some file.chain) true in
-    let call : WriteCall OpenDirectory = pad >>= (λ _. gives empty) in
-    let c = cause_answered (begin_cause file) call file d h in
-    ap (λ x. x.parent) (sym (ok_inj empty d (ap (λ told. told.answer) (sym c.1) ∙ h)))
+chained_parent file d h = opened_parent (begin_cause file) (new_directory (Some file.chain) true) d file h
 
 -- an extra directory has no parent
 extra_parent : (file : FileState) (d : OpenDirectory) → (extra_directory file).answer ≡ Ok d → d.parent ≡ None
 unfolding extra_directory
-extra_parent file d h =
-    let empty : OpenDirectory = new_directory None false in
-    let call : WriteCall OpenDirectory = pad >>= (λ _. gives empty) in
-    let c = cause_answered (begin_cause file) call file d h in
-    ap (λ x. x.parent) (sym (ok_inj empty d (ap (λ told. told.answer) (sym c.1) ∙ h)))
+extra_parent file d h = opened_parent (begin_cause file) (new_directory None false) d file h
 
 open_parent : (chained known : Bool) (s t : FileAndModel) (d : OpenDirectory) → (open_directory chained s.file).answer ≡ Ok d
     → t.file.kind ≡ s.file.kind → Grows s.model t.model → HasLink known s (Some s.file.chain) → HasLink known t d.parent

@@ -3,13 +3,16 @@ use Rattle.std.proofs.lemmas.List.{length-map}
 use Rattle.tiff_base.specs.Types.{type_size}
 use Rattle.tiff_value.specs.ColorType.{sample_number}
 use Rattle.tiff_encode.specs.JobValues.{cut_to}
+use Rattle.tiff_encode.specs.Calls.{write_strip}
+use Rattle.tiff_encode.specs.Causes.{write_strip_cause}
 use Rattle.tiff_encode.specs.ImageStepping.{StripDraws}
-use Rattle.tiff_encode.proofs.Image.StepsStored.{strip_draws, strip_unfound, cut_small, cut_few}
+use Rattle.tiff_encode.proofs.Image.StepsStored.{cut_draws, unfound_draws, strips_store}
 use Rattle.tiff_encode.proofs.encoder.jobs.image_steps.DirectoryEncoder+W+K+ImageState+C.strip_step.Goals as goal
 
 pub returns-in_err-samples-clause-draws : goal.returns-in_err-samples-clause-draws
 returns-in_err-samples-clause-draws g c =
-    let told = strip_unfound c.args.self.now.state c.args.numbers.now c.in_err-samples.field-0.0 c.args.self.now.encoder.now c.in_err-samples.ensures in
+    let told =
+    unfound_draws write_strip (λ file i n. write_strip_cause file i n 0) c.args.self.now.state c.args.numbers.now c.in_err-samples.field-0.0 c.args.self.now.encoder.now c.in_err-samples.ensures in
     search rules
 
 pub returns-clause-draws : goal.returns-clause-draws
@@ -22,8 +25,6 @@ returns-clause-draws g c =
     let count : length c.deref.result.now ≡ length (map number c.deref.result.now) = sym (length-map c.deref.result.now number) in
     subst (λ y. StripDraws i c.args.numbers.now y c.args.self.now.encoder.now c.write_strip-answer.new.self.encoder.now c.write_strip-answer.new.self.state)
     (sym c.replied.ensures)
-    (strip_draws i c.write_strip-answer.new.self.state c.args.numbers.now (map number c.deref.result.now) (length c.deref.result.now) r
+    (cut_draws write_strip (λ file i n. write_strip_cause file i n 0) strips_store i c.write_strip-answer.new.self.state c.args.numbers.now (map number c.deref.result.now) (length c.deref.result.now) r
     c.args.self.now.encoder.now c.write_strip-answer.new.self.encoder.now cut count
-    (cut_small i.size c.args.numbers.now (map number c.deref.result.now) cut)
-    (cut_few i.size c.args.numbers.now (map number c.deref.result.now) cut (length c.deref.result.now) count c.requires.few)
-    c.is_short.ensures c.is_short-2.ensures c.write_strip-answer.ensures.answer c.write_strip-answer.ensures.leaves)
+    c.requires.few c.is_short.ensures c.is_short-2.ensures c.write_strip-answer.ensures.answer c.write_strip-answer.ensures.leaves)
