@@ -4,18 +4,17 @@ use Rattle.std.proofs.Common.{◌≡◌, List, Result, Ok, Err, refl, sym, subst
 use Rattle.tiff_base.specs.declared.error.TiffError.{TiffError}
 use Rattle.tiff_base.specs.declared.tags.Tag.{Tag}
 use Rattle.tiff_base.specs.Field.{Field}
-use Rattle.tiff_value.specs.Buffer.{BufferRecord}
-use Rattle.tiff_value.specs.Data.{FieldData}
 use Rattle.tiff_encode.specs.declared.encoder.script.DirectoryStep.{DirectoryStep}
 use Rattle.tiff_encode.specs.declared.encoder.script.StepReply.{StepReply}
 use Rattle.tiff_encode.specs.declared.encoder.script.StepReply.TheVariants as reply
 use Rattle.tiff_encode.specs.Model.{Model, Stands}
 use Rattle.tiff_encode.specs.WriteOps.{WriteOp, model_after}
 use Rattle.tiff_encode.specs.Machine.{FileState, OpenDirectory, WriteOutcome, WriteCall, gives, and_then}
-use Rattle.tiff_encode.specs.Calls.{with_field, write_entry, write_entry_buf, write_tag, write_tag_buf}
+use Rattle.tiff_encode.specs.Calls.{with_field}
 use Rattle.tiff_encode.specs.Ends.{EndsAsDefined, CallFails}
 use Rattle.tiff_encode.specs.Jobs.{FileAndModel, Changes, Replies, DirectoryStepped}
 use Rattle.tiff_encode.specs.Stepping.{Moves}
+use Rattle.tiff_encode.proofs.Guarding.{Value, entry_of, tag_of, tag_called}
 use Rattle.tiff_encode.proofs.Joining.{Adds, adding}
 use Rattle.tiff_encode.proofs.Moving.{Seen, moves_so}
 
@@ -32,21 +31,14 @@ module _ (d : OpenDirectory) (t : Tag) (field : Field) (old new : FileState) (m 
       let Q : List WriteOp → Type 0 = λ ds. Stands old.kind new.bytes (model_after old.kind old.bytes m ds) in
       subst P (sym h) (subst Q (sym (append-nil ops)) s)
 
-  -- `write_tag`: the directory has the field
-  pub tag_kept : (value : Result FieldData TiffError) → EndsAsDefined (write_entry value old) (Ok field) new
-      → Stands old.kind new.bytes (model_after old.kind old.bytes m (write_entry value old).ops)
-      → Stands old.kind new.bytes (model_after old.kind old.bytes m (write_tag d t value old).ops)
-  unfolding write_tag
-  tag_kept value h s =
-      let told : WriteOutcome Field = write_entry value old in given_kept told.answer told.ops told.next h.answer s
-
-  -- `write_tag_buf`: the directory has the field
-  pub tag_buf_kept : (b : BufferRecord) → EndsAsDefined (write_entry_buf b old) (Ok field) new
-      → Stands old.kind new.bytes (model_after old.kind old.bytes m (write_entry_buf b old).ops)
-      → Stands old.kind new.bytes (model_after old.kind old.bytes m (write_tag_buf d t b old).ops)
-  unfolding write_tag_buf
-  tag_buf_kept b h s =
-      let told : WriteOutcome Field = write_entry_buf b old in given_kept told.answer told.ops told.next h.answer s
+  -- the directory has the field
+  pub tag_kept : (v : Value) → EndsAsDefined (entry_of v old) (Ok field) new
+      → Stands old.kind new.bytes (model_after old.kind old.bytes m (entry_of v old).ops)
+      → Stands old.kind new.bytes (model_after old.kind old.bytes m (tag_of d t v old).ops)
+  tag_kept v h s =
+      let told : WriteOutcome Field = entry_of v old in
+      subst (λ (set : WriteOutcome OpenDirectory). Stands old.kind new.bytes (model_after old.kind old.bytes m set.ops)) (sym (tag_called d t v old))
+      (given_kept told.answer told.ops told.next h.answer s)
 
 -- ---- from a call to a step
 

@@ -1,6 +1,5 @@
 -- How the calls of an open directory end, and what they leave in the file.
-use Rattle.std.proofs.Common.{◌≡◌, ℕ, ◌+◌, ◌^◌, ◌<◌, ◌≤◌, ◌⊎◌, Bool, true, false, cond, List, [], ◌∷◌, ◌++◌, length, take, Option, Some, None, Result, Ok, Err, refl, ap, sym, ◌∙◌, inl, inr, subst, arith, append-nil}
-use Rattle.std.proofs.Math.Seq.{take-length}
+use Rattle.std.proofs.Common.{◌≡◌, ℕ, ◌+◌, ◌^◌, ◌<◌, ◌⊎◌, Bool, true, false, cond, List, [], ◌∷◌, ◌++◌, length, take, Option, Some, None, Result, Ok, Err, refl, ap, sym, ◌∙◌, inl, inr, subst, arith, append-nil}
 use Rattle.std.proofs.lemmas.Bool.{ltb-false}
 use Rattle.std.proofs.lemmas.List.{length-append, take_at}
 use Rattle.std.proofs.lemmas.List.Sums.{fold-append}
@@ -22,16 +21,16 @@ use Rattle.tiff_encode.specs.Value.{data_in, buffer_data, is_long, field_at}
 use Rattle.tiff_encode.specs.Model.{SuppliedField, Model, IsLink, Stands}
 use Rattle.tiff_encode.specs.WriteOps.{WriteOp, Appended, Supplied, Listed, all_appended, model_after}
 use Rattle.tiff_encode.specs.Laws.{OpsFit}
-use Rattle.tiff_encode.specs.Machine.{FileState, OpenDirectory, WriteOutcome, WriteCall, answers, gives, does, by_cause, and_then, ◌>>=◌}
+use Rattle.tiff_encode.specs.Machine.{FileState, OpenDirectory, WriteOutcome, WriteCall, answers, gives, does, by_cause, ◌>>=◌}
 use Rattle.tiff_encode.specs.Encoder.{AppendIsStopped, AppendIsCut}
 use Rattle.tiff_encode.specs.FileWrites.{file_with_bytes}
 use Rattle.tiff_encode.specs.Causes.{unless_ended, end_of, begin_cause, field_cause, write_tag_cause, write_buf_cause, write_entry_bytes_cause, write_data_cause, write_data_buf_cause, finish_cause}
 use Rattle.tiff_encode.specs.Calls.{Offsets, offsets_of, links_to, chains, new_directory, pad, image_directory, extra_directory, with_field, placed_field, write_entry, write_tag, write_entry_buf, write_entry_bytes, write_tag_buf, appends, write_data, write_data_buf, extend_from, finish}
-use Rattle.tiff_encode.specs.Ends.{EndsAsDefined, IsCutOff, IsTornOff, CallFails, Ends}
+use Rattle.tiff_encode.specs.Ends.{EndsAsDefined, CallFails, Ends}
 use Rattle.tiff_encode.specs.Leaves.{IsGiven, Leaves, LeavesTorn, LeavesLinked}
 use Rattle.tiff_encode.proofs.Calling.{cut_off, refused, uncaused, stopped_cause, fresh_cause}
 use Rattle.tiff_encode.proofs.CallFits.{caused_fits, followed_fits, offset_len_8, placed_fits}
-use Rattle.tiff_encode.proofs.Joining.{Adds, begin_adds, bind_ends, bind_fails, bind_told, data_adds, data_buf_adds, entry_adds, entry_buf_adds, entry_bytes_adds, extra_adds, tag_adds, tag_buf_adds}
+use Rattle.tiff_encode.proofs.Joining.{Adds, answers_adding, begin_adds, bind_adds, bind_ends, bind_fails, bind_told, data_adds, data_buf_adds, entry_adds, entry_buf_adds, entry_bytes_adds, extra_adds}
 use Rattle.tiff_encode.proofs.Keeping.{adds_leaves}
 use Rattle.tiff_encode.proofs.Leaving.{refused_leaves, ok_err, unended, in_order, passed, data_whole, data_short, finish_plain, finish_leaves}
 
@@ -129,58 +128,61 @@ pub fresh_by : (fault : Option SinkFault) (cause : Option TiffError) → unless_
 fresh_by None cause h = refl
 fresh_by (Some f) cause h = absurd cc
 
-entry_fresh : (value : Result FieldData TiffError) (file : FileState) (field : Field)
-    → (write_entry value file).answer ≡ Ok field → file.fault ≡ None
-unfolding write_entry write_tag_cause
-entry_fresh value file field h =
+-- a value: its data, or a buffer, or the bytes of an entry
+pub data Value : Type 0 where
+  Given : Result FieldData TiffError → Value
+  Lent : BufferRecord → Value
+  Bytes : «Type» → List ℕ → Value
+
+-- the call that writes a value, and the call that then sets the field in a directory
+abbrev pub entry_of : Value → WriteCall Field
+entry_of (Given value) = write_entry value
+entry_of (Lent b) = write_entry_buf b
+entry_of (Bytes type bytes) = write_entry_bytes type bytes
+
+abbrev pub tag_of : OpenDirectory → Tag → Value → WriteCall OpenDirectory
+tag_of d t (Given value) = write_tag d t value
+tag_of d t (Lent b) = write_tag_buf d t b
+tag_of d t (Bytes type bytes) = write_entry_bytes type bytes >>= (λ field. gives (with_field d t field))
+
+pub tag_called : (d : OpenDirectory) (t : Tag) (v : Value) (file : FileState)
+    → tag_of d t v file ≡ (entry_of v >>= (λ field. gives (with_field d t field))) file
+unfolding write_tag write_tag_buf
+tag_called d t (Given value) file = refl
+tag_called d t v file = refl
+
+-- writing a value only appends, and no sink error precedes a success
+value_adds : (v : Value) (file : FileState) → Adds (entry_of v file) file
+value_adds (Given value) file = entry_adds value file
+value_adds (Lent b) file = entry_buf_adds b file
+value_adds (Bytes type bytes) file = entry_bytes_adds type bytes file
+
+value_fresh : (v : Value) (file : FileState) (field : Field) → (entry_of v file).answer ≡ Ok field → file.fault ≡ None
+unfolding write_entry write_entry_buf write_entry_bytes write_tag_cause write_buf_cause write_entry_bytes_cause
+value_fresh (Given value) file field h =
     fresh_by file.fault _ (uncaused_by (write_tag_cause file value) (λ f. (answers value >>= placed_field) f) file field h)
-
--- `write_tag` succeeds
-pub tag_told : (d : OpenDirectory) (t : Tag) (value : Result FieldData TiffError) (field : Field) (old new : FileState)
-    → EndsAsDefined (write_entry value old) (Ok field) new → EndsAsDefined (write_tag d t value old) (Ok (with_field d t field)) new
-unfolding write_tag
-tag_told d t value field old new h = given_told (with_field d t) (write_entry value) field old new h
-
-pub tag_fails : (d : OpenDirectory) (t : Tag) (value : Result FieldData TiffError) (e : TiffError) (old new : FileState)
-    → CallFails (write_entry value old) e old new → CallFails (write_tag d t value old) e old new
-unfolding write_tag
-tag_fails d t value e old new h =
-    bind_fails (write_entry value) (λ field. gives (with_field d t field)) e old new (entry_adds value old) h
-
-pub tag_short : (d : OpenDirectory) (t : Tag) (value : Result FieldData TiffError) (field : Field) (e : TiffError) (old new : FileState)
-    → EndsAsDefined (write_entry value old) (Ok field) new → e ≡ OutOfMemory → CallFails (write_tag d t value old) e old new
-unfolding write_tag
-tag_short d t value field e old new h q =
-    given_short (with_field d t) (write_entry value) field e old new (entry_adds value old) (entry_fresh value old field h.answer) h q
-
--- `write_entry_buf`, `write_entry_bytes`: no sink error precedes a success
-buf_fresh : (b : BufferRecord) (file : FileState) (field : Field) → (write_entry_buf b file).answer ≡ Ok field → file.fault ≡ None
-unfolding write_entry_buf write_buf_cause
-buf_fresh b file field h = fresh_by file.fault _ (uncaused_by (write_buf_cause file b) (placed_field (buffer_data b)) file field h)
-
-bytes_fresh : (type : «Type») (bytes : List ℕ) (file : FileState) (field : Field)
-    → (write_entry_bytes type bytes file).answer ≡ Ok field → file.fault ≡ None
-unfolding write_entry_bytes write_entry_bytes_cause
-bytes_fresh type bytes file field h =
+value_fresh (Lent b) file field h = fresh_by file.fault _ (uncaused_by (write_buf_cause file b) (placed_field (buffer_data b)) file field h)
+value_fresh (Bytes type bytes) file field h =
     fresh_by file.fault _ (uncaused_by (write_entry_bytes_cause file type bytes) (placed_field (data_in type bytes)) file field h)
 
--- `write_tag_buf` succeeds
-pub tag_buf_told : (d : OpenDirectory) (t : Tag) (b : BufferRecord) (field : Field) (old new : FileState)
-    → EndsAsDefined (write_entry_buf b old) (Ok field) new → EndsAsDefined (write_tag_buf d t b old) (Ok (with_field d t field)) new
-unfolding write_tag_buf
-tag_buf_told d t b field old new h = given_told (with_field d t) (write_entry_buf b) field old new h
+-- the call that sets the field succeeds
+pub tag_told : (d : OpenDirectory) (t : Tag) (v : Value) (field : Field) (old new : FileState)
+    → EndsAsDefined (entry_of v old) (Ok field) new → EndsAsDefined (tag_of d t v old) (Ok (with_field d t field)) new
+tag_told d t v field old new h =
+    subst (λ told. EndsAsDefined told (Ok (with_field d t field)) new) (sym (tag_called d t v old))
+    (given_told (with_field d t) (entry_of v) field old new h)
 
-pub tag_buf_fails : (d : OpenDirectory) (t : Tag) (b : BufferRecord) (e : TiffError) (old new : FileState)
-    → CallFails (write_entry_buf b old) e old new → CallFails (write_tag_buf d t b old) e old new
-unfolding write_tag_buf
-tag_buf_fails d t b e old new h =
-    bind_fails (write_entry_buf b) (λ field. gives (with_field d t field)) e old new (entry_buf_adds b old) h
+pub tag_fails : (d : OpenDirectory) (t : Tag) (v : Value) (e : TiffError) (old new : FileState)
+    → CallFails (entry_of v old) e old new → CallFails (tag_of d t v old) e old new
+tag_fails d t v e old new h =
+    subst (λ told. CallFails told e old new) (sym (tag_called d t v old))
+    (bind_fails (entry_of v) (λ field. gives (with_field d t field)) e old new (value_adds v old) h)
 
-pub tag_buf_short : (d : OpenDirectory) (t : Tag) (b : BufferRecord) (field : Field) (e : TiffError) (old new : FileState)
-    → EndsAsDefined (write_entry_buf b old) (Ok field) new → e ≡ OutOfMemory → CallFails (write_tag_buf d t b old) e old new
-unfolding write_tag_buf
-tag_buf_short d t b field e old new h q =
-    given_short (with_field d t) (write_entry_buf b) field e old new (entry_buf_adds b old) (buf_fresh b old field h.answer) h q
+pub tag_short : (d : OpenDirectory) (t : Tag) (v : Value) (field : Field) (e : TiffError) (old new : FileState)
+    → EndsAsDefined (entry_of v old) (Ok field) new → e ≡ OutOfMemory → CallFails (tag_of d t v old) e old new
+tag_short d t v field e old new h q =
+    subst (λ told. CallFails told e old new) (sym (tag_called d t v old))
+    (given_short (with_field d t) (entry_of v) field e old new (value_adds v old) (value_fresh v old field h.answer) h q)
 
 -- ---- the earlier content of the file
 
@@ -257,15 +259,11 @@ bytes_fit type bytes file m n l =
     (λ h. placed_fits file m value (data_whole type bytes) (passed _ _ _ (unended file.fault _ h)).1 l (data_short type bytes n))
 
 -- the changes of a call that sets a tag are those of the call that writes its value
-tag_fit : (d : OpenDirectory) (t : Tag) (value : Result FieldData TiffError) (file : FileState) (m : Model)
-    → OpsFit file.kind file.bytes m (write_entry value file).ops → OpsFit file.kind file.bytes m (write_tag d t value file).ops
-unfolding write_tag
-tag_fit d t value file m f = followed_fits (write_entry value) (λ field. gives (with_field d t field)) file m f (λ _ _. tt)
-
-tag_buf_fit : (d : OpenDirectory) (t : Tag) (b : BufferRecord) (file : FileState) (m : Model)
-    → OpsFit file.kind file.bytes m (write_entry_buf b file).ops → OpsFit file.kind file.bytes m (write_tag_buf d t b file).ops
-unfolding write_tag_buf
-tag_buf_fit d t b file m f = followed_fits (write_entry_buf b) (λ field. gives (with_field d t field)) file m f (λ _ _. tt)
+tag_fit : (d : OpenDirectory) (t : Tag) (v : Value) (file : FileState) (m : Model)
+    → OpsFit file.kind file.bytes m (entry_of v file).ops → OpsFit file.kind file.bytes m (tag_of d t v file).ops
+tag_fit d t v file m f =
+    subst (λ (told : WriteOutcome OpenDirectory). OpsFit file.kind file.bytes m told.ops) (sym (tag_called d t v file))
+    (followed_fits (entry_of v) (λ field. gives (with_field d t field)) file m f (λ _ _. tt))
 
 -- The end of the file is a 64-bit number, unless a write failed.
 abbrev EndFits : FileState → Type 0
@@ -301,10 +299,10 @@ entry_given : (value : Result FieldData TiffError) (type : «Type») (count : �
 unfolding write_entry
 entry_given (Err e) type count field old new v fits h =
     let told : WriteOutcome Field = write_entry (Err e) old in
-    (tt, old_short told old new (entry_adds (Err e) old) h.state (entry_fresh (Err e) old field h.answer) fits)
+    (tt, old_short told old new (entry_adds (Err e) old) h.state (value_fresh (Given (Err e)) old field h.answer) fits)
 entry_given (Ok d) type count field old new v fits h =
     let told : WriteOutcome Field = write_entry (Ok d) old in
-    let fresh : old.fault ≡ None = entry_fresh (Ok d) old field h.answer in
+    let fresh : old.fault ≡ None = value_fresh (Given (Ok d)) old field h.answer in
     let short = grown_short told old new (entry_adds (Ok d) old) h.state fresh fits in
     let call : WriteCall Field = answers (Ok d) >>= placed_field in
     let done : told ≡ placed_field d old =
@@ -318,56 +316,41 @@ entry_given (Ok d) type count field old new v fits h =
       old_short told old new (entry_adds (Ok d) old) h.state fresh fits,
     )
 
--- what `write_entry` leaves
-pub entry_left : (value : Result FieldData TiffError) (type : «Type») (count : ℕ) (field : Field) (old new : FileState) (m : Model)
-    → IsValue type count value → EndFits new → EndsAsDefined (write_entry value old) (Ok field) new → Stands old.kind old.bytes m
-    → Stands old.kind new.bytes (model_after old.kind old.bytes m (write_entry value old).ops)
-entry_left value type count field old new m v fits h s =
-    let x = entry_given value type count field old new v fits h in
-    let view : Field → Field = λ f. f in
-    adds_leaves view (write_entry value old) (Ok field) old new m (entry_adds value old) (entry_fits value old m x.0 x.1) s h
+-- a value that a call may write: it is whole, and its bytes are not too many
+abbrev pub IsAllowed : Value → Type 0
+IsAllowed (Given value) = (type : «Type») × ((count : ℕ) × IsValue type count value)
+IsAllowed (Lent b) = length b.bytes < 2 ^ 64
+IsAllowed (Bytes type bytes) = length bytes < 2 ^ 64
 
--- what `write_tag` leaves
-pub tag_left : (d : OpenDirectory) (t : Tag) (value : Result FieldData TiffError) (type : «Type») (count : ℕ) (field : Field)
-    (old new : FileState) (m : Model)
-    → IsValue type count value → EndFits new → EndsAsDefined (write_entry value old) (Ok field) new → Stands old.kind old.bytes m
-    → Stands old.kind new.bytes (model_after old.kind old.bytes m (write_tag d t value old).ops)
-tag_left d t value type count field old new m v fits h s =
-    let x = entry_given value type count field old new v fits h in
+value_fits : (v : Value) (field : Field) (old new : FileState) (m : Model) → IsAllowed v → EndFits new
+    → EndsAsDefined (entry_of v old) (Ok field) new → OpsFit old.kind old.bytes m (entry_of v old).ops
+value_fits (Given value) field old new m a fits h =
+    let x = entry_given value a.0 a.1.0 field old new a.1.1 fits h in entry_fits value old m x.0 x.1
+value_fits (Lent b) field old new m a fits h =
+    buf_fits b old m a (old_short (write_entry_buf b old) old new (entry_buf_adds b old) h.state (value_fresh (Lent b) old field h.answer) fits)
+value_fits (Bytes type bytes) field old new m a fits h =
+    bytes_fit type bytes old m a
+    (old_short (write_entry_bytes type bytes old) old new (entry_bytes_adds type bytes old) h.state (value_fresh (Bytes type bytes) old field h.answer) fits)
+
+-- what a call leaves that writes a value
+pub entry_left : (v : Value) (field : Field) (old new : FileState) (m : Model) → IsAllowed v → EndFits new
+    → EndsAsDefined (entry_of v old) (Ok field) new → Stands old.kind old.bytes m
+    → Stands old.kind new.bytes (model_after old.kind old.bytes m (entry_of v old).ops)
+entry_left v field old new m a fits h s =
+    let view : Field → Field = λ f. f in
+    adds_leaves view (entry_of v old) (Ok field) old new m (value_adds v old) (value_fits v field old new m a fits h) s h
+
+-- what a call leaves that sets a field
+pub tag_left : (d : OpenDirectory) (t : Tag) (v : Value) (field : Field) (old new : FileState) (m : Model) → IsAllowed v → EndFits new
+    → EndsAsDefined (entry_of v old) (Ok field) new → Stands old.kind old.bytes m
+    → Stands old.kind new.bytes (model_after old.kind old.bytes m (tag_of d t v old).ops)
+tag_left d t v field old new m a fits h s =
     let view : OpenDirectory → OpenDirectory = λ f. f in
-    adds_leaves view (write_tag d t value old) (Ok (with_field d t field)) old new m (tag_adds d t value old)
-    (tag_fit d t value old m (entry_fits value old m x.0 x.1)) s (tag_told d t value field old new h)
-
--- what `write_entry_buf` leaves
-pub entry_buf_left : (b : BufferRecord) (field : Field) (old new : FileState) (m : Model) → length b.bytes < 2 ^ 64 → EndFits new
-    → EndsAsDefined (write_entry_buf b old) (Ok field) new → Stands old.kind old.bytes m
-    → Stands old.kind new.bytes (model_after old.kind old.bytes m (write_entry_buf b old).ops)
-entry_buf_left b field old new m n fits h s =
-    let short = old_short (write_entry_buf b old) old new (entry_buf_adds b old) h.state (buf_fresh b old field h.answer) fits in
-    let view : Field → Field = λ f. f in
-    adds_leaves view (write_entry_buf b old) (Ok field) old new m (entry_buf_adds b old) (buf_fits b old m n short) s h
-
--- what `write_tag_buf` leaves
-pub tag_buf_left : (d : OpenDirectory) (t : Tag) (b : BufferRecord) (field : Field) (old new : FileState) (m : Model)
-    → length b.bytes < 2 ^ 64 → EndFits new
-    → EndsAsDefined (write_entry_buf b old) (Ok field) new → Stands old.kind old.bytes m
-    → Stands old.kind new.bytes (model_after old.kind old.bytes m (write_tag_buf d t b old).ops)
-tag_buf_left d t b field old new m n fits h s =
-    let short = old_short (write_entry_buf b old) old new (entry_buf_adds b old) h.state (buf_fresh b old field h.answer) fits in
-    let view : OpenDirectory → OpenDirectory = λ f. f in
-    adds_leaves view (write_tag_buf d t b old) (Ok (with_field d t field)) old new m (tag_buf_adds d t b old)
-    (tag_buf_fit d t b old m (buf_fits b old m n short)) s (tag_buf_told d t b field old new h)
-
--- what `write_entry_bytes` leaves
-pub entry_bytes_left : (type : «Type») (bytes : List ℕ) (field : Field) (old new : FileState) (m : Model) → length bytes < 2 ^ 64
-    → EndFits new → EndsAsDefined (write_entry_bytes type bytes old) (Ok field) new → Stands old.kind old.bytes m
-    → Stands old.kind new.bytes (model_after old.kind old.bytes m (write_entry_bytes type bytes old).ops)
-entry_bytes_left type bytes field old new m n fits h s =
-    let short =
-    old_short (write_entry_bytes type bytes old) old new (entry_bytes_adds type bytes old) h.state
-    (bytes_fresh type bytes old field h.answer) fits in
-    let view : Field → Field = λ f. f in
-    adds_leaves view (write_entry_bytes type bytes old) (Ok field) old new m (entry_bytes_adds type bytes old) (bytes_fit type bytes old m n short) s h
+    let adds : Adds (tag_of d t v old) old =
+    subst (λ told. Adds told old) (sym (tag_called d t v old))
+    (bind_adds (entry_of v) (λ f. gives (with_field d t f)) old (value_adds v old) (λ f _. answers_adding (Ok (with_field d t f)) (entry_of v old).next)) in
+    adds_leaves view (tag_of d t v old) (Ok (with_field d t field)) old new m adds (tag_fit d t v old m (value_fits v field old new m a fits h)) s
+    (tag_told d t v field old new h)
 
 -- ---- a directory after its opening
 

@@ -30,7 +30,7 @@ use Rattle.tiff_encode.specs.Ends.{EndsAsDefined, CallFails}
 use Rattle.tiff_encode.specs.Tagging.{write_fields, StopsInPart, fields_of}
 use Rattle.tiff_encode.proofs.Calling.{refused, uncaused, wanting, entry_uncaused}
 use Rattle.tiff_encode.proofs.Entries.{last_of_entries}
-use Rattle.tiff_encode.proofs.Guarding.{tag_fails, fresh_by}
+use Rattle.tiff_encode.proofs.Guarding.{Given, tag_fails, fresh_by}
 use Rattle.tiff_encode.proofs.Leaving.{passed, unended}
 use Rattle.tiff_encode.proofs.Joining.{Adds, bind_told, bind_fails, tag_adds}
 use Rattle.tiff_encode.proofs.Image.Table.{Setting, Extra, Sides, call_of, row, called}
@@ -93,7 +93,7 @@ module _ (t : Tag) (value : Scalars) where
       → e ≡ OutOfMemory → CallFails (one_tag d file) e file file
   one_short d e file f c q =
       let same : Field → Field = λ x. x in
-      tag_fails d t (Ok (data_of value)) e file file
+      tag_fails d t (Given (Ok (data_of value))) e file file
       (entry_uncaused same (Ok (data_of value)) (data_of value) (Err e) file file f refl c (wanting same (placed_field (data_of value) file) e file f q tt))
 
   -- writing a list of one tag fails if writing the tag fails

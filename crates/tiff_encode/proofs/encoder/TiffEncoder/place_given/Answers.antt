@@ -1,13 +1,13 @@
 use Rattle.std.proofs.Common.{rules}
 use Rattle.tiff_encode.proofs.Joining.{entry_adds}
-use Rattle.tiff_encode.proofs.Guarding.{entry_left}
+use Rattle.tiff_encode.proofs.Guarding.{Given, entry_left}
 use Rattle.tiff_encode.proofs.Keeping.{failed_leaves}
 use Rattle.tiff_encode.proofs.encoder.TiffEncoder.place_given.Goals as goal
 
 pub returns-clause-leaves : goal.returns-clause-leaves
 returns-clause-leaves g c m s =
     let value = c.args.value.now in
-    entry_left (g.T.TiffValue.field_data value) g.T.TiffValue.value_type (g.T.TiffValue.value_count value) c.in_ok-entry.entry c.args.self.now c.place_value.new.self m (g.met.T.TiffValue.sized value) c.fits.ensures c.in_ok-entry.ensures s
+    entry_left (Given (g.T.TiffValue.field_data value)) c.in_ok-entry.entry c.args.self.now c.place_value.new.self m (g.T.TiffValue.value_type, (g.T.TiffValue.value_count value, g.met.T.TiffValue.sized value)) c.fits.ensures c.in_ok-entry.ensures s
 
 pub returns-in_err-entry-clause-leaves : goal.returns-in_err-entry-clause-leaves
 returns-in_err-entry-clause-leaves g c m s =

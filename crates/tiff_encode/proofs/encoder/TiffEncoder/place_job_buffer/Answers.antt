@@ -6,7 +6,7 @@ use Rattle.tiff_encode.specs.Calls.{write_entry_buf}
 use Rattle.tiff_encode.specs.Ends.{Ends}
 use Rattle.tiff_encode.specs.JobValues.{buffer_in}
 use Rattle.tiff_encode.proofs.Joining.{entry_buf_adds}
-use Rattle.tiff_encode.proofs.Guarding.{entry_buf_left}
+use Rattle.tiff_encode.proofs.Guarding.{Lent, entry_left}
 use Rattle.tiff_encode.proofs.Keeping.{failed_leaves}
 use Rattle.tiff_encode.proofs.encoder.TiffEncoder.place_job_buffer.Goals as goal
 
@@ -19,7 +19,7 @@ returns-clause-leaves g c m s =
     let r : Result Field TiffError = Ok c.in_ok-entry.entry in
     let v = c.args.buffer.now.bytes in
     let short : length b.bytes < 2 ^ 64 = omega (arith, v.ok, v.small) in
-    entry_buf_left b c.in_ok-entry.entry old new m short c.fits.ensures
+    entry_left (Lent b) c.in_ok-entry.entry old new m short c.fits.ensures
     (subst (λ (bytes : List ℕ). Ends view (write_entry_buf (record b { bytes = bytes }) old) r old new) c.deref.ensures.value c.in_ok-entry.ensures) s
 
 pub returns-in_err-entry-clause-leaves : goal.returns-in_err-entry-clause-leaves

@@ -1,12 +1,12 @@
 use Rattle.std.proofs.Common.{rules}
 use Rattle.tiff_encode.proofs.Joining.{entry_buf_adds}
-use Rattle.tiff_encode.proofs.Guarding.{entry_buf_left}
+use Rattle.tiff_encode.proofs.Guarding.{Lent, entry_left}
 use Rattle.tiff_encode.proofs.Keeping.{failed_leaves}
 use Rattle.tiff_encode.proofs.encoder.directory.encoder.DirectoryEncoder.write_entry_buf.Goals as goal
 
 pub returns-clause-leaves : goal.returns-clause-leaves
 returns-clause-leaves g c m s =
-    entry_buf_left c.args.buffer.now c.in_ok-entry.entry c.args.self.now.encoder.now c.place_buffer.new.self m c.fits_short.ensures c.fits.ensures c.in_ok-entry.ensures s
+    entry_left (Lent c.args.buffer.now) c.in_ok-entry.entry c.args.self.now.encoder.now c.place_buffer.new.self m c.fits_short.ensures c.fits.ensures c.in_ok-entry.ensures s
 
 pub returns-in_err-entry-clause-leaves : goal.returns-in_err-entry-clause-leaves
 returns-in_err-entry-clause-leaves g c m s =
