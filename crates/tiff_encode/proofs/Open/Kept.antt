@@ -1,11 +1,12 @@
 -- What is held of an open image if a call changes one part of it.
-use Rattle.std.proofs.Common.{◌≡◌, ℕ, false, List, [], ◌∷◌, Option, Some, None, Ok, refl, ap, sym, ◌∙◌, subst}
+use Rattle.std.proofs.Common.{◌≡◌, ℕ, ◌+◌, ◌^◌, ◌<◌, false, List, [], ◌∷◌, length, Option, Some, None, Ok, refl, ap, sym, ◌∙◌, subst}
 use Rattle.std.specs.List.{list_any}
 use Rattle.std.specs.FinMap.{insert}
 use Rattle.tiff_base.proofs.Common.{neither}
 use Rattle.tiff_base.specs.declared.color.ChunkType.{ChunkType}
 use Rattle.tiff_base.specs.declared.color.ChunkType.TheVariants.{Strip, Tile}
 use Rattle.tiff_base.specs.declared.error.TiffError.{TiffError}
+use Rattle.tiff_base.specs.declared.tags.ExtraSamples.{ExtraSamples}
 use Rattle.tiff_base.specs.declared.tags.FileKind.{FileKind}
 use Rattle.tiff_base.specs.declared.tags.Tag.{Tag}
 use Rattle.tiff_base.specs.declared.tags.Tag.TheVariants as tag
@@ -13,11 +14,12 @@ use Rattle.tiff_base.specs.Field.{Field}
 use Rattle.tiff_base.specs.Tags.{tag_number}
 use Rattle.tiff_value.specs.Data.{Scalars, u32s, rationals, units}
 use Rattle.tiff_encode.specs.Model.{Model}
-use Rattle.tiff_encode.specs.Machine.{FileState, OpenDirectory, Chunk, OpenImage, WriteCall, gives, ◌>>=◌}
+use Rattle.tiff_encode.specs.Machine.{FileState, OpenDirectory, ChunkLayout, Chunk, OpenImage, WriteCall, gives, ◌>>=◌}
+use Rattle.tiff_encode.specs.Drawn.{IsForm}
 use Rattle.tiff_encode.specs.Causes.{resolution_cause, one_resolution_cause, resolution_unit_cause}
 use Rattle.tiff_encode.specs.Calls.{write_tag, write_tag_buf, write_tags, extend_from, with_directory_of, resolution_tags, resolution, x_resolution, y_resolution, resolution_unit}
 use Rattle.tiff_encode.specs.Stored.{unpacked_chunk}
-use Rattle.tiff_encode.specs.Held.{is_page_tag, Given, HoldsValues}
+use Rattle.tiff_encode.specs.Held.{is_page_tag, Given, HoldsValues, planar_given, ExtraGiven}
 use Rattle.tiff_encode.specs.Open.{TellsForm, TellsOpen, IsOpen, HoldsChunks, HoldsOpen, model_by, KeepsOpen, TagsKeepOpen, FieldsKeepOpen, ResolutionsKeepOpen}
 use Rattle.tiff_encode.proofs.Slices.{ok_inj}
 use Rattle.tiff_encode.proofs.WriteOps.{ops_grow}
@@ -36,40 +38,64 @@ form_kept Strip i next given later w h r x y t = r ∙ t ∙ ap (λ n. Some (u32
 form_kept Tile i next given later w h r x y t =
     (x ∙ t.0 ∙ ap (λ n. Some (u32s (n ∷ []))) (sym w), y ∙ t.1 ∙ ap (λ n. Some (u32s (n ∷ []))) (sym h))
 
+-- values that are the same for the tags that no call of an open image changes
+abbrev pub Agree : Given → Given → Type 0
+Agree given later =
+    let at : Tag → Type 0 = λ t. later (tag_number t) ≡ given (tag_number t) in
+    at tag.ImageWidth × at tag.ImageLength × at tag.Compression × at tag.PhotometricInterpretation × at tag.SamplesPerPixel × at tag.Predictor
+    × at tag.ChromaSubsampling × at tag.StripOffsets × at tag.StripByteCounts × at tag.TileOffsets × at tag.TileByteCounts
+
+-- an image with another directory, other extra samples, another layout and other chunks
+module _ (i : OpenImage) (d : OpenDirectory) (extra : List ExtraSamples) (form : ChunkLayout) (chunks : List Chunk) where
+  abbrev next_image : OpenImage
+  next_image = record i { directory = d; extra = extra; form = form; chunks = chunks }
+
+  -- the tags describe that image
+  pub tells_with : (given later : Given) → Agree given later → TellsOpen i given
+      → later (tag_number tag.PlanarConfiguration) ≡ planar_given form.planar → ExtraGiven extra (later (tag_number tag.ExtraSamples))
+      → TellsForm form.chunk_type next_image later → TellsOpen next_image later
+  tells_with given later a t p e f = record {
+    width = a.0 ∙ t.width;
+    height = a.1 ∙ t.height;
+    packed_by = a.2 ∙ t.packed_by;
+    interpretation = a.3 ∙ t.interpretation;
+    samples = a.4 ∙ t.samples;
+    predicted_by = a.5 ∙ t.predicted_by;
+    planar = p;
+    extra = e;
+    subsampling = a.6 ∙ t.subsampling;
+    form = f;
+    no_strips = a.7 ∙ t.no_strips;
+    no_strip_counts = a.8 ∙ t.no_strip_counts;
+    no_tiles = a.9 ∙ t.no_tiles;
+    no_tile_counts = a.10 ∙ t.no_tile_counts;
+  }
+
+  -- that image is open
+  pub open_with : IsOpen i → length i.color.bits + length extra < 2 ^ 16 → IsForm i.width form → IsOpen next_image
+  open_with s few f = record {
+    name = s.name;
+    color = s.color;
+    size = s.size;
+    wide = s.wide;
+    high = s.high;
+    few = few;
+    packed_by = s.packed_by;
+    predicted_by = s.predicted_by;
+    form = f;
+  }
+
 -- the tags of an image describe it with another directory and other chunks
 pub tells_kept : (i : OpenImage) (d : OpenDirectory) (chunks : List Chunk) (given : Given) → TellsOpen i given
     → TellsOpen (record i { directory = d; chunks = chunks }) given
-tells_kept i d chunks given t = record {
-  width = t.width;
-  height = t.height;
-  packed_by = t.packed_by;
-  interpretation = t.interpretation;
-  samples = t.samples;
-  predicted_by = t.predicted_by;
-  planar = t.planar;
-  extra = t.extra;
-  subsampling = t.subsampling;
-  form = form_kept i.form.chunk_type i (record i { directory = d; chunks = chunks }) given given refl refl refl refl refl t.form;
-  no_strips = t.no_strips;
-  no_strip_counts = t.no_strip_counts;
-  no_tiles = t.no_tiles;
-  no_tile_counts = t.no_tile_counts;
-}
+tells_kept i d chunks given t =
+    tells_with i d i.extra i.form chunks given given (refl, refl, refl, refl, refl, refl, refl, refl, refl, refl, refl) t t.planar t.extra
+    (form_kept i.form.chunk_type i (record i { directory = d; chunks = chunks }) given given refl refl refl refl refl t.form)
 
 -- an image stays open with another directory and other chunks
 pub open_kept : (i : OpenImage) (d : OpenDirectory) (chunks : List Chunk) → IsOpen i
     → IsOpen (record i { directory = d; chunks = chunks })
-open_kept i d chunks s = record {
-  name = s.name;
-  color = s.color;
-  size = s.size;
-  wide = s.wide;
-  high = s.high;
-  few = s.few;
-  packed_by = s.packed_by;
-  predicted_by = s.predicted_by;
-  form = s.form;
-}
+open_kept i d chunks s = open_with i d i.extra i.form chunks s s.few s.form
 
 -- an image with another directory is held
 pub directory_kept : (kind : FileKind) (m n : Model) (i : OpenImage) (d : OpenDirectory) (samples : List (List ℕ))

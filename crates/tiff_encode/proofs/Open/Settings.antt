@@ -24,7 +24,7 @@ use Rattle.tiff_encode.specs.Open.{TellsOpen, IsOpen, HoldsChunks, HoldsOpen, mo
 use Rattle.tiff_encode.proofs.Image.Table.{Setting, Extra, Rows, Sides, Planes, call_of, row, called}
 use Rattle.tiff_encode.proofs.Open.Held.{set, unset_held}
 use Rattle.tiff_encode.proofs.Open.Tags.{tags_held, after}
-use Rattle.tiff_encode.proofs.Open.Kept.{form_kept, row_held}
+use Rattle.tiff_encode.proofs.Open.Kept.{form_kept, tells_with, open_with, row_held}
 
 -- ---- what the checks of these calls imply
 
@@ -87,37 +87,13 @@ extra_kept extra file m i next samples h a =
     let count = first_test _ _ _ tests.1 in
     let few = ltb-false 65535 (length i.color.bits + length extra) count.0 in
     let t : TellsOpen i h.given = h.tells in
-    let s : IsOpen i = h.open_so in
     record {
       given = set h.given (tag_number tag.ExtraSamples) (Some (extras extra));
       holds = o;
-      tells = record {
-        width = t.width;
-        height = t.height;
-        packed_by = t.packed_by;
-        interpretation = t.interpretation;
-        samples = t.samples;
-        predicted_by = t.predicted_by;
-        planar = t.planar;
-        extra = inl refl;
-        subsampling = t.subsampling;
-        form = form_kept i.form.chunk_type i (call d) h.given _ refl refl refl refl refl t.form;
-        no_strips = t.no_strips;
-        no_strip_counts = t.no_strip_counts;
-        no_tiles = t.no_tiles;
-        no_tile_counts = t.no_tile_counts;
-      };
-      open_so = record {
-        name = s.name;
-        color = s.color;
-        size = s.size;
-        wide = s.wide;
-        high = s.high;
-        few = omega (arith, few);
-        packed_by = s.packed_by;
-        predicted_by = s.predicted_by;
-        form = s.form;
-      };
+      tells = tells_with i d extra i.form i.chunks h.given (set h.given (tag_number tag.ExtraSamples) (Some (extras extra)))
+          (refl, refl, refl, refl, refl, refl, refl, refl, refl, refl, refl) t t.planar (inl refl)
+          (form_kept i.form.chunk_type i (call d) h.given _ refl refl refl refl refl t.form);
+      open_so = open_with i d extra i.form i.chunks h.open_so (omega (arith, few)) h.open_so.form;
       chunks = none_held file.kind n i (call d) samples g tests.0 refl refl;
     })
 
@@ -133,17 +109,7 @@ cut_kept kind m i d form later samples s c b f o t =
       given = later;
       holds = o;
       tells = t;
-      open_so = record {
-        name = s.name;
-        color = s.color;
-        size = s.size;
-        wide = s.wide;
-        high = s.high;
-        few = s.few;
-        packed_by = s.packed_by;
-        predicted_by = s.predicted_by;
-        form = f;
-      };
+      open_so = open_with i d i.extra form i.chunks s s.few f;
       chunks = none_held kind m i (record i { directory = d; form = form }) samples c b refl refl;
     }
 
@@ -159,22 +125,7 @@ rows_kept rows l file m i next samples h a =
     let t : TellsOpen i h.given = h.tells in
     cut_kept file.kind n i d form (set h.given (tag_number tag.RowsPerStrip) (Some (u32s (rows ∷ [])))) samples h.open_so g fresh.0
     (record { wide = h.open_so.wide; high = (above rows some.0, l); strips = λ _. refl }) o
-    (record {
-      width = t.width;
-      height = t.height;
-      packed_by = t.packed_by;
-      interpretation = t.interpretation;
-      samples = t.samples;
-      predicted_by = t.predicted_by;
-      planar = t.planar;
-      extra = t.extra;
-      subsampling = t.subsampling;
-      form = refl;
-      no_strips = t.no_strips;
-      no_strip_counts = t.no_strip_counts;
-      no_tiles = t.no_tiles;
-      no_tile_counts = t.no_tile_counts;
-    }))
+    (tells_with i d i.extra form i.chunks h.given _ (refl, refl, refl, refl, refl, refl, refl, refl, refl, refl, refl) t t.planar t.extra refl))
 
 planar_kept : KeepsOpen planar
 unfolding planar_cause
@@ -189,22 +140,8 @@ planar_kept file m i next samples h a =
     let later : Given = set h.given (tag_number tag.PlanarConfiguration) (Some (planars (Planar ∷ []))) in
     cut_kept file.kind n i d form later samples h.open_so g tests.0
     (record { wide = f.wide; high = f.high; strips = f.strips }) o
-    (record {
-      width = t.width;
-      height = t.height;
-      packed_by = t.packed_by;
-      interpretation = t.interpretation;
-      samples = t.samples;
-      predicted_by = t.predicted_by;
-      planar = refl;
-      extra = t.extra;
-      subsampling = t.subsampling;
-      form = form_kept i.form.chunk_type i (call d) h.given later refl refl refl refl refl t.form;
-      no_strips = t.no_strips;
-      no_strip_counts = t.no_strip_counts;
-      no_tiles = t.no_tiles;
-      no_tile_counts = t.no_tile_counts;
-    }))
+    (tells_with i d i.extra form i.chunks h.given later (refl, refl, refl, refl, refl, refl, refl, refl, refl, refl, refl) t refl t.extra
+    (form_kept i.form.chunk_type i (call d) h.given later refl refl refl refl refl t.form)))
 
 -- a side of a tile isn't 0
 side : (n : ℕ) → is_no_side n ≡ false → 0 < n
@@ -224,22 +161,7 @@ tiles_kept width length w l file m i next samples h a =
     cut_kept file.kind n i (without_field d tag.RowsPerStrip) form later samples h.open_so g tests.0
     (record { wide = (side width sides.0, w); high = (side length sides.1, l); strips = λ e. absurd (no_strip e) })
     (unset_held n d.fields (after h.given values) (tag_number tag.RowsPerStrip) o)
-    (record {
-      width = t.width;
-      height = t.height;
-      packed_by = t.packed_by;
-      interpretation = t.interpretation;
-      samples = t.samples;
-      predicted_by = t.predicted_by;
-      planar = t.planar;
-      extra = t.extra;
-      subsampling = t.subsampling;
-      form = (refl, refl);
-      no_strips = t.no_strips;
-      no_strip_counts = t.no_strip_counts;
-      no_tiles = t.no_tiles;
-      no_tile_counts = t.no_tile_counts;
-    }))
+    (tells_with i (without_field d tag.RowsPerStrip) i.extra form i.chunks h.given later (refl, refl, refl, refl, refl, refl, refl, refl, refl, refl, refl) t t.planar t.extra (refl, refl)))
 
 pub settings_keep_open : SettingsKeepOpen
 settings_keep_open = (extra_kept, (rows_kept, (tiles_kept, planar_kept)))
