@@ -13,24 +13,22 @@ use Rattle.tiff_base.specs.declared.tags.ByteOrder.{ByteOrder}
 use Rattle.tiff_base.specs.declared.tags.ByteOrder.TheVariants.{LittleEndian, BigEndian}
 use Rattle.tiff_base.specs.declared.tags.FileKind.{FileKind}
 use Rattle.tiff_base.specs.declared.tags.FileKind.TheVariants.{Classic, Big}
-use Rattle.tiff_base.specs.declared.tags.Tag.{Tag}
 use Rattle.tiff_base.specs.declared.tags.«Type».{«Type»}
 use Rattle.tiff_base.specs.Field.{Field, In, AreEntries}
 use Rattle.tiff_base.specs.Types.{type_size}
-use Rattle.tiff_value.specs.Buffer.{BufferRecord}
-use Rattle.tiff_value.specs.Data.{FieldData, IsWhole}
-use Rattle.tiff_encode.specs.FileBytes.{offset_len, count_len, padding}
-use Rattle.tiff_encode.specs.Model.{SuppliedField, Model, IsLink, Stands, with_link}
+use Rattle.tiff_value.specs.Data.{IsWhole}
+use Rattle.tiff_encode.specs.FileBytes.{offset_len, count_len}
+use Rattle.tiff_encode.specs.Model.{Model, IsLink, Stands, with_link}
 use Rattle.tiff_encode.specs.WriteOps.{WriteOp, Appended, Supplied, Listed, Linked, bytes_after, all_appended, model_after}
 use Rattle.tiff_encode.specs.Laws.{AreListable, AreAppending, OpsFit}
-use Rattle.tiff_encode.specs.Value.{data_in, buffer_data, is_long, field_at}
-use Rattle.tiff_encode.specs.Machine.{FileState, OpenDirectory, WriteOutcome, WriteCall, answers, gives, does, by_cause, and_then, ◌>>=◌}
-use Rattle.tiff_encode.specs.Causes.{unless_ended, is_past, is_past_count, end_of, begin_cause, field_cause, order_cause, write_tag_cause, write_buf_cause, write_entry_bytes_cause, write_data_cause, write_data_buf_cause, finish_cause}
-use Rattle.tiff_encode.specs.Calls.{Offsets, offsets_of, links_to, chain_after, chains, with_field, new_directory, pad, image_directory, extra_directory, placed_field, write_entry, write_entry_buf, write_entry_bytes, write_tag, write_tag_buf, appends, write_data, write_data_buf, finish}
+use Rattle.tiff_encode.specs.Value.{data_in}
+use Rattle.tiff_encode.specs.Machine.{FileState, OpenDirectory, WriteOutcome, WriteCall, does, by_cause, ◌>>=◌}
+use Rattle.tiff_encode.specs.Causes.{unless_ended, is_past, is_past_count, end_of, order_cause, finish_cause}
+use Rattle.tiff_encode.specs.Calls.{Offsets, offsets_of, links_to, chain_after, chains, finish}
 use Rattle.tiff_encode.specs.Ends.{EndsAsDefined, IsTornOff, Ends}
-use Rattle.tiff_encode.specs.Leaves.{LeavesTorn, Leaves, LeavesLinked, IsGiven}
+use Rattle.tiff_encode.specs.Leaves.{LeavesTorn, LeavesLinked}
 use Rattle.tiff_encode.proofs.WriteOps.{bytes_joined, ops_stand, ops_begun, ops_torn}
-use Rattle.tiff_encode.proofs.CallFits.{followed_fits, caused_fits, placed_fits, finish_fits}
+use Rattle.tiff_encode.proofs.CallFits.{caused_fits, finish_fits}
 
 -- ---- links among the changes of a call
 

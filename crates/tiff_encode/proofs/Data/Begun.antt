@@ -1,5 +1,5 @@
 -- What a new image is, and what the file contains after the image begins or fails to begin.
-use Rattle.std.proofs.Common.{◌≡◌, ℕ, ◌≤◌, inl, inr, true, cond, List, [], ◌∷◌, ◌++◌, Some, Ok, refl, ap, sym, ◌∙◌, subst, arith}
+use Rattle.std.proofs.Common.{◌≡◌, ℕ, ◌≤◌, inr, true, cond, List, [], ◌∷◌, ◌++◌, Some, Ok, refl, ap, sym, ◌∙◌, subst, arith}
 use Rattle.std.proofs.lemmas.Bool.{eq-eqb}
 use Rattle.std.specs.Prelude.{◌==◌}
 use Rattle.std.specs.FinMap.{len}
@@ -15,18 +15,17 @@ use Rattle.tiff_encode.specs.Causes.{end_of, begin_cause, finish_cause, new_imag
 use Rattle.tiff_encode.specs.Calls.{Offsets, offsets_of, links_to, chain_after, chains, finish, new_directory, pad, image_directory, write_tags, first_tags, image_in, new_image, last_tags, finish_image}
 use Rattle.tiff_encode.specs.Ends.{CallFails}
 use Rattle.tiff_encode.specs.Open.{model_by}
-use Rattle.tiff_encode.specs.Laws.{AreAppending}
 use Rattle.tiff_encode.proofs.Slices.{ok_inj}
 use Rattle.tiff_encode.proofs.FileAndModel.{len_standing}
 use Rattle.tiff_encode.proofs.Keeping.{failed_so}
-use Rattle.tiff_encode.proofs.Joining.{IsAdding, adding, caused_adds, bind_adds, bind_adding, begin_adds, answers_adding, ends_torn}
+use Rattle.tiff_encode.proofs.Joining.{IsAdding, adding, caused_adds, bind_adds, bind_adding, begin_adds, answers_adding}
 use Rattle.tiff_encode.proofs.Open.Tags.{tags_adding}
 use Rattle.tiff_encode.proofs.Open.Ends.{finish_listed}
 use Rattle.tiff_encode.proofs.Image.FitsCalls.{IsDone, done_longer}
 use Rattle.tiff_encode.proofs.Data.Calls.{bind_answered, cause_answered, behind_model}
 use Rattle.tiff_encode.proofs.Image.FitsCalls.{adding_done}
 use Rattle.tiff_encode.proofs.Data.Chunks.{IsPlacedAs, tags_placed}
-use Rattle.tiff_encode.proofs.Data.Leaves.{StillStands, appended_stands}
+use Rattle.tiff_encode.proofs.Data.Leaves.{StillStands}
 
 -- ---- a new image
 
