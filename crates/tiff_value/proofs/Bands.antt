@@ -27,7 +27,7 @@ some_fault None e h = absurd cc
 some_fault (Some x) e h = absurd cc
 
 -- a number of each type has at least one byte, and a band has room for one number
-pub type_band : (type : «Type») → (0 < type_size type) × (0 < 2048 / type_size type)
+pub type_band : (type : «Type») → (0 < type_size type) × (0 < 8192 / type_size type)
 type_band BYTE = (lit< tt, lit< tt)
 type_band ASCII = (lit< tt, lit< tt)
 type_band SHORT = (lit< tt, lit< tt)
@@ -45,12 +45,12 @@ type_band LONG8 = (lit< tt, lit< tt)
 type_band SLONG8 = (lit< tt, lit< tt)
 type_band IFD8 = (lit< tt, lit< tt)
 
--- a part of a room of 2048 bytes, for as many numbers as fit, has the bytes of these numbers
-pub band_long : (room : List ℕ) (at n size w : ℕ) → w ≡ size → n ≤ 2048 / w → length room ≡ 2048
+-- a part of a room of 8192 bytes, for as many numbers as fit, has the bytes of these numbers
+pub band_long : (room : List ℕ) (at n size w : ℕ) → w ≡ size → n ≤ 8192 / w → length room ≡ 8192
     → length (take ((at + n - at) * w) room) ≡ (at + n - at) * size
 band_long room at n size w same most long =
     let count : at + n - at ≡ n = omega arith in
-    let few : n * w ≤ 2048 = le_trans (mul-le-mul_right w most) (div-mul-le_self 2048 w) in
+    let few : n * w ≤ 8192 = le_trans (mul-le-mul_right w most) (div-mul-le_self 8192 w) in
     let within : (at + n - at) * w ≤ length room = subst (λ (k : ℕ). k * w ≤ length room) (sym count) (subst (λ (k : ℕ). n * w ≤ k) (sym long) few) in
     length-take-le ((at + n - at) * w) room within ∙ ap (λ (k : ℕ). (at + n - at) * k) same
 

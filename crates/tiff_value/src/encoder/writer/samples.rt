@@ -16,7 +16,7 @@ use tiff_base::tags::Predictor;
 
 // The number of bytes that are computed before they go to the sink. It is small, so that the bytes
 // stay in the processor's cache.
-const BAND: usize = 2048;
+const BAND: usize = 8192;
 
 impl<W: Sink> TiffWriter<W> {
     // Writes the bytes of the differences of a row, by way of the buffer `room`, part by part.
