@@ -18,29 +18,31 @@ ghost use Rattle.tiff_page.specs.PageView as view;
 
 use crate::chunk_data::ChunkCursor;
 use crate::chunk_rows::{ChunkReader, Destination};
-use crate::output_row::{needs_whole_rows, row_len, stored_row_bytes};
+use crate::output_row::{needs_swap, needs_whole_rows, row_len, stored_row_bytes};
 use crate::writer::{RowSink, RowSlot};
 use tiff_base::error::TiffResult;
 use tiff_base::io::Source;
 use tiff_base::tags::Predictor;
 
-// The number of bytes of rows that are read at once, or one row if it is longer. Small reads are
-// copied fast, and the work on them finds the bytes in the processor's nearest cache.
+// The number of bytes of rows that are read at once, if a row has at most this many bytes or its
+// numbers are byte-swapped. Small reads are copied fast, and byte-swapping then finds the bytes in
+// the processor's nearest cache.
 const BAND: usize = 8192;
 
 // The number of bytes of rows that are read at once of PackBits data, of which the end of each read
 // may cut a block.
 const WIDE_BAND: usize = 65536;
 
-// Returns how many rows of `len` bytes are read at once, at least 1. The bytes that are read don't
-// depend on it.
-fn rows_at_once(front: &ChunkCursor, len: usize) -> usize
+// Returns how many rows of `len` bytes are read at once, at least 1: of longer rows than `BAND` as
+// many as fit in `long` bytes. The bytes that are read don't depend on it.
+fn rows_at_once(front: &ChunkCursor, len: usize, long: usize) -> usize
     requires { 0 < len }
     ensures { 0 < result }
 {
     let bytes = match front {
         ChunkCursor::Packed(_) => WIDE_BAND,
-        _ => BAND,
+        _ if len <= BAND => BAND,
+        _ => long,
     };
     (bytes / len).max(1)
 }
@@ -107,7 +109,9 @@ impl ChunkReader<'_> {
         let format = self.format;
         let rows = self.height as usize;
         let mut cursor = self.front();
-        let band = rows_at_once(&cursor, destination.stride);
+        let turned = needs_swap(format.order, format.page);
+        let long = if turned { BAND } else { W::LONG_BAND };
+        let band = rows_at_once(&cursor, destination.stride, long);
         let mut row = 0;
         while row < rows {
             let more = band.min(rows - row);

@@ -36,6 +36,9 @@ pub trait RowSink<T> {
     /// A number of bytes, rounded up to whole items.
     ghost whole: { ℕ → ℕ };
 
+    /// The number of bytes that are best read at once of rows longer than 8 KB.
+    const LONG_BAND: usize;
+
     /// Reads the next row of a chunk into the bytes of a list.
     fn read_row<R: Source>(
         &mut self,
@@ -128,6 +131,8 @@ impl RowSink<u8> for ByteRows {
 
     ghost whole = { λ n. n };
 
+    const LONG_BAND: usize = 65536;
+
     #[tactic(auto, using(crate::proofs::PositionsPut::put_in_place))]
     #[inline(always)]
     fn read_row<R: Source>(
@@ -190,6 +195,9 @@ impl<T: Number<N>, const N: usize> RowSink<T> for TypedRows<N> {
     ghost bytes = { λ numbers. bytes_in N (map T.bits numbers) };
 
     ghost whole = { λ n. div_ceil n N * N };
+
+    // They go through a scratch buffer, which has to stay in the processor's nearest cache.
+    const LONG_BAND: usize = 8192;
 
     #[tactic(auto, using(crate::proofs::PositionsPut::put_from_room, crate::proofs::NumberBytes::some_size))]
     #[inline(always)]
