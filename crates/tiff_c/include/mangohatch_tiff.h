@@ -400,7 +400,11 @@ struct tiff_image {
    The call ignores samples behind those of the image. The bytes of BUFFER behind the file stay.
 
    A BUFFER that is too short: TIFF_INSUFFICIENT_OUTPUT_BUFFER_SIZE, and *LEN is set all the same.
-   So a first call with a SIZE of 0 returns the length; it takes as long as a call that writes.
+   So a first call with a SIZE of 0 returns the length. It takes as long as a call that writes, or
+   less if there is neither a compression nor a predictor.
+
+   With a compression or a predictor the call makes the file in memory. Without both it allocates a
+   strip and what the file has before and behind SAMPLES, if SAMPLES are exactly those of the image.
 
    Any status but TIFF_DONE leaves BUFFER as it was. Any status but TIFF_DONE and that of a BUFFER
    that is too short leaves *LEN as it was. Errors, in this order: a version that is none,

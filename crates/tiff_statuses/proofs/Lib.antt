@@ -10,3 +10,11 @@ mod Ranges
 mod FirstFault
 pub mod Filled
 pub mod Planes
+mod FrameFront
+mod FrameStrips
+mod Framed
+mod Placing
+mod FrameAlike
+mod BytesBack
+mod FrameZeros
+mod FrameWritten

@@ -1,6 +1,6 @@
 -- Chunks that are read one behind the other.
-use Rattle.std.proofs.Common.{◌≡◌, ℕ, zero, suc, ◌+◌, ◌-◌, ◌^◌, ◌≤◌, ◌<◌, List, ◌++◌, length, take, drop, Bool, true, false, Ok, Err, refl, ap, sym, subst, arith, ◌∙◌, append_assoc}
-use Rattle.std.specs.Prelude.{Result, if◌then◌else◌, nat_le, nat_lt}
+use Rattle.std.proofs.Common.{◌≡◌, ℕ, zero, suc, ◌+◌, ◌-◌, ◌^◌, ◌≤◌, ◌<◌, List, ◌++◌, length, take, drop, Bool, true, Ok, Err, refl, ap, sym, subst, arith, ◌∙◌, append_assoc}
+use Rattle.std.specs.Prelude.{Result, if◌then◌else◌, nat_lt}
 use Rattle.std.proofs.lemmas.Bool.{le-leb, lt-leb, lt-ltb}
 use Rattle.std.proofs.lemmas.Grind.{common_steps}
 use Rattle.std.proofs.lemmas.List.{take-append-drop}

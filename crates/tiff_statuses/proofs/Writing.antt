@@ -1,5 +1,5 @@
 -- A file that an encoder wrote into memory shows its image.
-use Rattle.std.proofs.Common.{◌≡◌, ℕ, zero, suc, ◌+◌, ◌%◌, ◌<◌, ◌⊎◌, inl, inr, true, false, List, [], length, map, get_or, Fits, w8, arith, None, Some, Result, Ok, Err, refl, sym, ap, subst, ◌∙◌, lit<}
+use Rattle.std.proofs.Common.{◌≡◌, ℕ, zero, suc, ◌%◌, ◌<◌, ◌⊎◌, inl, inr, true, false, List, [], length, arith, None, Some, Result, Ok, Err, refl, sym, ap, subst, ◌∙◌, lit<}
 use Rattle.tiff_base.specs.declared.error.TiffError.{TiffError}
 use Rattle.std.proofs.lemmas.Bool.Decides.{nat_tests}
 use Rattle.std.specs.Prelude.{◌==◌, if◌then◌else◌}
@@ -9,11 +9,11 @@ use Rattle.tiff_base.specs.declared.tags.«Type».{«Type»}
 use Rattle.tiff_base.specs.declared.io.SinkFault.TheVariants as sink
 use Rattle.tiff_base.specs.declared.tags.FileKind.{FileKind}
 use Rattle.tiff_base.specs.declared.tags.FileKind.TheVariants.{Classic, Big}
-use Rattle.tiff_value.specs.ColorType.{ColorTypeRecord, sample_number}
+use Rattle.tiff_value.specs.ColorType.{ColorTypeRecord}
 use Rattle.tiff_value.specs.ColorTypes.{color_type, inner_size, inner_type}
 use Rattle.tiff_page.specs.Pixels.{numbers_in}
-use Rattle.tiff_encode.specs.FileBytes.{header_bytes, header_mark}
-use Rattle.tiff_encode.specs.Model.{Model, IsLink, Stands, header_link, header_model}
+use Rattle.tiff_encode.specs.FileBytes.{header_bytes}
+use Rattle.tiff_encode.specs.Model.{Model, IsLink, Stands, header_model}
 use Rattle.tiff_encode.specs.Machine.{FileState, begun_file}
 use Rattle.tiff_encode.specs.Calls.{with_compression, with_predictor}
 use Rattle.tiff_encode.specs.Shows.{ShowsFirst}
@@ -23,7 +23,7 @@ use Rattle.tiff_encode.proofs.Shown.Gray.{first_shown}
 use Rattle.tiff_encode.proofs.Header.{header_stands}
 use Rattle.tiff_statuses.specs.declared.writer.Settings.{Settings}
 use Rattle.tiff_statuses.specs.Writer.{IsWritten, WritesImageFile, WritesBytes, file_by, image_by, samples_from_bytes}
-use Rattle.tiff_statuses.proofs.Octets.{octets_are}
+use Rattle.tiff_statuses.proofs.Framed.{chain_of}
 
 -- A new encoder over an empty sink has its settings.
 pub begun_by : (s : Settings) (failures : ℕ) (told : List ℕ) (b p c : FileState) → told ≡ [] → b ≡ begun_file s.kind told failures
@@ -36,16 +36,12 @@ some_header : (kind : FileKind) → 0 < length (header_bytes kind)
 some_header Classic = lit< tt
 some_header Big = lit< tt
 
-chain_of : (kind : FileKind) → length {A = ℕ} [] + length (header_mark kind) ≡ header_link kind
-chain_of Classic = refl
-chain_of Big = refl
-
 module _ (s : Settings) (width height failures : ℕ) (samples : List ℕ) (last : FileState) where
   abbrev old : FileState
   old = file_by s failures
 
   -- An image that such an encoder left is shown.
-  shown : LeavesImage (color_type s.color) (inner_size s.color) width height samples old last (header_model s.kind)
+  pub shown : LeavesImage (color_type s.color) (inner_size s.color) width height samples old last (header_model s.kind)
       → ShowsFirst s.kind last.bytes (image_by s width height samples)
   shown l =
       let n = new_is (color_type s.color) (inner_size s.color) width height old l.image l.begun.answer in
@@ -119,7 +115,7 @@ untested zero h = absurd (h refl)
 untested (suc n) h = grind (arith, nat_tests)
 
 module _ (s : Settings) (width height : ℕ) (bytes : List ℕ) where
-  whole_by : (answer : Result (List ℕ) TiffError) → length bytes % inner_size s.color ≡ 0
+  pub whole_by : (answer : Result (List ℕ) TiffError) → length bytes % inner_size s.color ≡ 0
       → WritesImageFile s width height (numbers_in (inner_size s.color) bytes) answer → WritesBytes s width height (samples_from_bytes s.color bytes) answer
   whole_by answer none w =
       subst (λ b. WritesBytes s width height (if b then Ok (numbers_in (inner_size s.color) bytes) else Err (UsageError (MismatchedEntryLength (inner_type s.color) (length bytes)))) answer)
@@ -140,10 +136,3 @@ module _ (s : Settings) (width height : ℕ) (bytes : List ℕ) where
       (Err (UsageError (MismatchedEntryLength type (length bytes)))))
       (sym (untested (length bytes % inner_size s.color) (subst (λ n. length bytes % n ≡ 0 → ⊥) is some)))
       (ap (λ t. Err (UsageError (MismatchedEntryLength t (length bytes)))) typed)
-
-  -- Bytes are samples of one byte.
-  pub octets_written : (answer : Result (List ℕ) TiffError) → ((i : ℕ) → Fits w8 (get_or bytes i 0)) → inner_size s.color ≡ 1
-      → WritesImageFile s width height (map (sample_number 1 (λ n. n)) bytes) answer → WritesBytes s width height (samples_from_bytes s.color bytes) answer
-  octets_written answer octets one w =
-      let none : length bytes % 1 ≡ 0 = omega arith in
-      whole_written 1 (map (sample_number 1 (λ n. n)) bytes) answer (sym one) none (octets_are bytes octets) w

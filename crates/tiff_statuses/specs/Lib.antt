@@ -5,3 +5,6 @@ pub use Rattle.tiff_base.specs.Answers
 pub mod List
 pub mod Jobs
 pub mod Values
+pub mod Frame
+pub mod Unkept
+pub mod Zeros

@@ -1,5 +1,5 @@
 -- What the library writes for an image that C passes: a file, or the first error.
-use Rattle.std.specs.Prelude.{◌≡◌, ◌⊎◌, ℕ, ◌<◌, ◌≤◌, ◌%◌, ◌==◌, ◌++◌, List, [], ◌∷◌, length, take, drop, slice_get, if◌then◌else◌, false, Option, None, Some, Result, Ok, Err, IfOk}
+use Rattle.std.specs.Prelude.{◌≡◌, ◌⊎◌, ℕ, ◌<◌, ◌≤◌, ◌*◌, ◌%◌, ◌^◌, ◌==◌, ◌++◌, List, [], ◌∷◌, length, take, drop, slice_get, if◌then◌else◌, false, Option, None, Some, Result, Ok, Err, IfOk}
 use Rattle.tiff_base.specs.declared.error.TiffError.{TiffError}
 use Rattle.tiff_base.specs.declared.error.TiffError.TheVariants.{FormatError, UnsupportedError, IoError, UsageError, OutOfMemory}
 use Rattle.tiff_base.specs.declared.error.TiffFormatError.TheVariants.{TiffSignatureInvalid, UnknownPredictor}
@@ -9,6 +9,7 @@ use Rattle.tiff_base.specs.declared.io.IoKind.TheVariants.{InvalidInput}
 use Rattle.tiff_base.specs.declared.io.SinkFault.TheVariants as sink
 use Rattle.tiff_base.specs.declared.tags.FileKind.{FileKind}
 use Rattle.tiff_base.specs.declared.tags.FileKind.TheVariants.{Classic, Big}
+use Rattle.tiff_base.specs.declared.tags.Predictor.TheVariants as predictor
 use Rattle.tiff_base.specs.Answers.{◌>>=◌}
 use Rattle.tiff_base.specs.Tags.{method_of, predictor_of}
 use Rattle.tiff_value.specs.declared.encoder.colortype.ColorTypeName.{ColorTypeName}
@@ -161,3 +162,18 @@ pub record IsShown (image : NewImage) (bytes old new : List ℕ) (len : ℕ) : T
   pub shows : ShowsFirst settings.kind (take len new)
       (image_by settings image.width image.height samples)
   pub rest : drop len new ≡ drop len old
+
+-- ---- the frame of a file
+
+-- how many bytes are before the first strip of a file of one image: those of the header, and, in a
+-- classic file, those of the two resolutions, which don't fit into their entries
+abbrev pub front_len : FileKind → ℕ
+front_len Classic = 24
+front_len Big = 16
+
+-- The bytes are all samples of an image, `size` bytes each, and are in its file as they are.
+pub record AreKept (s : Settings) (all size len : ℕ) : Type 0 where
+  pub packs : s.compression ≡ Uncompressed
+  pub differs : s.predictor ≡ predictor.None
+  pub whole : len ≡ all * size
+  pub few : all < 2 ^ 64

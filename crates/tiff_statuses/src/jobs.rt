@@ -5,6 +5,7 @@ ghost use Rattle.tiff_statuses.specs.Jobs.{AnswersJobs, AnswersKind, RanJobs, Te
 ghost use Rattle.tiff_statuses.specs.Status as status;
 ghost use Rattle.tiff_statuses.specs.Writer as writer;
 
+use crate::frame::NewFile;
 use crate::status::{Status, fault_number, status_of};
 use crate::writer::{deliver, kind_of};
 use std::alloc::Global;
@@ -145,7 +146,7 @@ fn tell_ran(ran: Ran, buffer: &mut [u8], len: &mut usize, end: &mut JobsEnd) -> 
     match ran.refused {
         None => {
             *end = NO_END;
-            deliver(Ok(ran.file), buffer, len)
+            deliver(Ok(NewFile::Whole(ran.file)), buffer, len)
         }
         Some((job, number)) => {
             *end = JobsEnd { line: 0, job };

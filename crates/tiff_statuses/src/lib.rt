@@ -20,6 +20,7 @@ ghost use Rattle.tiff_statuses.specs.Writer.{IsShown};
 use std::alloc::Global;
 
 pub mod calls;
+mod frame;
 pub mod jobs;
 pub mod list;
 mod samples;

@@ -1,5 +1,4 @@
 use Rattle.std.proofs.Common.{◌≡◌, ◌-◌, ◌≤◌, length, take, drop}
-use Rattle.tiff_base.specs.Answers.{◌>>=◌}
 use Rattle.tiff_statuses.specs.Calls.{chunks_in}
 use Rattle.tiff_statuses.proofs.Ranges.{behind}
 use Rattle.tiff_statuses.proofs.calls.range_here.Given as goal

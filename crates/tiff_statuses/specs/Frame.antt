@@ -1,0 +1,28 @@
+-- A file of one image around samples that are elsewhere in memory.
+use Rattle.std.specs.Prelude.{◌≡◌, ℕ, List, ◌++◌, length}
+use Rattle.tiff_statuses.specs.declared.frame.Frame.{Frame}
+use Rattle.tiff_statuses.specs.declared.frame.FrameSink.{FrameSink}
+use Rattle.tiff_statuses.specs.declared.frame.NewFile.{NewFile}
+use Rattle.tiff_statuses.specs.declared.frame.NewFile.TheVariants.{Whole, Around}
+
+-- the bytes of a sink that keeps a frame: also those that it only counts
+abbrev pub frame_told : FrameSink → List ℕ
+frame_told s = s.front.items ++ (s.passed ++ s.behind.items)
+
+-- the bytes before the samples, the samples, and the bytes behind them
+abbrev pub framed : Frame → List ℕ
+framed f = f.front.items ++ (f.samples.now ++ f.behind.items)
+
+-- the bytes of a file
+abbrev pub file_of : NewFile → List ℕ
+file_of (Whole file) = file.items
+file_of (Around frame) = framed frame
+
+-- The bytes of a sink are those of a frame, with other bytes in the place of the samples: as many,
+-- behind so many bytes.
+pub record IsFrameOf (told : List ℕ) (start : ℕ) (samples : List ℕ) (f : Frame) : Type 0 where
+  pub passed : List ℕ
+  pub whole : told ≡ f.front.items ++ (passed ++ f.behind.items)
+  pub front_len : length f.front.items ≡ start
+  pub passed_len : length passed ≡ length samples
+  pub samples_are : f.samples.now ≡ samples

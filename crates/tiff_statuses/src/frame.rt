@@ -1,0 +1,311 @@
+//! The frame of a file of one image: the bytes before its samples, and those behind them.
+
+ghost use Rattle.std.specs.Prelude.{◌≡◌, ◌+◌, ◌^◌, ◌≤◌, ◌<◌, [], ◌∷◌, ◌++◌, length, drop, None, Some, IsSome, IfSome, IfOk, IfErr, OnOk, OnErr};
+ghost use Rattle.tiff_statuses.specs.Writer as writer;
+
+use std::alloc::Global;
+use std::marker::Model;
+use std::snapshot::Snapshot;
+use tiff_base::io::{Sink, SinkFault};
+use tiff_base::tags::FileKind;
+
+// ---- bytes that contracts see
+
+// The state of unkept bytes: a snapshot of the state before the last byte came, and of that byte.
+// The first state has no earlier state, and its byte does not count. A snapshot has no bytes.
+#[derive(Drop)]
+struct Pushes {
+    last: Option<Snapshot<Pushes>>,
+    byte: Snapshot<u8>,
+}
+
+/// Bytes that only contracts see. Nothing of them is stored.
+#[derive(Drop)]
+pub struct Unkept {
+    pushes: Pushes,
+}
+
+impl Model for Unkept {
+    ghost use Rattle.std.specs.Prelude.{ℕ, List};
+
+    ghost Value = { List ℕ };
+
+    ghost use Rattle.tiff_statuses.specs.Unkept.{pushed};
+
+    ghost view = { λ u. pushed u.pushes };
+}
+
+impl Unkept {
+    /// No bytes.
+    pub fn new() -> Unkept
+        ensures { result ≡ [] }
+    {
+        Unkept {
+            pushes: Pushes {
+                last: None,
+                byte: Snapshot::of(&0),
+            },
+        }
+    }
+
+    // Adds a byte at the end.
+    fn push(&mut self, byte: u8)
+        ensures { self.new ≡ self.old ++ byte ∷ [] }
+    {
+        let last = Snapshot::of(&self.pushes);
+        self.pushes = Pushes {
+            last: Some(last),
+            byte: Snapshot::of(&byte),
+        };
+    }
+
+    /// Adds bytes at the end. The loop does nothing that is left when the program runs.
+    pub fn add(&mut self, bytes: &[u8])
+        ensures { self.new ≡ self.old ++ bytes.now }
+    {
+        for byte in bytes {
+            self.push(*byte);
+        }
+    }
+}
+
+// ---- the sink
+
+/// A sink in memory for a file of one image, which stores the frame of the file: the first `start`
+/// bytes, and those behind the next `room` bytes, which are the samples. The sink only counts the
+/// samples, and contracts see them. It refuses to overwrite anything behind the first part.
+#[derive(Drop)]
+pub struct FrameSink {
+    front: Vec<u8>,
+    passed: Unkept,
+    behind: Vec<u8>,
+    start: usize,
+    room: usize,
+    count: usize,
+    // one byte for each write that failed
+    failed: Unkept,
+    fault: Option<SinkFault>,
+    ghost counted: { count ≡ length passed },
+    ghost short: { length front.items + (count + length behind.items) < 2 ^ 63 },
+    ghost in_start: { length front.items ≤ start },
+    ghost in_room: { count ≤ room },
+    ghost front_first: { length front.items < start → count + length behind.items ≡ 0 },
+    ghost behind_last: { count < room → length behind.items ≡ 0 },
+}
+
+// The largest number of bytes that a sink can contain.
+const MAX_LEN: u64 = (1 << 63) - 1;
+
+/// How many bytes are before the first strip of a file of one image: its header, and in a classic
+/// file the two resolutions, which don't fit into their entries.
+pub fn front_len(kind: FileKind) -> usize
+    ensures { result ≡ writer.front_len kind }
+{
+    match kind {
+        FileKind::Classic => 24,
+        FileKind::Big => 16,
+    }
+}
+
+// Appends bytes to a list.
+fn grow(items: &mut Vec<u8>, bytes: &[u8]) -> Result<(), SinkFault>
+    ensures ok { OnOk result (items.new.items ≡ items.old.items ++ bytes.now) }
+    ensures err { OnErr result (items.new.items ≡ items.old.items) }
+{
+    if items.extend_from_slice(bytes).is_err() {
+        return Err(SinkFault::OutOfMemory);
+    }
+    Ok(())
+}
+
+impl FrameSink {
+    ghost use Rattle.tiff_base.specs.SourceAndSink.{Appends, Overwrites};
+    ghost use Rattle.tiff_statuses.specs.Frame.{IsFrameOf, frame_told};
+
+    /// Makes an empty sink for samples of `room` bytes behind `start` bytes. It allocates nothing.
+    pub fn new(alloc: Global, start: usize, room: usize) -> FrameSink
+        ensures { frame_told result ≡ [] }
+    {
+        FrameSink {
+            front: Vec::new(alloc),
+            passed: Unkept::new(),
+            behind: Vec::new(alloc),
+            start,
+            room,
+            count: 0,
+            failed: Unkept::new(),
+            fault: None,
+        }
+    }
+
+    /// Returns the frame around these samples, if the sink has `start` bytes before its samples,
+    /// and as many bytes of samples as these.
+    pub fn into_frame(self, start: usize, samples: &[u8]) -> Option<Frame<'_>>
+        ensures { IfSome result (λ f. IsFrameOf (frame_told self) start samples.now f) }
+    {
+        let FrameSink {
+            front,
+            passed: _,
+            behind,
+            start: _,
+            room: _,
+            count,
+            failed: _,
+            fault: _,
+        } = self;
+        if front.len() != start || count != samples.len() {
+            return None;
+        }
+        Some(Frame {
+            front,
+            samples,
+            behind,
+        })
+    }
+
+    // Takes bytes for the part that is next, from the front of `bytes`, and returns how many.
+    fn take_next(&mut self, bytes: &[u8]) -> Result<usize, SinkFault>
+        ensures ok { IfOk result (λ n. Appends (frame_told self.old) bytes.now n (frame_told self.new)) }
+        ensures err { OnErr result (frame_told self.new ≡ frame_told self.old) }
+        ensures failed { self.new.failed ≡ self.old.failed }
+    {
+        if bytes.len() as u64 > MAX_LEN - self.len() {
+            return Err(SinkFault::Device);
+        }
+        if self.front.len() < self.start {
+            let n = bytes.len().min(self.start - self.front.len());
+            grow(&mut self.front, &bytes[..n])?;
+            return Ok(n);
+        }
+        if self.count < self.room {
+            let n = bytes.len().min(self.room - self.count);
+            self.passed.add(&bytes[..n]);
+            self.count += n;
+            return Ok(n);
+        }
+        grow(&mut self.behind, bytes)?;
+        Ok(bytes.len())
+    }
+
+    // Overwrites bytes before the samples. It refuses to overwrite any others.
+    fn put_front(&mut self, at: u64, bytes: &[u8]) -> Result<usize, SinkFault>
+        requires { at + length bytes.now ≤ length (frame_told self.old) }
+        ensures ok { IfOk result (λ n. Overwrites (frame_told self.old) at bytes.now n (frame_told self.new)) }
+        ensures err { OnErr result (frame_told self.new ≡ frame_told self.old) }
+        ensures failed { self.new.failed ≡ self.old.failed }
+    {
+        let to = at + bytes.len() as u64;
+        if to > self.front.len() as u64 {
+            return Err(SinkFault::Device);
+        }
+        self.front[at as usize..to as usize].copy_from_slice(bytes);
+        Ok(bytes.len())
+    }
+
+    // Keeps the error of a write, if it failed, and counts it. Returns the answer of the write.
+    fn noted(&mut self, answer: Result<usize, SinkFault>) -> Result<usize, SinkFault>
+        ensures same { result ≡ answer }
+        ensures told { frame_told self.new ≡ frame_told self.old }
+        ensures ok { OnOk answer ((self.new.failed ≡ self.old.failed) × (self.new.fault ≡ None)) }
+        ensures err { IfErr answer (λ e. (length self.new.failed ≡ length self.old.failed + 1)
+            × (self.new.fault ≡ Some e)) }
+    {
+        self.fault = answer.err();
+        if self.fault.is_some() {
+            self.failed.push(0);
+        }
+        answer
+    }
+}
+
+impl Sink for FrameSink {
+    ghost use Rattle.std.proofs.Common.{arith, length-append};
+    ghost use Rattle.tiff_statuses.specs.Frame.{frame_told};
+
+    ghost told = { frame_told };
+
+    ghost failures = { λ s. length s.failed };
+
+    ghost fault = { λ s. s.fault };
+
+    ghost short = { λ s. Prim.omega (
+      arith,
+      length-append s.front.items (s.passed ++ s.behind.items),
+      length-append s.passed s.behind.items,
+      s.counted,
+      s.short,
+    ) };
+
+    fn len(&self) -> u64 {
+        self.front.len() as u64 + self.count as u64 + self.behind.len() as u64
+    }
+
+    fn append(&mut self, bytes: &[u8]) -> Result<usize, SinkFault> {
+        let answer = self.take_next(bytes);
+        self.noted(answer)
+    }
+
+    fn overwrite(&mut self, at: u64, bytes: &[u8]) -> Result<usize, SinkFault> {
+        let answer = self.put_front(at, bytes);
+        self.noted(answer)
+    }
+}
+
+// ---- the file
+
+/// A file of one image around samples that are elsewhere in memory: the bytes before the samples,
+/// the samples, and the bytes behind them.
+#[derive(Drop)]
+pub struct Frame<'a> {
+    front: Vec<u8>,
+    samples: &'a [u8],
+    behind: Vec<u8>,
+    ghost short: { length front.items + (length samples.now + length behind.items) < 2 ^ 63 },
+}
+
+impl Frame<'_> {
+    ghost use Rattle.tiff_statuses.specs.Frame.{framed};
+
+    // Returns the length of the file.
+    fn len(&self) -> usize
+        ensures { result ≡ length (framed self.now) }
+    {
+        self.front.len() + self.samples.len() + self.behind.len()
+    }
+
+    /// Puts the file at the front of a buffer.
+    pub fn put(&self, buffer: &mut [u8])
+        requires { length (framed self.now) ≤ length buffer.old }
+        ensures { buffer.new ≡ framed self.now ++ drop (length (framed self.now)) buffer.old }
+    {
+        let begin = self.front.len();
+        let end = begin + self.samples.len();
+        let all = end + self.behind.len();
+        buffer[..begin].copy_from_slice(&self.front);
+        buffer[begin..end].copy_from_slice(self.samples);
+        buffer[end..all].copy_from_slice(&self.behind);
+    }
+}
+
+/// A file that was written.
+#[derive(Drop)]
+pub enum NewFile<'a> {
+    /// All bytes of the file.
+    Whole(Vec<u8>),
+    /// The file around the samples that the caller has.
+    Around(Frame<'a>),
+}
+
+impl NewFile<'_> {
+    ghost use Rattle.tiff_statuses.specs.Frame.{file_of};
+
+    /// Returns the length of the file.
+    pub fn len(&self) -> usize
+        ensures { result ≡ length (file_of self.now) }
+    {
+        match self {
+            NewFile::Whole(file) => file.len(),
+            NewFile::Around(frame) => frame.len(),
+        }
+    }
+}
