@@ -11,7 +11,7 @@ pub mod ChunkRead
 pub mod RowRead
 pub mod Bands
 pub mod Filling
-mod Growing
+pub mod Filled
 pub mod Rows
 pub mod RowLaws
 pub mod RowReads

@@ -1,23 +1,25 @@
 -- Rows of bytes that are written into lists of numbers.
 use borrow.Rule.Slice.PartMut.{mid_of, put_mid}
-use Rattle.std.proofs.Common.{◌≡◌, ℕ, zero, suc, ◌+◌, ◌-◌, ◌*◌, ◌/◌, ◌%◌, ◌^◌, ◌<◌, ◌≤◌, true, false, inl, inr, ⊎_elim, List, [], ◌∷◌, ◌++◌, length, map, take, drop, get_or, refl, ap, sym, subst, ◌∙◌, arith}
+use Rattle.std.proofs.Common.{◌≡◌, ℕ, zero, suc, ◌+◌, ◌-◌, ◌*◌, ◌/◌, ◌%◌, ◌^◌, ◌<◌, ◌≤◌, min, true, false, inl, inr, ⊎_elim, List, [], ◌∷◌, ◌++◌, append_assoc, length, map, take, drop, get_or, refl, ap, sym, subst, ◌∙◌, arith}
 use Rattle.std.specs.Prelude.{◌==◌, slice_index, replicate, Result, Ok, Err, OnOk}
 use Rattle.std.specs.Int.{div_ceil, w8, w16, w32, w64, to_le_bytes}
 use Rattle.std.specs.Simd.{first_chunks}
 use Rattle.std.proofs.lemmas.Bool.{cases_Bool, cases_eq, cases_lt, eqb-true}
 use Rattle.std.proofs.lemmas.List.{append-nil, drop_all, length-drop, length-take-le, take-append-drop, ext_get_or, map-append, map-id, map-set, length-append, length-set, get_or-append_right, get_or_append_left, get_or-set_same, get_or-set_other, length-replicate, get_or-replicate, drop-drop, length-map, take_all, get_or-map}
-use Rattle.std.proofs.lemmas.List.FromFn.{length-map-range_with_len, get_or-map-range_with_len}
+use Rattle.std.proofs.lemmas.List.FromFn.{length-map-range_with_len, get_or-map-range_with_len, map-range_with_len_more}
 use Rattle.std.proofs.lemmas.Nat.{div-add-mod', div_below, mod_below, le-div, div-mul-add, mod-mul-add, row_fits}
 use Rattle.std.proofs.Math.ListN.{set}
-use Rattle.std.proofs.Math.Nat.{add-mul, div-one, div-div-eq-div-mul, pow-suc, mod-eq_of_lt, mul-le-mul_right, mul_comm, mul-div_cancel, zero-div}
+use Rattle.std.proofs.Math.Nat.{add-mul, div-one, div-div-eq-div-mul, pow-suc, mod-eq_of_lt, mul-le-mul_right, mul_comm, mul-div_cancel, mul-mod_left, zero-div}
+use Rattle.std.proofs.Math.Seq.{take-add, take-append_seam}
 use Rattle.tiff_base.specs.declared.tags.ByteOrder.{ByteOrder}
 use Rattle.tiff_base.specs.declared.tags.ByteOrder.TheVariants.{LittleEndian, BigEndian}
 use Rattle.tiff_base.specs.Number.{number}
 use Rattle.tiff_base.specs.SourceAndSink.{AreOctets, bytes_at}
-use Rattle.tiff_page.specs.NumberBytes.{byte_of, all_bytes, bytes_in, IsPut, NumbersArePut}
+use Rattle.tiff_page.specs.NumberBytes.{byte_of, all_bytes, bytes_in, IsPut, NumbersArePut, whole_enough}
 use Rattle.tiff_page.specs.Pixels.{tabulate, width_of, numbers_in, row_number}
-use Rattle.tiff_page.specs.BufferPositions.{Writes}
+use Rattle.tiff_page.specs.BufferPositions.{Writes, filled_to}
 use Rattle.tiff_page.specs.Row.{IsSize}
+use Rattle.tiff_page.proofs.Filled.{zero_in}
 use Rattle.tiff_page.proofs.Rects.{writes_more, writes_as, writes_none}
 use Rattle.tiff_page.proofs.RowLaws.{power_pos, bytes_of_numbers}
 use Rattle.tiff_page.proofs.Rows.{each_same, each_at, digits, by_size, little_digits, number_lt}
@@ -371,11 +373,6 @@ zeros_behind f x old new n z e = ap (map f) e ∙ map-append f old (replicate n 
 pub no_zeros_behind : {A : Type 0} (f : A → ℕ) (old new : List A) (n : ℕ) → new ≡ old → n ≡ 0 → map f new ≡ map f old ++ replicate n 0
 no_zeros_behind f old new n e z = ap (map f) e ∙ sym (append-nil (map f old)) ∙ ap (λ k. map f old ++ replicate k 0) (sym z)
 
-zero_in : (n i : ℕ) → get_or {A = ℕ} (replicate n 0) i 0 ≡ 0
-zero_in zero i = refl
-zero_in (suc n) zero = refl
-zero_in (suc n) (suc i) = zero_in n i
-
 no_byte : (size i : ℕ) → byte_of size 0 (i % size) ≡ 0
 no_byte size i = byte_is size 0 (i % size) (power_pos size) ∙ ap (λ (m : ℕ). m % 256) (zero-div (256 ^ (i % size)))
 
@@ -441,6 +438,193 @@ grown_bytes (Ok x) size bits old new count len z c h =
 
 pub plain_zeros_behind : (old new : List ℕ) (n : ℕ) → map (λ (x : ℕ). x) new ≡ map (λ (x : ℕ). x) old ++ replicate n 0 → new ≡ old ++ replicate n 0
 plain_zeros_behind old new n e = sym (map-id new) ∙ e ∙ ap (λ (xs : List ℕ). xs ++ replicate n 0) (map-id old)
+
+-- ---- rows of whole numbers behind a list
+
+-- numbers that a row of whole numbers holds follow a list as the row follows its bytes
+pub numbers_behind : (size count : ℕ) (row ns ms : List ℕ) → IsSize size → AreOctets row → length row ≡ count * size
+    → ms ≡ ns ++ tabulate count (row_number LittleEndian size row) → bytes_in size ms ≡ bytes_in size ns ++ row
+numbers_behind size count row ns ms z o l e =
+    let s : 0 < size = some_size size z in
+    let more : List ℕ = tabulate count (row_number LittleEndian size row) in
+    let long : length ms ≡ length ns + count = ap (λ (xs : List ℕ). length xs) e ∙ length-append ns more ∙ ap (λ (m : ℕ). length ns + m) (length-map-range_with_len (row_number LittleEndian size row) 0 count) in
+    let all : length ms * size ≡ length ns * size + count * size = ap (λ (m : ℕ). m * size) long ∙ add-mul (length ns) count size in
+    let front : length (bytes_in size ns) ≡ length ns * size = length_bytes size ns in
+    let both : length (bytes_in size ns ++ row) ≡ length ns * size + count * size = length-append (bytes_in size ns) row ∙ (λ t. front t + l t) in
+    ext_get_or 0 (bytes_in size ms) (bytes_in size ns ++ row) (length_bytes size ms ∙ all ∙ sym both)
+    (λ i b.
+    let h : i < length ms * size = omega (arith, b, length_bytes size ms) in
+    byte_at size ms i h
+    ∙ ap (λ (xs : List ℕ). byte_of size (get_or xs (i / size) 0) (i % size)) e
+    ∙ ⊎_elim
+    (λ (a : i < length ns * size).
+    let k : i / size < length ns = div_below i size (length ns) s a in
+    ap (λ (x : ℕ). byte_of size x (i % size)) (get_or_append_left ns more 0 (i / size) k)
+    ∙ sym (byte_at size ns i a)
+    ∙ sym (get_or_append_left (bytes_in size ns) row 0 i (omega (arith, a, front))))
+    (λ (a : length ns * size ≤ i).
+    let k : length ns ≤ i / size = le-div (length ns) i size s a in
+    let j : ℕ = i / size - length ns in
+    let below : i / size < length ms = div_below i size (length ms) s h in
+    let r : j < count = omega (arith, below, long, k) in
+    let at : length ns + j ≡ i / size = omega (arith, k) in
+    let parts : length ns * size + j * size ≡ i / size * size = sym (add-mul (length ns) j size) ∙ ap (λ (m : ℕ). m * size) at in
+    let there : j * size + i % size ≡ i - length ns * size = omega (arith, parts, div-add-mod' i size) in
+    ap (λ (x : ℕ). byte_of size x (i % size))
+    (get_or-append_right ns more (length ns) (i / size) 0 refl k ∙ get_or-map-range_with_len (row_number LittleEndian size row) 0 count j j 0 r (omega arith))
+    ∙ byte_back size row j (i % size) z o (mod_below i size s)
+    ∙ ap (λ (m : ℕ). get_or row m 0) there
+    ∙ sym (get_or-append_right (bytes_in size ns) row (length ns * size) i 0 front a))
+    (cases_lt i (length ns * size)))
+
+-- one more number is appended
+pub pushed_more : {X : Type 0} (bits : X → ℕ) (size k : ℕ) (row : List ℕ) (old mid new : List X) (x : X) (pieces : List (List ℕ)) (piece d : List ℕ)
+    → pieces ≡ first_chunks size (length row / size) row → k < length row / size → piece ≡ get_or pieces k d → bits x ≡ number LittleEndian (width_of size) piece
+    → new ≡ mid ++ x ∷ [] → map bits mid ≡ map bits old ++ tabulate k (row_number LittleEndian size row)
+    → map bits new ≡ map bits old ++ tabulate (k + 1) (row_number LittleEndian size row)
+pushed_more bits size k row old mid new x pieces piece d are h here is more done =
+    let found : piece ≡ tabulate size (λ j. get_or row (k * size + j) 0) =
+    here ∙ (ap (λ (ps : List (List ℕ)). get_or ps k d) are ∙ (piece_at size (length row / size) row k d h ∙ sym (each_at size k row (within size (length row) k h)))) in
+    ap (map bits) more ∙ map-append bits mid (x ∷ [])
+    ∙ (λ t. done t ++ (is ∙ ap (number LittleEndian (width_of size)) found) t ∷ [])
+    ∙ append_assoc (map bits old) (tabulate k (row_number LittleEndian size row)) (row_number LittleEndian size row k ∷ [])
+    ∙ ap (λ (xs : List ℕ). map bits old ++ xs) (sym (map-range_with_len_more (row_number LittleEndian size row) 0 k k (omega arith)))
+
+-- The next piece of a row of whole numbers has whole numbers too, and a list with room for the rest
+-- of the row has room for the piece and then for what is left.
+pub record IsPiece (size at more have room : ℕ) (row piece : List ℕ) : Type 0 where
+  pub bytes : piece ≡ take more (drop at row)
+  pub whole : length piece / size * size ≡ length piece
+  pub fits : have + length piece / size ≤ room
+  pub next : (at + more) / size * size ≡ at + more
+  pub rest : have + length piece / size + (length row - (at + more)) / size ≤ room
+
+piece_numbers : (size at more len have room : ℕ) → IsSize size → len / size * size ≡ len → at / size * size ≡ at → at < len → more ≡ min 4096 (len - at)
+    → have + (len - at) / size ≤ room → (more / size * size ≡ more) × ((at + more) / size * size ≡ at + more) × (have + more / size + (len - (at + more)) / size ≤ room)
+piece_numbers size at more len have room z =
+    by_size
+    (λ (s : ℕ).
+    len / s * s ≡ len → at / s * s ≡ at → at < len → more ≡ min 4096 (len - at) → have + (len - at) / s ≤ room
+    → (more / s * s ≡ more) × ((at + more) / s * s ≡ at + more) × (have + more / s + (len - (at + more)) / s ≤ room))
+    size
+    (λ l a b m r. (omega (arith, l, a, b, m), omega (arith, l, a, b, m), omega (arith, l, a, b, m, r)))
+    (λ l a b m r. (omega (arith, l, a, b, m), omega (arith, l, a, b, m), omega (arith, l, a, b, m, r)))
+    (λ l a b m r. (omega (arith, l, a, b, m), omega (arith, l, a, b, m), omega (arith, l, a, b, m, r)))
+    (λ l a b m r. (omega (arith, l, a, b, m), omega (arith, l, a, b, m), omega (arith, l, a, b, m, r)))
+    z
+
+pub next_piece : (size at more have room : ℕ) (row : List ℕ) → IsSize size → length row / size * size ≡ length row → at / size * size ≡ at → at < length row
+    → more ≡ min 4096 (length row - at) → have + (length row - at) / size ≤ room → IsPiece size at more have room row (take (at + more - at) (drop at row))
+next_piece size at more have room row z l a b m r =
+    let p = piece_numbers size at more (length row) have room z l a b m r in
+    let e : at + more - at ≡ more = omega arith in
+    let bytes : take (at + more - at) (drop at row) ≡ take more (drop at row) = ap (λ (n : ℕ). take n (drop at row)) e in
+    let long : length (take (at + more - at) (drop at row)) ≡ more = ap (λ (xs : List ℕ). length xs) bytes ∙ length-take-le more (drop at row) (omega (arith, b, m, length-drop at row)) in
+    let count = ap (λ (n : ℕ). n / size) long in
+    record {
+      bytes = bytes;
+      whole = (λ t. count t * size) ∙ p.0 ∙ sym long;
+      fits = omega (arith, p.2, count);
+      next = p.1;
+      rest = omega (arith, p.2, count);
+    }
+
+-- the bytes of the next piece follow
+pub piece_behind : (at more : ℕ) (row piece old mid new : List ℕ) → piece ≡ take more (drop at row) → mid ≡ old ++ take at row → new ≡ mid ++ piece → new ≡ old ++ take (at + more) row
+piece_behind at more row piece old mid new is e f =
+    f ∙ (λ t. e t ++ is t) ∙ append_assoc old (take at row) (take more (drop at row))
+    ∙ ap (λ (xs : List ℕ). old ++ xs) (sym (take-add at more row))
+
+-- a row that follows a list's bytes is written at their end
+row_behind : (at : ℕ) (row old new : List ℕ) → length old ≡ at → new ≡ old ++ row → IsPut at row (old ++ replicate (length row) 0) new
+row_behind at row old new l e =
+    let now : length new ≡ at + length row = ap (λ (xs : List ℕ). length xs) e ∙ length-append old row ∙ ap (λ (m : ℕ). m + length row) l in
+    let was : length (old ++ replicate (length row) 0) ≡ at + length row = length-append old (replicate (length row) 0) ∙ (λ t. l t + length-replicate {A = ℕ} (length row) 0 t) in (
+      now ∙ sym was,
+      λ i h.
+          ⊎_elim
+          (λ (a : i < at).
+          inr (
+            λ p. absurd (omega (arith, p.0, a)),
+            ap (λ (xs : List ℕ). get_or xs i 0) e ∙ get_or_append_left old row 0 i (omega (arith, a, l)) ∙ sym (get_or_append_left old (replicate (length row) 0) 0 i (omega (arith, a, l))),
+          ))
+          (λ (a : at ≤ i). inl ((a, omega (arith, h, was)), ap (λ (xs : List ℕ). get_or xs i 0) e ∙ get_or-append_right old row at i 0 l a))
+          (cases_lt i at),
+    )
+
+whole_sum : (size count len : ℕ) → IsSize size → len % size ≡ 0 → div_ceil (count * size + len) size * size ≡ count * size + len
+whole_sum size count len z =
+    by_size (λ (s : ℕ). len % s ≡ 0 → div_ceil (count * s + len) s * s ≡ count * s + len) size
+    (λ e. omega (arith, e)) (λ e. omega (arith, e)) (λ e. omega (arith, e)) (λ e. omega (arith, e)) z
+
+-- a row of whole numbers that follows a list's bytes is written among the zeros after them
+pub row_pushed : {E T : Type 0} (r : Result (Unit {0}) E) (bits : T → ℕ) (size at : ℕ) (row : List ℕ) (old new : List T) → IsSize size → length (bytes_in size (map bits old)) ≡ at
+    → length row % size ≡ 0 → OnOk r (bytes_in size (map bits new) ≡ bytes_in size (map bits old) ++ row)
+    → OnOk r (IsPut at row (filled_to (div_ceil (at + length row) size * size) (bytes_in size (map bits old))) (bytes_in size (map bits new)))
+row_pushed (Err e) bits size at row old new z l w h = tt
+row_pushed (Ok x) bits size at row old new z l w h =
+    let bytes : List ℕ = bytes_in size (map bits old) in
+    let count : ℕ = length (map bits old) in
+    let a : count * size ≡ at = sym (length_bytes size (map bits old)) ∙ l in
+    let all : div_ceil (at + length row) size * size ≡ at + length row = ap (λ (m : ℕ). div_ceil (m + length row) size * size) (sym a) ∙ whole_sum size count (length row) z w ∙ ap (λ (m : ℕ). m + length row) a in
+    let rest : length row ≡ div_ceil (at + length row) size * size - length bytes = omega (arith, all, l) in
+    subst (λ (k : ℕ). IsPut at row (bytes ++ replicate k 0) (bytes_in size (map bits new))) rest (row_behind at row bytes (bytes_in size (map bits new)) l h)
+
+-- a list ends at its last byte
+pub ends_there : {X : Type 0} (bits : X → ℕ) (size at : ℕ) (xs : List X) → 0 < size → (at % size ≡ 0) × (length xs ≡ at / size) → length (bytes_in size (map bits xs)) ≡ at
+ends_there bits size at xs s h =
+    length_bytes size (map bits xs) ∙ ap (λ (m : ℕ). m * size) (length-map xs bits ∙ h.1) ∙ sym (of_whole at size h.0)
+
+pub ends_back : {X : Type 0} (bits : X → ℕ) (size at : ℕ) (xs : List X) → 0 < size → length (bytes_in size (map bits xs)) ≡ at → (at % size ≡ 0) × (length xs ≡ at / size)
+ends_back bits size at xs s e =
+    let all : length xs * size ≡ at = sym (length_bytes size (map bits xs) ∙ ap (λ (m : ℕ). m * size) (length-map xs bits)) ∙ e in
+    (ap (λ (m : ℕ). m % size) (sym all) ∙ mul-mod_left (length xs) size, sym (mul-div_cancel (length xs) s) ∙ ap (λ (m : ℕ). m / size) all)
+
+-- a list that grew for a row, and the row that is written into it
+module _ {T : Type 0} (bits : T → ℕ) (size at count : ℕ) (row : List ℕ) (old grown now : List T) (z : IsSize size) (enough : count ≡ div_ceil (at + length row) size) (grew : map bits grown ≡ map bits old ++ replicate (count - length old) 0) (is : now ≡ grown) where
+  grown_is : bytes_in size (map bits now) ≡ filled_to (div_ceil (at + length row) size * size) (bytes_in size (map bits old))
+  grown_is =
+      let e : count - length old ≡ count - length (map bits old) = ap (λ (k : ℕ). count - k) (sym (length-map old bits)) in
+      ap (λ (xs : List T). bytes_in size (map bits xs)) is
+      ∙ zero_bytes_behind size (map bits old) (map bits grown) count z (grew ∙ ap (λ (k : ℕ). map bits old ++ replicate k 0) e)
+      ∙ ap (λ (k : ℕ). filled_to (k * size) (bytes_in size (map bits old))) enough
+
+  pub row_has_room : at + length row ≤ length (bytes_in size (map bits now))
+  row_has_room =
+      let bytes : List ℕ = bytes_in size (map bits old) in
+      let whole : ℕ = div_ceil (at + length row) size * size in
+      let long : length (bytes_in size (map bits now)) ≡ length bytes + (whole - length bytes) =
+      ap (λ (xs : List ℕ). length xs) grown_is ∙ length-append bytes (replicate (whole - length bytes) 0) ∙ ap (λ (k : ℕ). length bytes + k) (length-replicate {A = ℕ} (whole - length bytes) 0) in
+      omega (arith, long, (whole_enough size z (at + length row) (at + length row) (omega arith)).0)
+
+  pub row_put_grown : (put : List T) (n : ℕ) → length put ≡ n → IsPut at row (bytes_in size (map bits now)) (bytes_in size (map bits put))
+      → IsPut at row (filled_to (div_ceil (at + length row) size * size) (bytes_in size (map bits old))) (bytes_in size (map bits (take n (put ++ drop (length put) grown))))
+  row_put_grown put n all w =
+      let same : put ≡ take n (put ++ drop (length put) grown) = sym (ap (λ (m : ℕ). take m (put ++ drop (length put) grown)) (sym all) ∙ take-append_seam put (drop (length put) grown)) in
+      subst (λ (xs : List ℕ). IsPut at row xs (bytes_in size (map bits (take n (put ++ drop (length put) grown))))) grown_is
+      (subst (λ (xs : List T). IsPut at row (bytes_in size (map bits now)) (bytes_in size (map bits xs))) same w)
+
+-- ---- lists of bytes
+
+plain_bytes : (ns : List ℕ) → bytes_in 1 (map (λ (x : ℕ). x) ns) ≡ ns
+plain_bytes ns =
+    let one : length ns * 1 ≡ length ns = omega arith in
+    ap (bytes_in 1) (map-id ns)
+    ∙ ext_get_or 0 (bytes_in 1 ns) ns (length_bytes 1 ns ∙ one)
+    (λ i b.
+    let h : i < length ns * 1 = omega (arith, b, length_bytes 1 ns) in
+    let m : i % 1 ≡ 0 = omega arith in
+    byte_at 1 ns i h ∙ ap (byte_of 1 (get_or ns (i / 1) 0)) m ∙ div-one (get_or ns (i / 1) 0) ∙ ap (λ (k : ℕ). get_or ns k 0) (div-one i))
+
+-- a row that is written into a list of bytes
+pub plain_put : (at : ℕ) (row old new : List ℕ)
+    → IsPut at row (filled_to (div_ceil (at + length row) 1 * 1) (bytes_in 1 (map (λ (x : ℕ). x) old))) (bytes_in 1 (map (λ (x : ℕ). x) new))
+    → IsPut at row (filled_to (at + length row) old) new
+plain_put at row old new h =
+    let all : div_ceil (at + length row) 1 * 1 ≡ at + length row = omega arith in
+    subst (λ (xs : List ℕ). IsPut at row (filled_to (at + length row) old) xs) (plain_bytes new)
+    (subst (λ (xs : List ℕ). IsPut at row (filled_to (at + length row) xs) (bytes_in 1 (map (λ (x : ℕ). x) new))) (plain_bytes old)
+    (subst (λ (n : ℕ). IsPut at row (filled_to n (bytes_in 1 (map (λ (x : ℕ). x) old))) (bytes_in 1 (map (λ (x : ℕ). x) new))) all h))
 
 -- ---- numbers of one byte
 

@@ -1,5 +1,5 @@
 -- The samples of an image or a chunk, whose bytes are written into a list of numbers.
-use Rattle.std.proofs.Common.{◌≡◌, ℕ, zero, suc, ◌+◌, ◌*◌, ◌/◌, ◌%◌, ◌<◌, ◌≤◌, true, false, List, length, get_or, None, Ok, Err, refl, ap, sym, subst, ◌∙◌, arith, ⊎_elim}
+use Rattle.std.proofs.Common.{◌≡◌, ℕ, ◌+◌, ◌*◌, ◌/◌, ◌%◌, ◌<◌, ◌≤◌, true, false, List, length, get_or, None, Ok, Err, refl, ap, sym, subst, ◌∙◌, arith, ⊎_elim}
 use Rattle.std.specs.Prelude.{replicate, unwrap_or, nat_lt}
 use Rattle.std.specs.Int.{div_ceil}
 use Rattle.std.proofs.lemmas.Bool.{cases_Bool, cases_lt, le-ltb}
@@ -31,6 +31,7 @@ use Rattle.tiff_page.specs.Rect.{rect}
 use Rattle.tiff_page.specs.Row.{IsSize}
 use Rattle.tiff_page.specs.Samples.{color_in, first_in, part_of, IsLaid, room_of}
 use Rattle.tiff_page.proofs.Cut.{image_early, chunk_early}
+use Rattle.tiff_page.proofs.Filled.{zero_in}
 use Rattle.tiff_page.proofs.NumberBytes.{some_size, numbers_again, zeros_in, numbers_are}
 use Rattle.tiff_page.proofs.PositionLaws.{chunks_within, cases_fault}
 use Rattle.tiff_page.proofs.Planes.{layout_gives}
@@ -89,11 +90,6 @@ module _ (file : List ℕ) (order : ByteOrder) (p : PageRecord) where
       past color (part_of file order p (Chunk color k stride)).region stride 1 i laid.1 (chunks_within p k sides).some_row (omega (arith, behind, mul_comm (rect p k).height stride))
 
 -- ---- lists of zeros that are longer
-
-zero_in : (n i : ℕ) → get_or {A = ℕ} (replicate n 0) i 0 ≡ 0
-zero_in zero i = refl
-zero_in (suc n) zero = refl
-zero_in (suc n) (suc i) = zero_in n i
 
 pub placed_in_zeros : (file : List ℕ) (order : ByteOrder) (p : PageRecord) (color : ColorType) (region : Region) (stride planes n : ℕ)
     → bytes_with_region file order p color region stride planes (replicate n 0) ≡ tabulate n (λ i. unwrap_or (byte_at file order p color region stride planes i) 0)

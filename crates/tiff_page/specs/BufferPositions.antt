@@ -1,5 +1,5 @@
 -- Which positions of a buffer are written: rows a stride apart, in planes one after another.
-use Rattle.std.specs.Prelude.{◌≡◌, ℕ, ◌+◌, ◌-◌, ◌*◌, ◌/◌, ◌%◌, ◌<◌, ◌≤◌, ◌⊎◌, List, length, slice_index}
+use Rattle.std.specs.Prelude.{◌≡◌, ℕ, ◌+◌, ◌-◌, ◌*◌, ◌/◌, ◌%◌, ◌<◌, ◌≤◌, ◌⊎◌, ◌++◌, List, length, replicate, slice_index}
 use Rattle.tiff_base.specs.declared.color.ColorType.{ColorType}
 use Rattle.tiff_base.specs.declared.tags.ByteOrder.{ByteOrder}
 use Rattle.tiff_page.specs.Page.{PageRecord}
@@ -39,6 +39,18 @@ abbrev pub WritesChunk : List ℕ → ByteOrder → PageRecord → ColorType →
 WritesChunk file order p color k stride top left old new =
     Writes (IsIn stride top (rect p k).height left (row_bytes p color (rect p k).width))
     (in_rect (chunk_byte file order p color k) stride top left) old new
+
+-- a list with zeros after it, up to a length
+abbrev pub filled_to : ℕ → List ℕ → List ℕ
+filled_to total bytes = bytes ++ replicate (total - length bytes) 0
+
+-- A list grows to hold the rows of a chunk, which end at byte `end`: with zeros after it, up to any
+-- length from there on, it is a buffer into which they are written.
+abbrev pub GrowsByChunk : List ℕ → ByteOrder → PageRecord → ColorType → ℕ → ℕ → ℕ → ℕ → ℕ → List ℕ
+    → List ℕ → Type 0
+GrowsByChunk file order p color k stride top left end old new =
+    (total : ℕ) → end ≤ total
+    → WritesChunk file order p color k stride top left (filled_to total old) (filled_to total new)
 
 -- planes of an image in a buffer
 module _ (p : PageRecord) (color : ColorType) (stride : ℕ) where
@@ -100,6 +112,13 @@ abbrev pub WritesNext : List ℕ → ByteOrder → PageRecord → ColorType → 
 WritesNext file order p color stride n j old new =
     (before : List ℕ) → WritesBefore file order p color stride n j 0 before old
     → WritesBefore file order p color stride n j n before new
+
+-- a list grows to hold the j-th chunk of each of n planes, which end at byte `end`
+abbrev pub GrowsByNext : List ℕ → ByteOrder → PageRecord → ColorType → ℕ → ℕ → ℕ → ℕ → List ℕ
+    → List ℕ → Type 0
+GrowsByNext file order p color stride n j end old new =
+    (total : ℕ) → end ≤ total
+    → WritesNext file order p color stride n j (filled_to total old) (filled_to total new)
 
 -- a position of a chunk in a buffer or of the chunks of further planes after it: n planes of `rows`
 -- rows of `len` bytes

@@ -9,7 +9,7 @@ ghost use Rattle.tiff_page.specs.Layout.{row_bytes};
 ghost use Rattle.tiff_page.specs.Methods.{method_fault};
 ghost use Rattle.tiff_page.specs.PixelFault.{fail_if};
 ghost use Rattle.tiff_page.specs.Pixels.{is_short};
-ghost use Rattle.tiff_page.specs.BufferPositions.{WritesChunk};
+ghost use Rattle.tiff_page.specs.BufferPositions.{GrowsByChunk, WritesChunk};
 ghost use Rattle.tiff_page.specs.ReadablePage.{IsRead};
 ghost use Rattle.tiff_page.specs.Rect.{rect};
 ghost use Rattle.tiff_page.specs.AdjacentRows.{LieTogether};
@@ -119,6 +119,61 @@ impl ChunkReader<'_> {
             let len = more * destination.stride;
             let next = RowSlot { format, len, at };
             writer.read_band(source, &mut cursor, &next, buf)?;
+            row += more;
+        }
+        Ok(())
+    }
+
+    /// Appends the rows of a chunk whose rows lie together to a list, from the start of the chunk's
+    /// data, or reads them into the bytes that the list has.
+    pub(crate) fn append_contiguous<R: Source, T, W: RowSink<T>>(
+        &self,
+        source: &mut R,
+        destination: Destination,
+        writer: &mut W,
+        list: &mut Vec<T>,
+    ) -> TiffResult<()>
+        requires read { IsRead (view.page self.now.format.page.now) self.now.format.color }
+        requires formed { method_fault self.now.format.page.now.method ≡ Ok tt }
+        requires listed { self.now.index < length self.now.format.page.now.offsets }
+        requires some { 0 < destination.stride }
+        requires together { LieTogether (view.page self.now.format.page.now) self.now.format.color
+            (row_bytes (view.page self.now.format.page.now) self.now.format.color
+            (rect (view.page self.now.format.page.now) self.now.index).width)
+            destination.left destination.stride }
+        requires few { (destination.top + (rect (view.page self.now.format.page.now)
+            self.now.index).height)
+            * destination.stride < 2 ^ 64 }
+        ensures kept { IsKept R.told R.failures result source.old source.new }
+        ensures ok { OnOk result
+            (GrowsByChunk (R.told source.old).bytes self.now.format.order
+            (view.page self.now.format.page.now)
+            self.now.format.color
+            self.now.index destination.stride destination.top destination.left
+            (W.whole ((destination.top + (rect (view.page self.now.format.page.now)
+            self.now.index).height) * destination.stride))
+            (W.bytes list.old.items) (W.bytes list.new.items)) }
+        ensures answer { Answers (λ _. tt) result (fail_if
+            (is_short (R.told source.old).bytes self.now.format.order
+            (view.page self.now.format.page.now)
+            self.now.format.color self.now.index)
+            (tiff.IoError io.UnexpectedEof)) (R.failures source.old) (R.failures source.new) }
+        ensures asked { AsksOnly
+            (ChunkReadable (R.told source.old) (view.page self.now.format.page.now)
+            self.now.format.color
+            self.now.index) result }
+    {
+        let format = self.format;
+        let rows = self.height as usize;
+        let mut cursor = self.front();
+        let band = rows_at_once(&cursor, destination.stride, BAND);
+        let mut row = 0;
+        while row < rows {
+            let more = band.min(rows - row);
+            let at = (destination.top + row) * destination.stride;
+            let len = more * destination.stride;
+            let next = RowSlot { format, len, at };
+            writer.append_band(source, &mut cursor, &next, list)?;
             row += more;
         }
         Ok(())

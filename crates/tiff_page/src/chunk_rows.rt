@@ -1,6 +1,6 @@
 //! Reads the rows of a chunk into a buffer.
 
-ghost use Rattle.std.specs.Prelude.{◌≡◌, ℕ, List, ◌+◌, ◌-◌, ◌*◌, Ok, ◌<◌, ◌≤◌, ◌^◌, length, OnOk};
+ghost use Rattle.std.specs.Prelude.{◌≡◌, ℕ, List, ◌+◌, ◌-◌, ◌*◌, Ok, ◌<◌, ◌≤◌, ◌^◌, IsTrue, length, OnOk};
 ghost use Rattle.tiff_base.specs.Answers.{Answers, AsksOnly, IsKept};
 ghost use Rattle.tiff_base.specs.SourceAndSink.{SourceRecord};
 ghost use Rattle.tiff_base.specs.declared.error.TiffError.TheVariants as tiff;
@@ -10,8 +10,9 @@ ghost use Rattle.tiff_page.specs.Layout.{row_bytes};
 ghost use Rattle.tiff_page.specs.Methods.{method_fault};
 ghost use Rattle.tiff_page.specs.PixelFault.{fail_if};
 ghost use Rattle.tiff_page.specs.Pixels.{chunk_data, is_short, stored_row_bytes, needed_of_row};
-ghost use Rattle.tiff_page.specs.BufferPositions.{WritesChunk};
+ghost use Rattle.tiff_page.specs.BufferPositions.{GrowsByChunk, WritesChunk};
 ghost use Rattle.tiff_page.specs.ReadablePage.{IsRead};
+ghost use Rattle.tiff_page.specs.AdjacentRows.{LieTogether};
 ghost use Rattle.tiff_page.specs.Rect.{rect};
 ghost use Rattle.tiff_page.specs.ChunkData.{bytes_left};
 ghost use Rattle.tiff_page.specs.Reach.{StoredReadable, DataReadable, ChunkReadable};
@@ -22,6 +23,10 @@ use crate::output_row::{RowFormat, needs_whole_rows, row_len, stored_row_bytes};
 use crate::writer::{RowSink, RowSlot};
 use tiff_base::error::TiffResult;
 use tiff_base::io::Source;
+
+// The number of bytes of the longest row that is appended to a list. What is appended is read into
+// a scratch buffer first, and of longer rows that would be much memory.
+const LONGEST_APPENDED: usize = 65536;
 
 /// Reads the rows of a chunk of a page, in the color of the output.
 #[derive(Clone, Copy)]
@@ -180,5 +185,69 @@ impl ChunkReader<'_> {
             return self.read_contiguous(source, destination, writer, buf);
         }
         self.read_each(source, destination, writer, buf)
+    }
+
+    // Whether the rows are appended to a list, and not read into zeros: they lie together, begin
+    // where the list ends, and aren't too long for a scratch buffer. The bytes of the list don't
+    // depend on it.
+    fn is_appended<T, W: RowSink<T>>(&self, destination: Destination, list: &[T]) -> bool
+        requires few { destination.top * destination.stride < 2 ^ 64 }
+        ensures { IsTrue result → LieTogether (view.page self.now.format.page.now)
+            self.now.format.color
+            (row_bytes (view.page self.now.format.page.now) self.now.format.color
+            (rect (view.page self.now.format.page.now) self.now.index).width)
+            destination.left destination.stride }
+    {
+        destination.stride <= LONGEST_APPENDED
+            && self.is_contiguous(destination)
+            && W::ends_at(list, destination.top * destination.stride)
+    }
+
+    /// Reads the rows into a list, which grows by zeros where it is too short. Rows that lie
+    /// together, and begin where the list ends, are appended.
+    pub(crate) fn append_rows<R: Source, T, W: RowSink<T>>(
+        &self,
+        source: &mut R,
+        destination: Destination,
+        writer: &mut W,
+        list: &mut Vec<T>,
+    ) -> TiffResult<()>
+        requires read { IsRead (view.page self.now.format.page.now) self.now.format.color }
+        requires formed { method_fault self.now.format.page.now.method ≡ Ok tt }
+        requires listed { self.now.index < length self.now.format.page.now.offsets }
+        requires some { 0 < destination.stride }
+        requires columns { destination.left + row_bytes (view.page self.now.format.page.now)
+            self.now.format.color
+            (rect (view.page self.now.format.page.now) self.now.index).width ≤ destination.stride }
+        requires few { (destination.top + (rect (view.page self.now.format.page.now)
+            self.now.index).height)
+            * destination.stride < 2 ^ 64 }
+        ensures kept { IsKept R.told R.failures result source.old source.new }
+        ensures ok { OnOk result
+            (GrowsByChunk (R.told source.old).bytes self.now.format.order
+            (view.page self.now.format.page.now)
+            self.now.format.color
+            self.now.index destination.stride destination.top destination.left
+            (W.whole ((destination.top + (rect (view.page self.now.format.page.now)
+            self.now.index).height) * destination.stride))
+            (W.bytes list.old.items) (W.bytes list.new.items)) }
+        ensures answer { Answers (λ _. tt) result (fail_if
+            (is_short (R.told source.old).bytes self.now.format.order
+            (view.page self.now.format.page.now)
+            self.now.format.color self.now.index)
+            (tiff.IoError io.UnexpectedEof)) (R.failures source.old) (R.failures source.new) }
+        ensures asked { AsksOnly
+            (ChunkReadable (R.told source.old) (view.page self.now.format.page.now)
+            self.now.format.color
+            self.now.index) result }
+    {
+        if self.is_appended::<T, W>(destination, list) {
+            return self.append_contiguous(source, destination, writer, list);
+        }
+        W::grow(
+            list,
+            (destination.top + self.height as usize) * destination.stride,
+        )?;
+        self.read_rows(source, destination, writer, list)
     }
 }

@@ -1,10 +1,12 @@
 //! Lists of numbers into which rows of bytes are written.
 
 ghost use Rattle.std.proofs.Common.{refl, inl, inr};
-ghost use Rattle.std.specs.Int.{w8, w16, w32, w64, cast_unsigned};
-ghost use Rattle.std.specs.Prelude.{◌≡◌, ℕ, ◌+◌, ◌-◌, ◌*◌, ◌/◌, ◌^◌, ◌≤◌, ◌<◌, ◌++◌, length, map, replicate, ◌∷◌, [], OnOk};
+ghost use Rattle.std.specs.Int.{div_ceil, w8, w16, w32, w64, cast_unsigned};
+ghost use Rattle.std.specs.Prelude.{◌≡◌, ℕ, ◌+◌, ◌-◌, ◌*◌, ◌/◌, ◌%◌, ◌^◌, ◌≤◌, ◌<◌, ◌↔◌, ◌++◌, IsTrue, length, map, replicate, ◌∷◌, [], OnOk};
+ghost use Rattle.std.specs.Vec.{vec_capacity, vec_len};
 ghost use Rattle.tiff_base.specs.Number.{number};
 ghost use Rattle.tiff_base.specs.declared.tags.ByteOrder.TheVariants.{LittleEndian};
+ghost use Rattle.tiff_page.specs.BufferPositions.{filled_to};
 ghost use Rattle.tiff_page.specs.NumberBytes.{all_bytes, bytes_in, IsPut, NumbersArePut};
 ghost use Rattle.tiff_page.specs.Pixels.{width_of};
 ghost use Rattle.tiff_page.specs.Row.{IsSize};
@@ -357,4 +359,77 @@ pub(crate) fn put_row<T: Number<N>, const N: usize>(numbers: &mut [T], at: usize
     } else {
         put_bytes(numbers, at, row);
     }
+}
+
+// The number of bytes that are appended at once. Longer copies into memory that was never written
+// take a quarter longer.
+const PIECE: usize = 4096;
+
+/// Whether a list of numbers has `at` bytes.
+#[tactic(auto, using(crate::proofs::NumberBytes::ends_there, crate::proofs::NumberBytes::ends_back))]
+pub(crate) fn ends_at<T: Number<N>, const N: usize>(numbers: &[T], at: usize) -> bool
+    requires some { 0 < N }
+    ensures { IsTrue result ↔ (length (bytes_in N (map T.bits numbers.now)) ≡ at) }
+{
+    at % N == 0 && numbers.len() == at / N
+}
+
+// Appends the numbers of a row of whole numbers to a list that has room for them. The loop has only
+// one index, so that LLVM vectorizes it.
+#[tactic(auto, using(crate::proofs::NumberBytes::pushed_more, crate::proofs::NumberBytes::numbers_behind))]
+fn push_numbers<T: Number<N>, const N: usize>(numbers: &mut Vec<T>, row: &[u8])
+    requires some { 0 < N }
+    requires whole { length row.now / N * N ≡ length row.now }
+    requires room { vec_len numbers.old + length row.now / N ≤ vec_capacity numbers.old }
+    ensures bytes { bytes_in N (map T.bits numbers.new.items)
+        ≡ bytes_in N (map T.bits numbers.old.items) ++ row.now }
+    ensures len { vec_len numbers.new ≡ vec_len numbers.old + length row.now / N }
+    ensures capacity { vec_capacity numbers.new ≡ vec_capacity numbers.old }
+{
+    let (pieces, _) = row.as_chunks::<N>();
+    for k in 0..pieces.len() {
+        numbers.push_reserved(T::of(pieces[k]));
+    }
+}
+
+// Appends the numbers of a row of whole numbers to a list.
+fn push_row<T: Number<N>, const N: usize>(
+    numbers: &mut Vec<T>,
+    row: &[u8],
+) -> Result<(), AllocError>
+    requires some { 0 < N }
+    requires whole { length row.now / N * N ≡ length row.now }
+    ensures { OnOk result (bytes_in N (map T.bits numbers.new.items)
+        ≡ bytes_in N (map T.bits numbers.old.items) ++ row.now) }
+{
+    numbers.reserve(row.len() / N)?;
+    let mut at = 0;
+    while at < row.len() {
+        let more = PIECE.min(row.len() - at);
+        push_numbers(numbers, &row[at..at + more]);
+        at += more;
+    }
+    Ok(())
+}
+
+/// Writes a row at a position among the bytes of numbers. A list that is too short grows by zeros.
+#[tactic(auto, using(crate::proofs::NumberBytes::row_pushed))]
+pub(crate) fn append_row<T: Number<N>, const N: usize>(
+    numbers: &mut Vec<T>,
+    at: usize,
+    row: &[u8],
+) -> Result<(), AllocError>
+    requires some { 0 < N }
+    requires fits { at + length row.now < 2 ^ 64 }
+    ensures { OnOk result (IsPut at row.now
+        (filled_to (div_ceil (at + length row.now) N * N)
+        (bytes_in N (map T.bits numbers.old.items)))
+        (bytes_in N (map T.bits numbers.new.items))) }
+{
+    if ends_at(numbers, at) && row.len() % N == 0 {
+        return push_row(numbers, row);
+    }
+    grow(numbers, (at + row.len()).div_ceil(N))?;
+    put_row(numbers, at, row);
+    Ok(())
 }

@@ -6,7 +6,7 @@ ghost use Rattle.tiff_page.specs.Layout.{color_of, layout_of, row_bytes};
 ghost use Rattle.tiff_page.specs.PixelCalls.{fill_buffer, image_part, chunk_part};
 ghost use Rattle.tiff_page.specs.PixelFault.{chunk_fault, each_below};
 ghost use Rattle.tiff_page.specs.Pixels.{is_short};
-ghost use Rattle.tiff_page.specs.BufferPositions.{HoldsChunk, WritesNext, top_of, left_of};
+ghost use Rattle.tiff_page.specs.BufferPositions.{GrowsByNext, HoldsChunk, WritesNext, top_of, left_of};
 ghost use Rattle.tiff_page.specs.Reach.{PartReadable};
 ghost use Rattle.tiff_page.specs.Rect.{rect, chunks_of_plane};
 ghost use Rattle.tiff_page.specs.PageView as view;
@@ -72,29 +72,6 @@ fn image_destination(page: &Page, layout: PlaneLayout, plane: u16, chunk: u32) -
     }
 }
 
-// Returns how many bytes from the start of a buffer hold the rows of a chunk of an image: up to the
-// last row of the chunk for one plane, or all planes for several.
-fn bytes_up_to(page: &Page, part: ImagePlanes, chunk: u32) -> usize
-    requires laid { layout_of (view.page page.now) page.now.width page.now.height ≡ Ok
-        (record {
-          color = part.layout.color;
-          row_bytes = part.layout.row_bytes;
-          plane_stride = part.layout.plane_stride;
-        }) }
-    requires few { part.planes * part.layout.plane_stride < 2 ^ 64 }
-    requires some { 0 < part.planes }
-    requires chunk { chunk < chunks_of_plane (view.page page.now) }
-    ensures holds { HoldsChunk (view.page page.now) part.layout.color part.layout.row_bytes part.planes chunk
-        result }
-    ensures within { result ≤ part.planes * part.layout.plane_stride }
-{
-    if part.planes > 1 {
-        return usize::from(part.planes) * part.layout.plane_stride;
-    }
-    let rect = rect(page, chunk);
-    (rect.y as usize + rect.height as usize) * part.layout.row_bytes
-}
-
 impl PageReader<'_> {
     // Reads a chunk of an image in all planes of the request.
     fn fill_chunk<R: Source, T, W: RowSink<T>>(
@@ -154,6 +131,65 @@ impl PageReader<'_> {
         Ok(())
     }
 
+    // Reads a chunk of an image in all planes of the request into a list, which grows where it is
+    // too short.
+    fn grow_chunk<R: Source, T, W: RowSink<T>>(
+        &self,
+        source: &mut R,
+        next: ChunkRequest,
+        writer: &mut W,
+        list: &mut Vec<T>,
+    ) -> TiffResult<()>
+        requires laid { layout_of (view.page self.now.page.now) self.now.page.now.width
+            self.now.page.now.height ≡ Ok (record {
+              color = next.part.layout.color;
+              row_bytes = next.part.layout.row_bytes;
+              plane_stride = next.part.layout.plane_stride;
+            }) }
+        requires few { next.part.planes * next.part.layout.plane_stride < 2 ^ 64 }
+        requires chunk { next.chunk < chunks_of_plane (view.page self.now.page.now) }
+        ensures kept { IsKept R.told R.failures result source.old source.new }
+        ensures ok { OnOk result
+            (GrowsByNext (R.told source.old).bytes self.now.order (view.page self.now.page.now)
+            next.part.layout.color next.part.layout.row_bytes next.part.planes next.chunk
+            (W.whole (next.part.planes * next.part.layout.plane_stride))
+            (W.bytes list.old.items) (W.bytes list.new.items)) }
+        ensures answer { Answers (λ _. tt) result
+            (each_below (λ plane. chunk_fault (view.page self.now.page.now)
+            self.now.limits.now (is_short (R.told source.old).bytes self.now.order (view.page self.now.page.now)
+            next.part.layout.color) next.part.layout.color
+            (plane * chunks_of_plane (view.page self.now.page.now) + (0 + next.chunk)))
+            next.part.planes)
+            (R.failures source.old) (R.failures source.new) }
+        ensures asked { AsksOnly
+            (PartReadable (R.told source.old) (view.page self.now.page.now) next.part.layout.color
+            (chunk_part (view.page self.now.page.now)
+            next.chunk next.part.planes next.part.layout.row_bytes)) result }
+    {
+        let page = self.page;
+        let layout = next.part.layout;
+        let in_plane = chunks_of_plane(page) as usize;
+        for plane in 0..next.part.planes {
+            let index = usize::from(plane) * in_plane + next.chunk as usize;
+            form_fault(page, self.limits, layout.color, index)?;
+            let destination = image_destination(page, layout, plane, next.chunk);
+            let (width, height) = chunk_data_dimensions(page, index as u32);
+            let format = RowFormat {
+                page,
+                order: self.order,
+                color: layout.color,
+                width,
+            };
+            let reader = ChunkReader {
+                format,
+                index: index as u32,
+                height,
+            };
+            reader.append_rows(source, destination, writer, list)?;
+        }
+        Ok(())
+    }
+
     /// Reads all chunks of an image into the bytes of a list, in `part.planes` planes one after
     /// another. Returns the first error: that of the first chunk, and in it of the first plane,
     /// that has one.
@@ -192,9 +228,9 @@ impl PageReader<'_> {
     }
 
     /// Reads all chunks of an image into an empty list, in `part.planes` planes one after another.
-    /// The list becomes `len` bytes long, rounded up to whole items: it grows by zeros before each
-    /// chunk, and after the last. Returns the first error: that of the first chunk, and in it of
-    /// the first plane, that has one.
+    /// The list becomes `len` bytes long, rounded up to whole items: it grows by each chunk, and by
+    /// zeros before a chunk that can't be appended, and after the last. Returns the first error:
+    /// that of the first chunk, and in it of the first plane, that has one.
     pub(crate) fn grow_image<R: Source, T, W: RowSink<T>>(
         &self,
         source: &mut R,
@@ -225,8 +261,7 @@ impl PageReader<'_> {
             part.planes part.layout.row_bytes)) result }
     {
         for chunk in 0..chunks_of_plane(self.page) {
-            W::grow(list, bytes_up_to(self.page, part, chunk))?;
-            self.fill_chunk(source, ChunkRequest { part, chunk }, writer, list)?;
+            self.grow_chunk(source, ChunkRequest { part, chunk }, writer, list)?;
         }
         W::grow(list, len)?;
         Ok(())
@@ -289,9 +324,8 @@ impl PageReader<'_> {
         Ok(())
     }
 
-    /// Reads a chunk, or the chunk of each of `unit.planes` planes, into an empty list, which
-    /// becomes `len` bytes long, rounded up to whole items: the planes one after another, the rows
-    /// `unit.stride` bytes apart. Returns the first error.
+    /// Reads a chunk into an empty list, which becomes `len` bytes long, rounded up to whole items:
+    /// the rows `unit.stride` bytes apart. Returns the first error.
     pub(crate) fn grow_unit<R: Source, T, W: RowSink<T>>(
         &self,
         source: &mut R,
@@ -303,10 +337,9 @@ impl PageReader<'_> {
         requires colored { color_of (view.page self.now.page.now) ≡ Ok unit.color }
         requires columns { row_bytes (view.page self.now.page.now) unit.color
             (rect (view.page self.now.page.now) unit.index).width ≤ unit.stride }
-        requires some { 0 < unit.planes }
+        requires one { unit.planes ≡ 1 }
         requires room { unit.planes * ((rect (view.page self.now.page.now) unit.index).height * unit.stride)
             ≤ len }
-        requires which { (unit.planes ≡ 1) ⊎ (unit.index < chunks_of_plane (view.page self.now.page.now)) }
         requires none { list.old.items ≡ [] }
         ensures kept { IsKept R.told R.failures result source.old source.new }
         ensures answer { Answers (λ _. W.bytes list.new.items) result
@@ -319,7 +352,27 @@ impl PageReader<'_> {
             (chunk_part (view.page self.now.page.now)
             unit.index unit.planes unit.stride)) result }
     {
+        let page = self.page;
+        form_fault(page, self.limits, unit.color, unit.index as usize)?;
+        let destination = Destination {
+            top: 0,
+            left: 0,
+            stride: unit.stride,
+        };
+        let (width, height) = chunk_data_dimensions(page, unit.index);
+        let format = RowFormat {
+            page,
+            order: self.order,
+            color: unit.color,
+            width,
+        };
+        let reader = ChunkReader {
+            format,
+            index: unit.index,
+            height,
+        };
+        reader.append_rows(source, destination, writer, list)?;
         W::grow(list, len)?;
-        self.fill_unit(source, unit, writer, list)
+        Ok(())
     }
 }

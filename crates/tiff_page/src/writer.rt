@@ -1,9 +1,10 @@
 //! Writes the rows of a chunk into a list of bytes or of numbers.
 
-ghost use Rattle.std.specs.Prelude.{◌≡◌, ℕ, ◌+◌, ◌-◌, ◌*◌, ◌/◌, ◌^◌, ◌<◌, ◌≤◌, ◌⊎◌, ◌++◌, List, [], length, map, replicate, false, OnOk, refl};
+ghost use Rattle.std.specs.Prelude.{◌≡◌, ℕ, ◌+◌, ◌*◌, ◌/◌, ◌^◌, ◌<◌, ◌≤◌, ◌⊎◌, ◌↔◌, IsTrue, List, [], length, map, false, OnOk, refl};
 ghost use Rattle.std.specs.Int.{div_ceil};
 ghost use Rattle.tiff_base.specs.Answers.{AsksOnly, IsKept};
 ghost use Rattle.tiff_page.specs.Layout.{row_bytes};
+ghost use Rattle.tiff_page.specs.BufferPositions.{filled_to};
 ghost use Rattle.tiff_page.specs.NumberBytes.{bytes_in, plain_enough};
 ghost use Rattle.tiff_page.specs.Pixels.{needed_of_row, needs_whole_rows};
 ghost use Rattle.tiff_page.specs.ReadablePage.{IsRead};
@@ -12,7 +13,7 @@ ghost use Rattle.tiff_page.specs.Reach.{StoredReadable, Moves};
 ghost use Rattle.tiff_page.specs.PageView as view;
 
 use crate::chunk_data::ChunkCursor;
-use crate::numbers::{Number, grow, put_row};
+use crate::numbers::{Number, append_row, ends_at, grow, put_row};
 use crate::output_row::RowFormat;
 use crate::row_reader::RowScratch;
 use std::alloc::{AllocError, Global};
@@ -94,11 +95,41 @@ pub trait RowSink<T> {
             result }
         ensures moves { OnOk result (Moves cursor.old next.now.len cursor.new) };
 
+    /// Reads the next bytes of a chunk, as they are output, into the bytes of a list, if this needs
+    /// no whole stored rows. A list that is too short grows, as by `grow`.
+    fn append_band<R: Source>(
+        &mut self,
+        source: &mut R,
+        cursor: &mut ChunkCursor,
+        next: &RowSlot<'_>,
+        list: &mut Vec<T>,
+    ) -> TiffResult<()>
+        requires read { IsRead (view.page next.now.format.page.now) next.now.format.color }
+        requires in_place { needs_whole_rows (view.page next.now.format.page.now)
+            next.now.format.color ≡ false }
+        requires whole { (next.now.format.page.now.depth < 8)
+            ⊎ (next.now.len / (next.now.format.page.now.depth / 8) *
+            (next.now.format.page.now.depth / 8) ≡ next.now.len) }
+        requires fits { next.now.at + next.now.len < 2 ^ 64 }
+        ensures kept { IsKept R.told R.failures result source.old source.new }
+        ensures row { RowPut (R.told source.old).bytes next.now.format.order
+            (view.page next.now.format.page.now)
+            next.now.format.color cursor.old cursor.new
+            (R.failures source.old < R.failures source.new) next.now.at next.now.len
+            (filled_to (whole (next.now.at + next.now.len)) (bytes list.old.items))
+            (bytes list.new.items) result }
+        ensures asked { AsksOnly (StoredReadable (R.told source.old) cursor.old next.now.len)
+            result }
+        ensures moves { OnOk result (Moves cursor.old next.now.len cursor.new) };
+
     /// Grows a list to `len` bytes by zeros, rounded up to whole items, if it is shorter.
     fn grow(list: &mut Vec<T>, len: usize) -> Result<(), AllocError>
         ensures { OnOk result
-            (bytes list.new.items ≡ bytes list.old.items
-            ++ replicate (whole len - length (bytes list.old.items)) 0) };
+            (bytes list.new.items ≡ filled_to (whole len) (bytes list.old.items)) };
+
+    /// Whether a list has `at` bytes.
+    fn ends_at(list: &[T], at: usize) -> bool
+        ensures { IsTrue result ↔ (length (bytes list.now) ≡ at) };
 
     /// Lists of equal length have equally many bytes.
     ghost same_length: { (xs ys : List T) → length xs ≡ length ys
@@ -111,9 +142,11 @@ pub trait RowSink<T> {
     ghost none: { bytes [] ≡ [] };
 }
 
-/// Reads rows straight to their position in a list of bytes.
+/// Reads rows straight to their position in a list of bytes. What is appended is read into a
+/// scratch buffer first.
 #[derive(Drop)]
 pub struct ByteRows {
+    row: Vec<u8>,
     room: RowScratch,
 }
 
@@ -121,6 +154,7 @@ impl ByteRows {
     /// Returns empty scratch buffers.
     pub fn new(alloc: Global) -> Self {
         ByteRows {
+            row: Vec::new(alloc),
             room: RowScratch::new(alloc),
         }
     }
@@ -160,9 +194,28 @@ impl RowSink<u8> for ByteRows {
             .read_finished(source, cursor, &mut self.room, row)
     }
 
+    #[inline(always)]
+    fn append_band<R: Source>(
+        &mut self,
+        source: &mut R,
+        cursor: &mut ChunkCursor,
+        next: &RowSlot<'_>,
+        list: &mut Vec<u8>,
+    ) -> TiffResult<()> {
+        self.row.resize(next.len, 0)?;
+        next.format
+            .read_finished(source, cursor, &mut self.room, &mut self.row)?;
+        append_row::<u8, 1>(list, next.at, &self.row)?;
+        Ok(())
+    }
+
     #[tactic(auto, using(crate::proofs::NumberBytes::plain_zeros_behind))]
     fn grow(list: &mut Vec<u8>, len: usize) -> Result<(), AllocError> {
         grow::<u8, 1>(list, len)
+    }
+
+    fn ends_at(list: &[u8], at: usize) -> bool {
+        list.len() == at
     }
 
     ghost same_length = { λ xs ys same. same };
@@ -232,8 +285,29 @@ impl<T: Number<N>, const N: usize> RowSink<T> for TypedRows<N> {
     }
 
     #[tactic(auto, using(crate::proofs::NumberBytes::some_size))]
+    #[inline(always)]
+    fn append_band<R: Source>(
+        &mut self,
+        source: &mut R,
+        cursor: &mut ChunkCursor,
+        next: &RowSlot<'_>,
+        list: &mut Vec<T>,
+    ) -> TiffResult<()> {
+        self.row.resize(next.len, 0)?;
+        next.format
+            .read_finished(source, cursor, &mut self.room, &mut self.row)?;
+        append_row(list, next.at, &self.row)?;
+        Ok(())
+    }
+
+    #[tactic(auto, using(crate::proofs::NumberBytes::some_size))]
     fn grow(list: &mut Vec<T>, len: usize) -> Result<(), AllocError> {
         grow(list, len.div_ceil(N))
+    }
+
+    #[tactic(auto, using(crate::proofs::NumberBytes::some_size))]
+    fn ends_at(list: &[T], at: usize) -> bool {
+        ends_at(list, at)
     }
 
     ghost same_length = { λ xs ys same. same_bytes N T.bits xs ys same };

@@ -1,4 +1,4 @@
-use Rattle.std.proofs.Common.{rules, arith, Ok, Err, ap, sym, ◌≡◌, ℕ, List, ◌∙◌, ◌+◌, ◌*◌, ◌<◌, ◌≤◌, length, subst}
+use Rattle.std.proofs.Common.{arith, Ok, Err, sym, ◌≡◌, ℕ, List, ◌∙◌, ◌+◌, ◌*◌, ◌<◌, subst}
 use Rattle.std.specs.Prelude.{replicate}
 use Rattle.std.proofs.lemmas.Result.{err_from_is_err_and}
 use Rattle.tiff_base.specs.Answers.{IsCause}
@@ -7,13 +7,13 @@ use Rattle.tiff_page.specs.Layout.{LayoutRecord}
 use Rattle.tiff_page.specs.Laws.{HasSides}
 use Rattle.tiff_page.specs.Pixels.{is_short}
 use Rattle.tiff_page.specs.PixelFault.{chunk_fault, each_below}
-use Rattle.tiff_page.specs.BufferPositions.{Writes, IsBefore, image_byte}
+use Rattle.tiff_page.specs.BufferPositions.{filled_to, Writes, IsBefore, image_byte}
 use Rattle.tiff_page.specs.Rect.{chunks_of_plane}
 use Rattle.tiff_page.specs.PageView as view
 use Rattle.tiff_page.specs.declared.page.Page.{Page}
 use Rattle.tiff_page.specs.declared.layout.PlaneLayout.{PlaneLayout}
+use Rattle.tiff_page.proofs.Covering.{planes_written}
 use Rattle.tiff_page.proofs.Filling.{chunk_cause, image_filled, of_chunk, one_more}
-use Rattle.tiff_page.proofs.Growing.{all_written, filled_to, grown_filled, grown_within, holds_more, next_written}
 use Rattle.tiff_page.proofs.Reach.{image_asked}
 use Rattle.tiff_page.proofs.read_chunks.PageReader.grow_image.Goals as goal
 
@@ -23,18 +23,18 @@ sides_of p = record { wide = p.wide; high = p.high; chunk_wide = p.chunk_wide; c
 abbrev pub layout : PlaneLayout → LayoutRecord
 layout l = record { color = l.color; row_bytes = l.row_bytes; plane_stride = l.plane_stride }
 
-pub returns-in_err-fill_chunk-clause-answer : goal.returns-in_err-fill_chunk-clause-answer
-returns-in_err-fill_chunk-clause-answer g c =
+pub returns-in_err-grow_chunk-clause-answer : goal.returns-in_err-grow_chunk-clause-answer
+returns-in_err-grow_chunk-clause-answer g c =
     let p = c.args.self.now.page.now in
     let file = (g.R.Source.told c.args.source.now).bytes in
     let given = subst
     (λ (bytes : List ℕ).
-    IsCause (Unit {0}) (g.R.Source.failures c.loop-chunk.source < g.R.Source.failures c.fill_chunk.new.source) c.in_err-fill_chunk.field-0.0
-    (each_below (λ plane. chunk_fault (view.page p) c.args.self.now.limits.now (is_short bytes c.args.self.now.order (view.page p) c.args.part.layout.color) c.args.part.layout.color (plane * chunks_of_plane (view.page p) + (0 + c.loop-chunk.chunk))) c.args.part.planes ≡ Err c.in_err-fill_chunk.field-0.0))
-    (same_bytes c.loop-chunk.invariant.same) c.in_err-fill_chunk.ensures.answer in
-    let answered = err_from_is_err_and c.from_residual-in_err-fill_chunk.result c.from_residual-in_err-fill_chunk.ensures.1 in
+    IsCause (Unit {0}) (g.R.Source.failures c.loop-chunk.source < g.R.Source.failures c.grow_chunk.new.source) c.in_err-grow_chunk.field-0.0
+    (each_below (λ plane. chunk_fault (view.page p) c.args.self.now.limits.now (is_short bytes c.args.self.now.order (view.page p) c.args.part.layout.color) c.args.part.layout.color (plane * chunks_of_plane (view.page p) + (0 + c.loop-chunk.chunk))) c.args.part.planes ≡ Err c.in_err-grow_chunk.field-0.0))
+    (same_bytes c.loop-chunk.invariant.same) c.in_err-grow_chunk.ensures.answer in
+    let answered = err_from_is_err_and c.from_residual.result c.from_residual.ensures.1 in
     rw (answered.1, answered.2) (chunk_cause file c.args.self.now.order (view.page p) c.args.self.now.limits.now (layout c.args.part.layout) (sides_of p) p.sampled p.deep c.requires.laid c.args.part.planes
-    _ _ c.loop-chunk.chunk (replicate (g.W.RowSink.whole c.args.len) 0) c.in_err-fill_chunk.field-0.0 (λ f. omega (arith, f, c.loop-chunk.invariant.count)) (omega (arith, c.loop-chunk-test.true, c.chunks_of_plane-chunk-end.ensures.count)) c.loop-chunk.invariant.none given)
+    _ _ c.loop-chunk.chunk (replicate (g.W.RowSink.whole c.args.len) 0) c.in_err-grow_chunk.field-0.0 (λ f. omega (arith, f, c.loop-chunk.invariant.count)) (omega (arith, c.loop-chunk-test.true, c.chunks_of_plane-chunk-end.ensures.count)) c.loop-chunk.invariant.none given)
 
 pub loop-chunk-preserved : goal.loop-chunk-preserved
 loop-chunk-preserved g c =
@@ -51,32 +51,19 @@ loop-chunk-preserved g c =
     let given = subst
     (λ (told : List ℕ).
     each_below (λ plane. chunk_fault (view.page p) c.args.self.now.limits.now (is_short told order (view.page p) color) color (plane * chunks_of_plane (view.page p) + (0 + c.loop-chunk.chunk))) planes ≡ Ok tt)
-    same c.in_ok-fill_chunk.ensures.answer in
+    same c.in_ok-grow_chunk.ensures.answer in
+    let enough = g.met.W.RowSink.enough (planes * c.args.part.layout.plane_stride) c.args.len c.requires.room in
     let wrote = subst
     (λ (told : List ℕ).
-    (before : List ℕ) → Writes (IsBefore (view.page p) color stride planes c.loop-chunk.chunk 0) (image_byte (view.page p) color stride told order) before (bytes c.deref_mut.result.now)
-    → Writes (IsBefore (view.page p) color stride planes c.loop-chunk.chunk planes) (image_byte (view.page p) color stride told order) before (bytes c.fill_chunk.new.buf))
-    same c.in_ok-fill_chunk.ensures.ok in
-    let end = c.bytes_up_to.result in
-    let grew = ap bytes c.deref_mut.ensures.value ∙ c.in_ok-grow.ensures in
-    let enough = g.met.W.RowSink.enough end c.args.len (omega (arith, c.bytes_up_to.ensures.within, c.requires.room)) in
-    let within = grown_within total (g.W.RowSink.whole end) (bytes c.loop-chunk.list.items) (bytes c.deref_mut.result.now) grew i.within enough.1 in
-    let filled = grown_filled total _ (bytes c.loop-chunk.list.items) (bytes c.deref_mut.result.now) grew within.0 in
-    let back = all_written c.fill_chunk.new.buf c.grow.new.list.items c.grow.new.list.len (search rules) in
-    let long = g.met.W.RowSink.same_length c.fill_chunk.new.buf c.deref_mut.result.now c.fill_chunk.auto.buf in
-    let holds = holds_more (view.page p) color stride planes c.loop-chunk.chunk end (length (bytes c.deref_mut.result.now)) (omega (arith, enough.0, within.1)) c.bytes_up_to.ensures.holds in
-    let was = subst (λ (xs : List ℕ). Writes (IsBefore (view.page p) color stride planes c.loop-chunk.chunk 0) (image_byte (view.page p) color stride file order) (replicate total 0) xs) (sym filled) i.written in
-    let in_plane : c.loop-chunk.chunk < chunks_of_plane (view.page p) = omega (arith, c.loop-chunk-test.true, c.chunks_of_plane-chunk-end.ensures.count) in
-    let now = next_written file order (view.page p) c.args.self.now.limits.now (layout c.args.part.layout) (sides_of p) p.sampled p.deep c.requires.laid planes c.loop-chunk.chunk c.requires.some in_plane given total
-    (bytes c.deref_mut.result.now) (bytes c.fill_chunk.new.buf) within.0 holds wrote was in
+    (before : List ℕ) → Writes (IsBefore (view.page p) color stride planes c.loop-chunk.chunk 0) (image_byte (view.page p) color stride told order) before (filled_to total (bytes c.loop-chunk.list.items))
+    → Writes (IsBefore (view.page p) color stride planes c.loop-chunk.chunk planes) (image_byte (view.page p) color stride told order) before (filled_to total (bytes c.grow_chunk.new.list.items)))
+    same (c.in_ok-grow_chunk.ensures.ok total enough.1) in
     record {
-      same = c.in_ok-fill_chunk.ensures.kept.told ∙ i.same;
-      count = omega (arith, c.in_ok-fill_chunk.ensures.kept.swallowed, i.count);
+      same = c.in_ok-grow_chunk.ensures.kept.told ∙ i.same;
+      count = omega (arith, c.in_ok-grow_chunk.ensures.kept.swallowed, i.count);
       none = one_more (of_chunk file order (view.page p) c.args.self.now.limits.now (layout c.args.part.layout) (sides_of p) p.sampled p.deep c.requires.laid planes) c.loop-chunk.chunk i.none given;
-      within = subst (λ (xs : List g.row.T.Denot). length (bytes xs) ≤ total) back (omega (arith, long, within.0));
-      written = subst
-          (λ (xs : List g.row.T.Denot). Writes (IsBefore (view.page p) color stride planes (c.loop-chunk.chunk + 1) 0) (image_byte (view.page p) color stride file order) (replicate total 0) (filled_to total (bytes xs)))
-          back now;
+      written = planes_written (view.page p) color stride planes c.loop-chunk.chunk (image_byte (view.page p) color stride file order) (replicate total 0) (filled_to total (bytes c.grow_chunk.new.list.items))
+          (wrote (replicate total 0) i.written);
     }
 
 pub returns-clause-answer : goal.returns-clause-answer
@@ -85,14 +72,14 @@ returns-clause-answer g c =
     let file = (g.R.Source.told c.args.source.now).bytes in
     let total = g.W.RowSink.whole c.args.len in
     let e : c.loop-chunk.chunk ≡ chunks_of_plane (view.page p) = omega (arith, c.loop-chunk-test.false, c.loop-chunk.auto.chunk-end, c.chunks_of_plane-chunk-end.ensures.count) in
-    let full = c.in_ok-grow-2.ensures in
-    image_filled file c.args.self.now.order (view.page p) c.args.self.now.limits.now (layout c.args.part.layout) (sides_of p) p.sampled p.deep c.requires.laid c.args.part.planes (replicate total 0) (g.W.RowSink.bytes c.grow-2.new.list.items) c.requires.some
+    let full = c.in_ok-grow.ensures in
+    image_filled file c.args.self.now.order (view.page p) c.args.self.now.limits.now (layout c.args.part.layout) (sides_of p) p.sampled p.deep c.requires.laid c.args.part.planes (replicate total 0) (g.W.RowSink.bytes c.grow.new.list.items) c.requires.some
     (subst (λ (m : ℕ). each_below (of_chunk file c.args.self.now.order (view.page p) c.args.self.now.limits.now (layout c.args.part.layout) (sides_of p) p.sampled p.deep c.requires.laid c.args.part.planes) m ≡ Ok tt) e c.loop-chunk.invariant.none)
     (subst (λ (xs : List ℕ). Writes (IsBefore (view.page p) c.args.part.layout.color c.args.part.layout.row_bytes c.args.part.planes (chunks_of_plane (view.page p)) 0) (image_byte (view.page p) c.args.part.layout.color c.args.part.layout.row_bytes file c.args.self.now.order) (replicate total 0) xs) (sym full)
     (subst (λ (m : ℕ). Writes (IsBefore (view.page p) c.args.part.layout.color c.args.part.layout.row_bytes c.args.part.planes m 0) (image_byte (view.page p) c.args.part.layout.color c.args.part.layout.row_bytes file c.args.self.now.order) (replicate total 0) (filled_to total (g.W.RowSink.bytes c.loop-chunk.list.items))) e c.loop-chunk.invariant.written))
 
-pub returns-in_err-fill_chunk-clause-asked : goal.returns-in_err-fill_chunk-clause-asked
-returns-in_err-fill_chunk-clause-asked g c =
-    let answered = err_from_is_err_and c.from_residual-in_err-fill_chunk.result c.from_residual-in_err-fill_chunk.ensures.1 in
+pub returns-in_err-grow_chunk-clause-asked : goal.returns-in_err-grow_chunk-clause-asked
+returns-in_err-grow_chunk-clause-asked g c =
+    let answered = err_from_is_err_and c.from_residual.result c.from_residual.ensures.1 in
     rw (answered.1, answered.2) (image_asked (view.page c.args.self.now.page.now) c.args.part.layout.color c.args.part.planes c.args.part.layout.row_bytes c.loop-chunk.chunk _ (g.R.Source.told c.args.source.now) (g.R.Source.told c.loop-chunk.source) c.loop-chunk.invariant.same
-    (omega (arith, c.loop-chunk-test.true, c.chunks_of_plane-chunk-end.ensures.count)) c.in_err-fill_chunk.ensures.asked)
+    (omega (arith, c.loop-chunk-test.true, c.chunks_of_plane-chunk-end.ensures.count)) c.in_err-grow_chunk.ensures.asked)

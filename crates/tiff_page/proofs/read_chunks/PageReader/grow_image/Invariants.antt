@@ -1,11 +1,10 @@
-use Rattle.std.proofs.Common.{◌≡◌, ◌+◌, ◌*◌, ◌≤◌, Ok, length}
+use Rattle.std.proofs.Common.{◌≡◌, ◌+◌, ◌*◌, Ok}
 use Rattle.std.specs.Prelude.{replicate}
 use Rattle.tiff_page.specs.Pixels.{is_short}
 use Rattle.tiff_page.specs.PixelFault.{chunk_fault, each_below}
-use Rattle.tiff_page.specs.BufferPositions.{Writes, IsBefore, image_byte}
+use Rattle.tiff_page.specs.BufferPositions.{filled_to, Writes, IsBefore, image_byte}
 use Rattle.tiff_page.specs.Rect.{chunks_of_plane}
 use Rattle.tiff_page.specs.PageView as view
-use Rattle.tiff_page.proofs.Growing.{filled_to}
 use Rattle.tiff_page.proofs.read_chunks.PageReader.grow_image.Given as goal
 
 -- the chunks so far have no error, and are in the list, filled up with zeros
@@ -20,6 +19,5 @@ invariant-loop-chunk g l =
       same : g.R.Source.told l.source ≡ g.R.Source.told l.fn.source;
       count : g.R.Source.failures l.source ≡ g.R.Source.failures l.fn.source;
       none : each_below (λ j. each_below (λ plane. chunk_fault p l.self.limits.now (is_short bytes l.self.order p color) color (plane * chunks_of_plane p + (0 + j))) l.part.planes) l.chunk ≡ Ok tt;
-      within : length (g.W.RowSink.bytes l.list.items) ≤ total;
       written : Writes (IsBefore p color stride l.part.planes l.chunk 0) (image_byte p color stride bytes l.self.order) (replicate total 0) (filled_to total (g.W.RowSink.bytes l.list.items));
     }
