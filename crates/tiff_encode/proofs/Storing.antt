@@ -167,7 +167,7 @@ module _ (old : FileState) (i : OpenImage) (samples : List ℕ) (new : FileState
 -- ---- samples that are stored as they are in memory
 
 -- without a predictor, numbers stay the same
-left_plain : (m l s : ℕ) (ns : List ℕ) → differences predictor.None m l s ns ≡ ns
+pub left_plain : (m l s : ℕ) (ns : List ℕ) → differences predictor.None m l s ns ≡ ns
 unfolding differences
 left_plain m l s ns = sym (fill_by_all (λ k. get_or ns k 0) ns (length ns) 0 refl (λ k h. refl))
 

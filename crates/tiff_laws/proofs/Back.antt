@@ -16,28 +16,28 @@ use Rattle.tiff_decode.specs.Result.{whole_numbers, BytesAgain}
 use Rattle.tiff_decode.proofs.Pieces.{zero_in, behind, number_in, whole}
 
 -- the bytes of a number are the bytes that it was made of
-abbrev Returns : ℕ → Type 0
+abbrev pub Returns : ℕ → Type 0
 Returns size = (piece : List ℕ) → length piece ≡ size → AreOctets piece → le size (number LittleEndian (width_of size) piece) ≡ piece
 
-returns_1 : Returns 1
+pub returns_1 : Returns 1
 unfolding number
 returns_1 [] len octets = absurd (omega arith)
 returns_1 (b ∷ []) len octets = let e : b % 256 ≡ b = omega (arith, octets 0) in ap (λ (n : ℕ). n ∷ []) e
 returns_1 (b ∷ c ∷ piece) len octets = absurd (omega arith)
 
-returns_2 : Returns 2
+pub returns_2 : Returns 2
 unfolding number
 returns_2 piece len octets = le_bytes_2 piece _ len octets refl
 
-returns_4 : Returns 4
+pub returns_4 : Returns 4
 unfolding number
 returns_4 piece len octets = le_bytes_4 piece _ len octets refl
 
-returns_8 : Returns 8
+pub returns_8 : Returns 8
 unfolding number
 returns_8 piece len octets = le_bytes_8 piece _ len octets refl
 
-take_next : (m n : ℕ) (xs : List ℕ) → take m xs ++ take n (drop m xs) ≡ take (m + n) xs
+pub take_next : (m n : ℕ) (xs : List ℕ) → take m xs ++ take n (drop m xs) ≡ take (m + n) xs
 take_next m n xs =
     sym (ap₂ ◌++◌ (take-take m (m + n) xs (omega arith)) (drop-take m n xs)) ∙ take-append-drop m (take (m + n) xs)
 
@@ -57,7 +57,7 @@ number_back size returns bytes octets n h =
     ∙ returns piece (length-take-le size (drop (n * size) bytes) (omega (arith, length-drop (n * size) bytes))) (octets_in size bytes n octets)
 
 -- whole numbers have the bytes that they were made of
-each_back : (size : ℕ) → Returns size → (bytes : List ℕ) → AreOctets bytes → (n : ℕ) → n * size ≤ length bytes
+pub each_back : (size : ℕ) → Returns size → (bytes : List ℕ) → AreOctets bytes → (n : ℕ) → n * size ≤ length bytes
     → flat_map (le size) (tabulate n (number_in size bytes)) ≡ take (n * size) bytes
 each_back size returns bytes octets zero h = let e : 0 ≡ 0 * size = omega arith in ap (λ (k : ℕ). take k bytes) e
 each_back size returns bytes octets (suc n) h =

@@ -5,7 +5,7 @@ mod WhereChunks
 mod Covered
 mod Made
 mod FirstRefused
-mod Back
+pub mod Back
 mod Sides
 mod Bytes
 mod Samples

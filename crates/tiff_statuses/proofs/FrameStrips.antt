@@ -1,10 +1,10 @@
 -- The strips of an image without compression and predictor are, one behind the other, the bytes of its samples.
-use Rattle.std.proofs.Common.{◌≡◌, ℕ, zero, suc, ◌+◌, ◌-◌, ◌*◌, ◌<◌, ◌≤◌, ⊎_elim, List, [], ◌∷◌, ◌++◌, length, map, take, drop, get_or, Ok, refl, ap, ap₂, sym, ◌∙◌, subst, arith, append_assoc, append-nil, length-drop}
+use Rattle.std.proofs.Common.{◌≡◌, ℕ, zero, suc, ◌+◌, ◌-◌, ◌*◌, ◌<◌, ◌≤◌, ⊎_elim, List, [], ◌∷◌, ◌++◌, length, map, take, drop, Ok, refl, ap, ap₂, sym, ◌∙◌, subst, arith, append_assoc, append-nil, length-drop}
 use Rattle.std.proofs.Math.Nat.{mul_comm, mul-sub, mul-le-mul_right, mod-eq_of_lt, lt-div-mul-add}
 use Rattle.std.proofs.lemmas.Bool.{cases_lt}
 use Rattle.std.proofs.lemmas.Grind.{flat_map-append}
-use Rattle.std.proofs.lemmas.List.{take_all, take-take, drop-take, take-append-drop, length-take}
-use Rattle.std.proofs.lemmas.List.FromFn.{fill_by_all, map-range_with_len_more}
+use Rattle.std.proofs.lemmas.List.{take_all, length-take}
+use Rattle.std.proofs.lemmas.List.FromFn.{map-range_with_len_more}
 use Rattle.std.specs.Prelude.{◌%◌, ◌^◌, min}
 use Rattle.std.specs.List.{flat_map, range_with_len}
 use Rattle.tiff_base.specs.declared.tags.CompressionMethod.TheVariants as method
@@ -24,6 +24,8 @@ use Rattle.tiff_encode.specs.Calls.{image_in, appends_chunk, write_chunk, write_
 use Rattle.tiff_encode.specs.Stored.{AreStored, unpacked_chunk}
 use Rattle.tiff_encode.proofs.Data.Calls.{bind_answered, cause_answered}
 use Rattle.tiff_encode.proofs.ImageState.{one_part, strip_rows}
+use Rattle.tiff_encode.proofs.Storing.{left_plain}
+use Rattle.tiff_laws.proofs.Back.{take_next}
 use Rattle.tiff_statuses.proofs.FrameAlike.{sizes}
 
 -- lists one behind the other
@@ -55,11 +57,6 @@ strips_appended i last (part ∷ parts) (bytes ∷ stored) file n h =
 
 -- ---- the bytes of each strip
 
--- without a predictor, numbers stay the same
-left_plain : (m l s : ℕ) (ns : List ℕ) → differences predictor.None m l s ns ≡ ns
-unfolding differences
-left_plain m l s ns = sym (fill_by_all (λ k. get_or ns k 0) ns (length ns) 0 refl (λ k h. refl))
-
 pub unpacked_plain : (i : OpenImage) (samples : List ℕ) → i.predictor ≡ predictor.None → unpacked_chunk i samples ≡ flat_map (le i.size) samples
 unfolding unpacked_chunk
 unpacked_plain i samples p =
@@ -78,10 +75,6 @@ strips_are i (part ∷ parts) (bytes ∷ stored) m p n s =
     ∙ sym (flat_map-append (le i.size) part (joined parts))
 
 -- ---- the samples of each strip
-
-take_next : (m n : ℕ) (xs : List ℕ) → take m xs ++ take n (drop m xs) ≡ take (m + n) xs
-take_next m n xs =
-    sym (ap₂ ◌++◌ (take-take m (m + n) xs (omega arith)) (drop-take m n xs)) ∙ take-append-drop m (take (m + n) xs)
 
 -- a part that reaches to the next one or to the end is cut to neither
 part_is : (high all row k : ℕ) (samples : List ℕ) → length samples ≡ all * row

@@ -4,37 +4,33 @@ use Rattle.std.proofs.Math.Nat.{div-le_of_le-mul, mod-eq_of_lt, zero-mod}
 use Rattle.std.proofs.lemmas.List.{map-append, length-replicate}
 use Rattle.std.proofs.lemmas.Bool.{cases_lt, le-ltb, lt-leb, lt-ltb, ltb-true}
 use Rattle.std.specs.Prelude.{◌%◌, ◌^◌, min, not, ◌&&◌, ◌||◌, replicate, nat_lt, nat_le, if◌then◌else◌}
-use Rattle.tiff_base.specs.declared.color.ChunkType.{ChunkType}
-use Rattle.tiff_base.specs.declared.color.ChunkType.TheVariants.{Strip, Tile}
 use Rattle.tiff_base.specs.declared.error.TiffError.{TiffError}
 use Rattle.tiff_base.specs.declared.error.TiffError.TheVariants.{IoError, IntSizeError}
 use Rattle.tiff_base.specs.declared.io.IoKind.TheVariants.{InvalidData, InvalidInput}
 use Rattle.tiff_base.specs.declared.io.SinkFault.{SinkFault}
-use Rattle.tiff_base.specs.declared.tags.PlanarConfiguration.{PlanarConfiguration}
-use Rattle.tiff_base.specs.declared.tags.PlanarConfiguration.TheVariants.{Chunky, Planar}
 use Rattle.tiff_base.specs.declared.tags.CompressionMethod.TheVariants as method
 use Rattle.tiff_value.specs.declared.encoder.colortype.ColorTypeName.{ColorTypeName}
 use Rattle.tiff_value.specs.ColorType.{ColorTypeRecord}
 use Rattle.tiff_value.specs.ColorTypes.{Family, color_type, count_of, inner_size}
 use Rattle.tiff_value.specs.ColorTypes.{Gray, RGB, RGBA, CMYK, CMYKA, YCbCr}
-use Rattle.tiff_page.specs.Counts.{parts, all_chunks, planes_of}
+use Rattle.tiff_page.specs.Counts.{parts, all_chunks}
 use Rattle.tiff_page.specs.Page.{PageRecord}
 use Rattle.tiff_page.specs.Pixels.{planar_or}
-use Rattle.tiff_page.specs.Rect.{across, chunks_of_plane}
+use Rattle.tiff_page.specs.Rect.{chunks_of_plane}
 use Rattle.tiff_encode.specs.Machine.{FileState, OpenImage}
 use Rattle.tiff_encode.specs.Causes.{unless_ended, image_samples, is_past_chunks, write_image_data_cause}
-use Rattle.tiff_encode.specs.Chunks.{all_samples, image_page, is_tile, is_planar, is_in_order, chunk_rows, row_samples, chunk_samples, chunks_left, is_begun, is_left, next_chunk_sample_count, parts_left, cut_out}
+use Rattle.tiff_encode.specs.Chunks.{all_samples, image_page, is_in_order, chunk_rows, row_samples, chunk_samples, chunks_left, is_begun, is_left, next_chunk_sample_count, parts_left, cut_out}
 use Rattle.tiff_encode.specs.Calls.{image_in, new_image, write_chunk}
 use Rattle.tiff_encode.specs.Model.{header_model}
 use Rattle.tiff_encode.specs.Drawn.{IsDrawn}
 use Rattle.tiff_encode.specs.Parts.{next_part, WritesPart}
 use Rattle.tiff_encode.specs.Storing.{WritesStoredChunk}
-use Rattle.tiff_encode.proofs.ImageState.{one_part, strip_rows}
+use Rattle.tiff_encode.proofs.ImageState.{strip_rows}
 use Rattle.tiff_encode.proofs.Leaving.{ok_err}
 use Rattle.tiff_encode.proofs.Open.Begun.{begins_open}
 use Rattle.tiff_encode.proofs.Shown.Color.{of_family}
 use Rattle.tiff_encode.proofs.Data.Begun.{new_is}
-use Rattle.tiff_encode.proofs.Data.Offsets.{above, within, count_is}
+use Rattle.tiff_encode.proofs.Data.Offsets.{strip_of, chunky_of, wide, of_plane, all, above, within, count_is}
 use Rattle.tiff_encode.proofs.Data.Written.{HasWritten, none_written, more_written, all_written}
 use Rattle.tiff_statuses.specs.Zeros.{IsNewImage, HasZeros, zeros_of}
 
@@ -79,34 +75,9 @@ zeros_taken f xs n l h = map_taken f xs n ∙ ap (take n) h ∙ take_zeros n (le
 
 -- ---- the strip that is next
 
-strip_of : (t : ChunkType) (p : PlanarConfiguration) → (not (is_tile t) && not (is_planar p)) ≡ true → t ≡ Strip
-strip_of Strip p h = refl
-strip_of Tile p h = absurd cc
-
-chunky_of : (t : ChunkType) (p : PlanarConfiguration) → (not (is_tile t) && not (is_planar p)) ≡ true → p ≡ Chunky
-chunky_of t Chunky h = refl
-chunky_of Strip Planar h = absurd cc
-chunky_of Tile Planar h = absurd cc
-
 some_product : (a b : ℕ) → 0 < a → 0 < b → 0 < a * b
 some_product zero b h k = absurd (omega (arith, h))
 some_product (suc a) b h k = let e : suc a * b ≡ a * b + b = omega arith in omega (arith, e, k)
-
-module _ (now : OpenImage) (n : IsDrawn now.width now.height (length now.color.bits) (length now.extra) now.form) (order : is_in_order now.form ≡ true) where
-  whole_width : now.form.chunk_width ≡ now.width
-  whole_width = n.cut.strips (strip_of now.form.chunk_type now.form.planar order)
-
-  plane : chunks_of_plane (image_page now) ≡ parts now.height now.form.chunk_height
-  plane =
-      let pos = n.wide.0 in
-      let one : across (image_page now) ≡ 1 = ap (λ m. parts now.width m) whole_width ∙ one_part now.width now.width pos (omega arith) in
-      let e : 1 * parts now.height now.form.chunk_height ≡ parts now.height now.form.chunk_height = omega arith in
-      ap (λ m. m * parts now.height now.form.chunk_height) one ∙ e
-
-  all : all_chunks (image_page now) ≡ parts now.height now.form.chunk_height
-  all =
-      let e : parts now.height now.form.chunk_height * 1 ≡ parts now.height now.form.chunk_height = omega arith in
-      (λ j. plane j * planes_of (chunky_of now.form.chunk_type now.form.planar order j) (all_samples now)) ∙ e
 
 parts_few : (n size : ℕ) → 0 < n → 0 < size → parts n size ≤ n
 parts_few zero size h k = absurd (omega (arith, h))
@@ -134,17 +105,17 @@ module _ (now : OpenImage) (n : IsDrawn now.width now.height (length now.color.b
   has_samples =
       let strip = strip_of now.form.chunk_type now.form.planar order in
       let pos = n.wide.0 in
-      let below : c < chunks_of_plane p = (let l = ltb-true c (all_chunks p) left in omega (arith, l, all now n order, plane now n order)) in
+      let below : c < chunks_of_plane p = (let l = ltb-true c (all_chunks p) left in omega (arith, l, all now n order, of_plane now n order)) in
       let cut : c % chunks_of_plane p ≡ c = mod-eq_of_lt below in
       let h : ℕ = now.form.chunk_height in
       let rows : chunk_rows p c ≡ min h (now.height - c * h) =
-      sym (strip_rows p c h now.height (chunks_of_plane p) (now.height - c % chunks_of_plane p * h) (min h (now.height - c % chunks_of_plane p * h)) strip (whole_width now n order) pos refl refl refl refl refl)
+      sym (strip_rows p c h now.height (chunks_of_plane p) (now.height - c % chunks_of_plane p * h) (min h (now.height - c % chunks_of_plane p * h)) strip (wide now n order) pos refl refl refl refl refl)
       ∙ ap (λ m. min h (now.height - m * h)) cut in
       let up = above now n order left c (omega arith) in
       let high = n.cut.high.0 in
       let some_rows : 0 < chunk_rows p c = omega (arith, rows, up, high) in
       let row : row_samples p ≡ now.width * all_samples now =
-      (λ j. whole_width now n order j * planar_or (chunky_of now.form.chunk_type now.form.planar order j) 1 (all_samples now)) in
+      (λ j. wide now n order j * planar_or (chunky_of now.form.chunk_type now.form.planar order j) 1 (all_samples now)) in
       let some_row : 0 < row_samples p = subst (λ m. 0 < m) (sym row) (some_product now.width (all_samples now) pos some) in
       subst (λ m. 0 < m) (sym counted) (some_product (chunk_rows p c) (row_samples p) some_rows some_row)
 

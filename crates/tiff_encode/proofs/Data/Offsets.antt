@@ -20,11 +20,11 @@ use Rattle.tiff_encode.proofs.ImageState.{one_part}
 
 -- ---- images whose chunks follow each other
 
-strip_of : (t : ChunkType) (p : PlanarConfiguration) → (not (is_tile t) && not (is_planar p)) ≡ true → t ≡ Strip
+pub strip_of : (t : ChunkType) (p : PlanarConfiguration) → (not (is_tile t) && not (is_planar p)) ≡ true → t ≡ Strip
 strip_of Strip p h = refl
 strip_of Tile p h = absurd cc
 
-chunky_of : (t : ChunkType) (p : PlanarConfiguration) → (not (is_tile t) && not (is_planar p)) ≡ true → p ≡ Chunky
+pub chunky_of : (t : ChunkType) (p : PlanarConfiguration) → (not (is_tile t) && not (is_planar p)) ≡ true → p ≡ Chunky
 chunky_of t Chunky h = refl
 chunky_of Strip Planar h = absurd cc
 chunky_of Tile Planar h = absurd cc
@@ -46,6 +46,28 @@ rows_within k c size n row rows l b e =
     omega (arith, m, d)
 
 module _ (i : OpenImage) (drawn : IsDrawn i.width i.height (length i.color.bits) (length i.extra) i.form)
+    (order : is_in_order i.form ≡ true) where
+  strip : i.form.chunk_type ≡ Strip
+  strip = strip_of i.form.chunk_type i.form.planar order
+
+  chunky : i.form.planar ≡ Chunky
+  chunky = chunky_of i.form.chunk_type i.form.planar order
+
+  pub wide : i.form.chunk_width ≡ i.width
+  wide = drawn.cut.strips strip
+
+  one_across : across (image_page i) ≡ 1
+  one_across = ap (λ n. parts i.width n) wide ∙ one_part i.width i.width (let w = drawn.wide.0 in omega (arith, w)) (omega arith)
+
+  pub of_plane : chunks_of_plane (image_page i) ≡ parts i.height i.form.chunk_height
+  of_plane = (let e : 1 * parts i.height i.form.chunk_height ≡ parts i.height i.form.chunk_height = omega arith in
+      ap (λ n. n * parts i.height i.form.chunk_height) one_across ∙ e)
+
+  pub all : all_chunks (image_page i) ≡ parts i.height i.form.chunk_height
+  all = (let e : parts i.height i.form.chunk_height * 1 ≡ parts i.height i.form.chunk_height = omega arith in
+      (λ j. of_plane j * planes_of (chunky j) (all_samples i)) ∙ e)
+
+module _ (i : OpenImage) (drawn : IsDrawn i.width i.height (length i.color.bits) (length i.extra) i.form)
     (order : is_in_order i.form ≡ true) (left : is_left i ≡ true) where
   abbrev p : PageRecord
   p = image_page i
@@ -53,28 +75,8 @@ module _ (i : OpenImage) (drawn : IsDrawn i.width i.height (length i.color.bits)
   abbrev c : ℕ
   c = length i.chunks
 
-  strip : i.form.chunk_type ≡ Strip
-  strip = strip_of i.form.chunk_type i.form.planar order
-
-  chunky : i.form.planar ≡ Chunky
-  chunky = chunky_of i.form.chunk_type i.form.planar order
-
-  wide : i.form.chunk_width ≡ i.width
-  wide = drawn.cut.strips strip
-
-  one_across : across p ≡ 1
-  one_across = ap (λ n. parts i.width n) wide ∙ one_part i.width i.width (let w = drawn.wide.0 in omega (arith, w)) (omega arith)
-
-  of_plane : chunks_of_plane p ≡ parts i.height i.form.chunk_height
-  of_plane = (let e : 1 * parts i.height i.form.chunk_height ≡ parts i.height i.form.chunk_height = omega arith in
-      ap (λ n. n * parts i.height i.form.chunk_height) one_across ∙ e)
-
-  all : all_chunks p ≡ parts i.height i.form.chunk_height
-  all = (let e : parts i.height i.form.chunk_height * 1 ≡ parts i.height i.form.chunk_height = omega arith in
-      (λ j. of_plane j * planes_of (chunky j) (all_samples i)) ∙ e)
-
   below : c < parts i.height i.form.chunk_height
-  below = subst (λ n. c < n) all (ltb-true c (all_chunks p) left)
+  below = subst (λ n. c < n) (all i drawn order) (ltb-true c (all_chunks p) left)
 
   -- the strip begins within the image
   begins : c * i.form.chunk_height < i.height
@@ -83,13 +85,13 @@ module _ (i : OpenImage) (drawn : IsDrawn i.width i.height (length i.color.bits)
   rows_are : chunk_rows p c ≡ min i.form.chunk_height (i.height - c * i.form.chunk_height)
   rows_are =
       let h : ℕ = i.form.chunk_height in
-      let whole : c % chunks_of_plane p ≡ c = mod-eq_of_lt (subst (λ n. c < n) (sym of_plane) below) in
+      let whole : c % chunks_of_plane p ≡ c = mod-eq_of_lt (subst (λ n. c < n) (sym (of_plane i drawn order)) below) in
       sym (strip_rows p c h i.height (chunks_of_plane p) (i.height - c % chunks_of_plane p * h) (min h (i.height - c % chunks_of_plane p * h))
-      strip wide (let w = drawn.wide.0 in omega (arith, w)) refl refl refl refl refl)
+      (strip i drawn order) (wide i drawn order) (let w = drawn.wide.0 in omega (arith, w)) refl refl refl refl refl)
       ∙ ap (λ n. min h (i.height - n * h)) whole
 
   row_is : row_samples p ≡ i.width * all_samples i
-  row_is = λ j. wide j * planar_or (chunky j) 1 (all_samples i)
+  row_is = λ j. wide i drawn order j * planar_or (chunky i drawn order j) 1 (all_samples i)
 
   all_rows : i.height * row_samples p ≡ image_samples i
   all_rows =
