@@ -374,22 +374,25 @@ pub(crate) fn ends_at<T: Number<N>, const N: usize>(numbers: &[T], at: usize) ->
     at % N == 0 && numbers.len() == at / N
 }
 
-// Appends the numbers of a row of whole numbers to a list that has room for them. The loop has only
-// one index, so that LLVM vectorizes it.
+// Returns a list, which has room for them, with the numbers of a row of whole numbers after it. The
+// list is passed by value, so that LLVM keeps its address and its length in registers and vectorizes
+// the loop: a list behind a reference is read and written again for each number.
 #[tactic(auto, using(crate::proofs::NumberBytes::pushed_more, crate::proofs::NumberBytes::numbers_behind))]
-fn push_numbers<T: Number<N>, const N: usize>(numbers: &mut Vec<T>, row: &[u8])
+fn push_numbers<T: Number<N>, const N: usize>(numbers: Vec<T>, row: &[u8]) -> Vec<T>
     requires some { 0 < N }
     requires whole { length row.now / N * N ≡ length row.now }
-    requires room { vec_len numbers.old + length row.now / N ≤ vec_capacity numbers.old }
-    ensures bytes { bytes_in N (map T.bits numbers.new.items)
-        ≡ bytes_in N (map T.bits numbers.old.items) ++ row.now }
-    ensures len { vec_len numbers.new ≡ vec_len numbers.old + length row.now / N }
-    ensures capacity { vec_capacity numbers.new ≡ vec_capacity numbers.old }
+    requires room { vec_len numbers + length row.now / N ≤ vec_capacity numbers }
+    ensures bytes { bytes_in N (map T.bits result.items)
+        ≡ bytes_in N (map T.bits numbers.items) ++ row.now }
+    ensures len { vec_len result ≡ vec_len numbers + length row.now / N }
+    ensures capacity { vec_capacity result ≡ vec_capacity numbers }
 {
+    let mut list = numbers;
     let (pieces, _) = row.as_chunks::<N>();
     for k in 0..pieces.len() {
-        numbers.push_reserved(T::of(pieces[k]));
+        list.push_reserved(T::of(pieces[k]));
     }
+    list
 }
 
 // Appends the numbers of a row of whole numbers to a list.
@@ -403,12 +406,15 @@ fn push_row<T: Number<N>, const N: usize>(
         ≡ bytes_in N (map T.bits numbers.old.items) ++ row.now) }
 {
     numbers.reserve(row.len() / N)?;
+    let empty = Vec::new(*numbers.allocator());
+    let mut list = std::mem::replace(numbers, empty);
     let mut at = 0;
     while at < row.len() {
         let more = PIECE.min(row.len() - at);
-        push_numbers(numbers, &row[at..at + more]);
+        list = push_numbers(list, &row[at..at + more]);
         at += more;
     }
+    *numbers = list;
     Ok(())
 }
 
