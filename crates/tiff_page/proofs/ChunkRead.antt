@@ -15,7 +15,8 @@ use Rattle.tiff_page.specs.Counts.{all_chunks}
 use Rattle.tiff_page.specs.Rect.{rect}
 use Rattle.tiff_page.specs.Layout.{row_bits, row_bytes, samples_in_chunk}
 use Rattle.tiff_page.specs.PixelFault.{fail_if}
-use Rattle.tiff_page.specs.Pixels.{chunk_data, stored_row_bytes, is_short, needed_of_row}
+use Rattle.tiff_page.specs.ChunkBands.{rows_short}
+use Rattle.tiff_page.specs.Pixels.{chunk_data, stored_row_bytes, needed_of_row}
 use Rattle.tiff_page.specs.Laws.{HasSides}
 use Rattle.tiff_page.specs.BufferPositions.{chunk_byte}
 use Rattle.tiff_page.specs.OutputRow.{StoresAllShown, handed_byte}
@@ -81,19 +82,19 @@ module _ (file : List ℕ) (order : ByteOrder) (p : PageRecord) (color : ColorTy
       ∙ drop-drop gap (r * stored_row_bytes p + need) bytes
       ∙ ap (λ (m : ℕ). drop m bytes) (omega (arith, g, w))
 
-  -- too few bytes for a row are too few for the chunk
-  pub short_row : (r : ℕ) (left : List ℕ) → r < h → left ≡ drop (r * stored_row_bytes p) bytes → length left < need → is_short file order p color k ≡ true
-  short_row r left rl d l =
+  -- too few bytes for a row are too few for the rows up to a later one
+  pub short_row : (r to : ℕ) (left : List ℕ) → r < to → left ≡ drop (r * stored_row_bytes p) bytes → length left < need → rows_short file order p color k to ≡ true
+  short_row r to left rl d l =
       let f : length left ≡ length bytes - r * stored_row_bytes p = ap (λ (z : List ℕ). length z) d ∙ length-drop (r * stored_row_bytes p) bytes in
-      let m : r * stored_row_bytes p ≤ (h - 1) * stored_row_bytes p = mul-le-mul_right (stored_row_bytes p) (omega (arith, rl)) in
-      lt-ltb (length bytes) ((h - 1) * stored_row_bytes p + need) (omega (arith, f, m, l))
+      let m : r * stored_row_bytes p ≤ (to - 1) * stored_row_bytes p = mul-le-mul_right (stored_row_bytes p) (omega (arith, rl)) in
+      lt-ltb (length bytes) ((to - 1) * stored_row_bytes p + need) (omega (arith, f, m, l))
 
-  pub too_short : (failed failed' : Type 0) (r n : ℕ) (left : List ℕ) (e : TiffError) → (failed → failed') → r < h → n ≡ len → left ≡ drop (r * stored_row_bytes p) bytes
+  pub too_short : (failed failed' : Type 0) (r to n : ℕ) (left : List ℕ) (e : TiffError) → (failed → failed') → r < to → n ≡ len → left ≡ drop (r * stored_row_bytes p) bytes
       → IsCause (Unit {0}) failed e (IsTooShort left (needed_of_row p color n) e)
-      → IsCause (Unit {0}) failed' e (fail_if (is_short file order p color k) (IoError UnexpectedEof) ≡ Err e)
-  too_short failed failed' r n left e f rl q d c =
+      → IsCause (Unit {0}) failed' e (fail_if (rows_short file order p color k to) (IoError UnexpectedEof) ≡ Err e)
+  too_short failed failed' r to n left e f rl q d c =
       cause_along e (λ w. w) f
       (λ t.
-      let s : is_short file order p color k ≡ true = short_row r left rl d (subst (λ (m : ℕ). length left < needed_of_row p color m) q t.short) in
+      let s : rows_short file order p color k to ≡ true = short_row r to left rl d (subst (λ (m : ℕ). length left < needed_of_row p color m) q t.short) in
       rw (s, t.fault) refl)
       c

@@ -11,6 +11,7 @@ pub mod ChunkRead
 pub mod RowRead
 pub mod Bands
 pub mod Filling
+pub mod ChunkBands
 pub mod Filled
 pub mod Rows
 pub mod RowLaws

@@ -18,6 +18,7 @@ pub mod OutputRow
 pub mod ReadablePage
 pub mod RowReads
 pub mod AdjacentRows
+pub mod ChunkBands
 pub mod Laws
 pub mod EarlyFaults
 pub mod NumberBytes

@@ -11,6 +11,7 @@ ghost use Rattle.tiff_page.specs.Methods.{method_fault};
 ghost use Rattle.tiff_page.specs.PixelFault.{fail_if};
 ghost use Rattle.tiff_page.specs.Pixels.{chunk_data, is_short, stored_row_bytes, needed_of_row};
 ghost use Rattle.tiff_page.specs.BufferPositions.{GrowsByChunk, WritesChunk};
+ghost use Rattle.tiff_page.specs.ChunkBands.{WritesRows, rows_short};
 ghost use Rattle.tiff_page.specs.ReadablePage.{IsRead};
 ghost use Rattle.tiff_page.specs.AdjacentRows.{LieTogether};
 ghost use Rattle.tiff_page.specs.Rect.{rect};
@@ -47,6 +48,14 @@ pub struct Destination {
     pub top: usize,
     pub left: usize,
     pub stride: usize,
+}
+
+/// Rows of a chunk, from row `from` on and below row `to`, and where the first of them goes.
+#[derive(Clone, Copy, Debug)]
+pub(crate) struct ChunkBand {
+    pub(crate) destination: Destination,
+    pub(crate) from: usize,
+    pub(crate) to: usize,
 }
 
 // Returns the number of bytes to skip after a row: `gap`, or 0 after the last row.
@@ -89,52 +98,62 @@ impl ChunkReader<'_> {
         )
     }
 
-    // Reads the rows one by one, from the start of the chunk's data.
-    fn read_each<R: Source, T, W: RowSink<T>>(
+    /// Reads the rows of the chunk from row `band.from` on, below row `band.to`, one by one.
+    pub(crate) fn read_between<R: Source, T, W: RowSink<T>>(
         &self,
         source: &mut R,
-        destination: Destination,
+        band: ChunkBand,
         writer: &mut W,
         buf: &mut [T],
     ) -> TiffResult<()>
         requires read { IsRead (view.page self.now.format.page.now) self.now.format.color }
         requires formed { method_fault self.now.format.page.now.method ≡ Ok tt }
         requires listed { self.now.index < length self.now.format.page.now.offsets }
-        requires some { 0 < destination.stride }
-        requires columns { destination.left + row_bytes (view.page self.now.format.page.now)
+        requires some_rows { band.from < band.to }
+        requires within { band.to ≤ (rect (view.page self.now.format.page.now)
+            self.now.index).height }
+        requires start { band.from * stored_row_bytes (view.page self.now.format.page.now)
+            < 2 ^ 64 }
+        requires some { 0 < band.destination.stride }
+        requires columns { band.destination.left + row_bytes (view.page self.now.format.page.now)
             self.now.format.color
-            (rect (view.page self.now.format.page.now) self.now.index).width ≤ destination.stride }
-        requires rows { (destination.top + (rect (view.page self.now.format.page.now)
-            self.now.index).height)
-            * destination.stride
+            (rect (view.page self.now.format.page.now) self.now.index).width
+            ≤ band.destination.stride }
+        requires rows { (band.destination.top + (band.to - band.from)) * band.destination.stride
             ≤ length (W.bytes buf.old) }
-        requires few { (destination.top + (rect (view.page self.now.format.page.now)
-            self.now.index).height)
-            * destination.stride < 2 ^ 64 }
+        requires few { (band.destination.top + (band.to - band.from)) * band.destination.stride
+            < 2 ^ 64 }
         ensures kept { IsKept R.told R.failures result source.old source.new }
         ensures ok { OnOk result
-            (WritesChunk (R.told source.old).bytes self.now.format.order
-            (view.page self.now.format.page.now)
-            self.now.format.color
-            self.now.index destination.stride destination.top destination.left (W.bytes buf.old)
-            (W.bytes buf.new)) }
+            (WritesRows (R.told source.old).bytes self.now.format.order
+            (view.page self.now.format.page.now) self.now.format.color
+            self.now.index band.destination.stride band.destination.top band.destination.left
+            band.from band.to (W.bytes buf.old) (W.bytes buf.new)) }
         ensures answer { Answers (λ _. tt) result (fail_if
-            (is_short (R.told source.old).bytes self.now.format.order
+            (rows_short (R.told source.old).bytes self.now.format.order
             (view.page self.now.format.page.now)
-            self.now.format.color self.now.index)
+            self.now.format.color self.now.index band.to)
             (tiff.IoError io.UnexpectedEof)) (R.failures source.old) (R.failures source.new) }
         ensures asked { AsksOnly
             (ChunkReadable (R.told source.old) (view.page self.now.format.page.now)
             self.now.format.color
             self.now.index) result }
     {
+        let ChunkBand {
+            destination,
+            from,
+            to,
+        } = band;
         let format = self.format;
         let rows = self.height as usize;
         let len = row_len(format.page, format.color, format.width);
         let gap = self.gap(len);
+        let start = from * stored_row_bytes(format.page);
         let mut cursor = self.front();
-        for row in 0..rows {
-            let at = (destination.top + row) * destination.stride + destination.left;
+        cursor.pass(source, start as u64)?;
+        for row in from..to {
+            let to_row = destination.top + (row - from);
+            let at = to_row * destination.stride + destination.left;
             let next = RowSlot { format, len, at };
             writer.read_row(source, &mut cursor, &next, buf)?;
             cursor.pass(source, gap_behind(gap, row, rows))?;
@@ -184,7 +203,12 @@ impl ChunkReader<'_> {
         if self.is_contiguous(destination) {
             return self.read_contiguous(source, destination, writer, buf);
         }
-        self.read_each(source, destination, writer, buf)
+        let band = ChunkBand {
+            destination,
+            from: 0,
+            to: self.height as usize,
+        };
+        self.read_between(source, band, writer, buf)
     }
 
     // Whether the rows are appended to a list, and not read into zeros: they lie together, begin

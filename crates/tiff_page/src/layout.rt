@@ -73,7 +73,7 @@ pub struct ChunkRect {
 }
 
 /// Returns the number of chunks side by side.
-fn chunks_across(page: &Page) -> u64
+pub(crate) fn chunks_across(page: &Page) -> u64
     ensures { result ≡ rects.across (view.page page.now) }
 {
     (u64::from(page.width) + u64::from(page.chunk_width) - 1) / u64::from(page.chunk_width)

@@ -3,6 +3,7 @@
 
 mod adjacent_rows;
 pub mod buffers;
+mod chunk_bands;
 pub mod chunk_data;
 pub mod chunk_rows;
 pub mod counts;

@@ -11,9 +11,12 @@ ghost use Rattle.tiff_page.specs.Reach.{PartReadable};
 ghost use Rattle.tiff_page.specs.Rect.{rect, chunks_of_plane};
 ghost use Rattle.tiff_page.specs.PageView as view;
 
+use crate::chunk_bands::BandRoom;
 use crate::chunk_rows::{ChunkReader, Destination};
 use crate::faults::form_fault;
-use crate::layout::{PlaneLayout, chunk_data_dimensions, chunks_of_plane, rect, row_bits};
+use crate::layout::{
+    PlaneLayout, chunk_data_dimensions, chunks_across, chunks_of_plane, rect, row_bits,
+};
 use crate::output_row::RowFormat;
 use crate::page::Page;
 use crate::writer::RowSink;
@@ -42,9 +45,9 @@ pub struct ImagePlanes {
 
 // The chunk with one index of each plane of a part of an image.
 #[derive(Clone, Copy, Debug)]
-struct ChunkRequest {
-    part: ImagePlanes,
-    chunk: u32,
+pub(crate) struct ChunkRequest {
+    pub(crate) part: ImagePlanes,
+    pub(crate) chunk: u32,
 }
 
 /// A chunk in a color, or the chunk of each of `planes` planes, with rows `stride` bytes apart.
@@ -56,8 +59,13 @@ pub struct UnitRequest {
     pub stride: usize,
 }
 
-// Returns where a chunk of a plane goes in a buffer of the planes of an image.
-fn image_destination(page: &Page, layout: PlaneLayout, plane: u16, chunk: u32) -> Destination
+/// Returns where a chunk of a plane goes in a buffer of the planes of an image.
+pub(crate) fn image_destination(
+    page: &Page,
+    layout: PlaneLayout,
+    plane: u16,
+    chunk: u32,
+) -> Destination
     requires { chunk < chunks_of_plane (view.page page.now) }
     ensures top { result.top ≡ top_of (view.page page.now) layout.color layout.row_bytes plane chunk }
     ensures left { result.left ≡ left_of (view.page page.now) layout.color layout.row_bytes plane chunk }
@@ -260,8 +268,18 @@ impl PageReader<'_> {
             (image_part (view.page self.now.page.now)
             part.planes part.layout.row_bytes)) result }
     {
-        for chunk in 0..chunks_of_plane(self.page) {
-            self.grow_chunk(source, ChunkRequest { part, chunk }, writer, list)?;
+        let chunks = chunks_of_plane(self.page);
+        let mut room = BandRoom::new(self.alloc);
+        let mut chunk = 0;
+        while chunk < chunks {
+            let next = ChunkRequest { part, chunk };
+            if self.is_banded(part, chunk) {
+                self.grow_across::<R, T, W>(source, next, &mut room, list)?;
+                chunk += chunks_across(self.page) as u32;
+            } else {
+                self.grow_chunk(source, next, writer, list)?;
+                chunk += 1;
+            }
         }
         W::grow(list, len)?;
         Ok(())

@@ -5,7 +5,7 @@ ghost use Rattle.std.specs.Int.{div_ceil};
 ghost use Rattle.tiff_base.specs.Answers.{AsksOnly, IsKept};
 ghost use Rattle.tiff_page.specs.Layout.{row_bytes};
 ghost use Rattle.tiff_page.specs.BufferPositions.{filled_to};
-ghost use Rattle.tiff_page.specs.NumberBytes.{bytes_in, plain_enough};
+ghost use Rattle.tiff_page.specs.NumberBytes.{IsPut, bytes_in, plain_enough};
 ghost use Rattle.tiff_page.specs.Pixels.{needed_of_row, needs_whole_rows};
 ghost use Rattle.tiff_page.specs.ReadablePage.{IsRead};
 ghost use Rattle.tiff_page.specs.RowReads.{RowPut};
@@ -127,6 +127,13 @@ pub trait RowSink<T> {
         ensures { OnOk result
             (bytes list.new.items ≡ filled_to (whole len) (bytes list.old.items)) };
 
+    /// Writes bytes to a position among the bytes of a list. A list that is too short grows, as by
+    /// `grow`.
+    fn append(list: &mut Vec<T>, at: usize, row: &[u8]) -> Result<(), AllocError>
+        requires fits { at + length row.now < 2 ^ 64 }
+        ensures { OnOk result (IsPut at row.now (filled_to (whole (at + length row.now))
+            (bytes list.old.items)) (bytes list.new.items)) };
+
     /// Whether a list has `at` bytes.
     fn ends_at(list: &[T], at: usize) -> bool
         ensures { IsTrue result ↔ (length (bytes list.now) ≡ at) };
@@ -212,6 +219,10 @@ impl RowSink<u8> for ByteRows {
     #[tactic(auto, using(crate::proofs::NumberBytes::plain_zeros_behind))]
     fn grow(list: &mut Vec<u8>, len: usize) -> Result<(), AllocError> {
         grow::<u8, 1>(list, len)
+    }
+
+    fn append(list: &mut Vec<u8>, at: usize, row: &[u8]) -> Result<(), AllocError> {
+        append_row::<u8, 1>(list, at, row)
     }
 
     fn ends_at(list: &[u8], at: usize) -> bool {
@@ -303,6 +314,11 @@ impl<T: Number<N>, const N: usize> RowSink<T> for TypedRows<N> {
     #[tactic(auto, using(crate::proofs::NumberBytes::some_size))]
     fn grow(list: &mut Vec<T>, len: usize) -> Result<(), AllocError> {
         grow(list, len.div_ceil(N))
+    }
+
+    #[tactic(auto, using(crate::proofs::NumberBytes::some_size))]
+    fn append(list: &mut Vec<T>, at: usize, row: &[u8]) -> Result<(), AllocError> {
+        append_row(list, at, row)
     }
 
     #[tactic(auto, using(crate::proofs::NumberBytes::some_size))]

@@ -1,20 +1,25 @@
-use Rattle.std.proofs.Common.{arith, Ok, Err, sym, ◌≡◌, ℕ, List, ◌∙◌, ◌+◌, ◌*◌, ◌<◌, subst}
+use Rattle.std.proofs.Common.{arith, Ok, Err, refl, sym, ◌≡◌, ℕ, List, ◌∙◌, ◌+◌, ◌*◌, ◌<◌, ◌≤◌, subst}
 use Rattle.std.specs.Prelude.{replicate}
 use Rattle.std.proofs.lemmas.Result.{err_from_is_err_and}
 use Rattle.tiff_base.specs.Answers.{IsCause}
+use Rattle.tiff_base.specs.declared.error.TiffError.TheVariants.{IoError}
+use Rattle.tiff_base.specs.declared.io.IoKind.TheVariants.{UnexpectedEof}
 use Rattle.tiff_base.proofs.Told.{same_bytes}
 use Rattle.tiff_page.specs.Layout.{LayoutRecord}
 use Rattle.tiff_page.specs.Laws.{HasSides}
 use Rattle.tiff_page.specs.Pixels.{is_short}
-use Rattle.tiff_page.specs.PixelFault.{chunk_fault, each_below}
+use Rattle.tiff_page.specs.PixelFault.{chunk_fault, each_below, fail_if}
 use Rattle.tiff_page.specs.BufferPositions.{filled_to, Writes, IsBefore, image_byte}
-use Rattle.tiff_page.specs.Rect.{chunks_of_plane}
+use Rattle.tiff_page.specs.ChunkBands.{AreBanded, WritesImageRows}
+use Rattle.tiff_page.specs.Rect.{rect, across, chunks_of_plane}
 use Rattle.tiff_page.specs.PageView as view
 use Rattle.tiff_page.specs.declared.page.Page.{Page}
 use Rattle.tiff_page.specs.declared.layout.PlaneLayout.{PlaneLayout}
 use Rattle.tiff_page.proofs.Covering.{planes_written}
-use Rattle.tiff_page.proofs.Filling.{chunk_cause, image_filled, of_chunk, one_more}
+use Rattle.tiff_page.proofs.ChunkBands as bands
+use Rattle.tiff_page.proofs.Filling.{chunk_cause, image_filled, of_chunk, one_more, stride_some}
 use Rattle.tiff_page.proofs.Reach.{image_asked}
+use Rattle.tiff_page.proofs.Sizes.{parts_some}
 use Rattle.tiff_page.proofs.read_chunks.PageReader.grow_image.Goals as goal
 
 abbrev pub sides_of : (p : Page) → HasSides (view.page p)
@@ -22,6 +27,82 @@ sides_of p = record { wide = p.wide; high = p.high; chunk_wide = p.chunk_wide; c
 
 abbrev pub layout : PlaneLayout → LayoutRecord
 layout l = record { color = l.color; row_bytes = l.row_bytes; plane_stride = l.plane_stride }
+
+pub is_banded-requires : goal.is_banded-requires
+is_banded-requires g c =
+    let p = c.args.self.now.page.now in
+    stride_some (g.R.Source.told c.args.source.now).bytes c.args.self.now.order (view.page p) c.args.self.now.limits.now (layout c.args.part.layout) (sides_of p) p.sampled p.deep c.requires.laid
+
+pub returns-in_err-grow_across-clause-answer : goal.returns-in_err-grow_across-clause-answer
+returns-in_err-grow_across-clause-answer g c =
+    let p = c.args.self.now.page.now in
+    let file = (g.R.Source.told c.args.source.now).bytes in
+    let color = c.args.part.layout.color in
+    let chunk = c.loop-chunk.chunk in
+    let e = c.in_err-grow_across.field-0.0 in
+    let banded : AreBanded (view.page p) c.args.self.now.limits.now color c.args.part.planes chunk = c.if-is_banded.ensures refl in
+    let inside : chunk < chunks_of_plane (view.page p) = omega (arith, c.loop-chunk-test.true, c.chunks_of_plane-chunks.ensures.count) in
+    let last = bands.all_indices file c.args.self.now.order (view.page p) c.args.self.now.limits.now (layout c.args.part.layout) (sides_of p) p.sampled p.deep c.requires.laid chunk 0 c.args.part.planes banded inside (parts_some p.width p.chunk_width p.chunk_wide p.wide) in
+    let given = subst
+    (λ (bytes : List ℕ).
+    IsCause (Unit {0}) (g.R.Source.failures c.loop-chunk.source < g.R.Source.failures c.grow_across.new.source) e
+    (each_below (λ column. fail_if (is_short bytes c.args.self.now.order (view.page p) color (chunk + column)) (IoError UnexpectedEof)) (across (view.page p)) ≡ Err e))
+    (same_bytes c.loop-chunk.invariant.same) c.in_err-grow_across.ensures.answer in
+    let answered = err_from_is_err_and c.from_residual.result c.from_residual.ensures.1 in
+    rw (answered.1, answered.2) (bands.across_cause file c.args.self.now.order (view.page p) c.args.self.now.limits.now color c.args.part.planes chunk banded
+    _ _ (replicate (g.W.RowSink.whole c.args.len) 0) c.args.part.layout.row_bytes e (λ f. omega (arith, f, c.loop-chunk.invariant.count)) last c.loop-chunk.invariant.none given)
+
+pub overflow_add-chunk : goal.overflow_add-chunk
+overflow_add-chunk g c =
+    let p = c.args.self.now.page.now in
+    let chunk = c.loop-chunk.chunk in
+    let banded : AreBanded (view.page p) c.args.self.now.limits.now c.args.part.layout.color c.args.part.planes chunk = c.if-is_banded.ensures refl in
+    let inside : chunk < chunks_of_plane (view.page p) = omega (arith, c.loop-chunk-test.true, c.chunks_of_plane-chunks.ensures.count) in
+    let last = bands.all_indices (g.R.Source.told c.args.source.now).bytes c.args.self.now.order (view.page p) c.args.self.now.limits.now (layout c.args.part.layout) (sides_of p) p.sampled p.deep c.requires.laid chunk 0 c.args.part.planes banded inside (parts_some p.width p.chunk_width p.chunk_wide p.wide) in
+    omega (arith, last, c.chunks_across.ensures, c.chunks_of_plane-chunks.ensures.count)
+
+pub loop-chunk-preserved-then-is_banded : goal.loop-chunk-preserved-then-is_banded
+loop-chunk-preserved-then-is_banded g c =
+    let p = c.args.self.now.page.now in
+    let file = (g.R.Source.told c.args.source.now).bytes in
+    let order = c.args.self.now.order in
+    let limits = c.args.self.now.limits.now in
+    let color = c.args.part.layout.color in
+    let stride = c.args.part.layout.row_bytes in
+    let planes = c.args.part.planes in
+    let chunk = c.loop-chunk.chunk in
+    let many = across (view.page p) in
+    let bytes = g.W.RowSink.bytes in
+    let total = g.W.RowSink.whole c.args.len in
+    let i = c.loop-chunk.invariant in
+    let same = same_bytes i.same in
+    let banded : AreBanded (view.page p) limits color planes chunk = c.if-is_banded.ensures refl in
+    let inside : chunk < chunks_of_plane (view.page p) = omega (arith, c.loop-chunk-test.true, c.chunks_of_plane-chunks.ensures.count) in
+    let some : 0 < many = parts_some p.width p.chunk_width p.chunk_wide p.wide in
+    let last = bands.all_indices file order (view.page p) limits (layout c.args.part.layout) (sides_of p) p.sampled p.deep c.requires.laid chunk 0 planes banded inside some in
+    let rows = bands.its_rows file order (view.page p) limits (layout c.args.part.layout) (sides_of p) p.sampled p.deep c.requires.laid chunk 0 planes banded inside some in
+    let room = bands.its_room file order (view.page p) limits (layout c.args.part.layout) (sides_of p) p.sampled p.deep c.requires.laid chunk 0 planes banded inside some in
+    let e : many ≡ c.chunks_across.result = sym c.chunks_across.ensures in
+    let given = subst
+    (λ (told : List ℕ). each_below (λ column. fail_if (is_short told order (view.page p) color (chunk + column)) (IoError UnexpectedEof)) many ≡ Ok tt)
+    same c.in_ok-grow_across.ensures.answer in
+    let none = bands.none_across file order (view.page p) limits color planes chunk banded many (omega arith) i.none given in
+    let size : 1 * c.args.part.layout.plane_stride ≤ c.args.len = subst (λ (n : ℕ). n * c.args.part.layout.plane_stride ≤ c.args.len) banded.one c.requires.room in
+    let enough = g.met.W.RowSink.enough c.args.part.layout.plane_stride c.args.len (omega (arith, size)) in
+    let y = (rect (view.page p) chunk).y in
+    let h = (rect (view.page p) chunk).height in
+    let new = filled_to total (bytes c.grow_across.new.list.items) in
+    let wrote = subst (λ (told : List ℕ). WritesImageRows told order (view.page p) color stride y (y + h) (filled_to total (bytes c.loop-chunk.list.items)) new) same (c.in_ok-grow_across.ensures.ok total enough.1) in
+    let before = subst (λ (n : ℕ). Writes (IsBefore (view.page p) color stride n chunk 0) (image_byte (view.page p) color stride file order) (replicate total 0) (filled_to total (bytes c.loop-chunk.list.items))) banded.one i.written in
+    let after = bands.across_written (view.page p) color stride chunk (sides_of p) rows room inside banded.leftmost some file order (replicate total 0) (filled_to total (bytes c.loop-chunk.list.items)) new before wrote in
+    record {
+      same = c.in_ok-grow_across.ensures.kept.told ∙ i.same;
+      count = omega (arith, c.in_ok-grow_across.ensures.kept.swallowed, i.count);
+      below = omega (arith, last, e);
+      none = subst (λ (n : ℕ). each_below (of_chunk file order (view.page p) limits (layout c.args.part.layout) (sides_of p) p.sampled p.deep c.requires.laid planes) (chunk + n) ≡ Ok tt) e none;
+      written = subst (λ (n : ℕ). Writes (IsBefore (view.page p) color stride planes (chunk + n) 0) (image_byte (view.page p) color stride file order) (replicate total 0) new) e
+          (subst (λ (n : ℕ). Writes (IsBefore (view.page p) color stride n (chunk + many) 0) (image_byte (view.page p) color stride file order) (replicate total 0) new) (sym banded.one) after);
+    }
 
 pub returns-in_err-grow_chunk-clause-answer : goal.returns-in_err-grow_chunk-clause-answer
 returns-in_err-grow_chunk-clause-answer g c =
@@ -32,9 +113,9 @@ returns-in_err-grow_chunk-clause-answer g c =
     IsCause (Unit {0}) (g.R.Source.failures c.loop-chunk.source < g.R.Source.failures c.grow_chunk.new.source) c.in_err-grow_chunk.field-0.0
     (each_below (λ plane. chunk_fault (view.page p) c.args.self.now.limits.now (is_short bytes c.args.self.now.order (view.page p) c.args.part.layout.color) c.args.part.layout.color (plane * chunks_of_plane (view.page p) + (0 + c.loop-chunk.chunk))) c.args.part.planes ≡ Err c.in_err-grow_chunk.field-0.0))
     (same_bytes c.loop-chunk.invariant.same) c.in_err-grow_chunk.ensures.answer in
-    let answered = err_from_is_err_and c.from_residual.result c.from_residual.ensures.1 in
+    let answered = err_from_is_err_and c.from_residual-in_err-grow_chunk.result c.from_residual-in_err-grow_chunk.ensures.1 in
     rw (answered.1, answered.2) (chunk_cause file c.args.self.now.order (view.page p) c.args.self.now.limits.now (layout c.args.part.layout) (sides_of p) p.sampled p.deep c.requires.laid c.args.part.planes
-    _ _ c.loop-chunk.chunk (replicate (g.W.RowSink.whole c.args.len) 0) c.in_err-grow_chunk.field-0.0 (λ f. omega (arith, f, c.loop-chunk.invariant.count)) (omega (arith, c.loop-chunk-test.true, c.chunks_of_plane-chunk-end.ensures.count)) c.loop-chunk.invariant.none given)
+    _ _ c.loop-chunk.chunk (replicate (g.W.RowSink.whole c.args.len) 0) c.in_err-grow_chunk.field-0.0 (λ f. omega (arith, f, c.loop-chunk.invariant.count)) (omega (arith, c.loop-chunk-test.true, c.chunks_of_plane-chunks.ensures.count)) c.loop-chunk.invariant.none given)
 
 pub loop-chunk-preserved : goal.loop-chunk-preserved
 loop-chunk-preserved g c =
@@ -61,6 +142,7 @@ loop-chunk-preserved g c =
     record {
       same = c.in_ok-grow_chunk.ensures.kept.told ∙ i.same;
       count = omega (arith, c.in_ok-grow_chunk.ensures.kept.swallowed, i.count);
+      below = omega (arith, c.loop-chunk-test.true, c.chunks_of_plane-chunks.ensures.count);
       none = one_more (of_chunk file order (view.page p) c.args.self.now.limits.now (layout c.args.part.layout) (sides_of p) p.sampled p.deep c.requires.laid planes) c.loop-chunk.chunk i.none given;
       written = planes_written (view.page p) color stride planes c.loop-chunk.chunk (image_byte (view.page p) color stride file order) (replicate total 0) (filled_to total (bytes c.grow_chunk.new.list.items))
           (wrote (replicate total 0) i.written);
@@ -71,7 +153,7 @@ returns-clause-answer g c =
     let p = c.args.self.now.page.now in
     let file = (g.R.Source.told c.args.source.now).bytes in
     let total = g.W.RowSink.whole c.args.len in
-    let e : c.loop-chunk.chunk ≡ chunks_of_plane (view.page p) = omega (arith, c.loop-chunk-test.false, c.loop-chunk.auto.chunk-end, c.chunks_of_plane-chunk-end.ensures.count) in
+    let e : c.loop-chunk.chunk ≡ chunks_of_plane (view.page p) = omega (arith, c.loop-chunk-test.false, c.loop-chunk.invariant.below, c.chunks_of_plane-chunks.ensures.count) in
     let full = c.in_ok-grow.ensures in
     image_filled file c.args.self.now.order (view.page p) c.args.self.now.limits.now (layout c.args.part.layout) (sides_of p) p.sampled p.deep c.requires.laid c.args.part.planes (replicate total 0) (g.W.RowSink.bytes c.grow.new.list.items) c.requires.some
     (subst (λ (m : ℕ). each_below (of_chunk file c.args.self.now.order (view.page p) c.args.self.now.limits.now (layout c.args.part.layout) (sides_of p) p.sampled p.deep c.requires.laid c.args.part.planes) m ≡ Ok tt) e c.loop-chunk.invariant.none)
@@ -80,6 +162,6 @@ returns-clause-answer g c =
 
 pub returns-in_err-grow_chunk-clause-asked : goal.returns-in_err-grow_chunk-clause-asked
 returns-in_err-grow_chunk-clause-asked g c =
-    let answered = err_from_is_err_and c.from_residual.result c.from_residual.ensures.1 in
+    let answered = err_from_is_err_and c.from_residual-in_err-grow_chunk.result c.from_residual-in_err-grow_chunk.ensures.1 in
     rw (answered.1, answered.2) (image_asked (view.page c.args.self.now.page.now) c.args.part.layout.color c.args.part.planes c.args.part.layout.row_bytes c.loop-chunk.chunk _ (g.R.Source.told c.args.source.now) (g.R.Source.told c.loop-chunk.source) c.loop-chunk.invariant.same
-    (omega (arith, c.loop-chunk-test.true, c.chunks_of_plane-chunk-end.ensures.count)) c.in_err-grow_chunk.ensures.asked)
+    (omega (arith, c.loop-chunk-test.true, c.chunks_of_plane-chunks.ensures.count)) c.in_err-grow_chunk.ensures.asked)

@@ -6,7 +6,7 @@ use Rattle.tiff_page.specs.Rect.{rect}
 use Rattle.tiff_page.specs.ChunkData.{bytes_left}
 use Rattle.tiff_page.specs.PageView as view
 use Rattle.tiff_page.proofs.Reach.{StandsAt}
-use Rattle.tiff_page.proofs.chunk_rows.ChunkReader.read_each.Given as goal
+use Rattle.tiff_page.proofs.chunk_rows.ChunkReader.read_between.Given as goal
 
 -- the rows so far are in the buffer, and the data contain them; the next row is at the position
 abbrev pub invariant-loop-row : goal.invariant-loop-row
@@ -20,6 +20,6 @@ invariant-loop-row g l =
       count : g.R.Source.failures l.source ≡ g.R.Source.failures l.fn.source;
       stands : StandsAt p l.self.index (l.row * stored_row_bytes p) l.cursor;
       position : l.row < (rect p l.self.index).height → bytes_left bytes l.cursor ≡ drop (l.row * stored_row_bytes p) stored;
-      enough : 0 < l.row → (l.row - 1) * stored_row_bytes p + needed_of_row p l.self.format.color len ≤ length stored;
-      written : Writes (IsIn l.destination.stride l.destination.top l.row l.destination.left len) (in_rect (chunk_byte bytes l.self.format.order p l.self.format.color l.self.index) l.destination.stride l.destination.top l.destination.left) (g.W.RowSink.bytes l.fn.buf) (g.W.RowSink.bytes l.buf);
+      enough : l.fn.band.from < l.row → (l.row - 1) * stored_row_bytes p + needed_of_row p l.self.format.color len ≤ length stored;
+      written : Writes (IsIn l.fn.band.destination.stride l.fn.band.destination.top (l.row - l.fn.band.from) l.fn.band.destination.left len) (in_rect (λ r b. chunk_byte bytes l.self.format.order p l.self.format.color l.self.index (l.fn.band.from + r) b) l.fn.band.destination.stride l.fn.band.destination.top l.fn.band.destination.left) (g.W.RowSink.bytes l.fn.buf) (g.W.RowSink.bytes l.buf);
     }

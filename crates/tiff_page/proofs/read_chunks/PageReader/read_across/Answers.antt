@@ -1,0 +1,184 @@
+use Rattle.std.proofs.Common.{arith, Ok, Err, refl, ap, sym, ◌≡◌, ℕ, List, ◌∙◌, ◌+◌, ◌-◌, ◌*◌, ◌<◌, ◌≤◌, ◌^◌, length, subst}
+use Rattle.std.proofs.lemmas.Result.{err_from_is_err_and}
+use Rattle.std.proofs.Math.Nat.{mul-le-mul_right}
+use Rattle.tiff_base.specs.Answers.{IsCause}
+use Rattle.tiff_base.specs.declared.error.TiffError.TheVariants.{IoError}
+use Rattle.tiff_base.specs.declared.io.IoKind.TheVariants.{UnexpectedEof}
+use Rattle.tiff_base.proofs.Told.{same_bytes}
+use Rattle.tiff_base.proofs.Causes.{cause_along}
+use Rattle.tiff_page.specs.PixelCalls.{image_part}
+use Rattle.tiff_page.specs.PixelFault.{fail_if}
+use Rattle.tiff_page.specs.Layout.{LayoutRecord}
+use Rattle.tiff_page.specs.Laws.{HasSides}
+use Rattle.tiff_page.specs.BufferPositions.{Writes, IsIn, image_byte, left_of}
+use Rattle.tiff_page.specs.ChunkBands.{rows_short}
+use Rattle.tiff_page.specs.Rect.{rect, across, chunks_of_plane}
+use Rattle.tiff_page.specs.PageView as view
+use Rattle.tiff_page.specs.declared.page.Page.{Page}
+use Rattle.tiff_page.specs.declared.layout.PlaneLayout.{PlaneLayout}
+use Rattle.tiff_page.proofs.ChunkBands as bands
+use Rattle.tiff_page.proofs.Filling.{one_more, first_at, row_is, stride_some}
+use Rattle.tiff_page.proofs.Reach.{part_asked}
+use Rattle.tiff_page.proofs.Sizes.{plane_few}
+use Rattle.tiff_page.proofs.read_chunks.PageReader.read_across.Goals as goal
+
+abbrev pub sides_of : (p : Page) → HasSides (view.page p)
+sides_of p = record { wide = p.wide; high = p.high; chunk_wide = p.chunk_wide; chunk_high = p.chunk_high }
+
+abbrev pub layout : PlaneLayout → LayoutRecord
+layout l = record { color = l.color; row_bytes = l.row_bytes; plane_stride = l.plane_stride }
+
+-- the chunks of a plane are fewer than 2^32
+pub chunks_few : (p : Page) → chunks_of_plane (view.page p) < 2 ^ 32
+chunks_few p = plane_few p.width p.height p.chunk_width p.chunk_height p.samples (length p.offsets) p.planar p.sampled p.counted p.few
+
+pub overflow_cast-index : goal.overflow_cast-index
+overflow_cast-index g c =
+    let p = c.args.self.now.page.now in
+    let inside : c.loop-column.column < across (view.page p) = omega (arith, c.loop-column-test.true, c.chunks_across-column-end.ensures) in
+    let i = bands.its_index (g.R.Source.told c.args.source.now).bytes c.args.self.now.order (view.page p) c.args.self.now.limits.now (layout c.args.band.layout) (sides_of p) p.sampled p.deep c.requires.laid c.args.band.first c.loop-column.column 1 c.requires.banded c.requires.chunk inside in
+    let n = chunks_few p in
+    omega (arith, i, n)
+
+pub overflow_add-index : goal.overflow_add-index
+overflow_add-index g c =
+    let p = c.args.self.now.page.now in
+    let inside : c.loop-column.column < across (view.page p) = omega (arith, c.loop-column-test.true, c.chunks_across-column-end.ensures) in
+    let i = bands.its_index (g.R.Source.told c.args.source.now).bytes c.args.self.now.order (view.page p) c.args.self.now.limits.now (layout c.args.band.layout) (sides_of p) p.sampled p.deep c.requires.laid c.args.band.first c.loop-column.column 1 c.requires.banded c.requires.chunk inside in
+    let n = chunks_few p in
+    omega (arith, i, n)
+
+pub image_destination-place-requires : goal.image_destination-place-requires
+image_destination-place-requires g c =
+    let p = c.args.self.now.page.now in
+    let inside : c.loop-column.column < across (view.page p) = omega (arith, c.loop-column-test.true, c.chunks_across-column-end.ensures) in
+    bands.its_index (g.R.Source.told c.args.source.now).bytes c.args.self.now.order (view.page p) c.args.self.now.limits.now (layout c.args.band.layout) (sides_of p) p.sampled p.deep c.requires.laid c.args.band.first c.loop-column.column 1 c.requires.banded c.requires.chunk inside
+
+pub read_between-requires-clause-read : goal.read_between-requires-clause-read
+read_between-requires-clause-read g c =
+    let p = c.args.self.now.page.now in
+    let inside : c.loop-column.column < across (view.page p) = omega (arith, c.loop-column-test.true, c.chunks_across-column-end.ensures) in
+    bands.its_read (g.R.Source.told c.args.source.now).bytes c.args.self.now.order (view.page p) c.args.self.now.limits.now (layout c.args.band.layout) (sides_of p) p.sampled p.deep c.requires.laid c.args.band.first c.loop-column.column 1 c.requires.banded c.requires.chunk inside
+
+pub read_between-requires-clause-formed : goal.read_between-requires-clause-formed
+read_between-requires-clause-formed g c =
+    let p = c.args.self.now.page.now in
+    let inside : c.loop-column.column < across (view.page p) = omega (arith, c.loop-column-test.true, c.chunks_across-column-end.ensures) in
+    bands.its_method (g.R.Source.told c.args.source.now).bytes c.args.self.now.order (view.page p) c.args.self.now.limits.now (layout c.args.band.layout) (sides_of p) p.sampled p.deep c.requires.laid c.args.band.first c.loop-column.column 1 c.requires.banded c.requires.chunk inside
+
+pub read_between-requires-clause-listed : goal.read_between-requires-clause-listed
+read_between-requires-clause-listed g c =
+    let p = c.args.self.now.page.now in
+    let inside : c.loop-column.column < across (view.page p) = omega (arith, c.loop-column-test.true, c.chunks_across-column-end.ensures) in
+    bands.its_place (g.R.Source.told c.args.source.now).bytes c.args.self.now.order (view.page p) c.args.self.now.limits.now (layout c.args.band.layout) (sides_of p) p.sampled p.deep c.requires.laid c.args.band.first c.loop-column.column 1 c.requires.banded c.requires.chunk inside (length p.offsets) p.counted
+
+pub read_between-requires-clause-within : goal.read_between-requires-clause-within
+read_between-requires-clause-within g c =
+    let p = c.args.self.now.page.now in
+    let inside : c.loop-column.column < across (view.page p) = omega (arith, c.loop-column-test.true, c.chunks_across-column-end.ensures) in
+    let h = bands.its_height (g.R.Source.told c.args.source.now).bytes c.args.self.now.order (view.page p) c.args.self.now.limits.now (layout c.args.band.layout) (sides_of p) p.sampled p.deep c.requires.laid c.args.band.first c.loop-column.column 1 c.requires.banded c.requires.chunk inside in
+    omega (arith, h, c.requires.within)
+
+pub read_between-requires-clause-start : goal.read_between-requires-clause-start
+read_between-requires-clause-start g c =
+    let p = c.args.self.now.page.now in
+    let inside : c.loop-column.column < across (view.page p) = omega (arith, c.loop-column-test.true, c.chunks_across-column-end.ensures) in
+    bands.its_start (g.R.Source.told c.args.source.now).bytes c.args.self.now.order (view.page p) c.args.self.now.limits.now (layout c.args.band.layout) (sides_of p) p.sampled p.deep c.requires.laid c.args.band.first c.loop-column.column 1 c.requires.banded c.requires.chunk inside
+    c.args.band.from c.args.band.to c.requires.some_rows c.requires.within
+
+pub read_between-requires-clause-some : goal.read_between-requires-clause-some
+read_between-requires-clause-some g c =
+    let p = c.args.self.now.page.now in
+    let l = stride_some (g.R.Source.told c.args.source.now).bytes c.args.self.now.order (view.page p) c.args.self.now.limits.now (layout c.args.band.layout) (sides_of p) p.sampled p.deep c.requires.laid in
+    omega (arith, l, c.image_destination-place.ensures.stride)
+
+pub read_between-requires-clause-columns : goal.read_between-requires-clause-columns
+read_between-requires-clause-columns g c =
+    let p = c.args.self.now.page.now in
+    let inside : c.loop-column.column < across (view.page p) = omega (arith, c.loop-column-test.true, c.chunks_across-column-end.ensures) in
+    let l = bands.its_columns (g.R.Source.told c.args.source.now).bytes c.args.self.now.order (view.page p) c.args.self.now.limits.now (layout c.args.band.layout) (sides_of p) p.sampled p.deep c.requires.laid c.args.band.first c.loop-column.column 1 c.requires.banded c.requires.chunk inside in
+    omega (arith, l, c.image_destination-place.ensures.left, c.image_destination-place.ensures.stride)
+
+pub read_between-requires-clause-rows : goal.read_between-requires-clause-rows
+read_between-requires-clause-rows g c =
+    let n : 0 + (c.args.band.to - c.args.band.from) ≡ c.args.band.to - c.args.band.from = omega arith in
+    let e : (0 + (c.args.band.to - c.args.band.from)) * c.image_destination-place.result.stride ≡ (c.args.band.to - c.args.band.from) * c.args.band.layout.row_bytes = λ t. n t * c.image_destination-place.ensures.stride t in
+    omega (arith, e, c.requires.room, c.loop-column.invariant.written.0)
+
+pub read_between-requires-clause-few : goal.read_between-requires-clause-few
+read_between-requires-clause-few g c =
+    let p = c.args.self.now.page.now in
+    let l = bands.rows_end (g.R.Source.told c.args.source.now).bytes c.args.self.now.order (view.page p) c.args.self.now.limits.now (layout c.args.band.layout) (sides_of p) p.sampled p.deep c.requires.laid c.args.band.first c.args.band.to c.requires.within in
+    let n : 0 + (c.args.band.to - c.args.band.from) ≡ c.args.band.to - c.args.band.from = omega arith in
+    let e : (0 + (c.args.band.to - c.args.band.from)) * c.image_destination-place.result.stride ≡ (c.args.band.to - c.args.band.from) * c.args.band.layout.row_bytes = λ t. n t * c.image_destination-place.ensures.stride t in
+    let k : (c.args.band.to - c.args.band.from) * c.args.band.layout.row_bytes ≤ ((rect (view.page p) c.args.band.first).y + c.args.band.to) * c.args.band.layout.row_bytes = mul-le-mul_right c.args.band.layout.row_bytes (omega arith) in
+    omega (arith, l, e, k)
+
+pub returns-in_err-read_between-clause-answer : goal.returns-in_err-read_between-clause-answer
+returns-in_err-read_between-clause-answer g c =
+    let p = view.page c.args.self.now.page.now in
+    let order = c.args.self.now.order in
+    let band = c.args.band in
+    let e = c.in_err-read_between.field-0.0 in
+    let file = (g.R.Source.told c.args.source.now).bytes in
+    let column = c.loop-column.column in
+    let inside : column < across p = omega (arith, c.loop-column-test.true, c.chunks_across-column-end.ensures) in
+    let given = subst (λ (bytes : List ℕ). IsCause (Unit {0}) (g.R.Source.failures c.loop-column.source < g.R.Source.failures c.read_between.new.source) e (fail_if (rows_short bytes order p band.layout.color (band.first + column) band.to) (IoError UnexpectedEof) ≡ Err e)) (same_bytes c.loop-column.invariant.same) c.in_err-read_between.ensures.answer in
+    let answered = err_from_is_err_and c.from_residual.result c.from_residual.ensures.1 in
+    rw (answered.1, answered.2) (cause_along e (λ w. w) (λ f. omega (arith, f, c.loop-column.invariant.count))
+    (λ h. first_at (λ k. fail_if (rows_short file order p band.layout.color (band.first + k) band.to) (IoError UnexpectedEof)) (across p) column e inside c.loop-column.invariant.none h) given)
+
+pub returns-in_err-read_between-clause-asked : goal.returns-in_err-read_between-clause-asked
+returns-in_err-read_between-clause-asked g c =
+    let p = c.args.self.now.page.now in
+    let inside : c.loop-column.column < across (view.page p) = omega (arith, c.loop-column-test.true, c.chunks_across-column-end.ensures) in
+    let i = c.args.band.first + c.loop-column.column in
+    let below = bands.its_index (g.R.Source.told c.args.source.now).bytes c.args.self.now.order (view.page p) c.args.self.now.limits.now (layout c.args.band.layout) (sides_of p) p.sampled p.deep c.requires.laid c.args.band.first c.loop-column.column 1 c.requires.banded c.requires.chunk inside in
+    let answered = err_from_is_err_and c.from_residual.result c.from_residual.ensures.1 in
+    rw (answered.1, answered.2) (part_asked (view.page p) c.args.band.layout.color (image_part (view.page p) 1 c.args.band.layout.row_bytes) 0 i i _ (g.R.Source.told c.args.source.now) (g.R.Source.told c.loop-column.source) c.loop-column.invariant.same
+    (omega arith) (omega arith) below c.in_err-read_between.ensures.asked)
+
+pub loop-column-preserved : goal.loop-column-preserved
+loop-column-preserved g c =
+    let p = c.args.self.now.page.now in
+    let order = c.args.self.now.order in
+    let band = c.args.band in
+    let color = band.layout.color in
+    let stride = band.layout.row_bytes in
+    let file = (g.R.Source.told c.args.source.now).bytes in
+    let column = c.loop-column.column in
+    let i = band.first + column in
+    let to = c.image_destination-place.result in
+    let inside : column < across (view.page p) = omega (arith, c.loop-column-test.true, c.chunks_across-column-end.ensures) in
+    let same = same_bytes c.loop-column.invariant.same in
+    let old = c.args.rows.now in
+    let mid = c.loop-column.rows in
+    let new = c.read_between.new.buf in
+    let given = subst (λ (bytes : List ℕ). fail_if (rows_short bytes order (view.page p) color i band.to) (IoError UnexpectedEof) ≡ Ok tt) same c.in_ok-read_between.ensures.answer in
+    let wrote = bands.rows_moved order (view.page p) color i band.from band.to mid new (g.R.Source.told c.loop-column.source).bytes file
+    to.stride stride 0 0 to.left (left_of (view.page p) color stride 0 i)
+    same c.image_destination-place.ensures.stride refl c.image_destination-place.ensures.left c.in_ok-read_between.ensures.ok in
+    record {
+      same = c.in_ok-read_between.ensures.kept.told ∙ c.loop-column.invariant.same;
+      count = omega (arith, c.in_ok-read_between.ensures.kept.swallowed, c.loop-column.invariant.count);
+      none = one_more (λ k. fail_if (rows_short file order (view.page p) color (band.first + k) band.to) (IoError UnexpectedEof)) column c.loop-column.invariant.none given;
+      written = bands.its_beside file order (view.page p) c.args.self.now.limits.now (layout band.layout) (sides_of p) p.sampled p.deep c.requires.laid band.first column 1 c.requires.banded c.requires.chunk inside
+          band.from band.to old mid new c.requires.some_rows c.requires.within c.loop-column.invariant.written wrote;
+    }
+
+pub returns-clause-ok : goal.returns-clause-ok
+returns-clause-ok g c =
+    let p = c.args.self.now.page.now in
+    let order = c.args.self.now.order in
+    let band = c.args.band in
+    let color = band.layout.color in
+    let stride = band.layout.row_bytes in
+    let file = (g.R.Source.told c.args.source.now).bytes in
+    let at = λ (i : ℕ). image_byte (view.page p) color stride file order (((rect (view.page p) band.first).y + band.from) * stride + i) in
+    let n = band.to - band.from in
+    let e : c.loop-column.column ≡ across (view.page p) = omega (arith, c.loop-column-test.false, c.loop-column.auto.column-end, c.chunks_across-column-end.ensures) in
+    let l = bands.all_columns file order (view.page p) c.args.self.now.limits.now (layout band.layout) (sides_of p) p.sampled p.deep c.requires.laid band.first 1 c.requires.banded c.requires.chunk in
+    let s = row_is file order (view.page p) c.args.self.now.limits.now (layout band.layout) (sides_of p) p.sampled p.deep c.requires.laid in
+    let some = stride_some file order (view.page p) c.args.self.now.limits.now (layout band.layout) (sides_of p) p.sampled p.deep c.requires.laid in
+    bands.rows_filled at stride n c.args.rows.now c.loop-column.rows some c.requires.room
+    (subst (λ (m : ℕ). Writes (IsIn stride 0 n 0 m) at c.args.rows.now c.loop-column.rows) (ap (bands.edge (view.page p) color) e ∙ l ∙ sym s) c.loop-column.invariant.written)

@@ -1,0 +1,55 @@
+-- Some rows of a chunk, and the rows of an image that the chunks side by side have.
+use Rattle.std.specs.Prelude.{◌≡◌, ℕ, ◌+◌, ◌-◌, ◌*◌, ◌%◌, ◌^◌, ◌<◌, ◌≤◌, Bool, List, length, nat_lt, slice_index, Ok}
+use Rattle.tiff_base.specs.declared.color.ColorType.{ColorType}
+use Rattle.tiff_base.specs.declared.tags.ByteOrder.{ByteOrder}
+use Rattle.tiff_ifd.specs.declared.limits.Limits.{Limits}
+use Rattle.tiff_page.specs.Page.{PageRecord}
+use Rattle.tiff_page.specs.PixelFault.{form_fault}
+use Rattle.tiff_page.specs.Rect.{rect, across}
+use Rattle.tiff_page.specs.Layout.{row_bytes}
+use Rattle.tiff_page.specs.Pixels.{chunk_data, stored_row_bytes, needed_of_row}
+use Rattle.tiff_page.specs.BufferPositions.{Writes, IsIn, in_rect, chunk_byte, image_byte, filled_to}
+
+-- the data of a chunk are too few for its first n rows
+abbrev pub rows_short : List ℕ → ByteOrder → PageRecord → ColorType → ℕ → ℕ → Bool
+rows_short file order p color i n =
+    nat_lt (length (chunk_data file order p i))
+    ((n - 1) * stored_row_bytes p + needed_of_row p color (row_bytes p color (rect p i).width))
+
+-- A buffer contains the rows of a chunk from row `from` on, below row `to`, and is otherwise
+-- unchanged. The first of them is in row `top` of the buffer, from byte `left` on.
+abbrev pub WritesRows : List ℕ → ByteOrder → PageRecord → ColorType → ℕ → ℕ → ℕ → ℕ → ℕ → ℕ
+    → List ℕ → List ℕ → Type 0
+WritesRows file order p color k stride top left from to old new =
+    Writes (IsIn stride top (to - from) left (row_bytes p color (rect p k).width))
+    (in_rect (λ r b. chunk_byte file order p color k (from + r) b) stride top left) old new
+
+-- bytes are those of the first plane of an image, from row `from` on
+abbrev pub AreImageRows : List ℕ → ByteOrder → PageRecord → ColorType → ℕ → ℕ → List ℕ → Type 0
+AreImageRows file order p color stride from rows = (i : ℕ) → i < length rows
+    → slice_index rows i ≡ image_byte p color stride file order (from * stride + i)
+
+-- a buffer contains the rows of the first plane of an image from row `from` on, below row `to`, and
+-- is otherwise unchanged
+abbrev pub WritesImageRows : List ℕ → ByteOrder → PageRecord → ColorType → ℕ → ℕ → ℕ → List ℕ
+    → List ℕ → Type 0
+WritesImageRows file order p color stride from to old new =
+    Writes (IsIn stride from (to - from) 0 (row_bytes p color p.width))
+    (image_byte p color stride file order) old new
+
+-- a list grows to hold these rows, which end at byte `end`
+abbrev pub GrowsByRows : List ℕ → ByteOrder → PageRecord → ColorType → ℕ → ℕ → ℕ → ℕ → List ℕ
+    → List ℕ → Type 0
+GrowsByRows file order p color stride from to end old new =
+    (total : ℕ) → end ≤ total
+    → WritesImageRows file order p color stride from to (filled_to total old) (filled_to total new)
+
+-- The chunks side by side in an image that begin with one are read some rows of each at a time:
+-- it is the first of them, one plane is read, they all pass the checks of their form, and a place
+-- in a chunk's data is a number below 2^64.
+pub record AreBanded (p : PageRecord) (limits : Limits) (color : ColorType) (planes first : ℕ)
+    : Type 0 where
+  pub one : planes ≡ 1
+  pub leftmost : first % across p ≡ 0
+  pub formed : (column : ℕ) → column < across p → form_fault p limits color (first + column) ≡ Ok tt
+  pub few : stored_row_bytes p * p.chunk_height < 2 ^ 64

@@ -1,0 +1,234 @@
+//! Reads the chunks that lie side by side in an image, some rows of each at a time.
+//!
+//! So rows of the image are read one after another, and are appended to a list. Chunks that are
+//! read one by one are read over zeros, since their rows lie apart.
+
+ghost use Rattle.std.specs.Prelude.{◌≡◌, ℕ, ◌+◌, ◌-◌, ◌*◌, ◌<◌, ◌≤◌, IsTrue, Ok, length, OnOk};
+ghost use Rattle.tiff_base.specs.Answers.{Answers, AsksOnly, IsKept};
+ghost use Rattle.tiff_base.specs.declared.error.TiffError.TheVariants as tiff;
+ghost use Rattle.tiff_base.specs.declared.io.IoKind.TheVariants as io;
+ghost use Rattle.tiff_page.specs.ChunkBands.{AreBanded, AreImageRows, GrowsByRows, rows_short};
+ghost use Rattle.tiff_page.specs.Layout.{layout_of};
+ghost use Rattle.tiff_page.specs.PixelCalls.{image_part};
+ghost use Rattle.tiff_page.specs.PixelFault as fault;
+ghost use Rattle.tiff_page.specs.PixelFault.{each_below, fail_if};
+ghost use Rattle.tiff_page.specs.Pixels.{is_short};
+ghost use Rattle.tiff_page.specs.Reach.{PartReadable};
+ghost use Rattle.tiff_page.specs.Rect as rects;
+ghost use Rattle.tiff_page.specs.PageView as view;
+
+use crate::chunk_rows::{ChunkBand, ChunkReader, Destination};
+use crate::faults::form_fault;
+use crate::layout::{PlaneLayout, chunk_data_dimensions, chunks_across, rect};
+use crate::methods::is_packed;
+use crate::output_row::{RowFormat, stored_row_bytes};
+use crate::read_chunks::{ChunkRequest, ImagePlanes, PageReader, image_destination};
+use crate::writer::{ByteRows, RowSink};
+use std::alloc::Global;
+use tiff_base::color::ColorType;
+use tiff_base::error::TiffResult;
+use tiff_base::io::Source;
+
+// The number of bytes of the rows of an image that are read at once. They have to stay in the
+// processor's second cache until they are appended.
+const BAND: usize = 262144;
+
+// The least number of bytes of a chunk that are read at once. A source that reads ahead, as
+// `BufferedSource`, reads at most as many bytes again.
+const LEAST: usize = 8192;
+
+// Rows of the chunks side by side in an image from chunk `first` on: from row `from` of each of
+// them on, below row `to`.
+#[derive(Clone, Copy, Debug)]
+struct BandRequest {
+    layout: PlaneLayout,
+    first: u32,
+    from: usize,
+    to: usize,
+}
+
+/// Scratch buffers for rows of an image.
+#[derive(Drop)]
+pub(crate) struct BandRoom {
+    rows: Vec<u8>,
+    writer: ByteRows,
+}
+
+impl BandRoom {
+    /// Returns empty scratch buffers.
+    pub(crate) fn new(alloc: Global) -> Self {
+        BandRoom {
+            rows: Vec::new(alloc),
+            writer: ByteRows::new(alloc),
+        }
+    }
+}
+
+// Returns how many rows of `row_bytes` bytes are read at once, at least 1. The bytes that are read
+// don't depend on it.
+fn rows_at_once(row_bytes: usize) -> usize
+    requires { 0 < row_bytes }
+    ensures { 0 < result }
+{
+    (BAND / row_bytes).max(1)
+}
+
+impl PageReader<'_> {
+    // Whether each of the chunks side by side from chunk `first` on passes the checks of its form.
+    fn are_formed(&self, color: ColorType, first: u32) -> bool
+        ensures { IsTrue result → (column : ℕ) → column < rects.across (view.page self.now.page.now)
+            → fault.form_fault (view.page self.now.page.now) self.now.limits.now color
+            (first + column) ≡ Ok tt }
+    {
+        for column in 0..chunks_across(self.page) {
+            let index = first as usize + column as usize;
+            if form_fault(self.page, self.limits, color, index).is_err() {
+                return false;
+            }
+        }
+        true
+    }
+
+    /// Whether the chunks side by side from a chunk on are read by `grow_across`. They are not if a
+    /// row of the image is longer than the scratch buffer, if the source would be asked for few
+    /// bytes at a time, or if data are decompressed, which is done from the start of a chunk. The
+    /// list doesn't depend on it.
+    pub(crate) fn is_banded(&self, part: ImagePlanes, first: u32) -> bool
+        requires { 0 < part.layout.row_bytes }
+        ensures { IsTrue result → AreBanded (view.page self.now.page.now) self.now.limits.now
+            part.layout.color part.planes first }
+    {
+        let page = self.page;
+        let across = chunks_across(page);
+        let stored = stored_row_bytes(page);
+        part.planes == 1
+            && across > 1
+            && u64::from(first) % across == 0
+            && !is_packed(page.method)
+            && part.layout.row_bytes <= BAND
+            && rows_at_once(part.layout.row_bytes).saturating_mul(stored) >= LEAST
+            && stored.checked_mul(page.chunk_height as usize).is_some()
+            && self.are_formed(part.layout.color, first)
+    }
+
+    // Reads rows of chunks that lie side by side, as they are in the image, into the bytes of as
+    // many rows of it.
+    fn read_across<R: Source>(
+        &self,
+        source: &mut R,
+        band: BandRequest,
+        writer: &mut ByteRows,
+        rows: &mut [u8],
+    ) -> TiffResult<()>
+        requires laid { layout_of (view.page self.now.page.now) self.now.page.now.width
+            self.now.page.now.height ≡ Ok (record {
+              color = band.layout.color;
+              row_bytes = band.layout.row_bytes;
+              plane_stride = band.layout.plane_stride;
+            }) }
+        requires banded { AreBanded (view.page self.now.page.now) self.now.limits.now
+            band.layout.color 1 band.first }
+        requires chunk { band.first < rects.chunks_of_plane (view.page self.now.page.now) }
+        requires some_rows { band.from < band.to }
+        requires within { band.to ≤ (rects.rect (view.page self.now.page.now) band.first).height }
+        requires room { length rows.old ≡ (band.to - band.from) * band.layout.row_bytes }
+        ensures kept { IsKept R.told R.failures result source.old source.new }
+        ensures ok { OnOk result
+            (AreImageRows (R.told source.old).bytes self.now.order (view.page self.now.page.now)
+            band.layout.color band.layout.row_bytes
+            ((rects.rect (view.page self.now.page.now) band.first).y + band.from) rows.new) }
+        ensures answer { Answers (λ _. tt) result
+            (each_below (λ column. fail_if
+            (rows_short (R.told source.old).bytes self.now.order (view.page self.now.page.now)
+            band.layout.color (band.first + column) band.to)
+            (tiff.IoError io.UnexpectedEof)) (rects.across (view.page self.now.page.now)))
+            (R.failures source.old) (R.failures source.new) }
+        ensures asked { AsksOnly
+            (PartReadable (R.told source.old) (view.page self.now.page.now) band.layout.color
+            (image_part (view.page self.now.page.now) 1 band.layout.row_bytes)) result }
+    {
+        let page = self.page;
+        for column in 0..chunks_across(page) {
+            let index = band.first + column as u32;
+            let (width, height) = chunk_data_dimensions(page, index);
+            let format = RowFormat {
+                page,
+                order: self.order,
+                color: band.layout.color,
+                width,
+            };
+            let reader = ChunkReader {
+                format,
+                index,
+                height,
+            };
+            let place = image_destination(page, band.layout, 0, index);
+            let chunk_band = ChunkBand {
+                destination: Destination { top: 0, ..place },
+                from: band.from,
+                to: band.to,
+            };
+            reader.read_between(source, chunk_band, writer, rows)?;
+        }
+        Ok(())
+    }
+
+    /// Reads the chunks that lie side by side in an image, from a chunk on, into a list, which grows
+    /// where it is too short. Some rows of the image at a time go through a scratch buffer. Returns
+    /// `IoError(UnexpectedEof)` if the data of one of the chunks are too few.
+    pub(crate) fn grow_across<R: Source, T, W: RowSink<T>>(
+        &self,
+        source: &mut R,
+        next: ChunkRequest,
+        room: &mut BandRoom,
+        list: &mut Vec<T>,
+    ) -> TiffResult<()>
+        requires laid { layout_of (view.page self.now.page.now) self.now.page.now.width
+            self.now.page.now.height ≡ Ok (record {
+              color = next.part.layout.color;
+              row_bytes = next.part.layout.row_bytes;
+              plane_stride = next.part.layout.plane_stride;
+            }) }
+        requires banded { AreBanded (view.page self.now.page.now) self.now.limits.now
+            next.part.layout.color next.part.planes next.chunk }
+        requires chunk { next.chunk < rects.chunks_of_plane (view.page self.now.page.now) }
+        ensures kept { IsKept R.told R.failures result source.old source.new }
+        ensures ok { OnOk result
+            (GrowsByRows (R.told source.old).bytes self.now.order (view.page self.now.page.now)
+            next.part.layout.color next.part.layout.row_bytes
+            (rects.rect (view.page self.now.page.now) next.chunk).y
+            ((rects.rect (view.page self.now.page.now) next.chunk).y
+            + (rects.rect (view.page self.now.page.now) next.chunk).height)
+            (W.whole next.part.layout.plane_stride) (W.bytes list.old.items)
+            (W.bytes list.new.items)) }
+        ensures answer { Answers (λ _. tt) result
+            (each_below (λ column. fail_if
+            (is_short (R.told source.old).bytes self.now.order (view.page self.now.page.now)
+            next.part.layout.color (next.chunk + column))
+            (tiff.IoError io.UnexpectedEof)) (rects.across (view.page self.now.page.now)))
+            (R.failures source.old) (R.failures source.new) }
+        ensures asked { AsksOnly
+            (PartReadable (R.told source.old) (view.page self.now.page.now) next.part.layout.color
+            (image_part (view.page self.now.page.now) 1 next.part.layout.row_bytes)) result }
+    {
+        let layout = next.part.layout;
+        let place = rect(self.page, next.chunk);
+        let (top, height) = (place.y as usize, place.height as usize);
+        let most = rows_at_once(layout.row_bytes);
+        let mut from = 0;
+        while from < height {
+            let to = from + most.min(height - from);
+            let band = BandRequest {
+                layout,
+                first: next.chunk,
+                from,
+                to,
+            };
+            room.rows.resize((to - from) * layout.row_bytes, 0)?;
+            self.read_across(source, band, &mut room.writer, &mut room.rows)?;
+            W::append(list, (top + from) * layout.row_bytes, &room.rows)?;
+            from = to;
+        }
+        Ok(())
+    }
+}
