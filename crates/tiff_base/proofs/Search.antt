@@ -129,9 +129,6 @@ module _ (number : ℕ) (entries : List (ℕ × Field)) (sorted : IsAscending en
   pub here : Equal ≡ nat_cmp key number → IsPlaceOf number entries middle
   here c = record { within = omega (arith, some, h.within); same = sym found ∙ ranked key number Equal c }
 
-  pub few_here : (digits : ℕ) → length entries < 2 ^ digits → next ≤ before + digits
-  few_here digits d = omega (arith, more, h.counted, few_more digits d)
-
 pub gap : (number : ℕ) (entries : List (ℕ × Field)) (before now low high : ℕ) → Halves number entries before now low high → high ≤ low
     → IsGapFor number entries low
 gap number entries before now low high h met = record {
@@ -139,7 +136,3 @@ gap number entries before now low high h met = record {
   smaller_before = h.smaller;
   greater_after = λ i l m. h.greater i (omega (arith, l, met)) m;
 }
-
-pub few_in_gap : (number : ℕ) (entries : List (ℕ × Field)) (before now low high : ℕ) → Halves number entries before now low high
-    → (digits : ℕ) → length entries < 2 ^ digits → now ≤ before + digits
-few_in_gap number entries before now low high h digits d = omega (arith, h.counted, h.few digits d)

@@ -57,6 +57,17 @@ pub record Appends (old : List ℕ) (bytes : List ℕ) (n : ℕ) (new : List ℕ
   pub some : 0 < length bytes → 0 < n
   pub next : new ≡ old ++ take n bytes
 
+-- The result of a call that appends all bytes of a run at once, or does nothing: the bytes of the
+-- sink, the number of its failed writes, and its last error, before the call and after it.
+abbrev pub AppendsRun : List ℕ → List ℕ → ℕ → Option SinkFault → List ℕ → ℕ → Option SinkFault
+    → Option (Result ℕ SinkFault) → Type 0
+AppendsRun run old failed last new failed' last' None =
+    (new ≡ old) × ((failed' ≡ failed) × (last' ≡ last))
+AppendsRun run old failed last new failed' last' (Some (Ok n)) =
+    (n ≡ length run) × ((new ≡ old ++ run) × ((failed' ≡ failed) × (last' ≡ None)))
+AppendsRun run old failed last new failed' last' (Some (Err e)) =
+    (new ≡ old) × ((failed' ≡ failed + 1) × (last' ≡ Some e))
+
 -- the bytes, with the bytes from an offset on overwritten by others
 abbrev pub put : List ℕ → ℕ → List ℕ → List ℕ
 put bytes at over = take at bytes ++ (over ++ drop (at + length over) bytes)

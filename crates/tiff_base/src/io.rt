@@ -1,7 +1,7 @@
 //! Sources that bytes come from, and sinks that bytes go to.
 
-ghost use Rattle.std.specs.Prelude.{◌≡◌, ℕ, ◌+◌, ◌^◌, ◌≤◌, ◌<◌, List, length, Option, None, Some, IfErr, IfOk, IsOk, OnOk, OnErr, take, true};
-ghost use Rattle.tiff_base.specs.SourceAndSink.{AreOctets, AreReadable, SourceRecord, bytes_at, HoldsByte, Reads, Appends, Overwrites};
+ghost use Rattle.std.specs.Prelude.{◌≡◌, ℕ, ◌+◌, ◌^◌, ◌≤◌, ◌<◌, ◌++◌, List, length, Option, None, Some, IfErr, IfOk, IsOk, OnOk, OnErr, take, true};
+ghost use Rattle.tiff_base.specs.SourceAndSink.{AreOctets, AreReadable, SourceRecord, bytes_at, HoldsByte, Reads, Appends, AppendsRun, Overwrites};
 ghost use Rattle.tiff_base.specs.declared.io.SinkFault.{SinkFault};
 ghost use Rattle.tiff_base.specs.declared.io.TheConstants.{BUFFER_LEN};
 
@@ -71,6 +71,17 @@ pub trait Source: Drop {
     ghost octets: { (s : Self) → AreOctets (told s).bytes };
 }
 
+/// Bytes that are made as they are appended to a list.
+pub trait ByteRun {
+    /// The bytes.
+    ghost bytes: { Self → List ℕ };
+
+    /// Appends the bytes to a list. After an error the list has the bytes that it had.
+    fn push_to(&self, list: &mut Vec<u8>) -> Result<(), AllocError>
+        ensures ok { OnOk result (list.new.items ≡ list.old.items ++ bytes self.now) }
+        ensures err { OnErr result (list.new.items ≡ list.old.items) };
+}
+
 /// Bytes that a caller can append to and overwrite.
 pub trait Sink: Drop {
     /// The bytes that the sink contains.
@@ -94,6 +105,26 @@ pub trait Sink: Drop {
         ensures answered { OnOk result ((failures self.new ≡ failures self.old) × (fault self.new ≡ None)) }
         ensures failed { IfErr result (λ e. (failures self.new ≡ failures self.old + 1)
             × (fault self.new ≡ Some e)) };
+
+    /// Makes room for `len` bytes that will be appended, if the sink can do so at once. It changes no
+    /// byte, and may do nothing.
+    fn reserve(&mut self, len: u64)
+        ensures bytes { told self.new ≡ told self.old }
+        ensures failures { failures self.new ≡ failures self.old }
+        ensures fault { fault self.new ≡ fault self.old }
+    {
+        let _none = len;
+    }
+
+    /// Appends all bytes of a run at once, and returns their number. Returns `None` if the sink
+    /// can't, and then does nothing. After an error the bytes of the sink are unchanged.
+    fn append_run<B: ByteRun>(&mut self, run: &B) -> Option<Result<usize, SinkFault>>
+        ensures { AppendsRun (B.bytes run.now) (told self.old) (failures self.old) (fault self.old)
+            (told self.new) (failures self.new) (fault self.new) result }
+    {
+        let _none = run;
+        None
+    }
 
     /// Overwrites the bytes from offset `at` on, and returns how many of `bytes` it takes from the
     /// front. It takes none only if `bytes` is empty. After an error the bytes of the sink are
@@ -378,6 +409,22 @@ impl Sink for MemorySink {
         }
         self.refused = false;
         Ok(bytes.len())
+    }
+
+    fn reserve(&mut self, len: u64) {
+        // Where there is no room, each call that appends asks again, and says so.
+        let _full = self.items.reserve(len as usize).is_err();
+    }
+
+    fn append_run<B: ByteRun>(&mut self, run: &B) -> Option<Result<usize, SinkFault>> {
+        let from = self.items.len();
+        if run.push_to(&mut self.items).is_err() {
+            self.failed.add();
+            self.refused = true;
+            return Some(Err(SinkFault::OutOfMemory));
+        }
+        self.refused = false;
+        Some(Ok(self.items.len() - from))
     }
 
     fn overwrite(&mut self, at: u64, bytes: &[u8]) -> Result<usize, SinkFault> {

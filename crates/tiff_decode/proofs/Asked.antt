@@ -14,7 +14,6 @@ use Rattle.tiff_base.specs.Header.{Header, header_at}
 use Rattle.tiff_base.specs.SourceAndSink.{SourceRecord}
 use Rattle.tiff_base.proofs.Common.{bind_ok}
 use Rattle.tiff_ifd.specs.TagLookup.{ok_or_fault}
-use Rattle.tiff_ifd.specs.Stretches.{DirectoryReadable}
 use Rattle.tiff_ifd.specs.IfdChainWalk.{ChainBegins, NextReadable, Walked, WayReadable}
 use Rattle.tiff_page.specs.Reach.{PageReadable}
 use Rattle.tiff_page.proofs.Reach.{asks_more}
@@ -22,7 +21,6 @@ use Rattle.tiff_decode.specs.Asked.{EntryReadable, NextPageReadable, OpenReadabl
 use Rattle.tiff_decode.specs.ChainPosition.{IsAt}
 use Rattle.tiff_decode.specs.Machine.{Decoding, source_of}
 use Rattle.tiff_decode.specs.Outcome.{chain_from, chain_of, end_fault, first_directory, next_offset}
-use Rattle.tiff_decode.proofs.Opening.{begun_at}
 use Rattle.tiff_decode.proofs.ChainPosition.{last_of}
 
 -- the bytes that a call reads, for an equal view of the decoder
@@ -30,15 +28,6 @@ pub asked_of : (P : Decoding → Type 0) (d old : Decoding) (e : TiffError) → 
 asked_of P d old e seen asked q = asked (subst P (sym seen) q)
 
 -- ---- opening
-
--- the first directory
-pub first_asked : (s t : SourceRecord) (header : Header) (walk : Walked) (e : TiffError) → t ≡ s → header_at s.bytes ≡ Ok header → walk ≡ begun_at header
-    → (NextReadable t header.kind header.order walk → IsNotDevice e) → OpenReadable s → IsNotDevice e
-first_asked s t header walk e same h w asked opened =
-    let first : NextReadable s header.kind header.order (begun_at header) = record {
-      directory = λ at n. (let here : header.first ≡ at = cc in subst (λ (p : ℕ). DirectoryReadable s header.kind header.order p) here (opened.first header h).directory);
-    } in
-    asked (subst (λ (x : SourceRecord). NextReadable x header.kind header.order walk) (sym same) (subst (λ (v : Walked). NextReadable s header.kind header.order v) (sym w) first))
 
 -- the first directory of a file is that of its header
 first_is : (file : List ℕ) (found : Header × ℕ × DirectoryRecord) → first_directory file ≡ Ok found

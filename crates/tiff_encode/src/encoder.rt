@@ -173,6 +173,13 @@ impl<W: Sink, K: TiffKind> TiffEncoder<W, K> {
         self.writer.write_plain(bytes)
     }
 
+    // Makes room for `len` bytes that will be appended, if the sink can do so at once.
+    fn reserve(&mut self, len: u64)
+        ensures { self.new ≡ self.old }
+    {
+        self.writer.reserve(len);
+    }
+
     // Appends rows of samples to the file, as differences if `predictor` says so. No list of their
     // bytes is allocated.
     fn append_rows<T: Sample>(

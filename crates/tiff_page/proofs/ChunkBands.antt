@@ -191,9 +191,6 @@ pub last_edge : (p : PageRecord) (color : ColorType) (stride : ℕ) → HasSides
 last_edge p color stride sides whole fits some =
     let v : row_bytes p color p.width ≤ across p * row_bytes p color p.chunk_width = covers p color stride 0 0 sides whole fits some in omega (arith, v)
 
-pub no_edge : (p : PageRecord) (color : ColorType) → edge p color 0 ≡ 0
-no_edge p color = omega arith
-
 -- ---- the rows of chunks that lie side by side are these chunks
 
 pub below_product : (q c a m n : ℕ) → c < a → q * a + c < m * a → q < m
@@ -471,13 +468,6 @@ module _ (file : List ℕ) (order : ByteOrder) (p : PageRecord) (limits : Limits
 
   pub its_columns : left_of p l.color l.row_bytes 0 (first + column) + row_bytes p l.color (rect p (first + column)).width ≤ l.row_bytes
   its_columns = columns_in file order p limits l sides samples deep laid 1 (first + column) its_index 0 (first + column) (omega arith) its_form
-
-  pub its_top : top_of p l.color l.row_bytes 0 (first + column) ≡ (rect p first).y
-  its_top =
-      let z : 0 * chunks_of_plane p + (first + column) ≡ first + column = omega arith in
-      let y : (rect p (0 * chunks_of_plane p + (first + column))).y ≡ (rect p (first + column)).y = ap (λ m. (rect p m).y) z in
-      let s = same_top p l.color l.row_bytes first column sides its_rows its_room chunk banded.leftmost inside in
-      omega (arith, y, s)
 
   pub its_beside : (from to : ℕ) (old mid new : List ℕ) → from < to → to ≤ (rect p first).height
       → Writes (IsIn l.row_bytes 0 (to - from) 0 (edge p l.color column)) (λ i. image_byte p l.color l.row_bytes file order (((rect p first).y + from) * l.row_bytes + i)) old mid

@@ -3,7 +3,7 @@ use Rattle.std.proofs.Common.{take, drop, mul_assoc, ◌≡◌, ℕ, ◌+◌, �
 use Rattle.std.specs.Prelude.{nat_lt}
 use Rattle.std.proofs.lemmas.List.{get_or_past, get_or-take, get_or-drop, length-take-le, length-drop}
 use borrow.Rule.Slice.PartMut.{put_mid}
-use Rattle.std.proofs.lemmas.Bool.{cases_Bool, cases_lt, lt-ltb, le-ltb, ltb-false, ltb-true}
+use Rattle.std.proofs.lemmas.Bool.{cases_Bool, cases_lt, lt-ltb, le-ltb, ltb-false}
 use Rattle.std.proofs.lemmas.Nat.{div-add-mod', div-mul-add, mod-mul-add, mod_below, div_below}
 use Rattle.std.proofs.Math.Nat.{mul-le-mul_right, mul_comm}
 use Rattle.tiff_base.specs.declared.color.ColorType.{ColorType}
@@ -16,10 +16,10 @@ use Rattle.tiff_base.specs.declared.tags.Predictor.TheVariants as predictor
 use Rattle.tiff_page.specs.Layout.{samples_in_chunk, row_bits, row_bytes}
 use Rattle.tiff_page.specs.Page.{PageRecord}
 use Rattle.tiff_page.specs.Pixels.{stored_samples, stored_row_bytes, is_byte_plane, needs_whole_rows, row_number, summed_number, joined_number, number_by, number_of_row, shown_number, in_row}
-use Rattle.tiff_page.specs.Row.{IsSize, RowReplaced, TurnsNumbers}
+use Rattle.tiff_page.specs.Row.{IsSize, RowReplaced}
 use Rattle.tiff_page.specs.OutputRow.{HoldsNumbersOf, handed_byte, needs_swap}
 use Rattle.tiff_page.specs.ReadablePage.{IsRead}
-use Rattle.tiff_page.proofs.Rows.{put_below, put_there, by_size, digits, little_digits, some_size, sums_same, stayed, bytes_stayed, all_turned}
+use Rattle.tiff_page.proofs.Rows.{put_below, put_there, by_size, digits, little_digits, some_size, sums_same, stayed, bytes_stayed}
 use Rattle.tiff_page.proofs.RowLaws.{bytes_of_numbers, complemented, digit}
 
 -- ---- bytes of a number
@@ -94,32 +94,11 @@ undone_numbers order p stored held new f l b c =
 
 -- ---- the numbers that a list holds of a row
 
-pub turned_row : (order : ByteOrder) (p : PageRecord) (row held : List ℕ) → needs_swap order p.depth ≡ true
-    → RowReplaced (p.depth / 8) (row_number BigEndian (p.depth / 8) row) row held → RowReplaced (p.depth / 8) (row_number order (p.depth / 8) row) row held
-turned_row LittleEndian p row held t b = cc
-turned_row BigEndian p row held t b = b
-
-pub holds_turned : (order : ByteOrder) (p : PageRecord) (row held : List ℕ) → needs_swap order p.depth ≡ true → length row / (p.depth / 8) * (p.depth / 8) ≡ length row
-    → length held ≡ length row → TurnsNumbers (p.depth / 8) row held → HoldsNumbersOf order p row held
-holds_turned LittleEndian p row held t whole l n = cc
-holds_turned BigEndian p row held t whole l n =
-    let d : 8 < p.depth = ltb-true 8 p.depth t in
-    record {
-      same_length = l;
-      numbers = λ g. all_turned (p.depth / 8) row held whole l n;
-      packed = λ g. Prim.absurd (omega (arith, d, g));
-    }
-
 pub holds_same : (order : ByteOrder) (p : PageRecord) (row : List ℕ) → needs_swap order p.depth ≡ false → HoldsNumbersOf order p row row
 holds_same LittleEndian p row t = record { same_length = refl; numbers = λ d. stayed (p.depth / 8) row; packed = λ d. refl }
 holds_same BigEndian p row t =
     let l : p.depth ≤ 8 = ltb-false 8 p.depth t in
     record { same_length = refl; numbers = λ d. bytes_stayed BigEndian (p.depth / 8) row (omega (arith, d, l)); packed = λ d. refl }
-
-pub whole_turned : (order : ByteOrder) (p : PageRecord) (row room held : List ℕ) → needs_swap order p.depth ≡ true → length row / (p.depth / 8) * (p.depth / 8) ≡ length row
-    → room ≡ row → length held ≡ length row → TurnsNumbers (p.depth / 8) room held → RowReplaced (p.depth / 8) (row_number order (p.depth / 8) row) row held
-whole_turned order p row room held t whole e l n =
-    turned_row order p row held t (all_turned (p.depth / 8) row held whole l (subst (λ (xs : List ℕ). TurnsNumbers (p.depth / 8) xs held) e n))
 
 pub whole_stood : (order : ByteOrder) (p : PageRecord) (row : List ℕ) → needs_swap order p.depth ≡ false → IsSize (p.depth / 8)
     → RowReplaced (p.depth / 8) (row_number order (p.depth / 8) row) row row

@@ -14,13 +14,12 @@ use Rattle.tiff_page.specs.Page.{PageRecord}
 use Rattle.tiff_page.specs.Layout.{row_bits, row_bytes, samples_in_chunk}
 use Rattle.tiff_page.specs.Pixels.{stored_row_bytes, needs_whole_rows, needed_of_row}
 use Rattle.tiff_page.specs.OutputRow.{StoresAllShown, handed_byte, needs_swap}
-use Rattle.tiff_page.specs.Row.{TurnsNumbers}
 use Rattle.tiff_page.specs.RowReads.{NumbersRead, TakesNumbers, TakesRow}
 use Rattle.tiff_page.specs.ChunkData.{IsTooShort, Takes, bytes_left}
 use Rattle.tiff_page.specs.declared.chunk_data.ChunkCursor.{ChunkCursor}
 use Rattle.tiff_page.proofs.ChunkRows.{bits_are}
 use Rattle.tiff_page.proofs.Data.{behind_front}
-use Rattle.tiff_page.proofs.OutputRow.{holds_turned, holds_same}
+use Rattle.tiff_page.proofs.OutputRow.{holds_same}
 
 pub front_of : (front rest : List ℕ) (n : ℕ) → length front ≡ n → take n (front ++ rest) ≡ front
 front_of front rest n e = ap (λ m. take m (front ++ rest)) (sym e) ∙ take-append_seam front rest
@@ -38,16 +37,6 @@ taken order p color left rest filled out e n h =
       behind = behind_front filled rest need n ∙ ap (drop need) (sym e);
       handed = λ b bl. h b bl ∙ ap (λ (z : List ℕ). handed_byte order p z color b) (sym t);
     }
-
--- numbers that were byte-swapped, and numbers that are read as they are stored
-pub turned_taken : (order : ByteOrder) (p : PageRecord) (left rest row out : List ℕ) → needs_swap order p.depth ≡ true
-    → length out / (p.depth / 8) * (p.depth / 8) ≡ length out → length row ≡ length out → left ≡ row ++ rest → TurnsNumbers (p.depth / 8) row out
-    → TakesNumbers order p left rest out
-turned_taken order p left rest row out t whole l e n = record {
-  row = row;
-  next = e;
-  holds = holds_turned order p row out t (ap (λ m. m / (p.depth / 8) * (p.depth / 8)) l ∙ whole ∙ sym l) (sym l) n;
-}
 
 pub stood_taken : (order : ByteOrder) (p : PageRecord) (left rest out : List ℕ) → needs_swap order p.depth ≡ false → left ≡ out ++ rest → TakesNumbers order p left rest out
 stood_taken order p left rest out t e = record { row = out; next = e; holds = holds_same order p out t }

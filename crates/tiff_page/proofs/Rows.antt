@@ -420,11 +420,3 @@ turned_more size row mid new k a done j l =
 -- a row of numbers of one byte is the same in either order
 pub bytes_turned : (size : ℕ) (row : List ℕ) → size ≡ 1 → TurnsNumbers size row row
 bytes_turned size row e = subst (λ (n : ℕ). TurnsNumbers n row row) (sym e) (λ k h. one_byte BigEndian row k)
-
--- after the last whole number, there is no byte
-pub all_turned : (size : ℕ) (row new : List ℕ) → length row / size * size ≡ length row → length new ≡ length row → TurnsNumbers size row new
-    → RowReplaced size (row_number BigEndian size row) row new
-all_turned size row new whole l t = record {
-  numbers = t;
-  behind = λ i h. get_or_past new i 0 (omega (arith, h, whole, l)) ∙ sym (get_or_past row i 0 (omega (arith, h, whole)));
-}

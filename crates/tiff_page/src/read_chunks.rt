@@ -236,9 +236,10 @@ impl PageReader<'_> {
     }
 
     /// Reads all chunks of an image into an empty list, in `part.planes` planes one after another.
-    /// The list becomes `len` bytes long, rounded up to whole items: it grows by each chunk, and by
-    /// zeros before a chunk that can't be appended, and after the last. Returns the first error:
-    /// that of the first chunk, and in it of the first plane, that has one.
+    /// The list becomes `len` bytes long, rounded up to whole items: it grows by each chunk, or by
+    /// rows of chunks side by side, and by zeros before a chunk that can't be appended, and after
+    /// the last. Returns the first error: that of the first chunk, and in it of the first plane,
+    /// that has one.
     pub(crate) fn grow_image<R: Source, T, W: RowSink<T>>(
         &self,
         source: &mut R,

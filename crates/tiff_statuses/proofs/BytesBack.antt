@@ -12,12 +12,6 @@ use Rattle.tiff_encode.proofs.Shown.Color.{IsSize, of_family}
 
 -- ---- whole samples
 
-returns_size : (size : ℕ) → IsSize size → Returns size
-returns_size size (inl e) = subst Returns (sym e) returns_1
-returns_size size (inr (inl e)) = subst Returns (sym e) returns_2
-returns_size size (inr (inr (inl e))) = subst Returns (sym e) returns_4
-returns_size size (inr (inr (inr e))) = subst Returns (sym e) returns_8
-
 whole_by : (size : ℕ) → Returns size → (bytes : List ℕ) → AreOctets bytes → length bytes % size ≡ 0 → length bytes ≡ div_ceil (length bytes) size * size
     → flat_map (le size) (numbers_in size bytes) ≡ bytes
 unfolding numbers_in

@@ -46,10 +46,6 @@ drop_zeros zero n = let e : n ≡ n - 0 = omega arith in ap (λ k. replicate k 0
 drop_zeros (suc m) zero = let e : 0 ≡ 0 - suc m = omega arith in ap (λ k. replicate k 0) e
 drop_zeros (suc m) (suc n) = drop_zeros m n ∙ (let e : n - m ≡ suc n - suc m = omega arith in ap (λ k. replicate k 0) e)
 
-pub map_zeros : {X : Type 0} (f : X → ℕ) (x : X) (n : ℕ) → f x ≡ 0 → map f (replicate n x) ≡ replicate n 0
-map_zeros f x zero h = refl
-map_zeros f x (suc n) h = λ j. h j ∷ map_zeros f x n h j
-
 map_taken : {X : Type 0} (f : X → ℕ) (xs : List X) (n : ℕ) → map f (take n xs) ≡ take n (map f xs)
 map_taken f xs zero = refl
 map_taken f [] (suc n) = refl

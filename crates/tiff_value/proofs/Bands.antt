@@ -1,7 +1,7 @@
 -- Rows of samples written to a sink, some of their bytes at a time.
-use Rattle.std.proofs.Common.{◌≡◌, ℕ, ◌+◌, ◌-◌, ◌*◌, ◌/◌, ◌%◌, ◌<◌, ◌≤◌, List, ◌++◌, map, length, take, drop, Option, Some, None, Result, Ok, Err, MatchResult, inl, inr, refl, subst, ap, sym, ◌∙◌, arith, lit<, append_assoc, length-append, replicate}
+use Rattle.std.proofs.Common.{Bool, true, false, zero, suc, ◌≡◌, ℕ, ◌+◌, ◌-◌, ◌*◌, ◌/◌, ◌%◌, ◌<◌, ◌≤◌, List, [], ◌∷◌, ◌++◌, map, length, take, drop, Option, Some, None, Result, Ok, Err, MatchResult, inl, inr, refl, subst, ap, sym, ◌∙◌, arith, lit<, append_assoc, length-append, replicate}
 use Rattle.std.specs.List.{range_with_len, flat_map}
-use Rattle.std.specs.Prelude.{◌⊎◌, IsSome}
+use Rattle.std.specs.Prelude.{◌⊎◌, ◌==◌, IsSome}
 use Rattle.std.proofs.lemmas.List.{length-map, take_all, take-append-le, length-take-le, length-drop, length-replicate}
 use Rattle.std.proofs.lemmas.Slice.{take-put_mid}
 use Rattle.std.proofs.Math.Nat.{le_trans, mul-le-mul_right, div-mul-le_self}
@@ -20,6 +20,7 @@ use Rattle.tiff_value.specs.Written.{Written, writer_after, IsStopped, IsCut, Wr
 use Rattle.tiff_value.proofs.Chunk.{joined, left_plain, row_made, row_seen}
 use Rattle.tiff_base.specs.declared.tags.Predictor.{Predictor}
 use Rattle.tiff_value.proofs.Differences.{first_kept, predicted}
+use Rattle.tiff_value.proofs.Parts.{length-le}
 use Rattle.tiff_value.proofs.Put.{moved-moved, cut_behind}
 
 some_fault : {A : Type 0} (o : Option A) → o ≡ None → IsSome o → ⊥
@@ -136,11 +137,30 @@ one_row predictor m l s all ns other h =
     (λ k within. sym (first_kept m all all ns k (omega (arith, h, within)) (omega (arith, h, within)))))
     ∙ sym (left_plain predictor m l s ns other)
 
+-- a number that isn't 0
+pub some_of : (n : ℕ) (b : Bool) → b ≡ (n == 0) → b ≡ false → 0 < n
+some_of zero b e f = let t : true ≡ false = sym e ∙ f in cc
+some_of (suc n) b e f = omega arith
+
+-- numbers have bytes
+pub some_bytes : (size : ℕ) (ns : List ℕ) → 0 < size → 0 < length ns → 0 < length (flat_map (le size) ns)
+some_bytes size [] s h = Prim.absurd (omega (arith, h))
+some_bytes size (n ∷ ns) s h =
+    let all : length (le size n ++ flat_map (le size) ns) ≡ length (le size n) + length (flat_map (le size) ns) = length-append (le size n) (flat_map (le size) ns) in
+    let one : length (le size n) ≡ size = length-le 0 size n in
+    omega (arith, all, one, s)
+
 -- written bytes, or a part of them from the front, under an equal list of bytes
 pub told_raw : {A : Type 0} (r : Result A TiffError) (xs ys : List ℕ) (w new : Written) → w.fault ≡ None → xs ≡ ys
     → MatchResult r (λ _. new ≡ writer_after w xs) (λ e. IsCut xs e w new) → WritesRaw ys w new r
 told_raw (Ok x) xs ys w new fresh same h = (fresh, h ∙ ap (writer_after w) same)
 told_raw (Err e) xs ys w new fresh same h = inr (subst (λ (bs : List ℕ). IsCut bs e w new) same h)
+
+-- such bytes after nothing was written
+pub told_after : {A : Type 0} (r : Result A TiffError) (xs ys : List ℕ) (w mid new : Written) → mid ≡ w → xs ≡ ys
+    → MatchResult r (λ _. new ≡ writer_after mid xs) (λ e. IsCut xs e mid new) → MatchResult r (λ _. new ≡ writer_after w ys) (λ e. IsCut ys e w new)
+told_after (Ok x) xs ys w mid new idle same h = h ∙ (λ t. writer_after (idle t) (same t))
+told_after (Err e) xs ys w mid new idle same h = subst (λ (bs : List ℕ). IsCut bs e w new) same (subst (λ (v : Written). IsCut xs e v new) idle h)
 
 -- zeros appended to a list, and then bytes in their place
 pub put_behind : (old items xs part bytes : List ℕ) (start end len : ℕ) → xs ≡ items → items ≡ take end old ++ replicate (end - start) 0 → start ≡ length old

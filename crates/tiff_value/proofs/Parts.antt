@@ -3,7 +3,7 @@ use Rattle.std.proofs.Common.{zero, suc, ◌≡◌, ℕ, ◌+◌, ◌-◌, ◌*�
 use Rattle.std.specs.Int.{bytes_low_first}
 use Rattle.std.specs.List.{range_with_len, flat_map}
 use Rattle.std.proofs.Math.Nat.{mod-eq_of_lt, mul-le-mul_right}
-use Rattle.std.proofs.lemmas.List.{get_or-map, length-map, take_all, length-take-le, length-drop}
+use Rattle.std.proofs.lemmas.List.{get_or-map, length-map, length-take-le, length-drop}
 use Rattle.std.proofs.lemmas.List.FromFn.{map-range_with_len_more}
 use Rattle.std.proofs.lemmas.Grind.{flat_map-append}
 use Rattle.std.proofs.lemmas.Slice.{take-put_mid}
@@ -30,16 +30,6 @@ module _ (F : ℕ → ℕ) (size at end : ℕ) where
     pub long : length out ≡ (end - at) * size
     pub done : take ((k - at) * size) out ≡ bytes_upto k
 
-  pub put_none : (out : List ℕ) → length out ≡ (end - at) * size → PutUpto at out
-  put_none out long =
-      let none : at - at ≡ 0 = omega arith in
-      let no_bytes : 0 * size ≡ 0 = omega arith in
-      let front : (at - at) * size ≡ 0 = ap (λ n. n * size) none ∙ no_bytes in
-      record {
-        long = long;
-        done = (λ i. take (front i) out) ∙ (λ i. flat_map (le size) (map (λ j. F (at + j)) (range_with_len 0 (sym none i))));
-      }
-
   -- one step: the bytes of the next number
   pub put_next : (k : ℕ) (out part : List ℕ) → at ≤ k → k < end → part ≡ le size (F k) → PutUpto k out
       → PutUpto (k + 1) (put_mid ((k - at) * size) ((k - at) * size + size - (k - at) * size) out part)
@@ -64,12 +54,6 @@ module _ (F : ℕ → ℕ) (size at end : ℕ) where
             ∙ ap (flat_map (le size)) (sym (map-range_with_len_more G 0 (k - at) (k - at) (omega arith)))
             ∙ (λ i. flat_map (le size) (map G (range_with_len 0 (sym one i))));
       }
-
-  -- the bytes of all numbers
-  pub put_all : (k : ℕ) (out : List ℕ) → k ≡ end → PutUpto k out → out ≡ bytes_upto end
-  put_all k out e h =
-      let whole : length out ≤ (k - at) * size = omega (arith, h.long ∙ ap (λ n. (n - at) * size) (sym e)) in
-      sym (take_all ((k - at) * size) out whole) ∙ h.done ∙ ap bytes_upto e
 
 module _ {A : Type 0} (b : A → ℕ) (size m : ℕ) (all : m ≡ 256 ^ size) (s : ℕ) (row : List A) where
   -- the numbers of a row

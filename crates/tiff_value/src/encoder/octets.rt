@@ -1,19 +1,15 @@
 //! Conversion of numbers to bytes in a list, many numbers at once.
 
-ghost use Rattle.std.specs.Prelude.{◌≡◌, ◌++◌, map, IfOk, MatchResult, refl};
+ghost use Rattle.std.specs.Prelude.{◌≡◌, ◌+◌, ◌*◌, ◌≤◌, ◌++◌, length, MatchResult, refl};
 ghost use Rattle.std.specs.Io.{StartsWith};
 ghost use Rattle.std.specs.List.{flat_map};
+ghost use Rattle.std.specs.Vec.{vec_len, vec_capacity};
 ghost use Rattle.std.specs.Int.{w8, w16, w32, w64};
 ghost use Rattle.tiff_base.specs.Number.{le};
 ghost use Rattle.tiff_value.specs.Data.{signed_le};
 
-use std::alloc::{AllocError, Global};
 use tiff_base::error::{TiffError, TiffResult};
 use tiff_base::tags::{Bits32, Bits64};
-
-// The number of numbers that are converted to bytes before these are appended. It is small, so that
-// the bytes stay in the processor's cache.
-const BLOCK: usize = 2048;
 
 /// A number that is written as `N` bytes.
 pub(crate) trait Octets<const N: usize>: Copy {
@@ -120,38 +116,35 @@ impl Octets<8> for Bits64 {
     ghost small = { refl };
 }
 
-// Returns the bytes of each number.
-fn octets_of<T: Octets<N>, const N: usize>(
-    alloc: Global,
-    numbers: &[T],
-) -> Result<Vec<[u8; N]>, AllocError>
-    ensures { IfOk result (λ v. v.items ≡ map T.written numbers.now) }
+// Returns a list, which has room for them, with the bytes of a number after it. The list is passed by
+// value, so that LLVM keeps its address and its length in registers.
+fn push_octets<const N: usize>(list: Vec<u8>, octets: [u8; N]) -> Vec<u8>
+    requires { vec_len list + N ≤ vec_capacity list }
+    ensures items { result.items ≡ list.items ++ octets.entry }
+    ensures len { vec_len result ≡ vec_len list + N }
+    ensures capacity { vec_capacity result ≡ vec_capacity list }
 {
-    numbers
-        .iter()
-        .map(
-            |n| -> [u8; N]
-                ensures { result ≡ T.written n.now }
-            { n.octets() },
-        )
-        .collect(alloc)
+    let mut list = list;
+    for k in 0..N {
+        list.push_reserved(octets[k]);
+    }
+    list
 }
 
-// Appends the bytes of the numbers at once.
-#[tactic(auto, using(crate::proofs::Bytes::flattened, crate::proofs::Bytes::front_appended))]
-fn push_block<T: Octets<N>, const N: usize>(numbers: &[T], out: &mut Vec<u8>) -> TiffResult<()>
-    ensures answer { MatchResult result (λ _. out.new.items ≡ out.old.items ++ flat_map T.written numbers.now)
-        (λ e. e ≡ TiffError.OutOfMemory) }
-    ensures front { StartsWith out.new.items out.old.items }
+// Returns a list, which has room for them, with the bytes of numbers after it.
+fn push_each<T: Octets<N>, const N: usize>(list: Vec<u8>, numbers: &[T]) -> Vec<u8>
+    requires { vec_len list + length numbers.now * N ≤ vec_capacity list }
+    ensures { result.items ≡ list.items ++ flat_map T.written numbers.now }
 {
-    let octets = octets_of::<T, N>(out.allocator().clone()?, numbers)?;
-    out.extend_from_slice(octets.as_flattened())?;
-    Ok(())
+    let mut list = list;
+    for k in 0..numbers.len() {
+        list = push_octets(list, numbers[k].octets());
+    }
+    list
 }
 
-/// Appends the bytes of the numbers. The only error is `OutOfMemory`, after which `out` begins with
-/// its earlier contents.
-#[tactic(auto, using(crate::proofs::Bytes::front_kept, crate::proofs::Bytes::pieces_all))]
+/// Appends the bytes of the numbers. The only error is `OutOfMemory`, after which `out` has its
+/// earlier contents.
 pub(crate) fn push_numbers<T: Octets<N>, const N: usize>(
     numbers: &[T],
     out: &mut Vec<u8>,
@@ -160,11 +153,9 @@ pub(crate) fn push_numbers<T: Octets<N>, const N: usize>(
         (λ e. e ≡ TiffError.OutOfMemory) }
     ensures front { StartsWith out.new.items out.old.items }
 {
-    let mut at = 0;
-    while at < numbers.len() {
-        let end = at + BLOCK.min(numbers.len() - at);
-        push_block(&numbers[at..end], out)?;
-        at = end;
-    }
+    out.reserve(numbers.len().saturating_mul(N))?;
+    let empty = Vec::new(*out.allocator());
+    let list = std::mem::replace(out, empty);
+    *out = push_each(list, numbers);
     Ok(())
 }

@@ -1,8 +1,9 @@
 //! A writer of numbers and bytes at an offset of a sink.
 
 ghost use Rattle.std.specs.Int.{w8, w16, w32, w64};
-ghost use Rattle.std.specs.Prelude.{◌≡◌, ℕ, ◌+◌, ◌-◌, ◌%◌, ◌^◌, ◌<◌, ◌≤◌, List, [], ◌∷◌, length, replicate, take, is_some, IsSome, IfOk, IfErr, MatchResult, None};
+ghost use Rattle.std.specs.Prelude.{◌≡◌, ℕ, ◌+◌, ◌-◌, ◌%◌, ◌^◌, ◌<◌, ◌≤◌, List, [], ◌∷◌, length, replicate, take, is_some, IsSome, IfOk, IfErr, MatchResult, None, if◌then◌else◌};
 ghost use Rattle.tiff_base.specs.Number.{le};
+ghost use Rattle.tiff_base.specs.SourceAndSink.{sink_error};
 ghost use Rattle.tiff_base.specs.declared.tags.CompressionMethod.TheVariants as method;
 ghost use Rattle.tiff_value.specs.Compressors.{compressor_method};
 ghost use Rattle.tiff_value.specs.Data.{signed_le};
@@ -15,7 +16,7 @@ use crate::encoder::compression::{CompressionAlgorithm, Compressor, Uncompressed
 use std::alloc::Global;
 use std::marker::Model;
 use tiff_base::error::{TiffError, TiffResult, UsageError};
-use tiff_base::io::{IoKind, Sink, SinkFault};
+use tiff_base::io::{ByteRun, IoKind, Sink, SinkFault};
 use tiff_base::tags::{Bits32, Bits64};
 
 /// Writes bytes at an offset of a sink. After an error of the sink each write returns
@@ -48,6 +49,16 @@ impl<W: Sink> Model for TiffWriter<W> {
 
     ghost invariant = { λ w. (w.at ≤ length (W.told w.sink))
         × (w.failed ≡ is_some (if w.failed then W.fault w.sink else None)) };
+}
+
+// Returns the error for that of a sink.
+fn error_of(fault: SinkFault) -> TiffError
+    ensures { result ≡ sink_error fault }
+{
+    match fault {
+        SinkFault::Device => TiffError::IoError(IoKind::Device),
+        SinkFault::OutOfMemory => TiffError::OutOfMemory,
+    }
 }
 
 impl<W: Sink> TiffWriter<W> {
@@ -148,12 +159,41 @@ impl<W: Sink> TiffWriter<W> {
             }
             Err(fault) => {
                 self.failed = true;
-                Err(match fault {
-                    SinkFault::Device => TiffError::IoError(IoKind::Device),
-                    SinkFault::OutOfMemory => TiffError::OutOfMemory,
-                })
+                Err(error_of(fault))
             }
         }
+    }
+
+    // Appends all bytes of a run at once, without an update of `last_written`, if the writer is at
+    // the end of a sink that can do so. Returns whether it did.
+    fn write_run<B: ByteRun>(&mut self, run: &B) -> TiffResult<bool>
+        requires fresh { self.old.fault ≡ None }
+        ensures { MatchResult result
+            (λ done. self.new ≡ (if done then writer_after self.old (B.bytes run.now) else self.old))
+            (λ e. SinkFails e self.old self.new) }
+    {
+        if self.at != self.sink.len() {
+            return Ok(false);
+        }
+        let Some(told) = self.sink.append_run(run) else {
+            return Ok(false);
+        };
+        self.failed = told.is_err();
+        match told {
+            Ok(n) => {
+                self.at += n as u64;
+                Ok(true)
+            }
+            Err(fault) => Err(error_of(fault)),
+        }
+    }
+
+    /// Makes room for `len` bytes that will be written at the end, if the sink can do so at once.
+    /// This project adds this function.
+    pub fn reserve(&mut self, len: u64)
+        ensures { self.new ≡ self.old }
+    {
+        self.sink.reserve(len);
     }
 
     // Writes all of the bytes, without an update of `last_written`.

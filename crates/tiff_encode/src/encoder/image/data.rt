@@ -15,12 +15,14 @@ ghost use Rattle.tiff_encode.specs.Parts.{next_part, next_slice, pixel_sample, r
 use crate::encoder::TiffEncoder;
 use crate::encoder::image::state::{ImageState, parts_of};
 use crate::encoder::kind::TiffKind;
+use crate::encoder::settings::Compression;
 use std::alloc::Global;
 use tiff_base::error::{TiffError, TiffResult};
 use tiff_base::io::{IoKind, Sink};
 use tiff_base::tags::PlanarConfiguration;
 use tiff_value::encoder::colortype::ColorType;
 use tiff_value::encoder::differences::Sample;
+use tiff_value::encoder::tiff_value::TiffValue;
 
 // Appends samples of value 0.
 fn push_zeros<T: Sample>(count: u64, out: &mut Vec<T>) -> TiffResult<()>
@@ -233,7 +235,7 @@ impl<W: Sink, K: TiffKind> TiffEncoder<W, K> {
 
     // Writes the chunks that are left, one after another. After an error the chunks before the one
     // that failed are in the file.
-    fn write_chunks_left<C: ColorType>(
+    fn put_chunks_left<C: ColorType>(
         &mut self,
         image: &mut ImageState<C>,
         samples: &[C::Inner],
@@ -247,6 +249,35 @@ impl<W: Sink, K: TiffKind> TiffEncoder<W, K> {
             self.write_part(image, samples, written)?;
         }
         Ok(())
+    }
+
+    // Makes room in the sink for the data of an image that isn't compressed, before its first chunk.
+    fn reserve_data<C: ColorType>(&mut self, image: &ImageState<C>)
+        ensures { self.new ≡ self.old }
+    {
+        let (_kind, len) = C::Inner::type_and_len();
+        let Some(samples) = image.image_samples() else {
+            return;
+        };
+        if matches!(image.compression, Compression::Uncompressed) && !image.is_begun() {
+            self.reserve(samples.saturating_mul(u64::from(len)));
+        }
+    }
+
+    // Writes the chunks that are left, after room was made for them. After an error the chunks before
+    // the one that failed are in the file.
+    fn write_chunks_left<C: ColorType>(
+        &mut self,
+        image: &mut ImageState<C>,
+        samples: &[C::Inner],
+    ) -> TiffResult<()>
+        requires { write_image_data_cause self.old image.old (length samples.now) ≡ None }
+        ensures { WritesChunks image.old (parts_left image.old
+            (map (sample_number (type_size C.Inner.value_type) C.Inner.bits) samples.now)) result
+            self.old self.new image.new }
+    {
+        self.reserve_data(image);
+        self.put_chunks_left(image, samples)
     }
 
     // Returns the first error of `write_data` of an image that applies to this number of samples,

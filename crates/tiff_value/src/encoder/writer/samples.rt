@@ -10,13 +10,35 @@ ghost use Rattle.tiff_value.specs.Written.{writer_after, IsCut, WritesCounted, W
 
 use super::TiffWriter;
 use crate::encoder::differences::Sample;
+use std::alloc::AllocError;
 use tiff_base::error::{TiffError, TiffResult, UsageError};
-use tiff_base::io::Sink;
+use tiff_base::io::{ByteRun, Sink};
 use tiff_base::tags::Predictor;
 
 // The number of bytes that are computed before they go to the sink. It is small, so that the bytes
 // stay in the processor's cache.
 const BAND: usize = 8192;
+
+// The bytes of samples.
+#[derive(Clone, Copy)]
+struct SampleRun<'a, T: Sample> {
+    samples: &'a [T],
+}
+
+impl<T: Sample> ByteRun for SampleRun<'_, T> {
+    ghost use Rattle.std.specs.List.{flat_map};
+
+    ghost bytes = { λ run. flat_map T.spelled run.samples.now };
+
+    fn push_to(&self, list: &mut Vec<u8>) -> Result<(), AllocError> {
+        let start = list.len();
+        if T::push_all(self.samples, list).is_err() {
+            list.truncate(start);
+            return Err(AllocError);
+        }
+        Ok(())
+    }
+}
 
 impl<W: Sink> TiffWriter<W> {
     // Writes the bytes of the differences of a row, by way of the buffer `room`, part by part.
@@ -77,8 +99,28 @@ impl<W: Sink> TiffWriter<W> {
         Ok(())
     }
 
-    // Writes all samples, without an update of `last_written`. Without the horizontal predictor the
-    // samples are one row, without differences.
+    // Writes all samples as they are: at once, if the sink can append them so, else as one row,
+    // part by part.
+    fn write_unpredicted<T: Sample>(&mut self, samples: &[T]) -> TiffResult<()>
+        requires fresh { self.old.fault ≡ None }
+        ensures { MatchResult result
+            (λ _. self.new ≡ writer_after self.old
+            (flat_map (le (type_size T.value_type))
+            (map (sample_number (type_size T.value_type) T.bits) samples.now)))
+            (λ e. IsCut
+            (flat_map (le (type_size T.value_type))
+            (map (sample_number (type_size T.value_type) T.bits) samples.now)) e self.old self.new) }
+    {
+        if samples.is_empty() {
+            return Ok(());
+        }
+        if self.write_run(&SampleRun { samples })? {
+            return Ok(());
+        }
+        self.write_rows(samples, samples.len(), samples.len())
+    }
+
+    // Writes all samples, without an update of `last_written`.
     fn write_predicted<T: Sample>(
         &mut self,
         samples: &[T],
@@ -99,10 +141,7 @@ impl<W: Sink> TiffWriter<W> {
         }
         match predictor {
             Predictor::Horizontal => self.write_rows(samples, row, stride),
-            _ => {
-                let all = samples.len().max(1);
-                self.write_rows(samples, all, all)
-            }
+            _ => self.write_unpredicted(samples),
         }
     }
 

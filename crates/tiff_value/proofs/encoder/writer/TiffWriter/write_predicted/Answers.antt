@@ -1,10 +1,10 @@
-use Rattle.std.proofs.Common.{◌≡◌, ◌^◌, ◌≤◌, None, length, map, refl, ap, sym, ◌∙◌, arith}
-use Rattle.std.proofs.lemmas.List.{length-map}
+use Rattle.std.proofs.Common.{◌≡◌, ◌^◌, None, map, ap, sym, refl, ◌∙◌}
 use Rattle.std.specs.List.{flat_map}
 use Rattle.tiff_base.specs.Number.{le}
 use Rattle.tiff_base.specs.Types.{type_size}
 use Rattle.tiff_value.specs.ColorType.{sample_number}
-use Rattle.tiff_value.proofs.Bands.{one_row, told_raw}
+use Rattle.tiff_value.proofs.Bands.{told_raw}
+use Rattle.tiff_value.proofs.Chunk.{left_plain}
 use Rattle.tiff_value.proofs.encoder.writer.TiffWriter.write_predicted.Goals as goal
 
 pub returns-in_default : goal.returns-in_default
@@ -12,9 +12,7 @@ returns-in_default g c =
     let size = type_size g.T.TiffValue.value_type in
     let num = sample_number size g.T.Sample.bits in
     let samples = c.args.samples.now in
-    let all = c.max-all.result in
     let fresh : c.args.self.now.fault ≡ None = sym (ap (λ w. w.fault) c.self.view_is) ∙ rw c.if-self.false refl in
-    let within : length (map num samples) ≤ all = omega (arith, length-map samples num, c.max-all.ensures) in
-    told_raw c.write_rows-in_default.result _ _ c.args.self.now c.write_rows-in_default.new.self fresh
-    (ap (flat_map (le size)) (one_row c.args.predictor (256 ^ size) c.args.row c.args.stride all (map num samples) c.in_default.not-Horizontal within))
-    c.write_rows-in_default.ensures
+    told_raw c.write_unpredicted.result _ _ c.args.self.now c.write_unpredicted.new.self fresh
+    (ap (flat_map (le size)) (sym (left_plain c.args.predictor (256 ^ size) c.args.row c.args.stride (map num samples) c.in_default.not-Horizontal)))
+    c.write_unpredicted.ensures

@@ -4,7 +4,7 @@ use Rattle.tiff_base.specs.Types.{type_size}
 use Rattle.tiff_value.specs.ColorType.{sample_number}
 use Rattle.tiff_encode.specs.Chunks.{chunks_left}
 use Rattle.tiff_encode.proofs.Data.Written.{none_written, more_written, stops_written, all_written, data_fresh, data_few, data_fits, data_whole}
-use Rattle.tiff_encode.proofs.encoder.TiffEncoder.write_chunks_left.Goals as goal
+use Rattle.tiff_encode.proofs.encoder.TiffEncoder.put_chunks_left.Goals as goal
 
 pub chunks_left-written-end-requires : goal.chunks_left-written-end-requires
 chunks_left-written-end-requires g c = data_few c.args.self.now c.args.image.now (length c.args.samples.now) c.requires
