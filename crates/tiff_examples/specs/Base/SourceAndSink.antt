@@ -2,11 +2,12 @@
 use Rattle.std.specs.Prelude.{◌≡◌, ℕ, negsuc, List, [], ◌∷◌, None, Some, Ok, Err}
 use Rattle.tiff_base.specs.declared.error.TiffError.TheVariants.{IoError, LimitsExceeded}
 use Rattle.tiff_base.specs.declared.io.IoKind.TheVariants.{UnexpectedEof}
+use Rattle.tiff_base.specs.declared.io.SinkFault.TheVariants.{Device, OutOfMemory}
 use Rattle.tiff_base.specs.declared.tags.ByteOrder.TheVariants.{LittleEndian, BigEndian}
 use Rattle.tiff_base.specs.declared.tags.FileKind.TheVariants.{Classic, Big}
 use Rattle.tiff_base.specs.declared.tags.Tag.TheVariants as tag
 use Rattle.tiff_base.specs.declared.tags.«Type».TheVariants.{BYTE, ASCII, SHORT, SBYTE}
-use Rattle.tiff_base.specs.SourceAndSink.{SourceRecord, AreReadable, bytes_at, AreOctets, Reads, Appends, Overwrites}
+use Rattle.tiff_base.specs.SourceAndSink.{SourceRecord, AreReadable, bytes_at, AreOctets, Reads, Appends, AppendsRun, Overwrites}
 use Rattle.tiff_base.specs.Directory.{entry_of, last_of_each}
 use Rattle.tiff_base.specs.Field.{Field}
 use Rattle.tiff_base.specs.FieldBytes.{field_bytes}
@@ -113,6 +114,34 @@ append_nothing =
 abbrev pub append_too_many : Type 0
 append_too_many =
     Appends (0x0a ∷ []) (0x0b ∷ []) 2 (0x0a ∷ 0x0b ∷ []) → ⊥
+
+-- a run of two bytes is appended whole, and its number returned; the last error is gone
+abbrev pub run_of_two : Type 0
+run_of_two =
+    AppendsRun (0x0b ∷ 0x0c ∷ []) (0x0a ∷ []) 1 (Some Device) (0x0a ∷ 0x0b ∷ 0x0c ∷ []) 1 None (Some (Ok 2))
+
+-- it isn't appended in part
+abbrev pub run_in_part : Type 0
+run_in_part =
+    AppendsRun (0x0b ∷ 0x0c ∷ []) (0x0a ∷ []) 1 None (0x0a ∷ 0x0b ∷ []) 1 None (Some (Ok 1)) → ⊥
+
+-- an error appends nothing, is counted, and is the last one
+abbrev pub run_failed : Type 0
+run_failed =
+    AppendsRun (0x0b ∷ 0x0c ∷ []) (0x0a ∷ []) 1 None (0x0a ∷ []) 2 (Some OutOfMemory) (Some (Err OutOfMemory))
+
+abbrev pub run_half_failed : Type 0
+run_half_failed =
+    AppendsRun (0x0b ∷ 0x0c ∷ []) (0x0a ∷ []) 1 None (0x0a ∷ 0x0b ∷ []) 2 (Some Device) (Some (Err Device)) → ⊥
+
+-- a sink that can't append a run does nothing
+abbrev pub run_refused : Type 0
+run_refused =
+    AppendsRun (0x0b ∷ 0x0c ∷ []) (0x0a ∷ []) 1 (Some Device) (0x0a ∷ []) 1 (Some Device) None
+
+abbrev pub run_refused_late : Type 0
+run_refused_late =
+    AppendsRun (0x0b ∷ 0x0c ∷ []) (0x0a ∷ []) 1 None (0x0a ∷ 0x0b ∷ 0x0c ∷ []) 1 None None → ⊥
 
 -- a write at 1 may take one of two bytes, and keeps the rest of the file
 abbrev pub over_one : Type 0

@@ -19,9 +19,9 @@ pub fn stretches()
 
 /// Writes of a sink.
 pub fn writes()
-    ensures { s.append_two × s.append_one × s.append_none × s.append_nothing × s.append_too_many
-        × s.over_one ×
-        s.over_two × s.over_end × s.over_none × s.over_elsewhere }
+    ensures appends { s.append_two × s.append_one × s.append_none × s.append_nothing × s.append_too_many }
+    ensures runs { s.run_of_two × s.run_in_part × s.run_failed × s.run_half_failed × s.run_refused × s.run_refused_late }
+    ensures overwrites { s.over_one × s.over_two × s.over_end × s.over_none × s.over_elsewhere }
 {}
 
 /// Values of a directory's fields.
