@@ -12,6 +12,7 @@ mod tags;
 pub mod types;
 mod values;
 
+use crate::io::FiveBytes;
 use tiff::encoder::TiffKindStandard;
 use tiff::encoder::colortype::Gray8;
 use tiff::encoder::compression::Packbits;
@@ -21,7 +22,7 @@ use tiff::io::{MemorySink, MemorySource};
 pub fn name_calls() {
     tags::name_calls();
     directory::name_calls();
-    io::name_calls::<MemorySource, MemorySink>();
+    io::name_calls::<MemorySource, MemorySink, FiveBytes>();
     fields::name_calls::<MemorySource>();
     decoder::name_calls::<MemorySource>();
     values::name_calls::<MemorySink, u8, Packbits, Gray8>();

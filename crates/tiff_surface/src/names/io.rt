@@ -1,10 +1,10 @@
 //! The calls of `tiff::io` and of `tiff::decoder::stream`.
 
 use tiff::decoder::stream::{EndianReader, PackBitsReader};
-use tiff::io::{BufferedSource, MemorySink, MemorySource, Sink, SliceSource, Source};
+use tiff::io::{BufferedSource, ByteRun, MemorySink, MemorySource, Sink, SliceSource, Source};
 
 // Sources and sinks.
-fn name_devices<R: Source, W: Sink>() {
+fn name_devices<R: Source, W: Sink, B: ByteRun>() {
     let _call = R::read_at;
     let _call = MemorySource::new;
     let _call = SliceSource::new;
@@ -13,6 +13,9 @@ fn name_devices<R: Source, W: Sink>() {
     let _call = W::len;
     let _call = W::append;
     let _call = W::overwrite;
+    let _call = W::reserve;
+    let _call = W::append_run::<B>;
+    let _call = B::push_to;
     let _call = MemorySink::new;
     let _call = MemorySink::into_vec;
 }
@@ -36,7 +39,7 @@ fn name_readers<R: Source>() {
 }
 
 /// Names the calls.
-pub fn name_calls<R: Source, W: Sink>() {
-    name_devices::<R, W>();
+pub fn name_calls<R: Source, W: Sink, B: ByteRun>() {
+    name_devices::<R, W, B>();
     name_readers::<R>();
 }

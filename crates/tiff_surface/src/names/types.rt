@@ -12,7 +12,7 @@ pub mod base {
         TiffError, TiffFormatError, TiffResult, TiffUnsupportedError, UsageError,
     };
     pub use tiff::io::{
-        BufferedSource, DeviceFault, IoKind, MemorySink, MemorySource, Sink, SinkFault,
+        BufferedSource, ByteRun, DeviceFault, IoKind, MemorySink, MemorySource, Sink, SinkFault,
         SliceSource, Source,
     };
 }

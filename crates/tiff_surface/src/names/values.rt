@@ -51,6 +51,7 @@ fn name_writers<W: Sink>() {
     let _call = TiffWriter::<W>::last_written;
     let _call = TiffWriter::<W>::has_failed;
     let _call = TiffWriter::<W>::goto_offset;
+    let _call = TiffWriter::<W>::reserve;
     let _call = TiffWriter::<W>::write_bytes;
     let _call = TiffWriter::<W>::write_plain;
     let _call = TiffWriter::<W>::write_u8;
