@@ -3,7 +3,7 @@ use Rattle.std.proofs.Common.{◌≡◌, ℕ, ◌+◌, ◌-◌, ◌*◌, ◌/◌
 use Rattle.std.specs.Prelude.{Result, slice_index}
 use Rattle.std.proofs.lemmas.Bool.{cases_lt, lt-ltb, ltb-true}
 use Rattle.std.proofs.lemmas.Nat.{div-mul-add, mod-mul-add, mod_below, div_below, div-add-mod'}
-use Rattle.std.proofs.Math.Nat.{div-eq_of_lt, le-mul_of_pos_right, mod-eq_of_lt, mul_comm, mul-le-mul_right, mul-add-div_right, mul-add-mod_self_right}
+use Rattle.std.proofs.Math.Nat.{div-eq_of_lt, le-mul_of_pos_right, mod-eq_of_lt, mul_comm, mul-le-mul_right}
 use Rattle.tiff_base.specs.declared.color.ColorType.{ColorType}
 use Rattle.tiff_base.specs.declared.error.TiffError.{TiffError}
 use Rattle.tiff_base.specs.declared.error.TiffError.TheVariants.{IoError}
@@ -22,7 +22,7 @@ use Rattle.tiff_page.specs.PixelCalls.{fill_buffer, image_part}
 use Rattle.tiff_page.specs.Pixels.{chunk_data, is_short, needed_of_row, stored_row_bytes}
 use Rattle.tiff_page.specs.BufferPositions.{Writes, IsIn, in_rect, chunk_byte, chunk_of, plane_of, top_of, left_of, IsBefore, image_byte}
 use Rattle.tiff_page.specs.NumberBytes.{IsPut}
-use Rattle.tiff_page.specs.ChunkBands.{AreBanded, WritesRows, WritesImageRows, rows_short}
+use Rattle.tiff_page.specs.ChunkBands.{AreBanded, AreImageRows, PutsImageRows, WritesRows, WritesImageRows, rows_short}
 use Rattle.tiff_page.proofs.Covering.{left_is, width_is, row_is, len_in, covers, byte_is, chunk_bytes_some}
 use Rattle.tiff_page.specs.Counts.{all_chunks, planes_of}
 use Rattle.tiff_page.specs.Methods.{method_fault}
@@ -154,12 +154,12 @@ module _ (p : PageRecord) (color : ColorType) (stride first column : ℕ) (sides
       (cases_lt (column + 1) a)
 
   -- the rows of one of them are written beside those of the chunks before it, from the image's row
-  -- `from` on
-  pub beside : (file : List ℕ) (order : ByteOrder) (from to : ℕ) (old mid new : List ℕ) → 0 < stride → from < to → to ≤ (rect p first).height
-      → Writes (IsIn stride 0 (to - from) 0 (edge p color column)) (λ i. image_byte p color stride file order (((rect p first).y + from) * stride + i)) old mid
-      → WritesRows file order p color j stride 0 (left_of p color stride 0 j) from to mid new
-      → Writes (IsIn stride 0 (to - from) 0 (edge p color (column + 1))) (λ i. image_byte p color stride file order (((rect p first).y + from) * stride + i)) old new
-  beside file order from to old mid new wide some within before w =
+  -- `from` on, into a buffer from its row `at` on
+  pub beside : (file : List ℕ) (order : ByteOrder) (from to at : ℕ) (old mid new : List ℕ) → 0 < stride → from < to → to ≤ (rect p first).height
+      → Writes (IsIn stride at (to - from) 0 (edge p color column)) (in_rect (λ r b. image_byte p color stride file order (((rect p first).y + from + r) * stride + b)) stride at 0) old mid
+      → WritesRows file order p color j stride at (left_of p color stride 0 j) from to mid new
+      → Writes (IsIn stride at (to - from) 0 (edge p color (column + 1))) (in_rect (λ r b. image_byte p color stride file order (((rect p first).y + from + r) * stride + b)) stride at 0) old new
+  beside file order from to at old mid new wide some within before w =
       let z : 0 * chunks_of_plane p + j ≡ j = omega arith in
       let k : ℕ = 0 * chunks_of_plane p + j in
       let top : top_of p color stride 0 j ≡ (rect p first).y = let y : (rect p k).y ≡ (rect p j).y = ap (λ m. (rect p m).y) z in omega (arith, y, same_top) in
@@ -169,21 +169,24 @@ module _ (p : PageRecord) (color : ColorType) (stride first column : ℕ) (sides
       let left : ℕ = left_of p color stride 0 j in
       let len : ℕ = row_bytes p color (rect p k).width in
       let start : ℕ = (rect p first).y + from in
-      let at : ℕ → ℕ = λ i. image_byte p color stride file order (start * stride + i) in
-      let v : Writes (IsIn stride 0 (to - from) left len) (in_rect (λ r n. chunk_byte file order p color k (from + r) n) stride 0 left) mid new =
-      subst (λ (m : ℕ). Writes (IsIn stride 0 (to - from) left (row_bytes p color (rect p m).width)) (in_rect (λ r n. chunk_byte file order p color m (from + r) n) stride 0 left) mid new) (sym z) w in
-      let s : Writes (IsIn stride 0 (to - from) left len) at mid new =
-      writes_as (IsIn stride 0 (to - from) left len) (in_rect (λ r n. chunk_byte file order p color k (from + r) n) stride 0 left) at mid new
+      let value : ℕ → ℕ = in_rect (λ r n. image_byte p color stride file order ((start + r) * stride + n)) stride at 0 in
+      let v : Writes (IsIn stride at (to - from) left len) (in_rect (λ r n. chunk_byte file order p color k (from + r) n) stride at left) mid new =
+      subst (λ (m : ℕ). Writes (IsIn stride at (to - from) left (row_bytes p color (rect p m).width)) (in_rect (λ r n. chunk_byte file order p color m (from + r) n) stride at left) mid new) (sym z) w in
+      let s : Writes (IsIn stride at (to - from) left len) value mid new =
+      writes_as (IsIn stride at (to - from) left len) (in_rect (λ r n. chunk_byte file order p color k (from + r) n) stride at left) value mid new
       (λ i q.
-      let d : (start * stride + i) / stride ≡ start + i / stride = mul-add-div_right wide start i in
-      let m : (start * stride + i) % stride ≡ i % stride = mul-add-mod_self_right start stride i in
-      let r : (start * stride + i) / stride - top_of p color stride 0 j ≡ from + (i / stride - 0) = omega (arith, d, top) in
-      let n : (start * stride + i) % stride - left ≡ i % stride - left = ap (λ x. x - left) m in
-      sym (ap (λ x. chunk_byte file order p color k x ((start * stride + i) % stride - left)) r ∙ ap (λ x. chunk_byte file order p color k (from + (i / stride - 0)) x) n)
-      ∙ byte_is p color stride 0 j sides whole fits in_plane file order (start * stride + i)
-      (record { below = omega (arith, d, top); above = omega (arith, d, top, q.above, within, high, some); right = omega (arith, m, q.right); within = omega (arith, m, q.within) })) v in
-      more_columns at stride 0 (to - from) (edge p color column) len (edge p color (column + 1)) old mid new (omega (arith, b, e)) before
-      (subst (λ (m : ℕ). Writes (IsIn stride 0 (to - from) m len) at mid new) b s)
+      let row : ℕ = start + (i / stride - at) in
+      let byte : ℕ = i % stride - 0 in
+      let small : i % stride < stride = mod_below i stride wide in
+      let d : (row * stride + byte) / stride ≡ row = div-mul-add row stride byte (omega (arith, small)) in
+      let m : (row * stride + byte) % stride ≡ byte = mod-mul-add row stride byte (omega (arith, small)) in
+      let r : (row * stride + byte) / stride - top_of p color stride 0 j ≡ from + (i / stride - at) = omega (arith, d, top) in
+      let n : (row * stride + byte) % stride - left ≡ i % stride - left = omega (arith, m) in
+      sym (ap (λ x. chunk_byte file order p color k x ((row * stride + byte) % stride - left)) r ∙ ap (λ x. chunk_byte file order p color k (from + (i / stride - at)) x) n)
+      ∙ byte_is p color stride 0 j sides whole fits in_plane file order (row * stride + byte)
+      (record { below = omega (arith, d, top); above = omega (arith, d, top, q.below, q.above, within, high, some); right = omega (arith, m, q.right); within = omega (arith, m, q.within) })) v in
+      more_columns value stride at (to - from) (edge p color column) len (edge p color (column + 1)) old mid new (omega (arith, b, e)) before
+      (subst (λ (m : ℕ). Writes (IsIn stride at (to - from) m len) value mid new) b s)
 
 -- all columns
 pub last_edge : (p : PageRecord) (color : ColorType) (stride : ℕ) → HasSides p → HasWholeRows p color → row_bytes p color p.width ≤ stride → 0 < chunks_of_plane p
@@ -469,12 +472,12 @@ module _ (file : List ℕ) (order : ByteOrder) (p : PageRecord) (limits : Limits
   pub its_columns : left_of p l.color l.row_bytes 0 (first + column) + row_bytes p l.color (rect p (first + column)).width ≤ l.row_bytes
   its_columns = columns_in file order p limits l sides samples deep laid 1 (first + column) its_index 0 (first + column) (omega arith) its_form
 
-  pub its_beside : (from to : ℕ) (old mid new : List ℕ) → from < to → to ≤ (rect p first).height
-      → Writes (IsIn l.row_bytes 0 (to - from) 0 (edge p l.color column)) (λ i. image_byte p l.color l.row_bytes file order (((rect p first).y + from) * l.row_bytes + i)) old mid
-      → WritesRows file order p l.color (first + column) l.row_bytes 0 (left_of p l.color l.row_bytes 0 (first + column)) from to mid new
-      → Writes (IsIn l.row_bytes 0 (to - from) 0 (edge p l.color (column + 1))) (λ i. image_byte p l.color l.row_bytes file order (((rect p first).y + from) * l.row_bytes + i)) old new
-  its_beside from to old mid new a b v w =
-      beside p l.color l.row_bytes first column sides its_rows its_room chunk banded.leftmost inside file order from to old mid new (filling.stride_some file order p limits l sides samples deep laid) a b v w
+  pub its_beside : (from to at : ℕ) (old mid new : List ℕ) → from < to → to ≤ (rect p first).height
+      → Writes (IsIn l.row_bytes at (to - from) 0 (edge p l.color column)) (in_rect (λ r b. image_byte p l.color l.row_bytes file order (((rect p first).y + from + r) * l.row_bytes + b)) l.row_bytes at 0) old mid
+      → WritesRows file order p l.color (first + column) l.row_bytes at (left_of p l.color l.row_bytes 0 (first + column)) from to mid new
+      → Writes (IsIn l.row_bytes at (to - from) 0 (edge p l.color (column + 1))) (in_rect (λ r b. image_byte p l.color l.row_bytes file order (((rect p first).y + from + r) * l.row_bytes + b)) l.row_bytes at 0) old new
+  its_beside from to at old mid new a b v w =
+      beside p l.color l.row_bytes first column sides its_rows its_room chunk banded.leftmost inside file order from to at old mid new (filling.stride_some file order p limits l sides samples deep laid) a b v w
 
 pub all_columns : (file : List ℕ) (order : ByteOrder) (p : PageRecord) (limits : Limits) (l : LayoutRecord) (sides : HasSides p) (samples : 0 < p.samples) (deep : 0 < p.depth) (laid : layout_of p p.width p.height ≡ Ok l)
     (first planes : ℕ) (banded : AreBanded p limits l.color planes first) (chunk : first < chunks_of_plane p)
@@ -493,6 +496,34 @@ rows_filled value stride n old new some len w i l =
     let q : i / stride < n = div_below i stride n some b in
     let m : i % stride < stride = mod_below i stride some in
     ⊎_elim (λ p. p.1) (λ p. Prim.absurd (p.0 (record { below = omega arith; above = omega (arith, q); right = omega arith; within = omega (arith, m) }))) (w.1 i (omega (arith, l, w.0)))
+
+-- rows of an image that fill a buffer
+pub rows_alone : (file : List ℕ) (order : ByteOrder) (p : PageRecord) (color : ColorType) (stride start n : ℕ) (old new : List ℕ) → 0 < stride → stride ≡ row_bytes p color p.width → length old ≡ n * stride
+    → PutsImageRows file order p color stride start n 0 old new → AreImageRows file order p color stride start new
+rows_alone file order p color stride start n old new some row len w i l =
+    let value : ℕ → ℕ = in_rect (λ r b. image_byte p color stride file order ((start + r) * stride + b)) stride 0 0 in
+    let whole : Writes (IsIn stride 0 n 0 stride) value old new = subst (λ (m : ℕ). Writes (IsIn stride 0 n 0 m) value old new) (sym row) w in
+    let q : i / stride - 0 ≡ i / stride = omega arith in
+    let b : i % stride - 0 ≡ i % stride = omega arith in
+    let e : i / stride * stride + i % stride ≡ i = div-add-mod' i stride in
+    let s : (start + i / stride) * stride + i % stride ≡ start * stride + (i / stride * stride + i % stride) = omega arith in
+    rows_filled value stride n old new some len whole i l
+    ∙ ap (λ (m : ℕ). image_byte p color stride file order ((start + m) * stride + (i % stride - 0))) q
+    ∙ ap (λ (m : ℕ). image_byte p color stride file order ((start + i / stride) * stride + m)) b
+    ∙ ap (image_byte p color stride file order) (s ∙ ap (λ (m : ℕ). start * stride + m) e)
+
+-- rows of an image at their own place in a buffer
+pub rows_in_place : (file : List ℕ) (order : ByteOrder) (p : PageRecord) (color : ColorType) (stride start end : ℕ) (old new : List ℕ) → 0 < stride
+    → PutsImageRows file order p color stride start (end - start) start old new → WritesImageRows file order p color stride start end old new
+rows_in_place file order p color stride start end old new some w =
+    let value : ℕ → ℕ = in_rect (λ r b. image_byte p color stride file order ((start + r) * stride + b)) stride start 0 in
+    writes_as (IsIn stride start (end - start) 0 (row_bytes p color p.width)) value (image_byte p color stride file order) old new
+    (λ i q.
+    let r : start + (i / stride - start) ≡ i / stride = omega (arith, q.below) in
+    let b : i % stride - 0 ≡ i % stride = omega arith in
+    ap (λ (m : ℕ). image_byte p color stride file order (m * stride + (i % stride - 0))) r
+    ∙ ap (λ (m : ℕ). image_byte p color stride file order (i / stride * stride + m)) b
+    ∙ ap (image_byte p color stride file order) (div-add-mod' i stride)) w
 
 -- bytes from the start of a row on, as many as some rows have, are those rows
 pub rows_placed : (stride top n i : ℕ) → 0 < stride → top * stride ≤ i → i < top * stride + n * stride → IsIn stride top n 0 stride i

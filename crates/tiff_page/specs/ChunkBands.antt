@@ -29,6 +29,15 @@ abbrev pub AreImageRows : List ℕ → ByteOrder → PageRecord → ColorType �
 AreImageRows file order p color stride from rows = (i : ℕ) → i < length rows
     → slice_index rows i ≡ image_byte p color stride file order (from * stride + i)
 
+-- a buffer contains `n` rows of the first plane of an image, from row `from` on, in its own rows
+-- from row `top` on, and is otherwise unchanged
+abbrev pub PutsImageRows : List ℕ → ByteOrder → PageRecord → ColorType → ℕ → ℕ → ℕ → ℕ → List ℕ
+    → List ℕ → Type 0
+PutsImageRows file order p color stride from n top old new =
+    Writes (IsIn stride top n 0 (row_bytes p color p.width))
+    (in_rect (λ r b. image_byte p color stride file order ((from + r) * stride + b)) stride top 0)
+    old new
+
 -- a buffer contains the rows of the first plane of an image from row `from` on, below row `to`, and
 -- is otherwise unchanged
 abbrev pub WritesImageRows : List ℕ → ByteOrder → PageRecord → ColorType → ℕ → ℕ → ℕ → List ℕ

@@ -1,13 +1,14 @@
 //! Reads the chunks that lie side by side in an image, some rows of each at a time.
 //!
-//! So rows of the image are read one after another, and are appended to a list. Chunks that are
-//! read one by one are read over zeros, since their rows lie apart.
+//! So rows of the image are read one after another. A list grows by them; chunks that are read one
+//! by one are read over zeros, since their rows lie apart. And the chunks write to the same pages of a
+//! buffer soon after one another, which is faster.
 
-ghost use Rattle.std.specs.Prelude.{◌≡◌, ℕ, ◌+◌, ◌-◌, ◌*◌, ◌<◌, ◌≤◌, IsTrue, Ok, length, OnOk};
+ghost use Rattle.std.specs.Prelude.{◌≡◌, ℕ, ◌+◌, ◌-◌, ◌*◌, ◌^◌, ◌<◌, ◌≤◌, IsTrue, Ok, length, OnOk};
 ghost use Rattle.tiff_base.specs.Answers.{Answers, AsksOnly, IsKept};
 ghost use Rattle.tiff_base.specs.declared.error.TiffError.TheVariants as tiff;
 ghost use Rattle.tiff_base.specs.declared.io.IoKind.TheVariants as io;
-ghost use Rattle.tiff_page.specs.ChunkBands.{AreBanded, AreImageRows, GrowsByRows, rows_short};
+ghost use Rattle.tiff_page.specs.ChunkBands.{AreBanded, GrowsByRows, PutsImageRows, WritesImageRows, rows_short};
 ghost use Rattle.tiff_page.specs.Layout.{layout_of};
 ghost use Rattle.tiff_page.specs.PixelCalls.{image_part};
 ghost use Rattle.tiff_page.specs.PixelFault as fault;
@@ -22,6 +23,7 @@ use crate::faults::form_fault;
 use crate::layout::{PlaneLayout, chunk_data_dimensions, chunks_across, rect};
 use crate::methods::is_packed;
 use crate::output_row::{RowFormat, stored_row_bytes};
+use crate::page::Page;
 use crate::read_chunks::{ChunkRequest, ImagePlanes, PageReader, image_destination};
 use crate::writer::{ByteRows, RowSink};
 use std::alloc::Global;
@@ -29,22 +31,27 @@ use tiff_base::color::ColorType;
 use tiff_base::error::TiffResult;
 use tiff_base::io::Source;
 
-// The number of bytes of the rows of an image that are read at once. They have to stay in the
-// processor's second cache until they are appended.
+// The number of bytes of the rows of an image that are read at once into a list. They have to stay
+// in the processor's second cache until they are appended.
 const BAND: usize = 262144;
+
+// The number of bytes of a chunk that are read at once into a buffer: those that a `BufferedSource`
+// reads at once.
+const PIECE: usize = 8192;
 
 // The least number of bytes of a chunk that are read at once. A source that reads ahead, as
 // `BufferedSource`, reads at most as many bytes again.
-const LEAST: usize = 8192;
+const LEAST: usize = 6144;
 
 // Rows of the chunks side by side in an image from chunk `first` on: from row `from` of each of
-// them on, below row `to`.
+// them on, below row `to`. The first of them goes to row `top` of a buffer.
 #[derive(Clone, Copy, Debug)]
 struct BandRequest {
     layout: PlaneLayout,
     first: u32,
     from: usize,
     to: usize,
+    top: usize,
 }
 
 /// Scratch buffers for rows of an image.
@@ -64,13 +71,22 @@ impl BandRoom {
     }
 }
 
-// Returns how many rows of `row_bytes` bytes are read at once, at least 1. The bytes that are read
-// don't depend on it.
-fn rows_at_once(row_bytes: usize) -> usize
+/// Returns how many rows of an image, of `row_bytes` bytes, are read at once into a list, at least 1.
+/// The bytes that are read don't depend on it.
+pub(crate) fn rows_in_band(row_bytes: usize) -> usize
     requires { 0 < row_bytes }
     ensures { 0 < result }
 {
     (BAND / row_bytes).max(1)
+}
+
+/// Returns how many rows of each chunk of a page are read at once into a buffer, at least 1. The
+/// bytes that are read don't depend on it.
+pub(crate) fn rows_in_piece(page: &Page) -> usize
+    ensures { 0 < result }
+{
+    let stored = stored_row_bytes(page).max(1);
+    (PIECE / stored).max(1)
 }
 
 impl PageReader<'_> {
@@ -89,12 +105,11 @@ impl PageReader<'_> {
         true
     }
 
-    /// Whether the chunks side by side from a chunk on are read by `grow_across`. They are not if a
-    /// row of the image is longer than the scratch buffer, if the source would be asked for few
-    /// bytes at a time, or if data are decompressed, which is done from the start of a chunk. The
-    /// list doesn't depend on it.
-    pub(crate) fn is_banded(&self, part: ImagePlanes, first: u32) -> bool
-        requires { 0 < part.layout.row_bytes }
+    /// Whether the chunks side by side from a chunk on are read `rows` rows of each at a time, by
+    /// `grow_across` or `fill_across`. They are not if a row of the image is longer than the scratch
+    /// buffer, if the source would be asked for few bytes at a time, or if data are decompressed,
+    /// which is done from the start of a chunk. The bytes that are read don't depend on it.
+    pub(crate) fn is_banded(&self, part: ImagePlanes, first: u32, rows: usize) -> bool
         ensures { IsTrue result → AreBanded (view.page self.now.page.now) self.now.limits.now
             part.layout.color part.planes first }
     {
@@ -106,19 +121,19 @@ impl PageReader<'_> {
             && u64::from(first) % across == 0
             && !is_packed(page.method)
             && part.layout.row_bytes <= BAND
-            && rows_at_once(part.layout.row_bytes).saturating_mul(stored) >= LEAST
+            && rows.saturating_mul(stored) >= LEAST
             && stored.checked_mul(page.chunk_height as usize).is_some()
             && self.are_formed(part.layout.color, first)
     }
 
-    // Reads rows of chunks that lie side by side, as they are in the image, into the bytes of as
-    // many rows of it.
-    fn read_across<R: Source>(
+    // Reads rows of chunks that lie side by side, as they are in the image, into the bytes of a
+    // buffer of rows of it.
+    fn read_across<R: Source, T, W: RowSink<T>>(
         &self,
         source: &mut R,
         band: BandRequest,
-        writer: &mut ByteRows,
-        rows: &mut [u8],
+        writer: &mut W,
+        buf: &mut [T],
     ) -> TiffResult<()>
         requires laid { layout_of (view.page self.now.page.now) self.now.page.now.width
             self.now.page.now.height ≡ Ok (record {
@@ -131,12 +146,15 @@ impl PageReader<'_> {
         requires chunk { band.first < rects.chunks_of_plane (view.page self.now.page.now) }
         requires some_rows { band.from < band.to }
         requires within { band.to ≤ (rects.rect (view.page self.now.page.now) band.first).height }
-        requires room { length rows.old ≡ (band.to - band.from) * band.layout.row_bytes }
+        requires room { (band.top + (band.to - band.from)) * band.layout.row_bytes
+            ≤ length (W.bytes buf.old) }
+        requires few { (band.top + (band.to - band.from)) * band.layout.row_bytes < 2 ^ 64 }
         ensures kept { IsKept R.told R.failures result source.old source.new }
         ensures ok { OnOk result
-            (AreImageRows (R.told source.old).bytes self.now.order (view.page self.now.page.now)
+            (PutsImageRows (R.told source.old).bytes self.now.order (view.page self.now.page.now)
             band.layout.color band.layout.row_bytes
-            ((rects.rect (view.page self.now.page.now) band.first).y + band.from) rows.new) }
+            ((rects.rect (view.page self.now.page.now) band.first).y + band.from)
+            (band.to - band.from) band.top (W.bytes buf.old) (W.bytes buf.new)) }
         ensures answer { Answers (λ _. tt) result
             (each_below (λ column. fail_if
             (rows_short (R.told source.old).bytes self.now.order (view.page self.now.page.now)
@@ -164,11 +182,14 @@ impl PageReader<'_> {
             };
             let place = image_destination(page, band.layout, 0, index);
             let chunk_band = ChunkBand {
-                destination: Destination { top: 0, ..place },
+                destination: Destination {
+                    top: band.top,
+                    ..place
+                },
                 from: band.from,
                 to: band.to,
             };
-            reader.read_between(source, chunk_band, writer, rows)?;
+            reader.read_between(source, chunk_band, writer, buf)?;
         }
         Ok(())
     }
@@ -214,7 +235,7 @@ impl PageReader<'_> {
         let layout = next.part.layout;
         let place = rect(self.page, next.chunk);
         let (top, height) = (place.y as usize, place.height as usize);
-        let most = rows_at_once(layout.row_bytes);
+        let most = rows_in_band(layout.row_bytes);
         let mut from = 0;
         while from < height {
             let to = from + most.min(height - from);
@@ -223,10 +244,69 @@ impl PageReader<'_> {
                 first: next.chunk,
                 from,
                 to,
+                top: 0,
             };
             room.rows.resize((to - from) * layout.row_bytes, 0)?;
             self.read_across(source, band, &mut room.writer, &mut room.rows)?;
             W::append(list, (top + from) * layout.row_bytes, &room.rows)?;
+            from = to;
+        }
+        Ok(())
+    }
+
+    /// Reads the chunks that lie side by side in an image, from a chunk on, into the bytes of a
+    /// buffer, some rows of each at a time. Returns `IoError(UnexpectedEof)` if the data of one of
+    /// the chunks are too few.
+    pub(crate) fn fill_across<R: Source, T, W: RowSink<T>>(
+        &self,
+        source: &mut R,
+        next: ChunkRequest,
+        writer: &mut W,
+        buf: &mut [T],
+    ) -> TiffResult<()>
+        requires laid { layout_of (view.page self.now.page.now) self.now.page.now.width
+            self.now.page.now.height ≡ Ok (record {
+              color = next.part.layout.color;
+              row_bytes = next.part.layout.row_bytes;
+              plane_stride = next.part.layout.plane_stride;
+            }) }
+        requires banded { AreBanded (view.page self.now.page.now) self.now.limits.now
+            next.part.layout.color next.part.planes next.chunk }
+        requires chunk { next.chunk < rects.chunks_of_plane (view.page self.now.page.now) }
+        requires room { next.part.layout.plane_stride ≤ length (W.bytes buf.old) }
+        ensures kept { IsKept R.told R.failures result source.old source.new }
+        ensures ok { OnOk result
+            (WritesImageRows (R.told source.old).bytes self.now.order
+            (view.page self.now.page.now) next.part.layout.color next.part.layout.row_bytes
+            (rects.rect (view.page self.now.page.now) next.chunk).y
+            ((rects.rect (view.page self.now.page.now) next.chunk).y
+            + (rects.rect (view.page self.now.page.now) next.chunk).height)
+            (W.bytes buf.old) (W.bytes buf.new)) }
+        ensures answer { Answers (λ _. tt) result
+            (each_below (λ column. fail_if
+            (is_short (R.told source.old).bytes self.now.order (view.page self.now.page.now)
+            next.part.layout.color (next.chunk + column))
+            (tiff.IoError io.UnexpectedEof)) (rects.across (view.page self.now.page.now)))
+            (R.failures source.old) (R.failures source.new) }
+        ensures asked { AsksOnly
+            (PartReadable (R.told source.old) (view.page self.now.page.now) next.part.layout.color
+            (image_part (view.page self.now.page.now) 1 next.part.layout.row_bytes)) result }
+    {
+        let layout = next.part.layout;
+        let place = rect(self.page, next.chunk);
+        let (top, height) = (place.y as usize, place.height as usize);
+        let most = rows_in_piece(self.page);
+        let mut from = 0;
+        while from < height {
+            let to = from + most.min(height - from);
+            let band = BandRequest {
+                layout,
+                first: next.chunk,
+                from,
+                to,
+                top: top + from,
+            };
+            self.read_across(source, band, writer, buf)?;
             from = to;
         }
         Ok(())

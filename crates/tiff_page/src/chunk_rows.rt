@@ -99,6 +99,7 @@ impl ChunkReader<'_> {
     }
 
     /// Reads the rows of the chunk from row `band.from` on, below row `band.to`, one by one.
+    #[inline(always)]
     pub(crate) fn read_between<R: Source, T, W: RowSink<T>>(
         &self,
         source: &mut R,

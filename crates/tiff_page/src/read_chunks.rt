@@ -11,7 +11,7 @@ ghost use Rattle.tiff_page.specs.Reach.{PartReadable};
 ghost use Rattle.tiff_page.specs.Rect.{rect, chunks_of_plane};
 ghost use Rattle.tiff_page.specs.PageView as view;
 
-use crate::chunk_bands::BandRoom;
+use crate::chunk_bands::{BandRoom, rows_in_band, rows_in_piece};
 use crate::chunk_rows::{ChunkReader, Destination};
 use crate::faults::form_fault;
 use crate::layout::{
@@ -229,8 +229,19 @@ impl PageReader<'_> {
             (image_part (view.page self.now.page.now)
             part.planes part.layout.row_bytes)) result }
     {
-        for chunk in 0..chunks_of_plane(self.page) {
-            self.fill_chunk(source, ChunkRequest { part, chunk }, writer, buf)?;
+        let chunks = chunks_of_plane(self.page);
+        let rows = rows_in_piece(self.page);
+        let in_pieces = rows < self.page.chunk_height as usize;
+        let mut chunk = 0;
+        while chunk < chunks {
+            let next = ChunkRequest { part, chunk };
+            if in_pieces && self.is_banded(part, chunk, rows) {
+                self.fill_across(source, next, writer, buf)?;
+                chunk += chunks_across(self.page) as u32;
+            } else {
+                self.fill_chunk(source, next, writer, buf)?;
+                chunk += 1;
+            }
         }
         Ok(())
     }
@@ -270,11 +281,12 @@ impl PageReader<'_> {
             part.planes part.layout.row_bytes)) result }
     {
         let chunks = chunks_of_plane(self.page);
+        let rows = rows_in_band(part.layout.row_bytes);
         let mut room = BandRoom::new(self.alloc);
         let mut chunk = 0;
         while chunk < chunks {
             let next = ChunkRequest { part, chunk };
-            if self.is_banded(part, chunk) {
+            if self.is_banded(part, chunk, rows) {
                 self.grow_across::<R, T, W>(source, next, &mut room, list)?;
                 chunk += chunks_across(self.page) as u32;
             } else {

@@ -1,18 +1,23 @@
-use Rattle.std.proofs.Common.{arith, Ok, Err, ◌≡◌, ℕ, List, ◌∙◌, ◌+◌, ◌*◌, ◌<◌, refl, subst}
+use Rattle.std.proofs.Common.{arith, Ok, Err, refl, sym, ◌≡◌, ℕ, List, ◌∙◌, ◌+◌, ◌*◌, ◌<◌, ◌≤◌, length, subst}
 use Rattle.std.proofs.lemmas.Result.{err_from_is_err_and}
 use Rattle.tiff_base.specs.Answers.{IsCause}
+use Rattle.tiff_base.specs.declared.error.TiffError.TheVariants.{IoError}
+use Rattle.tiff_base.specs.declared.io.IoKind.TheVariants.{UnexpectedEof}
 use Rattle.tiff_base.proofs.Told.{same_bytes}
 use Rattle.tiff_page.specs.Layout.{LayoutRecord}
 use Rattle.tiff_page.specs.Laws.{HasSides}
 use Rattle.tiff_page.specs.Pixels.{is_short}
-use Rattle.tiff_page.specs.PixelFault.{chunk_fault, each_below}
+use Rattle.tiff_page.specs.PixelFault.{chunk_fault, each_below, fail_if}
 use Rattle.tiff_page.specs.BufferPositions.{Writes, IsBefore, image_byte}
-use Rattle.tiff_page.specs.Rect.{chunks_of_plane}
+use Rattle.tiff_page.specs.ChunkBands.{AreBanded, WritesImageRows}
+use Rattle.tiff_page.specs.Rect.{rect, across, chunks_of_plane}
 use Rattle.tiff_page.specs.PageView as view
 use Rattle.tiff_page.specs.declared.page.Page.{Page}
 use Rattle.tiff_page.specs.declared.layout.PlaneLayout.{PlaneLayout}
 use Rattle.tiff_page.proofs.Covering.{planes_written}
 use Rattle.tiff_page.proofs.Filling.{chunk_cause, image_filled, of_chunk, one_more, rows_in}
+use Rattle.tiff_page.proofs.Sizes.{parts_some}
+use Rattle.tiff_page.proofs.ChunkBands as bands
 use Rattle.tiff_page.proofs.Reach.{image_asked}
 use Rattle.tiff_page.proofs.read_chunks.PageReader.fill_image.Goals as goal
 
@@ -21,6 +26,75 @@ sides_of p = record { wide = p.wide; high = p.high; chunk_wide = p.chunk_wide; c
 
 abbrev pub layout : PlaneLayout → LayoutRecord
 layout l = record { color = l.color; row_bytes = l.row_bytes; plane_stride = l.plane_stride }
+
+pub returns-in_err-fill_across-clause-answer : goal.returns-in_err-fill_across-clause-answer
+returns-in_err-fill_across-clause-answer g c =
+    let p = c.args.self.now.page.now in
+    let file = (g.R.Source.told c.args.source.now).bytes in
+    let color = c.args.part.layout.color in
+    let chunk = c.loop-chunk.chunk in
+    let e = c.in_err-fill_across.field-0.0 in
+    let banded : AreBanded (view.page p) c.args.self.now.limits.now color c.args.part.planes chunk = c.if-is_banded.ensures refl in
+    let inside : chunk < chunks_of_plane (view.page p) = omega (arith, c.loop-chunk-test.true, c.chunks_of_plane-chunks.ensures.count) in
+    let last = bands.all_indices file c.args.self.now.order (view.page p) c.args.self.now.limits.now (layout c.args.part.layout) (sides_of p) p.sampled p.deep c.requires.laid chunk 0 c.args.part.planes banded inside (parts_some p.width p.chunk_width p.chunk_wide p.wide) in
+    let given = subst
+    (λ (bytes : List ℕ).
+    IsCause (Unit {0}) (g.R.Source.failures c.loop-chunk.source < g.R.Source.failures c.fill_across.new.source) e
+    (each_below (λ column. fail_if (is_short bytes c.args.self.now.order (view.page p) color (chunk + column)) (IoError UnexpectedEof)) (across (view.page p)) ≡ Err e))
+    (same_bytes c.loop-chunk.invariant.same) c.in_err-fill_across.ensures.answer in
+    let answered = err_from_is_err_and c.from_residual.result c.from_residual.ensures.1 in
+    rw (answered.1, answered.2) (bands.across_cause file c.args.self.now.order (view.page p) c.args.self.now.limits.now color c.args.part.planes chunk banded
+    _ _ (g.W.RowSink.bytes c.args.buf.now) c.args.part.layout.row_bytes e (λ f. omega (arith, f, c.loop-chunk.invariant.count)) last c.loop-chunk.invariant.none given)
+
+pub overflow_add-chunk : goal.overflow_add-chunk
+overflow_add-chunk g c =
+    let p = c.args.self.now.page.now in
+    let chunk = c.loop-chunk.chunk in
+    let banded : AreBanded (view.page p) c.args.self.now.limits.now c.args.part.layout.color c.args.part.planes chunk = c.if-is_banded.ensures refl in
+    let inside : chunk < chunks_of_plane (view.page p) = omega (arith, c.loop-chunk-test.true, c.chunks_of_plane-chunks.ensures.count) in
+    let last = bands.all_indices (g.R.Source.told c.args.source.now).bytes c.args.self.now.order (view.page p) c.args.self.now.limits.now (layout c.args.part.layout) (sides_of p) p.sampled p.deep c.requires.laid chunk 0 c.args.part.planes banded inside (parts_some p.width p.chunk_width p.chunk_wide p.wide) in
+    omega (arith, last, c.chunks_across.ensures, c.chunks_of_plane-chunks.ensures.count)
+
+pub loop-chunk-preserved-then-is_banded : goal.loop-chunk-preserved-then-is_banded
+loop-chunk-preserved-then-is_banded g c =
+    let p = c.args.self.now.page.now in
+    let file = (g.R.Source.told c.args.source.now).bytes in
+    let order = c.args.self.now.order in
+    let limits = c.args.self.now.limits.now in
+    let color = c.args.part.layout.color in
+    let stride = c.args.part.layout.row_bytes in
+    let planes = c.args.part.planes in
+    let chunk = c.loop-chunk.chunk in
+    let many = across (view.page p) in
+    let old = g.W.RowSink.bytes c.args.buf.now in
+    let mid = g.W.RowSink.bytes c.loop-chunk.buf in
+    let new = g.W.RowSink.bytes c.fill_across.new.buf in
+    let i = c.loop-chunk.invariant in
+    let same = same_bytes i.same in
+    let banded : AreBanded (view.page p) limits color planes chunk = c.if-is_banded.ensures refl in
+    let inside : chunk < chunks_of_plane (view.page p) = omega (arith, c.loop-chunk-test.true, c.chunks_of_plane-chunks.ensures.count) in
+    let some : 0 < many = parts_some p.width p.chunk_width p.chunk_wide p.wide in
+    let last = bands.all_indices file order (view.page p) limits (layout c.args.part.layout) (sides_of p) p.sampled p.deep c.requires.laid chunk 0 planes banded inside some in
+    let rows = bands.its_rows file order (view.page p) limits (layout c.args.part.layout) (sides_of p) p.sampled p.deep c.requires.laid chunk 0 planes banded inside some in
+    let room = bands.its_room file order (view.page p) limits (layout c.args.part.layout) (sides_of p) p.sampled p.deep c.requires.laid chunk 0 planes banded inside some in
+    let e : many ≡ c.chunks_across.result = sym c.chunks_across.ensures in
+    let given = subst
+    (λ (told : List ℕ). each_below (λ column. fail_if (is_short told order (view.page p) color (chunk + column)) (IoError UnexpectedEof)) many ≡ Ok tt)
+    same c.in_ok-fill_across.ensures.answer in
+    let none = bands.none_across file order (view.page p) limits color planes chunk banded many (omega arith) i.none given in
+    let y = (rect (view.page p) chunk).y in
+    let h = (rect (view.page p) chunk).height in
+    let wrote = subst (λ (told : List ℕ). WritesImageRows told order (view.page p) color stride y (y + h) mid new) same c.in_ok-fill_across.ensures.ok in
+    let before = subst (λ (n : ℕ). Writes (IsBefore (view.page p) color stride n chunk 0) (image_byte (view.page p) color stride file order) old mid) banded.one i.written in
+    let after = bands.across_written (view.page p) color stride chunk (sides_of p) rows room inside banded.leftmost some file order old mid new before wrote in
+    record {
+      same = c.in_ok-fill_across.ensures.kept.told ∙ i.same;
+      count = omega (arith, c.in_ok-fill_across.ensures.kept.swallowed, i.count);
+      below = omega (arith, last, e);
+      none = subst (λ (n : ℕ). each_below (of_chunk file order (view.page p) limits (layout c.args.part.layout) (sides_of p) p.sampled p.deep c.requires.laid planes) (chunk + n) ≡ Ok tt) e none;
+      written = subst (λ (n : ℕ). Writes (IsBefore (view.page p) color stride planes (chunk + n) 0) (image_byte (view.page p) color stride file order) old new) e
+          (subst (λ (n : ℕ). Writes (IsBefore (view.page p) color stride n (chunk + many) 0) (image_byte (view.page p) color stride file order) old new) (sym banded.one) after);
+    }
 
 pub returns-in_err-fill_chunk-clause-answer : goal.returns-in_err-fill_chunk-clause-answer
 returns-in_err-fill_chunk-clause-answer g c =
@@ -31,9 +105,9 @@ returns-in_err-fill_chunk-clause-answer g c =
     IsCause (Unit {0}) (g.R.Source.failures c.loop-chunk.source < g.R.Source.failures c.fill_chunk.new.source) c.in_err-fill_chunk.field-0.0
     (each_below (λ plane. chunk_fault (view.page p) c.args.self.now.limits.now (is_short bytes c.args.self.now.order (view.page p) c.args.part.layout.color) c.args.part.layout.color (plane * chunks_of_plane (view.page p) + (0 + c.loop-chunk.chunk))) c.args.part.planes ≡ Err c.in_err-fill_chunk.field-0.0))
     (same_bytes c.loop-chunk.invariant.same) c.in_err-fill_chunk.ensures.answer in
-    let answered = err_from_is_err_and c.from_residual.result c.from_residual.ensures.1 in
+    let answered = err_from_is_err_and c.from_residual-in_err-fill_chunk.result c.from_residual-in_err-fill_chunk.ensures.1 in
     rw (answered.1, answered.2) (chunk_cause file c.args.self.now.order (view.page p) c.args.self.now.limits.now (layout c.args.part.layout) (sides_of p) p.sampled p.deep c.requires.laid c.args.part.planes
-    _ _ c.loop-chunk.chunk (g.W.RowSink.bytes c.args.buf.now) c.in_err-fill_chunk.field-0.0 (λ f. omega (arith, f, c.loop-chunk.invariant.count)) (omega (arith, c.loop-chunk-test.true, c.chunks_of_plane-chunk-end.ensures.count)) c.loop-chunk.invariant.none given)
+    _ _ c.loop-chunk.chunk (g.W.RowSink.bytes c.args.buf.now) c.in_err-fill_chunk.field-0.0 (λ f. omega (arith, f, c.loop-chunk.invariant.count)) (omega (arith, c.loop-chunk-test.true, c.chunks_of_plane-chunks.ensures.count)) c.loop-chunk.invariant.none given)
 
 pub loop-chunk-preserved : goal.loop-chunk-preserved
 loop-chunk-preserved g c =
@@ -54,6 +128,7 @@ loop-chunk-preserved g c =
     record {
       same = c.in_ok-fill_chunk.ensures.kept.told ∙ c.loop-chunk.invariant.same;
       count = omega (arith, c.in_ok-fill_chunk.ensures.kept.swallowed, c.loop-chunk.invariant.count);
+      below = omega (arith, c.loop-chunk-test.true, c.chunks_of_plane-chunks.ensures.count);
       none = one_more (of_chunk file c.args.self.now.order (view.page p) c.args.self.now.limits.now (layout c.args.part.layout) (sides_of p) p.sampled p.deep c.requires.laid c.args.part.planes) c.loop-chunk.chunk c.loop-chunk.invariant.none given;
       written = planes_written (view.page p) color stride c.args.part.planes c.loop-chunk.chunk (image_byte (view.page p) color stride file c.args.self.now.order) (g.W.RowSink.bytes c.args.buf.now) (g.W.RowSink.bytes c.fill_chunk.new.buf)
           (wrote (g.W.RowSink.bytes c.args.buf.now) c.loop-chunk.invariant.written);
@@ -63,7 +138,7 @@ pub returns-clause-answer : goal.returns-clause-answer
 returns-clause-answer g c =
     let p = c.args.self.now.page.now in
     let file = (g.R.Source.told c.args.source.now).bytes in
-    let e : c.loop-chunk.chunk ≡ chunks_of_plane (view.page p) = omega (arith, c.loop-chunk-test.false, c.loop-chunk.auto.chunk-end, c.chunks_of_plane-chunk-end.ensures.count) in
+    let e : c.loop-chunk.chunk ≡ chunks_of_plane (view.page p) = omega (arith, c.loop-chunk-test.false, c.loop-chunk.invariant.below, c.chunks_of_plane-chunks.ensures.count) in
     image_filled file c.args.self.now.order (view.page p) c.args.self.now.limits.now (layout c.args.part.layout) (sides_of p) p.sampled p.deep c.requires.laid c.args.part.planes (g.W.RowSink.bytes c.args.buf.now) (g.W.RowSink.bytes c.loop-chunk.buf) c.requires.some
     (subst (λ (m : ℕ). each_below (of_chunk file c.args.self.now.order (view.page p) c.args.self.now.limits.now (layout c.args.part.layout) (sides_of p) p.sampled p.deep c.requires.laid c.args.part.planes) m ≡ Ok tt) e c.loop-chunk.invariant.none)
     (subst (λ (m : ℕ). Writes (IsBefore (view.page p) c.args.part.layout.color c.args.part.layout.row_bytes c.args.part.planes m 0) (image_byte (view.page p) c.args.part.layout.color c.args.part.layout.row_bytes file c.args.self.now.order) (g.W.RowSink.bytes c.args.buf.now) (g.W.RowSink.bytes c.loop-chunk.buf)) e c.loop-chunk.invariant.written)
@@ -72,13 +147,20 @@ pub fill_chunk-requires-clause-room : goal.fill_chunk-requires-clause-room
 fill_chunk-requires-clause-room g c =
     let p = c.args.self.now.page.now in
     let same = g.met.W.RowSink.same_length c.loop-chunk.buf c.args.buf.now c.loop-chunk.auto.buf in
-    let in_plane : c.loop-chunk.chunk < chunks_of_plane (view.page p) = omega (arith, c.loop-chunk-test.true, c.chunks_of_plane-chunk-end.ensures.count) in
+    let in_plane : c.loop-chunk.chunk < chunks_of_plane (view.page p) = omega (arith, c.loop-chunk-test.true, c.chunks_of_plane-chunks.ensures.count) in
     λ plane below.
     rows_in (g.R.Source.told c.args.source.now).bytes c.args.self.now.order (view.page p) c.args.self.now.limits.now (layout c.args.part.layout) (sides_of p) p.sampled p.deep c.requires.laid c.args.part.planes c.loop-chunk.chunk in_plane plane
     (plane * chunks_of_plane (view.page p) + c.loop-chunk.chunk) _ refl below (omega (arith, same, c.requires.room))
 
 pub returns-in_err-fill_chunk-clause-asked : goal.returns-in_err-fill_chunk-clause-asked
 returns-in_err-fill_chunk-clause-asked g c =
-    let answered = err_from_is_err_and c.from_residual.result c.from_residual.ensures.1 in
+    let answered = err_from_is_err_and c.from_residual-in_err-fill_chunk.result c.from_residual-in_err-fill_chunk.ensures.1 in
     rw (answered.1, answered.2) (image_asked (view.page c.args.self.now.page.now) c.args.part.layout.color c.args.part.planes c.args.part.layout.row_bytes c.loop-chunk.chunk _ (g.R.Source.told c.args.source.now) (g.R.Source.told c.loop-chunk.source) c.loop-chunk.invariant.same
-    (omega (arith, c.loop-chunk-test.true, c.chunks_of_plane-chunk-end.ensures.count)) c.in_err-fill_chunk.ensures.asked)
+    (omega (arith, c.loop-chunk-test.true, c.chunks_of_plane-chunks.ensures.count)) c.in_err-fill_chunk.ensures.asked)
+
+pub fill_across-requires-clause-room : goal.fill_across-requires-clause-room
+fill_across-requires-clause-room g c =
+    let p = c.args.self.now.page.now in
+    let banded : AreBanded (view.page p) c.args.self.now.limits.now c.args.part.layout.color c.args.part.planes c.loop-chunk.chunk = c.if-is_banded.ensures refl in
+    let size : 1 * c.args.part.layout.plane_stride ≤ length (g.W.RowSink.bytes c.args.buf.now) = subst (λ (n : ℕ). n * c.args.part.layout.plane_stride ≤ length (g.W.RowSink.bytes c.args.buf.now)) banded.one c.requires.room in
+    omega (arith, size, c.loop-chunk.invariant.written.0)

@@ -10,7 +10,7 @@ use Rattle.tiff_page.specs.PixelFault.{each_below, fail_if}
 use Rattle.tiff_page.specs.Layout.{LayoutRecord, row_bytes}
 use Rattle.tiff_page.specs.Laws.{HasSides}
 use Rattle.tiff_page.specs.BufferPositions.{filled_to, image_byte, IsIn, Writes}
-use Rattle.tiff_page.specs.ChunkBands.{AreImageRows, rows_short, WritesImageRows}
+use Rattle.tiff_page.specs.ChunkBands.{AreImageRows, PutsImageRows, rows_short, WritesImageRows}
 use Rattle.tiff_page.specs.NumberBytes.{IsPut}
 use Rattle.tiff_page.specs.Rect.{rect, across}
 use Rattle.tiff_page.specs.PageView as view
@@ -28,8 +28,8 @@ sides_of p = record { wide = p.wide; high = p.high; chunk_wide = p.chunk_wide; c
 abbrev pub layout : PlaneLayout → LayoutRecord
 layout l = record { color = l.color; row_bytes = l.row_bytes; plane_stride = l.plane_stride }
 
-pub rows_at_once-most-requires : goal.rows_at_once-most-requires
-rows_at_once-most-requires g c =
+pub rows_in_band-most-requires : goal.rows_in_band-most-requires
+rows_in_band-most-requires g c =
     let p = c.args.self.now.page.now in
     stride_some (g.R.Source.told c.args.source.now).bytes c.args.self.now.order (view.page p) c.args.self.now.limits.now (layout c.args.next.part.layout) (sides_of p) p.sampled p.deep c.requires.laid
 
@@ -81,8 +81,8 @@ append-requires g c =
     let e : (c.rect-place.result.y + from) * l.row_bytes ≡ (top + from) * l.row_bytes = ap (λ (m : ℕ). (m + from) * l.row_bytes) y in
     let count : top + to - (top + from) ≡ to - from = omega arith in
     let s : (top + to) * l.row_bytes ≡ (top + from) * l.row_bytes + (to - from) * l.row_bytes = bands.more_whole l.row_bytes (top + from) (top + to) (omega arith) ∙ ap (λ (m : ℕ). (top + from) * l.row_bytes + m * l.row_bytes) count in
-    let all : length c.read_across.new.rows ≡ (to - from) * l.row_bytes = search rules in
-    let same = all_of_room c.deref.result.now c.read_across.new.rows _ _ (search rules) c.deref.ensures.value in
+    let all : length c.read_across.new.buf ≡ (to - from) * l.row_bytes = search rules in
+    let same = all_of_room c.deref.result.now c.read_across.new.buf _ _ (search rules) c.deref.ensures.value in
     let n = ap (λ (xs : List ℕ). length xs) same in
     record { fits = omega (arith, fits, e, s, all, n) }
 
@@ -125,12 +125,16 @@ loop-from-preserved g c =
     let inside : to ≤ (rect p first).height = omega (arith, h, c.min.ensures, c.loop-from-test.true, c.loop-from.invariant.below) in
     let room = bands.rows_end file order p limits (layout c.args.next.part.layout) (sides_of c.args.self.now.page.now) c.args.self.now.page.now.sampled c.args.self.now.page.now.deep c.requires.laid first to inside in
     let some = stride_some file order p limits (layout c.args.next.part.layout) (sides_of c.args.self.now.page.now) c.args.self.now.page.now.sampled c.args.self.now.page.now.deep c.requires.laid in
+    let scratch = c.deref_mut.result.now in
+    let room_len : length scratch ≡ (to - from) * stride = search rules in
     let row = row_is file order p limits (layout c.args.next.part.layout) (sides_of c.args.self.now.page.now) c.args.self.now.page.now.sampled c.args.self.now.page.now.deep c.requires.laid in
-    let all : length c.read_across.new.rows ≡ (to - from) * stride = search rules in
-    let whole = all_of_room rows c.read_across.new.rows _ _ (search rules) c.deref.ensures.value in
+    let all : length c.read_across.new.buf ≡ (to - from) * stride = search rules in
+    let whole = all_of_room rows c.read_across.new.buf _ _ (search rules) c.deref.ensures.value in
     let count : to - from ≡ n = omega arith in
     let len : length rows ≡ n * stride = ap (λ (xs : List ℕ). length xs) whole ∙ all ∙ ap (λ (m : ℕ). m * stride) count in
-    let is = subst (AreImageRows file order p color stride (y + from)) (sym whole) (subst (λ (told : List ℕ). AreImageRows told order p color stride (y + from) c.read_across.new.rows) same c.in_ok-read_across.ensures.ok) in
+    let put_rows = subst (λ (told : List ℕ). PutsImageRows told order p color stride (y + from) (to - from) 0 scratch c.read_across.new.buf) same c.in_ok-read_across.ensures.ok in
+    let alone = bands.rows_alone file order p color stride (y + from) (to - from) scratch c.read_across.new.buf some row room_len put_rows in
+    let is = subst (AreImageRows file order p color stride (y + from)) (sym whole) alone in
     let at_is : (c.rect-place.result.y + from) * stride ≡ at = ap (λ (m : ℕ). (m + from) * stride) y_is in
     let put = subst (λ (m : ℕ). IsPut m rows (filled_to (g.W.RowSink.whole (m + length rows)) (bytes c.loop-from.list.items)) (bytes c.append.new.list.items)) at_is c.in_ok-append.ensures in
     let sum : (y + to) * stride ≡ at + n * stride = bands.more_whole stride (y + from) (y + to) (omega arith) in

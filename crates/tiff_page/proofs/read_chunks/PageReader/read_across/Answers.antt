@@ -1,6 +1,5 @@
-use Rattle.std.proofs.Common.{arith, Ok, Err, refl, ap, sym, ◌≡◌, ℕ, List, ◌∙◌, ◌+◌, ◌-◌, ◌*◌, ◌<◌, ◌≤◌, ◌^◌, length, subst}
+use Rattle.std.proofs.Common.{arith, Ok, Err, refl, ap, ◌≡◌, ℕ, List, ◌∙◌, ◌+◌, ◌-◌, ◌*◌, ◌<◌, ◌^◌, length, subst}
 use Rattle.std.proofs.lemmas.Result.{err_from_is_err_and}
-use Rattle.std.proofs.Math.Nat.{mul-le-mul_right}
 use Rattle.tiff_base.specs.Answers.{IsCause}
 use Rattle.tiff_base.specs.declared.error.TiffError.TheVariants.{IoError}
 use Rattle.tiff_base.specs.declared.io.IoKind.TheVariants.{UnexpectedEof}
@@ -10,14 +9,14 @@ use Rattle.tiff_page.specs.PixelCalls.{image_part}
 use Rattle.tiff_page.specs.PixelFault.{fail_if}
 use Rattle.tiff_page.specs.Layout.{LayoutRecord}
 use Rattle.tiff_page.specs.Laws.{HasSides}
-use Rattle.tiff_page.specs.BufferPositions.{Writes, IsIn, image_byte, left_of}
+use Rattle.tiff_page.specs.BufferPositions.{Writes, IsIn, in_rect, image_byte, left_of}
 use Rattle.tiff_page.specs.ChunkBands.{rows_short}
 use Rattle.tiff_page.specs.Rect.{rect, across, chunks_of_plane}
 use Rattle.tiff_page.specs.PageView as view
 use Rattle.tiff_page.specs.declared.page.Page.{Page}
 use Rattle.tiff_page.specs.declared.layout.PlaneLayout.{PlaneLayout}
 use Rattle.tiff_page.proofs.ChunkBands as bands
-use Rattle.tiff_page.proofs.Filling.{one_more, first_at, row_is, stride_some}
+use Rattle.tiff_page.proofs.Filling.{one_more, first_at, stride_some}
 use Rattle.tiff_page.proofs.Reach.{part_asked}
 use Rattle.tiff_page.proofs.Sizes.{plane_few}
 use Rattle.tiff_page.proofs.read_chunks.PageReader.read_across.Goals as goal
@@ -101,18 +100,15 @@ read_between-requires-clause-columns g c =
 
 pub read_between-requires-clause-rows : goal.read_between-requires-clause-rows
 read_between-requires-clause-rows g c =
-    let n : 0 + (c.args.band.to - c.args.band.from) ≡ c.args.band.to - c.args.band.from = omega arith in
-    let e : (0 + (c.args.band.to - c.args.band.from)) * c.image_destination-place.result.stride ≡ (c.args.band.to - c.args.band.from) * c.args.band.layout.row_bytes = λ t. n t * c.image_destination-place.ensures.stride t in
+    let end = c.args.band.top + (c.args.band.to - c.args.band.from) in
+    let e : end * c.image_destination-place.result.stride ≡ end * c.args.band.layout.row_bytes = ap (λ (m : ℕ). end * m) c.image_destination-place.ensures.stride in
     omega (arith, e, c.requires.room, c.loop-column.invariant.written.0)
 
 pub read_between-requires-clause-few : goal.read_between-requires-clause-few
 read_between-requires-clause-few g c =
-    let p = c.args.self.now.page.now in
-    let l = bands.rows_end (g.R.Source.told c.args.source.now).bytes c.args.self.now.order (view.page p) c.args.self.now.limits.now (layout c.args.band.layout) (sides_of p) p.sampled p.deep c.requires.laid c.args.band.first c.args.band.to c.requires.within in
-    let n : 0 + (c.args.band.to - c.args.band.from) ≡ c.args.band.to - c.args.band.from = omega arith in
-    let e : (0 + (c.args.band.to - c.args.band.from)) * c.image_destination-place.result.stride ≡ (c.args.band.to - c.args.band.from) * c.args.band.layout.row_bytes = λ t. n t * c.image_destination-place.ensures.stride t in
-    let k : (c.args.band.to - c.args.band.from) * c.args.band.layout.row_bytes ≤ ((rect (view.page p) c.args.band.first).y + c.args.band.to) * c.args.band.layout.row_bytes = mul-le-mul_right c.args.band.layout.row_bytes (omega arith) in
-    omega (arith, l, e, k)
+    let end = c.args.band.top + (c.args.band.to - c.args.band.from) in
+    let e : end * c.image_destination-place.result.stride ≡ end * c.args.band.layout.row_bytes = ap (λ (m : ℕ). end * m) c.image_destination-place.ensures.stride in
+    omega (arith, e, c.requires.few)
 
 pub returns-in_err-read_between-clause-answer : goal.returns-in_err-read_between-clause-answer
 returns-in_err-read_between-clause-answer g c =
@@ -151,19 +147,20 @@ loop-column-preserved g c =
     let to = c.image_destination-place.result in
     let inside : column < across (view.page p) = omega (arith, c.loop-column-test.true, c.chunks_across-column-end.ensures) in
     let same = same_bytes c.loop-column.invariant.same in
-    let old = c.args.rows.now in
-    let mid = c.loop-column.rows in
-    let new = c.read_between.new.buf in
+    let top = band.top in
+    let old = g.W.RowSink.bytes c.args.buf.now in
+    let mid = g.W.RowSink.bytes c.loop-column.buf in
+    let new = g.W.RowSink.bytes c.read_between.new.buf in
     let given = subst (λ (bytes : List ℕ). fail_if (rows_short bytes order (view.page p) color i band.to) (IoError UnexpectedEof) ≡ Ok tt) same c.in_ok-read_between.ensures.answer in
     let wrote = bands.rows_moved order (view.page p) color i band.from band.to mid new (g.R.Source.told c.loop-column.source).bytes file
-    to.stride stride 0 0 to.left (left_of (view.page p) color stride 0 i)
+    to.stride stride top top to.left (left_of (view.page p) color stride 0 i)
     same c.image_destination-place.ensures.stride refl c.image_destination-place.ensures.left c.in_ok-read_between.ensures.ok in
     record {
       same = c.in_ok-read_between.ensures.kept.told ∙ c.loop-column.invariant.same;
       count = omega (arith, c.in_ok-read_between.ensures.kept.swallowed, c.loop-column.invariant.count);
       none = one_more (λ k. fail_if (rows_short file order (view.page p) color (band.first + k) band.to) (IoError UnexpectedEof)) column c.loop-column.invariant.none given;
       written = bands.its_beside file order (view.page p) c.args.self.now.limits.now (layout band.layout) (sides_of p) p.sampled p.deep c.requires.laid band.first column 1 c.requires.banded c.requires.chunk inside
-          band.from band.to old mid new c.requires.some_rows c.requires.within c.loop-column.invariant.written wrote;
+          band.from band.to top old mid new c.requires.some_rows c.requires.within c.loop-column.invariant.written wrote;
     }
 
 pub returns-clause-ok : goal.returns-clause-ok
@@ -174,11 +171,7 @@ returns-clause-ok g c =
     let color = band.layout.color in
     let stride = band.layout.row_bytes in
     let file = (g.R.Source.told c.args.source.now).bytes in
-    let at = λ (i : ℕ). image_byte (view.page p) color stride file order (((rect (view.page p) band.first).y + band.from) * stride + i) in
-    let n = band.to - band.from in
+    let value = in_rect (λ r b. image_byte (view.page p) color stride file order (((rect (view.page p) band.first).y + band.from + r) * stride + b)) stride band.top 0 in
     let e : c.loop-column.column ≡ across (view.page p) = omega (arith, c.loop-column-test.false, c.loop-column.auto.column-end, c.chunks_across-column-end.ensures) in
     let l = bands.all_columns file order (view.page p) c.args.self.now.limits.now (layout band.layout) (sides_of p) p.sampled p.deep c.requires.laid band.first 1 c.requires.banded c.requires.chunk in
-    let s = row_is file order (view.page p) c.args.self.now.limits.now (layout band.layout) (sides_of p) p.sampled p.deep c.requires.laid in
-    let some = stride_some file order (view.page p) c.args.self.now.limits.now (layout band.layout) (sides_of p) p.sampled p.deep c.requires.laid in
-    bands.rows_filled at stride n c.args.rows.now c.loop-column.rows some c.requires.room
-    (subst (λ (m : ℕ). Writes (IsIn stride 0 n 0 m) at c.args.rows.now c.loop-column.rows) (ap (bands.edge (view.page p) color) e ∙ l ∙ sym s) c.loop-column.invariant.written)
+    subst (λ (m : ℕ). Writes (IsIn stride band.top (band.to - band.from) 0 m) value (g.W.RowSink.bytes c.args.buf.now) (g.W.RowSink.bytes c.loop-column.buf)) (ap (bands.edge (view.page p) color) e ∙ l) c.loop-column.invariant.written

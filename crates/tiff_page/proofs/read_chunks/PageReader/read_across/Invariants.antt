@@ -2,7 +2,7 @@ use Rattle.std.proofs.Common.{◌≡◌, ◌+◌, ◌-◌, ◌*◌, Ok}
 use Rattle.tiff_base.specs.declared.error.TiffError.TheVariants.{IoError}
 use Rattle.tiff_base.specs.declared.io.IoKind.TheVariants.{UnexpectedEof}
 use Rattle.tiff_page.specs.PixelFault.{each_below, fail_if}
-use Rattle.tiff_page.specs.BufferPositions.{Writes, IsIn, image_byte}
+use Rattle.tiff_page.specs.BufferPositions.{Writes, IsIn, in_rect, image_byte}
 use Rattle.tiff_page.specs.ChunkBands.{rows_short}
 use Rattle.tiff_page.specs.Rect.{rect}
 use Rattle.tiff_page.specs.PageView as view
@@ -20,5 +20,5 @@ invariant-loop-column g l =
       same : g.R.Source.told l.source ≡ g.R.Source.told l.fn.source;
       count : g.R.Source.failures l.source ≡ g.R.Source.failures l.fn.source;
       none : each_below (λ column. fail_if (rows_short bytes l.self.order p color (l.fn.band.first + column) l.fn.band.to) (IoError UnexpectedEof)) l.column ≡ Ok tt;
-      written : Writes (IsIn stride 0 (l.fn.band.to - l.fn.band.from) 0 (edge p color l.column)) (λ i. image_byte p color stride bytes l.self.order (((rect p l.fn.band.first).y + l.fn.band.from) * stride + i)) l.fn.rows l.rows;
+      written : Writes (IsIn stride l.fn.band.top (l.fn.band.to - l.fn.band.from) 0 (edge p color l.column)) (in_rect (λ r b. image_byte p color stride bytes l.self.order (((rect p l.fn.band.first).y + l.fn.band.from + r) * stride + b)) stride l.fn.band.top 0) (g.W.RowSink.bytes l.fn.buf) (g.W.RowSink.bytes l.buf);
     }
