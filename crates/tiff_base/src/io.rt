@@ -1,6 +1,6 @@
 //! Sources that bytes come from, and sinks that bytes go to.
 
-ghost use Rattle.std.specs.Prelude.{◌≡◌, ℕ, ◌+◌, ◌^◌, ◌≤◌, ◌<◌, ◌++◌, List, length, Option, None, Some, IfErr, IfOk, IsOk, OnOk, OnErr, take, true};
+ghost use Rattle.std.specs.Prelude.{◌≡◌, ℕ, ◌+◌, ◌^◌, ◌≤◌, ◌<◌, ◌++◌, List, [], ◌∷◌, length, Option, None, Some, IfErr, IfOk, IfSome, IsOk, OnOk, OnErr, take, true};
 ghost use Rattle.tiff_base.specs.SourceAndSink.{AreOctets, AreReadable, SourceRecord, bytes_at, HoldsByte, Reads, Appends, AppendsRun, Overwrites};
 ghost use Rattle.tiff_base.specs.declared.io.SinkFault.{SinkFault};
 ghost use Rattle.tiff_base.specs.declared.io.TheConstants.{BUFFER_LEN};
@@ -71,15 +71,33 @@ pub trait Source: Drop {
     ghost octets: { (s : Self) → AreOctets (told s).bytes };
 }
 
+/// Sees bytes one by one, and may keep nothing of them.
+pub trait ByteWitness {
+    /// The bytes that it saw, in order.
+    ghost seen: { Self → List ℕ };
+
+    /// Sees the next byte.
+    fn see(&mut self, byte: u8)
+        ensures { seen self.new ≡ seen self.old ++ byte ∷ [] };
+}
+
 /// Bytes that are made as they are appended to a list.
 pub trait ByteRun {
     /// The bytes.
     ghost bytes: { Self → List ℕ };
 
+    /// Returns the number of the bytes, if it is a `usize`.
+    fn len(&self) -> Option<usize>
+        ensures { IfSome result (λ n. n ≡ length (bytes self.now)) };
+
     /// Appends the bytes to a list. After an error the list has the bytes that it had.
     fn push_to(&self, list: &mut Vec<u8>) -> Result<(), AllocError>
         ensures ok { OnOk result (list.new.items ≡ list.old.items ++ bytes self.now) }
         ensures err { OnErr result (list.new.items ≡ list.old.items) };
+
+    /// Shows each of the bytes.
+    fn show_to<S: ByteWitness>(&self, witness: &mut S)
+        ensures { S.seen witness.new ≡ S.seen witness.old ++ bytes self.now };
 }
 
 /// Bytes that a caller can append to and overwrite.

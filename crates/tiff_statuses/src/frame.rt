@@ -6,7 +6,7 @@ ghost use Rattle.tiff_statuses.specs.Writer as writer;
 use std::alloc::Global;
 use std::marker::Model;
 use std::snapshot::Snapshot;
-use tiff_base::io::{Sink, SinkFault};
+use tiff_base::io::{ByteRun, ByteWitness, Sink, SinkFault};
 use tiff_base::tags::FileKind;
 
 // ---- bytes that contracts see
@@ -66,6 +66,14 @@ impl Unkept {
         for byte in bytes {
             self.push(*byte);
         }
+    }
+}
+
+impl ByteWitness for Unkept {
+    ghost seen = { λ u. u };
+
+    fn see(&mut self, byte: u8) {
+        self.push(byte);
     }
 }
 
@@ -243,6 +251,19 @@ impl Sink for FrameSink {
     fn append(&mut self, bytes: &[u8]) -> Result<usize, SinkFault> {
         let answer = self.take_next(bytes);
         self.noted(answer)
+    }
+
+    // Samples are only counted, so their bytes needn't be made.
+    fn append_run<B: ByteRun>(&mut self, run: &B) -> Option<Result<usize, SinkFault>> {
+        let len = run.len()?;
+        let fits = len as u64 <= MAX_LEN - self.len() && len <= self.room - self.count;
+        if self.front.len() < self.start || len == 0 || !fits {
+            return None;
+        }
+        run.show_to(&mut self.passed);
+        self.count += len;
+        self.fault = None;
+        Some(Ok(len))
     }
 
     fn overwrite(&mut self, at: u64, bytes: &[u8]) -> Result<usize, SinkFault> {

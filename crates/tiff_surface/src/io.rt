@@ -3,7 +3,7 @@
 use crate::report::Report;
 use std::alloc::AllocError;
 use tiff::TiffResult;
-use tiff::io::{BufferedSource, ByteRun, MemorySink, Sink, SliceSource, Source};
+use tiff::io::{BufferedSource, ByteRun, ByteWitness, MemorySink, Sink, SliceSource, Source};
 
 const BYTES: [u8; 5] = [1, 2, 3, 4, 5];
 
@@ -22,8 +22,18 @@ pub struct FiveBytes {
 impl ByteRun for FiveBytes {
     ghost bytes = { λ run. run.bytes };
 
+    fn len(&self) -> Option<usize> {
+        Some(self.bytes.len())
+    }
+
     fn push_to(&self, list: &mut Vec<u8>) -> Result<(), AllocError> {
         list.extend_from_slice(&self.bytes)
+    }
+
+    fn show_to<S: ByteWitness>(&self, witness: &mut S) {
+        for byte in &self.bytes {
+            witness.see(*byte);
+        }
     }
 }
 

@@ -1,7 +1,10 @@
 //! The calls of `tiff::io` and of `tiff::decoder::stream`.
 
 use tiff::decoder::stream::{EndianReader, PackBitsReader};
-use tiff::io::{BufferedSource, ByteRun, MemorySink, MemorySource, Sink, SliceSource, Source};
+use tiff::encoder::Sample;
+use tiff::io::{
+    BufferedSource, ByteRun, ByteWitness, MemorySink, MemorySource, Sink, SliceSource, Source,
+};
 
 // Sources and sinks.
 fn name_devices<R: Source, W: Sink, B: ByteRun>() {
@@ -15,9 +18,17 @@ fn name_devices<R: Source, W: Sink, B: ByteRun>() {
     let _call = W::overwrite;
     let _call = W::reserve;
     let _call = W::append_run::<B>;
+    let _call = B::len;
     let _call = B::push_to;
     let _call = MemorySink::new;
     let _call = MemorySink::into_vec;
+}
+
+/// Names the calls of what sees bytes.
+pub fn name_witnesses<B: ByteRun, S: Sample, V: ByteWitness>() {
+    let _call = V::see;
+    let _call = B::show_to::<V>;
+    let _call = S::show_all::<V>;
 }
 
 // Readers of numbers and of packed bytes.

@@ -12,8 +12,8 @@ pub mod base {
         TiffError, TiffFormatError, TiffResult, TiffUnsupportedError, UsageError,
     };
     pub use tiff::io::{
-        BufferedSource, ByteRun, DeviceFault, IoKind, MemorySink, MemorySource, Sink, SinkFault,
-        SliceSource, Source,
+        BufferedSource, ByteRun, ByteWitness, DeviceFault, IoKind, MemorySink, MemorySource, Sink,
+        SinkFault, SliceSource, Source,
     };
 }
 

@@ -9,9 +9,11 @@ ghost use Rattle.tiff_value.specs.ColorType.{sample_number};
 ghost use Rattle.tiff_value.specs.Differences.{predicted_part, predicted_row, IsPart};
 ghost use Rattle.tiff_value.specs.Predicted.{AppendsRow};
 
+use super::octets::{show_bytes, show_numbers};
 use super::tiff_value::TiffScalar;
 use std::simd::prelude::*;
 use tiff_base::error::{TiffError, TiffResult, UsageError};
+use tiff_base::io::ByteWitness;
 use tiff_base::tags::{Bits32, Bits64};
 
 /// The number type of a sample in memory. This project adds this trait.
@@ -73,6 +75,10 @@ pub trait Sample: TiffScalar + Copy {
         ensures { IfSome result
             (λ b. b.now ≡ flat_map (le (type_size Self.value_type))
             (map (sample_number (type_size Self.value_type) bits) samples.now)) };
+
+    /// Shows each byte that the samples are written as. A witness that keeps nothing costs nothing.
+    fn show_all<S: ByteWitness>(samples: &[Self], witness: &mut S)
+        ensures { S.seen witness.new ≡ S.seen witness.old ++ flat_map Self.spelled samples.now };
 
     // A sample is written as the bytes of its bits, the lowest byte first.
     ghost by_bits: { (x : Self) → Self.spelled x ≡ le (type_size Self.value_type) (bits x) };
@@ -288,6 +294,10 @@ impl Sample for u8 {
         Some(samples)
     }
 
+    fn show_all<S: ByteWitness>(samples: &[u8], witness: &mut S) {
+        show_bytes(samples, witness)
+    }
+
     ghost by_bits = { λ x. refl };
 }
 
@@ -342,6 +352,10 @@ impl Sample for i8 {
         None
     }
 
+    fn show_all<S: ByteWitness>(samples: &[i8], witness: &mut S) {
+        show_numbers::<i8, 1, S>(samples, witness)
+    }
+
     ghost by_bits = { λ x. refl };
 }
 
@@ -392,6 +406,10 @@ impl Sample for u16 {
 
     fn as_bytes(samples: &[u16]) -> Option<&[u8]> {
         None
+    }
+
+    fn show_all<S: ByteWitness>(samples: &[u16], witness: &mut S) {
+        show_numbers::<u16, 2, S>(samples, witness)
     }
 
     ghost by_bits = { λ x. refl };
@@ -448,6 +466,10 @@ impl Sample for i16 {
         None
     }
 
+    fn show_all<S: ByteWitness>(samples: &[i16], witness: &mut S) {
+        show_numbers::<i16, 2, S>(samples, witness)
+    }
+
     ghost by_bits = { λ x. refl };
 }
 
@@ -498,6 +520,10 @@ impl Sample for u32 {
 
     fn as_bytes(samples: &[u32]) -> Option<&[u8]> {
         None
+    }
+
+    fn show_all<S: ByteWitness>(samples: &[u32], witness: &mut S) {
+        show_numbers::<u32, 4, S>(samples, witness)
     }
 
     ghost by_bits = { λ x. refl };
@@ -554,6 +580,10 @@ impl Sample for i32 {
         None
     }
 
+    fn show_all<S: ByteWitness>(samples: &[i32], witness: &mut S) {
+        show_numbers::<i32, 4, S>(samples, witness)
+    }
+
     ghost by_bits = { λ x. refl };
 }
 
@@ -604,6 +634,10 @@ impl Sample for u64 {
 
     fn as_bytes(samples: &[u64]) -> Option<&[u8]> {
         None
+    }
+
+    fn show_all<S: ByteWitness>(samples: &[u64], witness: &mut S) {
+        show_numbers::<u64, 8, S>(samples, witness)
     }
 
     ghost by_bits = { λ x. refl };
@@ -660,6 +694,10 @@ impl Sample for i64 {
         None
     }
 
+    fn show_all<S: ByteWitness>(samples: &[i64], witness: &mut S) {
+        show_numbers::<i64, 8, S>(samples, witness)
+    }
+
     ghost by_bits = { λ x. refl };
 }
 
@@ -708,6 +746,10 @@ impl Sample for Bits32 {
         None
     }
 
+    fn show_all<S: ByteWitness>(samples: &[Bits32], witness: &mut S) {
+        show_numbers::<Bits32, 4, S>(samples, witness)
+    }
+
     ghost by_bits = { λ x. refl };
 }
 
@@ -754,6 +796,10 @@ impl Sample for Bits64 {
 
     fn as_bytes(samples: &[Bits64]) -> Option<&[u8]> {
         None
+    }
+
+    fn show_all<S: ByteWitness>(samples: &[Bits64], witness: &mut S) {
+        show_numbers::<Bits64, 8, S>(samples, witness)
     }
 
     ghost by_bits = { λ x. refl };

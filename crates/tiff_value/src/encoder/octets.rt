@@ -9,6 +9,7 @@ ghost use Rattle.tiff_base.specs.Number.{le};
 ghost use Rattle.tiff_value.specs.Data.{signed_le};
 
 use tiff_base::error::{TiffError, TiffResult};
+use tiff_base::io::ByteWitness;
 use tiff_base::tags::{Bits32, Bits64};
 
 /// A number that is written as `N` bytes.
@@ -158,4 +159,35 @@ pub(crate) fn push_numbers<T: Octets<N>, const N: usize>(
     let list = std::mem::replace(out, empty);
     *out = push_each(list, numbers);
     Ok(())
+}
+
+// Shows each byte of a number.
+fn show_octets<const N: usize, S: ByteWitness>(octets: [u8; N], witness: &mut S)
+    ensures { S.seen witness.new ≡ S.seen witness.old ++ octets.entry }
+{
+    for k in 0..N {
+        witness.see(octets[k]);
+    }
+}
+
+/// Shows each byte of the numbers. The loops do nothing that is left when the program runs, if the
+/// witness keeps nothing.
+pub(crate) fn show_numbers<T: Octets<N>, const N: usize, S: ByteWitness>(
+    numbers: &[T],
+    witness: &mut S,
+)
+    ensures { S.seen witness.new ≡ S.seen witness.old ++ flat_map T.written numbers.now }
+{
+    for k in 0..numbers.len() {
+        show_octets(numbers[k].octets(), witness);
+    }
+}
+
+/// Shows each of the bytes.
+pub(crate) fn show_bytes<S: ByteWitness>(bytes: &[u8], witness: &mut S)
+    ensures { S.seen witness.new ≡ S.seen witness.old ++ bytes.now }
+{
+    for byte in bytes {
+        witness.see(*byte);
+    }
 }

@@ -12,7 +12,7 @@ use super::TiffWriter;
 use crate::encoder::differences::Sample;
 use std::alloc::AllocError;
 use tiff_base::error::{TiffError, TiffResult, UsageError};
-use tiff_base::io::{ByteRun, Sink};
+use tiff_base::io::{ByteRun, ByteWitness, Sink};
 use tiff_base::tags::Predictor;
 
 // The number of bytes that are computed before they go to the sink. It is small, so that the bytes
@@ -30,6 +30,11 @@ impl<T: Sample> ByteRun for SampleRun<'_, T> {
 
     ghost bytes = { λ run. flat_map T.spelled run.samples.now };
 
+    fn len(&self) -> Option<usize> {
+        let (_kind, width) = T::type_and_len();
+        self.samples.len().checked_mul(usize::from(width))
+    }
+
     fn push_to(&self, list: &mut Vec<u8>) -> Result<(), AllocError> {
         let start = list.len();
         if T::push_all(self.samples, list).is_err() {
@@ -37,6 +42,10 @@ impl<T: Sample> ByteRun for SampleRun<'_, T> {
             return Err(AllocError);
         }
         Ok(())
+    }
+
+    fn show_to<S: ByteWitness>(&self, witness: &mut S) {
+        T::show_all(self.samples, witness);
     }
 }
 
