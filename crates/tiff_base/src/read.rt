@@ -1,6 +1,6 @@
 //! Exact reads of bytes from a source, and numbers in a byte order.
 
-ghost use Rattle.std.specs.Prelude.{◌≡◌, ◌+◌, ◌≤◌, length};
+ghost use Rattle.std.specs.Prelude.{◌≡◌, ◌+◌, ◌-◌, ◌≤◌, length, take};
 ghost use Rattle.std.specs.Int.{w16, w32, w64};
 ghost use Rattle.tiff_base.specs.SourceAndSink.{AreReadable, bytes_at, exactly_at};
 ghost use Rattle.tiff_base.specs.Number.{number, number_at};
@@ -12,17 +12,20 @@ use crate::io::{IoKind, Source};
 use crate::tags::ByteOrder;
 use std::alloc::Global;
 
-/// Fills `buf` with the bytes of the source from offset `at` on. Returns `IoError(UnexpectedEof)`
-/// if the source has fewer bytes there.
+// Fills the rest of `buf`, of which the first `n` bytes were read already.
 #[tactic(auto, using(crate::proofs::Bytes::next_read))]
-pub fn read_exact_at<R: Source>(source: &mut R, at: u64, buf: &mut [u8]) -> TiffResult<()>
+#[inline(never)]
+fn read_rest<R: Source>(source: &mut R, at: u64, buf: &mut [u8], n: usize) -> TiffResult<()>
+    requires in_buffer { n ≤ length buf.old }
+    requires in_bytes { n ≤ length (R.told source.old).bytes - at }
+    requires so_far { take n buf.old ≡ bytes_at (R.told source.old).bytes at n }
     ensures kept { IsKept R.told R.failures result source.old source.new }
     ensures answer { AnswersWithoutMemory (λ _. buf.new) result
         (exactly_at (R.told source.old).bytes at (length buf.old)) (R.failures source.old)
         (R.failures source.new) }
     ensures asked { AsksOnly (AreReadable (R.told source.old) at (length buf.old)) result }
 {
-    let mut done = 0;
+    let mut done = n;
     while done < buf.len() {
         let Some(offset) = at.checked_add(done as u64) else {
             return Err(TiffError::IoError(IoKind::UnexpectedEof));
@@ -34,6 +37,30 @@ pub fn read_exact_at<R: Source>(source: &mut R, at: u64, buf: &mut [u8]) -> Tiff
         done += n;
     }
     Ok(())
+}
+
+/// Fills `buf` with the bytes of the source from offset `at` on. Returns `IoError(UnexpectedEof)`
+/// if the source has fewer bytes there.
+#[tactic(auto, using(crate::proofs::Bytes::next_read))]
+#[inline(always)]
+pub fn read_exact_at<R: Source>(source: &mut R, at: u64, buf: &mut [u8]) -> TiffResult<()>
+    ensures kept { IsKept R.told R.failures result source.old source.new }
+    ensures answer { AnswersWithoutMemory (λ _. buf.new) result
+        (exactly_at (R.told source.old).bytes at (length buf.old)) (R.failures source.old)
+        (R.failures source.new) }
+    ensures asked { AsksOnly (AreReadable (R.told source.old) at (length buf.old)) result }
+{
+    if buf.is_empty() {
+        return Ok(());
+    }
+    let n = source.read_at(at, buf)?;
+    if n == buf.len() {
+        return Ok(());
+    }
+    if n == 0 {
+        return Err(TiffError::IoError(IoKind::UnexpectedEof));
+    }
+    read_rest(source, at, buf, n)
 }
 
 /// Returns the `len` bytes of the source from offset `at` on. Returns `IoError(UnexpectedEof)` if

@@ -31,6 +31,7 @@ pub enum ChunkCursor {
 const PIECE: usize = 65536;
 
 // Skips `n` bytes of PackBits data after decompression. Returns whether so many were left.
+#[inline(never)]
 fn pass_packed<R: Source>(source: &mut R, position: &mut PackBitsCursor, n: u64) -> TiffResult<bool>
     ensures kept { IsKept R.told R.failures result source.old source.new }
     ensures passed { IfOk result
@@ -133,6 +134,7 @@ impl ChunkCursor {
 
     /// Skips `n` bytes, or all that are left if there are fewer.
     #[tactic(auto, using(crate::proofs::Data::passed_end))]
+    #[inline(always)]
     pub fn pass<R: Source>(&mut self, source: &mut R, n: u64) -> TiffResult<()>
         ensures kept { IsKept R.told R.failures result source.old source.new }
         ensures passed { Passes (R.told source.old).bytes self.old self.new

@@ -198,6 +198,7 @@ fn sum_pixels<const N: usize>(row: &mut [u8])
 
 /// Undoes the horizontal predictor over a row of little-endian numbers of `size` bytes, `stored` of
 /// them for each pixel.
+#[inline(never)]
 pub fn undo_horizontal(row: &mut [u8], size: usize, stored: usize)
     requires size { IsSize size }
     requires stored { 0 < stored }
@@ -290,6 +291,7 @@ fn invert_lanes(part: &mut [u8])
 }
 
 /// Complements each byte of a row, and thus each number of the row.
+#[inline(never)]
 pub fn invert(row: &mut [u8])
     ensures { EachIndex row.new (λ i. slice_index row.new i ≡ 255 - slice_index row.old i) }
 {

@@ -38,9 +38,10 @@ impl RowScratch {
 }
 
 impl RowFormat<'_> {
-    // Reads the next row into a buffer, if this needs the whole stored row.
+    // Reads the next row into a buffer, if this needs the whole stored row. It isn't inlined, so that
+    // the loop over rows that are only copied stays small.
     #[tactic(auto, using(crate::proofs::RowRead::whole_taken, crate::proofs::RowRead::whole_cause))]
-    #[inline(always)]
+    #[inline(never)]
     fn read_whole_row<R: Source>(
         &self,
         source: &mut R,
@@ -71,9 +72,10 @@ impl RowFormat<'_> {
         Ok(())
     }
 
-    // Reads the next bytes into a scratch buffer, and writes their numbers byte-swapped into `out`.
+    // Reads the next bytes into a scratch buffer, and writes their numbers byte-swapped into `out`. It
+    // isn't inlined either.
     #[tactic(auto, using(crate::proofs::RowRead::numbers_cause))]
-    #[inline(always)]
+    #[inline(never)]
     fn read_turned<R: Source>(
         &self,
         source: &mut R,

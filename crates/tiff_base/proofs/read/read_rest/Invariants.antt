@@ -1,6 +1,6 @@
 use Rattle.std.proofs.Common.{length, take, ◌-◌, ◌≡◌, ◌≤◌}
 use Rattle.tiff_base.specs.SourceAndSink.{bytes_at}
-use Rattle.tiff_base.proofs.read.read_exact_at.Given as goal
+use Rattle.tiff_base.proofs.read.read_rest.Given as goal
 
 abbrev pub invariant-loop-done : goal.invariant-loop-done
 invariant-loop-done g l =
