@@ -71,6 +71,12 @@ impl BandRoom {
     }
 }
 
+/// Whether a row of an image, of `row_bytes` bytes, fits into the scratch buffer of a list. The bytes
+/// that are read don't depend on it.
+pub(crate) fn fits_band(row_bytes: usize) -> bool {
+    row_bytes <= BAND
+}
+
 /// Returns how many rows of an image, of `row_bytes` bytes, are read at once into a list, at least 1.
 /// The bytes that are read don't depend on it.
 pub(crate) fn rows_in_band(row_bytes: usize) -> usize
@@ -106,9 +112,9 @@ impl PageReader<'_> {
     }
 
     /// Whether the chunks side by side from a chunk on are read `rows` rows of each at a time, by
-    /// `grow_across` or `fill_across`. They are not if a row of the image is longer than the scratch
-    /// buffer, if the source would be asked for few bytes at a time, or if data are decompressed,
-    /// which is done from the start of a chunk. The bytes that are read don't depend on it.
+    /// `grow_across` or `fill_across`. They are not if the source would be asked for few bytes at a
+    /// time, or if data are decompressed, which is done from the start of a chunk. The bytes that
+    /// are read don't depend on it.
     pub(crate) fn is_banded(&self, part: ImagePlanes, first: u32, rows: usize) -> bool
         ensures { IsTrue result → AreBanded (view.page self.now.page.now) self.now.limits.now
             part.layout.color part.planes first }
@@ -120,7 +126,6 @@ impl PageReader<'_> {
             && across > 1
             && u64::from(first) % across == 0
             && !is_packed(page.method)
-            && part.layout.row_bytes <= BAND
             && rows.saturating_mul(stored) >= LEAST
             && stored.checked_mul(page.chunk_height as usize).is_some()
             && self.are_formed(part.layout.color, first)

@@ -94,7 +94,10 @@ impl ChunkCursor {
                 *at += buf.len() as u64;
                 Ok(())
             }
-            ChunkCursor::Packed(position) => position.read_exact(source, buf),
+            ChunkCursor::Packed(position) => {
+                position.read_exact(source, buf)?;
+                Ok(())
+            }
             ChunkCursor::Ended => {
                 if buf.is_empty() {
                     return Ok(());

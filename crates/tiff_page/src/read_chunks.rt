@@ -11,7 +11,7 @@ ghost use Rattle.tiff_page.specs.Reach.{PartReadable};
 ghost use Rattle.tiff_page.specs.Rect.{rect, chunks_of_plane};
 ghost use Rattle.tiff_page.specs.PageView as view;
 
-use crate::chunk_bands::{BandRoom, rows_in_band, rows_in_piece};
+use crate::chunk_bands::{BandRoom, fits_band, rows_in_band, rows_in_piece};
 use crate::chunk_rows::{ChunkReader, Destination};
 use crate::faults::form_fault;
 use crate::layout::{
@@ -282,11 +282,12 @@ impl PageReader<'_> {
     {
         let chunks = chunks_of_plane(self.page);
         let rows = rows_in_band(part.layout.row_bytes);
+        let in_bands = fits_band(part.layout.row_bytes);
         let mut room = BandRoom::new(self.alloc);
         let mut chunk = 0;
         while chunk < chunks {
             let next = ChunkRequest { part, chunk };
-            if self.is_banded(part, chunk, rows) {
+            if in_bands && self.is_banded(part, chunk, rows) {
                 self.grow_across::<R, T, W>(source, next, &mut room, list)?;
                 chunk += chunks_across(self.page) as u32;
             } else {

@@ -38,10 +38,9 @@ impl RowScratch {
 }
 
 impl RowFormat<'_> {
-    // Reads the next row into a buffer, if this needs the whole stored row. It isn't inlined, so that
-    // the loop over rows that are only copied stays small.
+    // Reads the next row into a buffer, if this needs the whole stored row.
     #[tactic(auto, using(crate::proofs::RowRead::whole_taken, crate::proofs::RowRead::whole_cause))]
-    #[inline(never)]
+    #[inline(always)]
     fn read_whole_row<R: Source>(
         &self,
         source: &mut R,
@@ -72,10 +71,9 @@ impl RowFormat<'_> {
         Ok(())
     }
 
-    // Reads the next bytes into a scratch buffer, and writes their numbers byte-swapped into `out`. It
-    // isn't inlined either.
+    // Reads the next bytes into a scratch buffer, and writes their numbers byte-swapped into `out`.
     #[tactic(auto, using(crate::proofs::RowRead::numbers_cause))]
-    #[inline(never)]
+    #[inline(always)]
     fn read_turned<R: Source>(
         &self,
         source: &mut R,
@@ -158,7 +156,38 @@ impl RowFormat<'_> {
         Ok(())
     }
 
+    // Reads the next row as `read_row` does, if its stored bytes are changed on their way. It isn't
+    // inlined, so that the loop over rows that are only copied stays small.
+    #[inline(never)]
+    fn read_changed_row<R: Source>(
+        self,
+        source: &mut R,
+        cursor: &mut ChunkCursor,
+        room: &mut RowScratch,
+        out: &mut [u8],
+    ) -> TiffResult<()>
+        requires read { IsRead (view.page self.page.now) self.color }
+        requires width { self.width ≤ self.page.now.chunk_width }
+        requires out { length out.old ≡ row_bytes (view.page self.page.now) self.color self.width }
+        ensures kept { IsKept R.told R.failures result source.old source.new }
+        ensures row { RowRead (R.told source.old).bytes self.entry.order
+            (view.page self.entry.page.now) self.entry.color cursor.old cursor.new
+            (R.failures source.old < R.failures source.new) out.new result }
+        ensures asked { AsksOnly (StoredReadable (R.told source.old) cursor.old
+            (needed_of_row (view.page self.entry.page.now) self.entry.color (length out.old)))
+            result }
+        ensures moves { OnOk result (Moves cursor.old
+            (needed_of_row (view.page self.entry.page.now) self.entry.color (length out.old))
+            cursor.new) }
+    {
+        if needs_whole_rows(self.page, self.color) {
+            return self.read_whole_row(source, cursor, room, out);
+        }
+        self.read_finished(source, cursor, room, out)
+    }
+
     /// Reads the next row into a buffer as it is output.
+    #[tactic(auto, using(crate::proofs::RowRead::row_taken, crate::proofs::RowRead::row_cause))]
     #[inline(always)]
     pub(crate) fn read_row<R: Source>(
         &self,
@@ -182,9 +211,12 @@ impl RowFormat<'_> {
             (needed_of_row (view.page self.now.page.now) self.now.color (length out.old))
             cursor.new) }
     {
-        if needs_whole_rows(self.page, self.color) {
-            return self.read_whole_row(source, cursor, room, out);
+        if needs_whole_rows(self.page, self.color) || needs_swap(self.order, self.page) {
+            self.read_changed_row(source, cursor, room, out)?;
+            return Ok(());
         }
-        self.read_finished(source, cursor, room, out)
+        cursor.read(source, out)?;
+        finish_row(self.page, self.color, out);
+        Ok(())
     }
 }
