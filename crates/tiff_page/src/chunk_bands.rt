@@ -8,7 +8,7 @@ ghost use Rattle.std.specs.Prelude.{◌≡◌, ℕ, ◌+◌, ◌-◌, ◌*◌, �
 ghost use Rattle.tiff_base.specs.Answers.{Answers, AsksOnly, IsKept};
 ghost use Rattle.tiff_base.specs.declared.error.TiffError.TheVariants as tiff;
 ghost use Rattle.tiff_base.specs.declared.io.IoKind.TheVariants as io;
-ghost use Rattle.tiff_page.specs.ChunkBands.{AreBanded, GrowsByRows, PutsImageRows, WritesImageRows, rows_short};
+ghost use Rattle.tiff_page.specs.ChunkBands.{AreBanded, AreImageRows, GrowsByRows, PutsImageRows, WritesImageRows, rows_short};
 ghost use Rattle.tiff_page.specs.Layout.{layout_of};
 ghost use Rattle.tiff_page.specs.PixelCalls.{image_part};
 ghost use Rattle.tiff_page.specs.PixelFault as fault;
@@ -39,9 +39,13 @@ const BAND: usize = 262144;
 // reads at once.
 const PIECE: usize = 8192;
 
-// The least number of bytes of a chunk that are read at once. A source that reads ahead, as
-// `BufferedSource`, reads at most as many bytes again.
+// The least number of bytes of a chunk that are read at once, if it has more. A source that reads
+// ahead, as `BufferedSource`, reads at most as many bytes again.
 const LEAST: usize = 6144;
+
+// Rows of a chunk of fewer bytes are read into a scratch buffer that stays in the processor's second
+// cache, and go to a buffer as whole rows of the image.
+const SHORT: usize = 320;
 
 // Rows of the chunks side by side in an image from chunk `first` on: from row `from` of each of
 // them on, below row `to`. The first of them goes to row `top` of a buffer.
@@ -86,9 +90,35 @@ pub(crate) fn rows_in_band(row_bytes: usize) -> usize
     (BAND / row_bytes).max(1)
 }
 
-/// Returns how many rows of each chunk of a page are read at once into a buffer, at least 1. The
-/// bytes that are read don't depend on it.
-pub(crate) fn rows_in_piece(page: &Page) -> usize
+// Whether the rows of chunks of a page go to a buffer through a scratch buffer.
+fn has_short_rows(page: &Page) -> bool {
+    stored_row_bytes(page) < SHORT
+}
+
+/// Returns how many rows of each chunk of a page are read at once into a buffer, if the image has
+/// `row_bytes` bytes a row; 0 if the chunks are read one by one. The bytes that are read don't depend
+/// on it.
+pub(crate) fn rows_to_buffer(page: &Page, row_bytes: usize) -> usize
+    requires { 0 < row_bytes }
+{
+    if has_short_rows(page) {
+        return if fits_band(row_bytes) {
+            rows_in_band(row_bytes)
+        } else {
+            0
+        };
+    }
+    let rows = rows_in_piece(page);
+    if rows < page.chunk_height as usize {
+        rows
+    } else {
+        0
+    }
+}
+
+// Returns how many rows of each chunk of a page are read at once straight into a buffer, at least 1.
+// The bytes that are read don't depend on it.
+fn rows_in_piece(page: &Page) -> usize
     ensures { 0 < result }
 {
     let stored = stored_row_bytes(page).max(1);
@@ -126,13 +156,14 @@ impl PageReader<'_> {
             && across > 1
             && u64::from(first) % across == 0
             && !is_packed(page.method)
-            && rows.saturating_mul(stored) >= LEAST
+            && (rows >= page.chunk_height as usize || rows.saturating_mul(stored) >= LEAST)
             && stored.checked_mul(page.chunk_height as usize).is_some()
             && self.are_formed(part.layout.color, first)
     }
 
     // Reads rows of chunks that lie side by side, as they are in the image, into the bytes of a
     // buffer of rows of it.
+    #[inline(always)]
     fn read_across<R: Source, T, W: RowSink<T>>(
         &self,
         source: &mut R,
@@ -199,6 +230,49 @@ impl PageReader<'_> {
         Ok(())
     }
 
+    // Reads rows of chunks that lie side by side, as they are in the image, into a scratch buffer.
+    fn read_band<R: Source>(
+        &self,
+        source: &mut R,
+        band: BandRequest,
+        room: &mut BandRoom,
+    ) -> TiffResult<()>
+        requires laid { layout_of (view.page self.now.page.now) self.now.page.now.width
+            self.now.page.now.height ≡ Ok (record {
+              color = band.layout.color;
+              row_bytes = band.layout.row_bytes;
+              plane_stride = band.layout.plane_stride;
+            }) }
+        requires banded { AreBanded (view.page self.now.page.now) self.now.limits.now
+            band.layout.color 1 band.first }
+        requires chunk { band.first < rects.chunks_of_plane (view.page self.now.page.now) }
+        requires some_rows { band.from < band.to }
+        requires within { band.to ≤ (rects.rect (view.page self.now.page.now) band.first).height }
+        requires alone { band.top ≡ 0 }
+        ensures kept { IsKept R.told R.failures result source.old source.new }
+        ensures rows { OnOk result
+            (AreImageRows (R.told source.old).bytes self.now.order (view.page self.now.page.now)
+            band.layout.color band.layout.row_bytes
+            ((rects.rect (view.page self.now.page.now) band.first).y + band.from)
+            room.new.rows.items) }
+        ensures all { OnOk result
+            (length room.new.rows.items ≡ (band.to - band.from) * band.layout.row_bytes) }
+        ensures answer { Answers (λ _. tt) result
+            (each_below (λ column. fail_if
+            (rows_short (R.told source.old).bytes self.now.order (view.page self.now.page.now)
+            band.layout.color (band.first + column) band.to)
+            (tiff.IoError io.UnexpectedEof)) (rects.across (view.page self.now.page.now)))
+            (R.failures source.old) (R.failures source.new) }
+        ensures asked { AsksOnly
+            (PartReadable (R.told source.old) (view.page self.now.page.now) band.layout.color
+            (image_part (view.page self.now.page.now) 1 band.layout.row_bytes)) result }
+    {
+        room.rows
+            .resize((band.to - band.from) * band.layout.row_bytes, 0)?;
+        self.read_across(source, band, &mut room.writer, &mut room.rows)?;
+        Ok(())
+    }
+
     /// Reads the chunks that lie side by side in an image, from a chunk on, into a list, which grows
     /// where it is too short. Some rows of the image at a time go through a scratch buffer. Returns
     /// `IoError(UnexpectedEof)` if the data of one of the chunks are too few.
@@ -251,18 +325,16 @@ impl PageReader<'_> {
                 to,
                 top: 0,
             };
-            room.rows.resize((to - from) * layout.row_bytes, 0)?;
-            self.read_across(source, band, &mut room.writer, &mut room.rows)?;
+            self.read_band(source, band, room)?;
             W::append(list, (top + from) * layout.row_bytes, &room.rows)?;
             from = to;
         }
         Ok(())
     }
 
-    /// Reads the chunks that lie side by side in an image, from a chunk on, into the bytes of a
-    /// buffer, some rows of each at a time. Returns `IoError(UnexpectedEof)` if the data of one of
-    /// the chunks are too few.
-    pub(crate) fn fill_across<R: Source, T, W: RowSink<T>>(
+    // Reads the chunks that lie side by side in an image, from a chunk on, into the bytes of a
+    // buffer, some rows of each at a time.
+    fn fill_across<R: Source, T, W: RowSink<T>>(
         &self,
         source: &mut R,
         next: ChunkRequest,
@@ -315,5 +387,108 @@ impl PageReader<'_> {
             from = to;
         }
         Ok(())
+    }
+
+    // Reads the chunks as `fill_across` does, but some rows of the image at a time go through a
+    // scratch buffer.
+    fn fill_by_rows<R: Source, T, W: RowSink<T>>(
+        &self,
+        source: &mut R,
+        next: ChunkRequest,
+        room: &mut BandRoom,
+        buf: &mut [T],
+    ) -> TiffResult<()>
+        requires laid { layout_of (view.page self.now.page.now) self.now.page.now.width
+            self.now.page.now.height ≡ Ok (record {
+              color = next.part.layout.color;
+              row_bytes = next.part.layout.row_bytes;
+              plane_stride = next.part.layout.plane_stride;
+            }) }
+        requires banded { AreBanded (view.page self.now.page.now) self.now.limits.now
+            next.part.layout.color next.part.planes next.chunk }
+        requires chunk { next.chunk < rects.chunks_of_plane (view.page self.now.page.now) }
+        requires room { next.part.layout.plane_stride ≤ length (W.bytes buf.old) }
+        ensures kept { IsKept R.told R.failures result source.old source.new }
+        ensures ok { OnOk result
+            (WritesImageRows (R.told source.old).bytes self.now.order
+            (view.page self.now.page.now) next.part.layout.color next.part.layout.row_bytes
+            (rects.rect (view.page self.now.page.now) next.chunk).y
+            ((rects.rect (view.page self.now.page.now) next.chunk).y
+            + (rects.rect (view.page self.now.page.now) next.chunk).height)
+            (W.bytes buf.old) (W.bytes buf.new)) }
+        ensures answer { Answers (λ _. tt) result
+            (each_below (λ column. fail_if
+            (is_short (R.told source.old).bytes self.now.order (view.page self.now.page.now)
+            next.part.layout.color (next.chunk + column))
+            (tiff.IoError io.UnexpectedEof)) (rects.across (view.page self.now.page.now)))
+            (R.failures source.old) (R.failures source.new) }
+        ensures asked { AsksOnly
+            (PartReadable (R.told source.old) (view.page self.now.page.now) next.part.layout.color
+            (image_part (view.page self.now.page.now) 1 next.part.layout.row_bytes)) result }
+    {
+        let layout = next.part.layout;
+        let place = rect(self.page, next.chunk);
+        let (top, height) = (place.y as usize, place.height as usize);
+        let most = rows_in_band(layout.row_bytes);
+        let mut from = 0;
+        while from < height {
+            let to = from + most.min(height - from);
+            let band = BandRequest {
+                layout,
+                first: next.chunk,
+                from,
+                to,
+                top: 0,
+            };
+            self.read_band(source, band, room)?;
+            W::put(buf, (top + from) * layout.row_bytes, &room.rows);
+            from = to;
+        }
+        Ok(())
+    }
+
+    /// Reads the chunks that lie side by side in an image, from a chunk on, into the bytes of a
+    /// buffer, some rows of each at a time; short rows through a scratch buffer. Returns
+    /// `IoError(UnexpectedEof)` if the data of one of the chunks are too few.
+    pub(crate) fn fill_side_by_side<R: Source, T, W: RowSink<T>>(
+        &self,
+        source: &mut R,
+        next: ChunkRequest,
+        writer: &mut W,
+        room: &mut BandRoom,
+        buf: &mut [T],
+    ) -> TiffResult<()>
+        requires laid { layout_of (view.page self.now.page.now) self.now.page.now.width
+            self.now.page.now.height ≡ Ok (record {
+              color = next.part.layout.color;
+              row_bytes = next.part.layout.row_bytes;
+              plane_stride = next.part.layout.plane_stride;
+            }) }
+        requires banded { AreBanded (view.page self.now.page.now) self.now.limits.now
+            next.part.layout.color next.part.planes next.chunk }
+        requires chunk { next.chunk < rects.chunks_of_plane (view.page self.now.page.now) }
+        requires room { next.part.layout.plane_stride ≤ length (W.bytes buf.old) }
+        ensures kept { IsKept R.told R.failures result source.old source.new }
+        ensures ok { OnOk result
+            (WritesImageRows (R.told source.old).bytes self.now.order
+            (view.page self.now.page.now) next.part.layout.color next.part.layout.row_bytes
+            (rects.rect (view.page self.now.page.now) next.chunk).y
+            ((rects.rect (view.page self.now.page.now) next.chunk).y
+            + (rects.rect (view.page self.now.page.now) next.chunk).height)
+            (W.bytes buf.old) (W.bytes buf.new)) }
+        ensures answer { Answers (λ _. tt) result
+            (each_below (λ column. fail_if
+            (is_short (R.told source.old).bytes self.now.order (view.page self.now.page.now)
+            next.part.layout.color (next.chunk + column))
+            (tiff.IoError io.UnexpectedEof)) (rects.across (view.page self.now.page.now)))
+            (R.failures source.old) (R.failures source.new) }
+        ensures asked { AsksOnly
+            (PartReadable (R.told source.old) (view.page self.now.page.now) next.part.layout.color
+            (image_part (view.page self.now.page.now) 1 next.part.layout.row_bytes)) result }
+    {
+        if has_short_rows(self.page) {
+            return self.fill_by_rows::<R, T, W>(source, next, room, buf);
+        }
+        self.fill_across(source, next, writer, buf)
     }
 }

@@ -11,7 +11,7 @@ ghost use Rattle.tiff_page.specs.Reach.{PartReadable};
 ghost use Rattle.tiff_page.specs.Rect.{rect, chunks_of_plane};
 ghost use Rattle.tiff_page.specs.PageView as view;
 
-use crate::chunk_bands::{BandRoom, fits_band, rows_in_band, rows_in_piece};
+use crate::chunk_bands::{BandRoom, fits_band, rows_in_band, rows_to_buffer};
 use crate::chunk_rows::{ChunkReader, Destination};
 use crate::faults::form_fault;
 use crate::layout::{
@@ -230,13 +230,13 @@ impl PageReader<'_> {
             part.planes part.layout.row_bytes)) result }
     {
         let chunks = chunks_of_plane(self.page);
-        let rows = rows_in_piece(self.page);
-        let in_pieces = rows < self.page.chunk_height as usize;
+        let rows = rows_to_buffer(self.page, part.layout.row_bytes);
+        let mut room = BandRoom::new(self.alloc);
         let mut chunk = 0;
         while chunk < chunks {
             let next = ChunkRequest { part, chunk };
-            if in_pieces && self.is_banded(part, chunk, rows) {
-                self.fill_across(source, next, writer, buf)?;
+            if self.is_banded(part, chunk, rows) {
+                self.fill_side_by_side(source, next, writer, &mut room, buf)?;
                 chunk += chunks_across(self.page) as u32;
             } else {
                 self.fill_chunk(source, next, writer, buf)?;

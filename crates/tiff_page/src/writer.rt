@@ -134,6 +134,12 @@ pub trait RowSink<T> {
         ensures { OnOk result (IsPut at row.now (filled_to (whole (at + length row.now))
             (bytes list.old.items)) (bytes list.new.items)) };
 
+    /// Writes bytes to a position among the bytes of a list.
+    fn put(list: &mut [T], at: usize, row: &[u8])
+        requires room { at + length row.now ≤ length (bytes list.old) }
+        requires fits { at + length row.now < 2 ^ 64 }
+        ensures { IsPut at row.now (bytes list.old) (bytes list.new) };
+
     /// Whether a list has `at` bytes.
     fn ends_at(list: &[T], at: usize) -> bool
         ensures { IsTrue result ↔ (length (bytes list.now) ≡ at) };
@@ -223,6 +229,10 @@ impl RowSink<u8> for ByteRows {
 
     fn append(list: &mut Vec<u8>, at: usize, row: &[u8]) -> Result<(), AllocError> {
         append_row::<u8, 1>(list, at, row)
+    }
+
+    fn put(list: &mut [u8], at: usize, row: &[u8]) {
+        list[at..at + row.len()].copy_from_slice(row);
     }
 
     fn ends_at(list: &[u8], at: usize) -> bool {
@@ -319,6 +329,11 @@ impl<T: Number<N>, const N: usize> RowSink<T> for TypedRows<N> {
     #[tactic(auto, using(crate::proofs::NumberBytes::some_size))]
     fn append(list: &mut Vec<T>, at: usize, row: &[u8]) -> Result<(), AllocError> {
         append_row(list, at, row)
+    }
+
+    #[tactic(auto, using(crate::proofs::NumberBytes::some_size))]
+    fn put(list: &mut [T], at: usize, row: &[u8]) {
+        put_row(list, at, row);
     }
 
     #[tactic(auto, using(crate::proofs::NumberBytes::some_size))]

@@ -15,6 +15,6 @@ returns-clause-row g c =
     let p = view.page c.args.self.now.page.now in
     let order = c.args.self.now.order in
     let held = stood_taken order p (bytes_left file c.args.cursor.now) (bytes_left file c.read.new.self) c.read.new.buf
-        (sym c.needs_swap.ensures ∙ c.if-needs_swap.false) c.in_ok-read.ensures.taken.0 in
+    (sym c.needs_swap.ensures ∙ c.if-needs_swap.false) c.in_ok-read.ensures.taken.0 in
     row_taken order p c.args.self.now.color _ _ held.row c.finish_row.new.row (sym c.needs_whole_rows.ensures ∙ c.if-needs_whole_rows.false) held.next
     (omega (arith, held.holds.same_length)) (c.finish_row.ensures order held.row held.holds)

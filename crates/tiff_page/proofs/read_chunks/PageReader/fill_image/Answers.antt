@@ -15,7 +15,7 @@ use Rattle.tiff_page.specs.PageView as view
 use Rattle.tiff_page.specs.declared.page.Page.{Page}
 use Rattle.tiff_page.specs.declared.layout.PlaneLayout.{PlaneLayout}
 use Rattle.tiff_page.proofs.Covering.{planes_written}
-use Rattle.tiff_page.proofs.Filling.{chunk_cause, image_filled, of_chunk, one_more, rows_in}
+use Rattle.tiff_page.proofs.Filling.{chunk_cause, image_filled, of_chunk, one_more, rows_in, stride_some}
 use Rattle.tiff_page.proofs.Sizes.{parts_some}
 use Rattle.tiff_page.proofs.ChunkBands as bands
 use Rattle.tiff_page.proofs.Reach.{image_asked}
@@ -27,21 +27,26 @@ sides_of p = record { wide = p.wide; high = p.high; chunk_wide = p.chunk_wide; c
 abbrev pub layout : PlaneLayout → LayoutRecord
 layout l = record { color = l.color; row_bytes = l.row_bytes; plane_stride = l.plane_stride }
 
-pub returns-in_err-fill_across-clause-answer : goal.returns-in_err-fill_across-clause-answer
-returns-in_err-fill_across-clause-answer g c =
+pub rows_to_buffer-rows-requires : goal.rows_to_buffer-rows-requires
+rows_to_buffer-rows-requires g c =
+    let p = c.args.self.now.page.now in
+    stride_some (g.R.Source.told c.args.source.now).bytes c.args.self.now.order (view.page p) c.args.self.now.limits.now (layout c.args.part.layout) (sides_of p) p.sampled p.deep c.requires.laid
+
+pub returns-in_err-fill_side_by_side-clause-answer : goal.returns-in_err-fill_side_by_side-clause-answer
+returns-in_err-fill_side_by_side-clause-answer g c =
     let p = c.args.self.now.page.now in
     let file = (g.R.Source.told c.args.source.now).bytes in
     let color = c.args.part.layout.color in
     let chunk = c.loop-chunk.chunk in
-    let e = c.in_err-fill_across.field-0.0 in
+    let e = c.in_err-fill_side_by_side.field-0.0 in
     let banded : AreBanded (view.page p) c.args.self.now.limits.now color c.args.part.planes chunk = c.if-is_banded.ensures refl in
     let inside : chunk < chunks_of_plane (view.page p) = omega (arith, c.loop-chunk-test.true, c.chunks_of_plane-chunks.ensures.count) in
     let last = bands.all_indices file c.args.self.now.order (view.page p) c.args.self.now.limits.now (layout c.args.part.layout) (sides_of p) p.sampled p.deep c.requires.laid chunk 0 c.args.part.planes banded inside (parts_some p.width p.chunk_width p.chunk_wide p.wide) in
     let given = subst
     (λ (bytes : List ℕ).
-    IsCause (Unit {0}) (g.R.Source.failures c.loop-chunk.source < g.R.Source.failures c.fill_across.new.source) e
+    IsCause (Unit {0}) (g.R.Source.failures c.loop-chunk.source < g.R.Source.failures c.fill_side_by_side.new.source) e
     (each_below (λ column. fail_if (is_short bytes c.args.self.now.order (view.page p) color (chunk + column)) (IoError UnexpectedEof)) (across (view.page p)) ≡ Err e))
-    (same_bytes c.loop-chunk.invariant.same) c.in_err-fill_across.ensures.answer in
+    (same_bytes c.loop-chunk.invariant.same) c.in_err-fill_side_by_side.ensures.answer in
     let answered = err_from_is_err_and c.from_residual.result c.from_residual.ensures.1 in
     rw (answered.1, answered.2) (bands.across_cause file c.args.self.now.order (view.page p) c.args.self.now.limits.now color c.args.part.planes chunk banded
     _ _ (g.W.RowSink.bytes c.args.buf.now) c.args.part.layout.row_bytes e (λ f. omega (arith, f, c.loop-chunk.invariant.count)) last c.loop-chunk.invariant.none given)
@@ -68,7 +73,7 @@ loop-chunk-preserved-then-is_banded g c =
     let many = across (view.page p) in
     let old = g.W.RowSink.bytes c.args.buf.now in
     let mid = g.W.RowSink.bytes c.loop-chunk.buf in
-    let new = g.W.RowSink.bytes c.fill_across.new.buf in
+    let new = g.W.RowSink.bytes c.fill_side_by_side.new.buf in
     let i = c.loop-chunk.invariant in
     let same = same_bytes i.same in
     let banded : AreBanded (view.page p) limits color planes chunk = c.if-is_banded.ensures refl in
@@ -80,16 +85,16 @@ loop-chunk-preserved-then-is_banded g c =
     let e : many ≡ c.chunks_across.result = sym c.chunks_across.ensures in
     let given = subst
     (λ (told : List ℕ). each_below (λ column. fail_if (is_short told order (view.page p) color (chunk + column)) (IoError UnexpectedEof)) many ≡ Ok tt)
-    same c.in_ok-fill_across.ensures.answer in
+    same c.in_ok-fill_side_by_side.ensures.answer in
     let none = bands.none_across file order (view.page p) limits color planes chunk banded many (omega arith) i.none given in
     let y = (rect (view.page p) chunk).y in
     let h = (rect (view.page p) chunk).height in
-    let wrote = subst (λ (told : List ℕ). WritesImageRows told order (view.page p) color stride y (y + h) mid new) same c.in_ok-fill_across.ensures.ok in
+    let wrote = subst (λ (told : List ℕ). WritesImageRows told order (view.page p) color stride y (y + h) mid new) same c.in_ok-fill_side_by_side.ensures.ok in
     let before = subst (λ (n : ℕ). Writes (IsBefore (view.page p) color stride n chunk 0) (image_byte (view.page p) color stride file order) old mid) banded.one i.written in
     let after = bands.across_written (view.page p) color stride chunk (sides_of p) rows room inside banded.leftmost some file order old mid new before wrote in
     record {
-      same = c.in_ok-fill_across.ensures.kept.told ∙ i.same;
-      count = omega (arith, c.in_ok-fill_across.ensures.kept.swallowed, i.count);
+      same = c.in_ok-fill_side_by_side.ensures.kept.told ∙ i.same;
+      count = omega (arith, c.in_ok-fill_side_by_side.ensures.kept.swallowed, i.count);
       below = omega (arith, last, e);
       none = subst (λ (n : ℕ). each_below (of_chunk file order (view.page p) limits (layout c.args.part.layout) (sides_of p) p.sampled p.deep c.requires.laid planes) (chunk + n) ≡ Ok tt) e none;
       written = subst (λ (n : ℕ). Writes (IsBefore (view.page p) color stride planes (chunk + n) 0) (image_byte (view.page p) color stride file order) old new) e
@@ -158,8 +163,8 @@ returns-in_err-fill_chunk-clause-asked g c =
     rw (answered.1, answered.2) (image_asked (view.page c.args.self.now.page.now) c.args.part.layout.color c.args.part.planes c.args.part.layout.row_bytes c.loop-chunk.chunk _ (g.R.Source.told c.args.source.now) (g.R.Source.told c.loop-chunk.source) c.loop-chunk.invariant.same
     (omega (arith, c.loop-chunk-test.true, c.chunks_of_plane-chunks.ensures.count)) c.in_err-fill_chunk.ensures.asked)
 
-pub fill_across-requires-clause-room : goal.fill_across-requires-clause-room
-fill_across-requires-clause-room g c =
+pub fill_side_by_side-requires-clause-room : goal.fill_side_by_side-requires-clause-room
+fill_side_by_side-requires-clause-room g c =
     let p = c.args.self.now.page.now in
     let banded : AreBanded (view.page p) c.args.self.now.limits.now c.args.part.layout.color c.args.part.planes c.loop-chunk.chunk = c.if-is_banded.ensures refl in
     let size : 1 * c.args.part.layout.plane_stride ≤ length (g.W.RowSink.bytes c.args.buf.now) = subst (λ (n : ℕ). n * c.args.part.layout.plane_stride ≤ length (g.W.RowSink.bytes c.args.buf.now)) banded.one c.requires.room in

@@ -1,6 +1,6 @@
-use Rattle.std.proofs.Common.{rules, arith, Ok, Err, ap, sym, ◌≡◌, ℕ, List, ◌∙◌, ◌+◌, ◌-◌, ◌*◌, ◌<◌, ◌≤◌, length, subst}
+use Rattle.std.proofs.Common.{arith, Ok, Err, ap, sym, ◌≡◌, ℕ, List, ◌∙◌, ◌+◌, ◌-◌, ◌*◌, ◌<◌, ◌≤◌, length, subst}
 use Rattle.std.proofs.lemmas.Result.{err_from_is_err_and}
-use Rattle.std.proofs.Math.Nat.{le-mul_of_pos_right, mul-le-mul_right}
+use Rattle.std.proofs.Math.Nat.{le-mul_of_pos_right}
 use Rattle.tiff_base.specs.Answers.{IsCause}
 use Rattle.tiff_base.specs.declared.error.TiffError.TheVariants.{IoError}
 use Rattle.tiff_base.specs.declared.io.IoKind.TheVariants.{UnexpectedEof}
@@ -10,7 +10,7 @@ use Rattle.tiff_page.specs.PixelFault.{each_below, fail_if}
 use Rattle.tiff_page.specs.Layout.{LayoutRecord, row_bytes}
 use Rattle.tiff_page.specs.Laws.{HasSides}
 use Rattle.tiff_page.specs.BufferPositions.{filled_to, image_byte, IsIn, Writes}
-use Rattle.tiff_page.specs.ChunkBands.{AreImageRows, PutsImageRows, rows_short, WritesImageRows}
+use Rattle.tiff_page.specs.ChunkBands.{AreImageRows, rows_short, WritesImageRows}
 use Rattle.tiff_page.specs.NumberBytes.{IsPut}
 use Rattle.tiff_page.specs.Rect.{rect, across}
 use Rattle.tiff_page.specs.PageView as view
@@ -19,7 +19,6 @@ use Rattle.tiff_page.specs.declared.layout.PlaneLayout.{PlaneLayout}
 use Rattle.tiff_page.proofs.ChunkBands as bands
 use Rattle.tiff_page.proofs.Filled.{put_filled}
 use Rattle.tiff_page.proofs.Filling.{row_is, stride_some}
-use Rattle.tiff_page.proofs.PositionsPut.{all_of_room}
 use Rattle.tiff_page.proofs.read_chunks.PageReader.grow_across.Goals as goal
 
 abbrev pub sides_of : (p : Page) → HasSides (view.page p)
@@ -32,18 +31,6 @@ pub rows_in_band-most-requires : goal.rows_in_band-most-requires
 rows_in_band-most-requires g c =
     let p = c.args.self.now.page.now in
     stride_some (g.R.Source.told c.args.source.now).bytes c.args.self.now.order (view.page p) c.args.self.now.limits.now (layout c.args.next.part.layout) (sides_of p) p.sampled p.deep c.requires.laid
-
-pub overflow_mul-to : goal.overflow_mul-to
-overflow_mul-to g c =
-    let p = c.args.self.now.page.now in
-    let l = c.args.next.part.layout in
-    let h = ap (λ r. r.height) c.rect-place.ensures.position in
-    let from = c.loop-from.from in
-    let to = from + c.min.result in
-    let end = (rect (view.page p) c.args.next.chunk).y + to in
-    let fits : end * l.row_bytes ≤ l.plane_stride = bands.rows_end (g.R.Source.told c.args.source.now).bytes c.args.self.now.order (view.page p) c.args.self.now.limits.now (layout l) (sides_of p) p.sampled p.deep c.requires.laid c.args.next.chunk to (omega (arith, h, c.min.ensures, c.loop-from-test.true, c.loop-from.invariant.below)) in
-    let k : (to - from) * l.row_bytes ≤ end * l.row_bytes = mul-le-mul_right l.row_bytes (omega arith) in
-    omega (arith, fits, k)
 
 pub overflow_add-top : goal.overflow_add-top
 overflow_add-top g c =
@@ -81,25 +68,24 @@ append-requires g c =
     let e : (c.rect-place.result.y + from) * l.row_bytes ≡ (top + from) * l.row_bytes = ap (λ (m : ℕ). (m + from) * l.row_bytes) y in
     let count : top + to - (top + from) ≡ to - from = omega arith in
     let s : (top + to) * l.row_bytes ≡ (top + from) * l.row_bytes + (to - from) * l.row_bytes = bands.more_whole l.row_bytes (top + from) (top + to) (omega arith) ∙ ap (λ (m : ℕ). (top + from) * l.row_bytes + m * l.row_bytes) count in
-    let all : length c.read_across.new.buf ≡ (to - from) * l.row_bytes = search rules in
-    let same = all_of_room c.deref.result.now c.read_across.new.buf _ _ (search rules) c.deref.ensures.value in
-    let n = ap (λ (xs : List ℕ). length xs) same in
+    let all = c.in_ok-read_band.ensures.all in
+    let n = ap (λ (xs : List ℕ). length xs) c.deref.ensures.value in
     record { fits = omega (arith, fits, e, s, all, n) }
 
-pub returns-in_err-read_across-clause-answer : goal.returns-in_err-read_across-clause-answer
-returns-in_err-read_across-clause-answer g c =
+pub returns-in_err-read_band-clause-answer : goal.returns-in_err-read_band-clause-answer
+returns-in_err-read_band-clause-answer g c =
     let p = view.page c.args.self.now.page.now in
     let order = c.args.self.now.order in
     let color = c.args.next.part.layout.color in
     let first = c.args.next.chunk in
-    let e = c.in_err-read_across.field-0.0 in
+    let e = c.in_err-read_band.field-0.0 in
     let file = (g.R.Source.told c.args.source.now).bytes in
     let to = c.loop-from.from + c.min.result in
     let h = ap (λ r. r.height) c.rect-place.ensures.position in
     let high = λ (column : ℕ) (l : column < across p). bands.its_height file order p c.args.self.now.limits.now (layout c.args.next.part.layout) (sides_of c.args.self.now.page.now) c.args.self.now.page.now.sampled c.args.self.now.page.now.deep c.requires.laid first column c.args.next.part.planes c.requires.banded c.requires.chunk l in
     let inside : to ≤ (rect p first).height = omega (arith, h, c.min.ensures, c.loop-from-test.true, c.loop-from.invariant.below) in
-    let given = subst (λ (bytes : List ℕ). IsCause (Unit {0}) (g.R.Source.failures c.loop-from.source < g.R.Source.failures c.read_across.new.source) e (each_below (λ column. fail_if (rows_short bytes order p color (first + column) to) (IoError UnexpectedEof)) (across p) ≡ Err e)) (same_bytes c.loop-from.invariant.same) c.in_err-read_across.ensures.answer in
-    let answered = err_from_is_err_and c.from_residual-in_err-read_across.result c.from_residual-in_err-read_across.ensures.1 in
+    let given = subst (λ (bytes : List ℕ). IsCause (Unit {0}) (g.R.Source.failures c.loop-from.source < g.R.Source.failures c.read_band.new.source) e (each_below (λ column. fail_if (rows_short bytes order p color (first + column) to) (IoError UnexpectedEof)) (across p) ≡ Err e)) (same_bytes c.loop-from.invariant.same) c.in_err-read_band.ensures.answer in
+    let answered = err_from_is_err_and c.from_residual.result c.from_residual.ensures.1 in
     rw (answered.1, answered.2) (cause_along e (λ w. w) (λ f. omega (arith, f, c.loop-from.invariant.count)) (λ z. bands.short_rows file order p color first to high inside e z) given)
 
 pub loop-from-preserved : goal.loop-from-preserved
@@ -125,26 +111,22 @@ loop-from-preserved g c =
     let inside : to ≤ (rect p first).height = omega (arith, h, c.min.ensures, c.loop-from-test.true, c.loop-from.invariant.below) in
     let room = bands.rows_end file order p limits (layout c.args.next.part.layout) (sides_of c.args.self.now.page.now) c.args.self.now.page.now.sampled c.args.self.now.page.now.deep c.requires.laid first to inside in
     let some = stride_some file order p limits (layout c.args.next.part.layout) (sides_of c.args.self.now.page.now) c.args.self.now.page.now.sampled c.args.self.now.page.now.deep c.requires.laid in
-    let scratch = c.deref_mut.result.now in
-    let room_len : length scratch ≡ (to - from) * stride = search rules in
     let row = row_is file order p limits (layout c.args.next.part.layout) (sides_of c.args.self.now.page.now) c.args.self.now.page.now.sampled c.args.self.now.page.now.deep c.requires.laid in
-    let all : length c.read_across.new.buf ≡ (to - from) * stride = search rules in
-    let whole = all_of_room rows c.read_across.new.buf _ _ (search rules) c.deref.ensures.value in
+    let value_is = c.deref.ensures.value in
     let count : to - from ≡ n = omega arith in
-    let len : length rows ≡ n * stride = ap (λ (xs : List ℕ). length xs) whole ∙ all ∙ ap (λ (m : ℕ). m * stride) count in
-    let put_rows = subst (λ (told : List ℕ). PutsImageRows told order p color stride (y + from) (to - from) 0 scratch c.read_across.new.buf) same c.in_ok-read_across.ensures.ok in
-    let alone = bands.rows_alone file order p color stride (y + from) (to - from) scratch c.read_across.new.buf some row room_len put_rows in
-    let is = subst (AreImageRows file order p color stride (y + from)) (sym whole) alone in
+    let len : length rows ≡ n * stride = ap (λ (xs : List ℕ). length xs) value_is ∙ c.in_ok-read_band.ensures.all ∙ ap (λ (m : ℕ). m * stride) count in
+    let is = subst (AreImageRows file order p color stride (y + from)) (sym value_is)
+    (subst (λ (told : List ℕ). AreImageRows told order p color stride (y + from) c.read_band.new.room.rows.items) same c.in_ok-read_band.ensures.rows) in
     let at_is : (c.rect-place.result.y + from) * stride ≡ at = ap (λ (m : ℕ). (m + from) * stride) y_is in
     let put = subst (λ (m : ℕ). IsPut m rows (filled_to (g.W.RowSink.whole (m + length rows)) (bytes c.loop-from.list.items)) (bytes c.append.new.list.items)) at_is c.in_ok-append.ensures in
     let sum : (y + to) * stride ≡ at + n * stride = bands.more_whole stride (y + from) (y + to) (omega arith) in
     let end : at + length rows ≤ c.args.next.part.layout.plane_stride = omega (arith, len, sum, room) in
     let enough = g.met.W.RowSink.enough (at + length rows) c.args.next.part.layout.plane_stride end in
     record {
-      same = c.in_ok-read_across.ensures.kept.told ∙ c.loop-from.invariant.same;
-      count = omega (arith, c.in_ok-read_across.ensures.kept.swallowed, c.loop-from.invariant.count);
+      same = c.in_ok-read_band.ensures.kept.told ∙ c.loop-from.invariant.same;
+      count = omega (arith, c.in_ok-read_band.ensures.kept.swallowed, c.loop-from.invariant.count);
       below = omega (arith, c.min.ensures, c.loop-from-test.true, c.loop-from.invariant.below);
-      none = λ z. subst (λ (told : List ℕ). each_below (λ column. fail_if (rows_short told order p color (first + column) to) (IoError UnexpectedEof)) (across p) ≡ Ok tt) same c.in_ok-read_across.ensures.answer;
+      none = λ z. subst (λ (told : List ℕ). each_below (λ column. fail_if (rows_short told order p color (first + column) to) (IoError UnexpectedEof)) (across p) ≡ Ok tt) same c.in_ok-read_band.ensures.answer;
       written = λ total l.
           let put_there = put_filled total (g.W.RowSink.whole (at + length rows)) at rows (bytes c.loop-from.list.items) (bytes c.append.new.list.items) (omega (arith, enough.1, l)) enough.0 put in
           let wrote = bands.rows_put value stride (y + from) n rows (filled_to total (bytes c.loop-from.list.items)) (filled_to total (bytes c.append.new.list.items)) some len is put_there in
