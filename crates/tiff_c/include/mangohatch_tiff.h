@@ -38,7 +38,8 @@ DESCRIPTION
     A file may claim any size: call tiff_page_layout and judge its result before you allocate for
     an image. The calls that read pixels have no limit for the size of a chunk in the file: they
     write into BUFFER, and allocate for one row alone, which is as long as a row in BUFFER or as
-    the bytes of that row that FILE was found to have.
+    the bytes of that row that FILE was found to have, or for rows of up to 256 KB that are read at
+    once.
     A page may have 8,388,608 chunks. A tag that tiff_tag_number, tiff_tag_numbers or
     tiff_tag_floats reads may have as many values, and a text that tiff_tag_text reads 268,435,456
     bytes. For more, a call returns TIFF_LIMITS_EXCEEDED. These calls allocate for all values of
