@@ -16,3 +16,4 @@ pub mod Blocks
 pub mod Named
 pub mod Sparing
 pub mod Place
+pub mod Buffer

@@ -15,7 +15,7 @@ use Rattle.tiff_base.specs.Field.{Field}
 use Rattle.tiff_base.specs.Tags.{tag_of}
 use Rattle.tiff_base.specs.Directory.{offset_width}
 use Rattle.tiff_base.specs.FieldBytes.{field_len, field_offset, field_bytes}
-use Rattle.tiff_value.specs.Buffer.{BufferRecord}
+use Rattle.tiff_base.specs.Buffer.{BufferRecord}
 use Rattle.tiff_ifd.specs.declared.limits.Limits.{Limits}
 use Rattle.tiff_ifd.specs.PlainValue.{PlainValue}
 use Rattle.tiff_ifd.specs.FieldValue.{field_value}

@@ -8,12 +8,7 @@ use Rattle.tiff_base.specs.declared.tags.«Type».{«Type»}
 use Rattle.tiff_base.specs.Types.{type_size}
 use Rattle.tiff_base.specs.ByteOrders.{convert}
 use Rattle.tiff_value.specs.Data.{FieldData}
-
--- a byte order, the type of the values, and their bytes
-pub record BufferRecord : Type 0 where
-  pub order : ByteOrder
-  pub data_type : «Type»
-  pub bytes : List ℕ
+pub use Rattle.tiff_base.specs.Buffer.{BufferRecord}
 
 -- the number of values; bytes after the last whole value don't count
 abbrev pub buffer_count : BufferRecord → ℕ
