@@ -1,3 +1,6 @@
 mod Facts
 mod Along
 pub mod Kept
+pub mod PageReads
+mod Checked
+mod Sums

@@ -1,4 +1,8 @@
-//! The pages of a file: the facts of each page, or its first error, and how their chain ends.
+//! The pages of a file, and how their chain ends: the facts of each page, or its first error; each
+//! page read whole; and both as lines of text.
 #![tactic(auto)]
 
+pub mod adler;
+pub mod check;
+pub mod lines;
 pub mod pages;

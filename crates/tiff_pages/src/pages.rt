@@ -104,8 +104,8 @@ fn facts_here<R: Source>(decoder: &mut Decoder<R>) -> TiffResult<PageFacts>
     })
 }
 
-// The offset of the directory that a decoder entered last.
-fn place_of<R: Source>(decoder: &mut Decoder<R>) -> IfdPointer
+/// The offset of the directory that a decoder entered last.
+pub(crate) fn place_of<R: Source>(decoder: &mut Decoder<R>) -> IfdPointer
     requires { IsSome decoder.old.state.pointer }
     ensures place { decoder.old.state.pointer ≡ Some result }
     ensures stays { decoder.new ≡ decoder.old }

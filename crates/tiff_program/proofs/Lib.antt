@@ -7,7 +7,5 @@ mod Remainders
 mod Replied
 mod Shown
 mod CallsMade
-mod Checked
-mod Sums
 mod Visits
 mod Words

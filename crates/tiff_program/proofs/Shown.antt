@@ -4,7 +4,7 @@ use Rattle.tiff_base.specs.declared.error.TiffError.{TiffError}
 use Rattle.tiff.proofs.Causes.{cause_along}
 use Rattle.tiff.specs.Answers.{◌>>=◌, Answers}
 use Rattle.tiff.specs.Machine.{Decoding, FollowsWithoutSourceBut, stays}
-use Rattle.tiff_program.specs.Check.{ReadsPage}
+use Rattle.tiff_pages.specs.Check.{ReadsPage}
 
 -- What a call that reads nothing follows is a read of the page.
 pub tells_page : {X Y : Type 0} (wanting : Type 0) (view : X → Y) (a : Result Y TiffError) (r : Result X TiffError) (d new : Decoding)

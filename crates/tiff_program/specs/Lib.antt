@@ -1,4 +1,3 @@
-pub mod Adler
 pub mod AtPage
 pub mod Check
 pub mod Listing

@@ -5,7 +5,6 @@ ghost use Rattle.std.specs.List.{list_all};
 ghost use Rattle.tiff_program.specs.Wrote.{Wrote, is_well};
 
 use crate::calls::let_go;
-use crate::list::PageLines;
 use std::alloc::Global;
 use tiff::encoder::script::{Job, JobReply, StepReply, run_jobs};
 use tiff::encoder::{TiffKind, TiffKindBig, TiffKindStandard};
@@ -13,13 +12,14 @@ use tiff::io::MemorySink;
 use tiff::tags::FileKind;
 use tiff::{TiffError, TiffResult};
 use tiff_lists::replies::lines_of_jobs;
+use tiff_pages::lines::Lines;
 
 /// What jobs left: their file, if it is to be written, and the lines of the replies. The lines are
 /// well if no step and no end of a job was refused.
 #[derive(Drop)]
 pub struct Written {
     pub file: Option<Vec<u8>>,
-    pub lines: PageLines,
+    pub lines: Lines,
 }
 
 // Whether no step was refused.
@@ -44,14 +44,14 @@ fn are_well(replies: &[JobReply]) -> bool
 }
 
 // The lines of the replies to jobs.
-fn told(alloc: Global, replies: Vec<JobReply>) -> TiffResult<PageLines>
+fn told(alloc: Global, replies: Vec<JobReply>) -> TiffResult<Lines>
     ensures { MatchResult result (λ lines. (lines.well ≡ list_all is_well replies.items)
         × (lines.end ≡ None)) (λ e. e ≡ TiffError.OutOfMemory) }
 {
     let text = lines_of_jobs(alloc, &replies);
     let well = are_well(&replies);
     let_go(replies);
-    Ok(PageLines {
+    Ok(Lines {
         text: text?,
         end: None,
         well,

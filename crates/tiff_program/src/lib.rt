@@ -3,9 +3,7 @@
 //! names.
 #![tactic(auto)]
 
-pub mod adler;
 pub mod calls;
-pub mod check;
 mod command;
 mod crc;
 pub mod files;

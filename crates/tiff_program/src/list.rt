@@ -1,174 +1,38 @@
-//! The pages of a file as lines.
+//! The pages of a file in memory as lines.
 
-ghost use Rattle.std.specs.Prelude.{◌≡◌, MatchResult};
 ghost use Rattle.tiff.specs.Answers.{AnswersBut};
-ghost use Rattle.tiff_program.specs.Check.{are_well, told_under};
+ghost use Rattle.tiff_pages.specs.Check.{checks_in};
+ghost use Rattle.tiff_program.specs.Check.{checks_under, told_under};
 
-use crate::check::{FileCheck, ImageSum, PageCheck, check_file, check_pages};
-use std::alloc::{AllocError, Global};
-use std::fmt::Write;
-use tiff::decoder::{ChunkType, Decoder, Limits};
-use tiff::io::{MemorySource, Source};
-use tiff::{ColorType, TiffError, TiffResult};
-use tiff_pages::pages::{PageFacts, PageItem, PageList, pages};
-
-/// What a command prints. For the pages of a file: a line for each, the error by which their chain
-/// ends, if it ends by one, and whether each of them is well. For jobs: a line for each reply, and
-/// whether none of them is an error.
-#[derive(Debug, Drop)]
-pub struct PageLines {
-    pub text: String,
-    pub end: Option<TiffError>,
-    pub well: bool,
-}
-
-// The name of a color.
-fn color_name(color: ColorType) -> &'static str {
-    match color {
-        ColorType::Gray(_) => "Gray",
-        ColorType::RGB(_) => "RGB",
-        ColorType::Palette(_) => "Palette",
-        ColorType::GrayA(_) => "GrayA",
-        ColorType::RGBA(_) => "RGBA",
-        ColorType::CMYK(_) => "CMYK",
-        ColorType::CMYKA(_) => "CMYKA",
-        ColorType::YCbCr(_) => "YCbCr",
-        ColorType::Lab(_) => "Lab",
-        ColorType::Multiband { .. } => "Multiband",
-        _ => "?",
-    }
-}
-
-// Appends a color: its name, its bits, and for several bands how many they are; or a question mark
-// for an error.
-fn push_color(text: &mut String, color: &TiffResult<ColorType>) -> Result<(), AllocError> {
-    let Ok(color) = color else {
-        return text.push_str("?");
-    };
-    let name = color_name(*color);
-    let bits = color.bit_depth();
-    match color {
-        ColorType::Multiband { num_samples, .. } => write!(text, "{name}{bits}x{num_samples}"),
-        _ => write!(text, "{name}{bits}"),
-    }
-}
-
-// Appends how many chunks there are, or a question mark if they aren't counted.
-fn push_count(text: &mut String, count: &TiffResult<u32>) -> Result<(), AllocError> {
-    match count {
-        Ok(count) => write!(text, "{count}"),
-        Err(_) => text.push_str("?"),
-    }
-}
-
-// Appends the facts of a page: its width and height, its color, the number of its method, and the
-// kind and the count of its chunks.
-fn push_facts(text: &mut String, facts: &PageFacts) -> Result<(), AllocError> {
-    let (width, height) = (facts.width, facts.height);
-    write!(text, "{width}x{height} ")?;
-    push_color(text, &facts.colour)?;
-    let method = facts.method.to_u16();
-    let kind = match facts.kind {
-        ChunkType::Strip => "strip",
-        ChunkType::Tile => "tile",
-    };
-    write!(text, " {method} {kind} ")?;
-    push_count(text, &facts.chunks)
-}
-
-// Appends the line of a page: its number from 0, the offset of its directory, and its facts, or the
-// text of its error.
-fn push_item(text: &mut String, number: usize, item: &PageItem) -> Result<(), AllocError> {
-    let place = item.place.0;
-    write!(text, "{number} {place} ")?;
-    match &item.page {
-        Ok(facts) => push_facts(text, facts)?,
-        Err(fault) => write!(text, "error: {fault}")?,
-    }
-    text.push_str("\n")
-}
-
-/// Lists the pages of a decoder's file, one line for each. Its errors are those of `pages`:
-/// `OutOfMemory`, and `IoError(Device)`.
-pub fn list_lines<R: Source>(alloc: Global, decoder: &mut Decoder<R>) -> TiffResult<PageLines> {
-    let PageList { pages, end } = pages(decoder)?;
-    let mut text = String::new(alloc);
-    for (number, item) in pages.iter().enumerate() {
-        push_item(&mut text, number, item)?;
-    }
-    Ok(PageLines {
-        text,
-        end,
-        well: true,
-    })
-}
-
-// Appends how many bytes an image has, and their sum as eight hexadecimal digits.
-fn push_sum(text: &mut String, sum: &ImageSum) -> Result<(), AllocError> {
-    let (bytes, adler) = (sum.bytes, sum.adler);
-    write!(text, "ok {bytes} {adler:08x}")
-}
-
-// Appends the line of a page that was read whole: its number from 0, the offset of its directory,
-// and the sum of its image, or the text of its error.
-fn push_check(text: &mut String, number: usize, check: &PageCheck) -> Result<(), AllocError> {
-    let place = check.place.0;
-    write!(text, "{number} {place} ")?;
-    match &check.image {
-        Ok(sum) => push_sum(text, sum)?,
-        Err(fault) => write!(text, "error: {fault}")?,
-    }
-    text.push_str("\n")
-}
-
-// Whether the image of each page was read.
-fn are_well(checks: &[PageCheck]) -> bool
-    ensures { result ≡ are_well checks.now }
-{
-    checks.iter().all(|check| check.image.is_ok())
-}
-
-// The lines of pages that were read whole, one for each.
-fn check_text(alloc: Global, checks: &[PageCheck]) -> Result<String, AllocError> {
-    let mut text = String::new(alloc);
-    for (number, check) in checks.iter().enumerate() {
-        push_check(&mut text, number, check)?;
-    }
-    Ok(text)
-}
-
-// What the command `check` prints for pages that were read whole.
-fn told(alloc: Global, checked: FileCheck) -> TiffResult<PageLines>
-    ensures { MatchResult result (λ lines. (lines.well ≡ are_well checked.pages.items)
-        × (lines.end ≡ checked.end)) (λ e. e ≡ TiffError.OutOfMemory) }
-{
-    let text = check_text(alloc, &checked.pages)?;
-    let well = are_well(&checked.pages);
-    Ok(PageLines {
-        text,
-        end: checked.end,
-        well,
-    })
-}
-
-/// Reads each page of a decoder's file whole, and returns a line for each. Its errors are those of
-/// [`check_pages`].
-pub fn check_lines<R: Source>(alloc: Global, decoder: &mut Decoder<R>) -> TiffResult<PageLines> {
-    told(alloc, check_pages(alloc, decoder)?)
-}
+use std::alloc::Global;
+use tiff::TiffResult;
+use tiff::decoder::{Decoder, Limits};
+use tiff::io::MemorySource;
+use tiff_pages::check::{FileCheck, check_pages};
+use tiff_pages::lines::{Lines, lines_of_checks, list_lines};
 
 /// Lists the pages of a file, as [`list_lines`] does; or returns the error of the file's header, or
 /// of its first page.
-pub fn file_list(alloc: Global, file: Vec<u8>) -> TiffResult<PageLines> {
+pub fn file_list(alloc: Global, file: Vec<u8>) -> TiffResult<Lines> {
     let mut decoder = Decoder::new(alloc, MemorySource::new(file))?;
     list_lines(alloc, &mut decoder)
 }
 
-/// Reads each page of a file whole under limits, as [`check_lines`] does; or returns the error of
-/// the file's header, or of its first page. The lines are well if each page was read.
-pub fn file_check(alloc: Global, file: Vec<u8>, limits: Limits) -> TiffResult<PageLines>
+/// Checks the pages of a file under limits, as [`check_pages`] does; or returns the error of the
+/// file's header, or of its first page. The file is opened under the default limits.
+#[tactic(auto, unfolding(tiff_decode::specs::Outcome::set_limits))]
+pub fn check_file(alloc: Global, file: Vec<u8>, limits: Limits) -> TiffResult<FileCheck>
+    ensures { AnswersBut (Unit {0}) (Unit {0}) checks_in result (checks_under limits file.items) }
+{
+    let mut decoder = Decoder::new(alloc, MemorySource::new(file))?.with_limits(limits);
+    check_pages(alloc, &mut decoder)
+}
+
+/// Reads each page of a file whole under limits, and returns a line for each; or returns the error
+/// of the file's header, or of its first page. The lines are well if each page was read.
+pub fn file_check(alloc: Global, file: Vec<u8>, limits: Limits) -> TiffResult<Lines>
     ensures { AnswersBut (Unit {0}) (Unit {0}) (λ lines. (lines.well, lines.end)) result
         (told_under limits file.items) }
 {
-    told(alloc, check_file(alloc, file, limits)?)
+    lines_of_checks(alloc, check_file(alloc, file, limits)?)
 }

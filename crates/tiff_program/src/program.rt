@@ -8,7 +8,7 @@ use crate::command::{Command, parse};
 use crate::files::Files;
 use crate::help::{HELP, VERSION};
 use crate::jobs::{Written, write_by};
-use crate::list::{PageLines, file_check, file_list};
+use crate::list::{file_check, file_list};
 use crate::listing::page_tags;
 use crate::samples::page_samples;
 use crate::view::page_picture;
@@ -22,6 +22,7 @@ use tiff::encoder::script::Job;
 use tiff::tags::FileKind;
 use tiff_lists::call::calls_of;
 use tiff_lists::jobs::jobs_of;
+use tiff_pages::lines::Lines;
 use tiff_uses::gray_file;
 
 /// Why a command failed.
@@ -128,7 +129,7 @@ fn write_kept<'a, F: Files>(
     output: &'a str,
     written: Written,
     files: &mut F,
-) -> Result<PageLines, Failure<'a>>
+) -> Result<Lines, Failure<'a>>
     ensures { MatchOption written.file
         ((result ≡ Ok written.lines) × (files.new ≡ files.old))
         (λ _. IfOk result (λ lines. lines ≡ written.lines)) }
@@ -147,7 +148,7 @@ fn job_replies<'a, F: Files>(
     output: &'a str,
     (kind, keep_going): (FileKind, bool),
     files: &mut F,
-) -> Result<PageLines, Failure<'a>> {
+) -> Result<Lines, Failure<'a>> {
     let jobs = listed_jobs(alloc, files)?;
     let written = write_by(alloc, kind, keep_going, &jobs)?;
     write_kept(output, written, files)
@@ -159,7 +160,7 @@ fn write_alone<'a, F: Files>(
     files: &mut F,
     name: &'a str,
     bytes: &[u8],
-) -> Result<PageLines, Failure<'a>> {
+) -> Result<Lines, Failure<'a>> {
     write(files, name, bytes)?;
     Ok(told(String::new(alloc)))
 }
@@ -171,7 +172,7 @@ fn write_gray<'a, F: Files>(
     (width, height): (u32, u32),
     input: &'a str,
     files: &mut F,
-) -> Result<PageLines, Failure<'a>> {
+) -> Result<Lines, Failure<'a>> {
     let samples = read(files, input)?;
     let file = gray_file(alloc, width, height, &samples)?;
     write_alone(alloc, files, output, &file)
@@ -196,7 +197,7 @@ fn write_samples<'a, F: Files>(
     (page, limit): (u32, Option<usize>),
     output: &'a str,
     files: &mut F,
-) -> Result<PageLines, Failure<'a>> {
+) -> Result<Lines, Failure<'a>> {
     let file = read(files, input)?;
     let samples = page_samples(alloc, file, page, limits_for(limit))?;
     write_alone(alloc, files, output, &samples)
@@ -209,7 +210,7 @@ fn write_picture<'a, F: Files>(
     page: u32,
     output: &'a str,
     files: &mut F,
-) -> Result<PageLines, Failure<'a>> {
+) -> Result<Lines, Failure<'a>> {
     let file = read(files, input)?;
     let picture = page_picture(alloc, file, page)?;
     write_alone(alloc, files, output, &picture)
@@ -231,7 +232,7 @@ fn list_pages<'a, F: Files>(
     alloc: Global,
     input: &'a str,
     files: &mut F,
-) -> Result<PageLines, Failure<'a>> {
+) -> Result<Lines, Failure<'a>> {
     let file = read(files, input)?;
     Ok(file_list(alloc, file)?)
 }
@@ -242,14 +243,14 @@ fn check_pages<'a, F: Files>(
     input: &'a str,
     limit: Option<usize>,
     files: &mut F,
-) -> Result<PageLines, Failure<'a>> {
+) -> Result<Lines, Failure<'a>> {
     let file = read(files, input)?;
     Ok(file_check(alloc, file, limits_for(limit))?)
 }
 
 // Lines without an error.
-fn told(text: String) -> PageLines {
-    PageLines {
+fn told(text: String) -> Lines {
+    Lines {
         text,
         end: None,
         well: true,
@@ -257,7 +258,7 @@ fn told(text: String) -> PageLines {
 }
 
 // Lines without an error, copied from a text.
-fn told_text<'a>(alloc: Global, text: &str) -> Result<PageLines, Failure<'a>> {
+fn told_text<'a>(alloc: Global, text: &str) -> Result<Lines, Failure<'a>> {
     Ok(told(String::from_str(alloc, text).map_err(TiffError::from)?))
 }
 
@@ -266,7 +267,7 @@ fn execute<'a, F: Files>(
     alloc: Global,
     command: Command<'a>,
     files: &mut F,
-) -> Result<PageLines, Failure<'a>> {
+) -> Result<Lines, Failure<'a>> {
     match command {
         Command::Gray {
             output,
@@ -311,11 +312,11 @@ fn print_failure<E: Write>(alloc: Global, failure: &Failure<'_>, err: &mut E) {
 
 // Prints lines, and behind them the line of the error by which the chain ends, if there is one.
 // Returns the status.
-fn print_lines<O: Write, E: Write>(alloc: Global, lines: PageLines, out: &mut O, err: &mut E) -> u8
+fn print_lines<O: Write, E: Write>(alloc: Global, lines: Lines, out: &mut O, err: &mut E) -> u8
     ensures status { result ≤ 1 }
     ensures well { result ≡ 0 → (lines.well ≡ true) × (lines.end ≡ None) }
 {
-    let PageLines { text, end, well } = lines;
+    let Lines { text, end, well } = lines;
     if out.write_all(text.as_bytes()).is_err() {
         return 1;
     }

@@ -5,7 +5,7 @@ ghost use Rattle.tiff.specs.Answers.{Answers, AnswersWithoutSource};
 ghost use Rattle.tiff.specs.Outcome as outcome;
 ghost use Rattle.tiff.specs.Result.{decoded_as};
 ghost use Rattle.tiff_program.specs.AtPage.{AnswersIn, at_page};
-ghost use Rattle.tiff_program.specs.Check.{ReadsPage};
+ghost use Rattle.tiff_pages.specs.Check.{ReadsPage};
 ghost use Rattle.tiff_program.specs.Samples.{page_image};
 ghost use Rattle.tiff_program.specs.View.{color_kind, drawn, gray_kind, is_whole, picture, shape_here, shape_of, shown_as, without_low};
 

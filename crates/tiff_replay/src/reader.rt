@@ -9,7 +9,7 @@ use tiff_decode::decoder::Decoder;
 use tiff_decode::reply::{refusal_text, reply_text};
 use tiff_decode::script::Call;
 use tiff_lists::call::call_of;
-use tiff_program::list::{PageLines, check_lines, list_lines};
+use tiff_pages::lines::{Lines, check_lines, list_lines};
 
 /// The decoder of the file opened last, if it opened.
 #[derive(Drop)]
@@ -47,7 +47,7 @@ fn pages_text(
     } else {
         list_lines(alloc, decoder)
     };
-    let PageLines { text, end, well } = match lines {
+    let Lines { text, end, well } = match lines {
         Ok(lines) => lines,
         Err(fault) => return refusal_text(alloc, &fault),
     };

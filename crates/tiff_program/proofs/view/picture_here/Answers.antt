@@ -9,7 +9,7 @@ use Rattle.tiff.specs.Result.{decoded_as}
 use Rattle.tiff_program.specs.Samples.{page_image}
 use Rattle.tiff_program.specs.View.{drawn, shape_here}
 use Rattle.tiff_program.specs.declared.view.Shape.{Shape}
-use Rattle.tiff_program.proofs.Checked.{read_refused, read_then}
+use Rattle.tiff_pages.proofs.PageReads.{read_refused, read_then}
 use Rattle.tiff_program.proofs.Shown.{reads_more}
 use Rattle.tiff_program.proofs.view.picture_here.Goals as goal
 

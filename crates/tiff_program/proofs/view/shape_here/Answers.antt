@@ -7,7 +7,7 @@ use Rattle.tiff.specs.Outcome as outcome
 use Rattle.tiff_page.specs.declared.layout.BufferLayoutPreference.{BufferLayoutPreference}
 use Rattle.tiff_program.specs.View.{shape_of}
 use Rattle.tiff_program.specs.declared.view.Shape.{Shape}
-use Rattle.tiff_program.proofs.Checked.{read_refused, read_then}
+use Rattle.tiff_pages.proofs.PageReads.{read_refused, read_then}
 use Rattle.tiff_program.proofs.Shown.{reads_more}
 use Rattle.tiff_program.proofs.view.shape_here.Goals as goal
 

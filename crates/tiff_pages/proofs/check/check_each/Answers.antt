@@ -1,6 +1,5 @@
-use Rattle.std.proofs.Common.{◌≡◌, length, arith}
-use Rattle.tiff_program.proofs.Checked.{all_checked, none_checked, one_checked, some_left}
-use Rattle.tiff_program.proofs.check.check_each.Goals as goal
+use Rattle.tiff_pages.proofs.Checked.{none_checked, one_checked, some_left}
+use Rattle.tiff_pages.proofs.check.check_each.Goals as goal
 
 pub loop-number-init : goal.loop-number-init
 loop-number-init g c = none_checked c.args.decoder.now c.args.checks.now.items c.requires.none

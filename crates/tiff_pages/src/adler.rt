@@ -1,7 +1,7 @@
 //! Adler-32, a checksum of bytes.
 
 ghost use Rattle.std.specs.Prelude.{◌≡◌};
-ghost use Rattle.tiff_program.specs.Adler.{adler_32};
+ghost use Rattle.tiff_pages.specs.Adler.{adler_32};
 
 // The largest prime number below 2^16.
 const BASE: u32 = 65521;

@@ -1,23 +1,24 @@
 //! The check of a file: it reads every page whole.
 
-ghost use Rattle.std.specs.Prelude.{◌≡◌, ◌<◌, [], IfErr, IfOk, IsSome, OnOk, Ok, Some, length, map};
-ghost use Rattle.tiff.specs.Answers.{Answers, AnswersBut, AnswersWithoutSource, IsCause};
-ghost use Rattle.tiff.specs.Outcome.{chain_of};
-ghost use Rattle.tiff.specs.Result.{decoded_as};
+ghost use Rattle.std.specs.Prelude.{◌≡◌, ◌<◌, [], IfErr, IfOk, OnOk, Ok, length, map};
+ghost use Rattle.tiff_base.specs.Answers.{Answers, AnswersWithoutSource, IsCause};
+ghost use Rattle.tiff_decode.specs.Outcome.{chain_of};
+ghost use Rattle.tiff_decode.specs.Result.{decoded_as};
 ghost use Rattle.tiff_laws.specs.Pages.{SameFile};
-ghost use Rattle.tiff_program.specs.Check.{IsCheckOf, ReadsPage, all_bytes, check_at, checks_in, checks_of, checks_under, image_sum, planes_read, sum_of, whole_image};
+ghost use Rattle.tiff_pages.specs.Check.{IsCheckOf, ReadsPage, all_bytes, check_at, checks_in, checks_of, image_sum, planes_read, sum_of, whole_image};
 
 use crate::adler::adler_32;
+use crate::pages::{file_answer, pages, place_of};
 use std::alloc::Global;
-use tiff::decoder::{BufferLayoutPreference, Decoder, DecodingResult, Limits};
-use tiff::io::{MemorySource, Source};
-use tiff::tags::IfdPointer;
-use tiff::{TiffError, TiffResult};
+use tiff_base::error::{TiffError, TiffResult};
+use tiff_base::io::Source;
+use tiff_base::tags::IfdPointer;
+use tiff_decode::decoder::{Decoder, DecodingResult};
 use tiff_laws::pages::walk_seeks;
-use tiff_pages::pages::{file_answer, pages};
+use tiff_page::layout::BufferLayoutPreference;
 
-/// The bytes of an image, in all its planes, as `raw` writes those of one plane: how many there
-/// are, and their Adler-32.
+/// The bytes of an image, in all its planes, each sample's lowest byte first: how many there are,
+/// and their Adler-32.
 #[derive(Clone, Copy, Debug, Drop)]
 pub struct ImageSum {
     pub bytes: usize,
@@ -90,18 +91,6 @@ fn image_sum<R: Source>(alloc: Global, decoder: &mut Decoder<R>) -> TiffResult<I
     Ok(sum_of(&image))
 }
 
-// The offset of the directory that a decoder entered last.
-fn place_of<R: Source>(decoder: &mut Decoder<R>) -> IfdPointer
-    requires { IsSome decoder.old.state.pointer }
-    ensures place { decoder.old.state.pointer ≡ Some result }
-    ensures stays { decoder.new ≡ decoder.old }
-{
-    match decoder.ifd_pointer() {
-        Some(place) => place,
-        None => unreachable!(),
-    }
-}
-
 // The page with this number in the chain, read whole.
 fn check_page<R: Source>(
     alloc: Global,
@@ -159,14 +148,4 @@ pub fn check_pages<R: Source>(alloc: Global, decoder: &mut Decoder<R>) -> TiffRe
         pages: checks,
         end: listed.end,
     })
-}
-
-/// Checks the pages of a file under limits, as [`check_pages`] does; or returns the error of the
-/// file's header, or of its first page. The file is opened under the default limits.
-#[tactic(auto, unfolding(tiff_decode::specs::Outcome::set_limits))]
-pub fn check_file(alloc: Global, file: Vec<u8>, limits: Limits) -> TiffResult<FileCheck>
-    ensures { AnswersBut (Unit {0}) (Unit {0}) checks_in result (checks_under limits file.items) }
-{
-    let mut decoder = Decoder::new(alloc, MemorySource::new(file))?.with_limits(limits);
-    check_pages(alloc, &mut decoder)
 }

@@ -1,8 +1,8 @@
-use Rattle.std.proofs.Common.{ap, sym, ◌∙◌}
+use Rattle.std.proofs.Common.{ap, ◌∙◌}
 use Rattle.std.specs.Prelude.{is_some}
-use Rattle.tiff_program.proofs.Checked.{came_to, check_made, fault_told, image_told, same_then}
-use Rattle.tiff_program.proofs.check.check_page.Goals as goal
-use Rattle.tiff_program.proofs.check.check_page.Goals.{in-Ok+in_ok-image-in-Ok, in-Err}
+use Rattle.tiff_pages.proofs.Checked.{came_to, check_made, fault_told, image_told, same_then}
+use Rattle.tiff_pages.proofs.check.check_page.Goals as goal
+use Rattle.tiff_pages.proofs.check.check_page.Goals.{in-Ok+in_ok-image-in-Ok, in-Err}
 
 pub place_of-place-requires : goal.place_of-place-requires
 place_of-place-requires g c =

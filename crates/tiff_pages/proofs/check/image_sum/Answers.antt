@@ -1,12 +1,12 @@
-use Rattle.std.proofs.Common.{rules, ◌≡◌, ℕ, List, Result, Ok, ap, sym, ◌∙◌}
+use Rattle.std.proofs.Common.{rules, ℕ, List, Result, Ok, ap, sym, ◌∙◌}
 use Rattle.std.specs.Prelude.{Vec}
 use Rattle.std.specs.declared.alloc.Global.{Global}
 use Rattle.tiff_base.specs.declared.error.TiffError.{TiffError}
-use Rattle.tiff.specs.Answers.{◌>>=◌}
-use Rattle.tiff_program.specs.declared.check.ImageSum.{ImageSum}
-use Rattle.tiff_program.specs.Check.{sum_of, whole_image}
-use Rattle.tiff_program.proofs.Checked.{read_refused}
-use Rattle.tiff_program.proofs.check.image_sum.Goals as goal
+use Rattle.tiff_base.specs.Answers.{◌>>=◌}
+use Rattle.tiff_pages.specs.declared.check.ImageSum.{ImageSum}
+use Rattle.tiff_pages.specs.Check.{sum_of, whole_image}
+use Rattle.tiff_pages.proofs.PageReads.{read_refused}
+use Rattle.tiff_pages.proofs.check.image_sum.Goals as goal
 
 pub returns-in_err-image : goal.returns-in_err-image
 returns-in_err-image g c =

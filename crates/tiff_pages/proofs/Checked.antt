@@ -1,5 +1,5 @@
 -- Pages that are read whole.
-use Rattle.std.proofs.Common.{◌≡◌, ℕ, zero, suc, ◌+◌, ◌<◌, ◌≤◌, List, [], ◌∷◌, ◌++◌, length, map, take, Option, None, Some, true, false, Result, Ok, Err, IfOk, OnOk, refl, ap, sym, ◌∙◌, subst, arith}
+use Rattle.std.proofs.Common.{◌≡◌, ℕ, suc, ◌+◌, ◌<◌, List, [], ◌∷◌, ◌++◌, length, map, take, Option, None, Some, Result, Ok, Err, refl, ap, sym, ◌∙◌, subst, arith}
 use Rattle.std.proofs.lemmas.List.{map-append}
 use Rattle.std.proofs.Math.Seq.{take-length}
 use Rattle.std.specs.Prelude.{unwrap_or}
@@ -8,60 +8,21 @@ use Rattle.tiff_base.specs.declared.error.TiffError.{TiffError}
 use Rattle.tiff_base.specs.declared.error.TiffError.TheVariants.{FormatError, UnsupportedError, IoError, LimitsExceeded, IntSizeError, UsageError, OutOfMemory}
 use Rattle.tiff_base.specs.declared.io.IoKind.TheVariants.{UnexpectedEof, InvalidData, InvalidInput, WriteZero, Device}
 use Rattle.tiff_base.specs.declared.tags.IfdPointer.{IfdPointer}
-use Rattle.tiff.specs.Answers.{◌>>=◌, Answers, AnswersWithoutSource, IsCause}
-use Rattle.tiff_base.specs.Directory.{directory_at}
+use Rattle.tiff_base.specs.Answers.{◌>>=◌, Answers}
 use Rattle.tiff_base.specs.Field.{DirectoryRecord}
-use Rattle.tiff.proofs.Causes.{cause_along}
 use Rattle.tiff_page.specs.Page.{PageRecord}
-use Rattle.tiff.specs.Machine.{Decoding, Outcome, Follows, GivesOutcome, StandsAt, keeps_state, stays}
-use Rattle.tiff.specs.Outcome.{chain_of, page_in, seek_to_image}
-use Rattle.tiff_laws.specs.Pages.{Arrives, IsAlong, PageAnswers, SameFile, WalkSeeks, page_at}
+use Rattle.tiff_decode.specs.Machine.{Decoding, Outcome, Follows, GivesOutcome}
+use Rattle.tiff_decode.specs.Outcome.{chain_of, page_in, seek_to_image}
+use Rattle.tiff_laws.specs.Pages.{Arrives, PageAnswers, SameFile, WalkSeeks, page_at}
 use Rattle.tiff_laws.proofs.Listed.{take_next}
 use Rattle.tiff_pages.specs.declared.pages.PageList.{PageList}
 use Rattle.tiff_pages.specs.Pages.{IsOfFile, Pages, pages_in, pages_of, state_along, times_to_end}
-use Rattle.tiff_program.specs.declared.check.ImageSum.{ImageSum}
-use Rattle.tiff_program.specs.declared.check.PageCheck.{PageCheck}
-use Rattle.tiff_program.specs.Check.{Checks, IsCheckOf, ReadsPage, check_at, checks_of, image_sum}
+use Rattle.tiff_pages.specs.declared.check.ImageSum.{ImageSum}
+use Rattle.tiff_pages.specs.declared.check.PageCheck.{PageCheck}
+use Rattle.tiff_pages.specs.Check.{Checks, IsCheckOf, ReadsPage, check_at, checks_of, image_sum}
 
 abbrev Answer : Type 0
 Answer = Result (Unit {0}) TiffError
-
--- ---- reads of a page
-
--- What a call that reads pixels follows is a read of the page.
-pub reads_page : {X Y : Type 0} (view : X → Y) (a : Result Y TiffError) (r : Result X TiffError) (d new : Decoding) → Follows view (stays d a) r d new → ReadsPage view a r d new
-reads_page view a (Ok x) d new h = record { answer = h.answer; stays = λ k. h.at }
-reads_page view a (Err OutOfMemory) d new h = record { answer = tt; stays = λ k. absurd (cc) }
-reads_page view a (Err (IoError Device)) d new h = record { answer = h.grew; stays = λ k. absurd (cc) }
-reads_page view a (Err (IoError UnexpectedEof)) d new h = record { answer = h.answer; stays = λ k. h.at }
-reads_page view a (Err (IoError InvalidData)) d new h = record { answer = h.answer; stays = λ k. h.at }
-reads_page view a (Err (IoError InvalidInput)) d new h = record { answer = h.answer; stays = λ k. h.at }
-reads_page view a (Err (IoError WriteZero)) d new h = record { answer = h.answer; stays = λ k. h.at }
-reads_page view a (Err (FormatError x)) d new h = record { answer = h.answer; stays = λ k. h.at }
-reads_page view a (Err (UnsupportedError x)) d new h = record { answer = h.answer; stays = λ k. h.at }
-reads_page view a (Err LimitsExceeded) d new h = record { answer = h.answer; stays = λ k. h.at }
-reads_page view a (Err IntSizeError) d new h = record { answer = h.answer; stays = λ k. h.at }
-reads_page view a (Err (UsageError x)) d new h = record { answer = h.answer; stays = λ k. h.at }
-
--- An error of a read is the error of what follows it.
-pub read_refused : {X X' Y Y' : Type 0} (view : X → Y) (view' : X' → Y') (a : Result Y TiffError) (f : Y → Result Y' TiffError) (e : TiffError) (d new : Decoding)
-    → ReadsPage {X = X} view a (Err e) d new → ReadsPage {X = X'} view' (a >>= f) (Err e) d new
-read_refused view view' a f e d new h = record {
-  answer = cause_along e (λ w. w) (λ x. x) (λ g. ap (λ r. r >>= f) g) h.answer;
-  stays = h.stays;
-}
-
-then_answers : {X Y : Type 0} (view : X → Y) (r : Result X TiffError) (given given' : Result Y TiffError) (m n : ℕ) → given' ≡ given → AnswersWithoutSource view r given → Answers view r given' m n
-then_answers view (Ok x) given given' m n e h = e ∙ h
-then_answers view (Err x) given given' m n e h = cause_along x (λ w. w) (λ f. absurd f) (λ g. e ∙ g) h
-
--- A read, and behind it a result that reads nothing more.
-pub read_then : {X X' Y Y' : Type 0} (view : X → Y) (view' : X' → Y') (a : Result Y TiffError) (f : Y → Result Y' TiffError) (x : X) (r : Result X' TiffError) (d new : Decoding)
-    → ReadsPage view a (Ok x) d new → AnswersWithoutSource view' r (f (view x)) → ReadsPage view' (a >>= f) r d new
-read_then view view' a f x r d new h t = record {
-  answer = then_answers view' r (f (view x)) (a >>= f) d.failures new.failures (ap (λ y. y >>= f) h.answer) t;
-  stays = λ k. h.stays tt;
-}
 
 -- ---- one page
 

@@ -1,5 +1,5 @@
-use Rattle.tiff_program.proofs.Checked.{ChecksAlong}
-use Rattle.tiff_program.proofs.check.check_each.Given as goal
+use Rattle.tiff_pages.proofs.Checked.{ChecksAlong}
+use Rattle.tiff_pages.proofs.check.check_each.Given as goal
 
 abbrev pub invariant-loop-number : goal.invariant-loop-number
 invariant-loop-number g l = ChecksAlong l.fn.decoder l.decoder l.number l.checks.items

@@ -1,6 +1,5 @@
-use Rattle.std.proofs.Common.{◌≡◌, Ok, ap, sym, ◌∙◌}
-use Rattle.tiff_program.proofs.Checked.{checks_all}
-use Rattle.tiff_program.proofs.check.check_pages.Goals as goal
+use Rattle.tiff_pages.proofs.Checked.{checks_all}
+use Rattle.tiff_pages.proofs.check.check_pages.Goals as goal
 
 pub returns : goal.returns
 returns g c =

@@ -1,6 +1,6 @@
 use Rattle.std.proofs.Common.{◌≡◌, length, refl, arith}
-use Rattle.tiff_program.proofs.Sums.{adler_made, first_after, second_after}
-use Rattle.tiff_program.proofs.adler.adler_32.Goals as goal
+use Rattle.tiff_pages.proofs.Sums.{adler_made, first_after, second_after}
+use Rattle.tiff_pages.proofs.adler.adler_32.Goals as goal
 
 pub loop-byte-preserved : goal.loop-byte-preserved
 loop-byte-preserved c =

@@ -1,8 +1,8 @@
-use Rattle.tiff.specs.Outcome.{read_image_to_buffer}
-use Rattle.tiff.specs.Result.{decoded_as}
-use Rattle.tiff_program.specs.Check.{planes_read}
-use Rattle.tiff_program.proofs.Checked.{reads_page}
-use Rattle.tiff_program.proofs.check.read_planes.Goals as goal
+use Rattle.tiff_decode.specs.Outcome.{read_image_to_buffer}
+use Rattle.tiff_decode.specs.Result.{decoded_as}
+use Rattle.tiff_pages.specs.Check.{planes_read}
+use Rattle.tiff_pages.proofs.PageReads.{reads_page}
+use Rattle.tiff_pages.proofs.check.read_planes.Goals as goal
 
 pub returns : goal.returns
 unfolding read_image_to_buffer

@@ -1,7 +1,7 @@
 use Rattle.std.proofs.Common.{◌≡◌, ◌%◌, take}
-use Rattle.tiff_program.specs.Adler.{base, first_sum}
-use Rattle.tiff_program.proofs.Sums.{second_sum_to}
-use Rattle.tiff_program.proofs.adler.adler_32.Given as goal
+use Rattle.tiff_pages.specs.Adler.{base, first_sum}
+use Rattle.tiff_pages.proofs.Sums.{second_sum_to}
+use Rattle.tiff_pages.proofs.adler.adler_32.Given as goal
 
 abbrev pub invariant-loop-byte : goal.invariant-loop-byte
 invariant-loop-byte l = record {
