@@ -1,8 +1,9 @@
 //! The files of the machine.
 
 use std::fs;
-use std::fs::{File, OpenFile};
+use std::fs::{File, Metadata, OpenFile, OpenOptions, Permissions};
 use std::io::{self, ErrorKind, Input, Read, Write};
+use std::os::unix::fs::PermissionsExt;
 use std::rt::Files as Machine;
 use tiff::io::IoKind;
 use tiff::{TiffError, TiffResult};
@@ -35,46 +36,92 @@ fn input<R: AllocGlobal + Input>(rt: &R) -> io::Result<Vec<u8>> {
     Ok(bytes)
 }
 
-// Whether a name is that of a device, a link or the like, which is written in place.
-fn is_no_plain_file<R: Machine>(rt: &R, name: &str) -> bool {
-    match fs::symlink_metadata(rt, name) {
-        Ok(found) => !found.is_file(),
-        Err(_) => false,
+// How many names of a new file beside another are tried.
+const PARTS: u32 = 100;
+
+// The bits of permissions to read, write and run a file. The others would let whoever runs the file
+// act as its owner or its group, which may be another one than that of the file before.
+const PLAIN_BITS: u32 = 0o777;
+
+// The folder of a file; of a name alone, the one in which the program runs.
+fn folder_of(name: &str) -> &str {
+    match name.rsplit_once('/') {
+        Some((folder, _)) if folder.is_empty() => "/",
+        Some((folder, _)) => folder,
+        None => ".",
     }
 }
 
-// Fills a new file beside the one with the name, gives it the permissions of that one, if there is
-// one, and puts it in its place.
+// Makes a new file in a folder, under a name that no other file has, also not one that an earlier
+// run left behind.
+fn create_part<R: Machine + AllocGlobal>(rt: &R, folder: &str) -> io::Result<(R::File, String)> {
+    for number in 0..PARTS {
+        let part = format!(in rt.alloc(); "{folder}/.tiffpage-part-{number}")?;
+        match File::create_new(rt, part.as_str()) {
+            Ok(file) => return Ok((file, part)),
+            Err(e) if e.kind() == ErrorKind::AlreadyExists => {}
+            Err(e) => return Err(e),
+        }
+    }
+    Err(io::Error::from(ErrorKind::AlreadyExists))
+}
+
+// Fills a new file, gives it the permissions of the file that has the name, if there is one, and
+// puts it in its place.
 fn fill_and_rename<R: Machine>(
     rt: &R,
     mut file: R::File,
-    beside: &str,
+    part: &str,
     name: &str,
     bytes: &[u8],
 ) -> io::Result<()> {
     file.write_all(bytes)?;
     if let Ok(found) = fs::metadata(rt, name) {
-        file.set_permissions(found.permissions())?;
+        let mode = found.permissions().mode() & PLAIN_BITS;
+        file.set_permissions(Permissions::from_mode(mode))?;
     }
     file.sync_all()?;
-    fs::rename(rt, beside, name)
+    fs::rename(rt, part, name)
+}
+
+// Makes a file with these bytes in the place of the one that has the name, if there is one, whole or
+// not at all.
+fn replace<R: Machine + AllocGlobal>(rt: &R, name: &str, bytes: &[u8]) -> io::Result<()> {
+    let (file, part) = create_part(rt, folder_of(name))?;
+    let made = fill_and_rename(rt, file, part.as_str(), name, bytes);
+    if made.is_err() {
+        let _removed = fs::remove_file(rt, part.as_str());
+    }
+    made
+}
+
+// Whether a file may be written: it isn't marked as read-only, and the machine opens it for writing.
+fn is_writable<R: Machine>(rt: &R, name: &str, found: &Metadata) -> bool {
+    let mut options = OpenOptions::new();
+    !found.permissions().readonly() && options.write(true).open(rt, name).is_ok()
 }
 
 // Makes a file with these bytes, whole or not at all: if it can't be written, the file that had the
-// name stays. If no file can be made beside it, it is written in place.
+// name stays. Behind a link, this is the file to which it leads. Devices, pipes and what is in
+// `/dev` are written as they are.
 fn write_whole<R: Machine + AllocGlobal>(rt: &R, name: &str, bytes: &[u8]) -> io::Result<()> {
-    let beside = format!(in rt.alloc(); "{name}.tiffpage-part")?;
-    if is_no_plain_file(rt, name) {
-        return fs::write(rt, name, bytes);
-    }
-    let Ok(file) = File::create_new(rt, beside.as_str()) else {
-        return fs::write(rt, name, bytes);
+    let Ok(found) = fs::metadata(rt, name) else {
+        return match fs::symlink_metadata(rt, name) {
+            Ok(_) => fs::write(rt, name, bytes),
+            Err(_) => replace(rt, name, bytes),
+        };
     };
-    let made = fill_and_rename(rt, file, beside.as_str(), name, bytes);
-    if made.is_err() {
-        let _removed = fs::remove_file(rt, beside.as_str());
+    if !found.is_file() || name.starts_with("/dev/") {
+        return fs::write(rt, name, bytes);
     }
-    made
+    if !is_writable(rt, name, &found) {
+        return Err(io::Error::from(ErrorKind::PermissionDenied));
+    }
+    if !fs::symlink_metadata(rt, name)?.is_symlink() {
+        return replace(rt, name, bytes);
+    }
+    let behind = fs::canonicalize(rt, name)?;
+    replace(rt, behind.as_path().to_string_lossy(), bytes)
 }
 
 impl<R: Machine + AllocGlobal + Input> Files for MachineFiles<'_, R> {
