@@ -1,7 +1,7 @@
-//! Nine uses of `tiff`, as a caller writes them.
+//! Eleven uses of `tiff`, as a caller writes them.
 #![tactic(auto)]
 
-ghost use Rattle.std.specs.Prelude.{◌≡◌, ◌≤◌, length, map, IfOk, None, Ok, OnOk};
+ghost use Rattle.std.specs.Prelude.{◌≡◌, ◌≤◌, [], length, map, IfErr, IfOk, MatchResult, None, Ok, OnOk};
 ghost use Rattle.tiff.specs.Answers.{Answers};
 ghost use Rattle.tiff.specs.Machine.{Follows};
 ghost use Rattle.tiff.specs.Outcome.{decoder_of, read_image_bytes};
@@ -16,17 +16,20 @@ ghost use Rattle.tiff_uses.specs.GrayFile.{AnswersGray};
 ghost use Rattle.tiff_uses.specs.GeoKeys.{geo_key, key_value, value_in};
 ghost use Rattle.tiff_uses.specs.Pages as pages;
 ghost use Rattle.tiff_uses.specs.Pages.{FileAnswers, first_image, page_chunk};
+ghost use Rattle.tiff_uses.specs.Listed.{IsPageOf, IsFileOf};
 ghost use Rattle.tiff_uses.specs.ReadBack.{ComesBack, IsFirstImage};
 
 use std::alloc::Global;
-use tiff::TiffResult;
+use tiff::decoder::script::{Call, Reply, run_calls};
 use tiff::decoder::{Decoder, DecodingResult, DecodingSampleType, Limits};
-use tiff::encoder::TiffEncoder;
 use tiff::encoder::colortype::{Gray8, NamedColorType};
 use tiff::encoder::laws::data::first_shown;
 use tiff::encoder::laws::reading::written_is_read;
+use tiff::encoder::script::{Job, JobReply, run_jobs};
+use tiff::encoder::{TiffEncoder, TiffKindStandard};
 use tiff::io::{MemorySink, MemorySource, Source};
 use tiff::tags::Tag;
+use tiff::{TiffError, TiffResult};
 use tiff_laws::decoder::{image_is_its_chunks, read_where_chunks};
 use tiff_laws::pages::{walk_ends, walk_goes_on, walk_opens, walk_seeks};
 
@@ -196,4 +199,35 @@ pub fn written_and_read<C: NamedColorType>(
     let mut encoder = TiffEncoder::new(alloc, MemorySink::new(Vec::new(alloc)))?;
     encoder.write_image::<C>(width, height, samples)?;
     first_without_limits(alloc, encoder.into_inner().into_vec())
+}
+
+/// Seeks to a page and reads its image, by a list of two calls. Appends the replies, each made where
+/// the call before it left the decoder, also where one is an error. `page` counts from 0. The only
+/// error is `OutOfMemory` for the replies: then no call is made.
+pub fn page_by_calls<R: Source>(
+    decoder: &mut Decoder<R>,
+    page: usize,
+    replies: &mut Vec<Reply>,
+) -> TiffResult<()>
+    ensures made { OnOk result (IsPageOf page replies.old.items replies.new.items decoder.old
+        decoder.new) }
+    ensures refused { IfErr result (λ e. (e ≡ TiffError.OutOfMemory) × (decoder.new ≡ decoder.old)
+        × (replies.new.items ≡ replies.old.items)) }
+{
+    let calls = [Call::SeekToImage(page), Call::ReadImage];
+    run_calls(decoder, &calls, replies)
+}
+
+/// The classic file that jobs write, run one after another. Appends the reply to each, also to a job
+/// that is refused. The only error is `OutOfMemory`, for the replies or the header: then no reply is
+/// appended.
+#[tactic(auto, using(tiff_base::proofs::MemoryFaults::header_refused))]
+pub fn file_by_jobs(alloc: Global, jobs: &[Job], replies: &mut Vec<JobReply>) -> TiffResult<Vec<u8>>
+    ensures { MatchResult result
+        (λ file. IsFileOf jobs.now replies.old.items replies.new.items file.items)
+        (λ e. (e ≡ TiffError.OutOfMemory) × (replies.new.items ≡ replies.old.items)) }
+{
+    let sink = MemorySink::new(Vec::new(alloc));
+    let sink = run_jobs::<MemorySink, TiffKindStandard>(alloc, sink, jobs, replies)?;
+    Ok(sink.into_vec())
 }
