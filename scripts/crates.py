@@ -1,0 +1,76 @@
+"""The crates of the repository, their files, and what it costs to prove them."""
+import hashlib
+import re
+import shutil
+import sys
+from pathlib import Path
+
+ROOT = Path(__file__).resolve().parent.parent
+CRATES = ROOT / "crates"
+
+
+def tell(text):
+    print(text, file=sys.stderr, flush=True)
+
+
+def minutes(seconds):
+    count = round(seconds / 60)
+    return "1 minute" if count == 1 else f"{count} minutes"
+
+
+def need_kit(head):
+    if not shutil.which("rt"):
+        sys.exit(f"{head}: the Rattle kit is missing: put its command rt on the PATH")
+
+
+def listed():
+    """Returns each crate of crates.txt, lowest first, with the crates that it names."""
+    rows = [row.partition(":") for row in (ROOT / "crates.txt").read_text("utf-8").splitlines() if row.strip() and row[0] != "#"]
+    # a crate's name stands first; words such as `staticlib` may follow it
+    names = [words.split()[0] for words, _, _ in rows]
+    return {name: [it for it in uses.split() if it in names] for name, (_, _, uses) in zip(names, rows)}
+
+
+def below(crate, uses):
+    """Returns the crates that this one stands on, in the order in which rt builds them: each behind those that it uses."""
+    found = []
+    for used in uses[crate]:
+        found += [it for it in [*below(used, uses), used] if it not in found]
+    return found
+
+
+def sources(crate):
+    """Returns the files of code that a crate is compiled from."""
+    folders = [CRATES / it / "src" for it in [crate, *below(crate, listed())]]
+    return [ROOT / "crates.txt", *(file for folder in folders for file in folder.rglob("*.rt"))]
+
+
+def checksum(files):
+    """Returns a checksum of the names and the contents of files."""
+    made = hashlib.sha256()
+    for file in sorted(files):
+        made.update(f"{file.relative_to(ROOT)} {hashlib.sha256(file.read_bytes()).hexdigest()}\n".encode())
+    return made.hexdigest()
+
+
+def text_of(file):
+    """Returns what stands in a file, or None if it isn't there."""
+    return file.read_text("utf-8") if file.is_file() else None
+
+
+def costs():
+    """Returns the processor seconds of each crate, by the smaller numbers of the table in docs/GATE.md: those of its proof, and those of its
+    edits and its tests.
+
+    A row names crates, and has the seconds of the proof of each, in the same order. Behind them are those of the last one's edits and tests.
+    """
+    found = {}
+    for line in (ROOT / "docs/GATE.md").read_text("utf-8").splitlines():
+        cells = [cell.strip() for cell in line.split("|")]
+        if len(cells) < 5 or not cells[1].startswith("`tiff"):
+            continue
+        names = re.findall(r"`(tiff\w*)`", cells[1].partition(":")[0])
+        seconds = [int(number) for number in re.findall(r"(?:^|, )(\d+)", cells[3])]
+        found.update({name: (proof, 0) for name, proof in zip(names, seconds)})
+        found[names[-1]] = seconds[len(names) - 1], sum(seconds[len(names) :])
+    return found
