@@ -58,6 +58,13 @@ def text_of(file):
     return file.read_text("utf-8") if file.is_file() else None
 
 
+def parts():
+    """Returns the rows of the table of docs/GATE.md that has processor seconds: what each is of, and its smaller numbers."""
+    rows = [[cell.strip() for cell in line.split("|")] for line in (ROOT / "docs/GATE.md").read_text("utf-8").splitlines()]
+    found = [(cells[1], re.findall(r"(?:^|, )(\d+)", cells[3])) for cells in rows if len(cells) > 4]
+    return [(part, [int(it) for it in seconds]) for part, seconds in found if seconds]
+
+
 def costs():
     """Returns the processor seconds of each crate, by the smaller numbers of the table in docs/GATE.md: those of its proof, and those of its
     edits and its tests.
@@ -65,12 +72,28 @@ def costs():
     A row names crates, and has the seconds of the proof of each, in the same order. Behind them are those of the last one's edits and tests.
     """
     found = {}
-    for line in (ROOT / "docs/GATE.md").read_text("utf-8").splitlines():
-        cells = [cell.strip() for cell in line.split("|")]
-        if len(cells) < 5 or not cells[1].startswith("`tiff"):
-            continue
-        names = re.findall(r"`(tiff\w*)`", cells[1].partition(":")[0])
-        seconds = [int(number) for number in re.findall(r"(?:^|, )(\d+)", cells[3])]
-        found.update({name: (proof, 0) for name, proof in zip(names, seconds)})
-        found[names[-1]] = seconds[len(names) - 1], sum(seconds[len(names) :])
+    for part, seconds in parts():
+        names = re.findall(r"`(tiff\w*)`", part.partition(":")[0]) if part.startswith("`tiff") else []
+        if names:
+            found.update({name: (proof, 0) for name, proof in zip(names, seconds)})
+            found[names[-1]] = seconds[len(names) - 1], sum(seconds[len(names) :])
     return found
+
+
+def total():
+    """Returns the processor seconds of the whole gate."""
+    return sum(sum(seconds) for _, seconds in parts())
+
+
+def chain():
+    """Returns the processor seconds of the longest chain of crates, of which each waits for the proof of the one before it."""
+    uses, seconds, ends = listed(), costs(), {}
+    for name in sorted(uses, key=lambda it: len(below(it, uses))):
+        ends[name] = seconds[name][0] + max((ends[it] for it in uses[name]), default=0)
+    return max(end + seconds[name][1] for name, end in ends.items())
+
+
+def proved_again(crate):
+    """Returns the crates that are proved again after a change of this one."""
+    uses = listed()
+    return [name for name in uses if name == crate or crate in below(name, uses)]
