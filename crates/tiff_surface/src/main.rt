@@ -1,6 +1,7 @@
 //! Names each public name of `tiff` by its path, makes public calls that no list of calls or of
-//! jobs makes, and prints each with its result. The program depends on `tiff` alone, so every name
-//! that it uses is reached from there.
+//! jobs makes, and the calls for C, and prints each with its result. The program depends on `tiff`
+//! and, for the calls for C, on `tiff_statuses`, so every other name that it uses is reached from
+//! `tiff`.
 #![tactic(auto)]
 
 mod color;
@@ -14,6 +15,7 @@ mod io;
 mod kinds;
 mod names;
 mod report;
+mod statuses;
 mod stream;
 mod tags;
 mod values;
@@ -51,7 +53,8 @@ fn main(rt: HostRuntime) -> std::io::Result<()> {
     let files = add_files(&mut report);
     report.line("files", files);
     match report.into_text() {
-        Some(lines) => print!(rt; "{lines}"),
-        None => println!(rt; "no memory for the lines"),
+        Some(lines) => print!(rt; "{lines}")?,
+        None => println!(rt; "no memory for the lines")?,
     }
+    statuses::print_calls(&rt)
 }

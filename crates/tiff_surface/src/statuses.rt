@@ -1,0 +1,66 @@
+//! The calls of `tiff_statuses`, which `tiff_c` exports to C, on a file of one page that one of the
+//! calls writes. Each is printed with its status and with what it put. There is no page 1: calls on
+//! it are refused, and put nothing.
+
+mod altered;
+mod file;
+mod jobs;
+mod page;
+mod tags;
+mod written;
+
+use altered::{print_claim, print_refused, print_retyped};
+use file::{print_file, print_list, print_text};
+use jobs::print_all_jobs;
+use page::{print_chunks, print_parts, print_pixels, print_samples, print_sides};
+use std::io;
+use tags::{BITS_PER_SAMPLE, print_tags, print_values};
+use written::{AT, DIRECTORY, print_too_long, write};
+
+fn print_page(rt: &HostRuntime, file: &[u8], page: usize) -> io::Result<()> {
+    print_sides(rt, file, page)?;
+    print_samples(rt, file, page)?;
+    print_parts(rt, file, page)?;
+    print_pixels(rt, file, page)?;
+    print_tags(rt, file, page)?;
+    print_values(rt, file, page, BITS_PER_SAMPLE)
+}
+
+// Prints the calls on the page, on a page that isn't there, and on a range of its chunks.
+fn print_pages(rt: &HostRuntime, file: &[u8]) -> io::Result<()> {
+    print_page(rt, file, 0)?;
+    print_page(rt, file, 1)?;
+    print_sides(rt, file, AT + DIRECTORY)?;
+    print_sides(rt, file, AT + 400)?;
+    print_chunks(rt, file, 0, 1)?;
+    print_chunks(rt, file, 0, 2)?;
+    print_chunks(rt, file, 1, u32::MAX)
+}
+
+// Prints the calls on the file, and on its first four bytes.
+fn print_files(rt: &HostRuntime, file: &[u8]) -> io::Result<()> {
+    let cut = &file[..file.len().min(4)];
+    print_file(rt, file)?;
+    print_file(rt, cut)?;
+    print_list(rt, file)?;
+    print_list(rt, cut)
+}
+
+/// Prints each call with its status and with what it put.
+pub fn print_calls(rt: &HostRuntime) -> io::Result<()> {
+    print_too_long(rt)?;
+    let mut buffer = [0u8; 300];
+    let mut len = 0;
+    let status = write(rt, &mut buffer, &mut len);
+    println!(rt; "write_image: {status}, {len}")?;
+    let file = &buffer[..len.min(300)];
+    print_pages(rt, file)?;
+    print_claim(rt)?;
+    print_retyped(rt)?;
+    print_refused(rt)?;
+    print_files(rt, file)?;
+    print_all_jobs(rt)?;
+    println!(rt; "version: {}", tiff_statuses::version())?;
+    print_text(rt, 0)?;
+    print_text(rt, 22)
+}

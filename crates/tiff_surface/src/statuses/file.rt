@@ -1,0 +1,45 @@
+//! The calls that read a whole file, and the texts of statuses.
+
+use std::io;
+use tiff_statuses::calls::Color;
+use tiff_statuses::list::ListedPage;
+
+/// Prints the byte order of a file and the number of its pages.
+pub fn print_file(rt: &HostRuntime, file: &[u8]) -> io::Result<()> {
+    let mut order = 7;
+    let status = tiff_statuses::byte_order(rt.alloc(), file, &mut order);
+    println!(rt; "byte_order: {status}, {order}")?;
+    let mut pages = 7;
+    let status = tiff_statuses::page_count(rt.alloc(), file, &mut pages);
+    println!(rt; "page_count: {status}, {pages}")
+}
+
+/// Prints the list of a file's pages, with room for one.
+pub fn print_list(rt: &HostRuntime, file: &[u8]) -> io::Result<()> {
+    let mut pages = [ListedPage {
+        offset: 0,
+        status: 0,
+        width: 0,
+        height: 0,
+        method: 0,
+        color_status: 0,
+        color: Color {
+            kind: 0,
+            bits: 0,
+            samples: 0,
+        },
+        chunk_kind: 0,
+        count_status: 0,
+        count: 0,
+    }];
+    let mut count = 0;
+    let status = tiff_statuses::list_pages(rt.alloc(), file, &mut pages, &mut count);
+    println!(rt; "list_pages: {status}, {count}, {:?}", pages[0])
+}
+
+/// Prints the text of a status, as far as there is room for it.
+pub fn print_text(rt: &HostRuntime, status: u32) -> io::Result<()> {
+    let mut text = [0u8; 8];
+    let len = tiff_statuses::fault_text(status, &mut text);
+    println!(rt; "fault_text {status}: {len}, {text:?}")
+}
