@@ -77,7 +77,7 @@ const ONE: [u8; 199] = [
 // Files that are others with one byte changed: the name, the other, the place of the byte, and its
 // value. LONG is ONE with six zeros behind it.
 const CHANGED: [(&str, &str, usize, u8); 4] = [
-    ("EMPTY", "ONE", 151, 0), // the count of XResolution
+    ("EMPTY", "ONE", 151, 0), // the count of YResolution
     ("PAST", "ONE", 155, 255), // where its value is
     ("LINKED", "LONG", 195, 199), // the link, to a directory without entries
     ("CYCLE", "LINKED", 201, 25), // its link, to the first directory
@@ -132,8 +132,8 @@ $ tiffpage tags EMPTY 0
 277 3 1 0100
 278 4 1 40420f00
 279 4 1 01000000
-282 5 0 -
-283 5 1 0100000001000000
+282 5 1 0100000001000000
+283 5 0 -
 296 3 1 0100
 317 3 1 0100
 339 3 1 0100
