@@ -1,18 +1,17 @@
-//! Slices, lists and buffers that a caller lends to a decoder, with contents of their own.
+//! Slices, lists and buffers that a caller lends to a decoder, with contents of their own; calls of
+//! a decoder and of its lists that no list of calls makes.
 
-use crate::expect::{empty_sink, expect_bytes, expect_text};
+use crate::expect::{copy_of, expect_text};
 use std::alloc::Global;
 use std::boxed::Box;
 use tiff_base::error::TiffResult;
-use tiff_base::io::{MemorySource, Sink};
-use tiff_base::tags::{ByteOrder, Tag, Type};
+use tiff_base::io::MemorySource;
+use tiff_base::tags::{Tag, Type};
 use tiff_decode::buffer::DecodingBuffer;
 use tiff_decode::decoder::{Decoder, DecodingResult};
-use tiff_encode::encoder::{TiffEncoder, TiffKind};
 use tiff_ifd::limits::Limits;
-use tiff_page::layout::{BufferLayoutPreference, DecodingSampleType, TiffCodingUnit};
+use tiff_page::layout::{DecodingSampleType, TiffCodingUnit};
 use tiff_value::buffer::ValueBuffer;
-use tiff_value::encoder::colortype::RGB8;
 
 // A page of two pixels of two gray samples, in planes of one strip each, big-endian. The field of
 // the unnamed tag is cut.
@@ -38,11 +37,12 @@ const PAGE: [u8; 166] = [
 
 const UNNAMED: Tag = Tag::Unknown(65000);
 
-// A decoder of the page.
+// A decoder of the page, with a limit of its own from the start.
 fn opened(alloc: Global) -> TiffResult<Box<Decoder<MemorySource>>> {
-    let file = Vec::from_slice(alloc, &PAGE)?;
-    let decoder = Decoder::new(alloc, MemorySource::new(file))?;
-    Ok(Box::new(alloc, decoder)?)
+    let mut limits = Limits::default();
+    limits.decoding_buffer_size = 96;
+    let decoder = Decoder::new(alloc, MemorySource::new(copy_of(alloc, &PAGE)?))?;
+    Ok(Box::new(alloc, decoder.with_limits(limits))?)
 }
 
 fn decoder_text(alloc: Global) -> TiffResult<String> {
@@ -51,42 +51,44 @@ fn decoder_text(alloc: Global) -> TiffResult<String> {
 }
 
 #[test]
-fn a_decoder_is_shown(rt: HostRuntime) {
+fn a_decoder_is_shown_with_its_limits(rt: HostRuntime) {
     expect_text(
         &rt,
         0,
         decoder_text(rt.alloc()),
-        "Decoder { kind: Classic, byte_order: BigEndian, ifd_pointer: Some(IfdPointer(28)), width: 2, height: 1, limits: Limits { decoding_buffer_size: 268435456, ifd_value_size: 1048576, intermediate_buffer_size: 134217728 }, .. }",
+        "Decoder { kind: Classic, byte_order: BigEndian, ifd_pointer: Some(IfdPointer(28)), width: 2, height: 1, limits: Limits { decoding_buffer_size: 96, ifd_value_size: 1048576, intermediate_buffer_size: 134217728 }, .. }",
     );
 }
 
-// Where a copy of a value of eight bytes begins, how many it copies, and the slice of three nines
-// afterwards.
-const COPIES: [(u64, &str); 4] = [
-    (3, "Some(3) [2, 0, 0]"),
-    (7, "Some(1) [2, 9, 9]"),
-    (8, "Some(0) [9, 9, 9]"),
-    (u64::MAX, "Some(0) [9, 9, 9]"),
-];
-
-// How many bytes of the byte counts are copied from an offset on, and the slice afterwards.
-fn copied(alloc: Global, decoder: &mut Decoder<MemorySource>, at: u64) -> TiffResult<String> {
-    let mut buf = [9u8; 3];
-    let answer = decoder
+// Slices of 99 after calls that fill a part of each: the last byte of a value, and none of it; one
+// plane of the image, and both; and the same of the one coding unit.
+fn slices_filled(alloc: Global, decoder: &mut Decoder<MemorySource>) -> TiffResult<String> {
+    let (mut last, mut none) = ([99u8; 3], [99u8; 3]);
+    let counts = Tag::StripByteCounts;
+    decoder.image_ifd().find_tag_bytes(counts, &mut last, 7)?;
+    decoder
         .image_ifd()
-        .find_tag_bytes(Tag::StripByteCounts, &mut buf, at)?;
-    Ok(format!(in alloc; "{answer:?} {buf:?}")?)
+        .find_tag_bytes(counts, &mut none, u64::MAX)?;
+    let (mut plane, mut image) = ([99u8; 3], [99u8; 5]);
+    decoder.read_image_bytes(&mut plane)?;
+    decoder.read_image_bytes(&mut image)?;
+    let (mut first, mut unit) = ([99u8; 3], [99u8; 5]);
+    decoder.read_coding_unit_bytes(TiffCodingUnit(0), &mut first)?;
+    decoder.read_coding_unit_bytes(TiffCodingUnit(0), &mut unit)?;
+    Ok(format!(in alloc; "{last:?} {none:?} {plane:?} {image:?} {first:?} {unit:?}")?)
 }
 
 #[test]
-fn a_copy_leaves_the_rest_of_a_slice(rt: HostRuntime) {
+fn the_rest_of_a_slice_stays(rt: HostRuntime) {
     let mut decoder = opened(rt.alloc()).expect(&rt, "the page");
-    for (at, text) in COPIES {
-        expect_text(&rt, at, copied(rt.alloc(), &mut decoder, at), text);
-    }
+    let told = slices_filled(rt.alloc(), &mut decoder);
+    let wanted =
+        "[2, 99, 99] [99, 99, 99] [7, 8, 99] [7, 8, 9, 10, 99] [7, 8, 99] [7, 8, 9, 10, 99]";
+    expect_text(&rt, 0, told, wanted);
 }
 
-// Whether the page has a tag, and then the type, the count and the bytes of the buffer.
+// Whether the page has a tag, and then the byte order, the type, the count and the bytes of the
+// buffer.
 fn held(
     alloc: Global,
     decoder: &mut Decoder<MemorySource>,
@@ -98,7 +100,8 @@ fn held(
         .find_tag_buf(tag, buf)
         .map(|entry| entry.is_some());
     Ok(format!(in alloc;
-        "{answer:?} {:?} {} {:?}",
+        "{answer:?} {:?} {:?} {} {:?}",
+        buf.byte_order(),
         buf.data_type(),
         buf.count(),
         buf.as_bytes()
@@ -106,16 +109,16 @@ fn held(
 }
 
 #[test]
-fn a_buffer_holds_the_bytes_of_a_field(rt: HostRuntime) {
+fn a_buffer_holds_the_bytes_of_the_last_field(rt: HostRuntime) {
     let mut decoder = opened(rt.alloc()).expect(&rt, "the page");
     let mut buf = ValueBuffer::empty(rt.alloc(), Type::BYTE);
     let width = held(rt.alloc(), &mut decoder, Tag::ImageWidth, &mut buf);
-    expect_text(&rt, 0, width, "Ok(true) LONG 1 [0, 0, 0, 2]");
-    assert_eq!(rt; buf.byte_order(), ByteOrder::BigEndian);
+    expect_text(&rt, 0, width, "Ok(true) BigEndian LONG 1 [0, 0, 0, 2]");
     let none = held(rt.alloc(), &mut decoder, Tag::Artist, &mut buf);
-    expect_text(&rt, 1, none, "Ok(false) LONG 1 [0, 0, 0, 2]");
+    expect_text(&rt, 1, none, "Ok(false) BigEndian LONG 1 [0, 0, 0, 2]");
     let cut = held(rt.alloc(), &mut decoder, UNNAMED, &mut buf);
-    expect_text(&rt, 2, cut, "Err(IoError(UnexpectedEof)) SHORT 0 []");
+    let wanted = "Err(IoError(UnexpectedEof)) BigEndian SHORT 0 []";
+    expect_text(&rt, 2, cut, wanted);
 }
 
 // The results of finding a number below 2^16, and a list of such numbers.
@@ -144,57 +147,6 @@ fn numbers_are_of_the_type_that_is_asked_for(rt: HostRuntime) {
     }
 }
 
-// A decoder of the page that has a limit from the start.
-fn limited(alloc: Global, limit: usize) -> TiffResult<Box<Decoder<MemorySource>>> {
-    let mut limits = Limits::default();
-    limits.decoding_buffer_size = limit;
-    let file = Vec::from_slice(alloc, &PAGE)?;
-    let decoder = Decoder::new(alloc, MemorySource::new(file))?;
-    Ok(Box::new(alloc, decoder.with_limits(limits))?)
-}
-
-// The result of finding a list of two numbers under a limit.
-fn found_under(alloc: Global, limit: usize) -> TiffResult<String> {
-    let answer = limited(alloc, limit)?.find_tag(Tag::StripOffsets);
-    Ok(format!(in alloc; "{answer:?}")?)
-}
-
-#[test]
-fn a_decoder_is_made_with_limits(rt: HostRuntime) {
-    let text = "Ok(Some(List([Unsigned(8), Unsigned(10)])))";
-    expect_text(&rt, 64, found_under(rt.alloc(), 64), text);
-    expect_text(&rt, 63, found_under(rt.alloc(), 63), "Err(LimitsExceeded)");
-}
-
-// A slice of `len` bytes 0xAA after the image was read into it.
-fn image_in(alloc: Global, decoder: &mut Decoder<MemorySource>, len: usize) -> TiffResult<Vec<u8>> {
-    let mut bytes = vec![in alloc; 0xAAu8; len]?;
-    decoder.read_image_bytes(&mut bytes)?;
-    Ok(bytes)
-}
-
-// A slice of `len` bytes 0xAA after the one coding unit was read into it.
-fn unit_in(alloc: Global, decoder: &mut Decoder<MemorySource>, len: usize) -> TiffResult<Vec<u8>> {
-    let mut bytes = vec![in alloc; 0xAAu8; len]?;
-    decoder.read_coding_unit_bytes(TiffCodingUnit(0), &mut bytes)?;
-    Ok(bytes)
-}
-
-// Slices after the image, or the unit, was read into them: as many whole planes as fit, and the
-// rest as it was.
-const SLICES: [&[u8]; 4] = [&[7, 8], &[7, 8, 0xAA], &[7, 8, 9, 10], &[7, 8, 9, 10, 0xAA]];
-
-#[test]
-fn the_rest_of_a_slice_stays(rt: HostRuntime) {
-    let mut decoder = opened(rt.alloc()).expect(&rt, "the page");
-    for slice in SLICES {
-        let image = image_in(rt.alloc(), &mut decoder, slice.len());
-        expect_bytes(&rt, 0, image, slice);
-        let unit = unit_in(rt.alloc(), &mut decoder, slice.len());
-        expect_bytes(&rt, 1, unit, slice);
-    }
-}
-
 // The samples of the second plane, read into a list of other samples, in rows of four bytes.
 fn listed(alloc: Global, decoder: &mut Decoder<MemorySource>) -> TiffResult<String> {
     let mut list = DecodingResult::U16(vec![in alloc; 5; 9]?);
@@ -202,120 +154,45 @@ fn listed(alloc: Global, decoder: &mut Decoder<MemorySource>) -> TiffResult<Stri
     Ok(format!(in alloc; "{list:?}")?)
 }
 
-#[test]
-fn a_list_takes_the_type_and_the_length_of_a_chunk(rt: HostRuntime) {
-    let mut decoder = opened(rt.alloc()).expect(&rt, "the page");
-    let told = listed(rt.alloc(), &mut decoder);
-    expect_text(&rt, 0, told, "U8([9, 10, 0, 0])");
-}
-
-// Writes an image of 374 by 499 pixels of three colors, in planes.
-fn write_planes<W: Sink, K: TiffKind>(
-    encoder: &mut TiffEncoder<W, K>,
-    samples: &[u8],
-) -> TiffResult<()> {
-    let mut image = encoder.new_image::<RGB8>(374, 499)?;
-    let apart = image.planar();
-    let ended = image.write_data(samples);
-    apart?;
-    ended
-}
-
-// A decoder of the image in planes.
-fn planes_opened(alloc: Global) -> TiffResult<Box<Decoder<MemorySource>>> {
-    let samples = vec![in alloc; 42u8; 559_878]?;
-    let mut encoder = TiffEncoder::new(alloc, empty_sink(alloc))?;
-    write_planes(&mut encoder, &samples)?;
-    let file = encoder.into_inner().into_vec();
-    let decoder = Decoder::new(alloc, MemorySource::new(file))?;
-    Ok(Box::new(alloc, decoder)?)
-}
-
-// How many bytes of the image are read under a limit, and how many planes its layout has.
-fn read_under(
+// The result of resizing a list to the page's layout with another number type and length, and the
+// list afterwards.
+fn resized(
     alloc: Global,
-    decoder: &mut Decoder<MemorySource>,
-    limit: usize,
-) -> TiffResult<String> {
-    let mut limits = Limits::default();
-    limits.decoding_buffer_size = limit;
-    decoder.set_limits(limits);
-    let mut image = DecodingResult::U8(Vec::new(alloc));
-    let layout = decoder.read_image_to_buffer(&mut image)?;
-    let len = image.as_buffer(0).byte_len();
-    let planes = layout.planes;
-    Ok(format!(in alloc; "{len} bytes, {planes} planes")?)
-}
-
-// All planes are read if the limit allows it, else the first one.
-#[test]
-fn planes_are_read_under_limits(rt: HostRuntime) {
-    let mut decoder = planes_opened(rt.alloc()).expect(&rt, "the planes");
-    let first = "186626 bytes, 3 planes";
-    let all = "559878 bytes, 3 planes";
-    for (times, wanted) in [(1, first), (2, first), (3, all), (4, all)] {
-        let told = read_under(rt.alloc(), &mut decoder, 186_626 * times);
-        expect_text(&rt, times as u64, told, wanted);
-    }
-}
-
-// The layout of the page, with another number type and length.
-fn layout_of(
     decoder: &mut Decoder<MemorySource>,
     sample_type: Option<DecodingSampleType>,
     len: usize,
-) -> TiffResult<BufferLayoutPreference> {
+) -> TiffResult<String> {
     let mut layout = decoder.image_buffer_layout()?;
     layout.sample_type = sample_type;
     layout.complete_len = len;
-    Ok(layout)
-}
-
-// The result of resizing a list to a layout, and the list afterwards.
-fn resized(
-    alloc: Global,
-    list: &mut DecodingResult,
-    layout: &BufferLayoutPreference,
-) -> TiffResult<String> {
-    let answer = list.resize_to(layout, &Limits::default());
+    let mut list = DecodingResult::U8(vec![in alloc; 5; 3]?);
+    let answer = list.resize_to(&layout, &Limits::default());
     Ok(format!(in alloc; "{answer:?} {list:?}")?)
 }
 
-// The result of resizing a list to the page's layout with another number type and length, and the
-// list afterwards.
-fn resized_as(
-    alloc: Global,
-    decoder: &mut Decoder<MemorySource>,
-    list: &mut DecodingResult,
-    sample_type: Option<DecodingSampleType>,
-    len: usize,
-) -> TiffResult<String> {
-    let layout = layout_of(decoder, sample_type, len)?;
-    resized(alloc, list, &layout)
-}
-
-// Number types and lengths of a layout, and the list after it is resized to them one after another.
+// Number types and lengths of a layout, and what resizing a list to it returns and leaves.
 const LAYOUTS: [(Option<DecodingSampleType>, usize, &str); 3] = [
     (Some(DecodingSampleType::U16), 3, "Ok(()) U16([0, 0])"),
     (
         Some(DecodingSampleType::U16),
         268_435_457,
-        "Err(LimitsExceeded) U16([0, 0])",
+        "Err(LimitsExceeded) U8([5, 5, 5])",
     ),
     (
         None,
         268_435_457,
-        "Err(UnsupportedError(UnknownInterpretation)) U16([0, 0])",
+        "Err(UnsupportedError(UnknownInterpretation)) U8([5, 5, 5])",
     ),
 ];
 
 #[test]
-fn a_list_is_made_as_long_as_its_layout(rt: HostRuntime) {
+fn a_list_takes_the_type_and_the_length_of_what_it_holds(rt: HostRuntime) {
     let mut decoder = opened(rt.alloc()).expect(&rt, "the page");
-    let mut list = DecodingResult::U8(Vec::new(rt.alloc()));
+    let told = listed(rt.alloc(), &mut decoder);
+    expect_text(&rt, 0, told, "U8([9, 10, 0, 0])");
     for (sample_type, len, text) in LAYOUTS {
-        let told = resized_as(rt.alloc(), &mut decoder, &mut list, sample_type, len);
-        expect_text(&rt, 0, told, text);
+        let told = resized(rt.alloc(), &mut decoder, sample_type, len);
+        expect_text(&rt, len as u64, told, text);
     }
 }
 
