@@ -4,6 +4,8 @@
 #[cfg(test)]
 mod chain;
 #[cfg(test)]
+mod conversions;
+#[cfg(test)]
 mod directories;
 #[cfg(test)]
 mod expect;
