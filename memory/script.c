@@ -1,9 +1,9 @@
-/* Has a proved program that reads lines run a script once for each request for memory, with that request refused.
+/* Has a proved program run a script once for each request for memory, with that request refused.
 
-   The program's standard input is the script, one line a read. At each request a copy of the program, made by fork, goes on in which
-   it is refused: alone, and in a second copy with all that follow. A copy is given the line that was under way once more (of a list of
-   jobs, all its lines), and then the rest. What copies write goes to descriptor 3, and a line on each to descriptor 4: the number of the request,
-   whether all that follow are refused too, where in the script its line stands, how long the output was, the copy's status as wait gives
+   The program's standard input is the script, one line a read; the script of a program that reads nothing is empty. At each request a copy of
+   the program, made by fork, goes on in which it is refused: alone, and in a second copy with all that follow. A copy is given the line that was
+   under way once more (of a list of jobs, all its lines), and then the rest. What copies write goes to descriptor 3, and a line on each to descriptor 4: the number of the request,
+   whether all that follow are refused too, where in the script its line stands (-1 if none was read), how long the output was, the copy's status as wait gives
    it, the blocks that it left, and how much all copies have written. The last line is on the program itself: its requests, the blocks that it
    left, and the peak of its bytes. In the environment, REFUSED_FROM says from which byte of the script on requests are refused, REFUSED_STEP of
    which number each multiple is, and REFUSED_SECONDS how long a copy may take. */
