@@ -3,11 +3,14 @@
   python3 tiff.py page.tif > page.pgm
   python3 tiff.py page.tif packed.tif
 
-It calls the shared library by ctypes alone; the package `mangohatch_tiff` of the folder `python` does more. First build the library by `make` at the top.
+It calls the shared library by ctypes alone; the package `mangohatch_tiff` of the folder `python` does more. The library is the one that
+MANGOHATCH_TIFF_LIBRARY names, or the system's.
 """
 import ctypes
+import os
 import sys
 from ctypes import POINTER, Structure, byref, c_char_p, c_size_t, c_uint16, c_uint32
+from ctypes.util import find_library
 from pathlib import Path
 
 try:
@@ -15,7 +18,7 @@ try:
 except ImportError:
     numpy = None
 
-LIBRARY = ctypes.CDLL(str(next((Path(__file__).resolve().parents[2] / "out/c").glob("libmangohatch_tiff.so.*"))))
+LIBRARY = ctypes.CDLL(os.environ.get("MANGOHATCH_TIFF_LIBRARY") or find_library("mangohatch_tiff") or sys.exit("the shared library is missing"))
 GRAY, RGB = 0, 1
 GRAY8, RGB8 = 0, 10
 CLASSIC, BIG = 42, 43
