@@ -2,6 +2,7 @@
 import gzip
 import io
 import os
+import re
 import tarfile
 from collections import namedtuple
 
@@ -15,6 +16,11 @@ def folder(name):
 
 def file(name, content, mode=0o644):
     return Entry(name, mode, content)
+
+
+def filled(path, facts):
+    """Returns the text of a file with the facts in the places of their names, as @version@."""
+    return re.sub(r"@(\w+)@", lambda found: str(facts[found[1]]), path.read_text(encoding="utf-8"))
 
 
 def read_tree(top):

@@ -7,7 +7,7 @@ from email.utils import formatdate
 from fnmatch import fnmatch
 from pathlib import Path, PurePosixPath
 
-from archives import ar, file, folder, packed, tar
+from archives import ar, file, filled, folder, packed, tar
 from wheel_backend import needed_glibc
 
 TEXTS = Path(__file__).resolve().parent / "debian"
@@ -70,14 +70,8 @@ def documents(package, release):
     )
     return [
         file(f"usr/share/doc/{package}/changelog.Debian.gz", packed(history.encode())),
-        file(f"usr/share/doc/{package}/copyright", filled("copyright", release).encode()),
+        file(f"usr/share/doc/{package}/copyright", filled(TEXTS / "copyright", release).encode()),
     ]
-
-
-def filled(name, release):
-    """Returns a text with the facts of the release in the places of their names."""
-    text = (TEXTS / name).read_text(encoding="utf-8")
-    return re.sub(r"@(\w+)@", lambda found: str(release[found[1]]), text)
 
 
 def control(paragraph, size, needed, release):
@@ -120,4 +114,4 @@ def under_dot(entry):
 
 def packages(stage, entries, release):
     """Returns the packages, by name, of the files that are installed in a folder."""
-    return dict(package(it, stage, entries, release) for it in filled("control", release).split("\n\n"))
+    return dict(package(it, stage, entries, release) for it in filled(TEXTS / "control", release).split("\n\n"))
