@@ -7,7 +7,8 @@
 #   make dist [GATE=LOG]        builds both and packs them into out/dist, for machines without the kit. LOG is what a run of ./test
 #                               printed: its result is quoted in out/dist/PROOF
 #
-# With OBJECTS=FOLDER, the out/c of another build, what the kit builds is copied from there, and needs no kit.
+# With OBJECTS=FOLDER, the out/c of another build, each of these copies from there what the kit builds, and needs no kit; it works in
+# out/given then, in place of out/c.
 #
 # Installed are the static and the shared library, the header, files for pkg-config and for CMake, and a page of the manual; and the
 # program with its page, if it is in out/c.
@@ -26,21 +27,23 @@ header := crates/tiff_c/include/mangohatch_tiff.h
 calls := $(shell sed -n 's/^\#define MANGOHATCH_TIFF_VERSION //p' $(header))
 version := $(shell sed -n 's/^version = "\(.*\)"/\1/p' python/pyproject.toml)
 
-out := out/c
+out := $(if $(OBJECTS),out/given,out/c)
 static := $(out)/libmangohatch_tiff.a
 shared := $(out)/libmangohatch_tiff.so.$(calls)
 program := $(out)/tiffpage
 kit := $(out)/KIT
-sources := crates.txt $(wildcard crates/*/src/*.rt crates/*/src/*/*.rt)
+sources := crates.txt $(shell find crates -name out -prune -o -name '*.rt' -print -o -name '*.antt' -print)
 
 library: $(static) $(shared) $(kit) $(out)/mangohatch_tiff.h $(out)/mangohatch_tiff.3
 
 program: $(program) $(out)/tiffpage.1
 
 ifdef OBJECTS
-$(static) $(program) $(kit): $(out)/%: $(OBJECTS)/%
+$(static) $(program) $(kit): $(out)/%: $(OBJECTS)/% always
 	mkdir -p $(out)
 	cp $< $@
+
+always:
 else
 need_kit = @command -v rt >/dev/null || { \
 	echo "make: the Rattle kit, which proves and builds $(notdir $@), is missing: put its command rt on the PATH." >&2; \
@@ -117,7 +120,7 @@ dist: library program
 	rm -rf out/stage
 	$(MAKE) install DESTDIR=out/stage/tarball PREFIX= RELOCATABLE=1
 	$(MAKE) install DESTDIR=out/stage/debian PREFIX=/usr LIBDIR=/usr/lib/x86_64-linux-gnu
-	packaging/dist $(if $(OBJECTS),--given) $(if $(GATE),--gate $(GATE))
+	packaging/dist $(out) $(GATE)
 
-.PHONY: library program install uninstall dist
+.PHONY: always library program install uninstall dist
 .DELETE_ON_ERROR:
