@@ -10,14 +10,15 @@
 # With OBJECTS=FOLDER, the out/c of another build, each of these copies from there what the kit builds, and needs no kit; it works in
 # out/given then, in place of out/c.
 #
-# Installed are the static and the shared library, the header, files for pkg-config and for CMake, and a page of the manual; and the
-# program with its page, if it is in out/c.
+# Installed are the static and the shared library, the header, files for pkg-config and for CMake, a page of the manual and examples; and
+# the program with its page, if it is in out/c.
 
 PREFIX ?= /usr/local
 BINDIR ?= $(PREFIX)/bin
 LIBDIR ?= $(PREFIX)/lib
 INCLUDEDIR ?= $(PREFIX)/include
 MANDIR ?= $(PREFIX)/share/man
+DOCDIR ?= $(PREFIX)/share/doc/mangohatch_tiff
 CC ?= cc
 AR ?= ar
 STRIP ?= strip
@@ -96,12 +97,13 @@ cmake = $(LIBDIR)/cmake/mangohatch_tiff
 
 install:
 	@test -f $(static) || { echo "make install: there is no $(static): run make first, where the Rattle kit is" >&2; exit 1; }
-	mkdir -p $(DESTDIR)$(LIBDIR)/pkgconfig $(DESTDIR)$(cmake) $(DESTDIR)$(INCLUDEDIR) $(DESTDIR)$(MANDIR)/man3
+	mkdir -p $(DESTDIR)$(LIBDIR)/pkgconfig $(DESTDIR)$(cmake) $(DESTDIR)$(INCLUDEDIR) $(DESTDIR)$(MANDIR)/man3 $(DESTDIR)$(DOCDIR)/examples
 	install -m 644 $(static) $(DESTDIR)$(LIBDIR)
 	install -m 755 $(shared) $(DESTDIR)$(LIBDIR)
 	ln -sf $(notdir $(shared)) $(DESTDIR)$(LIBDIR)/libmangohatch_tiff.so
 	install -m 644 $(out)/mangohatch_tiff.h $(DESTDIR)$(INCLUDEDIR)
 	install -m 644 $(out)/mangohatch_tiff.3 $(DESTDIR)$(MANDIR)/man3
+	install -m 644 examples/c/*.c examples/c/CMakeLists.txt $(DESTDIR)$(DOCDIR)/examples
 	$(filled) packaging/mangohatch_tiff.pc.in > $(DESTDIR)$(LIBDIR)/pkgconfig/mangohatch_tiff.pc
 	$(filled) packaging/mangohatch_tiff-config.cmake.in > $(DESTDIR)$(cmake)/mangohatch_tiff-config.cmake
 	$(filled) packaging/mangohatch_tiff-config-version.cmake.in > $(DESTDIR)$(cmake)/mangohatch_tiff-config-version.cmake
@@ -113,13 +115,14 @@ uninstall:
 	rm -f $(DESTDIR)$(LIBDIR)/libmangohatch_tiff.a $(DESTDIR)$(LIBDIR)/libmangohatch_tiff.so $(DESTDIR)$(LIBDIR)/$(notdir $(shared))
 	rm -f $(DESTDIR)$(INCLUDEDIR)/mangohatch_tiff.h $(DESTDIR)$(MANDIR)/man3/mangohatch_tiff.3
 	rm -f $(DESTDIR)$(LIBDIR)/pkgconfig/mangohatch_tiff.pc
-	rm -rf $(DESTDIR)$(cmake)
+	rm -rf $(DESTDIR)$(cmake) $(DESTDIR)$(DOCDIR)/examples
+	! test -d $(DESTDIR)$(DOCDIR) || rmdir --ignore-fail-on-non-empty $(DESTDIR)$(DOCDIR)
 	rm -f $(DESTDIR)$(BINDIR)/tiffpage $(DESTDIR)$(MANDIR)/man1/tiffpage.1
 
 dist: library program
 	rm -rf out/stage
 	$(MAKE) install DESTDIR=out/stage/tarball PREFIX= RELOCATABLE=1
-	$(MAKE) install DESTDIR=out/stage/debian PREFIX=/usr LIBDIR=/usr/lib/x86_64-linux-gnu
+	$(MAKE) install DESTDIR=out/stage/debian PREFIX=/usr LIBDIR=/usr/lib/x86_64-linux-gnu DOCDIR=/usr/share/doc/libmangohatch-tiff-dev
 	packaging/dist $(out) $(GATE)
 
 .PHONY: always library program install uninstall dist
