@@ -89,6 +89,11 @@ def control(paragraph, size, needed, release):
     return "\n".join([named, *common, rest, ""])
 
 
+def under_dot(entry):
+    """Returns an entry by its name in the archives of a package."""
+    return entry._replace(name="./" + entry.name if entry.name != "." else "./")
+
+
 def package(paragraph, stage, entries, release):
     """Returns the name of a package and its bytes: the files that the last line of its paragraph names, from the folder where all are installed."""
     paragraph, _, patterns = paragraph.strip().rpartition("\nFiles: ")
@@ -106,10 +111,6 @@ def package(paragraph, stage, entries, release):
     parts = {"control": [folder("."), *(file(it, text.encode()) for it, text in records.items())], "data": tree}
     members = [(f"{part}.tar.xz", lzma.compress(tar([under_dot(it) for it in held], release["date"]))) for part, held in parts.items()]
     return f"{name}_{release['version']}_amd64.deb", ar([("debian-binary", b"2.0\n"), *members], release["date"])
-
-
-def under_dot(entry):
-    return entry._replace(name="./" + entry.name if entry.name != "." else "./")
 
 
 def packages(stage, entries, release):
