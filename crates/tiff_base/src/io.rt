@@ -453,3 +453,47 @@ impl Sink for MemorySink {
         Ok(bytes.len())
     }
 }
+
+impl<S: Source> Source for &mut S {
+    ghost told = { λ s. S.told s.now };
+
+    ghost failures = { λ s. S.failures s.now };
+
+    ghost offsets = { λ s. S.offsets s.now };
+
+    ghost octets = { λ s. S.octets s.now };
+
+    fn read_at(&mut self, at: u64, buf: &mut [u8]) -> Result<usize, DeviceFault> {
+        (**self).read_at(at, buf)
+    }
+}
+
+impl<S: Sink> Sink for &mut S {
+    ghost told = { λ s. S.told s.now };
+
+    ghost failures = { λ s. S.failures s.now };
+
+    ghost fault = { λ s. S.fault s.now };
+
+    ghost short = { λ s. S.short s.now };
+
+    fn len(&self) -> u64 {
+        (**self).len()
+    }
+
+    fn append(&mut self, bytes: &[u8]) -> Result<usize, SinkFault> {
+        (**self).append(bytes)
+    }
+
+    fn reserve(&mut self, len: u64) {
+        (**self).reserve(len)
+    }
+
+    fn append_run<B: ByteRun>(&mut self, run: &B) -> Option<Result<usize, SinkFault>> {
+        (**self).append_run(run)
+    }
+
+    fn overwrite(&mut self, at: u64, bytes: &[u8]) -> Result<usize, SinkFault> {
+        (**self).overwrite(at, bytes)
+    }
+}
