@@ -28,3 +28,4 @@ pub mod Wants
 pub mod Found
 mod Complements
 pub mod EarlyLaws
+pub mod PassedChecks

@@ -25,3 +25,4 @@ pub mod NumberBytes
 pub mod Samples
 pub mod Reach
 pub mod EarlyLaws
+pub mod PassedChecks

@@ -2,6 +2,7 @@
 
 ghost use Rattle.tiff_page.specs.EarlyLaws.{EarlyIsAnswered};
 ghost use Rattle.tiff_page.specs.Laws.{OneChunk, ChunksWithin, FirstFault, NoFault, PlacedEach, SomeBytes, ImageOfChunks, WholeRows, UnitOfChunks};
+ghost use Rattle.tiff_page.specs.PassedChecks.{PageHasPassed};
 ghost use Rattle.tiff_page.specs.Row.{ComplementsInvert, BytesOfNumbers};
 
 /// Each pixel of the image belongs to exactly one chunk of a plane.
@@ -64,4 +65,9 @@ pub fn bytes_of_numbers()
 /// returns these samples.
 pub fn early_is_answered()
     ensures { EarlyIsAnswered }
+{}
+
+/// A page that the tags define passed each of its checks.
+pub fn page_has_passed()
+    ensures { PageHasPassed }
 {}

@@ -1,0 +1,5 @@
+use Rattle.tiff_page.proofs.PassedChecks.{passed_checks}
+use Rattle.tiff_page.proofs.laws.page_has_passed.Goals as goal
+
+pub returns : goal.returns
+returns c = passed_checks
