@@ -1,13 +1,15 @@
 //! Reads the bytes of fields.
 
-ghost use Rattle.std.specs.Prelude.{◌≡◌, ◌≤◌, IfOk, length, take, drop};
+ghost use Rattle.std.specs.Prelude.{◌≡◌, ◌≤◌, ◌<◌, ◌+◌, ◌^◌, IfOk, length, take, drop};
 ghost use Rattle.std.specs.Int.{byte_len};
+ghost use Rattle.std.specs.Option.{SomeIff};
 ghost use Rattle.tiff_base.specs.Answers.{AnswersWithoutMemory, AsksOnly, IsKept};
 ghost use Rattle.tiff_base.specs.Sparing.{AnswersSparingly};
 ghost use Rattle.tiff_base.specs.Number.{number};
 ghost use Rattle.tiff_base.specs.Directory.{offset_width};
+ghost use Rattle.tiff_base.specs.FieldBytes.{field_len};
 ghost use Rattle.tiff_ifd.specs.Stretches.{FieldReadable};
-ghost use Rattle.tiff_ifd.specs.TagQueries.{buffer_of, part_of_field};
+ghost use Rattle.tiff_ifd.specs.TagQueries.{buffer_of, part_from, part_of_field};
 
 use crate::field_reader::FieldReader;
 use tiff_base::directory::Entry;
@@ -39,6 +41,15 @@ pub(crate) fn offset_in(kind: FileKind, order: ByteOrder, value: [u8; 8]) -> u64
     }
 }
 
+// The number of bytes of a field, if it is below 2^64.
+pub(crate) fn len_of(entry: &Entry) -> Option<u64>
+    ensures { SomeIff result (field_len entry.now < 2 ^ 64) (field_len entry.now) }
+{
+    entry
+        .count()
+        .checked_mul(u64::from(entry.field_type().byte_len()))
+}
+
 impl FieldReader<'_> {
     /// Reads the bytes of a field, in the file's byte order. Returns `LimitsExceeded` for 2^64
     /// bytes or more, and for more bytes than `decoding_buffer_size`. Returns
@@ -58,8 +69,7 @@ impl FieldReader<'_> {
         ensures asked { AsksOnly
             (FieldReadable (R.told source.old) self.now.kind self.now.order entry.now) result }
     {
-        let size = u64::from(entry.field_type().byte_len());
-        let Some(len) = entry.count().checked_mul(size) else {
+        let Some(len) = len_of(entry) else {
             return Err(TiffError::LimitsExceeded);
         };
         if len > self.limits.decoding_buffer_size as u64 {
@@ -77,6 +87,37 @@ impl FieldReader<'_> {
             offset_in(self.kind, self.order, value),
             len as usize,
         )
+    }
+
+    // Fills the buffer with the bytes of a field from the byte `at` on. Returns the errors of
+    // `read_part`, but the buffer ends within the field.
+    fn fill_part<R: Source>(
+        &self,
+        source: &mut R,
+        entry: &Entry,
+        at: u64,
+        buf: &mut [u8],
+    ) -> TiffResult<()>
+        requires len { field_len entry.now < 2 ^ 64 }
+        requires part { at + length buf.old ≤ field_len entry.now }
+        ensures kept { IsKept R.told R.failures result source.old source.new }
+        ensures answer { AnswersWithoutMemory (λ _. buf.new) result
+            (part_from self.now.kind self.now.order (R.told source.old).bytes entry.now
+            (length buf.old) at) (R.failures source.old) (R.failures source.new) }
+        ensures asked { AsksOnly
+            (FieldReadable (R.told source.old) self.now.kind self.now.order entry.now) result }
+    {
+        let len = entry.count() * u64::from(entry.field_type().byte_len());
+        let value = entry.value();
+        if len <= offset_len(self.kind) {
+            let first = at as usize;
+            buf.copy_from_slice(&value[first..first + buf.len()]);
+            return Ok(());
+        }
+        let Some(offset) = offset_in(self.kind, self.order, value).checked_add(at) else {
+            return Err(TiffError::FormatError(TiffFormatError::InconsistentSizesEncountered));
+        };
+        read_exact_at(source, offset, buf)
     }
 
     /// Copies the bytes of a field from the byte `at` on, as many as fit, and returns their number.
@@ -99,24 +140,14 @@ impl FieldReader<'_> {
             (FieldReadable (R.told source.old) self.now.kind self.now.order entry.now) result }
         ensures rest { IfOk result (λ n. (n ≤ length buf.old) × (drop n buf.new ≡ drop n buf.old)) }
     {
-        let size = u64::from(entry.field_type().byte_len());
-        let Some(len) = entry.count().checked_mul(size) else {
+        let Some(len) = len_of(entry) else {
             return Err(TiffError::LimitsExceeded);
         };
         if len <= at {
             return Ok(0);
         }
         let n = std::cmp::min(buf.len() as u64, len - at) as usize;
-        let value = entry.value();
-        if len <= offset_len(self.kind) {
-            let first = at as usize;
-            buf[..n].copy_from_slice(&value[first..first + n]);
-            return Ok(n);
-        }
-        let Some(offset) = offset_in(self.kind, self.order, value).checked_add(at) else {
-            return Err(TiffError::FormatError(TiffFormatError::InconsistentSizesEncountered));
-        };
-        read_exact_at(source, offset, &mut buf[..n])?;
+        self.fill_part(source, entry, at, &mut buf[..n])?;
         Ok(n)
     }
 }
