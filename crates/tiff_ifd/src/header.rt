@@ -1,7 +1,7 @@
 //! Reads the header of a file.
 
-ghost use Rattle.tiff_base.specs.Answers.{AnswersWithoutMemory, AsksOnly, IsKept};
-ghost use Rattle.tiff_base.specs.Header.{header_at, order_at};
+ghost use Rattle.tiff_base.specs.Answers.{AnswersWithoutMemory, AsksOnly, Gives, IsKept};
+ghost use Rattle.tiff_base.specs.Header.{big_at, header_at, header_of, order_at};
 ghost use Rattle.tiff_base.specs.SourceAndSink.{AreReadable};
 ghost use Rattle.tiff_ifd.specs.Stretches.{HeaderReadable};
 
@@ -39,6 +39,31 @@ fn read_order<R: Source>(source: &mut R) -> TiffResult<ByteOrder>
     }
 }
 
+// The header with the offset of its first directory. Returns `ImageFileDirectoryNotFound` for the
+// offset 0.
+fn header_from(order: ByteOrder, kind: FileKind, first: u64) -> TiffResult<FileHeader>
+    ensures { Gives (λ h. record { order = h.order; kind = h.kind; first = h.first }) result
+        (header_of order kind first) }
+{
+    if first == 0 {
+        return Err(TiffError::FormatError(TiffFormatError::ImageFileDirectoryNotFound));
+    }
+    Ok(FileHeader { order, kind, first })
+}
+
+// Reads what follows the version in a header of BigTIFF.
+fn read_big<R: Source>(source: &mut R, order: ByteOrder) -> TiffResult<FileHeader>
+    ensures kept { IsKept R.told R.failures result source.old source.new }
+    ensures answer { AnswersWithoutMemory (λ h. record { order = h.order; kind = h.kind; first = h.first })
+        result (big_at order (R.told source.old).bytes) (R.failures source.old) (R.failures source.new) }
+    ensures asked { AsksOnly (AreReadable (R.told source.old) 4 12) result }
+{
+    if read_u16_at(source, 4, order)? != 8 || read_u16_at(source, 6, order)? != 0 {
+        return Err(TiffError::FormatError(TiffFormatError::TiffSignatureNotFound));
+    }
+    header_from(order, FileKind::Big, read_u64_at(source, 8, order)?)
+}
+
 /// Reads the header at the start of the file. Returns `TiffSignatureNotFound` where the file does
 /// not begin with `II` or `MM`, or where the offset size and the reserved field of a BigTIFF header
 /// are not 8 and 0. Returns `TiffSignatureInvalid` where the version is neither 42 nor 43. Returns
@@ -53,21 +78,13 @@ pub fn read_header<R: Source>(source: &mut R) -> TiffResult<FileHeader>
 {
     let order = read_order(source)?;
     let version = read_u16_at(source, 2, order)?;
-    let (kind, first) = match version {
-        42 => (FileKind::Classic, u64::from(read_u32_at(source, 4, order)?)),
-        43 => {
-            if read_u16_at(source, 4, order)? != 8 {
-                return Err(TiffFormatError::TiffSignatureNotFound.into());
-            }
-            if read_u16_at(source, 6, order)? != 0 {
-                return Err(TiffFormatError::TiffSignatureNotFound.into());
-            }
-            (FileKind::Big, read_u64_at(source, 8, order)?)
-        }
-        _ => return Err(TiffFormatError::TiffSignatureInvalid.into()),
-    };
-    if first == 0 {
-        return Err(TiffFormatError::ImageFileDirectoryNotFound.into());
+    match version {
+        42 => header_from(
+            order,
+            FileKind::Classic,
+            u64::from(read_u32_at(source, 4, order)?),
+        ),
+        43 => read_big(source, order),
+        _ => Err(TiffError::FormatError(TiffFormatError::TiffSignatureInvalid)),
     }
-    Ok(FileHeader { order, kind, first })
 }
