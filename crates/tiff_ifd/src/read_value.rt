@@ -1,7 +1,7 @@
 //! Reads the values of fields.
 
 ghost use Rattle.std.specs.Prelude.{◌≡◌, ◌≤◌, ◌<◌, ◌*◌, ◌-◌, Ok, Err, None, if◌then◌else◌, ◌&&◌, length, slice_index, option_map, string_bytes};
-ghost use Rattle.std.specs.Int.{w8, w16, w32, w64};
+ghost use Rattle.std.specs.Int.{byte_len, w8, w16, w32, w64};
 ghost use Rattle.std.specs.List.{list_all, position_or_len, prefix_len, suffix_len};
 ghost use Rattle.std.specs.Str.{is_utf8};
 ghost use Rattle.tiff_base.specs.declared.error.TiffError.TheVariants as tiff;
@@ -11,6 +11,8 @@ ghost use Rattle.tiff_base.specs.Sparing.{AnswersWithin, GivesSparingly};
 ghost use Rattle.std.specs.FinMap.{get};
 ghost use Rattle.tiff_base.specs.Tags.{tag_number};
 ghost use Rattle.tiff_base.specs.Number.{number};
+ghost use Rattle.tiff_base.specs.Directory.{offset_width};
+ghost use Rattle.tiff_base.specs.FieldBytes.{field_len};
 ghost use Rattle.tiff_base.specs.Types.{type_size};
 ghost use Rattle.tiff_ifd.specs.PlainValue as f;
 ghost use Rattle.tiff_ifd.specs.View.{plain_value, plain_values};
@@ -22,7 +24,7 @@ ghost use Rattle.tiff_ifd.specs.Stretches.{FieldReadable, TagReadable};
 
 use crate::field_reader::FieldReader;
 use crate::limits::Limits;
-use crate::read_bytes::{offset_in, offset_len};
+use crate::read_bytes::{len_of, offset_in, offset_len};
 use crate::value::Value;
 use std::alloc::Global;
 use std::str;
@@ -301,12 +303,47 @@ pub(crate) fn is_allowed(limits: &Limits, field_type: Type, count: u64) -> bool
 }
 
 impl FieldReader<'_> {
+    // Reads the value of a field whose values are outside the entry. Returns the errors of
+    // `read_value`.
+    #[tactic(auto, using(crate::proofs::Within::value_within, crate::proofs::Within::read_within), unfolding(tiff_base::specs::FieldBytes::field_bytes))]
+    fn read_placed_value<R: Source>(
+        &self,
+        source: &mut R,
+        entry: &Entry,
+        len: u64,
+    ) -> TiffResult<Value>
+        requires len { len ≡ field_len entry.now }
+        requires some { 0 < entry.now.count }
+        requires elsewhere { byte_len (offset_width self.now.kind) < len }
+        ensures kept { IsKept R.told R.failures result source.old source.new }
+        ensures answer { AnswersWithin plain_value result
+            (value.placed_value self.now.kind self.now.order (R.told source.old).bytes
+            self.now.limits.now entry.now)
+            (R.failures source.old) (R.failures source.new) }
+        ensures asked { AsksOnly
+            (FieldReadable (R.told source.old) self.now.kind self.now.order entry.now) result }
+    {
+        let (field_type, count) = (entry.field_type(), entry.count());
+        if !is_allowed(self.limits, field_type, count) {
+            return Err(TiffError::LimitsExceeded);
+        }
+        let offset = offset_in(self.kind, self.order, entry.value());
+        let bytes = read_bytes_at(self.alloc, source, offset, len as usize)?;
+        let stored = StoredValues {
+            inline: false,
+            field_type,
+            order: self.order,
+            count,
+        };
+        value_from(self.alloc, stored, &bytes)
+    }
+
     /// Reads the value of a field. Returns `LimitsExceeded` for 2^64 bytes or more, and for values
     /// outside the entry that are more than the limits allow. Returns `IoError(UnexpectedEof)` for
     /// bytes past the end of the source. Returns `InvalidTag` for a text in the entry that does not
     /// end there, and for bytes that are no text. Allocates memory only for values within the
     /// limits and within the source, and for a value in the entry only where it is valid.
-    #[tactic(auto, using(crate::proofs::Within::value_within, crate::proofs::Within::read_within), unfolding(crate::specs::FieldValue::field_value, tiff_base::specs::FieldBytes::field_bytes))]
+    #[tactic(auto, unfolding(crate::specs::FieldValue::field_value))]
     pub fn read_value<R: Source>(&self, source: &mut R, entry: &Entry) -> TiffResult<Value>
         ensures kept { IsKept R.told R.failures result source.old source.new }
         ensures answer { let given
@@ -322,26 +359,19 @@ impl FieldReader<'_> {
         if count == 0 {
             return Ok(Value::List(Vec::new(self.alloc)));
         }
-        let field_type = entry.field_type();
-        let Some(len) = count.checked_mul(u64::from(field_type.byte_len())) else {
+        let Some(len) = len_of(entry) else {
             return Err(TiffError::LimitsExceeded);
         };
-        let field = entry.value();
+        if len > offset_len(self.kind) {
+            return self.read_placed_value(source, entry, len);
+        }
         let stored = StoredValues {
-            inline: len <= offset_len(self.kind),
-            field_type,
+            inline: true,
+            field_type: entry.field_type(),
             order: self.order,
             count,
         };
-        if stored.inline {
-            return value_from(self.alloc, stored, &field[..len as usize]);
-        }
-        if !is_allowed(self.limits, field_type, count) {
-            return Err(TiffError::LimitsExceeded);
-        }
-        let offset = offset_in(self.kind, self.order, field);
-        let bytes = read_bytes_at(self.alloc, source, offset, len as usize)?;
-        value_from(self.alloc, stored, &bytes)
+        value_from(self.alloc, stored, &entry.value()[..len as usize])
     }
 
     /// Reads the value of a tag. Returns `None` if the directory does not have the tag.
