@@ -1,30 +1,34 @@
 -- The conversion of unsigned numbers does not change them.
-use Rattle.std.proofs.Common.{◌≡◌, ◌∙◌, inl, inr, ℕ, zero, suc, ◌+◌, ◌*◌, ◌<◌, ◌≤◌, get_or, List, [], ◌∷◌, length, map, Bool, Result, Ok, Err, true, false, ◌==◌, refl, ap, sym, arith}
+use Rattle.std.proofs.Common.{◌≡◌, ◌∙◌, inl, inr, ℕ, zero, suc, ◌+◌, ◌*◌, ◌^◌, ◌<◌, ◌≤◌, get_or, List, [], ◌∷◌, length, map, Bool, Vec, Result, Ok, Err, true, false, ◌==◌, refl, ap, sym, subst, arith}
 use Rattle.std.proofs.lemmas.Bool.{ne_eqb}
 use Rattle.std.proofs.lemmas.List.{ext_get_or, take_all}
 use Rattle.std.proofs.lemmas.List.FromFn.{length-map-range_with_len, get_or-map-range_with_len}
 use Rattle.std.specs.List.{range_with_len}
 use Rattle.std.proofs.Math.Nat.{mul-le-mul_right}
-use Rattle.std.specs.Int.{w16, w32, w64}
+use Rattle.std.specs.Int.{byte_len, w16, w32, w64}
+use Rattle.std.specs.declared.alloc.Global.{Global}
+use Rattle.std.proofs.lemmas.Grind.{common_steps}
 use Rattle.std.specs.Prelude.{IsOk, if◌then◌else◌, is_ok}
 use Rattle.tiff_base.specs.declared.error.TiffError.{TiffError}
 use Rattle.tiff_base.specs.declared.error.TiffError.TheVariants.{LimitsExceeded}
 use Rattle.tiff_base.specs.declared.tags.FileKind.{FileKind}
 use Rattle.tiff_base.specs.Field.{Field}
-use Rattle.tiff_base.specs.FieldBytes.{field_bytes}
+use Rattle.tiff_base.specs.FieldBytes.{field_bytes, field_len}
+use Rattle.tiff_base.specs.Directory.{offset_width}
+use Rattle.tiff_base.specs.Sparing.{IsWithinLimits}
 use Rattle.tiff_base.specs.declared.tags.ByteOrder.{ByteOrder}
 use Rattle.tiff_base.specs.declared.tags.«Type».{«Type»}
 use Rattle.tiff_base.specs.declared.tags.«Type».TheVariants as t
-use Rattle.tiff_base.specs.Answers.{◌>>=◌}
+use Rattle.tiff_base.specs.Answers.{AnswersBut, ◌>>=◌}
 use Rattle.tiff_base.specs.Number.{number}
 use Rattle.tiff_base.specs.SourceAndSink.{bytes_at}
 use Rattle.tiff_base.specs.Types.{type_size}
 use Rattle.tiff_ifd.specs.PlainValue.{PlainValue, plain_value_list_of}
-use Rattle.tiff_ifd.specs.FieldValue.{is_allowed, placed_value, value_from}
+use Rattle.tiff_ifd.specs.FieldValue.{field_value, is_allowed, placed_value, value_from}
 use Rattle.tiff_ifd.specs.declared.limits.Limits.{Limits}
 use Rattle.tiff_ifd.specs.Into.{each_item, into_u64, into_u64_vec}
 use Rattle.tiff_ifd.specs.Item.{items, list_item}
-use Rattle.tiff_ifd.specs.Unsigned.{IsUnsigned, numbers_from, placed_numbers, unsigned_width}
+use Rattle.tiff_ifd.specs.Unsigned.{IsUnsigned, field_numbers, numbers_from, placed_numbers, unsigned_width}
 
 -- values that are one number each
 each_mapped : (f : ℕ → PlainValue) (g : ℕ → ℕ) → ((i : ℕ) → into_u64 (f i) ≡ Ok (g i)) → (xs : List ℕ) → each_item into_u64 (plain_value_list_of (map f xs)) ≡ Ok (map g xs)
@@ -96,6 +100,27 @@ pub placed_converted : (kind : FileKind) (order : ByteOrder) (bytes : List ℕ) 
     → (placed_value kind order bytes limits e >>= into_u64_vec) ≡ placed_numbers kind order bytes limits e
 placed_converted kind order bytes limits e =
     converted (is_allowed limits e.field_type e.count) (field_bytes kind order bytes e) LimitsExceeded (λ found. value_from false e.field_type order e.count found) into_u64_vec
+
+-- values of 2^64 bytes or more
+pub numbers_too_long : (kind : FileKind) (order : ByteOrder) (bytes : List ℕ) (limits : Limits) (e : Field) → (field_len e < 2 ^ 64 → ⊥)
+    → field_numbers kind order bytes limits e ≡ Err LimitsExceeded
+unfolding field_value
+numbers_too_long kind order bytes limits e long = grind (arith, common_steps, long)
+
+value_placed : (kind : FileKind) (order : ByteOrder) (bytes : List ℕ) (limits : Limits) (e : Field) → field_len e < 2 ^ 64 → byte_len (offset_width kind) < field_len e
+    → field_value kind order bytes limits e ≡ placed_value kind order bytes limits e
+unfolding field_value
+value_placed kind order bytes limits e short long = grind (arith, common_steps, short, long)
+
+-- the numbers of values outside the entry are the numbers of the field
+pub numbers_placed : (kind : FileKind) (order : ByteOrder) (bytes : List ℕ) (limits : Limits) (e : Field) (failed : Type 0) (r : Result (Vec ℕ Global) TiffError)
+    → field_len e < 2 ^ 64 → byte_len (offset_width kind) < field_len e
+    → AnswersBut (IsWithinLimits (placed_numbers kind order bytes limits e)) failed (λ v. v.items) r (placed_numbers kind order bytes limits e)
+    → AnswersBut (IsWithinLimits (field_numbers kind order bytes limits e)) failed (λ v. v.items) r (field_numbers kind order bytes limits e)
+numbers_placed kind order bytes limits e failed r short long h =
+    let same : field_numbers kind order bytes limits e ≡ placed_numbers kind order bytes limits e =
+    ap (λ (x : Result PlainValue TiffError). x >>= into_u64_vec) (value_placed kind order bytes limits e short long) ∙ placed_converted kind order bytes limits e in
+    subst (λ (given : Result (List ℕ) TiffError). AnswersBut (IsWithinLimits given) failed (λ (v : Vec ℕ Global). v.items) r given) (sym same) h
 
 -- a number's bytes are within those of all
 pub unit_within : (k n width : ℕ) → k < n → k * width + width ≤ n * width

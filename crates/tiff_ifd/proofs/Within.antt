@@ -1,5 +1,6 @@
 -- Values within all limits, whose bytes are in the source.
-use Rattle.std.proofs.Common.{◌≡◌, ℕ, List, ◌∷◌, Bool, true, false, Option, None, Some, Result, Ok, Err, refl}
+use Rattle.std.proofs.Common.{◌≡◌, ℕ, List, ◌∷◌, Bool, true, false, Option, None, Some, Vec, Result, Ok, Err, refl}
+use Rattle.std.specs.declared.alloc.Global.{Global}
 use Rattle.std.specs.Prelude.{IsOk, if◌then◌else◌}
 use Rattle.tiff_base.specs.declared.error.TiffError.{TiffError}
 use Rattle.tiff_base.specs.declared.error.TiffError.TheVariants.{FormatError, LimitsExceeded}
@@ -8,7 +9,7 @@ use Rattle.tiff_base.specs.declared.tags.ByteOrder.{ByteOrder}
 use Rattle.tiff_base.specs.declared.tags.FileKind.{FileKind}
 use Rattle.tiff_base.specs.declared.tags.«Type».{«Type»}
 use Rattle.tiff_base.specs.declared.tags.«Type».TheVariants as t
-use Rattle.tiff_base.specs.Answers.{IsCause, ◌>>=◌}
+use Rattle.tiff_base.specs.Answers.{AnswersBut, IsCause, ◌>>=◌}
 use Rattle.tiff_base.specs.Field.{Field}
 use Rattle.tiff_base.specs.Sparing.{IsFoundWithin, IsWithinLimits}
 use Rattle.tiff_base.proofs.Causes.{cause_along}
@@ -107,9 +108,18 @@ pub numbers_within : (d : PlainValue) → IsWithinLimits (into_u64_vec d)
 numbers_within (list ds) = each_within ds
 numbers_within _ = tt
 
--- an error of the numbers of a value that is read is not `LimitsExceeded`
-pub field_numbers_within : (inline : Bool) (given : Result PlainValue TiffError) → WantsValue inline given → IsWithinLimits (given >>= into_u64_vec)
-field_numbers_within inline given h = bound_within given into_u64_vec (wanted_within inline given h) numbers_within
+-- an error of a value that is read is one of its numbers
+pub numbers_refused : (inline : Bool) (given : Result PlainValue TiffError) (failed : Type 0) (e : TiffError) → IsCause (WantsValue inline given) failed e (given ≡ Err e)
+    → IsCause (IsWithinLimits (given >>= into_u64_vec)) failed e ((given >>= into_u64_vec) ≡ Err e)
+numbers_refused inline given failed e h =
+    cause_along e (λ w. bound_within given into_u64_vec (wanted_within inline given w) numbers_within) (λ f. f) (λ g. rw g refl) h
+
+-- the numbers of a value that is read
+pub numbers_answered : (given : Result PlainValue TiffError) (d : PlainValue) (failed : Type 0) (r : Result (Vec ℕ Global) TiffError) → given ≡ Ok d
+    → AnswersBut (Unit {0}) ⊥ (λ v. v.items) r (into_u64_vec d)
+    → AnswersBut (IsWithinLimits (given >>= into_u64_vec)) failed (λ v. v.items) r (given >>= into_u64_vec)
+numbers_answered given d failed (Ok v) s h = rw s h
+numbers_answered given d failed (Err e) s h = rw s (cause_along e (λ w. numbers_within d) (λ f. absurd f) (λ g. g) h)
 
 -- the numbers of bytes that are in the source
 pub placed_within : (type : «Type») (order : ByteOrder) (count : ℕ) (found : Result (List ℕ) TiffError) → IsOk found

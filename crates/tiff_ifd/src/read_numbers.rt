@@ -17,7 +17,7 @@ ghost use Rattle.tiff_ifd.specs.Stretches.{FieldReadable, TagReadable};
 ghost use Rattle.tiff_ifd.specs.Unsigned.{IsUnsigned, field_numbers, numbers_from, placed_numbers, unsigned_width};
 
 use crate::field_reader::FieldReader;
-use crate::read_bytes::{offset_in, offset_len};
+use crate::read_bytes::{len_of, offset_in, offset_len};
 use crate::read_value::{is_allowed, u16_of, u32_of, u64_of};
 use std::alloc::Global;
 use tiff_base::directory::{Directory, Entry};
@@ -141,7 +141,7 @@ impl FieldReader<'_> {
     /// Reads the numbers of a field, converted as by `Value::into_u64_vec`. Returns the errors of
     /// `read_value` and of `Value::into_u64_vec`. Allocates memory only within the limits and the
     /// source.
-    #[tactic(auto, using(crate::proofs::Unsigned::placed_converted, crate::proofs::Within::field_numbers_within, crate::proofs::Within::numbers_within), unfolding(crate::specs::FieldValue::field_value))]
+    #[tactic(auto, using(crate::proofs::Unsigned::numbers_too_long, crate::proofs::Unsigned::numbers_placed, crate::proofs::Within::numbers_refused, crate::proofs::Within::numbers_answered))]
     pub fn read_numbers<R: Source>(&self, source: &mut R, entry: &Entry) -> TiffResult<Vec<u64>>
         ensures kept { IsKept R.told R.failures result source.old source.new }
         ensures answer { AnswersWithin (λ v. v.items) result
@@ -151,11 +151,10 @@ impl FieldReader<'_> {
         ensures asked { AsksOnly
             (FieldReadable (R.told source.old) self.now.kind self.now.order entry.now) result }
     {
-        let field_type = entry.field_type();
-        let Some(len) = entry.count().checked_mul(u64::from(field_type.byte_len())) else {
+        let Some(len) = len_of(entry) else {
             return Err(TiffError::LimitsExceeded);
         };
-        if is_unsigned(field_type) && len > offset_len(self.kind) {
+        if is_unsigned(entry.field_type()) && len > offset_len(self.kind) {
             return self.read_placed(source, entry, len);
         }
         self.read_value(source, entry)?.into_u64_vec(self.alloc)
