@@ -74,7 +74,7 @@ module _ (kind : FileKind) (order : ByteOrder) (bytes : List ℕ) where
       → unless_met (offset ∷ reverse before.offsets) d.next ≡ Err e → NextIsRefused kind order bytes before e
   unentered before offset d e n h m = record { offset = offset; next = n; refused = told (reverse before.offsets) offset (Ok d) h ∙ m }
 
-  pub one_entered : (before after : Walked) (offset : ℕ) (d : DirectoryRecord) → before.next ≡ Some offset → directory_at kind order bytes offset ≡ Ok d
+  one_entered : (before after : Walked) (offset : ℕ) (d : DirectoryRecord) → before.next ≡ Some offset → directory_at kind order bytes offset ≡ Ok d
       → unless_met (offset ∷ reverse before.offsets) d.next ≡ Ok d.next → after ≡ record { offsets = before.offsets ++ offset ∷ []; next = d.next }
       → Enters kind order bytes before d after
   one_entered before after offset d n h m w =
@@ -147,19 +147,40 @@ module _ (kind : FileKind) (order : ByteOrder) (bytes : List ℕ) where
 
 -- ---- the facts that a step shows about the chain
 
+pub entered_by : (kind : FileKind) (order : ByteOrder) (bytes : List ℕ) (before after : Walked) (offset : ℕ) (d : DirectoryRecord) (next : Option ℕ)
+    → before.next ≡ Some offset → directory_at kind order bytes offset ≡ Ok d → next ≡ d.next → unless_met (offset ∷ reverse before.offsets) next ≡ Ok next
+    → after ≡ record { offsets = before.offsets ++ offset ∷ []; next = next } → Enters kind order bytes before d after
+entered_by kind order bytes before after offset d next n h e m w =
+    let P : Option ℕ → Type 0 = λ x. unless_met (offset ∷ reverse before.offsets) x ≡ Ok x in
+    let Q : Option ℕ → Type 0 = λ x. after ≡ record { offsets = before.offsets ++ offset ∷ []; next = x } in
+    one_entered kind order bytes before after offset d n h (subst P e m) (subst Q e w)
+
 pub begins_entered : (kind : FileKind) (order : ByteOrder) (bytes : List ℕ) (first : ℕ) (before after : Walked) (offset : ℕ) (d : DirectoryRecord) (next : Option ℕ)
     → before.next ≡ Some offset → directory_at kind order bytes offset ≡ Ok d → next ≡ d.next → unless_met (offset ∷ reverse before.offsets) next ≡ Ok next
     → after ≡ record { offsets = before.offsets ++ offset ∷ []; next = next } → ChainBegins kind order bytes first before → ChainBegins kind order bytes first after
 begins_entered kind order bytes first before after offset d next n h e m w b =
-    let P : Option ℕ → Type 0 = λ x. unless_met (offset ∷ reverse before.offsets) x ≡ Ok x in
-    let Q : Option ℕ → Type 0 = λ x. after ≡ record { offsets = before.offsets ++ offset ∷ []; next = x } in
-    begins_on kind order bytes first before after d (one_entered kind order bytes before after offset d n h (subst P e m) (subst Q e w)) b
+    begins_on kind order bytes first before after d (entered_by kind order bytes before after offset d next n h e m w) b
 
 -- a beginning of a file's chain is one for the same bytes
 pub begun_same : {seen bytes : List ℕ} (kind : FileKind) (order : ByteOrder) (first : ℕ) (before after : Walked) → seen ≡ bytes → ChainBegins kind order bytes first before
     → (ChainBegins kind order seen first before → ChainBegins kind order seen first after) → ChainBegins kind order bytes first after
 begun_same kind order first before after same b on =
     subst (λ (bs : List ℕ). ChainBegins kind order bs first after) same (on (subst (λ (bs : List ℕ). ChainBegins kind order bs first before) (sym same) b))
+
+-- an error of the next offset, where the walk stays
+pub refused_unread : (kind : FileKind) (order : ByteOrder) (bytes : List ℕ) (failed : Type 0) (before after : Walked) (offset : ℕ) (e : TiffError) → before.next ≡ Some offset → after ≡ before
+    → IsCause (Unit {0}) failed e (directory_at kind order bytes offset ≡ Err e)
+    → IsCause (after ≡ before) (failed × (after ≡ before)) e (NextIsRefused kind order bytes before e × (after ≡ before))
+refused_unread kind order bytes failed before after offset e n s h =
+    cause_along e (λ w. s) (λ f. (f, s)) (λ g. (unread kind order bytes before offset e n g, s)) h
+
+pub refused_unentered : (kind : FileKind) (order : ByteOrder) (bytes : List ℕ) (failed : Type 0) (before after : Walked) (offset : ℕ) (d : DirectoryRecord) (next : Option ℕ) (e : TiffError)
+    → before.next ≡ Some offset → directory_at kind order bytes offset ≡ Ok d → next ≡ d.next → after ≡ before
+    → IsCause (Unit {0}) ⊥ e (unless_met (offset ∷ reverse before.offsets) next ≡ Err e)
+    → IsCause (after ≡ before) (failed × (after ≡ before)) e (NextIsRefused kind order bytes before e × (after ≡ before))
+refused_unentered kind order bytes failed before after offset d next e n h l s c =
+    let P : Option ℕ → Type 0 = λ x. unless_met (offset ∷ reverse before.offsets) x ≡ Err e in
+    cause_along e (λ w. s) (λ f. absurd f) (λ g. (unentered kind order bytes before offset d e n h (subst P l g), s)) c
 
 pub cut_unread : (kind : FileKind) (order : ByteOrder) (bytes : List ℕ) (failed : Type 0) (walk : Walked) (offset : ℕ) (e : TiffError) → walk.next ≡ Some offset
     → IsCause (Unit {0}) failed e (directory_at kind order bytes offset ≡ Err e)

@@ -13,7 +13,7 @@ use Rattle.tiff_base.specs.Directory.{directory_at, link_offset, count_width, of
 use Rattle.tiff_base.specs.Field.{DirectoryRecord}
 use Rattle.tiff_base.specs.Number.{number_at}
 use Rattle.tiff_base.specs.SourceAndSink.{SourceRecord}
-use Rattle.tiff_ifd.proofs.Begun.{begins_entered, cut_unread, cut_unentered, grown, one_entered, one_longer, unentered, unread}
+use Rattle.tiff_ifd.proofs.Begun.{begins_entered, cut_unread, cut_unentered, entered_by, grown, one_longer, refused_unentered, refused_unread}
 use Rattle.tiff_ifd.proofs.Chain.{IsFalseBit}
 use Rattle.tiff_ifd.proofs.Entries.{number_past, some_bytes}
 use Rattle.tiff_ifd.specs.Chain.{Chain, IsLinkOfDirectory, chain, link_of, unless_met}
@@ -75,23 +75,25 @@ module _ (kind : FileKind) (order : ByteOrder) (bytes : List ℕ) where
 
   -- ---- a step that passes a directory
 
-  pub unlinked : (before : Walked) (offset : ℕ) (e : TiffError) → before.next ≡ Some offset → link_of kind order bytes offset ≡ Err e → NextIsRefused kind order bytes before e
-  unlinked before offset e n h = unread kind order bytes before offset e n (isnt_read offset e h)
+  pub refused_unlinked : (failed : Type 0) (before after : Walked) (offset : ℕ) (e : TiffError) → before.next ≡ Some offset → after ≡ before
+      → IsCause ⊥ failed e (link_of kind order bytes offset ≡ Err e)
+      → IsCause (after ≡ before) (failed × (after ≡ before)) e (NextIsRefused kind order bytes before e × (after ≡ before))
+  refused_unlinked failed before after offset e n s h =
+      refused_unread kind order bytes failed before after offset e n s (cause_along e (λ w. absurd w) (λ f. f) (λ g. isnt_read offset e g) h)
 
-  pub unpassed : (before : Walked) (offset : ℕ) (next : Option ℕ) (e : TiffError) → before.next ≡ Some offset → link_of kind order bytes offset ≡ Ok next
-      → unless_met (offset ∷ reverse before.offsets) next ≡ Err e → NextIsRefused kind order bytes before e
-  unpassed before offset next e n h m =
+  pub refused_unpassed : (failed : Type 0) (before after : Walked) (offset : ℕ) (next : Option ℕ) (e : TiffError) → before.next ≡ Some offset → link_of kind order bytes offset ≡ Ok next
+      → after ≡ before → IsCause (Unit {0}) ⊥ e (unless_met (offset ∷ reverse before.offsets) next ≡ Err e)
+      → IsCause (after ≡ before) (failed × (after ≡ before)) e (NextIsRefused kind order bytes before e × (after ≡ before))
+  refused_unpassed failed before after offset next e n h s c =
       let r = is_read offset next h in
-      unentered kind order bytes before offset r.0 e n r.1 (subst (λ (x : Option ℕ). unless_met (offset ∷ reverse before.offsets) x ≡ Err e) r.2 m)
+      refused_unentered kind order bytes failed before after offset r.0 next e n r.1 r.2 s c
 
   pub one_passed : (before after : Walked) (offset : ℕ) (next : Option ℕ) → before.next ≡ Some offset → link_of kind order bytes offset ≡ Ok next
       → unless_met (offset ∷ reverse before.offsets) next ≡ Ok next → after ≡ record { offsets = before.offsets ++ offset ∷ []; next = next }
       → StepsOver kind order bytes before true after
   one_passed before after offset next n h m w =
       let r = is_read offset next h in
-      let P : Option ℕ → Type 0 = λ x. unless_met (offset ∷ reverse before.offsets) x ≡ Ok x in
-      let Q : Option ℕ → Type 0 = λ x. after ≡ record { offsets = before.offsets ++ offset ∷ []; next = x } in
-      (r.0, one_entered kind order bytes before after offset r.0 n r.1 (subst P r.2 m) (subst Q r.2 w))
+      (r.0, entered_by kind order bytes before after offset r.0 next n r.1 r.2 m w)
 
   pub begins_passed : (first : ℕ) (before after : Walked) (offset : ℕ) (next : Option ℕ) → before.next ≡ Some offset → link_of kind order bytes offset ≡ Ok next
       → unless_met (offset ∷ reverse before.offsets) next ≡ Ok next → after ≡ record { offsets = before.offsets ++ offset ∷ []; next = next }

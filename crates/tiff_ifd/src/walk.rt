@@ -126,7 +126,6 @@ impl IfdChainWalk {
     /// offset. Returns `IoError(UnexpectedEof)` where the source ends inside the directory, and
     /// `FormatError(CycleInOffsets)` where its link leads to this offset or to an entered one. Also
     /// returns `OutOfMemory` and `IoError(Device)`. After an error the walk is unchanged.
-    #[tactic(auto, using(crate::proofs::Begun::unread, crate::proofs::Begun::unentered, crate::proofs::Begun::one_entered, crate::proofs::Begun::ends_none, crate::proofs::Begun::begins_entered, crate::proofs::Begun::cut_unread, crate::proofs::Begun::cut_unentered))]
     pub fn enter_next<R: Source>(
         &mut self,
         alloc: Global,
@@ -167,7 +166,6 @@ impl IfdChainWalk {
     // Enters the next offset, but reads only the count and the link of its directory. Returns true,
     // or false where there is no next offset. Returns the errors of `enter_next`; after an error
     // the walk is unchanged.
-    #[tactic(auto, using(crate::proofs::Passed::unlinked, crate::proofs::Passed::unpassed, crate::proofs::Passed::one_passed, crate::proofs::Begun::ends_none, crate::proofs::Passed::begins_passed, crate::proofs::Passed::cut_unlinked, crate::proofs::Passed::cut_unpassed))]
     fn pass_next<R: Source>(
         &mut self,
         source: &mut R,
