@@ -141,7 +141,6 @@ impl FieldReader<'_> {
     /// Reads the numbers of a field, converted as by `Value::into_u64_vec`. Returns the errors of
     /// `read_value` and of `Value::into_u64_vec`. Allocates memory only within the limits and the
     /// source.
-    #[tactic(auto, using(crate::proofs::Unsigned::numbers_too_long, crate::proofs::Unsigned::numbers_placed, crate::proofs::Within::numbers_refused, crate::proofs::Within::numbers_answered))]
     pub fn read_numbers<R: Source>(&self, source: &mut R, entry: &Entry) -> TiffResult<Vec<u64>>
         ensures kept { IsKept R.told R.failures result source.old source.new }
         ensures answer { AnswersWithin (λ v. v.items) result
