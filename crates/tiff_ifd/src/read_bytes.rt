@@ -124,7 +124,6 @@ impl FieldReader<'_> {
     /// Returns 0 where `at` is not below the number of bytes of the field. Returns `LimitsExceeded`
     /// for a field of 2^64 bytes or more, `InconsistentSizesEncountered` for an offset of 2^64 or
     /// more, and `IoError(UnexpectedEof)` where it copies bytes past the end of the source.
-    #[tactic(auto, unfolding(crate::specs::TagQueries::part_of_field))]
     pub fn read_part<R: Source>(
         &self,
         source: &mut R,
@@ -146,7 +145,7 @@ impl FieldReader<'_> {
         if len <= at {
             return Ok(0);
         }
-        let n = std::cmp::min(buf.len() as u64, len - at) as usize;
+        let n = (buf.len() as u64).min(len - at) as usize;
         self.fill_part(source, entry, at, &mut buf[..n])?;
         Ok(n)
     }
