@@ -10,6 +10,7 @@ mod Sames
 pub mod Followed
 mod MetAgain
 pub mod Begun
+mod Headers
 mod Parts
 mod Passed
 pub mod Unpacking
