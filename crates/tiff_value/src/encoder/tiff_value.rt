@@ -172,7 +172,84 @@ impl<T: TiffValue> TiffValue for &T {
     ghost sized = { λ x. T.sized x.now };
 }
 
-/// Several values of one type, in place of the Rust crate's `[T]` and `[T; N]`.
+impl<'a, T: TiffScalar> TiffValue for &'a [T] {
+    ghost use Rattle.std.specs.Prelude.{length, Ok};
+    ghost use Rattle.tiff_value.specs.Data.{data_of};
+    ghost use Rattle.tiff_value.specs.ValueLaws.{several};
+
+    ghost value_type = { T.value_type };
+
+    ghost value_count = { λ s. length s.now };
+
+    ghost field_data = { λ s. Ok (data_of (T.scalars s.now)) };
+
+    const BYTE_LEN: u8 = T::BYTE_LEN;
+
+    const FIELD_TYPE: Type = T::FIELD_TYPE;
+
+    fn type_and_len() -> (Type, u8)
+        ensures kind { result.0 ≡ T.value_type }
+        ensures len { result.1 ≡ type_size T.value_type }
+    {
+        T::type_and_len()
+    }
+
+    fn count(&self) -> usize {
+        self.len()
+    }
+
+    fn check(&self) -> TiffResult<()> {
+        Ok(())
+    }
+
+    #[tactic(auto, using(crate::proofs::Values::several_pushed))]
+    fn push_to(&self, out: &mut Vec<u8>) -> TiffResult<()> {
+        T::push_all(self, out)
+    }
+
+    ghost sized = { λ s. several T.value_type T.spelled T.scalars T.listed T.value_count T.field_data T.sized
+        T.alone s.now };
+}
+
+impl<T: TiffScalar, const N: usize> TiffValue for [T; N] {
+    ghost use Rattle.std.specs.Prelude.{length, Ok};
+    ghost use Rattle.tiff_value.specs.Data.{data_of};
+    ghost use Rattle.tiff_value.specs.ValueLaws.{several};
+
+    ghost value_type = { T.value_type };
+
+    ghost value_count = { λ xs. length xs };
+
+    ghost field_data = { λ xs. Ok (data_of (T.scalars xs)) };
+
+    const BYTE_LEN: u8 = T::BYTE_LEN;
+
+    const FIELD_TYPE: Type = T::FIELD_TYPE;
+
+    fn type_and_len() -> (Type, u8)
+        ensures kind { result.0 ≡ T.value_type }
+        ensures len { result.1 ≡ type_size T.value_type }
+    {
+        T::type_and_len()
+    }
+
+    fn count(&self) -> usize {
+        self.as_slice().count()
+    }
+
+    fn check(&self) -> TiffResult<()> {
+        self.as_slice().check()
+    }
+
+    fn push_to(&self, out: &mut Vec<u8>) -> TiffResult<()> {
+        self.as_slice().push_to(out)
+    }
+
+    ghost sized = { λ xs. several T.value_type T.spelled T.scalars T.listed T.value_count T.field_data T.sized
+        T.alone xs };
+}
+
+/// Several values of one type, as `&[T]` is too.
 #[derive(Drop)]
 pub struct Slice<'a, T>(pub &'a [T]);
 
@@ -199,24 +276,73 @@ impl<'a, T: TiffScalar> TiffValue for Slice<'a, T> {
     }
 
     fn count(&self) -> usize {
-        self.0.len()
+        self.0.count()
     }
 
     fn check(&self) -> TiffResult<()> {
-        Ok(())
+        self.0.check()
     }
 
-    #[tactic(auto, using(crate::proofs::Values::several_pushed))]
     fn push_to(&self, out: &mut Vec<u8>) -> TiffResult<()> {
-        T::push_all(self.0, out)
+        self.0.push_to(out)
     }
 
     ghost sized = { λ s. several T.value_type T.spelled T.scalars T.listed T.value_count T.field_data T.sized
         T.alone s.0.now };
 }
 
-/// A text of ASCII without a zero byte. The written value has a zero byte after it. This type is in
-/// place of the Rust crate's `str`.
+// The number of bytes of a character of a text.
+const CHARACTER_LEN: u8 = 1;
+
+impl<'a> TiffValue for &'a str {
+    ghost use Rattle.std.specs.Prelude.{length, ◌+◌};
+    ghost use Rattle.tiff_base.specs.declared.tags.«Type».TheVariants.{ASCII};
+    ghost use Rattle.tiff_value.specs.Data.{text_data};
+    ghost use Rattle.tiff_value.specs.ValueLaws.{text_value};
+
+    ghost value_type = { ASCII };
+
+    ghost value_count = { λ t. length t.now + 1 };
+
+    ghost field_data = { λ t. text_data t.now };
+
+    const BYTE_LEN: u8 = CHARACTER_LEN;
+
+    const FIELD_TYPE: Type = Type::ASCII;
+
+    fn type_and_len() -> (Type, u8)
+        ensures kind { result.0 ≡ Type.ASCII }
+        ensures len { result.1 ≡ type_size Type.ASCII }
+    {
+        (Self::FIELD_TYPE, Self::BYTE_LEN)
+    }
+
+    fn count(&self) -> usize {
+        self.len() + 1
+    }
+
+    #[tactic(auto, unfolding(crate::specs::Data::text_data))]
+    fn check(&self) -> TiffResult<()> {
+        if is_text(self.as_bytes()) {
+            Ok(())
+        } else {
+            Err(TiffError::FormatError(TiffFormatError::InvalidTag))
+        }
+    }
+
+    #[tactic(auto, unfolding(crate::specs::Data::text_data))]
+    fn push_to(&self, out: &mut Vec<u8>) -> TiffResult<()> {
+        self.check()?;
+        out.extend_from_slice(self.as_bytes())?;
+        out.push(0)?;
+        Ok(())
+    }
+
+    ghost sized = { λ t. text_value t.now };
+}
+
+/// A text of ASCII without a zero byte, as `&str` is too. The written value has a zero byte after
+/// it.
 #[derive(Drop)]
 pub struct Text<'a>(pub &'a str);
 
@@ -232,7 +358,7 @@ impl<'a> TiffValue for Text<'a> {
 
     ghost field_data = { λ t. text_data t.0.now };
 
-    const BYTE_LEN: u8 = 1;
+    const BYTE_LEN: u8 = CHARACTER_LEN;
 
     const FIELD_TYPE: Type = Type::ASCII;
 
@@ -244,24 +370,15 @@ impl<'a> TiffValue for Text<'a> {
     }
 
     fn count(&self) -> usize {
-        self.0.len() + 1
+        self.0.count()
     }
 
-    #[tactic(auto, unfolding(crate::specs::Data::text_data))]
     fn check(&self) -> TiffResult<()> {
-        if is_text(self.0.as_bytes()) {
-            Ok(())
-        } else {
-            Err(TiffError::FormatError(TiffFormatError::InvalidTag))
-        }
+        self.0.check()
     }
 
-    #[tactic(auto, unfolding(crate::specs::Data::text_data))]
     fn push_to(&self, out: &mut Vec<u8>) -> TiffResult<()> {
-        self.check()?;
-        out.extend_from_slice(self.0.as_bytes())?;
-        out.push(0)?;
-        Ok(())
+        self.0.push_to(out)
     }
 
     ghost sized = { λ t. text_value t.0.now };
