@@ -10,5 +10,6 @@ mod grays;
 mod names;
 mod numbers;
 mod octets;
+mod row_differences;
 pub mod tiff_value;
 pub mod writer;

@@ -1,5 +1,5 @@
 use Rattle.tiff_value.proofs.Lanes.{below_more}
-use Rattle.tiff_value.proofs.encoder.differences.all_below.Goals as goal
+use Rattle.tiff_value.proofs.encoder.row_differences.all_below.Goals as goal
 
 pub seen-preserved : goal.seen-preserved
 seen-preserved g c =

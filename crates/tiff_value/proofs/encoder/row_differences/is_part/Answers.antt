@@ -1,7 +1,7 @@
 use Rattle.std.proofs.Common.{◌^◌, ◌<◌, ◌∙◌, ℕ, Bool, MatchBool, inl, inr, subst, sym, arith}
 use Rattle.std.proofs.lemmas.Bool.Decides.{eqb_tells}
 use Rattle.tiff_value.specs.Differences.{IsPart}
-use Rattle.tiff_value.proofs.encoder.differences.is_part.Goals as goal
+use Rattle.tiff_value.proofs.encoder.row_differences.is_part.Goals as goal
 
 pub returns-then-end-at : goal.returns-then-end-at
 returns-then-end-at c = λ p. omega (arith, c.then-end-at.either, p.order, p.within)

@@ -1,7 +1,7 @@
 use Rattle.std.proofs.Common.{◌≡◌, ℕ, ◌+◌, ◌-◌, ◌*◌, subst, refl, arith}
 use borrow.Rule.Slice.PartMut.{put_mid}
 use Rattle.tiff_value.proofs.Lanes.{Upto, upto_first, upto_lanes, upto_one, upto_all}
-use Rattle.tiff_value.proofs.encoder.differences.less_all.Goals as goal
+use Rattle.tiff_value.proofs.encoder.row_differences.less_all.Goals as goal
 
 pub parts-init : goal.parts-init
 parts-init g c =

@@ -3,7 +3,7 @@ use Rattle.std.proofs.lemmas.List.{length-map, length-take-le, length-drop}
 use Rattle.tiff_base.specs.Types.{type_size}
 use Rattle.tiff_value.specs.ColorType.{sample_number}
 use Rattle.tiff_value.proofs.Bands.{put_behind, whole_part}
-use Rattle.tiff_value.proofs.encoder.differences.push_row_differences.Goals as goal
+use Rattle.tiff_value.proofs.encoder.row_differences.push_row_differences.Goals as goal
 
 pub returns : goal.returns
 returns g c =

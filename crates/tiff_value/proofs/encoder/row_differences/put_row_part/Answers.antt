@@ -2,7 +2,7 @@ use Rattle.std.proofs.Common.{◌≡◌, ℕ, ◌+◌, ◌-◌, ◌*◌, ◌<◌
 use borrow.Rule.Slice.PartMut.{put_mid}
 use Rattle.tiff_base.specs.Types.{type_size}
 use Rattle.tiff_value.proofs.Parts.{PutUpto, written, put_next, first_bytes, later_bytes}
-use Rattle.tiff_value.proofs.encoder.differences.put_row_part.Goals as goal
+use Rattle.tiff_value.proofs.encoder.row_differences.put_row_part.Goals as goal
 
 pub first-preserved : goal.first-preserved
 first-preserved g c =

@@ -1,5 +1,5 @@
 use Rattle.std.proofs.Common.{◌-◌, ◌*◌, ◌∙◌, ℕ, ap}
-use Rattle.tiff_value.proofs.encoder.differences.put_fitting_part.Goals as goal
+use Rattle.tiff_value.proofs.encoder.row_differences.put_fitting_part.Goals as goal
 
 pub put_row_part-requires-clause-order : goal.put_row_part-requires-clause-order
 put_row_part-requires-clause-order g c = (c.if-is_part.ensures.order, c.if-is_part.ensures.within)

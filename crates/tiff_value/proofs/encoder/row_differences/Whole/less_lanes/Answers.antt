@@ -1,6 +1,6 @@
 use Rattle.std.proofs.Common.{refl, arith}
 use Rattle.tiff_value.proofs.Lanes.{less_one, less_whole}
-use Rattle.tiff_value.proofs.encoder.differences.Whole.less_lanes.Goals as goal
+use Rattle.tiff_value.proofs.encoder.row_differences.Whole.less_lanes.Goals as goal
 
 pub each-init : goal.each-init
 each-init g c = record { long = c.requires.out; done = refl }
