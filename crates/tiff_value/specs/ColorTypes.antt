@@ -1,6 +1,6 @@
 -- What each color type says about its samples (TIFF 6.0 sections 4 to 6, 16, 19, 21; their names as
 -- in the Rust crate).
-use Rattle.std.specs.Prelude.{ℕ, ◌*◌, replicate}
+use Rattle.std.specs.Prelude.{ℕ, ◌*◌, List, [], ◌∷◌, replicate}
 use Rattle.tiff_base.specs.declared.tags.PhotometricInterpretation.{PhotometricInterpretation}
 use Rattle.tiff_base.specs.declared.tags.PhotometricInterpretation.TheVariants as meaning
 use Rattle.tiff_base.specs.declared.tags.SampleFormat.{SampleFormat}
@@ -92,6 +92,16 @@ form_of n.CMYK32Float = (CMYK, t.FLOAT)
 form_of n.CMYK64Float = (CMYK, t.DOUBLE)
 form_of n.YCbCr8 = (YCbCr, t.BYTE)
 form_of n.CMYKA8 = (CMYKA, t.BYTE)
+
+-- the color types, by their numbers from 0 on (the numbers are this project's)
+abbrev pub color_types : List ColorTypeName
+color_types =
+    n.Gray8 ∷ n.Gray16 ∷ n.Gray32 ∷ n.Gray64 ∷ n.GrayI8 ∷ n.GrayI16 ∷ n.GrayI32 ∷ n.GrayI64
+    ∷ n.Gray32Float ∷ n.Gray64Float
+    ∷ n.RGB8 ∷ n.RGB16 ∷ n.RGB32 ∷ n.RGB64 ∷ n.RGB32Float ∷ n.RGB64Float
+    ∷ n.RGBA8 ∷ n.RGBA16 ∷ n.RGBA32 ∷ n.RGBA64 ∷ n.RGBA32Float ∷ n.RGBA64Float
+    ∷ n.CMYK8 ∷ n.CMYK16 ∷ n.CMYK32 ∷ n.CMYK64 ∷ n.CMYK32Float ∷ n.CMYK64Float
+    ∷ n.YCbCr8 ∷ n.CMYKA8 ∷ []
 
 -- the interpretation, the numbers of bits and the sample formats of each color type
 unfoldable pub color_type : ColorTypeName → ColorTypeRecord

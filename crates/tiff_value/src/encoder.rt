@@ -1,6 +1,7 @@
 //! The parts that writers of files use.
 
 pub mod chunk;
+pub mod color_visitor;
 mod colors;
 pub mod colortype;
 pub mod compression;

@@ -4,13 +4,13 @@ ghost use Rattle.std.specs.Prelude.{◌≡◌, ◌^◌, ◌<◌, [], ◌∷◌};
 ghost use Rattle.tiff_base.specs.Number.{le};
 ghost use Rattle.tiff_base.specs.Types.{type_size};
 ghost use Rattle.tiff_value.specs.ColorType.{IsColorType, sample_number};
-ghost use Rattle.tiff_value.specs.ColorTypes.{color_type, inner_type, AreColorTypes};
+ghost use Rattle.tiff_value.specs.ColorTypes.{color_type, color_types, inner_type, AreColorTypes};
 ghost use Rattle.tiff_value.specs.Data.{DataIsWhole, TextIsWhole, data_of};
 ghost use Rattle.tiff_value.specs.Differences.{IsUndone};
 ghost use Rattle.tiff_value.specs.Packed.{PackedUnpacks};
 ghost use Rattle.tiff_value.specs.Values.{IsValue};
 
-use crate::encoder::colortype::{ColorType, NamedColorType};
+use crate::encoder::colortype::{ColorType, ColorTypeName, NamedColorType};
 use crate::encoder::differences::Sample;
 use crate::encoder::tiff_value::{TiffScalar, TiffValue};
 
@@ -39,6 +39,11 @@ pub fn scalar_is_single<T: TiffScalar>()
 /// What the name of each color type says is what a page can say about its samples.
 pub fn are_color_types()
     ensures { AreColorTypes }
+{}
+
+/// `ColorTypeName::ALL` lists the color types in the order of their numbers.
+pub fn are_all_color_types()
+    ensures { ColorTypeName.ALL ≡ color_types }
 {}
 
 /// What any color type says, with a name or without, is what a page can say about its samples.

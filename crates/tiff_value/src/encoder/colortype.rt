@@ -180,3 +180,39 @@ pub enum ColorTypeName {
     YCbCr8,
     CMYKA8,
 }
+
+impl ColorTypeName {
+    /// All names, in the order of the numbers that C uses for them, which start from 0.
+    pub const ALL: [ColorTypeName; 30] = [
+        ColorTypeName::Gray8,
+        ColorTypeName::Gray16,
+        ColorTypeName::Gray32,
+        ColorTypeName::Gray64,
+        ColorTypeName::GrayI8,
+        ColorTypeName::GrayI16,
+        ColorTypeName::GrayI32,
+        ColorTypeName::GrayI64,
+        ColorTypeName::Gray32Float,
+        ColorTypeName::Gray64Float,
+        ColorTypeName::RGB8,
+        ColorTypeName::RGB16,
+        ColorTypeName::RGB32,
+        ColorTypeName::RGB64,
+        ColorTypeName::RGB32Float,
+        ColorTypeName::RGB64Float,
+        ColorTypeName::RGBA8,
+        ColorTypeName::RGBA16,
+        ColorTypeName::RGBA32,
+        ColorTypeName::RGBA64,
+        ColorTypeName::RGBA32Float,
+        ColorTypeName::RGBA64Float,
+        ColorTypeName::CMYK8,
+        ColorTypeName::CMYK16,
+        ColorTypeName::CMYK32,
+        ColorTypeName::CMYK64,
+        ColorTypeName::CMYK32Float,
+        ColorTypeName::CMYK64Float,
+        ColorTypeName::YCbCr8,
+        ColorTypeName::CMYKA8,
+    ];
+}
