@@ -72,6 +72,12 @@ pub trait Sample: TiffScalar + Copy {
             (λ b. b.now ≡ flat_map (le (type_size Self.value_type))
             (map (sample_number (type_size Self.value_type) bits) samples.now)) };
 
+    /// Returns bytes as samples, without a copy, if each sample is one unsigned byte (`u8`). Returns
+    /// `None` for other samples.
+    fn from_bytes(bytes: &[u8]) -> Option<&[Self]>
+        ensures { IfSome result (λ samples. (type_size Self.value_type ≡ 1)
+            × (map (sample_number (type_size Self.value_type) bits) samples.now ≡ bytes.now)) };
+
     /// Shows each byte that the samples are written as. A witness that keeps nothing costs nothing.
     fn show_all<S: ByteWitness>(samples: &[Self], witness: &mut S)
         ensures { S.seen witness.new ≡ S.seen witness.old ++ flat_map Self.spelled samples.now };
@@ -128,6 +134,11 @@ impl Sample for u8 {
 
     fn as_bytes(samples: &[u8]) -> Option<&[u8]> {
         Some(samples)
+    }
+
+    #[tactic(auto, using(crate::proofs::Bytes::octets_alone))]
+    fn from_bytes(bytes: &[u8]) -> Option<&[u8]> {
+        Some(bytes)
     }
 
     fn show_all<S: ByteWitness>(samples: &[u8], witness: &mut S) {
@@ -188,6 +199,10 @@ impl Sample for i8 {
         None
     }
 
+    fn from_bytes(bytes: &[u8]) -> Option<&[i8]> {
+        None
+    }
+
     fn show_all<S: ByteWitness>(samples: &[i8], witness: &mut S) {
         show_numbers::<i8, 1, S>(samples, witness)
     }
@@ -241,6 +256,10 @@ impl Sample for u16 {
     }
 
     fn as_bytes(samples: &[u16]) -> Option<&[u8]> {
+        None
+    }
+
+    fn from_bytes(bytes: &[u8]) -> Option<&[u16]> {
         None
     }
 
@@ -302,6 +321,10 @@ impl Sample for i16 {
         None
     }
 
+    fn from_bytes(bytes: &[u8]) -> Option<&[i16]> {
+        None
+    }
+
     fn show_all<S: ByteWitness>(samples: &[i16], witness: &mut S) {
         show_numbers::<i16, 2, S>(samples, witness)
     }
@@ -355,6 +378,10 @@ impl Sample for u32 {
     }
 
     fn as_bytes(samples: &[u32]) -> Option<&[u8]> {
+        None
+    }
+
+    fn from_bytes(bytes: &[u8]) -> Option<&[u32]> {
         None
     }
 
@@ -416,6 +443,10 @@ impl Sample for i32 {
         None
     }
 
+    fn from_bytes(bytes: &[u8]) -> Option<&[i32]> {
+        None
+    }
+
     fn show_all<S: ByteWitness>(samples: &[i32], witness: &mut S) {
         show_numbers::<i32, 4, S>(samples, witness)
     }
@@ -469,6 +500,10 @@ impl Sample for u64 {
     }
 
     fn as_bytes(samples: &[u64]) -> Option<&[u8]> {
+        None
+    }
+
+    fn from_bytes(bytes: &[u8]) -> Option<&[u64]> {
         None
     }
 
@@ -530,6 +565,10 @@ impl Sample for i64 {
         None
     }
 
+    fn from_bytes(bytes: &[u8]) -> Option<&[i64]> {
+        None
+    }
+
     fn show_all<S: ByteWitness>(samples: &[i64], witness: &mut S) {
         show_numbers::<i64, 8, S>(samples, witness)
     }
@@ -582,6 +621,10 @@ impl Sample for Bits32 {
         None
     }
 
+    fn from_bytes(bytes: &[u8]) -> Option<&[Bits32]> {
+        None
+    }
+
     fn show_all<S: ByteWitness>(samples: &[Bits32], witness: &mut S) {
         show_numbers::<Bits32, 4, S>(samples, witness)
     }
@@ -631,6 +674,10 @@ impl Sample for Bits64 {
     }
 
     fn as_bytes(samples: &[Bits64]) -> Option<&[u8]> {
+        None
+    }
+
+    fn from_bytes(bytes: &[u8]) -> Option<&[Bits64]> {
         None
     }
 
