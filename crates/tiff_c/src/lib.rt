@@ -14,6 +14,7 @@ ghost use Rattle.tiff_statuses.specs.Writer as writer;
 ghost use Rattle.tiff_statuses.specs.Writer.{IsShown};
 
 use std::alloc::Global;
+use tiff_statuses::VERSION;
 use tiff_statuses::calls::{Chunks, Color, FieldSize, Layout, PageSamples, Sides};
 use tiff_statuses::jobs::JobsEnd;
 use tiff_statuses::list::ListedPage;
@@ -354,7 +355,7 @@ pub extern "C" fn tiff_write_jobs(
 /// is raised when a call changes or is added.
 #[unsafe(no_mangle)]
 pub extern "C" fn tiff_version() -> u32
-    ensures { result ≡ 2 }
+    ensures { result ≡ VERSION }
 {
     tiff_statuses::version()
 }

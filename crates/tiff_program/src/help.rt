@@ -1,5 +1,9 @@
 //! The help of the program, and its version.
 
+use std::alloc::Global;
+use tiff::TiffResult;
+use tiff_base::VERSION;
+
 /// Each command with its words, and what it does.
 pub const HELP: &str = "tiffpage: TIFF and BigTIFF pages
 
@@ -20,6 +24,7 @@ pub const HELP: &str = "tiffpage: TIFF and BigTIFF pages
   --version              prints the version
 ";
 
-/// The line of the version, which is the version of the calls for C: `MANGOHATCH_TIFF_VERSION` of
-/// their header.
-pub const VERSION: &str = "tiffpage 2\n";
+/// Returns the line of the version, which is the version of the calls for C.
+pub fn version_line(alloc: Global) -> TiffResult<String> {
+    Ok(format!(in alloc; "tiffpage {}\n", VERSION)?)
+}

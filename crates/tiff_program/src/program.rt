@@ -6,7 +6,7 @@ ghost use Rattle.tiff_program.specs.AtPage.{limits_for};
 use crate::calls::replies_to;
 use crate::command::{Command, parse};
 use crate::files::Files;
-use crate::help::{HELP, VERSION};
+use crate::help::{HELP, version_line};
 use crate::jobs::{Written, write_by};
 use crate::list::{file_check, file_list};
 use crate::listing::page_tags;
@@ -296,7 +296,7 @@ fn execute<'a, F: Files>(
             keep_going,
         } => job_replies(alloc, output, (kind, keep_going), files),
         Command::Help => told_text(alloc, HELP),
-        Command::Version => told_text(alloc, VERSION),
+        Command::Version => Ok(told(version_line(alloc)?)),
     }
 }
 

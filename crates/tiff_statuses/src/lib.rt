@@ -18,6 +18,7 @@ ghost use Rattle.tiff_statuses.specs.Writer as writer;
 ghost use Rattle.tiff_statuses.specs.Writer.{IsShown};
 
 use std::alloc::Global;
+pub use tiff_base::VERSION;
 
 pub mod calls;
 mod frame;
@@ -339,9 +340,9 @@ pub fn write_jobs(
 /// Returns the version of these calls, which is `MANGOHATCH_TIFF_VERSION` of the header for C. It
 /// is raised when a call changes or is added.
 pub fn version() -> u32
-    ensures { result ≡ 2 }
+    ensures { result ≡ VERSION }
 {
-    2
+    VERSION
 }
 
 /// Writes the text of a status into `buffer`, as much of it as fits, and returns how many bytes the
