@@ -2,6 +2,8 @@
 
 use crate::digits::bytes_of;
 use std::alloc::{AllocError, AllocFailed, Global};
+use std::fmt;
+use std::fmt::Write;
 use tiff_base::tags::{
     Bits32, Bits64, ByteOrder, CompressionMethod, ExtraSamples, PhotometricInterpretation,
     PlanarConfiguration, Predictor, ResolutionUnit, SampleFormat, Tag, Type,
@@ -208,66 +210,41 @@ impl FromWord for Compression {
     }
 }
 
-// A color type of one sample.
-fn gray_name(word: &str) -> Option<ColorTypeName> {
-    match word {
-        "Gray8" => Some(ColorTypeName::Gray8),
-        "Gray16" => Some(ColorTypeName::Gray16),
-        "Gray32" => Some(ColorTypeName::Gray32),
-        "Gray64" => Some(ColorTypeName::Gray64),
-        "GrayI8" => Some(ColorTypeName::GrayI8),
-        "GrayI16" => Some(ColorTypeName::GrayI16),
-        "GrayI32" => Some(ColorTypeName::GrayI32),
-        "GrayI64" => Some(ColorTypeName::GrayI64),
-        "Gray32Float" => Some(ColorTypeName::Gray32Float),
-        "Gray64Float" => Some(ColorTypeName::Gray64Float),
-        _ => None,
+// What is left of a word when texts that are written are taken off its front; `None` if one of them
+// isn't there.
+#[derive(Drop)]
+struct RestOfWord<'a>(Option<&'a str>);
+
+impl<'a> fmt::Write for RestOfWord<'a> {
+    fn write_str(&mut self, text: &str) -> fmt::Result {
+        self.0 = match self.0 {
+            Some(word) => word.strip_prefix(text),
+            None => None,
+        };
+        Ok(())
     }
 }
 
-// A color type of red, green and blue.
-fn rgb_name(word: &str) -> Option<ColorTypeName> {
-    match word {
-        "RGB8" => Some(ColorTypeName::RGB8),
-        "RGB16" => Some(ColorTypeName::RGB16),
-        "RGB32" => Some(ColorTypeName::RGB32),
-        "RGB64" => Some(ColorTypeName::RGB64),
-        "RGB32Float" => Some(ColorTypeName::RGB32Float),
-        "RGB64Float" => Some(ColorTypeName::RGB64Float),
-        "RGBA8" => Some(ColorTypeName::RGBA8),
-        "RGBA16" => Some(ColorTypeName::RGBA16),
-        "RGBA32" => Some(ColorTypeName::RGBA32),
-        "RGBA64" => Some(ColorTypeName::RGBA64),
-        "RGBA32Float" => Some(ColorTypeName::RGBA32Float),
-        "RGBA64Float" => Some(ColorTypeName::RGBA64Float),
-        _ => None,
+// Whether a word is the name of a color type.
+fn is_name(word: &str, name: ColorTypeName) -> bool {
+    let mut rest = RestOfWord(Some(word));
+    if write!(rest, "{name:?}").is_err() {
+        return false;
     }
-}
-
-// A color type of inks or of luminance.
-fn print_name(word: &str) -> Option<ColorTypeName> {
-    match word {
-        "CMYK8" => Some(ColorTypeName::CMYK8),
-        "CMYK16" => Some(ColorTypeName::CMYK16),
-        "CMYK32" => Some(ColorTypeName::CMYK32),
-        "CMYK64" => Some(ColorTypeName::CMYK64),
-        "CMYK32Float" => Some(ColorTypeName::CMYK32Float),
-        "CMYK64Float" => Some(ColorTypeName::CMYK64Float),
-        "YCbCr8" => Some(ColorTypeName::YCbCr8),
-        "CMYKA8" => Some(ColorTypeName::CMYKA8),
-        _ => None,
+    match rest.0 {
+        Some(left) => left.is_empty(),
+        None => false,
     }
 }
 
 impl FromWord for ColorTypeName {
     fn from_word(word: &str) -> Option<ColorTypeName> {
-        if let Some(name) = gray_name(word) {
-            return Some(name);
+        for name in ColorTypeName::ALL {
+            if is_name(word, name) {
+                return Some(name);
+            }
         }
-        if let Some(name) = rgb_name(word) {
-            return Some(name);
-        }
-        print_name(word)
+        None
     }
 }
 
