@@ -1,5 +1,5 @@
 -- What the library writes for an image that C passes: a file, or the first error.
-use Rattle.std.specs.Prelude.{◌≡◌, ◌⊎◌, ℕ, ◌<◌, ◌≤◌, ◌*◌, ◌%◌, ◌^◌, ◌==◌, ◌++◌, List, [], ◌∷◌, length, take, drop, slice_get, if◌then◌else◌, false, Option, None, Some, Result, Ok, Err, IfOk}
+use Rattle.std.specs.Prelude.{◌≡◌, ◌⊎◌, ℕ, ◌<◌, ◌≤◌, ◌*◌, ◌%◌, ◌^◌, ◌==◌, ◌++◌, List, [], length, take, drop, slice_get, if◌then◌else◌, false, Option, None, Some, Result, Ok, Err, IfOk}
 use Rattle.tiff_base.specs.declared.error.TiffError.{TiffError}
 use Rattle.tiff_base.specs.declared.error.TiffError.TheVariants.{FormatError, UnsupportedError, IoError, UsageError, OutOfMemory}
 use Rattle.tiff_base.specs.declared.error.TiffFormatError.TheVariants.{TiffSignatureInvalid, UnknownPredictor}
@@ -13,8 +13,7 @@ use Rattle.tiff_base.specs.declared.tags.Predictor.TheVariants as predictor
 use Rattle.tiff_base.specs.Answers.{◌>>=◌}
 use Rattle.tiff_base.specs.Tags.{method_of, predictor_of}
 use Rattle.tiff_value.specs.declared.encoder.colortype.ColorTypeName.{ColorTypeName}
-use Rattle.tiff_value.specs.declared.encoder.colortype.ColorTypeName.TheVariants.{Gray8, Gray16, Gray32, Gray64, GrayI8, GrayI16, GrayI32, GrayI64, Gray32Float, Gray64Float, RGB8, RGB16, RGB32, RGB64, RGB32Float, RGB64Float, RGBA8, RGBA16, RGBA32, RGBA64, RGBA32Float, RGBA64Float, CMYK8, CMYK16, CMYK32, CMYK64, CMYK32Float, CMYK64Float, YCbCr8, CMYKA8}
-use Rattle.tiff_value.specs.ColorTypes.{color_type, inner_size, inner_type}
+use Rattle.tiff_value.specs.ColorTypes.{color_type, color_types, inner_size, inner_type}
 use Rattle.tiff_ifd.specs.TagLookup.{ok_or_fault}
 use Rattle.tiff_page.specs.Pixels.{numbers_in}
 use Rattle.tiff_encode.specs.declared.encoder.settings.Compression.{Compression}
@@ -34,15 +33,6 @@ use Rattle.tiff_statuses.specs.Status.{fault_number}
 -- the kind of file with this version in its header
 abbrev pub kind_of : ℕ → Option FileKind
 kind_of n = if n == 42 then Some Classic else if n == 43 then Some Big else None
-
--- the color types, by their numbers from 0 on
-abbrev pub color_types : List ColorTypeName
-color_types =
-    Gray8 ∷ Gray16 ∷ Gray32 ∷ Gray64 ∷ GrayI8 ∷ GrayI16 ∷ GrayI32 ∷ GrayI64 ∷ Gray32Float
-    ∷ Gray64Float
-    ∷ RGB8 ∷ RGB16 ∷ RGB32 ∷ RGB64 ∷ RGB32Float ∷ RGB64Float
-    ∷ RGBA8 ∷ RGBA16 ∷ RGBA32 ∷ RGBA64 ∷ RGBA32Float ∷ RGBA64Float
-    ∷ CMYK8 ∷ CMYK16 ∷ CMYK32 ∷ CMYK64 ∷ CMYK32Float ∷ CMYK64Float ∷ YCbCr8 ∷ CMYKA8 ∷ []
 
 -- the compression with this number of a method
 abbrev pub packing_of : ℕ → Option Compression

@@ -4,6 +4,7 @@ ghost use Rattle.std.specs.Prelude.{◌≡◌, ◌*◌, ◌%◌, ◌^◌, ◌<�
 ghost use Rattle.tiff_base.specs.declared.tags.CompressionMethod.TheVariants as method;
 ghost use Rattle.tiff_base.specs.Types.{type_size};
 ghost use Rattle.tiff_value.specs.ColorType.{sample_number};
+ghost use Rattle.tiff_value.specs.ColorTypes.{color_types};
 ghost use Rattle.tiff_page.specs.Pixels.{numbers_in};
 ghost use Rattle.tiff_decode.specs.NextState.{view_of_result};
 ghost use Rattle.tiff_statuses.specs.Writer as writer;
@@ -21,18 +22,14 @@ use tiff_base::tags::{CompressionMethod, FileKind, Predictor};
 use tiff_encode::encoder::{
     Compression, ImageEncoder, TiffEncoder, TiffKind, TiffKindBig, TiffKindStandard,
 };
-use tiff_value::encoder::colortype::{
-    CMYK8, CMYK16, CMYK32, CMYK32Float, CMYK64, CMYK64Float, CMYKA8, ColorType, ColorTypeName,
-    Gray8, Gray16, Gray32, Gray32Float, Gray64, Gray64Float, GrayI8, GrayI16, GrayI32, GrayI64,
-    NamedColorType, RGB8, RGB16, RGB32, RGB32Float, RGB64, RGB64Float, RGBA8, RGBA16, RGBA32,
-    RGBA32Float, RGBA64, RGBA64Float, YCbCr8,
-};
+use tiff_value::encoder::color_visitor::{ColorVisitor, by_name};
+use tiff_value::encoder::colortype::{ColorType, ColorTypeName, NamedColorType};
 use tiff_value::encoder::differences::Sample;
 use tiff_value::encoder::tiff_value::TiffValue;
 
-/// How to write an image, by the numbers of TIFF: the color type by its number in `COLOR_TYPES`,
-/// the width and the height in pixels, the version of the header, and the values of the tags
-/// Compression and Predictor.
+/// How to write an image, by the numbers of TIFF: the color type by its number in
+/// `ColorTypeName::ALL`, the width and the height in pixels, the version of the header, and the
+/// values of the tags Compression and Predictor.
 #[derive(Clone, Copy, Debug, PartialEq, Eq)]
 #[repr(C)]
 pub struct NewImage {
@@ -53,40 +50,6 @@ pub struct Settings {
     pub predictor: Predictor,
 }
 
-// The color types, in the order of their numbers for C.
-const COLOR_TYPES: [ColorTypeName; 30] = [
-    ColorTypeName::Gray8,
-    ColorTypeName::Gray16,
-    ColorTypeName::Gray32,
-    ColorTypeName::Gray64,
-    ColorTypeName::GrayI8,
-    ColorTypeName::GrayI16,
-    ColorTypeName::GrayI32,
-    ColorTypeName::GrayI64,
-    ColorTypeName::Gray32Float,
-    ColorTypeName::Gray64Float,
-    ColorTypeName::RGB8,
-    ColorTypeName::RGB16,
-    ColorTypeName::RGB32,
-    ColorTypeName::RGB64,
-    ColorTypeName::RGB32Float,
-    ColorTypeName::RGB64Float,
-    ColorTypeName::RGBA8,
-    ColorTypeName::RGBA16,
-    ColorTypeName::RGBA32,
-    ColorTypeName::RGBA64,
-    ColorTypeName::RGBA32Float,
-    ColorTypeName::RGBA64Float,
-    ColorTypeName::CMYK8,
-    ColorTypeName::CMYK16,
-    ColorTypeName::CMYK32,
-    ColorTypeName::CMYK64,
-    ColorTypeName::CMYK32Float,
-    ColorTypeName::CMYK64Float,
-    ColorTypeName::YCbCr8,
-    ColorTypeName::CMYKA8,
-];
-
 // Room for what a file of few strips has besides its samples. A file of more strips allocates more
 // as it grows.
 const FRAME: usize = 4096;
@@ -102,16 +65,19 @@ pub fn kind_of(version: u16) -> Option<FileKind>
     }
 }
 
+// The item of a list with this number, if there is one.
+fn item_at<T: Copy>(items: &[T], number: u32) -> Option<T>
+    ensures { result ≡ slice_get items.now number }
+{
+    let item = items.get(number as usize)?;
+    Some(*item)
+}
+
 // The color type of a number, if there is one.
 fn color_of(number: u32) -> Option<ColorTypeName>
-    ensures { result ≡ slice_get writer.color_types number }
+    ensures { result ≡ slice_get color_types number }
 {
-    let number = number as usize;
-    if number < COLOR_TYPES.len() {
-        Some(COLOR_TYPES[number])
-    } else {
-        None
-    }
+    item_at(&ColorTypeName::ALL, number)
 }
 
 // The compression of the number of a method, if this library writes that method.
@@ -402,62 +368,68 @@ fn write_pieces<'a, K: TiffKind, C: NamedColorType, U: Number<N>, const N: usize
     write_samples::<K, C>(alloc, settings, image, &samples, bytes)
 }
 
-// A file of one image, written from little-endian samples, of the color type that the settings
-// name.
-#[tactic(auto, using(crate::proofs::Octets::octets_are), unfolding(tiff_value::specs::ColorTypes::inner_type))]
-fn write_named<'a, K: TiffKind>(
+// A file of one image of the color type `C`, written from little-endian samples.
+#[tactic(auto, using(crate::proofs::Octets::octets_are, crate::proofs::Octets::octets_whole, crate::proofs::Octets::eight_left))]
+fn write_color<'a, K: TiffKind, C: NamedColorType>(
     alloc: Global,
-    s: &Settings,
+    settings: &Settings,
     image: &NewImage,
     bytes: &'a [u8],
 ) -> TiffResult<NewFile<'a>>
-    requires { s.now.kind ≡ K.kind }
-    ensures { WritesBytes s.now image.now.width image.now.height (writer.samples_from_bytes s.now.color bytes.now)
+    requires kind { settings.now.kind ≡ K.kind }
+    requires named { settings.now.color ≡ C.name }
+    ensures { WritesBytes settings.now image.now.width image.now.height
+        (writer.samples_from_bytes settings.now.color bytes.now)
         (view_of_result file_of result) }
 {
-    match s.color {
-        ColorTypeName::Gray8 => write_octets::<K, Gray8>(alloc, s, image, bytes, bytes),
-        ColorTypeName::Gray16 => write_pieces::<K, Gray16, u16, 2>(alloc, s, image, bytes),
-        ColorTypeName::Gray32 => write_pieces::<K, Gray32, u32, 4>(alloc, s, image, bytes),
-        ColorTypeName::Gray64 => write_pieces::<K, Gray64, u64, 8>(alloc, s, image, bytes),
-        ColorTypeName::GrayI8 => write_pieces::<K, GrayI8, u8, 1>(alloc, s, image, bytes),
-        ColorTypeName::GrayI16 => write_pieces::<K, GrayI16, u16, 2>(alloc, s, image, bytes),
-        ColorTypeName::GrayI32 => write_pieces::<K, GrayI32, u32, 4>(alloc, s, image, bytes),
-        ColorTypeName::GrayI64 => write_pieces::<K, GrayI64, u64, 8>(alloc, s, image, bytes),
-        ColorTypeName::Gray32Float => write_pieces::<K, Gray32Float, u32, 4>(
-            alloc, s, image, bytes,
-        ),
-        ColorTypeName::Gray64Float => write_pieces::<K, Gray64Float, u64, 8>(
-            alloc, s, image, bytes,
-        ),
-        ColorTypeName::RGB8 => write_octets::<K, RGB8>(alloc, s, image, bytes, bytes),
-        ColorTypeName::RGB16 => write_pieces::<K, RGB16, u16, 2>(alloc, s, image, bytes),
-        ColorTypeName::RGB32 => write_pieces::<K, RGB32, u32, 4>(alloc, s, image, bytes),
-        ColorTypeName::RGB64 => write_pieces::<K, RGB64, u64, 8>(alloc, s, image, bytes),
-        ColorTypeName::RGB32Float => write_pieces::<K, RGB32Float, u32, 4>(alloc, s, image, bytes),
-        ColorTypeName::RGB64Float => write_pieces::<K, RGB64Float, u64, 8>(alloc, s, image, bytes),
-        ColorTypeName::RGBA8 => write_octets::<K, RGBA8>(alloc, s, image, bytes, bytes),
-        ColorTypeName::RGBA16 => write_pieces::<K, RGBA16, u16, 2>(alloc, s, image, bytes),
-        ColorTypeName::RGBA32 => write_pieces::<K, RGBA32, u32, 4>(alloc, s, image, bytes),
-        ColorTypeName::RGBA64 => write_pieces::<K, RGBA64, u64, 8>(alloc, s, image, bytes),
-        ColorTypeName::RGBA32Float => write_pieces::<K, RGBA32Float, u32, 4>(
-            alloc, s, image, bytes,
-        ),
-        ColorTypeName::RGBA64Float => write_pieces::<K, RGBA64Float, u64, 8>(
-            alloc, s, image, bytes,
-        ),
-        ColorTypeName::CMYK8 => write_octets::<K, CMYK8>(alloc, s, image, bytes, bytes),
-        ColorTypeName::CMYK16 => write_pieces::<K, CMYK16, u16, 2>(alloc, s, image, bytes),
-        ColorTypeName::CMYK32 => write_pieces::<K, CMYK32, u32, 4>(alloc, s, image, bytes),
-        ColorTypeName::CMYK64 => write_pieces::<K, CMYK64, u64, 8>(alloc, s, image, bytes),
-        ColorTypeName::CMYK32Float => write_pieces::<K, CMYK32Float, u32, 4>(
-            alloc, s, image, bytes,
-        ),
-        ColorTypeName::CMYK64Float => write_pieces::<K, CMYK64Float, u64, 8>(
-            alloc, s, image, bytes,
-        ),
-        ColorTypeName::YCbCr8 => write_octets::<K, YCbCr8>(alloc, s, image, bytes, bytes),
-        ColorTypeName::CMYKA8 => write_octets::<K, CMYKA8>(alloc, s, image, bytes, bytes),
+    if let Some(samples) = C::Inner::from_bytes(bytes) {
+        return write_octets::<K, C>(alloc, settings, image, samples, bytes);
+    }
+    let (_ty, size) = C::Inner::type_and_len();
+    match size {
+        1 => write_pieces::<K, C, u8, 1>(alloc, settings, image, bytes),
+        2 => write_pieces::<K, C, u16, 2>(alloc, settings, image, bytes),
+        4 => write_pieces::<K, C, u32, 4>(alloc, settings, image, bytes),
+        _ => write_pieces::<K, C, u64, 8>(alloc, settings, image, bytes),
+    }
+}
+
+// An image, how it is written, and its samples as bytes.
+struct GivenImage<'a> {
+    alloc: Global,
+    settings: Settings,
+    image: NewImage,
+    bytes: &'a [u8],
+}
+
+// Writes a file of an image of a color type.
+struct WritesColor;
+
+impl<'a> ColorVisitor<(), GivenImage<'a>, TiffResult<NewFile<'a>>> for WritesColor {
+    ghost use Rattle.std.specs.Prelude.{◌≡◌};
+    ghost use Rattle.tiff_decode.specs.NextState.{view_of_result};
+    ghost use Rattle.tiff_statuses.specs.Frame.{file_of};
+    ghost use Rattle.tiff_statuses.specs.Writer.{WritesBytes, samples_from_bytes};
+
+    ghost takes = { λ name _ given. given.settings.color ≡ name };
+
+    ghost visits = { λ _ _ given answer _. WritesBytes given.settings given.image.width given.image.height
+        (samples_from_bytes given.settings.color given.bytes.now)
+        (view_of_result file_of answer) };
+
+    fn visit<C: NamedColorType>(_none: &mut (), given: GivenImage<'a>) -> TiffResult<NewFile<'a>> {
+        let GivenImage {
+            alloc,
+            settings,
+            image,
+            bytes,
+        } = given;
+        match settings.kind {
+            FileKind::Classic => write_color::<TiffKindStandard, C>(
+                alloc, &settings, &image, bytes,
+            ),
+            FileKind::Big => write_color::<TiffKindBig, C>(alloc, &settings, &image, bytes),
+        }
     }
 }
 
@@ -470,10 +442,13 @@ pub fn write_new<'a>(alloc: Global, image: &NewImage, bytes: &'a [u8]) -> TiffRe
     ensures { WritesNew image.now bytes.now (view_of_result file_of result) }
 {
     let settings = settings_of(image)?;
-    match settings.kind {
-        FileKind::Classic => write_named::<TiffKindStandard>(alloc, &settings, image, bytes),
-        FileKind::Big => write_named::<TiffKindBig>(alloc, &settings, image, bytes),
-    }
+    let given = GivenImage {
+        alloc,
+        settings,
+        image: *image,
+        bytes,
+    };
+    by_name::<_, _, _, WritesColor>(settings.color, &mut (), given)
 }
 
 // Puts a file at the front of a buffer if the file fits; else the buffer stays. Returns the status.
