@@ -298,6 +298,14 @@ static void try_color(uint32_t color) {
         }
 }
 
+/* Whether a number is that of a color type. No other number of this image is refused so. */
+static _Bool is_color(uint32_t color) {
+    static const uint8_t sample;
+    struct input on = {
+        .name = "an image", .file = &sample, .len = 1, .image = {color, 1, 1, TIFF_CLASSIC, TIFF_UNCOMPRESSED, TIFF_NO_PREDICTOR}};
+    return made(&writer, &on, &got, 0, 0) != TIFF_INVALID_INPUT;
+}
+
 /* Jobs, in a buffer with room and in one without. */
 static void try_jobs(const struct call *call) {
     for (uint16_t version = TIFF_CLASSIC; version <= TIFF_BIG; version++)
@@ -314,7 +322,10 @@ int main(int argc, char **argv) {
         for (int at = 1; at < argc; at++) try_pages(&readers[call], argv[at]);
         tell(&readers[call]);
     }
-    for (uint32_t color = TIFF_GRAY8; color <= TIFF_CMYKA8 + 1; color++) try_color(color);
+    /* each color, and the first number that is none */
+    uint32_t color = TIFF_GRAY8;
+    do try_color(color);
+    while (is_color(color++));
     tell(&writer);
     for (size_t call = 0; call < sizeof job_writers / sizeof *job_writers; call++) {
         try_jobs(&job_writers[call]);
