@@ -22,12 +22,8 @@ use crate::encoder::settings::Compression;
 use tiff_base::error::{TiffError, TiffResult, UsageError};
 use tiff_base::io::Sink;
 use tiff_base::tags::Predictor;
-use tiff_value::encoder::colortype::{
-    CMYK8, CMYK16, CMYK32, CMYK32Float, CMYK64, CMYK64Float, CMYKA8, ColorType, ColorTypeName,
-    Gray8, Gray16, Gray32, Gray32Float, Gray64, Gray64Float, GrayI8, GrayI16, GrayI32, GrayI64,
-    NamedColorType, RGB8, RGB16, RGB32, RGB32Float, RGB64, RGB64Float, RGBA8, RGBA16, RGBA32,
-    RGBA32Float, RGBA64, RGBA64Float, YCbCr8,
-};
+use tiff_value::encoder::color_visitor::{ColorVisitor, by_name};
+use tiff_value::encoder::colortype::{ColorType, NamedColorType};
 
 impl DirectoryState {
     // Sets the offset of the link that points to the directory when it ends, if there is one.
@@ -225,7 +221,32 @@ fn run_image<W: Sink, K: TiffKind, C: NamedColorType>(
     }
 }
 
-// Runs a job that writes an image, and finds the color type by its name.
+// A job that writes an image, and room for the replies of its steps.
+struct ImageRun<'a> {
+    job: &'a ImageJob,
+    steps: Vec<TiffResult<StepReply>>,
+}
+
+// Runs a job that writes an image of a color type.
+struct RunsImage;
+
+impl<'a, W: Sink, K: TiffKind> ColorVisitor<TiffEncoder<W, K>, ImageRun<'a>, JobReply>
+    for RunsImage {
+    ghost use Rattle.std.specs.Prelude.{◌≡◌, length};
+    ghost use Rattle.tiff_encode.specs.Running.{ImageRunsOn, IsEmptyWithRoom};
+
+    ghost takes = { λ name _ run. (run.job.now.color ≡ name)
+        × IsEmptyWithRoom (length run.job.now.steps.items) run.steps };
+
+    ghost visits = { λ _ old run reply new. ImageRunsOn run.job.now reply old new };
+
+    fn visit<C: NamedColorType>(state: &mut TiffEncoder<W, K>, input: ImageRun<'a>) -> JobReply {
+        let ImageRun { job, steps } = input;
+        run_image::<W, K, C>(state, job, steps)
+    }
+}
+
+// Runs a job that writes an image of the color type that it names.
 fn run_named<W: Sink, K: TiffKind>(
     encoder: &mut TiffEncoder<W, K>,
     job: &ImageJob,
@@ -234,38 +255,7 @@ fn run_named<W: Sink, K: TiffKind>(
     requires { IsEmptyWithRoom (length job.now.steps.items) steps }
     ensures { ImageRunsOn job.now result encoder.old encoder.new }
 {
-    match job.color {
-        ColorTypeName::Gray8 => return run_image::<W, K, Gray8>(encoder, job, steps),
-        ColorTypeName::Gray16 => return run_image::<W, K, Gray16>(encoder, job, steps),
-        ColorTypeName::Gray32 => return run_image::<W, K, Gray32>(encoder, job, steps),
-        ColorTypeName::Gray64 => return run_image::<W, K, Gray64>(encoder, job, steps),
-        ColorTypeName::GrayI8 => return run_image::<W, K, GrayI8>(encoder, job, steps),
-        ColorTypeName::GrayI16 => return run_image::<W, K, GrayI16>(encoder, job, steps),
-        ColorTypeName::GrayI32 => return run_image::<W, K, GrayI32>(encoder, job, steps),
-        ColorTypeName::GrayI64 => return run_image::<W, K, GrayI64>(encoder, job, steps),
-        ColorTypeName::Gray32Float => return run_image::<W, K, Gray32Float>(encoder, job, steps),
-        ColorTypeName::Gray64Float => return run_image::<W, K, Gray64Float>(encoder, job, steps),
-        ColorTypeName::RGB8 => return run_image::<W, K, RGB8>(encoder, job, steps),
-        ColorTypeName::RGB16 => return run_image::<W, K, RGB16>(encoder, job, steps),
-        ColorTypeName::RGB32 => return run_image::<W, K, RGB32>(encoder, job, steps),
-        ColorTypeName::RGB64 => return run_image::<W, K, RGB64>(encoder, job, steps),
-        ColorTypeName::RGB32Float => return run_image::<W, K, RGB32Float>(encoder, job, steps),
-        ColorTypeName::RGB64Float => return run_image::<W, K, RGB64Float>(encoder, job, steps),
-        ColorTypeName::RGBA8 => return run_image::<W, K, RGBA8>(encoder, job, steps),
-        ColorTypeName::RGBA16 => return run_image::<W, K, RGBA16>(encoder, job, steps),
-        ColorTypeName::RGBA32 => return run_image::<W, K, RGBA32>(encoder, job, steps),
-        ColorTypeName::RGBA64 => return run_image::<W, K, RGBA64>(encoder, job, steps),
-        ColorTypeName::RGBA32Float => return run_image::<W, K, RGBA32Float>(encoder, job, steps),
-        ColorTypeName::RGBA64Float => return run_image::<W, K, RGBA64Float>(encoder, job, steps),
-        ColorTypeName::CMYK8 => return run_image::<W, K, CMYK8>(encoder, job, steps),
-        ColorTypeName::CMYK16 => return run_image::<W, K, CMYK16>(encoder, job, steps),
-        ColorTypeName::CMYK32 => return run_image::<W, K, CMYK32>(encoder, job, steps),
-        ColorTypeName::CMYK64 => return run_image::<W, K, CMYK64>(encoder, job, steps),
-        ColorTypeName::CMYK32Float => return run_image::<W, K, CMYK32Float>(encoder, job, steps),
-        ColorTypeName::CMYK64Float => return run_image::<W, K, CMYK64Float>(encoder, job, steps),
-        ColorTypeName::YCbCr8 => return run_image::<W, K, YCbCr8>(encoder, job, steps),
-        ColorTypeName::CMYKA8 => return run_image::<W, K, CMYKA8>(encoder, job, steps),
-    }
+    by_name::<_, _, _, RunsImage>(job.color, encoder, ImageRun { job, steps })
 }
 
 // ---- jobs
