@@ -2,8 +2,8 @@
 
 pub use tiff_base::tags::Predictor;
 pub use tiff_encode::encoder::{
-    Compression, DirectoryEncoder, DirectoryOffset, ImageEncoder, OffsetNumber, TiffEncoder,
-    TiffKind, TiffKindBig, TiffKindStandard, laws, script,
+    Compression, DirectoryEncoder, DirectoryOffset, HasDirectory, ImageEncoder, OffsetNumber,
+    TiffEncoder, TiffKind, TiffKindBig, TiffKindStandard, laws, script,
 };
 pub use tiff_value::encoder::differences::Sample;
 pub use tiff_value::encoder::tiff_value::{

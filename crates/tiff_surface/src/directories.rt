@@ -2,7 +2,7 @@
 
 use crate::report::Report;
 use tiff::TiffResult;
-use tiff::encoder::{DirectoryEncoder, Slice, Text, TiffEncoder, TiffKind};
+use tiff::encoder::{DirectoryEncoder, HasDirectory, TiffEncoder, TiffKind};
 use tiff::io::{MemorySink, Sink};
 use tiff::tags::{Tag, Type, ValueBuffer};
 
@@ -11,20 +11,20 @@ fn add_values<W: Sink, K: TiffKind>(
     report: &mut Report,
     directory: &mut DirectoryEncoder<'_, W, K>,
 ) {
-    let answer = directory.write_tag(Tag::Artist, Text("abcdef"));
+    let answer = directory.write_tag(Tag::Artist, "abcdef");
     report.line("DirectoryEncoder::write_tag", answer);
-    let answer = directory.write_entry(Slice::<u32>(&[1, 2]));
+    let answer = directory.write_entry([1u32, 2]);
     report.line("DirectoryEncoder::write_entry", answer);
     let answer = directory.write_entry_bytes(Type::SHORT, &[1, 2, 3, 4]);
     report.line("DirectoryEncoder::write_entry_bytes", answer);
-    let answer = directory.write_data(Slice::<u8>(&[9, 8]));
+    let answer = directory.write_data([9u8, 8].as_slice());
     report.line("DirectoryEncoder::write_data", answer);
 }
 
-// Writes values that are passed as bytes.
-fn add_buffers<W: Sink, K: TiffKind>(
+// Writes values that are passed as bytes, into a directory or an image.
+fn add_buffers<W: Sink, K: TiffKind, D: HasDirectory>(
     report: &mut Report,
-    directory: &mut DirectoryEncoder<'_, W, K>,
+    directory: &mut DirectoryEncoder<'_, W, K, D>,
     buffer: &ValueBuffer,
 ) {
     let answer = directory.write_tag_buf(Tag::Make, buffer);
@@ -50,7 +50,7 @@ fn add_directory<W: Sink, K: TiffKind>(
 /// Adds the lines of directories.
 pub fn add_lines(report: &mut Report) -> TiffResult<()> {
     let alloc = report.alloc();
-    let buffer = ValueBuffer::from_value(alloc, &Slice::<u16>(&[1, 2, 3]))?;
+    let buffer = ValueBuffer::from_value(alloc, &[1u16, 2, 3])?;
     let mut encoder = TiffEncoder::new(alloc, MemorySink::new(Vec::new(alloc)))?;
     let answer = add_directory(report, &mut encoder, &buffer);
     report.line("DirectoryEncoder::finish", answer);

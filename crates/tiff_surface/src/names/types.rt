@@ -46,9 +46,9 @@ pub mod encoder {
     };
     pub use tiff::encoder::writer::TiffWriter;
     pub use tiff::encoder::{
-        Compression, DirectoryEncoder, DirectoryOffset, Ifd, Ifd8, ImageEncoder, OffsetNumber,
-        Predictor, Rational, SRational, Sample, Slice, Text, TiffEncoder, TiffKind, TiffKindBig,
-        TiffKindStandard, TiffScalar, TiffValue,
+        Compression, DirectoryEncoder, DirectoryOffset, HasDirectory, Ifd, Ifd8, ImageEncoder,
+        OffsetNumber, Predictor, Rational, SRational, Sample, Slice, Text, TiffEncoder, TiffKind,
+        TiffKindBig, TiffKindStandard, TiffScalar, TiffValue,
     };
 }
 

@@ -1,6 +1,6 @@
 //! The calls of values, of color types and of `tiff::encoder::{compression, writer}`.
 
-use tiff::encoder::colortype::ColorType;
+use tiff::encoder::colortype::{ColorType, ColorTypeName};
 use tiff::encoder::compression::{Compression, CompressionAlgorithm, pack_bits};
 use tiff::encoder::writer::{TiffWriter, write_bigtiff_header, write_tiff_header};
 use tiff::encoder::{Sample, TiffScalar, TiffValue};
@@ -24,6 +24,7 @@ fn name_values<W: Sink, S: Sample>() {
     let _call = S::push_row;
     let _call = S::put_part;
     let _call = S::as_bytes;
+    let _call = S::from_bytes;
 }
 
 // Methods of compression and color types.
@@ -35,6 +36,7 @@ fn name_methods<W: Sink, M: Compression, C: ColorType>() {
     let _color = C::TIFF_VALUE;
     let _bits = C::BITS_PER_SAMPLE;
     let _formats = C::SAMPLE_FORMAT;
+    let _names = ColorTypeName::ALL;
     let _call = C::sample_bits;
     let _call = C::sample_formats;
     let _call = C::horizontal_predict;
