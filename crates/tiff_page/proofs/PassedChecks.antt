@@ -1,13 +1,12 @@
--- A page that the tags define passed its checks.
-use Rattle.std.proofs.Common.{◌≡◌, Ok, Err, refl, subst}
-use Rattle.std.specs.Prelude.{Result}
+-- A page that the tags define passed its checks, and tags that pass each check of a page define it.
+use Rattle.std.proofs.Common.{◌≡◌, Ok, refl, subst}
+use Rattle.std.specs.Prelude.{Result, ⊤}
+use Rattle.tiff_base.proofs.Common.{bind_ok}
 use Rattle.tiff_base.specs.declared.error.TiffError.{TiffError}
-use Rattle.tiff_base.specs.Answers.{◌>>=◌}
 use Rattle.tiff_ifd.specs.TagLookup.{TagLookup}
-use Rattle.tiff_page.specs.Checks.{size_in, interpretation_in, method_in, samples_in, extra_in, format_in, depth_in, predictor_in, planar_in, subsampling_in, chunk_type_in, chunks_in, page_of}
+use Rattle.tiff_page.specs.Checks.{size_in, interpretation_in, method_in, samples_in, extra_in, format_in, depth_in, predictor_in, planar_in, subsampling_in, chunk_type_in, chunks_counted, strips_in, tiles_in, chunks_in, page_of, PassedChecks, PageHasPassed}
 use Rattle.tiff_page.specs.Counts.{planes_of}
 use Rattle.tiff_page.specs.Page.{PageRecord}
-use Rattle.tiff_page.specs.PassedChecks.{PassedChecks, PageHasPassed}
 
 abbrev pub good : {A : Type 0} → A → Result A TiffError
 good x = Ok x
@@ -15,37 +14,45 @@ good x = Ok x
 pub ok_is : {A : Type 0} (x y : A) → good x ≡ good y → x ≡ y
 ok_is x y h = cc
 
--- a step of a chain that returned something, and the result of the steps after it
-step : {A : Type 0} {G : Type 0} (r : Result A TiffError) → ((e : TiffError) → r ≡ Err e → G) → ((x : A) → r ≡ Ok x → G) → G
-step (Ok x) on_err on_ok = on_ok x refl
-step (Err e) on_err on_ok = on_err e refl
-
 pub passed_checks : PageHasPassed
 unfolding page_of
 passed_checks look p given =
-    step {G = PassedChecks look p} (size_in look) (λ e q. let g : Err e ≡ Ok p = rw q at given in cc) (λ size h1. let g1 = rw h1 at given in
-    step {G = PassedChecks look p} (interpretation_in look) (λ e q. let g : Err e ≡ Ok p = rw q at g1 in cc) (λ interpretation h2. let g2 = rw h2 at g1 in
-    step {G = PassedChecks look p} (method_in look) (λ e q. let g : Err e ≡ Ok p = rw q at g2 in cc) (λ method h3. let g3 = rw h3 at g2 in
-    step {G = PassedChecks look p} (samples_in look) (λ e q. let g : Err e ≡ Ok p = rw q at g3 in cc) (λ samples h4. let g4 = rw h4 at g3 in
-    step {G = PassedChecks look p} (extra_in look samples) (λ e q. let g : Err e ≡ Ok p = rw q at g4 in cc) (λ extra h5. let g5 = rw h5 at g4 in
-    step {G = PassedChecks look p} (format_in look) (λ e q. let g : Err e ≡ Ok p = rw q at g5 in cc) (λ format h6. let g6 = rw h6 at g5 in
-    step {G = PassedChecks look p} (depth_in look samples) (λ e q. let g : Err e ≡ Ok p = rw q at g6 in cc) (λ depth h7. let g7 = rw h7 at g6 in
-    step {G = PassedChecks look p} (predictor_in look) (λ e q. let g : Err e ≡ Ok p = rw q at g7 in cc) (λ predictor h8. let g8 = rw h8 at g7 in
-    step {G = PassedChecks look p} (planar_in look) (λ e q. let g : Err e ≡ Ok p = rw q at g8 in cc) (λ planar h9. let g9 = rw h9 at g8 in
-    step {G = PassedChecks look p} (subsampling_in look) (λ e q. let g : Err e ≡ Ok p = rw q at g9 in cc) (λ subsampling h10. let g10 = rw h10 at g9 in
-    step {G = PassedChecks look p} (chunk_type_in look) (λ e q. let g : Err e ≡ Ok p = rw q at g10 in cc) (λ which h11. let g11 = rw h11 at g10 in
-    step {G = PassedChecks look p} (chunks_in look which size.0 size.1 (planes_of planar samples)) (λ e q. let g : Err e ≡ Ok p = rw q at g11 in cc) (λ chunks h12. let g12 = rw h12 at g11 in
-    subst (λ (x : PageRecord). PassedChecks look x) (ok_is _ p g12) (record {
-      size = h1;
-      interpretation = h2;
-      method = h3;
-      samples = h4;
-      extra = h5;
-      format = h6;
-      depth = h7;
-      predictor = h8;
-      planar = h9;
-      subsampling = h10;
-      chunk_type = h11;
-      chunks = h12;
-    })))))))))))))
+    let size = bind_ok (size_in look) _ p given in
+    let interpretation = bind_ok (interpretation_in look) _ p size.1.1 in
+    let method = bind_ok (method_in look) _ p interpretation.1.1 in
+    let samples = bind_ok (samples_in look) _ p method.1.1 in
+    let extra = bind_ok (extra_in look samples.0) _ p samples.1.1 in
+    let format = bind_ok (format_in look) _ p extra.1.1 in
+    let depth = bind_ok (depth_in look samples.0) _ p format.1.1 in
+    let predictor = bind_ok (predictor_in look) _ p depth.1.1 in
+    let planar = bind_ok (planar_in look) _ p predictor.1.1 in
+    let subsampling = bind_ok (subsampling_in look) _ p planar.1.1 in
+    let chunk_type = bind_ok (chunk_type_in look) _ p subsampling.1.1 in
+    let planes = planes_of planar.0 samples.0 in
+    let chunks = bind_ok (chunks_in look chunk_type.0 size.0.0 size.0.1 planes) _ p chunk_type.1.1 in
+    subst (λ (x : PageRecord). PassedChecks look x) (ok_is _ p chunks.1.1) (record {
+      size = size.1.0;
+      interpretation = interpretation.1.0;
+      method = method.1.0;
+      samples = samples.1.0;
+      extra = extra.1.0;
+      format = format.1.0;
+      depth = depth.1.0;
+      predictor = predictor.1.0;
+      planar = planar.1.0;
+      subsampling = subsampling.1.0;
+      chunk_type = chunk_type.1.0;
+      chunks = chunks.1.0;
+    })
+
+pub page_passed : (look : TagLookup) (p : PageRecord) → PassedChecks look p → page_of look ≡ Ok p
+unfolding page_of
+page_passed look p c =
+    rw (c.size, c.interpretation, c.method, c.samples, c.extra, c.format)
+    (rw (c.depth, c.predictor, c.planar, c.subsampling, c.chunk_type, c.chunks) refl)
+
+-- what an answer unfolds to compute the checks of a page on literals
+unfoldable pub checks_on_literals : ⊤
+unfolding size_in interpretation_in method_in samples_in extra_in format_in depth_in predictor_in planar_in
+    subsampling_in chunk_type_in chunks_counted strips_in tiles_in page_of
+checks_on_literals = tt

@@ -1,9 +1,10 @@
 -- The checks of a page, in their order.
-use Rattle.std.specs.Prelude.{ℕ, ◌^◌, Bool, true, false, List, [], ◌∷◌, map, length, Option, Some, None, Result, Ok, Err, unwrap_or, if◌then◌else◌, ◌==◌, ◌&&◌, ◌||◌, nat_lt, nat_le, not}
+use Rattle.std.specs.Prelude.{◌≡◌, ℕ, ◌^◌, Bool, true, false, List, [], ◌∷◌, ◌++◌, map, length, Option, Some, None, Result, Ok, Err, unwrap_or, if◌then◌else◌, ◌==◌, ◌&&◌, ◌||◌, nat_lt, nat_le, not}
 use Rattle.tiff_base.specs.declared.error.TiffError.{TiffError}
 use Rattle.tiff_base.specs.declared.error.TiffError.TheVariants.{FormatError, UnsupportedError}
 use Rattle.tiff_base.specs.declared.error.TiffFormatError.TheVariants.{InvalidDimensions, SamplesPerPixelIsZero, InconsistentSizesEncountered, InvalidTagValueType, UnknownPredictor, UnknownPlanarConfiguration, InvalidCountForTag, StripTileTagConflict}
 use Rattle.tiff_base.specs.declared.error.TiffUnsupportedError.TheVariants.{UnknownInterpretation, UnsupportedSampleFormat, InconsistentBitsPerSample}
+use Rattle.tiff_base.specs.declared.tags.Tag.{Tag}
 use Rattle.tiff_base.specs.declared.tags.Tag.TheVariants as tag
 use Rattle.tiff_base.specs.declared.tags.PhotometricInterpretation.{PhotometricInterpretation}
 use Rattle.tiff_base.specs.declared.tags.CompressionMethod.{CompressionMethod}
@@ -22,9 +23,28 @@ use Rattle.tiff_base.specs.Answers.{◌>>=◌}
 use Rattle.tiff_ifd.specs.Into.{into_u16, into_u32, into_u16_vec, into_u64_vec}
 use Rattle.tiff_ifd.specs.TagLookup.{TagLookup, find, find_or, ok_or_fault, require}
 use Rattle.tiff_ifd.specs.Fitted.{fitted_numbers}
-use Rattle.std.specs.List.{list_all}
+use Rattle.std.specs.List.{list_all, list_any}
 use Rattle.tiff_page.specs.Counts.{chunk_count, planes_of}
 use Rattle.tiff_page.specs.Page.{PageRecord, Chunks}
+
+-- the tags that describe the pixels of a page, and the tags of its chunks
+abbrev pub tags_of_pixels : List Tag
+tags_of_pixels =
+    tag.ImageWidth ∷ tag.ImageLength ∷ tag.PhotometricInterpretation ∷ tag.Compression
+    ∷ tag.SamplesPerPixel ∷ tag.ExtraSamples ∷ tag.SampleFormat ∷ tag.BitsPerSample ∷ tag.Predictor
+    ∷ tag.PlanarConfiguration ∷ tag.ChromaSubsampling ∷ []
+
+abbrev pub tags_of_chunks : List Tag
+tags_of_chunks =
+    tag.StripOffsets ∷ tag.StripByteCounts ∷ tag.RowsPerStrip ∷ tag.TileWidth ∷ tag.TileLength
+    ∷ tag.TileOffsets ∷ tag.TileByteCounts ∷ []
+
+-- the numbers of the tags that the checks read
+abbrev pub page_tag_numbers : List ℕ
+page_tag_numbers = map kinds.tag_number (tags_of_pixels ++ tags_of_chunks)
+
+abbrev pub is_page_tag : ℕ → Bool
+is_page_tag n = list_any (λ m. m == n) page_tag_numbers
 
 abbrev pub inconsistent : TiffError
 inconsistent = FormatError InconsistentSizesEncountered
@@ -241,3 +261,28 @@ page_of look = do
     offsets = chunks.offsets;
     byte_counts = chunks.byte_counts;
   })
+
+-- Each check of the tags returned what the page has.
+pub record PassedChecks (look : TagLookup) (p : PageRecord) : Type 0 where
+  pub size : size_in look ≡ Ok (p.width, p.height)
+  pub interpretation : interpretation_in look ≡ Ok p.interpretation
+  pub method : method_in look ≡ Ok p.method
+  pub samples : samples_in look ≡ Ok p.samples
+  pub extra : extra_in look p.samples ≡ Ok p.extra
+  pub format : format_in look ≡ Ok p.format
+  pub depth : depth_in look p.samples ≡ Ok p.depth
+  pub predictor : predictor_in look ≡ Ok p.predictor
+  pub planar : planar_in look ≡ Ok p.planar
+  pub subsampling : subsampling_in look ≡ Ok p.subsampling
+  pub chunk_type : chunk_type_in look ≡ Ok p.chunk_type
+  pub chunks : chunks_in look p.chunk_type p.width p.height (planes_of p.planar p.samples)
+      ≡ Ok (record {
+        chunk_width = p.chunk_width;
+        chunk_height = p.chunk_height;
+        offsets = p.offsets;
+        byte_counts = p.byte_counts;
+      })
+
+-- A page that the tags define passed its checks.
+abbrev pub PageHasPassed : Type 0
+PageHasPassed = (look : TagLookup) (p : PageRecord) → page_of look ≡ Ok p → PassedChecks look p

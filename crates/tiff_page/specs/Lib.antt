@@ -25,4 +25,3 @@ pub mod NumberBytes
 pub mod Samples
 pub mod Reach
 pub mod EarlyLaws
-pub mod PassedChecks

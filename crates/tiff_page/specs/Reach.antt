@@ -1,19 +1,21 @@
 -- Which bytes the checks of a page and reads of pixels ask a source for.
-use Rattle.std.specs.Prelude.{◌≡◌, ℕ, ◌+◌, ◌*◌, ◌<◌, if◌then◌else◌, slice_index, Result, Ok}
+use Rattle.std.specs.Prelude.{◌≡◌, true, ℕ, ◌+◌, ◌*◌, ◌<◌, if◌then◌else◌, slice_index, Result, Ok}
 use Rattle.tiff_base.specs.declared.color.ColorType.{ColorType}
 use Rattle.tiff_base.specs.declared.error.TiffError.{TiffError}
 use Rattle.tiff_base.specs.declared.tags.ByteOrder.{ByteOrder}
 use Rattle.tiff_base.specs.declared.tags.FileKind.{FileKind}
-use Rattle.tiff_base.specs.declared.tags.Tag.TheVariants as tag
+use Rattle.tiff_base.specs.declared.tags.Tag.{Tag}
 use Rattle.tiff_base.specs.Answers.{AsksOnly}
 use Rattle.tiff_base.specs.Field.{DirectoryRecord}
 use Rattle.tiff_base.specs.SourceAndSink.{AreReadable, SourceRecord}
+use Rattle.tiff_base.specs.Tags.{tag_number}
 use Rattle.tiff_ifd.specs.TagLookup.{DirectoryTags}
 use Rattle.tiff_ifd.specs.Stretches.{TagReadable}
 use Rattle.tiff_ifd.specs.Unpacking.{PackedReadable}
 use Rattle.tiff_page.specs.declared.chunk_data.ChunkCursor.{ChunkCursor}
 use Rattle.tiff_page.specs.declared.chunk_data.ChunkCursor.TheVariants.{Plain, Packed, Ended}
 use Rattle.tiff_page.specs.Buffers.{planes_layout}
+use Rattle.tiff_page.specs.Checks.{is_page_tag}
 use Rattle.tiff_page.specs.Methods.{is_packed}
 use Rattle.tiff_page.specs.Layout.{LayoutRecord}
 use Rattle.tiff_page.specs.Page.{PageRecord}
@@ -25,24 +27,8 @@ use Rattle.tiff_page.specs.Rect.{rect, chunks_of_plane}
 -- has.
 pub record PageReadable (source : SourceRecord) (kind : FileKind) (order : ByteOrder)
     (directory : DirectoryRecord) : Type 0 where
-  pub width : TagReadable source kind order directory tag.ImageWidth
-  pub length : TagReadable source kind order directory tag.ImageLength
-  pub interpretation : TagReadable source kind order directory tag.PhotometricInterpretation
-  pub method : TagReadable source kind order directory tag.Compression
-  pub samples : TagReadable source kind order directory tag.SamplesPerPixel
-  pub extra : TagReadable source kind order directory tag.ExtraSamples
-  pub format : TagReadable source kind order directory tag.SampleFormat
-  pub depth : TagReadable source kind order directory tag.BitsPerSample
-  pub predictor : TagReadable source kind order directory tag.Predictor
-  pub planar : TagReadable source kind order directory tag.PlanarConfiguration
-  pub subsampling : TagReadable source kind order directory tag.ChromaSubsampling
-  pub strip_offsets : TagReadable source kind order directory tag.StripOffsets
-  pub strip_byte_counts : TagReadable source kind order directory tag.StripByteCounts
-  pub rows : TagReadable source kind order directory tag.RowsPerStrip
-  pub tile_width : TagReadable source kind order directory tag.TileWidth
-  pub tile_length : TagReadable source kind order directory tag.TileLength
-  pub tile_offsets : TagReadable source kind order directory tag.TileOffsets
-  pub tile_byte_counts : TagReadable source kind order directory tag.TileByteCounts
+  pub each : (t : Tag) → is_page_tag (tag_number t) ≡ true
+      → TagReadable source kind order directory t
 
 -- The checks of a page ask only for the values of the tags that they read.
 abbrev pub AsksForPage : {X : Type 0} → DirectoryTags → Result X TiffError → Type 0

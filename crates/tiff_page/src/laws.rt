@@ -1,8 +1,8 @@
 //! Laws of the specifications. Each law is the contract of a function with an empty body.
 
+ghost use Rattle.tiff_page.specs.Checks.{PageHasPassed};
 ghost use Rattle.tiff_page.specs.EarlyLaws.{EarlyIsAnswered};
 ghost use Rattle.tiff_page.specs.Laws.{OneChunk, ChunksWithin, FirstFault, NoFault, PlacedEach, SomeBytes, ImageOfChunks, WholeRows, UnitOfChunks};
-ghost use Rattle.tiff_page.specs.PassedChecks.{PageHasPassed};
 ghost use Rattle.tiff_page.specs.Row.{ComplementsInvert, BytesOfNumbers};
 
 /// Each pixel of the image belongs to exactly one chunk of a plane.
