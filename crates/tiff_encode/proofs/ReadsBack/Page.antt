@@ -13,7 +13,8 @@ use Rattle.tiff_ifd.specs.Into.{into_u16, into_u32, into_u64_vec}
 use Rattle.tiff_ifd.specs.TagLookup.{TagLookup, find_or, require}
 use Rattle.tiff_page.specs.Page.{PageRecord, Chunks}
 use Rattle.tiff_page.specs.Counts.{chunk_count, planes_of, all_chunks}
-use Rattle.tiff_page.specs.Checks.{size_in, interpretation_in, method_in, some_samples, samples_in, extra_in, format_in, depth_in, predictor_in, planar_in, subsampling_in, chunk_type_in, some_rows, some_side, inconsistent, chunks_counted, strips_in, tiles_in, chunks_in, page_of}
+use Rattle.tiff_page.specs.Checks.{some_samples, samples_in, some_rows, some_side, inconsistent, chunks_counted, strips_in, tiles_in, chunks_in, page_of}
+use Rattle.tiff_page.proofs.PassedChecks.{passed_checks}
 use Rattle.tiff_page.proofs.Planes.{cases_of, given_bind}
 use Rattle.tiff_encode.proofs.Slices.{ok_inj}
 
@@ -93,30 +94,12 @@ pub record IsListed (p : PageRecord) : Type 0 where
   pub some : 0 < p.samples
   pub offsets : length p.offsets ≡ all_chunks p
 
-abbrev Listed : Result PageRecord TiffError → Type 0
-Listed (Ok p) = IsListed p
-Listed (Err e) = Unit {0}
-
-page_given : (look : TagLookup) → Listed (page_of look)
-unfolding page_of
-page_given look =
-    given_bind Listed (size_in look) _ (λ e. tt) (λ size es.
-    given_bind Listed (interpretation_in look) _ (λ e. tt) (λ interpretation ei.
-    given_bind Listed (method_in look) _ (λ e. tt) (λ packed_by em.
-    given_bind Listed (samples_in look) _ (λ e. tt) (λ samples en.
-    given_bind Listed (extra_in look samples) _ (λ e. tt) (λ extra ex.
-    given_bind Listed (format_in look) _ (λ e. tt) (λ format ef.
-    given_bind Listed (depth_in look samples) _ (λ e. tt) (λ depth ed.
-    given_bind Listed (predictor_in look) _ (λ e. tt) (λ predictor ep.
-    given_bind Listed (planar_in look) _ (λ e. tt) (λ planar el.
-    given_bind Listed (subsampling_in look) _ (λ e. tt) (λ subsampling eu.
-    given_bind Listed (chunk_type_in look) _ (λ e. tt) (λ type et.
-    given_bind Listed (chunks_in look type size.0 size.1 (planes_of planar samples)) _ (λ e. tt) (λ chunks ec.
-    record {
-      some = samples_some look samples en;
-      offsets = subst (Counted size.0 size.1 (planes_of planar samples)) ec (chunks_given look type size.0 size.1 (planes_of planar samples));
-    }))))))))))))
-
 -- a page read from its tags has samples and an offset for each chunk
 pub page_listed : (look : TagLookup) (p : PageRecord) → page_of look ≡ Ok p → IsListed p
-page_listed look p e = subst Listed e (page_given look)
+page_listed look p e =
+    let passed = passed_checks look p e in
+    let planes : ℕ = planes_of p.planar p.samples in
+    record {
+      some = samples_some look p.samples passed.samples;
+      offsets = subst (Counted p.width p.height planes) passed.chunks (chunks_given look p.chunk_type p.width p.height planes);
+    }
