@@ -27,6 +27,7 @@ pub mod Leaves
 pub mod Ending
 pub mod Shown
 pub mod ReadsBack
+pub mod Given
 pub mod PageTold
 pub mod Image
 pub mod Open

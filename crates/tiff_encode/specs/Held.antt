@@ -1,8 +1,7 @@
 -- The values of the fields of a directory, and when these values and the chunks in the file are
 -- those of an image (this project's).
-use Rattle.std.specs.Prelude.{◌≡◌, ℕ, ◌^◌, ◌<◌, ◌⊎◌, ◌==◌, Bool, true, false, List, [], ◌∷◌, length, map, get_or, slice_index, Option, Some, None, Ok}
+use Rattle.std.specs.Prelude.{◌≡◌, ℕ, ◌^◌, ◌<◌, ◌⊎◌, ◌==◌, if◌then◌else◌, true, false, List, [], ◌∷◌, length, map, get_or, slice_index, Option, Some, None, Ok}
 use Rattle.std.specs.FinMap.{FinMap, get}
-use Rattle.std.specs.List.{list_any}
 use Rattle.std.specs.Ordering.{nat_cmp}
 use Rattle.tiff_base.specs.declared.color.ChunkType.{ChunkType}
 use Rattle.tiff_base.specs.declared.color.ChunkType.TheVariants.{Strip, Tile}
@@ -16,6 +15,7 @@ use Rattle.tiff_base.specs.declared.tags.PhotometricInterpretation.TheVariants.{
 use Rattle.tiff_base.specs.declared.tags.PlanarConfiguration.{PlanarConfiguration}
 use Rattle.tiff_base.specs.declared.tags.PlanarConfiguration.TheVariants.{Chunky, Planar}
 use Rattle.tiff_base.specs.declared.tags.Predictor.TheVariants as predictor
+use Rattle.tiff_base.specs.declared.tags.Tag.{Tag}
 use Rattle.tiff_base.specs.declared.tags.Tag.TheVariants as tag
 use Rattle.tiff_base.specs.Color.{num_samples}
 use Rattle.tiff_base.specs.Field.{Field}
@@ -27,6 +27,7 @@ use Rattle.tiff_value.specs.Data.{Scalars, u16s, u32s, methods, interpretations,
 use Rattle.tiff_value.specs.Packed.{IsStored}
 use Rattle.tiff_ifd.specs.Limits.{unlimited}
 use Rattle.tiff_page.specs.Page.{PageRecord}
+use Rattle.tiff_page.specs.Checks.{is_page_tag, tags_of_pixels}
 use Rattle.tiff_page.specs.Counts.{all_chunks}
 use Rattle.tiff_page.specs.Layout.{color_of}
 use Rattle.tiff_page.specs.Pixels.{is_short, shown_sample}
@@ -40,18 +41,6 @@ use Rattle.tiff_encode.specs.Chunks.{all_samples, image_page, chunk_samples, sam
 use Rattle.tiff_encode.specs.Calls.{extended_by_first}
 use Rattle.tiff_encode.specs.Stored.{unpacked_chunk}
 use Rattle.tiff_encode.specs.Shows.{Image, Shows, page_at}
-
--- the tags that describe a page
-abbrev pub page_tag_numbers : List ℕ
-page_tag_numbers =
-    map tag_number (tag.ImageWidth ∷ tag.ImageLength ∷ tag.BitsPerSample ∷ tag.Compression
-    ∷ tag.PhotometricInterpretation ∷ tag.StripOffsets ∷ tag.SamplesPerPixel ∷ tag.RowsPerStrip
-    ∷ tag.StripByteCounts ∷ tag.PlanarConfiguration ∷ tag.Predictor ∷ tag.TileWidth ∷ tag.TileLength
-    ∷ tag.TileOffsets ∷ tag.TileByteCounts ∷ tag.ExtraSamples ∷ tag.SampleFormat
-    ∷ tag.ChromaSubsampling ∷ [])
-
-abbrev pub is_page_tag : ℕ → Bool
-is_page_tag n = list_any (λ m. m == n) page_tag_numbers
 
 -- ---- the values of tags
 
@@ -92,50 +81,77 @@ planar_given Chunky = None
 abbrev pub ExtraGiven : List ExtraSamples → Option Scalars → Type 0
 ExtraGiven extra given = (given ≡ Some (extras extra)) ⊎ ((extra ≡ []) × (given ≡ None))
 
--- the tags of the rows of a strip, the offsets of the strips and their byte counts; no tags of
--- tiles
-pub record TellsStrips (kind : FileKind) (i : OpenImage) (given : Given) : Type 0 where
-  pub rows : given (tag_number tag.RowsPerStrip) ≡ Some (u32s (i.form.chunk_height ∷ []))
-  pub offsets : given (tag_number tag.StripOffsets)
-      ≡ Some (offset_values kind (map (λ chunk. chunk.offset) i.chunks))
-  pub byte_counts : given (tag_number tag.StripByteCounts)
-      ≡ Some (offset_values kind (map (λ chunk. chunk.stored) i.chunks))
-  pub no_offsets : given (tag_number tag.TileOffsets) ≡ None
-  pub no_byte_counts : given (tag_number tag.TileByteCounts) ≡ None
+-- the value of a tag in a list, by the number of the tag; none if the list doesn't have the tag
+abbrev pub value_in : List (Tag × Option Scalars) → Given
+value_in [] n = None
+value_in (row ∷ rows) n = if tag_number row.0 == n then row.1 else value_in rows n
 
--- the tags of the width and the length of a tile, the offsets of the tiles and their byte counts;
--- no tags of strips
-pub record TellsTiles (kind : FileKind) (i : OpenImage) (given : Given) : Type 0 where
-  pub width : given (tag_number tag.TileWidth) ≡ Some (u32s (i.form.chunk_width ∷ []))
-  pub height : given (tag_number tag.TileLength) ≡ Some (u32s (i.form.chunk_height ∷ []))
-  pub offsets : given (tag_number tag.TileOffsets)
-      ≡ Some (offset_values kind (map (λ chunk. chunk.offset) i.chunks))
-  pub byte_counts : given (tag_number tag.TileByteCounts)
-      ≡ Some (offset_values kind (map (λ chunk. chunk.stored) i.chunks))
-  pub no_offsets : given (tag_number tag.StripOffsets) ≡ None
-  pub no_byte_counts : given (tag_number tag.StripByteCounts) ≡ None
+-- each tag that describes the pixels of a page has its value in a list
+abbrev pub AreGiven : List (Tag × Option Scalars) → Given → Type 0
+AreGiven rows given =
+    map (λ t. given (tag_number t)) tags_of_pixels ≡ map (λ t. value_in rows (tag_number t)) tags_of_pixels
 
-abbrev pub TellsChunks : ChunkType → FileKind → OpenImage → Given → Type 0
-TellsChunks Strip kind i given = TellsStrips kind i given
-TellsChunks Tile kind i given = TellsTiles kind i given
+-- each tag of a list has its value there
+abbrev pub EachGiven : List (Tag × Option Scalars) → Given → Type 0
+EachGiven [] given = Unit {0}
+EachGiven (row ∷ rows) given = (given (tag_number row.0) ≡ row.1) × EachGiven rows given
+
+-- The tags that describe the pixels of an image, with the values that they have from its beginning
+-- to its end. The value of `ExtraSamples` may be absent or an empty list if there are none.
+abbrev pub lasting_tags : OpenImage → Option Scalars → List (Tag × Option Scalars)
+lasting_tags i extra =
+    (tag.ImageWidth, Some (u32s (i.width ∷ [])))
+    ∷ (tag.ImageLength, Some (u32s (i.height ∷ [])))
+    ∷ (tag.Compression, Some (methods (i.method ∷ [])))
+    ∷ (tag.PhotometricInterpretation, Some (interpretations (i.color.interpretation ∷ [])))
+    ∷ (tag.PlanarConfiguration, planar_given i.form.planar)
+    ∷ (tag.Predictor, Some (predictors (i.predictor ∷ [])))
+    ∷ (tag.ExtraSamples, extra)
+    ∷ (tag.ChromaSubsampling, chroma_given i.color.interpretation)
+    ∷ []
+
+-- these tags, and those of the samples with the extra samples
+abbrev pub image_tags : OpenImage → Option Scalars → List (Tag × Option Scalars)
+image_tags i extra =
+    (tag.BitsPerSample, Some (u16s (extended_by_first i.color.bits (length i.extra))))
+    ∷ (tag.SamplesPerPixel, Some (u16s (all_samples i ∷ [])))
+    ∷ (tag.SampleFormat, Some (formats (extended_by_first i.color.formats (length i.extra))))
+    ∷ lasting_tags i extra
+
+-- The tags of the chunks of an image: the rows of a strip, the offsets of the strips and their byte
+-- counts, and none of tiles; or the width and the length of a tile, the offsets of the tiles and
+-- their byte counts, and none of strips.
+abbrev pub places_in : ChunkType → ℕ → ℕ → Option Scalars → Option Scalars
+    → List (Tag × Option Scalars)
+places_in Strip width height offsets byte_counts =
+    (tag.RowsPerStrip, Some (u32s (height ∷ [])))
+    ∷ (tag.StripOffsets, offsets)
+    ∷ (tag.StripByteCounts, byte_counts)
+    ∷ (tag.TileOffsets, None)
+    ∷ (tag.TileByteCounts, None)
+    ∷ []
+places_in Tile width height offsets byte_counts =
+    (tag.TileWidth, Some (u32s (width ∷ [])))
+    ∷ (tag.TileLength, Some (u32s (height ∷ [])))
+    ∷ (tag.TileOffsets, offsets)
+    ∷ (tag.TileByteCounts, byte_counts)
+    ∷ (tag.StripOffsets, None)
+    ∷ (tag.StripByteCounts, None)
+    ∷ []
+
+abbrev pub place_tags : OpenImage → Option Scalars → Option Scalars → List (Tag × Option Scalars)
+place_tags i offsets byte_counts =
+    places_in i.form.chunk_type i.form.chunk_width i.form.chunk_height offsets byte_counts
 
 -- The values of the tags that describe a page are those of an image.
 pub record TellsImage (kind : FileKind) (i : OpenImage) (given : Given) : Type 0 where
-  pub width : given (tag_number tag.ImageWidth) ≡ Some (u32s (i.width ∷ []))
-  pub height : given (tag_number tag.ImageLength) ≡ Some (u32s (i.height ∷ []))
-  pub bits : given (tag_number tag.BitsPerSample)
-      ≡ Some (u16s (extended_by_first i.color.bits (length i.extra)))
-  pub packed_by : given (tag_number tag.Compression) ≡ Some (methods (i.method ∷ []))
-  pub interpretation : given (tag_number tag.PhotometricInterpretation)
-      ≡ Some (interpretations (i.color.interpretation ∷ []))
-  pub samples : given (tag_number tag.SamplesPerPixel) ≡ Some (u16s (all_samples i ∷ []))
-  pub predicted_by : given (tag_number tag.Predictor) ≡ Some (predictors (i.predictor ∷ []))
-  pub planar : given (tag_number tag.PlanarConfiguration) ≡ planar_given i.form.planar
   pub extra : ExtraGiven i.extra (given (tag_number tag.ExtraSamples))
-  pub sample_formats : given (tag_number tag.SampleFormat)
-      ≡ Some (formats (extended_by_first i.color.formats (length i.extra)))
-  pub subsampling : given (tag_number tag.ChromaSubsampling) ≡ chroma_given i.color.interpretation
-  pub chunks : TellsChunks i.form.chunk_type kind i given
+  pub pixels : AreGiven (image_tags i (given (tag_number tag.ExtraSamples))) given
+  pub chunks : EachGiven
+      (place_tags i
+      (Some (offset_values kind (map (λ chunk. chunk.offset) i.chunks)))
+      (Some (offset_values kind (map (λ chunk. chunk.stored) i.chunks))))
+      given
 
 -- ---- an image with all its chunks
 

@@ -43,7 +43,8 @@ use Rattle.tiff_encode.specs.Calls.{Offsets}
 use Rattle.tiff_encode.specs.Ends.{EndsAsDefined, IsCutOff, IsTornOff, IsShortOfMemory}
 use Rattle.tiff_encode.specs.Stored.{AreStored, unpacked_chunk}
 use Rattle.tiff_value.specs.Packed.{IsStored}
-pub use Rattle.tiff_encode.specs.Held.{page_tag_numbers, is_page_tag, image_with}
+pub use Rattle.tiff_page.specs.Checks.{page_tag_numbers, is_page_tag}
+pub use Rattle.tiff_encode.specs.Held.{image_with}
 use Rattle.tiff_encode.specs.JobValues.{value_data, buffer_in, cut_to}
 
 -- a file, and the model of what it contains

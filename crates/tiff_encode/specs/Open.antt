@@ -1,11 +1,9 @@
 -- An open image in a file that contains a model, and the laws that its calls keep it in the model
 -- and that its end shows it (this project's).
-use Rattle.std.specs.Prelude.{◌≡◌, ℕ, ◌^◌, ◌-◌, ◌<◌, ◌≤◌, ◌⊎◌, false, List, [], ◌∷◌, ◌++◌, length, get_or, slice_index, Some, None, Result, Ok}
+use Rattle.std.specs.Prelude.{◌≡◌, ℕ, ◌^◌, ◌-◌, ◌<◌, ◌≤◌, ◌⊎◌, false, List, [], ◌∷◌, ◌++◌, length, get_or, slice_index, Option, Some, None, Result, Ok}
 use Rattle.std.specs.List.{list_any}
 use Rattle.std.specs.FinMap.{FinMap}
 use Rattle.std.specs.Ordering.{nat_cmp}
-use Rattle.tiff_base.specs.declared.color.ChunkType.{ChunkType}
-use Rattle.tiff_base.specs.declared.color.ChunkType.TheVariants.{Strip, Tile}
 use Rattle.tiff_base.specs.declared.error.TiffError.{TiffError}
 use Rattle.tiff_base.specs.declared.tags.CompressionMethod.TheVariants as method
 use Rattle.tiff_base.specs.declared.tags.ExtraSamples.{ExtraSamples}
@@ -19,8 +17,9 @@ use Rattle.tiff_base.specs.Tags.{tag_number}
 use Rattle.tiff_value.specs.declared.encoder.colortype.ColorTypeName.{ColorTypeName}
 use Rattle.tiff_value.specs.Buffer.{BufferRecord}
 use Rattle.tiff_value.specs.ColorTypes.{color_type, inner_size}
-use Rattle.tiff_value.specs.Data.{FieldData, u16s, u32s, methods, interpretations, predictors}
+use Rattle.tiff_value.specs.Data.{FieldData, Scalars, u16s}
 use Rattle.tiff_value.specs.Packed.{IsStored}
+use Rattle.tiff_page.specs.Checks.{is_page_tag}
 use Rattle.tiff_page.specs.Counts.{all_chunks}
 use Rattle.tiff_encode.specs.FileBytes.{offset_len}
 use Rattle.tiff_encode.specs.Model.{In, Model, Stands, Grows}
@@ -33,37 +32,22 @@ use Rattle.tiff_encode.specs.Calls as calls
 use Rattle.tiff_encode.specs.Calls.{Offsets}
 use Rattle.tiff_encode.specs.Stored.{unpacked_chunk}
 use Rattle.tiff_encode.specs.Shows.{Shows}
-use Rattle.tiff_encode.specs.Held.{is_page_tag, Given, HoldsValues, chroma_given, planar_given, ExtraGiven, samples_of_chunk, StandsFor, TellsImage, IsWholeImage, AreSupplied, RegionsHaveChunks, image_with}
+use Rattle.tiff_encode.specs.Held.{Given, HoldsValues, ExtraGiven, AreGiven, EachGiven, lasting_tags, place_tags, samples_of_chunk, StandsFor, TellsImage, IsWholeImage, AreSupplied, RegionsHaveChunks, image_with}
 
 -- ---- the properties of an open image
 
--- the tags of the layout of the chunks
-abbrev pub TellsForm : ChunkType → OpenImage → Given → Type 0
-TellsForm Strip i given =
-    given (tag_number tag.RowsPerStrip) ≡ Some (u32s (i.form.chunk_height ∷ []))
-TellsForm Tile i given =
-    (given (tag_number tag.TileWidth) ≡ Some (u32s (i.form.chunk_width ∷ [])))
-    × (given (tag_number tag.TileLength) ≡ Some (u32s (i.form.chunk_height ∷ [])))
+-- the tags that describe the pixels of an image before its end: those of its samples are not
+-- written yet, and the number of samples doesn't include extra samples
+abbrev pub open_tags : OpenImage → Option Scalars → List (Tag × Option Scalars)
+open_tags i extra =
+    (tag.SamplesPerPixel, Some (u16s (length i.color.bits ∷ []))) ∷ lasting_tags i extra
 
--- The values of the tags that describe a page are those of an image before its end. They say
--- nothing of the bits and the formats of its samples, and have no offsets and byte counts of
--- chunks. The number of samples doesn't include extra samples yet.
+-- The values of the tags that describe a page are those of an image before its end. They have no
+-- offsets and byte counts of chunks.
 pub record TellsOpen (i : OpenImage) (given : Given) : Type 0 where
-  pub width : given (tag_number tag.ImageWidth) ≡ Some (u32s (i.width ∷ []))
-  pub height : given (tag_number tag.ImageLength) ≡ Some (u32s (i.height ∷ []))
-  pub packed_by : given (tag_number tag.Compression) ≡ Some (methods (i.method ∷ []))
-  pub interpretation : given (tag_number tag.PhotometricInterpretation)
-      ≡ Some (interpretations (i.color.interpretation ∷ []))
-  pub samples : given (tag_number tag.SamplesPerPixel) ≡ Some (u16s (length i.color.bits ∷ []))
-  pub predicted_by : given (tag_number tag.Predictor) ≡ Some (predictors (i.predictor ∷ []))
-  pub planar : given (tag_number tag.PlanarConfiguration) ≡ planar_given i.form.planar
   pub extra : ExtraGiven i.extra (given (tag_number tag.ExtraSamples))
-  pub subsampling : given (tag_number tag.ChromaSubsampling) ≡ chroma_given i.color.interpretation
-  pub form : TellsForm i.form.chunk_type i given
-  pub no_strips : given (tag_number tag.StripOffsets) ≡ None
-  pub no_strip_counts : given (tag_number tag.StripByteCounts) ≡ None
-  pub no_tiles : given (tag_number tag.TileOffsets) ≡ None
-  pub no_tile_counts : given (tag_number tag.TileByteCounts) ≡ None
+  pub pixels : AreGiven (open_tags i (given (tag_number tag.ExtraSamples))) given
+  pub chunks : EachGiven (place_tags i None None) given
 
 -- An encoder can make an image with this width and height, these samples, this compression and this
 -- layout of chunks.

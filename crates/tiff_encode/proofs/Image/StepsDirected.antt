@@ -14,7 +14,6 @@ use Rattle.tiff_encode.specs.declared.encoder.script.StepReply.TheVariants as re
 use Rattle.tiff_encode.specs.Model.{Grows}
 use Rattle.tiff_encode.specs.Machine.{FileState, OpenDirectory, OpenImage, WriteCall}
 use Rattle.tiff_encode.specs.Calls.{with_directory_of, write_tag, write_tag_buf, extend_from}
-use Rattle.tiff_encode.specs.Held.{is_page_tag}
 use Rattle.tiff_encode.specs.JobValues.{value_data, buffer_in}
 use Rattle.tiff_encode.specs.Open.{HoldsOpen, model_by}
 use Rattle.tiff_encode.specs.Jobs as jobs
@@ -22,6 +21,7 @@ use Rattle.tiff_encode.specs.Jobs.{FileAndModel, DirectoryStepped, is_apart}
 use Rattle.tiff_encode.specs.Stepping.{Moves, StepDraws}
 use Rattle.tiff_base.specs.Tags.{tag_number}
 use Rattle.tiff_base.specs.declared.tags.Tag.{Tag}
+use Rattle.tiff_page.specs.Checks.{is_page_tag}
 use Rattle.tiff_encode.proofs.Open.Held.{grown_open}
 use Rattle.tiff_encode.proofs.Open.Kept.{tags_keep_open, fields_keep_open}
 

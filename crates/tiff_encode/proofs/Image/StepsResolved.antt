@@ -10,6 +10,7 @@ use Rattle.tiff_base.specs.declared.tags.Tag.TheVariants as tag
 use Rattle.tiff_base.specs.Field.{AreEntries}
 use Rattle.tiff_base.specs.Tags.{tag_number}
 use Rattle.tiff_value.specs.Data.{FieldData, Scalars, units, rationals, data_of}
+use Rattle.tiff_page.specs.Checks.{is_page_tag}
 use Rattle.tiff_encode.specs.Model.{Model, Stands, Grows}
 use Rattle.tiff_encode.specs.WriteOps.{all_appended}
 use Rattle.tiff_encode.specs.Laws.{AreAppending}
@@ -19,7 +20,6 @@ use Rattle.tiff_encode.specs.Calls.{write_tags, with_directory_of, with_tags, re
 use Rattle.tiff_encode.specs.Ends.{EndsAsDefined, IsCutOff, IsShortOfMemory, CallFails, Ends}
 use Rattle.tiff_encode.specs.Leaves.{Leaves}
 use Rattle.tiff_encode.specs.Tagging.{write_fields, fields_of, StopsInPart, StopsResolving}
-use Rattle.tiff_encode.specs.Held.{is_page_tag}
 use Rattle.tiff_encode.specs.Open.{HoldsOpen, model_by}
 use Rattle.tiff_encode.specs.Jobs as jobs
 use Rattle.tiff_encode.specs.Jobs.{FileAndModel, IsCutShort, IsWithoutMemory}

@@ -1,7 +1,9 @@
 -- A new image is held by the model.
-use Rattle.std.proofs.Common.{◌≡◌, ℕ, zero, suc, ◌*◌, ◌^◌, ◌<◌, ◌≤◌, ◌⊎◌, inl, inr, true, List, [], ◌∷◌, length, Option, Some, None, Ok, refl, sym, subst, arith, lit<}
+use Rattle.std.proofs.Common.{◌≡◌, ℕ, zero, suc, ◌*◌, ◌^◌, ◌<◌, ◌≤◌, ◌⊎◌, inl, inr, true, List, [], length, Option, Some, None, Ok, refl, sym, ◌∙◌, subst, arith, lit<}
 use Rattle.std.proofs.Math.Nat.{div-le_self, min-le_left}
 use Rattle.std.proofs.lemmas.Grind.{div_ceil_times}
+use Rattle.std.specs.FinMap.{get}
+use Rattle.std.specs.Ordering.{nat_cmp, eq_by_cmp}
 use Rattle.std.specs.Prelude.{◌/◌, ◌%◌, ◌==◌}
 use Rattle.tiff_base.proofs.Common.{neither}
 use Rattle.tiff_base.specs.declared.error.TiffError.{TiffError}
@@ -11,108 +13,65 @@ use Rattle.tiff_base.specs.declared.tags.PhotometricInterpretation.{PhotometricI
 use Rattle.tiff_base.specs.declared.tags.PhotometricInterpretation.TheVariants as meaning
 use Rattle.tiff_base.specs.declared.tags.Predictor.{Predictor}
 use Rattle.tiff_base.specs.declared.tags.Predictor.TheVariants as predictor
-use Rattle.tiff_base.specs.declared.tags.ResolutionUnit.TheVariants as unit
 use Rattle.tiff_base.specs.declared.tags.SampleFormat.{SampleFormat}
-use Rattle.tiff_base.specs.declared.tags.Tag.{Tag}
 use Rattle.tiff_base.specs.declared.tags.Tag.TheVariants as tag
+use Rattle.tiff_base.specs.Tags.{tag_number}
 use Rattle.tiff_value.specs.declared.encoder.colortype.ColorTypeName.{ColorTypeName}
 use Rattle.tiff_value.specs.ColorType.{ColorTypeRecord}
 use Rattle.tiff_value.specs.ColorTypes.{color_type, inner_size}
-use Rattle.tiff_value.specs.Data.{Scalars, u16s, u32s, methods, interpretations, predictors, rationals, units}
 use Rattle.tiff_value.proofs.ColorTypes.{are_color_types}
 use Rattle.tiff_encode.specs.FileBytes.{rows_per_strip}
 use Rattle.tiff_encode.specs.Model.{Model}
 use Rattle.tiff_encode.specs.Machine.{FileState, OpenDirectory, OpenImage, WriteCall, gives, ◌>>=◌}
 use Rattle.tiff_encode.specs.Drawn.{IsSide}
 use Rattle.tiff_encode.specs.Causes.{begin_cause, predictor_cause, new_image_cause, image_cause}
-use Rattle.tiff_encode.specs.Calls.{new_directory, pad, image_directory, default_rows, write_tags, chroma_tags, first_tags, image_in, new_image}
-use Rattle.tiff_encode.specs.Held.{Given, HoldsValues, chroma_given}
+use Rattle.tiff_encode.specs.Calls.{new_directory, pad, image_directory, default_rows, write_tags, chroma_tags, meaning_tags, layout_tags, first_tags, image_in, new_image}
+use Rattle.tiff_encode.specs.Held.{Given, HoldsAt, HoldsValues, chroma_given}
 use Rattle.tiff_encode.specs.Open.{TellsOpen, HoldsChunks, HoldsOpen, model_by, BeginsOpen}
 use Rattle.tiff_encode.proofs.Slices.{ok_inj}
 use Rattle.tiff_encode.proofs.Runs.{uncaused}
 use Rattle.tiff_encode.proofs.Joining.{adding, begin_adds}
-use Rattle.tiff_encode.proofs.Open.Held.{none_held}
-use Rattle.tiff_encode.proofs.Open.Tags.{both_held, caused_held, tags_adding, tags_held, after, after_joined}
+use Rattle.tiff_encode.proofs.Open.Held.{none_held, set, unset_same}
+use Rattle.tiff_encode.proofs.Open.Tags.{both_held, caused_held, tags_adding, tags_held, after, after_local, after_joined}
 use Rattle.tiff_encode.proofs.Open.Settings.{fresh, first_test, above}
 
 -- ---- the tags of a new image
 
--- the tags before the subsampling, and the tags behind it
-abbrev head_tags : OpenImage → List (Tag × Scalars)
-head_tags i =
-    (tag.ImageWidth, u32s (i.width ∷ [])) ∷ (tag.ImageLength, u32s (i.height ∷ [])) ∷ (tag.Compression, methods (i.method ∷ []))
-    ∷ (tag.Predictor, predictors (i.predictor ∷ []))
-    ∷ (tag.PhotometricInterpretation, interpretations (i.color.interpretation ∷ [])) ∷ []
-
-abbrev tail_tags : OpenImage → List (Tag × Scalars)
-tail_tags i =
-    (tag.RowsPerStrip, u32s (i.form.chunk_height ∷ [])) ∷ (tag.SamplesPerPixel, u16s (length i.color.bits ∷ []))
-    ∷ (tag.XResolution, rationals ((1, 1) ∷ [])) ∷ (tag.YResolution, rationals ((1, 1) ∷ []))
-    ∷ (tag.ResolutionUnit, units (unit.None ∷ [])) ∷ []
-
--- the values of the first tags, of these and the subsampling, and of all tags
+-- the values of the tags before the subsampling, and of all tags
 abbrev head_given : OpenImage → Given
-head_given i = after (λ t. None) (head_tags i)
-
-abbrev mid_given : OpenImage → Given
-mid_given i = after (head_given i) (chroma_tags i.color.interpretation)
+head_given i = after (λ t. None) (meaning_tags i)
 
 abbrev first_given : OpenImage → Given
-first_given i = after (mid_given i) (tail_tags i)
+first_given i = after (set (head_given i) (tag_number tag.ChromaSubsampling) (chroma_given i.color.interpretation)) (layout_tags i)
 
-all_given : (i : OpenImage) → after (λ t. None) (first_tags i) ≡ first_given i
+-- the tag of the subsampling has its value, or stays absent
+chroma_set : (p : PhotometricInterpretation) (given : Given) (n : ℕ) → given 530 ≡ None
+    → after given (chroma_tags p) n ≡ set given 530 (chroma_given p) n
+chroma_set meaning.WhiteIsZero given n h = unset_same given 530 n (eq_by_cmp nat_cmp n 530) refl h
+chroma_set meaning.BlackIsZero given n h = unset_same given 530 n (eq_by_cmp nat_cmp n 530) refl h
+chroma_set meaning.RGB given n h = unset_same given 530 n (eq_by_cmp nat_cmp n 530) refl h
+chroma_set meaning.RGBPalette given n h = unset_same given 530 n (eq_by_cmp nat_cmp n 530) refl h
+chroma_set meaning.TransparencyMask given n h = unset_same given 530 n (eq_by_cmp nat_cmp n 530) refl h
+chroma_set meaning.CMYK given n h = unset_same given 530 n (eq_by_cmp nat_cmp n 530) refl h
+chroma_set meaning.YCbCr given n h = refl
+chroma_set meaning.CIELab given n h = unset_same given 530 n (eq_by_cmp nat_cmp n 530) refl h
+chroma_set meaning.IccLab given n h = unset_same given 530 n (eq_by_cmp nat_cmp n 530) refl h
+chroma_set meaning.ItuLab given n h = unset_same given 530 n (eq_by_cmp nat_cmp n 530) refl h
+
+all_given : (i : OpenImage) (n : ℕ) → after (λ t. None) (first_tags i) n ≡ first_given i n
 unfolding first_tags
-all_given i = after_joined (head_given i) (chroma_tags i.color.interpretation) (tail_tags i)
-
--- the subsampling changes only its own tag
-chroma_kept : (p : PhotometricInterpretation) (given : Given) (n : ℕ)
-    → after given (chroma_tags meaning.YCbCr) n ≡ given n → after given (chroma_tags p) n ≡ given n
-chroma_kept meaning.WhiteIsZero given n h = refl
-chroma_kept meaning.BlackIsZero given n h = refl
-chroma_kept meaning.RGB given n h = refl
-chroma_kept meaning.RGBPalette given n h = refl
-chroma_kept meaning.TransparencyMask given n h = refl
-chroma_kept meaning.CMYK given n h = refl
-chroma_kept meaning.YCbCr given n h = h
-chroma_kept meaning.CIELab given n h = refl
-chroma_kept meaning.IccLab given n h = refl
-chroma_kept meaning.ItuLab given n h = refl
-
-chroma_told : (p : PhotometricInterpretation) (given : Given) → given 530 ≡ None → after given (chroma_tags p) 530 ≡ chroma_given p
-chroma_told meaning.WhiteIsZero given h = h
-chroma_told meaning.BlackIsZero given h = h
-chroma_told meaning.RGB given h = h
-chroma_told meaning.RGBPalette given h = h
-chroma_told meaning.TransparencyMask given h = h
-chroma_told meaning.CMYK given h = h
-chroma_told meaning.YCbCr given h = refl
-chroma_told meaning.CIELab given h = h
-chroma_told meaning.IccLab given h = h
-chroma_told meaning.ItuLab given h = h
+all_given i n =
+    let p : PhotometricInterpretation = i.color.interpretation in
+    let joined = after_joined (head_given i) (chroma_tags p) (layout_tags i) in
+    (λ k. joined k n)
+    ∙ after_local (layout_tags i) (after (head_given i) (chroma_tags p)) (set (head_given i) 530 (chroma_given p)) n
+    (chroma_set p (head_given i) n refl)
 
 -- the values of a new image's tags describe the image
 begun_tells : (file : FileState) (d : OpenDirectory) (color : ColorTypeRecord) (size width height : ℕ)
     → (let i : OpenImage = image_in file d color size width height in TellsOpen i (first_given i))
 begun_tells file d color size width height =
-    let i : OpenImage = image_in file d color size width height in
-    let kept : (n : ℕ) → after (head_given i) (chroma_tags meaning.YCbCr) n ≡ head_given i n → mid_given i n ≡ head_given i n =
-    λ n h. chroma_kept color.interpretation (head_given i) n h in
-    record {
-      width = kept 256 refl;
-      height = kept 257 refl;
-      packed_by = kept 259 refl;
-      interpretation = kept 262 refl;
-      samples = refl;
-      predicted_by = kept 317 refl;
-      planar = kept 284 refl;
-      extra = inr (refl, kept 338 refl);
-      subsampling = chroma_told color.interpretation (head_given i) refl;
-      form = refl;
-      no_strips = kept 273 refl;
-      no_strip_counts = kept 279 refl;
-      no_tiles = kept 324 refl;
-      no_tile_counts = kept 325 refl;
-    }
+    record { extra = inr (refl, refl); pixels = refl; chunks = (refl, (refl, (refl, (refl, (refl, tt))))) }
 
 -- ---- the sides, the samples and the compression of a new image
 
@@ -225,4 +184,5 @@ begins_open file m name width height i w h p a =
     let held = tags_held d (first_tags (image d)) mid n (λ q. None) z (begun_empty file d n x) s in
     let k : Model = model_by mid n (call mid) in
     subst (λ j. HoldsOpen file.kind k j []) (ok_inj (image z) i t)
-    (begun_held file z k name width height w h p c (subst (λ g. HoldsValues k z.fields g) (all_given (image d)) held)))))
+    (begun_held file z k name width height w h p c
+    (λ t q. subst (λ v. HoldsAt k (get z.fields t) v) (all_given (image d) t) (held t q))))))

@@ -1,5 +1,5 @@
 -- An image that ends with every chunk is held, and the file shows it.
-use Rattle.std.proofs.Common.{◌≡◌, ℕ, ◌^◌, ◌<◌, inl, inr, Bool, true, false, cond, List, [], ◌∷◌, ◌++◌, length, map, Some, None, Ok, refl, ap, sym, ◌∙◌, subst, arith}
+use Rattle.std.proofs.Common.{◌≡◌, ℕ, ◌^◌, ◌<◌, inl, inr, Bool, true, false, cond, List, [], ◌∷◌, ◌++◌, length, map, Option, Some, None, Ok, refl, ap, sym, ◌∙◌, subst, arith}
 use Rattle.std.proofs.lemmas.Bool.{eqb-true, ltb-false, cases_lt}
 use Rattle.std.specs.Prelude.{◌==◌}
 use Rattle.std.specs.FinMap.{len}
@@ -18,16 +18,17 @@ use Rattle.tiff_encode.specs.Machine.{FileState, OpenDirectory, OpenImage, Write
 use Rattle.tiff_encode.specs.Causes.{end_of, finish_cause}
 use Rattle.tiff_encode.specs.Chunks.{all_samples, image_page, is_left}
 use Rattle.tiff_encode.specs.Calls.{Offsets, links_to, offsets_of, chains, finish, write_tags, extended_by_first, sample_tags, chunk_tags, last_tags, finish_image}
-use Rattle.tiff_encode.specs.Held.{Given, HoldsValues, ExtraGiven, TellsChunks, TellsImage, IsWholeImage, AreSupplied, RegionsHaveChunks, ImagesShow}
-use Rattle.tiff_encode.specs.Open.{TellsForm, TellsOpen, IsOpen, HoldsChunks, HoldsOpen, model_by, EndsHeld, GrownEnded, EndedShown, EndsShown}
+use Rattle.tiff_encode.specs.Held.{Given, HoldsValues, ExtraGiven, value_in, AreGiven, EachGiven, image_tags, places_in, TellsImage, IsWholeImage, AreSupplied, RegionsHaveChunks, ImagesShow}
+use Rattle.tiff_encode.specs.Open.{open_tags, TellsOpen, IsOpen, HoldsChunks, HoldsOpen, model_by, EndsHeld, GrownEnded, EndedShown, EndsShown}
 use Rattle.tiff_encode.proofs.Slices.{ok_inj}
 use Rattle.tiff_encode.proofs.WriteOps.{ops_grow}
-use Rattle.tiff_encode.proofs.Open.Held.{holds_grown, chunks_grown, set}
-use Rattle.tiff_encode.proofs.Open.Tags.{both_held, caused_held, tags_adding, tags_held, after, after_joined}
+use Rattle.tiff_encode.proofs.Given.{IsLocal, given_changed}
+use Rattle.tiff_encode.proofs.Open.Held.{holds_grown, chunks_grown, set, set_local}
+use Rattle.tiff_encode.proofs.Open.Tags.{both_held, caused_held, tags_adding, tags_held, after, after_local, after_joined}
 
 -- ---- the last tags of an image
 
-module _ (kind : FileKind) (i : OpenImage) (given : Given) where
+module _ (kind : FileKind) (i : OpenImage) where
   abbrev offsets : Scalars
   offsets = offset_values kind (map (λ chunk. chunk.offset) i.chunks)
 
@@ -35,88 +36,86 @@ module _ (kind : FileKind) (i : OpenImage) (given : Given) where
   byte_counts = offset_values kind (map (λ chunk. chunk.stored) i.chunks)
 
   -- the values with the bits, then the number of samples, the sample formats, and the chunks
-  abbrev bits_given : Given
-  bits_given = set given (tag_number tag.BitsPerSample) (Some (u16s (extended_by_first i.color.bits (length i.extra))))
+  abbrev bits_given : Given → Given
+  bits_given given = set given (tag_number tag.BitsPerSample) (Some (u16s (extended_by_first i.color.bits (length i.extra))))
 
-  abbrev samples_given : Bool → Given
-  samples_given b = after bits_given (cond b [] ((tag.SamplesPerPixel, u16s (all_samples i ∷ [])) ∷ []))
+  abbrev samples_given : Bool → Given → Given
+  samples_given b given = after (bits_given given) (cond b [] ((tag.SamplesPerPixel, u16s (all_samples i ∷ [])) ∷ []))
 
-  abbrev formats_given : Bool → Given
-  formats_given b =
-      set (samples_given b) (tag_number tag.SampleFormat) (Some (formats (extended_by_first i.color.formats (length i.extra))))
+  abbrev formats_given : Bool → Given → Given
+  formats_given b given =
+      set (samples_given b given) (tag_number tag.SampleFormat) (Some (formats (extended_by_first i.color.formats (length i.extra))))
 
-  abbrev chunks_given : Bool → ChunkType → Given
-  chunks_given b c = after (formats_given b) (chunk_tags c offsets byte_counts)
+  abbrev chunks_given : Bool → ChunkType → Given → Given
+  chunks_given b c given = after (formats_given b given) (chunk_tags c offsets byte_counts)
 
-  abbrev last_given : Given
-  last_given = chunks_given (length i.extra == 0) i.form.chunk_type
+  abbrev last_given : Given → Given
+  last_given given = chunks_given (length i.extra == 0) i.form.chunk_type given
 
-  all_given : after given (last_tags kind i) ≡ last_given
+  all_given : (given : Given) → after given (last_tags kind i) ≡ last_given given
   unfolding last_tags
-  all_given =
-      after_joined bits_given (sample_tags i)
+  all_given given =
+      after_joined (bits_given given) (sample_tags i)
       ((tag.SampleFormat, formats (extended_by_first i.color.formats (length i.extra))) ∷ chunk_tags i.form.chunk_type offsets byte_counts)
 
-  -- a tag other than the number of samples and the chunk lists keeps its value
-  samples_kept : (b : Bool) (n : ℕ) → samples_given false n ≡ bits_given n → samples_given b n ≡ bits_given n
-  samples_kept true n h = refl
-  samples_kept false n h = h
+  last_local : (b : Bool) (c : ChunkType) → IsLocal (chunks_given b c)
+  last_local b c f g n e =
+      let samples : List (Tag × Scalars) = cond b [] ((tag.SamplesPerPixel, u16s (all_samples i ∷ [])) ∷ []) in
+      after_local (chunk_tags c offsets byte_counts) (formats_given b f) (formats_given b g) n
+      (set_local (tag_number tag.SampleFormat) (Some (formats (extended_by_first i.color.formats (length i.extra)))) (samples_given b f) (samples_given b g) n
+      (after_local samples (bits_given f) (bits_given g) n
+      (set_local (tag_number tag.BitsPerSample) (Some (u16s (extended_by_first i.color.bits (length i.extra)))) f g n e)))
 
-  chunks_kept : (b : Bool) (c : ChunkType) (n : ℕ) → chunks_given b Strip n ≡ formats_given b n
-      → chunks_given b Tile n ≡ formats_given b n → chunks_given b c n ≡ formats_given b n
-  chunks_kept b Strip n h g = h
-  chunks_kept b Tile n h g = g
-
-  -- the number of samples of a pixel
-  samples_told : (b : Bool) → (length i.extra == 0) ≡ b → given (tag_number tag.SamplesPerPixel) ≡ Some (u16s (length i.color.bits ∷ []))
-      → samples_given b (tag_number tag.SamplesPerPixel) ≡ Some (u16s (all_samples i ∷ []))
-  samples_told false e h = refl
-  samples_told true e h =
+  -- the tags of the pixels; the number of samples of a pixel is there from the beginning, if there are no extra samples
+  pixels_last : (b : Bool) (c : ChunkType) (extra : Option Scalars) → (length i.extra == 0) ≡ b
+      → AreGiven (image_tags i extra) (chunks_given b c (value_in (open_tags i extra)))
+  pixels_last false Strip extra e = refl
+  pixels_last false Tile extra e = refl
+  pixels_last true Strip extra e =
       let none : length i.extra ≡ 0 = eqb-true (length i.extra) 0 e in
-      let same : length i.color.bits ≡ all_samples i = omega (arith, none) in
-      h ∙ ap (λ n. Some (u16s (n ∷ []))) same
+      let same : all_samples i ≡ length i.color.bits = omega (arith, none) in
+      rw same refl
+  pixels_last true Tile extra e =
+      let none : length i.extra ≡ 0 = eqb-true (length i.extra) 0 e in
+      let same : all_samples i ≡ length i.color.bits = omega (arith, none) in
+      rw same refl
+
+  -- a tag other than the number of samples keeps its value
+  samples_kept : (b : Bool) (given : Given) (n : ℕ) → samples_given false given n ≡ bits_given given n → samples_given b given n ≡ bits_given given n
+  samples_kept true given n h = refl
+  samples_kept false given n h = h
 
   -- where the chunks are in the file
-  chunks_told : (b : Bool) (c : ChunkType) → TellsForm c i given → given (tag_number tag.StripOffsets) ≡ None
-      → given (tag_number tag.StripByteCounts) ≡ None → given (tag_number tag.TileOffsets) ≡ None
-      → given (tag_number tag.TileByteCounts) ≡ None → TellsChunks c kind i (chunks_given b c)
-  chunks_told b Strip f so sc to tc = record {
-    rows = samples_kept b 278 refl ∙ f;
-    offsets = refl;
-    byte_counts = refl;
-    no_offsets = samples_kept b 324 refl ∙ to;
-    no_byte_counts = samples_kept b 325 refl ∙ tc;
-  }
-  chunks_told b Tile f so sc to tc = record {
-    width = samples_kept b 322 refl ∙ f.0;
-    height = samples_kept b 323 refl ∙ f.1;
-    offsets = refl;
-    byte_counts = refl;
-    no_offsets = samples_kept b 273 refl ∙ so;
-    no_byte_counts = samples_kept b 279 refl ∙ sc;
-  }
+  chunks_told : (b : Bool) (c : ChunkType) (width height : ℕ) (given : Given) → EachGiven (places_in c width height None None) given
+      → EachGiven (places_in c width height (Some offsets) (Some byte_counts)) (chunks_given b c given)
+  chunks_told b Strip width height given t =
+      (samples_kept b given 278 refl ∙ t.0, (refl, (refl, (samples_kept b given 324 refl ∙ t.1.1.1.0, (samples_kept b given 325 refl ∙ t.1.1.1.1.0, tt)))))
+  chunks_told b Tile width height given t = (
+    samples_kept b given 322 refl ∙ t.0,
+    (
+      samples_kept b given 323 refl ∙ t.1.0,
+      (refl, (refl, (samples_kept b given 273 refl ∙ t.1.1.1.1.0, (samples_kept b given 279 refl ∙ t.1.1.1.1.1.0, tt)))),
+    ),
+  )
+
+  -- the tag of the extra samples keeps its value
+  extra_same : (b : Bool) (c : ChunkType) (given : Given) → chunks_given b c given (tag_number tag.ExtraSamples) ≡ given (tag_number tag.ExtraSamples)
+  extra_same b Strip given = samples_kept b given 338 refl
+  extra_same b Tile given = samples_kept b given 338 refl
 
   -- the values of all tags describe the image
-  last_tells : TellsOpen i given → TellsImage kind i last_given
-  last_tells t =
+  last_tells : (given : Given) → TellsOpen i given → TellsImage kind i (last_given given)
+  last_tells given t =
       let b : Bool = length i.extra == 0 in
       let c : ChunkType = i.form.chunk_type in
-      let kept : (n : ℕ) → chunks_given b Strip n ≡ formats_given b n → chunks_given b Tile n ≡ formats_given b n
-      → formats_given b n ≡ samples_given b n → samples_given false n ≡ bits_given n → bits_given n ≡ given n → last_given n ≡ given n =
-      λ n p q r s u. chunks_kept b c n p q ∙ r ∙ samples_kept b n s ∙ u in
+      let extra : Option Scalars = given (tag_number tag.ExtraSamples) in
+      let same = sym (extra_same b c given) in
       record {
-        width = kept 256 refl refl refl refl refl ∙ t.width;
-        height = kept 257 refl refl refl refl refl ∙ t.height;
-        bits = chunks_kept b c 258 refl refl ∙ samples_kept b 258 refl;
-        packed_by = kept 259 refl refl refl refl refl ∙ t.packed_by;
-        interpretation = kept 262 refl refl refl refl refl ∙ t.interpretation;
-        samples = chunks_kept b c 277 refl refl ∙ samples_told b refl t.samples;
-        predicted_by = kept 317 refl refl refl refl refl ∙ t.predicted_by;
-        planar = kept 284 refl refl refl refl refl ∙ t.planar;
-        extra = subst (λ x. ExtraGiven i.extra x) (sym (kept 338 refl refl refl refl refl)) t.extra;
-        sample_formats = chunks_kept b c 339 refl refl;
-        subsampling = kept 530 refl refl refl refl refl ∙ t.subsampling;
-        chunks = chunks_told b c t.form t.no_strips t.no_strip_counts t.no_tiles t.no_tile_counts;
+        extra = subst (ExtraGiven i.extra) same t.extra;
+        pixels = subst (λ e. AreGiven (image_tags i e) (last_given given)) same
+            (given_changed (chunks_given b c) (last_local b c) (open_tags i extra) (image_tags i extra) given t.pixels
+            (pixels_last b c extra refl));
+        chunks = chunks_told b c i.form.chunk_width i.form.chunk_height given t.chunks;
       }
 
 -- ---- the chunks of an image

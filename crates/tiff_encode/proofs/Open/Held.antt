@@ -7,10 +7,12 @@ use Rattle.std.specs.Cmp.{nat_cmp_total}
 use Rattle.tiff_base.specs.declared.tags.FileKind.{FileKind}
 use Rattle.tiff_base.specs.Field.{Field}
 use Rattle.tiff_value.specs.Data.{Scalars}
+use Rattle.tiff_page.specs.Checks.{is_page_tag}
 use Rattle.tiff_encode.specs.Model.{Model, Grows}
 use Rattle.tiff_encode.specs.Machine.{OpenImage}
-use Rattle.tiff_encode.specs.Held.{is_page_tag, Given, HasValues, HoldsAt, HoldsValues}
+use Rattle.tiff_encode.specs.Held.{Given, HasValues, HoldsAt, HoldsValues}
 use Rattle.tiff_encode.specs.Open.{HoldsChunks, GrownOpen}
+use Rattle.tiff_encode.proofs.Given.{IsLocal}
 
 -- ---- more is written
 
@@ -59,6 +61,14 @@ is_equal Greater e = absurd (false≢true e)
 -- the values with the values of one tag, or without that tag
 abbrev pub set : Given → ℕ → Option Scalars → Given
 set given n v = λ t. cond (eq_by_cmp nat_cmp t n) v (given t)
+
+pub set_local : (n : ℕ) (v : Option Scalars) → IsLocal (λ given. set given n v)
+set_local n v f g t e = ap (cond (eq_by_cmp nat_cmp t n) v) e
+
+-- a value that is absent stays so
+pub unset_same : (given : Given) (n t : ℕ) (b : Bool) → eq_by_cmp nat_cmp t n ≡ b → given n ≡ None → given t ≡ cond b None (given t)
+unset_same given n t true q h = ap given (nat_cmp-IsAntisymmetric t n (is_equal (nat_cmp t n) q)) ∙ h
+unset_same given n t false q h = refl
 
 module _ (m : Model) where
   set_by : (b : Bool) (x : Option Field) (g : Option Scalars) (f : Field) (v : Scalars) → HasValues m f v → HoldsAt m x g

@@ -1,10 +1,8 @@
 -- What is held of an open image if a call changes one part of it.
-use Rattle.std.proofs.Common.{◌≡◌, ℕ, ◌+◌, ◌^◌, ◌<◌, false, List, [], ◌∷◌, length, Option, Some, None, Ok, refl, ap, sym, ◌∙◌, subst}
+use Rattle.std.proofs.Common.{◌≡◌, ℕ, ◌+◌, ◌^◌, ◌<◌, false, List, [], ◌∷◌, length, Option, None, Ok, refl, subst}
 use Rattle.std.specs.List.{list_any}
 use Rattle.std.specs.FinMap.{insert}
 use Rattle.tiff_base.proofs.Common.{neither}
-use Rattle.tiff_base.specs.declared.color.ChunkType.{ChunkType}
-use Rattle.tiff_base.specs.declared.color.ChunkType.TheVariants.{Strip, Tile}
 use Rattle.tiff_base.specs.declared.error.TiffError.{TiffError}
 use Rattle.tiff_base.specs.declared.tags.ExtraSamples.{ExtraSamples}
 use Rattle.tiff_base.specs.declared.tags.FileKind.{FileKind}
@@ -12,64 +10,42 @@ use Rattle.tiff_base.specs.declared.tags.Tag.{Tag}
 use Rattle.tiff_base.specs.declared.tags.Tag.TheVariants as tag
 use Rattle.tiff_base.specs.Field.{Field}
 use Rattle.tiff_base.specs.Tags.{tag_number}
-use Rattle.tiff_value.specs.Data.{Scalars, u32s, rationals, units}
+use Rattle.tiff_value.specs.Data.{Scalars, rationals, units}
+use Rattle.tiff_page.specs.Checks.{is_page_tag}
 use Rattle.tiff_encode.specs.Model.{Model}
 use Rattle.tiff_encode.specs.Machine.{FileState, OpenDirectory, ChunkLayout, Chunk, OpenImage, WriteCall, gives, ◌>>=◌}
 use Rattle.tiff_encode.specs.Drawn.{IsForm}
 use Rattle.tiff_encode.specs.Causes.{resolution_cause, one_resolution_cause, resolution_unit_cause}
 use Rattle.tiff_encode.specs.Calls.{write_tag, write_tag_buf, write_tags, extend_from, with_directory_of, resolution_tags, resolution, x_resolution, y_resolution, resolution_unit}
 use Rattle.tiff_encode.specs.Stored.{unpacked_chunk}
-use Rattle.tiff_encode.specs.Held.{is_page_tag, Given, HoldsValues, planar_given, ExtraGiven}
-use Rattle.tiff_encode.specs.Open.{TellsForm, TellsOpen, IsOpen, HoldsChunks, HoldsOpen, model_by, KeepsOpen, TagsKeepOpen, FieldsKeepOpen, ResolutionsKeepOpen}
+use Rattle.tiff_encode.specs.Held.{Given, HoldsValues, ExtraGiven, value_in, AreGiven, EachGiven, place_tags}
+use Rattle.tiff_encode.specs.Open.{open_tags, TellsOpen, IsOpen, HoldsChunks, HoldsOpen, model_by, KeepsOpen, TagsKeepOpen, FieldsKeepOpen, ResolutionsKeepOpen}
 use Rattle.tiff_encode.proofs.Slices.{ok_inj}
 use Rattle.tiff_encode.proofs.WriteOps.{ops_grow}
+use Rattle.tiff_encode.proofs.Given.{IsLocal, given_changed}
 use Rattle.tiff_encode.proofs.Open.Held.{chunks_grown, other_held}
 use Rattle.tiff_encode.proofs.Image.Table.{Row, written, tagged}
 use Rattle.tiff_encode.proofs.Open.Tags.{both_held, caused_held, tags_adding, other_tag_held, other_buf_held, others_held}
 
 -- ---- one part
 
--- the layout of the image stays if its tags have the same values
-pub form_kept : (c : ChunkType) (i next : OpenImage) (given later : Given) → next.form.chunk_width ≡ i.form.chunk_width
-    → next.form.chunk_height ≡ i.form.chunk_height → later (tag_number tag.RowsPerStrip) ≡ given (tag_number tag.RowsPerStrip)
-    → later (tag_number tag.TileWidth) ≡ given (tag_number tag.TileWidth)
-    → later (tag_number tag.TileLength) ≡ given (tag_number tag.TileLength) → TellsForm c i given → TellsForm c next later
-form_kept Strip i next given later w h r x y t = r ∙ t ∙ ap (λ n. Some (u32s (n ∷ []))) (sym h)
-form_kept Tile i next given later w h r x y t =
-    (x ∙ t.0 ∙ ap (λ n. Some (u32s (n ∷ []))) (sym w), y ∙ t.1 ∙ ap (λ n. Some (u32s (n ∷ []))) (sym h))
-
--- values that are the same for the tags that no call of an open image changes
-abbrev pub Agree : Given → Given → Type 0
-Agree given later =
-    let at : Tag → Type 0 = λ t. later (tag_number t) ≡ given (tag_number t) in
-    at tag.ImageWidth × at tag.ImageLength × at tag.Compression × at tag.PhotometricInterpretation × at tag.SamplesPerPixel × at tag.Predictor
-    × at tag.ChromaSubsampling × at tag.StripOffsets × at tag.StripByteCounts × at tag.TileOffsets × at tag.TileByteCounts
+-- the tags describe an image whose values a call changes
+pub tells_changed : (change : Given → Given) → IsLocal change → (i next : OpenImage) (given : Given) → TellsOpen i given
+    → (let later : Given = change given in
+    ExtraGiven next.extra (later (tag_number tag.ExtraSamples))
+    → AreGiven (open_tags next (later (tag_number tag.ExtraSamples))) (change (value_in (open_tags i (given (tag_number tag.ExtraSamples)))))
+    → EachGiven (place_tags next None None) later → TellsOpen next later)
+tells_changed change l i next given t e s c = record {
+  extra = e;
+  pixels = given_changed change l (open_tags i (given (tag_number tag.ExtraSamples)))
+      (open_tags next (change given (tag_number tag.ExtraSamples))) given t.pixels s;
+  chunks = c;
+}
 
 -- an image with another directory, other extra samples, another layout and other chunks
 module _ (i : OpenImage) (d : OpenDirectory) (extra : List ExtraSamples) (form : ChunkLayout) (chunks : List Chunk) where
   abbrev next_image : OpenImage
   next_image = record i { directory = d; extra = extra; form = form; chunks = chunks }
-
-  -- the tags describe that image
-  pub tells_with : (given later : Given) → Agree given later → TellsOpen i given
-      → later (tag_number tag.PlanarConfiguration) ≡ planar_given form.planar → ExtraGiven extra (later (tag_number tag.ExtraSamples))
-      → TellsForm form.chunk_type next_image later → TellsOpen next_image later
-  tells_with given later a t p e f = record {
-    width = a.0 ∙ t.width;
-    height = a.1 ∙ t.height;
-    packed_by = a.2 ∙ t.packed_by;
-    interpretation = a.3 ∙ t.interpretation;
-    samples = a.4 ∙ t.samples;
-    predicted_by = a.5 ∙ t.predicted_by;
-    planar = p;
-    extra = e;
-    subsampling = a.6 ∙ t.subsampling;
-    form = f;
-    no_strips = a.7 ∙ t.no_strips;
-    no_strip_counts = a.8 ∙ t.no_strip_counts;
-    no_tiles = a.9 ∙ t.no_tiles;
-    no_tile_counts = a.10 ∙ t.no_tile_counts;
-  }
 
   -- that image is open
   pub open_with : IsOpen i → length i.color.bits + length extra < 2 ^ 16 → IsForm i.width form → IsOpen next_image
@@ -88,9 +64,7 @@ module _ (i : OpenImage) (d : OpenDirectory) (extra : List ExtraSamples) (form :
 -- the tags of an image describe it with another directory and other chunks
 pub tells_kept : (i : OpenImage) (d : OpenDirectory) (chunks : List Chunk) (given : Given) → TellsOpen i given
     → TellsOpen (record i { directory = d; chunks = chunks }) given
-tells_kept i d chunks given t =
-    tells_with i d i.extra i.form chunks given given (refl, refl, refl, refl, refl, refl, refl, refl, refl, refl, refl) t t.planar t.extra
-    (form_kept i.form.chunk_type i (record i { directory = d; chunks = chunks }) given given refl refl refl refl refl t.form)
+tells_kept i d chunks given t = record { extra = t.extra; pixels = t.pixels; chunks = t.chunks }
 
 -- an image stays open with another directory and other chunks
 pub open_kept : (i : OpenImage) (d : OpenDirectory) (chunks : List Chunk) → IsOpen i

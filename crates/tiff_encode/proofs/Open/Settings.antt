@@ -22,9 +22,10 @@ use Rattle.tiff_encode.specs.Calls.{write_tags, strips_of, tiles_of, without_fie
 use Rattle.tiff_encode.specs.Held.{Given, HoldsValues, samples_of_chunk}
 use Rattle.tiff_encode.specs.Open.{TellsOpen, IsOpen, HoldsChunks, HoldsOpen, model_by, KeepsOpen, SettingsKeepOpen}
 use Rattle.tiff_encode.proofs.Image.Table.{Setting, Extra, Rows, Sides, Planes, call_of, row, called}
-use Rattle.tiff_encode.proofs.Open.Held.{set, unset_held}
-use Rattle.tiff_encode.proofs.Open.Tags.{tags_held, after}
-use Rattle.tiff_encode.proofs.Open.Kept.{form_kept, tells_with, open_with, row_held}
+use Rattle.tiff_encode.proofs.Given.{IsLocal, places_kept, unplaced}
+use Rattle.tiff_encode.proofs.Open.Held.{set, set_local, unset_held}
+use Rattle.tiff_encode.proofs.Open.Tags.{tags_held, after, after_local}
+use Rattle.tiff_encode.proofs.Open.Kept.{tells_changed, open_with, row_held}
 
 -- ---- what the checks of these calls imply
 
@@ -81,6 +82,8 @@ extra_kept : (extra : List ExtraSamples) → KeepsOpen (λ i. extra_samples i ex
 unfolding extra_samples_cause
 extra_kept extra file m i next samples h a =
     let call : OpenDirectory → OpenImage = λ d. record i { directory = d; extra = extra } in
+    let value : Option Scalars = Some (extras extra) in
+    let change : Given → Given = λ given. set given (tag_number tag.ExtraSamples) value in
     setting_held (Extra extra) file m i next samples h a
     (λ d n c g o.
     let tests = first_test _ _ _ (fresh file.fault _ c) in
@@ -88,11 +91,10 @@ extra_kept extra file m i next samples h a =
     let few = ltb-false 65535 (length i.color.bits + length extra) count.0 in
     let t : TellsOpen i h.given = h.tells in
     record {
-      given = set h.given (tag_number tag.ExtraSamples) (Some (extras extra));
+      given = change h.given;
       holds = o;
-      tells = tells_with i d extra i.form i.chunks h.given (set h.given (tag_number tag.ExtraSamples) (Some (extras extra)))
-          (refl, refl, refl, refl, refl, refl, refl, refl, refl, refl, refl) t t.planar (inl refl)
-          (form_kept i.form.chunk_type i (call d) h.given _ refl refl refl refl refl t.form);
+      tells = tells_changed change (set_local (tag_number tag.ExtraSamples) value) i (call d) h.given t (inl refl) refl
+          (places_kept i.form.chunk_type i.form.chunk_width i.form.chunk_height h.given (change h.given) refl t.chunks);
       open_so = open_with i d extra i.form i.chunks h.open_so (omega (arith, few)) h.open_so.form;
       chunks = none_held file.kind n i (call d) samples g tests.0 refl refl;
     })
@@ -117,31 +119,35 @@ rows_kept : (rows : ℕ) → rows < 2 ^ 32 → KeepsOpen (λ i. set_rows_per_str
 unfolding rows_per_strip_cause
 rows_kept rows l file m i next samples h a =
     let form : ChunkLayout = strips_of i.width rows i.form.planar in
+    let value : Option Scalars = Some (u32s (rows ∷ [])) in
+    let change : Given → Given = λ given. set given (tag_number tag.RowsPerStrip) value in
     setting_held (Rows rows) file m i next samples h a
     (λ d n c g o.
     let tests = first_test _ _ _ (fresh file.fault _ c) in
     let some = neither (rows == 0) _ tests.0 in
     let fresh = neither (is_begun i) (is_tile i.form.chunk_type) some.1 in
     let t : TellsOpen i h.given = h.tells in
-    cut_kept file.kind n i d form (set h.given (tag_number tag.RowsPerStrip) (Some (u32s (rows ∷ [])))) samples h.open_so g fresh.0
+    let none = unplaced i.form.chunk_type i.form.chunk_width i.form.chunk_height h.given t.chunks in
+    cut_kept file.kind n i d form (change h.given) samples h.open_so g fresh.0
     (record { wide = h.open_so.wide; high = (above rows some.0, l); strips = λ _. refl }) o
-    (tells_with i d i.extra form i.chunks h.given _ (refl, refl, refl, refl, refl, refl, refl, refl, refl, refl, refl) t t.planar t.extra refl))
+    (tells_changed change (set_local (tag_number tag.RowsPerStrip) value) i (record i { directory = d; form = form }) h.given t t.extra refl (refl, none)))
 
 planar_kept : KeepsOpen planar
 unfolding planar_cause
 planar_kept file m i next samples h a =
     let form : ChunkLayout = record i.form { planar = Planar } in
     let call : OpenDirectory → OpenImage = λ d. record i { directory = d; form = form } in
+    let value : Option Scalars = Some (planars (Planar ∷ [])) in
+    let change : Given → Given = λ given. set given (tag_number tag.PlanarConfiguration) value in
     setting_held Planes file m i next samples h a
     (λ d n c g o.
     let tests = first_test _ _ _ (fresh file.fault _ c) in
     let t : TellsOpen i h.given = h.tells in
     let f : IsForm i.width i.form = h.open_so.form in
-    let later : Given = set h.given (tag_number tag.PlanarConfiguration) (Some (planars (Planar ∷ []))) in
-    cut_kept file.kind n i d form later samples h.open_so g tests.0
+    cut_kept file.kind n i d form (change h.given) samples h.open_so g tests.0
     (record { wide = f.wide; high = f.high; strips = f.strips }) o
-    (tells_with i d i.extra form i.chunks h.given later (refl, refl, refl, refl, refl, refl, refl, refl, refl, refl, refl) t refl t.extra
-    (form_kept i.form.chunk_type i (call d) h.given later refl refl refl refl refl t.form)))
+    (tells_changed change (set_local (tag_number tag.PlanarConfiguration) value) i (call d) h.given t t.extra refl
+    (places_kept i.form.chunk_type i.form.chunk_width i.form.chunk_height h.given (change h.given) refl t.chunks)))
 
 -- a side of a tile isn't 0
 side : (n : ℕ) → is_no_side n ≡ false → 0 < n
@@ -152,16 +158,20 @@ unfolding tiles_cause
 tiles_kept width length w l file m i next samples h a =
     let form : ChunkLayout = tiles_of width length i.form.planar in
     let values : List (Tag × Scalars) = (tag.TileWidth, u32s (width ∷ [])) ∷ (tag.TileLength, u32s (length ∷ [])) ∷ [] in
+    let change : Given → Given = λ given. set (after given values) (tag_number tag.RowsPerStrip) None in
+    let local : IsLocal change =
+    λ f g n e. set_local (tag_number tag.RowsPerStrip) None (after f values) (after g values) n (after_local values f g n e) in
     setting_held (Sides width length) file m i next samples h a
     (λ d n c g o.
     let tests = first_test _ _ _ (fresh file.fault _ c) in
     let sides = neither (is_no_side width) (is_no_side length) (first_test _ _ _ tests.1).0 in
     let t : TellsOpen i h.given = h.tells in
-    let later : Given = set (after h.given values) (tag_number tag.RowsPerStrip) None in
-    cut_kept file.kind n i (without_field d tag.RowsPerStrip) form later samples h.open_so g tests.0
+    let none = unplaced i.form.chunk_type i.form.chunk_width i.form.chunk_height h.given t.chunks in
+    cut_kept file.kind n i (without_field d tag.RowsPerStrip) form (change h.given) samples h.open_so g tests.0
     (record { wide = (side width sides.0, w); high = (side length sides.1, l); strips = λ e. absurd (no_strip e) })
     (unset_held n d.fields (after h.given values) (tag_number tag.RowsPerStrip) o)
-    (tells_with i (without_field d tag.RowsPerStrip) i.extra form i.chunks h.given later (refl, refl, refl, refl, refl, refl, refl, refl, refl, refl, refl) t t.planar t.extra (refl, refl)))
+    (tells_changed change local i (record i { directory = without_field d tag.RowsPerStrip; form = form }) h.given t t.extra refl
+    (refl, (refl, (none.1.1.0, (none.1.1.1.0, (none.0, (none.1.0, tt))))))))
 
 pub settings_keep_open : SettingsKeepOpen
 settings_keep_open = (extra_kept, (rows_kept, (tiles_kept, planar_kept)))

@@ -12,18 +12,20 @@ use Rattle.tiff_base.specs.Number.{le}
 use Rattle.tiff_base.specs.Tags.{tag_number}
 use Rattle.tiff_value.specs.Buffer.{BufferRecord}
 use Rattle.tiff_value.specs.Data.{FieldData, Scalars, data_of}
+use Rattle.tiff_page.specs.Checks.{is_page_tag}
 use Rattle.tiff_encode.specs.Model.{In, SuppliedField, Model}
 use Rattle.tiff_encode.specs.WriteOps.{WriteOp, Appended, Supplied, bytes_after, model_after}
 use Rattle.tiff_encode.specs.Value.{is_long, filled_field, field_at}
 use Rattle.tiff_encode.specs.Machine.{FileState, OpenDirectory, WriteCall, gives, by_cause, and_then, ◌>>=◌}
 use Rattle.tiff_encode.specs.Causes.{end_of, write_tag_cause}
 use Rattle.tiff_encode.specs.Calls.{with_field, placed_field, write_entry, write_entry_buf, write_tag, write_tag_buf, write_tags}
-use Rattle.tiff_encode.specs.Held.{is_page_tag, Given, HasValues, HoldsValues}
+use Rattle.tiff_encode.specs.Held.{Given, HasValues, HoldsValues}
 use Rattle.tiff_encode.specs.Open.{model_by}
 use Rattle.tiff_encode.proofs.Slices.{ok_inj, length-le}
 use Rattle.tiff_encode.proofs.WriteOps.{model_joined, ops_append, ops_grow}
 use Rattle.tiff_encode.proofs.Joining.{IsAdding, Adds, adding, entry_adds, entry_buf_adds, tag_adds, answers_adding, bind_adding}
-use Rattle.tiff_encode.proofs.Open.Held.{holds_grown, set, set_held, other_held}
+use Rattle.tiff_encode.proofs.Given.{IsLocal}
+use Rattle.tiff_encode.proofs.Open.Held.{holds_grown, set, set_local, set_held, other_held}
 
 -- ---- calls that succeed
 
@@ -119,6 +121,12 @@ tag_held d t values file m given next o h =
 abbrev pub after : Given → List (Tag × Scalars) → Given
 after given [] = given
 after given (v ∷ values) = after (set given (tag_number v.0) (Some v.1)) values
+
+pub after_local : (values : List (Tag × Scalars)) → IsLocal (λ given. after given values)
+after_local [] f g t e = e
+after_local (v ∷ values) f g t e =
+    let n : ℕ = tag_number v.0 in
+    after_local values (set f n (Some v.1)) (set g n (Some v.1)) t (set_local n (Some v.1) f g t e)
 
 -- the directory holds the values of some written tags
 pub tags_held : (d : OpenDirectory) (values : List (Tag × Scalars)) (file : FileState) (m : Model) (given : Given) (next : OpenDirectory)

@@ -1,4 +1,4 @@
--- A look-up of the tags of an image defines the image's page.
+-- What the checks of a page return for a look-up of the tags of an image.
 use Rattle.std.proofs.Common.{◌≡◌, ℕ, ◌+◌, ◌^◌, ◌<◌, ◌==◌, ◌⊎◌, List, [], ◌∷◌, length, map, get_or, true, false, Option, Some, None, Ok, refl, ap, sym, ◌∙◌, inl, inr, subst, arith}
 use Rattle.std.proofs.lemmas.Bool.{eq-eqb, ne_eqb, lt-ltb, le-leb}
 use Rattle.std.proofs.lemmas.List.{length-map}
@@ -25,7 +25,7 @@ use Rattle.tiff_ifd.specs.TagLookup.{TagLookup, find}
 use Rattle.tiff_ifd.specs.TagLookup as look
 use Rattle.tiff_page.specs.Counts.{planes_of, chunk_count}
 use Rattle.tiff_page.specs.Page.{Chunks}
-use Rattle.tiff_page.specs.Checks.{size_in, interpretation_in, method_in, samples_in, extra_in, format_from, format_in, depth_from, depth_in, predictor_in, planar_from, planar_in, subsampling_from, subsampling_in, chunk_type_in, chunks_counted, strips_in, tiles_in, chunks_in, page_of}
+use Rattle.tiff_page.specs.Checks.{size_in, interpretation_in, method_in, samples_in, extra_in, format_from, format_in, depth_from, depth_in, predictor_in, planar_from, planar_in, subsampling_from, subsampling_in, chunk_type_in, chunks_counted, strips_in, tiles_in, chunks_in}
 use Rattle.tiff_encode.specs.Machine.{OpenImage}
 use Rattle.tiff_encode.specs.Chunks.{all_samples, image_page}
 use Rattle.tiff_encode.specs.Chunks as encoded
@@ -174,35 +174,35 @@ module _ (kind : FileKind) (l : TagLookup) (i : OpenImage) (t : FindsPage l i) (
   alike = image_alike kind i w
 
   -- the check of the sides returns the width and the height
-  size_is : size_in l ≡ Ok (i.width, i.height)
+  pub size_is : size_in l ≡ Ok (i.width, i.height)
   unfolding size_in look.require
   size_is = rw (t.wide, t.high, some_is i.width w.wide.0, some_is i.height w.high.0) refl
 
   -- the check of the photometric interpretation returns the image's
-  interpretation_is : interpretation_in l ≡ Ok i.color.interpretation
+  pub interpretation_is : interpretation_in l ≡ Ok i.color.interpretation
   unfolding interpretation_in
   interpretation_is = rw (t.interpretation, interpretation_back i.color.interpretation) refl
 
   -- the check of the compression method returns the image's
-  method_is : method_in l ≡ Ok i.method
+  pub method_is : method_in l ≡ Ok i.method
   unfolding method_in
   method_is = rw t.packed_by (ap (λ x. Ok x) (method_back i.method w.packed_by))
 
   -- the check of the samples returns the number of samples of a pixel
-  samples_is : samples_in l ≡ Ok (all_samples i)
+  pub samples_is : samples_in l ≡ Ok (all_samples i)
   unfolding samples_in
   samples_is =
       let s = image_samples kind i w in
       rw (t.samples, some_is (all_samples i) (omega (arith, s))) refl
 
   -- the check of the extra samples returns the image's
-  extra_is : extra_in l (all_samples i) ≡ Ok i.extra
+  pub extra_is : extra_in l (all_samples i) ≡ Ok i.extra
   unfolding extra_in
   extra_is =
       rw t.extra (rw t.extra_is (rw (extras_back i.extra, le-leb (length i.extra) (all_samples i) (omega arith)) refl))
 
   -- the check of the sample format returns the color's
-  format_is : format_in l ≡ Ok (get_or i.color.formats 0 Void)
+  pub format_is : format_in l ≡ Ok (get_or i.color.formats 0 Void)
   unfolding format_in
   format_is =
       let a = alike in
@@ -211,7 +211,7 @@ module _ (kind : FileKind) (l : TagLookup) (i : OpenImage) (t : FindsPage l i) (
       ∙ format_same (a.more + e) a.format a.named a.small ∙ ap (λ fs. Ok (get_or fs 0 Void)) (sym a.formats))
 
   -- the check of the depth returns the color's
-  depth_is : depth_in l (all_samples i) ≡ Ok (get_or i.color.bits 0 0)
+  pub depth_is : depth_in l (all_samples i) ≡ Ok (get_or i.color.bits 0 0)
   unfolding depth_in
   depth_is =
       let a = alike in
@@ -221,22 +221,22 @@ module _ (kind : FileKind) (l : TagLookup) (i : OpenImage) (t : FindsPage l i) (
       ∙ ap (λ bs. Ok (get_or bs 0 0)) (sym a.bits))
 
   -- the check of the predictor returns the image's
-  predictor_is : predictor_in l ≡ Ok i.predictor
+  pub predictor_is : predictor_in l ≡ Ok i.predictor
   unfolding predictor_in
   predictor_is = rw (t.predicted_by, predictor_back i.predictor) refl
 
   -- the check of the planar configuration returns the image's
-  planar_is : planar_in l ≡ Ok i.form.planar
+  pub planar_is : planar_in l ≡ Ok i.form.planar
   unfolding planar_in
   planar_is = rw t.planar (planar_back i.form.planar)
 
   -- the check of the chroma subsampling returns that of the interpretation
-  chroma_is : subsampling_in l ≡ Ok (encoded.subsampling_of i.color.interpretation)
+  pub chroma_is : subsampling_in l ≡ Ok (encoded.subsampling_of i.color.interpretation)
   unfolding subsampling_in
   chroma_is = rw t.chroma (chroma_back i.color.interpretation)
 
   -- the check of the chunk type returns the image's
-  chunk_type_is : chunk_type_in l ≡ Ok i.form.chunk_type
+  pub chunk_type_is : chunk_type_in l ≡ Ok i.form.chunk_type
   chunk_type_is = chunk_type_found l i i.form.chunk_type t.chunks
 
   -- the number of planes of the image
@@ -244,7 +244,7 @@ module _ (kind : FileKind) (l : TagLookup) (i : OpenImage) (t : FindsPage l i) (
   planes = planes_of i.form.planar (all_samples i)
 
   -- the chunks of the image
-  the_chunks : Chunks
+  abbrev the_chunks : Chunks
   the_chunks = record {
     chunk_width = i.form.chunk_width;
     chunk_height = i.form.chunk_height;
@@ -254,7 +254,7 @@ module _ (kind : FileKind) (l : TagLookup) (i : OpenImage) (t : FindsPage l i) (
 
   -- the check of the number of chunks returns the chunks
   counted_is : chunks_counted i.width i.height planes the_chunks ≡ Ok the_chunks
-  unfolding chunks_counted the_chunks
+  unfolding chunks_counted
   counted_is =
       let count : ℕ = chunk_count i.width i.height i.form.chunk_width i.form.chunk_height planes in
       let o : length (offsets_of i) ≡ length i.chunks = length-map i.chunks (λ chunk. chunk.offset) in
@@ -268,7 +268,7 @@ module _ (kind : FileKind) (l : TagLookup) (i : OpenImage) (t : FindsPage l i) (
   -- the check of the chunks finds the chunks
   chunks_found : (c : ChunkType) → FindsChunks c l i → (c ≡ Strip → i.form.chunk_width ≡ i.width)
       → chunks_in l c i.width i.height planes ≡ Ok the_chunks
-  unfolding strips_in tiles_in look.require the_chunks
+  unfolding strips_in tiles_in look.require
   chunks_found Strip f s =
       let P : ℕ → Type 0 =
       λ n. chunks_counted i.width i.height planes (record the_chunks { chunk_width = n }) ≡ Ok the_chunks in
@@ -278,18 +278,5 @@ module _ (kind : FileKind) (l : TagLookup) (i : OpenImage) (t : FindsPage l i) (
       (rw (f.offsets, f.byte_counts) counted_is)
 
   -- the check of the chunks returns the chunks
-  chunks_are : chunks_in l i.form.chunk_type i.width i.height planes ≡ Ok the_chunks
+  pub chunks_are : chunks_in l i.form.chunk_type i.width i.height planes ≡ Ok the_chunks
   chunks_are = chunks_found i.form.chunk_type t.chunks w.form.strips
-
-  -- the look-up returns the image's page
-  pub page_found : page_of l ≡ Ok (image_page i)
-  unfolding page_of the_chunks
-  page_found =
-      rw (size_is, interpretation_is, method_is, samples_is, extra_is, format_is) (rw (
-        depth_is,
-        predictor_is,
-        planar_is,
-        chroma_is,
-        chunk_type_is,
-        chunks_are,
-      ) refl)

@@ -33,20 +33,23 @@ use Rattle.tiff_ifd.specs.FieldValue.{field_value}
 use Rattle.tiff_ifd.specs.Into.{into_u16, into_u16_vec, into_u64_vec}
 use Rattle.tiff_ifd.specs.Limits.{unlimited}
 use Rattle.tiff_ifd.specs.TagLookup.{TagLookup, look_up_in, look_in, find}
-use Rattle.tiff_page.specs.Checks.{page_of}
+use Rattle.tiff_page.specs.Checks.{is_page_tag, tags_of_pixels, page_of, PassedChecks}
 use Rattle.tiff_page.specs.Page.{PageRecord}
+use Rattle.tiff_page.proofs.PassedChecks.{page_passed}
 use Rattle.tiff_encode.specs.FileBytes.{offset_len}
 use Rattle.tiff_encode.specs.Value.{offset_values}
 use Rattle.tiff_encode.specs.Model.{In, Model, Stands}
 use Rattle.tiff_encode.specs.Machine.{Chunk, OpenImage}
 use Rattle.tiff_encode.specs.Chunks.{all_samples, image_page}
 use Rattle.tiff_encode.specs.Calls.{extended_by_first}
-use Rattle.tiff_encode.specs.Held.{is_page_tag, Given, HoldsValues, chroma_given, planar_given, ExtraGiven, TellsChunks, TellsImage, IsWholeImage, PageTold}
+use Rattle.tiff_encode.specs.Held.{Given, HoldsValues, chroma_given, planar_given, ExtraGiven, value_in, EachGiven, image_tags, places_in, TellsImage, IsWholeImage, PageTold}
 use Rattle.tiff_encode.proofs.Slices.{ok_bind}
+use Rattle.tiff_encode.proofs.Given.{is_one_of, given_at}
 use Rattle.tiff_encode.proofs.PageTold.Tags.{some_found, none_found, list_back, each_below, as_numbers, the_look, numbers_found, nothing_found, short_found, long_found, shorts_found, offsets_found}
 use Rattle.tiff_encode.proofs.PageTold.Values.{AllBelow, joint, are_shorts}
 use Rattle.tiff_encode.proofs.PageTold.Colors.{AreAlike, bits_repeated, formats_repeated, same_few, image_alike, image_samples}
-use Rattle.tiff_encode.proofs.PageTold.Checks.{FindsChunks, planar_found, chroma_found, FindsPage, page_found}
+use Rattle.tiff_encode.proofs.PageTold.Checks as check
+use Rattle.tiff_encode.proofs.PageTold.Checks.{offsets_of, lengths_of, FindsChunks, planar_found, chroma_found, FindsPage}
 
 -- ---- the numbers of enums
 
@@ -174,6 +177,11 @@ module _ (kind : FileKind) (file : List ℕ) (m : Model) (fields : FinMap nat_cm
     few_samples : suc (alike.more + length i.extra) < 2 ^ 16
     few_samples = let n = image_samples kind i w in let f = w.few in omega (arith, n, f)
 
+    -- the value that a tag has
+    told : (q : Tag) → is_one_of tags_of_pixels (tag_number q) ≡ true
+        → given (tag_number q) ≡ value_in (image_tags i (given (tag_number tag.ExtraSamples))) (tag_number q)
+    told q p = given_at (image_tags i (given (tag_number tag.ExtraSamples))) given (tag_number q) t.pixels p
+
     -- the look-up finds the depths
     bits_is : find into_u64_vec l tag.BitsPerSample ≡ Ok (Some (extended_by_first i.color.bits (length i.extra)))
     unfolding data_of
@@ -183,7 +191,7 @@ module _ (kind : FileKind) (file : List ℕ) (m : Model) (fields : FinMap nat_cm
         let ns : List ℕ = extended_by_first i.color.bits e in
         let small = a.few in
         let x = same_few (suc (a.more + e)) a.depth ns (bits_repeated i.color a e) few_samples (omega (arith, small)) in
-        shorts_found kind file m fields given s h tag.BitsPerSample (u16s ns) ns refl t.bits refl x.0 x.1
+        shorts_found kind file m fields given s h tag.BitsPerSample (u16s ns) ns refl (told tag.BitsPerSample refl) refl x.0 x.1
 
     -- the look-up finds the sample formats
     formats_is : find into_u64_vec l tag.SampleFormat
@@ -195,7 +203,7 @@ module _ (kind : FileKind) (file : List ℕ) (m : Model) (fields : FinMap nat_cm
         let fs : List SampleFormat = extended_by_first i.color.formats e in
         let ns : List ℕ = map format_number fs in
         let x = same_few (suc (a.more + e)) (format_number a.format) ns (formats_repeated i.color a e) few_samples a.small in
-        shorts_found kind file m fields given s h tag.SampleFormat (formats fs) ns refl t.sample_formats
+        shorts_found kind file m fields given s h tag.SampleFormat (formats fs) ns refl (told tag.SampleFormat refl)
         (as_numbers format_number fs) x.0 x.1
 
     -- the look-up finds numbers of the chunks
@@ -210,31 +218,33 @@ module _ (kind : FileKind) (file : List ℕ) (m : Model) (fields : FinMap nat_cm
         (each_below g (256 ^ offset_len kind) i.chunks (some_offsets kind) b) (omega (arith, n, c, few))
 
     -- the look-up finds the chunks
-    chunks_is : (c : ChunkType) → TellsChunks c kind i given → FindsChunks c l i
+    chunks_is : (c : ChunkType)
+        → EachGiven (places_in c i.form.chunk_width i.form.chunk_height (Some (offset_values kind (offsets_of i))) (Some (offset_values kind (lengths_of i)))) given
+        → FindsChunks c l i
     chunks_is Strip u =
-        let o = chunk_numbers (λ chunk. chunk.offset) (λ c j. (w.fit c j).0) tag.StripOffsets refl u.offsets in
-        let b = chunk_numbers (λ chunk. chunk.stored) (λ c j. (w.fit c j).1) tag.StripByteCounts refl u.byte_counts in
+        let o = chunk_numbers (λ chunk. chunk.offset) (λ c j. (w.fit c j).0) tag.StripOffsets refl u.1.0 in
+        let b = chunk_numbers (λ chunk. chunk.stored) (λ c j. (w.fit c j).1) tag.StripByteCounts refl u.1.1.0 in
         record {
-          rows = long_found kind file m fields given s h tag.RowsPerStrip i.form.chunk_height refl u.rows w.form.high.1;
+          rows = long_found kind file m fields given s h tag.RowsPerStrip i.form.chunk_height refl u.0 w.form.high.1;
           offsets = o.0;
           byte_counts = b.0;
           has_offsets = o.1;
           has_counts = b.1;
-          no_offsets = (nothing_found kind file m fields given s h tag.TileOffsets refl u.no_offsets).1;
-          no_counts = (nothing_found kind file m fields given s h tag.TileByteCounts refl u.no_byte_counts).1;
+          no_offsets = (nothing_found kind file m fields given s h tag.TileOffsets refl u.1.1.1.0).1;
+          no_counts = (nothing_found kind file m fields given s h tag.TileByteCounts refl u.1.1.1.1.0).1;
         }
     chunks_is Tile u =
-        let o = chunk_numbers (λ chunk. chunk.offset) (λ c j. (w.fit c j).0) tag.TileOffsets refl u.offsets in
-        let b = chunk_numbers (λ chunk. chunk.stored) (λ c j. (w.fit c j).1) tag.TileByteCounts refl u.byte_counts in
+        let o = chunk_numbers (λ chunk. chunk.offset) (λ c j. (w.fit c j).0) tag.TileOffsets refl u.1.1.0 in
+        let b = chunk_numbers (λ chunk. chunk.stored) (λ c j. (w.fit c j).1) tag.TileByteCounts refl u.1.1.1.0 in
         record {
-          wide = long_found kind file m fields given s h tag.TileWidth i.form.chunk_width refl u.width w.form.wide.1;
-          high = long_found kind file m fields given s h tag.TileLength i.form.chunk_height refl u.height w.form.high.1;
+          wide = long_found kind file m fields given s h tag.TileWidth i.form.chunk_width refl u.0 w.form.wide.1;
+          high = long_found kind file m fields given s h tag.TileLength i.form.chunk_height refl u.1.0 w.form.high.1;
           offsets = o.0;
           byte_counts = b.0;
           has_offsets = o.1;
           has_counts = b.1;
-          no_offsets = (nothing_found kind file m fields given s h tag.StripOffsets refl u.no_offsets).1;
-          no_counts = (nothing_found kind file m fields given s h tag.StripByteCounts refl u.no_byte_counts).1;
+          no_offsets = (nothing_found kind file m fields given s h tag.StripOffsets refl u.1.1.1.1.0).1;
+          no_counts = (nothing_found kind file m fields given s h tag.StripByteCounts refl u.1.1.1.1.1.0).1;
         }
 
     -- the look-up finds all tags of the image
@@ -245,24 +255,43 @@ module _ (kind : FileKind) (file : List ℕ) (m : Model) (fields : FinMap nat_cm
         let f = w.few in
         let x = extra_is i.extra (omega (arith, f)) t.extra in
         record {
-          wide = long_found kind file m fields given s h tag.ImageWidth i.width refl t.width w.wide.1;
-          high = long_found kind file m fields given s h tag.ImageLength i.height refl t.height w.high.1;
+          wide = long_found kind file m fields given s h tag.ImageWidth i.width refl (told tag.ImageWidth refl) w.wide.1;
+          high = long_found kind file m fields given s h tag.ImageLength i.height refl (told tag.ImageLength refl) w.high.1;
           bits = bits_is;
-          packed_by = short tag.Compression (methods (i.method ∷ [])) (method_number i.method) refl t.packed_by refl
+          packed_by = short tag.Compression (methods (i.method ∷ [])) (method_number i.method) refl (told tag.Compression refl) refl
               (method_small i.method w.packed_by);
           interpretation = short tag.PhotometricInterpretation (interpretations (i.color.interpretation ∷ []))
-              (interpretation_number i.color.interpretation) refl t.interpretation refl
+              (interpretation_number i.color.interpretation) refl (told tag.PhotometricInterpretation refl) refl
               (interpretation_small i.color.interpretation);
-          samples = short tag.SamplesPerPixel (u16s (all_samples i ∷ [])) (all_samples i) refl t.samples refl f;
+          samples = short tag.SamplesPerPixel (u16s (all_samples i ∷ [])) (all_samples i) refl (told tag.SamplesPerPixel refl) refl f;
           predicted_by = short tag.Predictor (predictors (i.predictor ∷ [])) (predictor_number i.predictor) refl
-              t.predicted_by refl (predictor_small i.predictor);
-          planar = planar_is i.form.planar t.planar;
+              (told tag.Predictor refl) refl (predictor_small i.predictor);
+          planar = planar_is i.form.planar (told tag.PlanarConfiguration refl);
           extra_numbers = x.0;
           extra = x.1.0;
           extra_is = x.1.1;
           formats = formats_is;
-          chroma = chroma_is i.color.interpretation t.subsampling;
+          chroma = chroma_is i.color.interpretation (told tag.ChromaSubsampling refl);
           chunks = chunks_is i.form.chunk_type t.chunks;
+        }
+
+    -- each check returns what the image has
+    image_passed : PassedChecks l (image_page i)
+    image_passed =
+        let f : FindsPage l i = image_found in
+        record {
+          size = check.size_is kind l i f w;
+          interpretation = check.interpretation_is kind l i f w;
+          method = check.method_is kind l i f w;
+          samples = check.samples_is kind l i f w;
+          extra = check.extra_is kind l i f w;
+          format = check.format_is kind l i f w;
+          depth = check.depth_is kind l i f w;
+          predictor = check.predictor_is kind l i f w;
+          planar = check.planar_is kind l i f w;
+          subsampling = check.chroma_is kind l i f w;
+          chunk_type = check.chunk_type_is kind l i f w;
+          chunks = check.chunks_are kind l i f w;
         }
 
 -- a directory that holds the tags of an image is read as the image's page
@@ -273,4 +302,4 @@ page_told kind file m d fields given i s in_model is holds w t =
     let F : DirectoryRecord → Result PageRecord TiffError = λ r. page_of (look_up_in value r.entries) in
     ok_bind (directory_at kind LittleEndian file d.offset) F _ (image_page i) (s.directories d in_model)
     (ap (λ fs. page_of (look_up_in value fs)) is
-    ∙ page_found kind (the_look kind file m fields given s holds) i (image_found kind file m fields given s holds i w t) w)
+    ∙ page_passed (the_look kind file m fields given s holds) (image_page i) (image_passed kind file m fields given s holds i w t))
