@@ -2,7 +2,7 @@
 use Rattle.std.proofs.Common.{append_assoc, ◌≡◌, ℕ, zero, suc, ◌+◌, ◌-◌, ◌*◌, ◌/◌, ◌%◌, ◌<◌, ◌≤◌, List, [], ◌++◌, length, take, drop, get_or, refl, ap, sym, subst, ◌∙◌, inl, inr, ⊎_elim, arith}
 use Rattle.std.specs.Prelude.{replicate}
 use Rattle.std.proofs.lemmas.Bool.{cases_lt}
-use Rattle.std.proofs.lemmas.List.{length-append, length-replicate, get_or_append_left, get_or-append_right, replicate-append-replicate}
+use Rattle.std.proofs.lemmas.List.{append-nil, length-append, length-replicate, get_or_append_left, get_or-append_right, replicate-append-replicate}
 use Rattle.std.proofs.lemmas.Nat.{div-add-mod', mod_below}
 use Rattle.std.proofs.Math.Nat.{mul-le-mul_right}
 use Rattle.std.proofs.Math.Seq.{take-append_seam}
@@ -16,6 +16,12 @@ zero_in (suc n) (suc i) = zero_in n i
 
 pub filled_length : (total : ℕ) (bytes : List ℕ) → length (filled_to total bytes) ≡ length bytes + (total - length bytes)
 filled_length total bytes = length-append bytes (replicate (total - length bytes) 0) ∙ ap (λ (k : ℕ). length bytes + k) (length-replicate {A = ℕ} (total - length bytes) 0)
+
+-- a list that is long enough already
+pub filled_full : (total : ℕ) (bytes : List ℕ) → total ≤ length bytes → filled_to total bytes ≡ bytes
+filled_full total bytes l =
+    let none : total - length bytes ≡ 0 = omega (arith, l) in
+    ap (λ (n : ℕ). bytes ++ replicate n 0) none ∙ append-nil bytes
 
 -- a list that is filled up twice
 pub filled_again : (total m : ℕ) (bytes : List ℕ) → m ≤ total → filled_to total (filled_to m bytes) ≡ filled_to total bytes

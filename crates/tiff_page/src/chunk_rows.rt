@@ -1,6 +1,7 @@
-//! Reads the rows of a chunk into a buffer.
+//! Reads the rows of a chunk: many at a time where they lie together in the chunk's data and in the
+//! sink, else one by one.
 
-ghost use Rattle.std.specs.Prelude.{◌≡◌, ℕ, List, ◌+◌, ◌-◌, ◌*◌, Ok, ◌<◌, ◌≤◌, ◌^◌, IsTrue, length, OnOk};
+ghost use Rattle.std.specs.Prelude.{◌≡◌, ℕ, List, ◌+◌, ◌-◌, ◌*◌, Ok, ◌<◌, ◌≤◌, ◌^◌, ◌↔◌, IsTrue, length, OnOk};
 ghost use Rattle.tiff_base.specs.Answers.{Answers, AsksOnly, IsKept};
 ghost use Rattle.tiff_base.specs.SourceAndSink.{SourceRecord};
 ghost use Rattle.tiff_base.specs.declared.error.TiffError.TheVariants as tiff;
@@ -10,7 +11,7 @@ ghost use Rattle.tiff_page.specs.Layout.{row_bytes};
 ghost use Rattle.tiff_page.specs.Methods.{method_fault};
 ghost use Rattle.tiff_page.specs.PixelFault.{fail_if};
 ghost use Rattle.tiff_page.specs.Pixels.{chunk_data, is_short, stored_row_bytes, needed_of_row};
-ghost use Rattle.tiff_page.specs.BufferPositions.{GrowsByChunk, WritesChunk};
+ghost use Rattle.tiff_page.specs.BufferPositions.{GrowsByChunk};
 ghost use Rattle.tiff_page.specs.ChunkBands.{WritesRows, rows_short};
 ghost use Rattle.tiff_page.specs.ReadablePage.{IsRead};
 ghost use Rattle.tiff_page.specs.AdjacentRows.{LieTogether};
@@ -20,14 +21,34 @@ ghost use Rattle.tiff_page.specs.Reach.{StoredReadable, DataReadable, ChunkReada
 ghost use Rattle.tiff_page.specs.PageView as view;
 
 use crate::chunk_data::ChunkCursor;
-use crate::output_row::{RowFormat, needs_whole_rows, row_len, stored_row_bytes};
-use crate::writer::{RowSink, RowSlot};
+use crate::output_row::{RowFormat, needs_swap, needs_whole_rows, row_len, stored_row_bytes};
+use crate::row_sink::{RowSink, RowSlot};
 use tiff_base::error::TiffResult;
 use tiff_base::io::Source;
+use tiff_base::tags::Predictor;
 
-// The number of bytes of the longest row that is appended to a list. What is appended is read into
-// a scratch buffer first, and of longer rows that would be much memory.
-const LONGEST_APPENDED: usize = 65536;
+// The number of bytes of rows that are read at once, if a row has at most this many bytes or its
+// numbers are byte-swapped. Small reads are copied fast, and byte-swapping then finds the bytes in
+// the processor's nearest cache.
+const SHORT_ROWS: usize = 8192;
+
+// The number of bytes of rows that are read at once of PackBits data, of which the end of each read
+// may cut a block.
+const PACKED_ROWS: usize = 65536;
+
+// Returns how many rows of `len` bytes are read at once, at least 1: of longer rows than `SHORT_ROWS` as
+// many as fit in `long` bytes. The bytes that are read don't depend on it.
+fn rows_at_once(front: &ChunkCursor, len: usize, long: usize) -> usize
+    requires { 0 < len }
+    ensures { 0 < result }
+{
+    let bytes = match front {
+        ChunkCursor::Packed(_) => PACKED_ROWS,
+        _ if len <= SHORT_ROWS => SHORT_ROWS,
+        _ => long,
+    };
+    (bytes / len).max(1)
+}
 
 /// Reads the rows of a chunk of a page, in the color of the output.
 #[derive(Clone, Copy)]
@@ -98,14 +119,14 @@ impl ChunkReader<'_> {
         )
     }
 
-    /// Reads the rows of the chunk from row `band.from` on, below row `band.to`, one by one.
+    /// Reads the rows of the chunk from row `band.from` on, below row `band.to`, one by one, into
+    /// bytes that the sink has.
     #[inline(always)]
-    pub(crate) fn read_between<R: Source, T, W: RowSink<T>>(
+    pub(crate) fn separate_rows<R: Source, W: RowSink>(
         &self,
         source: &mut R,
         band: ChunkBand,
-        writer: &mut W,
-        buf: &mut [T],
+        sink: &mut W,
     ) -> TiffResult<()>
         requires read { IsRead (view.page self.now.format.page.now) self.now.format.color }
         requires formed { method_fault self.now.format.page.now.method ≡ Ok tt }
@@ -120,16 +141,17 @@ impl ChunkReader<'_> {
             self.now.format.color
             (rect (view.page self.now.format.page.now) self.now.index).width
             ≤ band.destination.stride }
-        requires rows { (band.destination.top + (band.to - band.from)) * band.destination.stride
-            ≤ length (W.bytes buf.old) }
+        requires there { (band.destination.top + (band.to - band.from)) * band.destination.stride
+            ≤ length (W.bytes sink.old) }
         requires few { (band.destination.top + (band.to - band.from)) * band.destination.stride
             < 2 ^ 64 }
+        ensures later { W.goes_on sink.old sink.new }
         ensures kept { IsKept R.told R.failures result source.old source.new }
         ensures ok { OnOk result
             (WritesRows (R.told source.old).bytes self.now.format.order
             (view.page self.now.format.page.now) self.now.format.color
             self.now.index band.destination.stride band.destination.top band.destination.left
-            band.from band.to (W.bytes buf.old) (W.bytes buf.new)) }
+            band.from band.to (W.bytes sink.old) (W.bytes sink.new)) }
         ensures answer { Answers (λ _. tt) result (fail_if
             (rows_short (R.told source.old).bytes self.now.format.order
             (view.page self.now.format.page.now)
@@ -156,19 +178,96 @@ impl ChunkReader<'_> {
             let to_row = destination.top + (row - from);
             let at = to_row * destination.stride + destination.left;
             let next = RowSlot { format, len, at };
-            writer.read_row(source, &mut cursor, &next, buf)?;
+            sink.row(source, &mut cursor, &next)?;
             cursor.pass(source, gap_behind(gap, row, rows))?;
         }
         Ok(())
     }
 
-    /// Reads the rows into the bytes of a list.
-    pub(crate) fn read_rows<R: Source, T, W: RowSink<T>>(
+    // Whether the rows lie together: they follow one another in the chunk's data and in the
+    // sink, all of their bytes are output, and no byte is summed with others of its row.
+    fn is_contiguous(&self, destination: Destination) -> bool
+        ensures { IsTrue result ↔ LieTogether (view.page self.now.format.page.now)
+            self.now.format.color
+            (row_bytes (view.page self.now.format.page.now) self.now.format.color
+            (rect (view.page self.now.format.page.now) self.now.index).width)
+            destination.left destination.stride }
+    {
+        let page = self.format.page;
+        let len = row_len(page, self.format.color, self.format.width);
+        destination.left == 0
+            && destination.stride == len
+            && stored_row_bytes(page) == len
+            && !needs_whole_rows(page, self.format.color)
+            && matches!(page.predictor, Predictor::None)
+    }
+
+    // Reads the rows of a chunk whose rows lie together, from the start of the chunk's data, many
+    // at a time.
+    fn adjacent_rows<R: Source, W: RowSink>(
         &self,
         source: &mut R,
         destination: Destination,
-        writer: &mut W,
-        buf: &mut [T],
+        sink: &mut W,
+    ) -> TiffResult<()>
+        requires read { IsRead (view.page self.now.format.page.now) self.now.format.color }
+        requires formed { method_fault self.now.format.page.now.method ≡ Ok tt }
+        requires listed { self.now.index < length self.now.format.page.now.offsets }
+        requires some { 0 < destination.stride }
+        requires together { LieTogether (view.page self.now.format.page.now) self.now.format.color
+            (row_bytes (view.page self.now.format.page.now) self.now.format.color
+            (rect (view.page self.now.format.page.now) self.now.index).width)
+            destination.left destination.stride }
+        requires room { (destination.top + (rect (view.page self.now.format.page.now)
+            self.now.index).height)
+            * destination.stride ≤ W.room sink.old }
+        requires few { (destination.top + (rect (view.page self.now.format.page.now)
+            self.now.index).height)
+            * destination.stride < 2 ^ 64 }
+        ensures later { W.goes_on sink.old sink.new }
+        ensures kept { IsKept R.told R.failures result source.old source.new }
+        ensures ok { OnOk result
+            (GrowsByChunk (R.told source.old).bytes self.now.format.order
+            (view.page self.now.format.page.now)
+            self.now.format.color
+            self.now.index destination.stride destination.top destination.left
+            (W.whole ((destination.top + (rect (view.page self.now.format.page.now)
+            self.now.index).height) * destination.stride))
+            (W.bytes sink.old) (W.bytes sink.new)) }
+        ensures answer { Answers (λ _. tt) result (fail_if
+            (is_short (R.told source.old).bytes self.now.format.order
+            (view.page self.now.format.page.now)
+            self.now.format.color self.now.index)
+            (tiff.IoError io.UnexpectedEof)) (R.failures source.old) (R.failures source.new) }
+        ensures asked { AsksOnly
+            (ChunkReadable (R.told source.old) (view.page self.now.format.page.now)
+            self.now.format.color
+            self.now.index) result }
+    {
+        let format = self.format;
+        let rows = self.height as usize;
+        let mut cursor = self.front();
+        let swapped = needs_swap(format.order, format.page);
+        let long = if swapped { SHORT_ROWS } else { W::LONG_ROWS };
+        let most = rows_at_once(&cursor, destination.stride, long);
+        let mut row = 0;
+        while row < rows {
+            let more = most.min(rows - row);
+            let at = (destination.top + row) * destination.stride;
+            let len = more * destination.stride;
+            let next = RowSlot { format, len, at };
+            sink.rows(source, &mut cursor, &next)?;
+            row += more;
+        }
+        Ok(())
+    }
+
+    /// Reads the rows into a sink, which gets zeros where it has too few bytes.
+    pub(crate) fn rows<R: Source, W: RowSink>(
+        &self,
+        source: &mut R,
+        destination: Destination,
+        sink: &mut W,
     ) -> TiffResult<()>
         requires read { IsRead (view.page self.now.format.page.now) self.now.format.color }
         requires formed { method_fault self.now.format.page.now.method ≡ Ok tt }
@@ -177,20 +276,22 @@ impl ChunkReader<'_> {
         requires columns { destination.left + row_bytes (view.page self.now.format.page.now)
             self.now.format.color
             (rect (view.page self.now.format.page.now) self.now.index).width ≤ destination.stride }
-        requires rows { (destination.top + (rect (view.page self.now.format.page.now)
+        requires room { (destination.top + (rect (view.page self.now.format.page.now)
             self.now.index).height)
-            * destination.stride
-            ≤ length (W.bytes buf.old) }
+            * destination.stride ≤ W.room sink.old }
         requires few { (destination.top + (rect (view.page self.now.format.page.now)
             self.now.index).height)
             * destination.stride < 2 ^ 64 }
+        ensures later { W.goes_on sink.old sink.new }
         ensures kept { IsKept R.told R.failures result source.old source.new }
         ensures ok { OnOk result
-            (WritesChunk (R.told source.old).bytes self.now.format.order
+            (GrowsByChunk (R.told source.old).bytes self.now.format.order
             (view.page self.now.format.page.now)
             self.now.format.color
-            self.now.index destination.stride destination.top destination.left (W.bytes buf.old)
-            (W.bytes buf.new)) }
+            self.now.index destination.stride destination.top destination.left
+            (W.whole ((destination.top + (rect (view.page self.now.format.page.now)
+            self.now.index).height) * destination.stride))
+            (W.bytes sink.old) (W.bytes sink.new)) }
         ensures answer { Answers (λ _. tt) result (fail_if
             (is_short (R.told source.old).bytes self.now.format.order
             (view.page self.now.format.page.now)
@@ -202,77 +303,15 @@ impl ChunkReader<'_> {
             self.now.index) result }
     {
         if self.is_contiguous(destination) {
-            return self.read_contiguous(source, destination, writer, buf);
+            return self.adjacent_rows(source, destination, sink);
         }
-        let band = ChunkBand {
+        let rows = self.height as usize;
+        sink.zeros_to((destination.top + rows) * destination.stride)?;
+        let all = ChunkBand {
             destination,
             from: 0,
-            to: self.height as usize,
+            to: rows,
         };
-        self.read_between(source, band, writer, buf)
-    }
-
-    // Whether the rows are appended to a list, and not read into zeros: they lie together, begin
-    // where the list ends, and aren't too long for a scratch buffer. The bytes of the list don't
-    // depend on it.
-    fn is_appended<T, W: RowSink<T>>(&self, destination: Destination, list: &[T]) -> bool
-        requires few { destination.top * destination.stride < 2 ^ 64 }
-        ensures { IsTrue result → LieTogether (view.page self.now.format.page.now)
-            self.now.format.color
-            (row_bytes (view.page self.now.format.page.now) self.now.format.color
-            (rect (view.page self.now.format.page.now) self.now.index).width)
-            destination.left destination.stride }
-    {
-        destination.stride <= LONGEST_APPENDED
-            && self.is_contiguous(destination)
-            && W::ends_at(list, destination.top * destination.stride)
-    }
-
-    /// Reads the rows into a list, which grows by zeros where it is too short. Rows that lie
-    /// together, and begin where the list ends, are appended.
-    pub(crate) fn append_rows<R: Source, T, W: RowSink<T>>(
-        &self,
-        source: &mut R,
-        destination: Destination,
-        writer: &mut W,
-        list: &mut Vec<T>,
-    ) -> TiffResult<()>
-        requires read { IsRead (view.page self.now.format.page.now) self.now.format.color }
-        requires formed { method_fault self.now.format.page.now.method ≡ Ok tt }
-        requires listed { self.now.index < length self.now.format.page.now.offsets }
-        requires some { 0 < destination.stride }
-        requires columns { destination.left + row_bytes (view.page self.now.format.page.now)
-            self.now.format.color
-            (rect (view.page self.now.format.page.now) self.now.index).width ≤ destination.stride }
-        requires few { (destination.top + (rect (view.page self.now.format.page.now)
-            self.now.index).height)
-            * destination.stride < 2 ^ 64 }
-        ensures kept { IsKept R.told R.failures result source.old source.new }
-        ensures ok { OnOk result
-            (GrowsByChunk (R.told source.old).bytes self.now.format.order
-            (view.page self.now.format.page.now)
-            self.now.format.color
-            self.now.index destination.stride destination.top destination.left
-            (W.whole ((destination.top + (rect (view.page self.now.format.page.now)
-            self.now.index).height) * destination.stride))
-            (W.bytes list.old.items) (W.bytes list.new.items)) }
-        ensures answer { Answers (λ _. tt) result (fail_if
-            (is_short (R.told source.old).bytes self.now.format.order
-            (view.page self.now.format.page.now)
-            self.now.format.color self.now.index)
-            (tiff.IoError io.UnexpectedEof)) (R.failures source.old) (R.failures source.new) }
-        ensures asked { AsksOnly
-            (ChunkReadable (R.told source.old) (view.page self.now.format.page.now)
-            self.now.format.color
-            self.now.index) result }
-    {
-        if self.is_appended::<T, W>(destination, list) {
-            return self.append_contiguous(source, destination, writer, list);
-        }
-        W::grow(
-            list,
-            (destination.top + self.height as usize) * destination.stride,
-        )?;
-        self.read_rows(source, destination, writer, list)
+        self.separate_rows(source, all, sink)
     }
 }

@@ -17,7 +17,7 @@ use crate::layout::chunk_data_dimensions;
 use crate::methods::is_packed;
 use crate::output_row::{needs_whole_rows, row_len, stored_row_bytes};
 use crate::page::Page;
-use crate::read_chunks::PageReader;
+use crate::page_reader::PageReader;
 use tiff_base::color::ColorType;
 use tiff_base::error::{TiffError, TiffResult};
 use tiff_base::io::{IoKind, Source};

@@ -1,9 +1,7 @@
 //! The facts that the tags of a page define, the layout of its samples, and its pixels.
 #![tactic(auto)]
 
-mod adjacent_rows;
 pub mod buffers;
-mod chunk_bands;
 pub mod chunk_data;
 pub mod chunk_rows;
 pub mod counts;
@@ -16,11 +14,13 @@ mod methods;
 pub mod numbers;
 pub mod output_row;
 pub mod page;
+pub mod page_reader;
 pub mod pixels;
 pub mod position;
 pub mod predictors;
-pub mod read_chunks;
+mod read_chunks;
 pub mod read_page;
 pub mod row_reader;
+pub mod row_sink;
 pub mod samples;
-pub mod writer;
+mod tile_rows;

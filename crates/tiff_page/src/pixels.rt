@@ -11,11 +11,12 @@
 //! data it may ask for all bytes that the byte count of the chunk includes.
 
 ghost use Rattle.std.specs.Int.{div_ceil};
-ghost use Rattle.std.specs.Prelude.{◌≡◌, ◌*◌, ◌<◌, ◌≤◌, ◌^◌, Ok, IfOk, [], length, map, replicate, if◌then◌else◌, nat_le};
+ghost use Rattle.std.specs.Prelude.{◌≡◌, ℕ, ◌*◌, ◌<◌, ◌≤◌, ◌^◌, ◌⊎◌, Ok, IfOk, [], length, map, replicate, if◌then◌else◌, nat_le};
 ghost use Rattle.tiff_base.specs.Answers.{Answers, AnswersWithoutSource, AsksOnly, Gives, IsKept};
 ghost use Rattle.tiff_base.specs.Sparing.{AnswersSparingly, IsListFault};
 ghost use Rattle.tiff_page.specs.Buffers as buffers;
 ghost use Rattle.tiff_page.specs.EarlyFaults.{WantsAfter, WantsWhere, chunk_bytes_early, chunk_early, early_fault, image_bytes_early, image_early, planes_early, samples_early, strided_early, unit_bytes_early};
+ghost use Rattle.tiff_page.specs.BufferPositions.{filled_to};
 ghost use Rattle.tiff_page.specs.PixelCalls.{image_of};
 ghost use Rattle.tiff_page.specs.Layout as layouts;
 ghost use Rattle.tiff_page.specs.PixelCalls as calls;
@@ -34,9 +35,10 @@ use crate::layout::{
 };
 use crate::numbers::Number;
 use crate::page::Page;
-use crate::read_chunks::{ImagePlanes, PageReader, UnitRequest};
+use crate::page_reader::{ImagePlanes, PageReader, UnitRequest};
+use crate::row_reader::RowScratch;
+use crate::row_sink::{ByteList, ByteSlice, NumberList, RowSink};
 use crate::samples::{ReadRequest, Samples};
-use crate::writer::{ByteRows, RowSink, TypedRows};
 use std::alloc::Global;
 use tiff_base::color::ColorType;
 use tiff_base::error::{TiffResult, UsageError};
@@ -190,21 +192,60 @@ impl PageReader<'_> {
         Ok(Vec::with_capacity(self.alloc, len.div_ceil(N))?)
     }
 
-    // Reads an image or a chunk into an empty list, which becomes `len` bytes long, rounded up to
-    // whole items.
-    fn fill<R: Source, T, W: RowSink<T>>(
+    // Reads an image or a chunk.
+    fn requested<R: Source, W: RowSink>(
         &self,
         source: &mut R,
         request: ReadRequest,
-        writer: &mut W,
-        list: &mut Vec<T>,
+        sink: &mut W,
+    ) -> TiffResult<()>
+        requires laid { IsLaid (view.page self.now.page.now) request }
+        requires room { room_of (view.page self.now.page.now) request ≤ W.room sink.old }
+        requires few { room_of (view.page self.now.page.now) request < 2 ^ 64 }
+        ensures later { W.goes_on sink.old sink.new }
+        ensures kept { IsKept R.told R.failures result source.old source.new }
+        ensures answer { (total : ℕ) → W.whole (room_of (view.page self.now.page.now) request)
+            ≤ total → Answers (λ _. filled_to total (W.bytes sink.new)) result
+            (fill_buffer (R.told source.old).bytes self.now.order
+            (view.page self.now.page.now) self.now.limits.now (color_in request)
+            (part_of (R.told source.old).bytes self.now.order (view.page self.now.page.now) request)
+            (filled_to total (W.bytes sink.old))) (R.failures source.old) (R.failures source.new) }
+        ensures asked { AsksOnly
+            (PartReadable (R.told source.old) (view.page self.now.page.now) (color_in request)
+            (part_of (R.told source.old).bytes self.now.order
+            (view.page self.now.page.now) request)) result }
+    {
+        match request {
+            ReadRequest::Image(layout, planes) => {
+                self.image(source, ImagePlanes { layout, planes }, sink)
+            }
+            ReadRequest::Chunk(color, index, stride) => {
+                let unit = UnitRequest {
+                    color,
+                    index,
+                    planes: 1,
+                    stride,
+                };
+                self.unit(source, unit, sink)
+            }
+        }
+    }
+
+    // Reads an image or a chunk into an empty sink, which becomes `len` bytes long, rounded up to
+    // whole items.
+    fn all_requested<R: Source, W: RowSink>(
+        &self,
+        source: &mut R,
+        request: ReadRequest,
+        sink: &mut W,
         len: usize,
     ) -> TiffResult<()>
         requires laid { IsLaid (view.page self.now.page.now) request }
         requires room { room_of (view.page self.now.page.now) request ≤ len }
-        requires none { list.old.items ≡ [] }
+        requires held { len ≤ W.room sink.old }
+        requires none { W.bytes sink.old ≡ [] }
         ensures kept { IsKept R.told R.failures result source.old source.new }
-        ensures answer { Answers (λ _. W.bytes list.new.items) result
+        ensures answer { Answers (λ _. W.bytes sink.new) result
             (fill_buffer (R.told source.old).bytes self.now.order
             (view.page self.now.page.now) self.now.limits.now (color_in request)
             (part_of (R.told source.old).bytes self.now.order (view.page self.now.page.now) request)
@@ -215,21 +256,73 @@ impl PageReader<'_> {
             (part_of (R.told source.old).bytes self.now.order
             (view.page self.now.page.now) request)) result }
     {
-        match request {
-            ReadRequest::Image(layout, planes) => {
-                let part = ImagePlanes { layout, planes };
-                self.grow_image(source, part, writer, list, len)
-            }
-            ReadRequest::Chunk(color, index, stride) => {
-                let unit = UnitRequest {
-                    color,
-                    index,
-                    planes: 1,
-                    stride,
-                };
-                self.grow_unit(source, unit, writer, list, len)
-            }
-        }
+        self.requested(source, request, sink)?;
+        sink.zeros_to(len)?;
+        Ok(())
+    }
+
+    // Reads an image into a slice.
+    fn image_into<R: Source>(
+        &self,
+        source: &mut R,
+        part: ImagePlanes,
+        buf: &mut [u8],
+    ) -> TiffResult<()>
+        requires laid { layouts.layout_of (view.page self.now.page.now) self.now.page.now.width
+            self.now.page.now.height ≡ Ok
+            (record {
+              color = part.layout.color;
+              row_bytes = part.layout.row_bytes;
+              plane_stride = part.layout.plane_stride;
+            }) }
+        requires some { 0 < part.planes }
+        requires room { part.planes * part.layout.plane_stride ≤ length buf.old }
+        ensures kept { IsKept R.told R.failures result source.old source.new }
+        ensures answer { Answers (λ _. buf.new) result
+            (fill_buffer (R.told source.old).bytes self.now.order
+            (view.page self.now.page.now) self.now.limits.now part.layout.color
+            (calls.image_part (view.page self.now.page.now) part.planes part.layout.row_bytes)
+            buf.old) (R.failures source.old) (R.failures source.new) }
+        ensures asked { AsksOnly
+            (PartReadable (R.told source.old) (view.page self.now.page.now) part.layout.color
+            (calls.image_part (view.page self.now.page.now)
+            part.planes part.layout.row_bytes)) result }
+    {
+        let mut scratch = RowScratch::new(self.alloc);
+        let mut sink = ByteSlice::new(buf, &mut scratch);
+        self.image(source, part, &mut sink)
+    }
+
+    // Reads a chunk, or the chunk of each plane of a coding unit, into a slice.
+    fn unit_into<R: Source>(
+        &self,
+        source: &mut R,
+        unit: UnitRequest,
+        buf: &mut [u8],
+    ) -> TiffResult<()>
+        requires colored { layouts.color_of (view.page self.now.page.now) ≡ Ok unit.color }
+        requires columns { layouts.row_bytes (view.page self.now.page.now) unit.color
+            (rects.rect (view.page self.now.page.now) unit.index).width ≤ unit.stride }
+        requires some { 0 < unit.planes }
+        requires room { unit.planes
+            * ((rects.rect (view.page self.now.page.now) unit.index).height * unit.stride)
+            ≤ length buf.old }
+        requires which { (unit.planes ≡ 1)
+            ⊎ (unit.index < rects.chunks_of_plane (view.page self.now.page.now)) }
+        ensures kept { IsKept R.told R.failures result source.old source.new }
+        ensures answer { Answers (λ _. buf.new) result
+            (fill_buffer (R.told source.old).bytes self.now.order
+            (view.page self.now.page.now) self.now.limits.now unit.color
+            (calls.chunk_part (view.page self.now.page.now) unit.index unit.planes unit.stride)
+            buf.old) (R.failures source.old) (R.failures source.new) }
+        ensures asked { AsksOnly
+            (PartReadable (R.told source.old) (view.page self.now.page.now) unit.color
+            (calls.chunk_part (view.page self.now.page.now)
+            unit.index unit.planes unit.stride)) result }
+    {
+        let mut scratch = RowScratch::new(self.alloc);
+        let mut sink = ByteSlice::new(buf, &mut scratch);
+        self.unit(source, unit, &mut sink)
     }
 
     // Returns the bytes of an image or a chunk whose samples are bytes.
@@ -258,15 +351,10 @@ impl PageReader<'_> {
             (part_of (R.told source.old).bytes self.now.order
             (view.page self.now.page.now) request)) result }
     {
-        let mut bytes: Vec<u8> = self.allocate_output(
-            source,
-            request,
-            DecodingSampleType::U8,
-            len,
-        )?;
-        let mut writer = ByteRows::new(self.alloc);
-        self.fill(source, request, &mut writer, &mut bytes, len)?;
-        Ok(bytes)
+        let bytes = self.allocate_output(source, request, DecodingSampleType::U8, len)?;
+        let mut sink = ByteList::new(self.alloc, bytes);
+        self.all_requested(source, request, &mut sink, len)?;
+        Ok(sink.into_bytes())
     }
 
     // Returns the numbers of an image or a chunk whose samples have a number type of `N` bytes.
@@ -300,10 +388,10 @@ impl PageReader<'_> {
             (part_of (R.told source.old).bytes self.now.order
             (view.page self.now.page.now) request)) result }
     {
-        let mut numbers: Vec<T> = self.allocate_output(source, request, sample_type, len)?;
-        let mut writer = TypedRows::<N>::new(self.alloc);
-        self.fill(source, request, &mut writer, &mut numbers, len)?;
-        Ok(numbers)
+        let numbers = self.allocate_output(source, request, sample_type, len)?;
+        let mut sink = NumberList::<T, N>::new(self.alloc, numbers);
+        self.all_requested(source, request, &mut sink, len)?;
+        Ok(sink.into_numbers())
     }
 
     // Returns the samples of an image or a chunk, in `len` bytes.
@@ -440,7 +528,7 @@ impl PageReader<'_> {
         let planes = planes_used(page, layout, buf.len());
         form_fault(page, self.limits, layout.color, 0)?;
         let part = ImagePlanes { layout, planes };
-        self.fill_image(source, part, &mut ByteRows::new(self.alloc), buf)
+        self.image_into(source, part, buf)
     }
 
     /// Returns the samples of a chunk, in rows of its own width in the image. Returns
@@ -495,7 +583,7 @@ impl PageReader<'_> {
             planes: 1,
             stride: layout.row_bytes,
         };
-        self.fill_unit(source, unit, &mut ByteRows::new(self.alloc), buf)
+        self.unit_into(source, unit, buf)
     }
 
     /// Returns the samples of a chunk, with its rows `stride` bytes apart and zeros between them.
@@ -565,6 +653,6 @@ impl PageReader<'_> {
             planes,
             stride: layout.row_bytes,
         };
-        self.fill_unit(source, unit, &mut ByteRows::new(self.alloc), buf)
+        self.unit_into(source, unit, buf)
     }
 }

@@ -1,0 +1,178 @@
+use Rattle.std.proofs.Common.{arith, Ok, Err, refl, ap, ◌≡◌, ℕ, List, ◌∙◌, ◌+◌, ◌-◌, ◌*◌, ◌<◌, ◌^◌, length, subst}
+use Rattle.std.proofs.lemmas.Result.{err_from_is_err_and}
+use Rattle.tiff_base.specs.Answers.{IsCause}
+use Rattle.tiff_base.specs.declared.error.TiffError.TheVariants.{IoError}
+use Rattle.tiff_base.specs.declared.io.IoKind.TheVariants.{UnexpectedEof}
+use Rattle.tiff_base.proofs.Told.{same_bytes}
+use Rattle.tiff_base.proofs.Causes.{cause_along}
+use Rattle.tiff_page.specs.PixelCalls.{image_part}
+use Rattle.tiff_page.specs.PixelFault.{fail_if}
+use Rattle.tiff_page.specs.Layout.{LayoutRecord}
+use Rattle.tiff_page.specs.Laws.{HasSides}
+use Rattle.tiff_page.specs.BufferPositions.{Writes, IsIn, in_rect, image_byte, left_of}
+use Rattle.tiff_page.specs.ChunkBands.{rows_short}
+use Rattle.tiff_page.specs.Rect.{rect, across, chunks_of_plane}
+use Rattle.tiff_page.specs.PageView as view
+use Rattle.tiff_page.specs.declared.page.Page.{Page}
+use Rattle.tiff_page.specs.declared.layout.PlaneLayout.{PlaneLayout}
+use Rattle.tiff_page.proofs.ChunkBands as bands
+use Rattle.tiff_page.proofs.Filling.{one_more, first_at, stride_some}
+use Rattle.tiff_page.proofs.Reach.{part_asked}
+use Rattle.tiff_page.proofs.Sizes.{plane_few}
+use Rattle.tiff_page.proofs.page_reader.PageReader.tile_row_part.Goals as goal
+
+abbrev pub sides_of : (p : Page) → HasSides (view.page p)
+sides_of p = record { wide = p.wide; high = p.high; chunk_wide = p.chunk_wide; chunk_high = p.chunk_high }
+
+abbrev pub layout : PlaneLayout → LayoutRecord
+layout l = record { color = l.color; row_bytes = l.row_bytes; plane_stride = l.plane_stride }
+
+-- the chunks of a plane are fewer than 2^32
+pub chunks_few : (p : Page) → chunks_of_plane (view.page p) < 2 ^ 32
+chunks_few p = plane_few p.width p.height p.chunk_width p.chunk_height p.samples (length p.offsets) p.planar p.sampled p.counted p.few
+
+pub overflow_cast-index : goal.overflow_cast-index
+overflow_cast-index g c =
+    let p = c.args.self.now.page.now in
+    let inside : c.loop-column.column < across (view.page p) = omega (arith, c.loop-column-test.true, c.chunks_across-column-end.ensures) in
+    let i = bands.its_index (g.R.Source.told c.args.source.now).bytes c.args.self.now.order (view.page p) c.args.self.now.limits.now (layout c.args.part.layout) (sides_of p) p.sampled p.deep c.requires.laid c.args.part.first c.loop-column.column 1 c.requires.banded c.requires.chunk inside in
+    let n = chunks_few p in
+    omega (arith, i, n)
+
+pub overflow_add-index : goal.overflow_add-index
+overflow_add-index g c =
+    let p = c.args.self.now.page.now in
+    let inside : c.loop-column.column < across (view.page p) = omega (arith, c.loop-column-test.true, c.chunks_across-column-end.ensures) in
+    let i = bands.its_index (g.R.Source.told c.args.source.now).bytes c.args.self.now.order (view.page p) c.args.self.now.limits.now (layout c.args.part.layout) (sides_of p) p.sampled p.deep c.requires.laid c.args.part.first c.loop-column.column 1 c.requires.banded c.requires.chunk inside in
+    let n = chunks_few p in
+    omega (arith, i, n)
+
+pub image_destination-place-requires : goal.image_destination-place-requires
+image_destination-place-requires g c =
+    let p = c.args.self.now.page.now in
+    let inside : c.loop-column.column < across (view.page p) = omega (arith, c.loop-column-test.true, c.chunks_across-column-end.ensures) in
+    bands.its_index (g.R.Source.told c.args.source.now).bytes c.args.self.now.order (view.page p) c.args.self.now.limits.now (layout c.args.part.layout) (sides_of p) p.sampled p.deep c.requires.laid c.args.part.first c.loop-column.column 1 c.requires.banded c.requires.chunk inside
+
+pub separate_rows-requires-clause-read : goal.separate_rows-requires-clause-read
+separate_rows-requires-clause-read g c =
+    let p = c.args.self.now.page.now in
+    let inside : c.loop-column.column < across (view.page p) = omega (arith, c.loop-column-test.true, c.chunks_across-column-end.ensures) in
+    bands.its_read (g.R.Source.told c.args.source.now).bytes c.args.self.now.order (view.page p) c.args.self.now.limits.now (layout c.args.part.layout) (sides_of p) p.sampled p.deep c.requires.laid c.args.part.first c.loop-column.column 1 c.requires.banded c.requires.chunk inside
+
+pub separate_rows-requires-clause-formed : goal.separate_rows-requires-clause-formed
+separate_rows-requires-clause-formed g c =
+    let p = c.args.self.now.page.now in
+    let inside : c.loop-column.column < across (view.page p) = omega (arith, c.loop-column-test.true, c.chunks_across-column-end.ensures) in
+    bands.its_method (g.R.Source.told c.args.source.now).bytes c.args.self.now.order (view.page p) c.args.self.now.limits.now (layout c.args.part.layout) (sides_of p) p.sampled p.deep c.requires.laid c.args.part.first c.loop-column.column 1 c.requires.banded c.requires.chunk inside
+
+pub separate_rows-requires-clause-listed : goal.separate_rows-requires-clause-listed
+separate_rows-requires-clause-listed g c =
+    let p = c.args.self.now.page.now in
+    let inside : c.loop-column.column < across (view.page p) = omega (arith, c.loop-column-test.true, c.chunks_across-column-end.ensures) in
+    bands.its_place (g.R.Source.told c.args.source.now).bytes c.args.self.now.order (view.page p) c.args.self.now.limits.now (layout c.args.part.layout) (sides_of p) p.sampled p.deep c.requires.laid c.args.part.first c.loop-column.column 1 c.requires.banded c.requires.chunk inside (length p.offsets) p.counted
+
+pub separate_rows-requires-clause-within : goal.separate_rows-requires-clause-within
+separate_rows-requires-clause-within g c =
+    let p = c.args.self.now.page.now in
+    let inside : c.loop-column.column < across (view.page p) = omega (arith, c.loop-column-test.true, c.chunks_across-column-end.ensures) in
+    let h = bands.its_height (g.R.Source.told c.args.source.now).bytes c.args.self.now.order (view.page p) c.args.self.now.limits.now (layout c.args.part.layout) (sides_of p) p.sampled p.deep c.requires.laid c.args.part.first c.loop-column.column 1 c.requires.banded c.requires.chunk inside in
+    omega (arith, h, c.requires.within)
+
+pub separate_rows-requires-clause-start : goal.separate_rows-requires-clause-start
+separate_rows-requires-clause-start g c =
+    let p = c.args.self.now.page.now in
+    let inside : c.loop-column.column < across (view.page p) = omega (arith, c.loop-column-test.true, c.chunks_across-column-end.ensures) in
+    bands.its_start (g.R.Source.told c.args.source.now).bytes c.args.self.now.order (view.page p) c.args.self.now.limits.now (layout c.args.part.layout) (sides_of p) p.sampled p.deep c.requires.laid c.args.part.first c.loop-column.column 1 c.requires.banded c.requires.chunk inside
+    c.args.part.from c.args.part.to c.requires.some_rows c.requires.within
+
+pub separate_rows-requires-clause-some : goal.separate_rows-requires-clause-some
+separate_rows-requires-clause-some g c =
+    let p = c.args.self.now.page.now in
+    let l = stride_some (g.R.Source.told c.args.source.now).bytes c.args.self.now.order (view.page p) c.args.self.now.limits.now (layout c.args.part.layout) (sides_of p) p.sampled p.deep c.requires.laid in
+    omega (arith, l, c.image_destination-place.ensures.stride)
+
+pub separate_rows-requires-clause-columns : goal.separate_rows-requires-clause-columns
+separate_rows-requires-clause-columns g c =
+    let p = c.args.self.now.page.now in
+    let inside : c.loop-column.column < across (view.page p) = omega (arith, c.loop-column-test.true, c.chunks_across-column-end.ensures) in
+    let l = bands.its_columns (g.R.Source.told c.args.source.now).bytes c.args.self.now.order (view.page p) c.args.self.now.limits.now (layout c.args.part.layout) (sides_of p) p.sampled p.deep c.requires.laid c.args.part.first c.loop-column.column 1 c.requires.banded c.requires.chunk inside in
+    omega (arith, l, c.image_destination-place.ensures.left, c.image_destination-place.ensures.stride)
+
+pub separate_rows-requires-clause-there : goal.separate_rows-requires-clause-there
+separate_rows-requires-clause-there g c =
+    let end = c.args.part.top + (c.args.part.to - c.args.part.from) in
+    let e : end * c.image_destination-place.result.stride ≡ end * c.args.part.layout.row_bytes = ap (λ (m : ℕ). end * m) c.image_destination-place.ensures.stride in
+    omega (arith, e, c.requires.there, c.loop-column.invariant.written.0)
+
+pub separate_rows-requires-clause-few : goal.separate_rows-requires-clause-few
+separate_rows-requires-clause-few g c =
+    let end = c.args.part.top + (c.args.part.to - c.args.part.from) in
+    let e : end * c.image_destination-place.result.stride ≡ end * c.args.part.layout.row_bytes = ap (λ (m : ℕ). end * m) c.image_destination-place.ensures.stride in
+    omega (arith, e, c.requires.few)
+
+pub returns-in_err-separate_rows-clause-answer : goal.returns-in_err-separate_rows-clause-answer
+returns-in_err-separate_rows-clause-answer g c =
+    let p = view.page c.args.self.now.page.now in
+    let order = c.args.self.now.order in
+    let part = c.args.part in
+    let e = c.in_err-separate_rows.field-0.0 in
+    let file = (g.R.Source.told c.args.source.now).bytes in
+    let column = c.loop-column.column in
+    let inside : column < across p = omega (arith, c.loop-column-test.true, c.chunks_across-column-end.ensures) in
+    let given = subst (λ (bytes : List ℕ). IsCause (Unit {0}) (g.R.Source.failures c.loop-column.source < g.R.Source.failures c.separate_rows.new.source) e (fail_if (rows_short bytes order p part.layout.color (part.first + column) part.to) (IoError UnexpectedEof) ≡ Err e)) (same_bytes c.loop-column.invariant.same) c.in_err-separate_rows.ensures.answer in
+    let answered = err_from_is_err_and c.from_residual.result c.from_residual.ensures.1 in
+    rw (answered.1, answered.2) (cause_along e (λ w. w) (λ f. omega (arith, f, c.loop-column.invariant.count))
+    (λ h. first_at (λ k. fail_if (rows_short file order p part.layout.color (part.first + k) part.to) (IoError UnexpectedEof)) (across p) column e inside c.loop-column.invariant.none h) given)
+
+pub returns-in_err-separate_rows-clause-asked : goal.returns-in_err-separate_rows-clause-asked
+returns-in_err-separate_rows-clause-asked g c =
+    let p = c.args.self.now.page.now in
+    let inside : c.loop-column.column < across (view.page p) = omega (arith, c.loop-column-test.true, c.chunks_across-column-end.ensures) in
+    let i = c.args.part.first + c.loop-column.column in
+    let below = bands.its_index (g.R.Source.told c.args.source.now).bytes c.args.self.now.order (view.page p) c.args.self.now.limits.now (layout c.args.part.layout) (sides_of p) p.sampled p.deep c.requires.laid c.args.part.first c.loop-column.column 1 c.requires.banded c.requires.chunk inside in
+    let answered = err_from_is_err_and c.from_residual.result c.from_residual.ensures.1 in
+    rw (answered.1, answered.2) (part_asked (view.page p) c.args.part.layout.color (image_part (view.page p) 1 c.args.part.layout.row_bytes) 0 i i _ (g.R.Source.told c.args.source.now) (g.R.Source.told c.loop-column.source) c.loop-column.invariant.same
+    (omega arith) (omega arith) below c.in_err-separate_rows.ensures.asked)
+
+pub loop-column-preserved : goal.loop-column-preserved
+loop-column-preserved g c =
+    let p = c.args.self.now.page.now in
+    let order = c.args.self.now.order in
+    let part = c.args.part in
+    let color = part.layout.color in
+    let stride = part.layout.row_bytes in
+    let file = (g.R.Source.told c.args.source.now).bytes in
+    let column = c.loop-column.column in
+    let i = part.first + column in
+    let to = c.image_destination-place.result in
+    let inside : column < across (view.page p) = omega (arith, c.loop-column-test.true, c.chunks_across-column-end.ensures) in
+    let same = same_bytes c.loop-column.invariant.same in
+    let top = part.top in
+    let old = g.W.RowSink.bytes c.args.sink.now in
+    let mid = g.W.RowSink.bytes c.loop-column.sink in
+    let new = g.W.RowSink.bytes c.separate_rows.new.sink in
+    let given = subst (λ (bytes : List ℕ). fail_if (rows_short bytes order (view.page p) color i part.to) (IoError UnexpectedEof) ≡ Ok tt) same c.in_ok-separate_rows.ensures.answer in
+    let wrote = bands.rows_moved order (view.page p) color i part.from part.to mid new (g.R.Source.told c.loop-column.source).bytes file
+    to.stride stride top top to.left (left_of (view.page p) color stride 0 i)
+    same c.image_destination-place.ensures.stride refl c.image_destination-place.ensures.left c.in_ok-separate_rows.ensures.ok in
+    record {
+      later = g.met.W.RowSink.further c.args.sink.now c.loop-column.sink c.separate_rows.new.sink c.loop-column.invariant.later c.in_ok-separate_rows.ensures.later;
+      same = c.in_ok-separate_rows.ensures.kept.told ∙ c.loop-column.invariant.same;
+      count = omega (arith, c.in_ok-separate_rows.ensures.kept.swallowed, c.loop-column.invariant.count);
+      none = one_more (λ k. fail_if (rows_short file order (view.page p) color (part.first + k) part.to) (IoError UnexpectedEof)) column c.loop-column.invariant.none given;
+      written = bands.its_beside file order (view.page p) c.args.self.now.limits.now (layout part.layout) (sides_of p) p.sampled p.deep c.requires.laid part.first column 1 c.requires.banded c.requires.chunk inside
+          part.from part.to top old mid new c.requires.some_rows c.requires.within c.loop-column.invariant.written wrote;
+    }
+
+pub returns-clause-ok : goal.returns-clause-ok
+returns-clause-ok g c =
+    let p = c.args.self.now.page.now in
+    let order = c.args.self.now.order in
+    let part = c.args.part in
+    let color = part.layout.color in
+    let stride = part.layout.row_bytes in
+    let file = (g.R.Source.told c.args.source.now).bytes in
+    let value = in_rect (λ r b. image_byte (view.page p) color stride file order (((rect (view.page p) part.first).y + part.from + r) * stride + b)) stride part.top 0 in
+    let e : c.loop-column.column ≡ across (view.page p) = omega (arith, c.loop-column-test.false, c.loop-column.auto.column-end, c.chunks_across-column-end.ensures) in
+    let l = bands.all_columns file order (view.page p) c.args.self.now.limits.now (layout part.layout) (sides_of p) p.sampled p.deep c.requires.laid part.first 1 c.requires.banded c.requires.chunk in
+    subst (λ (m : ℕ). Writes (IsIn stride part.top (part.to - part.from) 0 m) value (g.W.RowSink.bytes c.args.sink.now) (g.W.RowSink.bytes c.loop-column.sink)) (ap (bands.edge (view.page p) color) e ∙ l) c.loop-column.invariant.written

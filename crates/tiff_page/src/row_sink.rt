@@ -1,0 +1,445 @@
+//! Where the rows of chunks go: a slice of bytes, a list of bytes, or a list of numbers.
+
+ghost use Rattle.std.specs.Prelude.{◌≡◌, ℕ, ◌+◌, ◌*◌, ◌/◌, ◌^◌, ◌<◌, ◌≤◌, ◌⊎◌, ⊤, List, length, map, false, OnOk, refl};
+ghost use Rattle.std.proofs.Common.{◌∙◌};
+ghost use Rattle.std.specs.Int.{div_ceil};
+ghost use Rattle.tiff_base.specs.Answers.{AsksOnly, IsKept};
+ghost use Rattle.tiff_page.specs.Layout.{row_bytes};
+ghost use Rattle.tiff_page.specs.BufferPositions.{filled_to};
+ghost use Rattle.tiff_page.specs.NumberBytes.{IsPut, bytes_in, plain_enough};
+ghost use Rattle.tiff_page.specs.Pixels.{needed_of_row, needs_whole_rows};
+ghost use Rattle.tiff_page.specs.ReadablePage.{IsRead};
+ghost use Rattle.tiff_page.specs.RowReads.{RowPut};
+ghost use Rattle.tiff_page.specs.Reach.{StoredReadable, Moves};
+ghost use Rattle.tiff_page.specs.PageView as view;
+
+use crate::chunk_data::ChunkCursor;
+use crate::numbers::{Number, append_row, grow, put_row};
+use crate::output_row::RowFormat;
+use crate::row_reader::RowScratch;
+use std::alloc::{AllocError, Global};
+use tiff_base::error::TiffResult;
+use tiff_base::io::Source;
+
+/// The bytes of a chunk that are read next: the format of their rows, their number as they are
+/// output, and the first byte of a sink that they go to.
+#[derive(Clone, Copy)]
+pub struct RowSlot<'a> {
+    pub format: RowFormat<'a>,
+    pub len: usize,
+    pub at: usize,
+}
+
+impl RowSlot<'_> {
+    // Reads the next row of a chunk to its position among bytes.
+    #[tactic(auto, using(crate::proofs::PositionsPut::put_in_place))]
+    #[inline(always)]
+    fn row<R: Source>(
+        &self,
+        source: &mut R,
+        cursor: &mut ChunkCursor,
+        scratch: &mut RowScratch,
+        out: &mut [u8],
+    ) -> TiffResult<()>
+        requires read { IsRead (view.page self.now.format.page.now) self.now.format.color }
+        requires width { self.now.format.width ≤ self.now.format.page.now.chunk_width }
+        requires len { self.now.len ≡ row_bytes (view.page self.now.format.page.now)
+            self.now.format.color self.now.format.width }
+        requires there { self.now.at + self.now.len ≤ length out.old }
+        ensures kept { IsKept R.told R.failures result source.old source.new }
+        ensures row { RowPut (R.told source.old).bytes self.now.format.order
+            (view.page self.now.format.page.now)
+            self.now.format.color cursor.old cursor.new
+            (R.failures source.old < R.failures source.new) self.now.at self.now.len
+            out.old out.new result }
+        ensures asked { AsksOnly
+            (StoredReadable (R.told source.old) cursor.old
+            (needed_of_row (view.page self.now.format.page.now) self.now.format.color
+            self.now.len)) result }
+        ensures moves { OnOk result (Moves cursor.old
+            (needed_of_row (view.page self.now.format.page.now) self.now.format.color self.now.len)
+            cursor.new) }
+    {
+        let row = &mut out[self.at..self.at + self.len];
+        self.format.read_row(source, cursor, scratch, row)
+    }
+
+    // Reads the next bytes of a chunk, as they are output, to their position among bytes, if this
+    // needs no whole stored rows.
+    #[tactic(auto, using(crate::proofs::PositionsPut::put_in_place))]
+    #[inline(always)]
+    fn rows<R: Source>(
+        &self,
+        source: &mut R,
+        cursor: &mut ChunkCursor,
+        scratch: &mut RowScratch,
+        out: &mut [u8],
+    ) -> TiffResult<()>
+        requires read { IsRead (view.page self.now.format.page.now) self.now.format.color }
+        requires in_place { needs_whole_rows (view.page self.now.format.page.now)
+            self.now.format.color ≡ false }
+        requires whole { (self.now.format.page.now.depth < 8)
+            ⊎ (self.now.len / (self.now.format.page.now.depth / 8) *
+            (self.now.format.page.now.depth / 8) ≡ self.now.len) }
+        requires there { self.now.at + self.now.len ≤ length out.old }
+        ensures kept { IsKept R.told R.failures result source.old source.new }
+        ensures row { RowPut (R.told source.old).bytes self.now.format.order
+            (view.page self.now.format.page.now)
+            self.now.format.color cursor.old cursor.new
+            (R.failures source.old < R.failures source.new) self.now.at self.now.len
+            out.old out.new result }
+        ensures asked { AsksOnly (StoredReadable (R.told source.old) cursor.old self.now.len)
+            result }
+        ensures moves { OnOk result (Moves cursor.old self.now.len cursor.new) }
+    {
+        let row = &mut out[self.at..self.at + self.len];
+        self.format.read_finished(source, cursor, scratch, row)
+    }
+}
+
+/// Where the rows of chunks go, seen as bytes. A slice has all its bytes, and those where no row
+/// goes stay as they are; a list gets more, zeros where no row goes.
+pub trait RowSink {
+    /// The bytes that the sink has.
+    ghost bytes: { Self → List ℕ };
+
+    /// How many bytes it can have.
+    ghost room: { Self → ℕ };
+
+    /// A number of bytes, rounded up to whole items.
+    ghost whole: { ℕ → ℕ };
+
+    /// A sink, and what it is later.
+    ghost goes_on: { Self → Self → Type 0 };
+
+    /// The number of bytes that are best read at once of rows longer than 8 KB.
+    const LONG_ROWS: usize;
+
+    /// Adds zeros up to `len` bytes, rounded up to whole items, if there are fewer.
+    fn zeros_to(&mut self, len: usize) -> Result<(), AllocError>
+        requires room { len ≤ room self.old }
+        ensures later { goes_on self.old self.new }
+        ensures zeros { OnOk result (bytes self.new ≡ filled_to (whole len) (bytes self.old)) };
+
+    /// Reads the next row of a chunk into bytes that the sink has.
+    fn row<R: Source>(
+        &mut self,
+        source: &mut R,
+        cursor: &mut ChunkCursor,
+        next: &RowSlot<'_>,
+    ) -> TiffResult<()>
+        requires read { IsRead (view.page next.now.format.page.now) next.now.format.color }
+        requires width { next.now.format.width ≤ next.now.format.page.now.chunk_width }
+        requires len { next.now.len ≡ row_bytes (view.page next.now.format.page.now)
+            next.now.format.color next.now.format.width }
+        requires there { next.now.at + next.now.len ≤ length (bytes self.old) }
+        requires fits { next.now.at + next.now.len < 2 ^ 64 }
+        ensures later { goes_on self.old self.new }
+        ensures kept { IsKept R.told R.failures result source.old source.new }
+        ensures row { RowPut (R.told source.old).bytes next.now.format.order
+            (view.page next.now.format.page.now)
+            next.now.format.color cursor.old cursor.new
+            (R.failures source.old < R.failures source.new) next.now.at next.now.len
+            (bytes self.old) (bytes self.new) result }
+        ensures asked { AsksOnly
+            (StoredReadable (R.told source.old) cursor.old
+            (needed_of_row (view.page next.now.format.page.now) next.now.format.color
+            next.now.len)) result }
+        ensures moves { OnOk result (Moves cursor.old
+            (needed_of_row (view.page next.now.format.page.now) next.now.format.color next.now.len)
+            cursor.new) };
+
+    /// Reads the next bytes of a chunk, as they are output, if this needs no whole stored rows. A
+    /// sink that has too few bytes gets zeros first, as by `zeros_to`.
+    fn rows<R: Source>(
+        &mut self,
+        source: &mut R,
+        cursor: &mut ChunkCursor,
+        next: &RowSlot<'_>,
+    ) -> TiffResult<()>
+        requires read { IsRead (view.page next.now.format.page.now) next.now.format.color }
+        requires in_place { needs_whole_rows (view.page next.now.format.page.now)
+            next.now.format.color ≡ false }
+        requires whole { (next.now.format.page.now.depth < 8)
+            ⊎ (next.now.len / (next.now.format.page.now.depth / 8) *
+            (next.now.format.page.now.depth / 8) ≡ next.now.len) }
+        requires room { next.now.at + next.now.len ≤ room self.old }
+        requires fits { next.now.at + next.now.len < 2 ^ 64 }
+        ensures later { goes_on self.old self.new }
+        ensures kept { IsKept R.told R.failures result source.old source.new }
+        ensures row { RowPut (R.told source.old).bytes next.now.format.order
+            (view.page next.now.format.page.now)
+            next.now.format.color cursor.old cursor.new
+            (R.failures source.old < R.failures source.new) next.now.at next.now.len
+            (filled_to (whole (next.now.at + next.now.len)) (bytes self.old))
+            (bytes self.new) result }
+        ensures asked { AsksOnly (StoredReadable (R.told source.old) cursor.old next.now.len)
+            result }
+        ensures moves { OnOk result (Moves cursor.old next.now.len cursor.new) };
+
+    /// Writes bytes to a position. A sink that has too few bytes gets zeros first, as by
+    /// `zeros_to`.
+    fn place(&mut self, at: usize, row: &[u8]) -> Result<(), AllocError>
+        requires room { at + length row.now ≤ room self.old }
+        requires fits { at + length row.now < 2 ^ 64 }
+        ensures later { goes_on self.old self.new }
+        ensures placed { OnOk result (IsPut at row.now (filled_to (whole (at + length row.now))
+            (bytes self.old)) (bytes self.new)) };
+
+    /// A sink goes on as itself.
+    ghost itself: { (x : Self) → goes_on x x };
+
+    /// What a sink is later goes on.
+    ghost further: { (x y z : Self) → goes_on x y → goes_on y z → goes_on x z };
+
+    /// A sink can have as many bytes later.
+    ghost room_kept: { (x y : Self) → goes_on x y → room x ≡ room y };
+
+    /// `whole m` is at least `m`, and doesn't fall if `m` grows.
+    ghost enough: { (m n : ℕ) → m ≤ n → (m ≤ whole m) × (whole m ≤ whole n) };
+}
+
+/// A slice of bytes. Rows are read straight to their positions.
+pub struct ByteSlice<'a> {
+    out: &'a mut [u8],
+    scratch: &'a mut RowScratch,
+}
+
+impl<'a> ByteSlice<'a> {
+    /// Returns a sink for the bytes of a slice.
+    pub fn new(out: &'a mut [u8], scratch: &'a mut RowScratch) -> Self
+        ensures same_reference { result.out.ghost_name ≡ out.entry.ghost_name }
+        ensures bytes { result.out.now ≡ out.old }
+    {
+        ByteSlice { out, scratch }
+    }
+}
+
+impl Drop for ByteSlice<'_> {
+    // States that the slice keeps its bytes.
+    fn drop(self)
+        ensures { self.exit.0.now ≡ self.entry.out.now }
+    {
+        let ByteSlice { out, scratch } = self;
+    }
+}
+
+impl<'a> RowSink for ByteSlice<'a> {
+    ghost bytes = { λ s. s.out.now };
+
+    ghost room = { λ s. length s.out.now };
+
+    ghost whole = { λ n. n };
+
+    ghost goes_on = { λ s t. (s.out.ghost_name ≡ t.out.ghost_name)
+        × (length s.out.now ≡ length t.out.now) };
+
+    const LONG_ROWS: usize = 65536;
+
+    fn zeros_to(&mut self, _len: usize) -> Result<(), AllocError> {
+        Ok(())
+    }
+
+    #[inline(always)]
+    fn row<R: Source>(
+        &mut self,
+        source: &mut R,
+        cursor: &mut ChunkCursor,
+        next: &RowSlot<'_>,
+    ) -> TiffResult<()> {
+        next.row(source, cursor, self.scratch, self.out)
+    }
+
+    #[inline(always)]
+    fn rows<R: Source>(
+        &mut self,
+        source: &mut R,
+        cursor: &mut ChunkCursor,
+        next: &RowSlot<'_>,
+    ) -> TiffResult<()> {
+        next.rows(source, cursor, self.scratch, self.out)
+    }
+
+    fn place(&mut self, at: usize, row: &[u8]) -> Result<(), AllocError> {
+        self.out[at..at + row.len()].copy_from_slice(row);
+        Ok(())
+    }
+
+    ghost itself = { λ s. (refl, refl) };
+
+    ghost further = { λ r s t a b. (a.0 ∙ b.0, a.1 ∙ b.1) };
+
+    ghost room_kept = { λ s t same. same.1 };
+
+    ghost enough = { plain_enough };
+}
+
+/// A list of bytes. Rows are read straight to their positions.
+#[derive(Drop)]
+pub struct ByteList {
+    pub(crate) bytes: Vec<u8>,
+    scratch: RowScratch,
+}
+
+impl ByteList {
+    /// Returns a sink that goes on with a list.
+    pub fn new(alloc: Global, bytes: Vec<u8>) -> Self
+        ensures { result.bytes ≡ bytes }
+    {
+        ByteList {
+            bytes,
+            scratch: RowScratch::new(alloc),
+        }
+    }
+
+    /// Returns the list.
+    pub fn into_bytes(self) -> Vec<u8>
+        ensures { result ≡ self.bytes }
+    {
+        let ByteList { bytes, .. } = self;
+        bytes
+    }
+}
+
+impl RowSink for ByteList {
+    ghost bytes = { λ s. s.bytes.items };
+
+    ghost room = { λ s. 2 ^ 64 };
+
+    ghost whole = { λ n. n };
+
+    ghost goes_on = { λ s t. ⊤ };
+
+    const LONG_ROWS: usize = 65536;
+
+    #[tactic(auto, using(crate::proofs::NumberBytes::plain_zeros_behind))]
+    fn zeros_to(&mut self, len: usize) -> Result<(), AllocError> {
+        grow::<u8, 1>(&mut self.bytes, len)
+    }
+
+    #[inline(always)]
+    fn row<R: Source>(
+        &mut self,
+        source: &mut R,
+        cursor: &mut ChunkCursor,
+        next: &RowSlot<'_>,
+    ) -> TiffResult<()> {
+        next.row(source, cursor, &mut self.scratch, &mut self.bytes)
+    }
+
+    #[inline(always)]
+    fn rows<R: Source>(
+        &mut self,
+        source: &mut R,
+        cursor: &mut ChunkCursor,
+        next: &RowSlot<'_>,
+    ) -> TiffResult<()> {
+        self.zeros_to(next.at + next.len)?;
+        next.rows(source, cursor, &mut self.scratch, &mut self.bytes)
+    }
+
+    fn place(&mut self, at: usize, row: &[u8]) -> Result<(), AllocError> {
+        append_row::<u8, 1>(&mut self.bytes, at, row)
+    }
+
+    ghost itself = { λ s. tt };
+
+    ghost further = { λ r s t a b. tt };
+
+    ghost room_kept = { λ s t same. refl };
+
+    ghost enough = { plain_enough };
+}
+
+/// A list of numbers of `N` bytes. Rows are read into a scratch buffer, and their numbers go from
+/// there into the list.
+#[derive(Drop)]
+pub struct NumberList<T, const N: usize> {
+    pub(crate) numbers: Vec<T>,
+    row: Vec<u8>,
+    scratch: RowScratch,
+}
+
+impl<T: Number<N>, const N: usize> NumberList<T, N> {
+    /// Returns a sink that goes on with a list.
+    pub fn new(alloc: Global, numbers: Vec<T>) -> Self
+        ensures { result.numbers ≡ numbers }
+    {
+        NumberList {
+            numbers,
+            row: Vec::new(alloc),
+            scratch: RowScratch::new(alloc),
+        }
+    }
+
+    /// Returns the list.
+    pub fn into_numbers(self) -> Vec<T>
+        ensures { result ≡ self.numbers }
+    {
+        let NumberList { numbers, .. } = self;
+        numbers
+    }
+}
+
+impl<T: Number<N>, const N: usize> RowSink for NumberList<T, N> {
+    ghost use Rattle.tiff_page.specs.NumberBytes.{whole_enough};
+
+    ghost bytes = { λ s. bytes_in N (map T.bits s.numbers.items) };
+
+    ghost room = { λ s. 2 ^ 64 };
+
+    ghost whole = { λ n. div_ceil n N * N };
+
+    ghost goes_on = { λ s t. ⊤ };
+
+    // They go through a scratch buffer, which has to stay in the processor's nearest cache.
+    const LONG_ROWS: usize = 8192;
+
+    #[tactic(auto, using(crate::proofs::NumberBytes::some_size))]
+    fn zeros_to(&mut self, len: usize) -> Result<(), AllocError> {
+        grow(&mut self.numbers, len.div_ceil(N))
+    }
+
+    #[tactic(auto, using(crate::proofs::PositionsPut::put_from_room, crate::proofs::NumberBytes::some_size))]
+    #[inline(always)]
+    fn row<R: Source>(
+        &mut self,
+        source: &mut R,
+        cursor: &mut ChunkCursor,
+        next: &RowSlot<'_>,
+    ) -> TiffResult<()> {
+        self.row.resize(next.len, 0)?;
+        next.format
+            .read_row(source, cursor, &mut self.scratch, &mut self.row)?;
+        put_row(&mut self.numbers, next.at, &self.row);
+        Ok(())
+    }
+
+    #[tactic(auto, using(crate::proofs::NumberBytes::some_size))]
+    #[inline(always)]
+    fn rows<R: Source>(
+        &mut self,
+        source: &mut R,
+        cursor: &mut ChunkCursor,
+        next: &RowSlot<'_>,
+    ) -> TiffResult<()> {
+        self.row.resize(next.len, 0)?;
+        next.format
+            .read_finished(source, cursor, &mut self.scratch, &mut self.row)?;
+        append_row(&mut self.numbers, next.at, &self.row)?;
+        Ok(())
+    }
+
+    #[tactic(auto, using(crate::proofs::NumberBytes::some_size))]
+    fn place(&mut self, at: usize, row: &[u8]) -> Result<(), AllocError> {
+        append_row(&mut self.numbers, at, row)
+    }
+
+    ghost itself = { λ s. tt };
+
+    ghost further = { λ r s t a b. tt };
+
+    ghost room_kept = { λ s t same. refl };
+
+    ghost enough = { whole_enough N T.sized };
+}
