@@ -14,7 +14,7 @@ use crate::result::DecodingResult;
 use tiff_base::error::TiffResult;
 use tiff_base::io::Source;
 use tiff_page::layout::{BufferLayoutPreference, TiffCodingUnit};
-use tiff_page::read_chunks::PageReader;
+use tiff_page::page_reader::PageReader;
 
 /// These calls leave the decoder unchanged, also after an error. Each call returns the first of
 /// these errors: those of the layout, as `image_buffer_layout` and `image_chunk_buffer_layout` list
