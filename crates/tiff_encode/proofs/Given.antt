@@ -1,5 +1,5 @@
 -- The values of the tags that describe a page, before and after a change of values.
-use Rattle.std.proofs.Common.{◌≡◌, ℕ, Bool, true, false, List, [], ◌∷◌, map, Option, None, refl, ◌∙◌, subst}
+use Rattle.std.proofs.Common.{◌≡◌, ℕ, Bool, true, false, List, [], ◌∷◌, Option, None, refl, ◌∙◌, subst}
 use Rattle.std.proofs.lemmas.Bool.{eqb-true, and_parts}
 use Rattle.std.specs.Prelude.{◌==◌, ◌||◌}
 use Rattle.std.specs.List.{list_any, list_all}
@@ -10,7 +10,7 @@ use Rattle.tiff_base.specs.declared.tags.Tag.TheVariants as tag
 use Rattle.tiff_base.specs.Tags.{tag_number}
 use Rattle.tiff_value.specs.Data.{Scalars}
 use Rattle.tiff_page.specs.Checks.{tags_of_pixels, tags_of_chunks}
-use Rattle.tiff_encode.specs.Held.{Given, value_in, AreGiven, EachGiven, places_in}
+use Rattle.tiff_encode.specs.Held.{Given, value_in, values_of, AreGiven, EachGiven, places_in}
 
 -- ---- the value of one tag
 
@@ -28,12 +28,12 @@ abbrev pub is_one_of : List Tag → ℕ → Bool
 is_one_of ts n = list_any (λ t. tag_number t == n) ts
 
 -- values that are the same at each tag of a list are the same at a tag that is in the list
-pub same_at : (f g : Given) (n : ℕ) (ts : List Tag) → map (λ t. f (tag_number t)) ts ≡ map (λ t. g (tag_number t)) ts
+pub same_at : (f g : Given) (n : ℕ) (ts : List Tag) → values_of ts f ≡ values_of ts g
     → is_one_of ts n ≡ true → f n ≡ g n
 same_at f g n [] e h = absurd cc
 same_at f g n (t ∷ ts) e h =
     let rest : Bool = is_one_of ts n in
-    let same = parts_same (f (tag_number t)) (g (tag_number t)) (map (λ u. f (tag_number u)) ts) (map (λ u. g (tag_number u)) ts) e in
+    let same = parts_same (f (tag_number t)) (g (tag_number t)) (values_of ts f) (values_of ts g) e in
     either_same (tag_number t == n) (tag_number t) n rest f g refl same.0 (λ q. same_at f g n ts same.1 q) h
 
 pub given_at : (rows : List (Tag × Option Scalars)) (given : Given) (n : ℕ) → AreGiven rows given → is_one_of tags_of_pixels n ≡ true → given n ≡ value_in rows n
@@ -46,11 +46,11 @@ abbrev pub IsLocal : (Given → Given) → Type 0
 IsLocal change = (f g : Given) (n : ℕ) → f n ≡ g n → change f n ≡ change g n
 
 changed_same : (change : Given → Given) → IsLocal change → (f g : Given) (ts : List Tag)
-    → map (λ t. f (tag_number t)) ts ≡ map (λ t. g (tag_number t)) ts
-    → map (λ t. change f (tag_number t)) ts ≡ map (λ t. change g (tag_number t)) ts
+    → values_of ts f ≡ values_of ts g
+    → values_of ts (change f) ≡ values_of ts (change g)
 changed_same change l f g [] e = refl
 changed_same change l f g (t ∷ ts) e =
-    let same = parts_same (f (tag_number t)) (g (tag_number t)) (map (λ u. f (tag_number u)) ts) (map (λ u. g (tag_number u)) ts) e in
+    let same = parts_same (f (tag_number t)) (g (tag_number t)) (values_of ts f) (values_of ts g) e in
     let first = l f g (tag_number t) same.0 in
     let rest = changed_same change l f g ts same.1 in
     λ i. first i ∷ rest i
@@ -64,7 +64,7 @@ given_changed change l rows later given e s = changed_same change l given (value
 
 -- each tag of a list keeps its value, if the tags of chunks do
 each_kept : (rows : List (Tag × Option Scalars)) (given later : Given)
-    → map (λ t. later (tag_number t)) tags_of_chunks ≡ map (λ t. given (tag_number t)) tags_of_chunks
+    → values_of tags_of_chunks later ≡ values_of tags_of_chunks given
     → list_all (λ row. is_one_of tags_of_chunks (tag_number row.0)) rows ≡ true → EachGiven rows given → EachGiven rows later
 each_kept [] given later e q t = tt
 each_kept (row ∷ rows) given later e q t =
@@ -73,7 +73,7 @@ each_kept (row ∷ rows) given later e q t =
 
 -- the tags of the chunks keep their values
 pub places_kept : (c : ChunkType) (width height : ℕ) (given later : Given)
-    → map (λ t. later (tag_number t)) tags_of_chunks ≡ map (λ t. given (tag_number t)) tags_of_chunks
+    → values_of tags_of_chunks later ≡ values_of tags_of_chunks given
     → EachGiven (places_in c width height None None) given → EachGiven (places_in c width height None None) later
 places_kept Strip width height given later e t = each_kept (places_in Strip width height None None) given later e refl t
 places_kept Tile width height given later e t = each_kept (places_in Tile width height None None) given later e refl t

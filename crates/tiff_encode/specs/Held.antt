@@ -86,10 +86,13 @@ abbrev pub value_in : List (Tag × Option Scalars) → Given
 value_in [] n = None
 value_in (row ∷ rows) n = if tag_number row.0 == n then row.1 else value_in rows n
 
--- each tag that describes the pixels of a page has its value in a list
+-- the values of some tags
+abbrev pub values_of : List Tag → Given → List (Option Scalars)
+values_of ts given = map (λ t. given (tag_number t)) ts
+
+-- the tags that describe the pixels of a page have their values in a list
 abbrev pub AreGiven : List (Tag × Option Scalars) → Given → Type 0
-AreGiven rows given =
-    map (λ t. given (tag_number t)) tags_of_pixels ≡ map (λ t. value_in rows (tag_number t)) tags_of_pixels
+AreGiven rows given = values_of tags_of_pixels given ≡ values_of tags_of_pixels (value_in rows)
 
 -- each tag of a list has its value there
 abbrev pub EachGiven : List (Tag × Option Scalars) → Given → Type 0

@@ -66,19 +66,17 @@ module _ (kind : FileKind) (i : OpenImage) where
       (after_local samples (bits_given f) (bits_given g) n
       (set_local (tag_number tag.BitsPerSample) (Some (u16s (extended_by_first i.color.bits (length i.extra)))) f g n e)))
 
-  -- the tags of the pixels; the number of samples of a pixel is there from the beginning, if there are no extra samples
+  -- the number of samples of a pixel, if there are no extra samples
+  none_more : (length i.extra == 0) ≡ true → all_samples i ≡ length i.color.bits
+  none_more e = let none : length i.extra ≡ 0 = eqb-true (length i.extra) 0 e in omega (arith, none)
+
+  -- the tags of the pixels have their values
   pixels_last : (b : Bool) (c : ChunkType) (extra : Option Scalars) → (length i.extra == 0) ≡ b
       → AreGiven (image_tags i extra) (chunks_given b c (value_in (open_tags i extra)))
   pixels_last false Strip extra e = refl
   pixels_last false Tile extra e = refl
-  pixels_last true Strip extra e =
-      let none : length i.extra ≡ 0 = eqb-true (length i.extra) 0 e in
-      let same : all_samples i ≡ length i.color.bits = omega (arith, none) in
-      rw same refl
-  pixels_last true Tile extra e =
-      let none : length i.extra ≡ 0 = eqb-true (length i.extra) 0 e in
-      let same : all_samples i ≡ length i.color.bits = omega (arith, none) in
-      rw same refl
+  pixels_last true Strip extra e = rw (none_more e) refl
+  pixels_last true Tile extra e = rw (none_more e) refl
 
   -- a tag other than the number of samples keeps its value
   samples_kept : (b : Bool) (given : Given) (n : ℕ) → samples_given false given n ≡ bits_given given n → samples_given b given n ≡ bits_given given n
