@@ -15,14 +15,9 @@ use Rattle.tiff_page.specs.Layout.{LayoutRecord, layout_of, color_of, row_bytes,
 use Rattle.tiff_page.specs.PixelFault.{fail_if}
 use Rattle.tiff_page.specs.Buffers.{planes_layout}
 use Rattle.tiff_page.specs.PixelCalls.{Part, room_fault, part_fault, bytes_with_region, fill_buffer}
+use Rattle.tiff_page.proofs.PassedChecks.{ok_is}
 
 -- ---- chains of steps
-
-abbrev pub good : {A : Type 0} → A → Result A TiffError
-good x = Ok x
-
-pub ok_is : {A : Type 0} (x y : A) → good x ≡ good y → x ≡ y
-ok_is x y h = cc
 
 pub fail_if_ok : (b : Bool) (e : TiffError) → fail_if b e ≡ Ok tt → b ≡ false
 fail_if_ok true e h = cc

@@ -14,12 +14,12 @@ use Rattle.tiff_page.specs.Image.{Decoded, decoded_samples}
 use Rattle.tiff_page.specs.Buffers.{all_planes}
 use Rattle.tiff_page.specs.PixelCalls.{planes_used}
 use Rattle.tiff_page.specs.Laws.{HasSides, SomeBytes}
+use Rattle.tiff_page.proofs.PassedChecks.{good, ok_is}
 use Rattle.tiff_decode.specs.Machine.{Decoding}
 use Rattle.tiff_decode.specs.Outcome as outcome
 use Rattle.tiff_laws.specs.Sides.{HasSamples}
 use Rattle.tiff_laws.specs.Whole.{HasRoom, ImageIsItsChunks, IsFirstRefused, RefusedWhereChunks}
 use Rattle.tiff_laws.specs.Samples.{numbers_by, image_read, planes_let, HasNumbers, AreOfChunks, ImageByBytes, BufferByBytes, SamplesOfChunks, BufferOfChunks}
-use Rattle.tiff_laws.proofs.Laid.{good, ok_is}
 use Rattle.tiff_laws.proofs.Samples.{all_or_one, used_of, some_plane, all_some}
 
 -- the error of a step is the error of the steps after it

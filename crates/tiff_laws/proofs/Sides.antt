@@ -1,5 +1,5 @@
 -- A page that the tags define has sides and samples.
-use Rattle.std.proofs.Common.{◌≡◌, ℕ, zero, suc, ◌^◌, ◌<◌, Bool, true, false, List, [], ◌∷◌, length, Option, Some, None, Ok, Err, refl, ap, ◌∙◌, subst, arith}
+use Rattle.std.proofs.Common.{◌≡◌, ℕ, zero, suc, ◌^◌, ◌<◌, Bool, true, false, List, [], ◌∷◌, length, Option, Some, None, Ok, Err, refl, subst, arith}
 use Rattle.std.specs.Prelude.{Result, if◌then◌else◌, ◌==◌, ◌&&◌, ◌||◌, not}
 use Rattle.std.specs.List.{list_all}
 use Rattle.tiff_base.proofs.Common.{bind_ok}
@@ -15,11 +15,10 @@ use Rattle.tiff_ifd.specs.Into.{into_u16, into_u32, into_u64_vec}
 use Rattle.tiff_ifd.specs.TagLookup.{TagLookup, find, find_or, require}
 use Rattle.tiff_ifd.specs.Fitted.{fitted_numbers}
 use Rattle.tiff_page.specs.Counts.{planes_of}
-use Rattle.tiff_page.specs.Page.{PageRecord, Chunks}
-use Rattle.tiff_page.specs.Checks.{sides, size_in, interpretation_in, method_in, some_samples, samples_in, extra_in, format_in, same_depth, one_depth, depth_from, depth_in, predictor_in, planar_in, subsampling_in, chunk_type_in, chunks_counted, some_rows, strips_in, some_side, tiles_in, chunks_in, page_of}
-use Rattle.tiff_page.specs.Laws.{HasSides}
-use Rattle.tiff_laws.specs.Sides.{HasSamples, PageHasMethod, PageHasSides}
-use Rattle.tiff_laws.proofs.Laid.{good, ok_is}
+use Rattle.tiff_page.specs.Page.{Chunks}
+use Rattle.tiff_page.specs.Checks.{sides, size_in, some_samples, samples_in, same_depth, one_depth, depth_from, depth_in, chunks_counted, some_rows, strips_in, some_side, tiles_in, chunks_in}
+use Rattle.tiff_page.proofs.PassedChecks.{good, ok_is, passed_checks}
+use Rattle.tiff_laws.specs.Sides.{PageHasMethod, PageHasSides}
 
 -- ---- the result of a choice
 
@@ -135,52 +134,14 @@ module _ (look : TagLookup) where
 
 -- ---- the page
 
--- a step of a chain that returned something, and the result of the steps after it
-step : {A : Type 0} {G : Type 0} (r : Result A TiffError) → ((e : TiffError) → r ≡ Err e → G) → ((x : A) → r ≡ Ok x → G) → G
-step (Ok x) on_err on_ok = on_ok x refl
-step (Err e) on_err on_ok = on_err e refl
-
-abbrev Both : PageRecord → Type 0
-Both p = HasSides p × HasSamples p
-
 pub page_has_sides : PageHasSides
-unfolding page_of
 page_has_sides look p given =
-    step {G = Both p} (size_in look) (λ e q. let g : Err e ≡ Ok p = rw q at given in cc) (λ size h1. let g1 = rw h1 at given in
-    step {G = Both p} (interpretation_in look) (λ e q. let g : Err e ≡ Ok p = rw q at g1 in cc) (λ interpretation h2. let g2 = rw h2 at g1 in
-    step {G = Both p} (method_in look) (λ e q. let g : Err e ≡ Ok p = rw q at g2 in cc) (λ method h3. let g3 = rw h3 at g2 in
-    step {G = Both p} (samples_in look) (λ e q. let g : Err e ≡ Ok p = rw q at g3 in cc) (λ samples h4. let g4 = rw h4 at g3 in
-    step {G = Both p} (extra_in look samples) (λ e q. let g : Err e ≡ Ok p = rw q at g4 in cc) (λ extra h5. let g5 = rw h5 at g4 in
-    step {G = Both p} (format_in look) (λ e q. let g : Err e ≡ Ok p = rw q at g5 in cc) (λ format h6. let g6 = rw h6 at g5 in
-    step {G = Both p} (depth_in look samples) (λ e q. let g : Err e ≡ Ok p = rw q at g6 in cc) (λ depth h7. let g7 = rw h7 at g6 in
-    step {G = Both p} (predictor_in look) (λ e q. let g : Err e ≡ Ok p = rw q at g7 in cc) (λ predictor h8. let g8 = rw h8 at g7 in
-    step {G = Both p} (planar_in look) (λ e q. let g : Err e ≡ Ok p = rw q at g8 in cc) (λ planar h9. let g9 = rw h9 at g8 in
-    step {G = Both p} (subsampling_in look) (λ e q. let g : Err e ≡ Ok p = rw q at g9 in cc) (λ subsampling h10. let g10 = rw h10 at g9 in
-    step {G = Both p} (chunk_type_in look) (λ e q. let g : Err e ≡ Ok p = rw q at g10 in cc) (λ which h11. let g11 = rw h11 at g10 in
-    step {G = Both p} (chunks_in look which size.0 size.1 (planes_of planar samples)) (λ e q. let g : Err e ≡ Ok p = rw q at g11 in cc) (λ chunks h12. let g12 = rw h12 at g11 in
-    let s = size_some look size h1 in
-    let c = chunks_some look size.0 size.1 (planes_of planar samples) which chunks s.0 h12 in
-    subst Both (ok_is _ p g12) (
+    let passed = passed_checks look p given in
+    let s = size_some look (p.width, p.height) passed.size in
+    let c = chunks_some look p.width p.height (planes_of p.planar p.samples) p.chunk_type _ s.0 passed.chunks in (
       record { wide = s.0; high = s.1; chunk_wide = c.0; chunk_high = c.1 },
-      record { sampled = samples_some look samples h4; deep = depth_some look samples depth h7 },
-    )))))))))))))
-
-abbrev SameMethod : TagLookup → PageRecord → Type 0
-SameMethod look p = method_in look ≡ Ok p.method
+      record { sampled = samples_some look p.samples passed.samples; deep = depth_some look p.samples p.depth passed.depth },
+    )
 
 pub page_has_method : PageHasMethod
-unfolding page_of
-page_has_method look p given =
-    step {G = SameMethod look p} (size_in look) (λ e q. let g : Err e ≡ Ok p = rw q at given in cc) (λ size h1. let g1 = rw h1 at given in
-    step {G = SameMethod look p} (interpretation_in look) (λ e q. let g : Err e ≡ Ok p = rw q at g1 in cc) (λ interpretation h2. let g2 = rw h2 at g1 in
-    step {G = SameMethod look p} (method_in look) (λ e q. let g : Err e ≡ Ok p = rw q at g2 in cc) (λ method h3. let g3 = rw h3 at g2 in
-    step {G = SameMethod look p} (samples_in look) (λ e q. let g : Err e ≡ Ok p = rw q at g3 in cc) (λ samples h4. let g4 = rw h4 at g3 in
-    step {G = SameMethod look p} (extra_in look samples) (λ e q. let g : Err e ≡ Ok p = rw q at g4 in cc) (λ extra h5. let g5 = rw h5 at g4 in
-    step {G = SameMethod look p} (format_in look) (λ e q. let g : Err e ≡ Ok p = rw q at g5 in cc) (λ format h6. let g6 = rw h6 at g5 in
-    step {G = SameMethod look p} (depth_in look samples) (λ e q. let g : Err e ≡ Ok p = rw q at g6 in cc) (λ depth h7. let g7 = rw h7 at g6 in
-    step {G = SameMethod look p} (predictor_in look) (λ e q. let g : Err e ≡ Ok p = rw q at g7 in cc) (λ predictor h8. let g8 = rw h8 at g7 in
-    step {G = SameMethod look p} (planar_in look) (λ e q. let g : Err e ≡ Ok p = rw q at g8 in cc) (λ planar h9. let g9 = rw h9 at g8 in
-    step {G = SameMethod look p} (subsampling_in look) (λ e q. let g : Err e ≡ Ok p = rw q at g9 in cc) (λ subsampling h10. let g10 = rw h10 at g9 in
-    step {G = SameMethod look p} (chunk_type_in look) (λ e q. let g : Err e ≡ Ok p = rw q at g10 in cc) (λ which h11. let g11 = rw h11 at g10 in
-    step {G = SameMethod look p} (chunks_in look which size.0 size.1 (planes_of planar samples)) (λ e q. let g : Err e ≡ Ok p = rw q at g11 in cc) (λ chunks h12. let g12 = rw h12 at g11 in
-    h3 ∙ ap (λ (x : PageRecord). Ok x.method) (ok_is _ p g12)))))))))))))
+page_has_method look p given = (passed_checks look p given).method

@@ -14,11 +14,12 @@ use Rattle.tiff_page.specs.Pixels.{Region, region_byte, chunk_region}
 use Rattle.tiff_page.specs.PixelCalls as pixels
 use Rattle.tiff_page.specs.PixelCalls.{planes_used, bytes_with_region}
 use Rattle.tiff_page.specs.Laws.{HasSides, ChunksWithin, PlacedEach, UnitOfChunks}
+use Rattle.tiff_page.proofs.PassedChecks.{good, ok_is}
 use Rattle.tiff_decode.specs.Machine.{Decoding}
 use Rattle.tiff_decode.specs.Outcome as outcome
 use Rattle.tiff_laws.specs.Whole.{IsChunkRead, chunk_byte_count}
 use Rattle.tiff_laws.specs.Units.{HasUnitRoom, EachPlane, IsBehind, IsMadeOfUnit, UnitIsItsChunks, UnitWhereChunks, unit_chunk}
-use Rattle.tiff_laws.proofs.Laid.{IsLaid, IsReadInto, read_gives, good, ok_is}
+use Rattle.tiff_laws.proofs.Laid.{IsLaid, IsReadInto, read_gives}
 use Rattle.tiff_laws.proofs.Whole as whole
 use Rattle.tiff_laws.proofs.Whole.{byte_is, some_chunk}
 use Rattle.tiff_laws.proofs.WhereChunks.{ok_or, is_good}

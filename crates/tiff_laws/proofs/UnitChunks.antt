@@ -20,11 +20,12 @@ use Rattle.tiff_page.specs.PixelCalls as pixels
 use Rattle.tiff_page.specs.PixelCalls.{Part, chunk_part, part_fault, room_fault, planes_used, bytes_with_region, fill_buffer}
 use Rattle.tiff_page.specs.Laws.{IsFirst, NoFault, FirstFault}
 use Rattle.tiff_page.proofs.Planes.{each_same}
+use Rattle.tiff_page.proofs.PassedChecks.{ok_is}
 use Rattle.tiff_decode.specs.Machine.{Decoding}
 use Rattle.tiff_decode.specs.Outcome as outcome
 use Rattle.tiff_laws.specs.Whole.{IsChunkRead, IsChunkRefused, chunk_byte_count}
 use Rattle.tiff_laws.specs.Units.{HasUnitRoom, IsFirstPlaneRefused, UnitWhereChunks, UnitRefusedWhereChunks, unit_chunk}
-use Rattle.tiff_laws.proofs.Laid.{IsLaid, IsFilled, laid, planes_laid, filled_gives, read_gives, room_ok, ok_is}
+use Rattle.tiff_laws.proofs.Laid.{IsLaid, IsFilled, laid, planes_laid, filled_gives, read_gives, room_ok}
 use Rattle.tiff_laws.proofs.WhereChunks.{fault_of, read_into, one_fault, ok_or, is_good, has_room}
 use Rattle.tiff_laws.proofs.FirstRefused.{fault_first, refusal_of, refusal_by}
 

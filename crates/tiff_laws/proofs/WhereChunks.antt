@@ -21,11 +21,12 @@ use Rattle.tiff_page.specs.Buffers.{planes_layout}
 use Rattle.tiff_page.specs.PixelCalls as pixels
 use Rattle.tiff_page.specs.PixelCalls.{Part, image_part, chunk_part, part_fault, room_fault, planes_used, bytes_with_region, fill_buffer}
 use Rattle.tiff_page.specs.Laws.{HasSides, ChunkIsWithin, ChunksWithin, NoFault}
+use Rattle.tiff_page.proofs.PassedChecks.{ok_is}
 use Rattle.tiff_decode.specs.Machine.{Decoding}
 use Rattle.tiff_decode.specs.Outcome as outcome
 use Rattle.tiff_laws.specs.Whole.{HasRoom, EachUsed, IsChunkRead, ReadWhereChunks, chunk_row, chunk_byte_count}
 use Rattle.tiff_laws.proofs.Whole.{some_chunk, plane_of}
-use Rattle.tiff_laws.proofs.Laid.{IsLaid, laid, planes_laid, read_gives, ok_is}
+use Rattle.tiff_laws.proofs.Laid.{IsLaid, laid, planes_laid, read_gives}
 
 -- ---- the layout of a chunk
 
