@@ -18,7 +18,6 @@ use Rattle.tiff_ifd.specs.FieldValue.{field_value}
 use Rattle.tiff_ifd.specs.TagLookup.{look_in, find, require}
 use Rattle.tiff_ifd.specs.TagQueries.{find_unsigned, find_unsigned_vec, get_unsigned, tag_items, buffer_of, part_of_field}
 use Rattle.tiff_page.specs.Buffers.{planes_layout, image_buffer_layout, image_chunk_buffer_layout, image_coding_unit_layout, resized_samples}
-use Rattle.tiff_page.specs.Checks.{size_in, interpretation_in, method_in, samples_in, extra_in, format_in, depth_in, predictor_in, planar_in, subsampling_in, chunk_type_in, chunks_counted, strips_in, tiles_in, page_of}
 use Rattle.tiff_page.specs.Counts.{strip_count, tile_count}
 use Rattle.tiff_page.specs.Layout.{no_color, color_of, sample_type_of, row_bits, layout_of}
 use Rattle.tiff_page.specs.NumberBytes.{bytes_in}
@@ -26,6 +25,7 @@ use Rattle.tiff_page.specs.PixelCalls.{bytes_with_region, fill_buffer, samples, 
 use Rattle.tiff_page.specs.PixelFault.{depth_fault, predictor_fault, inversion_fault, form_fault}
 use Rattle.tiff_page.specs.Pixels.{shown_sample, byte_at, numbers_in}
 use Rattle.tiff_page.specs.Rect.{rect}
+use Rattle.tiff_page.proofs.PassedChecks.{checks_on_literals}
 use Rattle.tiff_decode.specs.Outcome as outcome
 use Rattle.tiff_encode.specs.Calls.{image_directory, extra_directory, write_entry, write_entry_buf, write_entry_bytes, write_tag, write_tag_buf, write_data, write_data_buf, extend_from, new_offset, set_parent, finish, first_tags, new_image, extra_samples, set_rows_per_strip, tiles, planar, resolution, x_resolution, y_resolution, resolution_unit, write_strip, write_chunk, last_tags, finish_image, write_image_data, write_image}
 use Rattle.tiff_encode.specs.Causes.{begin_cause, write_tag_cause, write_buf_cause, write_entry_bytes_cause, write_data_cause, write_data_buf_cause, finish_cause, offset_cause, image_cause, new_image_cause, extra_samples_cause, rows_per_strip_cause, tiles_cause, planar_cause, resolution_cause, one_resolution_cause, resolution_unit_cause, write_chunk_cause, write_strip_cause, write_image_data_cause}
@@ -50,12 +50,11 @@ unfolding chain field_value look_in find require find_unsigned find_unsigned_vec
 ifd_on_literals = tt
 
 unfoldable pub page_on_literals : ⊤
-unfolding planes_layout image_buffer_layout image_chunk_buffer_layout image_coding_unit_layout resized_samples size_in
-    interpretation_in method_in samples_in extra_in format_in depth_in predictor_in planar_in subsampling_in
-    chunk_type_in chunks_counted strips_in tiles_in page_of strip_count tile_count no_color color_of sample_type_of
-    row_bits layout_of bytes_in bytes_with_region fill_buffer samples image_of read_image_bytes read_image_to_buffer
-    read_chunk read_chunk_bytes read_chunk_to_buffer read_coding_unit_bytes depth_fault predictor_fault inversion_fault
-    form_fault shown_sample byte_at numbers_in rect
+unfolding checks_on_literals planes_layout image_buffer_layout image_chunk_buffer_layout image_coding_unit_layout
+    resized_samples strip_count tile_count no_color color_of sample_type_of row_bits layout_of bytes_in
+    bytes_with_region fill_buffer samples image_of read_image_bytes read_image_to_buffer read_chunk read_chunk_bytes
+    read_chunk_to_buffer read_coding_unit_bytes depth_fault predictor_fault inversion_fault form_fault shown_sample
+    byte_at numbers_in rect
 page_on_literals = tt
 
 unfoldable pub decode_on_literals : ⊤

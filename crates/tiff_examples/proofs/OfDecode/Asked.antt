@@ -108,7 +108,7 @@ enters_cut = λ r.
     let source : SourceRecord = s.placed_source ((14, 29) ∷ []) in
     let directory : DirectoryRecord = directory_in (directory_at Classic LittleEndian s.placed_file 14) in
     tag_unheld source ((273, offsets) ∷ []) None tag.StripOffsets offsets refl
-    (λ f. false≢true (f.placed (omega arith) 43 (omega arith) (omega arith))) (r.page directory refl).strip_offsets
+    (λ f. false≢true (f.placed (omega arith) 43 (omega arith) (omega arith))) ((r.page directory refl).each tag.StripOffsets refl)
 
 -- ---- the page with a number
 

@@ -1,15 +1,19 @@
 -- The worked examples of `Page.Reach` hold.
-use Rattle.std.proofs.Common.{◌≡◌, [], ◌∷◌, None, Some, arith, refl}
-use Rattle.std.proofs.lemmas.Bool.{false≢true}
+use Rattle.std.proofs.Common.{◌≡◌, ℕ, cond, true, List, [], ◌∷◌, Equal, None, Some, arith, refl, ap, sym}
+use Rattle.std.proofs.lemmas.Bool.{and_parts, false≢true}
+use Rattle.std.specs.Cmp.{nat_cmp_is}
 use Rattle.std.specs.FinMap.{find}
-use Rattle.std.specs.Ordering.{nat_cmp}
+use Rattle.std.specs.List.{list_all}
+use Rattle.std.specs.Ordering.{nat_cmp, is_eq}
 use Rattle.tiff_base.specs.declared.tags.ByteOrder.TheVariants.{LittleEndian}
 use Rattle.tiff_base.specs.declared.tags.FileKind.TheVariants.{Classic}
 use Rattle.tiff_base.specs.declared.tags.Tag.{Tag}
 use Rattle.tiff_base.specs.declared.tags.Tag.TheVariants as tag
 use Rattle.tiff_base.specs.declared.tags.«Type».TheVariants.{LONG}
+use Rattle.tiff_base.specs.Field.{Field}
 use Rattle.tiff_base.specs.Tags.{tag_number}
-use Rattle.tiff_ifd.specs.Stretches.{FieldReadable, TagReadable}
+use Rattle.tiff_ifd.specs.Stretches.{FieldReadable}
+use Rattle.tiff_page.specs.Checks.{is_page_tag}
 use Rattle.tiff_examples.specs.Base.FieldBytes.{of}
 use Rattle.tiff_examples.specs.Page.Reach as s
 use Rattle.tiff_examples.proofs.Stretches.{in_first}
@@ -45,7 +49,7 @@ pub checks_placed_all : s.checks_placed_all
 unfolding tiff_on_literals
 checks_placed_all = λ r.
     tag_unheld (s.between 8 19) s.placed_fields None tag.StripOffsets (of LONG 3 s.eight) refl
-    (λ f. false≢true (f.placed (omega arith) 19 (omega arith) (omega arith))) r.strip_offsets
+    (λ f. false≢true (f.placed (omega arith) 19 (omega arith) (omega arith))) (r.each tag.StripOffsets refl)
 
 pub checks_profile : s.checks_profile
 checks_profile = page_held (s.between 0 0) s.profile_fields None (record { placed = λ w. absurd (omega (arith, w)) }) refl
@@ -55,61 +59,28 @@ longs_unheld : FieldReadable (s.between 0 0) Classic LittleEndian (of LONG 3 s.e
 unfolding tiff_on_literals
 longs_unheld r = false≢true (r.placed (omega arith) 8 (omega arith) (omega arith))
 
--- a tag with three LONGs at 8 isn't readable either
-alone_unheld : (t : Tag) → find nat_cmp (tag_number t) ((tag_number t, of LONG 3 s.eight) ∷ []) ≡ Some (of LONG 3 s.eight)
-    → TagReadable (s.between 0 0) Classic LittleEndian (s.directory_of ((tag_number t, of LONG 3 s.eight) ∷ [])) t → ⊥
-alone_unheld t e r = tag_unheld (s.between 0 0) ((tag_number t, of LONG 3 s.eight) ∷ []) None t (of LONG 3 s.eight) e longs_unheld r
+-- a directory has the field of a tag that it has alone
+alone_found : (n : ℕ) (f : Field) → find nat_cmp n ((n, f) ∷ []) ≡ Some f
+alone_found n f = ap (λ r. cond (is_eq r) (Some f) None) (sym (nat_cmp_is n n Equal refl))
+
+-- the checks read each of some tags
+each_checked : (ts : List Tag) → list_all (λ t. is_page_tag (tag_number t)) ts ≡ true → s.AreChecked ts
+each_checked [] e = tt
+each_checked (t ∷ ts) e =
+    let f : Field = of LONG 3 s.eight in
+    let both = and_parts (is_page_tag (tag_number t)) (list_all (λ u. is_page_tag (tag_number u)) ts) e in (
+      λ r. tag_unheld (s.between 0 0) ((tag_number t, f) ∷ []) None t f (alone_found (tag_number t) f) longs_unheld (r.each t both.0),
+      each_checked ts both.1,
+    )
 
 pub checks_sides : s.checks_sides
-checks_sides = (
-  λ r. alone_unheld tag.ImageWidth refl r.width,
-  (
-    λ r. alone_unheld tag.ImageLength refl r.length,
-    (
-      λ r. alone_unheld tag.RowsPerStrip refl r.rows,
-      (λ r. alone_unheld tag.TileWidth refl r.tile_width, (λ r. alone_unheld tag.TileLength refl r.tile_length, tt)),
-    ),
-  ),
-)
+checks_sides = each_checked s.side_tags refl
 
 pub checks_samples : s.checks_samples
-checks_samples = (
-  λ r. alone_unheld tag.PhotometricInterpretation refl r.interpretation,
-  (
-    λ r. alone_unheld tag.SamplesPerPixel refl r.samples,
-    (
-      λ r. alone_unheld tag.ExtraSamples refl r.extra,
-      (
-        λ r. alone_unheld tag.SampleFormat refl r.format,
-        (
-          λ r. alone_unheld tag.BitsPerSample refl r.depth,
-          (λ r. alone_unheld tag.ChromaSubsampling refl r.subsampling, tt),
-        ),
-      ),
-    ),
-  ),
-)
+checks_samples = each_checked s.sample_tags refl
 
 pub checks_chunks : s.checks_chunks
-checks_chunks = (
-  λ r. alone_unheld tag.Compression refl r.method,
-  (
-    λ r. alone_unheld tag.Predictor refl r.predictor,
-    (
-      λ r. alone_unheld tag.PlanarConfiguration refl r.planar,
-      (
-        λ r. alone_unheld tag.StripOffsets refl r.strip_offsets,
-        (
-          λ r. alone_unheld tag.StripByteCounts refl r.strip_byte_counts,
-          (
-            λ r. alone_unheld tag.TileOffsets refl r.tile_offsets,
-            (λ r. alone_unheld tag.TileByteCounts refl r.tile_byte_counts, tt),
-          ),
-        ),
-      ),
-    ),
-  ),
-)
+checks_chunks = each_checked s.data_tags refl
 
 pub checks_asked : s.checks_asked
 checks_asked = checks_placed_all

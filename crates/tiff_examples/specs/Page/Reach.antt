@@ -145,24 +145,29 @@ AreChecked [] = Unit {0}
 AreChecked (t ∷ ts) = (Checks (between 0 0) ((tag_number t, of LONG 3 eight) ∷ []) → ⊥)
     × AreChecked ts
 
+-- the tags of the size of a page and of its chunks; of its samples; and of its data
+abbrev pub side_tags : List Tag
+side_tags =
+    tag.ImageWidth ∷ tag.ImageLength ∷ tag.RowsPerStrip ∷ tag.TileWidth ∷ tag.TileLength ∷ []
+
 abbrev pub checks_sides : Type 0
-checks_sides =
-    AreChecked
-    (tag.ImageWidth ∷ tag.ImageLength ∷ tag.RowsPerStrip ∷ tag.TileWidth ∷ tag.TileLength ∷ [])
+checks_sides = AreChecked side_tags
+
+abbrev pub sample_tags : List Tag
+sample_tags =
+    tag.PhotometricInterpretation ∷ tag.SamplesPerPixel ∷ tag.ExtraSamples ∷ tag.SampleFormat
+    ∷ tag.BitsPerSample ∷ tag.ChromaSubsampling ∷ []
 
 abbrev pub checks_samples : Type 0
-checks_samples =
-    AreChecked
-    (tag.PhotometricInterpretation ∷ tag.SamplesPerPixel ∷ tag.ExtraSamples ∷ tag.SampleFormat
-    ∷ tag.BitsPerSample
-    ∷ tag.ChromaSubsampling ∷ [])
+checks_samples = AreChecked sample_tags
+
+abbrev pub data_tags : List Tag
+data_tags =
+    tag.Compression ∷ tag.Predictor ∷ tag.PlanarConfiguration ∷ tag.StripOffsets
+    ∷ tag.StripByteCounts ∷ tag.TileOffsets ∷ tag.TileByteCounts ∷ []
 
 abbrev pub checks_chunks : Type 0
-checks_chunks =
-    AreChecked
-    (tag.Compression ∷ tag.Predictor ∷ tag.PlanarConfiguration ∷ tag.StripOffsets
-    ∷ tag.StripByteCounts
-    ∷ tag.TileOffsets ∷ tag.TileByteCounts ∷ [])
+checks_chunks = AreChecked data_tags
 
 -- the tags of a directory with these fields
 abbrev pub tags_of : SourceRecord → List (ℕ × Field) → DirectoryTags
