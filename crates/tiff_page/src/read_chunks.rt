@@ -113,7 +113,7 @@ impl PageReader<'_> {
             part.planes part.layout.row_bytes)) result }
     {
         let chunks = chunks_of_plane(self.page);
-        let rows = rows_at_once(self.page, part.layout.row_bytes);
+        let rows = rows_at_once::<W>(self.page, part.layout.row_bytes);
         let mut scratch = ByteList::new(self.alloc, Vec::new(self.alloc));
         let mut chunk = 0;
         while chunk < chunks {

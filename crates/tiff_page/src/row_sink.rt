@@ -115,6 +115,10 @@ pub trait RowSink {
     /// The number of bytes that are best read at once of rows longer than 8 KB.
     const LONG_ROWS: usize;
 
+    /// Whether the sink gets its bytes as rows come. Then it is faster to read the rows of an image
+    /// one after another.
+    const GROWS: bool;
+
     /// Adds zeros up to `len` bytes, rounded up to whole items, if there are fewer.
     fn zeros_to(&mut self, len: usize) -> Result<(), AllocError>
         requires room { len ≤ room self.old }
@@ -236,6 +240,8 @@ impl<'a> RowSink for ByteSlice<'a> {
 
     const LONG_ROWS: usize = 65536;
 
+    const GROWS: bool = false;
+
     fn zeros_to(&mut self, _len: usize) -> Result<(), AllocError> {
         Ok(())
     }
@@ -274,10 +280,15 @@ impl<'a> RowSink for ByteSlice<'a> {
     ghost enough = { plain_enough };
 }
 
-/// A list of bytes. Rows are read straight to their positions.
+// The number of bytes of the longest rows that go to a list of bytes by way of a scratch buffer.
+const LONGEST_COPIED: usize = 65536;
+
+/// A list of bytes. Rows for which it has to grow are read into a scratch buffer and appended, which
+/// is faster than to write zeros first; other rows are read straight to their positions.
 #[derive(Drop)]
 pub struct ByteList {
     pub(crate) bytes: Vec<u8>,
+    row: Vec<u8>,
     scratch: RowScratch,
 }
 
@@ -288,8 +299,43 @@ impl ByteList {
     {
         ByteList {
             bytes,
+            row: Vec::new(alloc),
             scratch: RowScratch::new(alloc),
         }
+    }
+
+    // Reads the next bytes of a chunk, as they are output, into a scratch buffer, and writes them
+    // to their position.
+    #[inline(always)]
+    fn copied_rows<R: Source>(
+        &mut self,
+        source: &mut R,
+        cursor: &mut ChunkCursor,
+        next: &RowSlot<'_>,
+    ) -> TiffResult<()>
+        requires read { IsRead (view.page next.now.format.page.now) next.now.format.color }
+        requires in_place { needs_whole_rows (view.page next.now.format.page.now)
+            next.now.format.color ≡ false }
+        requires whole { (next.now.format.page.now.depth < 8)
+            ⊎ (next.now.len / (next.now.format.page.now.depth / 8) *
+            (next.now.format.page.now.depth / 8) ≡ next.now.len) }
+        requires fits { next.now.at + next.now.len < 2 ^ 64 }
+        ensures kept { IsKept R.told R.failures result source.old source.new }
+        ensures row { RowPut (R.told source.old).bytes next.now.format.order
+            (view.page next.now.format.page.now)
+            next.now.format.color cursor.old cursor.new
+            (R.failures source.old < R.failures source.new) next.now.at next.now.len
+            (filled_to (next.now.at + next.now.len) self.old.bytes.items)
+            self.new.bytes.items result }
+        ensures asked { AsksOnly (StoredReadable (R.told source.old) cursor.old next.now.len)
+            result }
+        ensures moves { OnOk result (Moves cursor.old next.now.len cursor.new) }
+    {
+        self.row.resize(next.len, 0)?;
+        next.format
+            .read_finished(source, cursor, &mut self.scratch, &mut self.row)?;
+        append_row::<u8, 1>(&mut self.bytes, next.at, &self.row)?;
+        Ok(())
     }
 
     /// Returns the list.
@@ -310,7 +356,10 @@ impl RowSink for ByteList {
 
     ghost goes_on = { λ s t. ⊤ };
 
-    const LONG_ROWS: usize = 65536;
+    // They go through a scratch buffer, which has to stay in the processor's nearest cache.
+    const LONG_ROWS: usize = 8192;
+
+    const GROWS: bool = true;
 
     #[tactic(auto, using(crate::proofs::NumberBytes::plain_zeros_behind))]
     fn zeros_to(&mut self, len: usize) -> Result<(), AllocError> {
@@ -334,7 +383,11 @@ impl RowSink for ByteList {
         cursor: &mut ChunkCursor,
         next: &RowSlot<'_>,
     ) -> TiffResult<()> {
-        self.zeros_to(next.at + next.len)?;
+        let end = next.at + next.len;
+        if self.bytes.len() < end && next.len <= LONGEST_COPIED {
+            return self.copied_rows(source, cursor, next);
+        }
+        self.zeros_to(end)?;
         next.rows(source, cursor, &mut self.scratch, &mut self.bytes)
     }
 
@@ -394,6 +447,8 @@ impl<T: Number<N>, const N: usize> RowSink for NumberList<T, N> {
 
     // They go through a scratch buffer, which has to stay in the processor's nearest cache.
     const LONG_ROWS: usize = 8192;
+
+    const GROWS: bool = true;
 
     #[tactic(auto, using(crate::proofs::NumberBytes::some_size))]
     fn zeros_to(&mut self, len: usize) -> Result<(), AllocError> {

@@ -56,9 +56,10 @@ struct TileRowPart {
     top: usize,
 }
 
-// Whether the rows of the chunks of a page go through the scratch buffer.
-fn has_short_rows(page: &Page) -> bool {
-    stored_row_bytes(page) < SHORT
+// Whether the rows of the tiles of a page go to a sink through the scratch buffer. The bytes that are
+// read don't depend on it.
+fn uses_scratch<W: RowSink>(page: &Page) -> bool {
+    W::GROWS || stored_row_bytes(page) < SHORT
 }
 
 // Returns how many rows of an image, of `row_bytes` bytes, fit into the scratch buffer, at least 1.
@@ -81,10 +82,10 @@ fn rows_of_piece(page: &Page) -> usize
 /// Returns how many rows of each of the tiles side by side are read at once, if the image has
 /// `row_bytes` bytes a row; 0 if the tiles are read one by one. The bytes that are read don't depend
 /// on it.
-pub(crate) fn rows_at_once(page: &Page, row_bytes: usize) -> usize
+pub(crate) fn rows_at_once<W: RowSink>(page: &Page, row_bytes: usize) -> usize
     requires { 0 < row_bytes }
 {
-    if has_short_rows(page) {
+    if uses_scratch::<W>(page) {
         return if row_bytes <= SCRATCH {
             rows_of_scratch(row_bytes)
         } else {
@@ -364,8 +365,8 @@ impl PageReader<'_> {
         Ok(())
     }
 
-    /// Reads the row of tiles that begins with a chunk, some rows of each at a time; short rows by
-    /// way of a scratch buffer. Returns `IoError(UnexpectedEof)` if the data of one of the tiles are
+    /// Reads the row of tiles that begins with a chunk, some rows of each at a time; some by way of
+    /// a scratch buffer. Returns `IoError(UnexpectedEof)` if the data of one of the tiles are
     /// too few.
     pub(crate) fn tile_row<R: Source, W: RowSink>(
         &self,
@@ -404,7 +405,7 @@ impl PageReader<'_> {
             (PartReadable (R.told source.old) (view.page self.now.page.now) next.part.layout.color
             (image_part (view.page self.now.page.now) 1 next.part.layout.row_bytes)) result }
     {
-        if has_short_rows(self.page) {
+        if uses_scratch::<W>(self.page) {
             return self.tile_row_by_scratch(source, next, scratch, sink);
         }
         self.straight_tile_row(source, next, sink)
