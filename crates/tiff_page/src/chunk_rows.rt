@@ -36,8 +36,8 @@ const SHORT_ROWS: usize = 8192;
 // may cut a block.
 const PACKED_ROWS: usize = 65536;
 
-// Returns how many rows of `len` bytes are read at once, at least 1: of longer rows than `SHORT_ROWS` as
-// many as fit in `long` bytes. The bytes that are read don't depend on it.
+// Returns how many rows of `len` bytes are read at once, at least 1: of rows longer than
+// `SHORT_ROWS` as many as fit in `long` bytes. The bytes that are read don't depend on it.
 fn rows_at_once(front: &ChunkCursor, len: usize, long: usize) -> usize
     requires { 0 < len }
     ensures { 0 < result }
@@ -62,8 +62,8 @@ pub struct ChunkReader<'a> {
     ghost high: { height ≡ (rect (view.page format.page.now) index).height },
 }
 
-/// Where the rows of a chunk go in a buffer: the row `top` of the first one, the byte `left` of
-/// that row, and the number of bytes `stride` from a row of the buffer to the next.
+/// Where the rows of a chunk go in a sink, whose rows are `stride` bytes apart: the first goes to
+/// row `top` from its byte `left` on, the others to the rows below.
 #[derive(Clone, Copy, Debug)]
 pub struct Destination {
     pub top: usize,
@@ -202,8 +202,8 @@ impl ChunkReader<'_> {
             && matches!(page.predictor, Predictor::None)
     }
 
-    // Reads the rows of a chunk whose rows lie together, from the start of the chunk's data, many
-    // at a time.
+    // Reads all rows of the chunk, which lie together, many at a time. The sink gets zeros where it
+    // has too few bytes.
     fn adjacent_rows<R: Source, W: RowSink>(
         &self,
         source: &mut R,
@@ -262,7 +262,7 @@ impl ChunkReader<'_> {
         Ok(())
     }
 
-    /// Reads the rows into a sink, which gets zeros where it has too few bytes.
+    /// Reads all rows of the chunk into a sink, which gets zeros where it has too few bytes.
     pub(crate) fn rows<R: Source, W: RowSink>(
         &self,
         source: &mut R,

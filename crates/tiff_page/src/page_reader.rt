@@ -29,7 +29,7 @@ pub struct ImagePlanes {
     pub planes: u16,
 }
 
-// The chunk with one index of each plane of a part of an image.
+// A chunk of a part of an image: of each of its planes, the chunk with this index.
 #[derive(Clone, Copy, Debug)]
 pub(crate) struct ChunkRequest {
     pub(crate) part: ImagePlanes,
@@ -45,7 +45,7 @@ pub struct UnitRequest {
     pub stride: usize,
 }
 
-/// Returns where a chunk of a plane goes in a buffer of the planes of an image.
+/// Returns where a chunk of a plane goes in a sink for the planes of an image.
 pub(crate) fn image_destination(
     page: &Page,
     layout: PlaneLayout,

@@ -192,7 +192,8 @@ impl PageReader<'_> {
         Ok(Vec::with_capacity(self.alloc, len.div_ceil(N))?)
     }
 
-    // Reads an image or a chunk.
+    // Reads the image or the chunk of a request into a sink, which gets zeros where it has too few
+    // bytes.
     fn requested<R: Source, W: RowSink>(
         &self,
         source: &mut R,

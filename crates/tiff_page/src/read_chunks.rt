@@ -17,7 +17,7 @@ use crate::layout::{chunk_data_dimensions, chunks_across, chunks_of_plane};
 use crate::output_row::RowFormat;
 use crate::page_reader::{ChunkRequest, ImagePlanes, PageReader, UnitRequest, image_destination};
 use crate::row_sink::{ByteList, RowSink};
-use crate::tile_rows::rows_at_once;
+use crate::tile_rows::tile_rows_at_once;
 use tiff_base::error::TiffResult;
 use tiff_base::io::Source;
 
@@ -113,7 +113,7 @@ impl PageReader<'_> {
             part.planes part.layout.row_bytes)) result }
     {
         let chunks = chunks_of_plane(self.page);
-        let rows = rows_at_once::<W>(self.page, part.layout.row_bytes);
+        let rows = tile_rows_at_once::<W>(self.page, part.layout.row_bytes);
         let mut scratch = ByteList::new(self.alloc, Vec::new(self.alloc));
         let mut chunk = 0;
         while chunk < chunks {
@@ -129,8 +129,8 @@ impl PageReader<'_> {
         Ok(())
     }
 
-    /// Reads a chunk, or the chunk of each of `unit.planes` planes: the planes one after another, the
-    /// rows `unit.stride` bytes apart. Returns the first error.
+    /// Reads a chunk, or the chunk of each of `unit.planes` planes: the planes one after another,
+    /// the rows `unit.stride` bytes apart. Returns the first error.
     pub(crate) fn unit<R: Source, W: RowSink>(
         &self,
         source: &mut R,

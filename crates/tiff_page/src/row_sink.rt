@@ -21,8 +21,8 @@ use std::alloc::{AllocError, Global};
 use tiff_base::error::TiffResult;
 use tiff_base::io::Source;
 
-/// The bytes of a chunk that are read next: the format of their rows, their number as they are
-/// output, and the first byte of a sink that they go to.
+/// The bytes of a chunk that are read next: the format of their rows, how many bytes they are when
+/// they are returned, and the position of the first of these in a sink.
 #[derive(Clone, Copy)]
 pub struct RowSlot<'a> {
     pub format: RowFormat<'a>,
@@ -31,7 +31,7 @@ pub struct RowSlot<'a> {
 }
 
 impl RowSlot<'_> {
-    // Reads the next row of a chunk to its position among bytes.
+    // Reads the next row of a chunk to its position in a slice.
     #[tactic(auto, using(crate::proofs::PositionsPut::put_in_place))]
     #[inline(always)]
     fn row<R: Source>(
@@ -64,7 +64,7 @@ impl RowSlot<'_> {
         self.format.read_row(source, cursor, scratch, row)
     }
 
-    // Reads the next bytes of a chunk, as they are output, to their position among bytes, if this
+    // Reads the next bytes of a chunk, as they are returned, to their position in a slice, if this
     // needs no whole stored rows.
     #[tactic(auto, using(crate::proofs::PositionsPut::put_in_place))]
     #[inline(always)]
@@ -103,16 +103,16 @@ pub trait RowSink {
     /// The bytes that the sink has.
     ghost bytes: { Self → List ℕ };
 
-    /// How many bytes it can have.
+    /// How many bytes it can have: a slice those that it has, a list 2^64.
     ghost room: { Self → ℕ };
 
     /// A number of bytes, rounded up to whole items.
     ghost whole: { ℕ → ℕ };
 
-    /// A sink, and what it is later.
+    /// What calls keep of a sink: a slice still borrows the same bytes. Of a list it says nothing.
     ghost goes_on: { Self → Self → Type 0 };
 
-    /// The number of bytes that are best read at once of rows longer than 8 KB.
+    /// How many bytes of rows longer than 8 KB are best read at once.
     const LONG_ROWS: usize;
 
     /// Whether the sink gets its bytes as rows come. Then it is faster to read the rows of an image
@@ -153,7 +153,7 @@ pub trait RowSink {
             (needed_of_row (view.page next.now.format.page.now) next.now.format.color next.now.len)
             cursor.new) };
 
-    /// Reads the next bytes of a chunk, as they are output, if this needs no whole stored rows. A
+    /// Reads the next bytes of a chunk, as they are returned, if this needs no whole stored rows. A
     /// sink that has too few bytes gets zeros first, as by `zeros_to`.
     fn rows<R: Source>(
         &mut self,
@@ -190,13 +190,13 @@ pub trait RowSink {
         ensures placed { OnOk result (IsPut at row.now (filled_to (whole (at + length row.now))
             (bytes self.old)) (bytes self.new)) };
 
-    /// A sink goes on as itself.
+    /// `goes_on` is reflexive.
     ghost itself: { (x : Self) → goes_on x x };
 
-    /// What a sink is later goes on.
+    /// `goes_on` is transitive.
     ghost further: { (x y z : Self) → goes_on x y → goes_on y z → goes_on x z };
 
-    /// A sink can have as many bytes later.
+    /// The room of a sink doesn't change.
     ghost room_kept: { (x y : Self) → goes_on x y → room x ≡ room y };
 
     /// `whole m` is at least `m`, and doesn't fall if `m` grows.
@@ -220,7 +220,7 @@ impl<'a> ByteSlice<'a> {
 }
 
 impl Drop for ByteSlice<'_> {
-    // States that the slice keeps its bytes.
+    // A drop without a contract would leave it open which bytes the slice has after the borrow.
     fn drop(self)
         ensures { self.exit.0.now ≡ self.entry.out.now }
     {
@@ -293,7 +293,7 @@ pub struct ByteList {
 }
 
 impl ByteList {
-    /// Returns a sink that goes on with a list.
+    /// Returns a sink that adds to a list.
     pub fn new(alloc: Global, bytes: Vec<u8>) -> Self
         ensures { result.bytes ≡ bytes }
     {
@@ -414,7 +414,7 @@ pub struct NumberList<T, const N: usize> {
 }
 
 impl<T: Number<N>, const N: usize> NumberList<T, N> {
-    /// Returns a sink that goes on with a list.
+    /// Returns a sink that adds to a list.
     pub fn new(alloc: Global, numbers: Vec<T>) -> Self
         ensures { result.numbers ≡ numbers }
     {
@@ -445,7 +445,7 @@ impl<T: Number<N>, const N: usize> RowSink for NumberList<T, N> {
 
     ghost goes_on = { λ s t. ⊤ };
 
-    // They go through a scratch buffer, which has to stay in the processor's nearest cache.
+    // Rows go through a scratch buffer, which has to stay in the processor's nearest cache.
     const LONG_ROWS: usize = 8192;
 
     const GROWS: bool = true;

@@ -30,8 +30,8 @@ use tiff_base::color::ColorType;
 use tiff_base::error::TiffResult;
 use tiff_base::io::Source;
 
-// The number of bytes of rows of an image that go through a scratch buffer. It has to stay in the
-// processor's second cache.
+// The number of bytes of rows of an image that go through a scratch buffer at once. It has to stay
+// in the processor's second cache.
 const SCRATCH: usize = 262144;
 
 // The number of bytes of a tile that are read at once straight to their positions: those that a
@@ -80,9 +80,9 @@ fn rows_of_piece(page: &Page) -> usize
 }
 
 /// Returns how many rows of each of the tiles side by side are read at once, if the image has
-/// `row_bytes` bytes a row; 0 if the tiles are read one by one. The bytes that are read don't depend
-/// on it.
-pub(crate) fn rows_at_once<W: RowSink>(page: &Page, row_bytes: usize) -> usize
+/// `row_bytes` bytes a row; 0 if the tiles are read one by one. The bytes that are read don't
+/// depend on it.
+pub(crate) fn tile_rows_at_once<W: RowSink>(page: &Page, row_bytes: usize) -> usize
     requires { 0 < row_bytes }
 {
     if uses_scratch::<W>(page) {
@@ -117,9 +117,9 @@ impl PageReader<'_> {
     }
 
     /// Whether the chunks side by side from a chunk on are read `rows` rows of each at a time, by
-    /// `tile_row`. They are not if the source would be asked for few bytes at a
-    /// time, or if data are decompressed, which is done from the start of a chunk. The bytes that
-    /// are read don't depend on it.
+    /// `tile_row`. They are not if the source would be asked for few bytes at a time, or if data
+    /// are decompressed, which is done from the start of a chunk. The bytes that are read don't
+    /// depend on it.
     pub(crate) fn is_banded(&self, part: ImagePlanes, first: u32, rows: usize) -> bool
         ensures { IsTrue result → AreBanded (view.page self.now.page.now) self.now.limits.now
             part.layout.color part.planes first }
@@ -248,7 +248,8 @@ impl PageReader<'_> {
         Ok(())
     }
 
-    // Reads a row of tiles straight to their positions.
+    // Reads a row of tiles straight to their positions. The sink gets zeros where it has too few
+    // bytes.
     fn straight_tile_row<R: Source, W: RowSink>(
         &self,
         source: &mut R,
@@ -366,8 +367,8 @@ impl PageReader<'_> {
     }
 
     /// Reads the row of tiles that begins with a chunk, some rows of each at a time; some by way of
-    /// a scratch buffer. Returns `IoError(UnexpectedEof)` if the data of one of the tiles are
-    /// too few.
+    /// a scratch buffer. Returns `IoError(UnexpectedEof)` if the data of one of the tiles are too
+    /// few.
     pub(crate) fn tile_row<R: Source, W: RowSink>(
         &self,
         source: &mut R,

@@ -28,8 +28,8 @@ sides_of p = record { wide = p.wide; high = p.high; chunk_wide = p.chunk_wide; c
 abbrev pub layout : PlaneLayout → LayoutRecord
 layout l = record { color = l.color; row_bytes = l.row_bytes; plane_stride = l.plane_stride }
 
-pub rows_at_once-rows-requires : goal.rows_at_once-rows-requires
-rows_at_once-rows-requires g c =
+pub tile_rows_at_once-rows-requires : goal.tile_rows_at_once-rows-requires
+tile_rows_at_once-rows-requires g c =
     let p = c.args.self.now.page.now in
     stride_some (g.R.Source.told c.args.source.now).bytes c.args.self.now.order (view.page p) c.args.self.now.limits.now (layout c.args.part.layout) (sides_of p) p.sampled p.deep c.requires.laid
 
