@@ -49,13 +49,3 @@ put_into_bytes order p color left rest at len row out old new same e takes put =
     put_from_room order p color left rest at len row (filled_to (at + len) old) new all
     (subst (TakesRow order p color left rest) (sym same) takes)
     (subst (λ (n : ℕ). IsPut at row (filled_to (at + n) old) new) all (plain_put at row old new put))
-
--- and into the bytes of a list of numbers
-pub put_into_numbers : (size : ℕ) (order : ByteOrder) (p : PageRecord) (color : ColorType) (left rest : List ℕ) (at len : ℕ) (row out old new : List ℕ)
-    → row ≡ out → length out ≡ len → TakesRow order p color left rest out → IsPut at row (filled_to (div_ceil (at + length row) size * size) old) new
-    → PutsRow order p color left rest at len (filled_to (div_ceil (at + len) size * size) old) new
-put_into_numbers size order p color left rest at len row out old new same e takes put =
-    let all : length row ≡ len = ap (λ (xs : List ℕ). length xs) same ∙ e in
-    put_from_room order p color left rest at len row (filled_to (div_ceil (at + len) size * size) old) new all
-    (subst (TakesRow order p color left rest) (sym same) takes)
-    (subst (λ (n : ℕ). IsPut at row (filled_to (div_ceil (at + n) size * size) old) new) all put)

@@ -54,9 +54,6 @@ pub more_asked : (from mid : ChunkCursor) (a b n : ℕ) (e : TiffError) (s t : S
 more_asked from mid a b n e s t same l g asked r =
     asked (g t b (fewer from (a + b) n l t (subst (λ x. StoredReadable x from n) (sym same) r)))
 
-pub asked_as : {X : Type 0} (s : ChunkCursor) (n m : ℕ) (t : SourceRecord) (r : Result X TiffError) → n ≡ m → AsksOnly (StoredReadable t s n) r → AsksOnly (StoredReadable t s m) r
-asked_as s n m t r same a = subst (λ (k : ℕ). AsksOnly (StoredReadable t s k) r) same a
-
 -- ---- the data of a chunk
 
 -- a position is n bytes after the front of a chunk's data

@@ -76,11 +76,6 @@ module _ (p : PageRecord) (color : ColorType) (stride : ℕ) where
       IsIn stride (top_of plane j) (rect p (plane * chunks_of_plane p + j)).height (left_of plane j)
       (row_bytes p color (rect p (plane * chunks_of_plane p + j)).width) i
 
-  -- `len` bytes hold the rows of the j-th chunk of each of n planes
-  abbrev pub HoldsChunk : ℕ → ℕ → ℕ → Type 0
-  HoldsChunk n j len = (plane : ℕ) → plane < n
-      → (top_of plane j + (rect p (plane * chunks_of_plane p + j)).height) * stride ≤ len
-
   pub record IsOfChunk (plane j i : ℕ) : Type 0 where
     pub byte : i % stride < row_bytes p color p.width
     pub of_plane : plane_of i ≡ plane

@@ -1,12 +1,10 @@
 -- Numbers as the bytes that represent them, the least significant first.
-use Rattle.std.proofs.Common.{ap, arith, inl, inr, sym, ◌∙◌, ⊎_elim}
+use Rattle.std.proofs.Common.{ap, arith, inl, inr, ⊎_elim}
 use Rattle.std.proofs.lemmas.Bool.{cases_lt}
 use Rattle.std.proofs.lemmas.Grind.{div_ceil_times}
-use Rattle.std.proofs.lemmas.List.{length-map}
-use Rattle.std.proofs.lemmas.List.FromFn.{length-map-range_with_len}
 use Rattle.std.proofs.Math.Nat.{add-mul, mul-le-mul_right}
 use Rattle.std.specs.Int.{div_ceil}
-use Rattle.std.specs.Prelude.{◌≡◌, map, ℕ, [], ◌+◌, ◌-◌, ◌*◌, ◌/◌, ◌%◌, ◌^◌, ◌<◌, ◌≤◌, ◌==◌, if◌then◌else◌, List, length, slice_index}
+use Rattle.std.specs.Prelude.{◌≡◌, ℕ, [], ◌+◌, ◌-◌, ◌*◌, ◌/◌, ◌%◌, ◌^◌, ◌<◌, ◌≤◌, ◌==◌, if◌then◌else◌, List, length, slice_index}
 use Rattle.tiff_base.specs.declared.tags.ByteOrder.TheVariants.{LittleEndian}
 use Rattle.tiff_page.specs.Pixels.{tabulate, row_number}
 use Rattle.tiff_page.specs.BufferPositions.{Writes}
@@ -35,17 +33,6 @@ abbrev pub NumbersArePut : ℕ → ℕ → List ℕ → ℕ → List ℕ → Lis
 NumbersArePut size first row count old new =
     Writes (λ i. (first ≤ i)
     × (i < first + count)) (λ i. row_number LittleEndian size row (i - first)) old new
-
--- lists of equal length have equally many bytes
-pub same_bytes : {X : Type 0} (size : ℕ) (bits : X → ℕ) (xs ys : List X) → length xs ≡ length ys
-    → length (bytes_in size (map bits xs)) ≡ length (bytes_in size (map bits ys))
-unfolding bytes_in
-same_bytes size bits xs ys e =
-    let count : length (map bits xs) * size ≡ length (map bits ys) * size = ap (λ (n : ℕ). n * size) (length-map xs bits ∙ (e ∙ sym (length-map ys bits))) in
-    let f : List ℕ → ℕ → ℕ = λ ns i. byte_of size (slice_index ns (i / size)) (i % size) in
-    length-map-range_with_len (f (map bits xs)) 0 (length (map bits xs) * size)
-    ∙ (count ∙ sym
-    (length-map-range_with_len (f (map bits ys)) 0 (length (map bits ys) * size)))
 
 -- an empty list has no bytes
 pub no_bytes : (size : ℕ) → bytes_in size [] ≡ []

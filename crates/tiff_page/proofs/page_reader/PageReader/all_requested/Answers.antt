@@ -1,7 +1,6 @@
 use Rattle.std.proofs.Common.{Ok, Err, ℕ, List, ◌<◌, ◌≡◌, ◌∙◌, sym, subst}
 use Rattle.std.proofs.lemmas.Result.{err_from_is_err_and}
 use Rattle.tiff_base.specs.Answers.{IsCause}
-use Rattle.tiff_page.specs.BufferPositions.{filled_to}
 use Rattle.tiff_page.specs.PixelCalls.{fill_buffer}
 use Rattle.tiff_page.specs.Samples.{color_in, part_of, room_of}
 use Rattle.tiff_page.specs.PageView as view

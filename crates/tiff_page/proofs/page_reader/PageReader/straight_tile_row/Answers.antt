@@ -10,7 +10,7 @@ use Rattle.tiff_page.specs.PixelFault.{each_below, fail_if}
 use Rattle.tiff_page.specs.Layout.{LayoutRecord, row_bytes}
 use Rattle.tiff_page.specs.Laws.{HasSides}
 use Rattle.tiff_page.specs.BufferPositions.{filled_to, image_byte}
-use Rattle.tiff_page.specs.ChunkBands.{PutsImageRows, rows_short, WritesImageRows}
+use Rattle.tiff_page.specs.ChunkBands.{PutsImageRows, rows_short}
 use Rattle.tiff_page.specs.Rect.{rect, across}
 use Rattle.tiff_page.specs.PageView as view
 use Rattle.tiff_page.specs.declared.page.Page.{Page}
