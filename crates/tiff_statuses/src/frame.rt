@@ -177,7 +177,8 @@ impl FrameSink {
         ensures err { OnErr result (frame_told self.new ≡ frame_told self.old) }
         ensures failed { self.new.failed ≡ self.old.failed }
     {
-        if bytes.len() as u64 > MAX_LEN - self.len() {
+        // `self.len()` would be the call of a borrowed sink, which has all calls of this one.
+        if bytes.len() as u64 > MAX_LEN - Self::len(self) {
             return Err(SinkFault::Device);
         }
         if self.front.len() < self.start {
@@ -256,7 +257,7 @@ impl Sink for FrameSink {
     // Samples are only counted, so their bytes needn't be made.
     fn append_run<B: ByteRun>(&mut self, run: &B) -> Option<Result<usize, SinkFault>> {
         let len = run.len()?;
-        let fits = len as u64 <= MAX_LEN - self.len() && len <= self.room - self.count;
+        let fits = len as u64 <= MAX_LEN - Self::len(self) && len <= self.room - self.count;
         if self.front.len() < self.start || len == 0 || !fits {
             return None;
         }
