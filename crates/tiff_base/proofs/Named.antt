@@ -66,147 +66,51 @@ formats : (n : ℕ) → format_number (format_of n) ≡ n
 unfolding format_of
 formats n = comes_back format_number n named_formats (f.Unknown n) refl
 
+-- The equation for all other values holds of each of them by computing.
 tags_named : (x named : Tag) → named_tag x ≡ Some named → named_tag (tag_of (tag_number x)) ≡ Some x
 unfolding tag_of
-tags_named t.NewSubfileType named h = refl
-tags_named t.SubfileType named h = refl
-tags_named t.ImageWidth named h = refl
-tags_named t.ImageLength named h = refl
-tags_named t.BitsPerSample named h = refl
-tags_named t.Compression named h = refl
-tags_named t.PhotometricInterpretation named h = refl
-tags_named t.Threshholding named h = refl
-tags_named t.CellWidth named h = refl
-tags_named t.CellLength named h = refl
-tags_named t.FillOrder named h = refl
-tags_named t.ImageDescription named h = refl
-tags_named t.Make named h = refl
-tags_named t.Model named h = refl
-tags_named t.StripOffsets named h = refl
-tags_named t.Orientation named h = refl
-tags_named t.SamplesPerPixel named h = refl
-tags_named t.RowsPerStrip named h = refl
-tags_named t.StripByteCounts named h = refl
-tags_named t.MinSampleValue named h = refl
-tags_named t.MaxSampleValue named h = refl
-tags_named t.XResolution named h = refl
-tags_named t.YResolution named h = refl
-tags_named t.PlanarConfiguration named h = refl
-tags_named t.FreeOffsets named h = refl
-tags_named t.FreeByteCounts named h = refl
-tags_named t.GrayResponseUnit named h = refl
-tags_named t.GrayResponseCurve named h = refl
-tags_named t.ResolutionUnit named h = refl
-tags_named t.Software named h = refl
-tags_named t.DateTime named h = refl
-tags_named t.Artist named h = refl
-tags_named t.HostComputer named h = refl
-tags_named t.Predictor named h = refl
-tags_named t.ColorMap named h = refl
-tags_named t.TileWidth named h = refl
-tags_named t.TileLength named h = refl
-tags_named t.TileOffsets named h = refl
-tags_named t.TileByteCounts named h = refl
-tags_named t.SubIfd named h = refl
-tags_named t.ExtraSamples named h = refl
-tags_named t.SampleFormat named h = refl
-tags_named t.SMinSampleValue named h = refl
-tags_named t.SMaxSampleValue named h = refl
-tags_named t.JPEGTables named h = refl
-tags_named t.ChromaSubsampling named h = refl
-tags_named t.ChromaPositioning named h = refl
-tags_named t.Copyright named h = refl
-tags_named t.ModelPixelScaleTag named h = refl
-tags_named t.ModelTiepointTag named h = refl
-tags_named t.ModelTransformationTag named h = refl
-tags_named t.ExifDirectory named h = refl
-tags_named t.IccProfile named h = refl
-tags_named t.GeoKeyDirectoryTag named h = refl
-tags_named t.GeoDoubleParamsTag named h = refl
-tags_named t.GeoAsciiParamsTag named h = refl
-tags_named t.GpsDirectory named h = refl
-tags_named t.ExifVersion named h = refl
-tags_named t.GdalNodata named h = refl
 tags_named (t.Unknown n) named h = absurd (none_some named h)
+tags_named x named h = refl
 
 types_named : (x : «Type») → type_of (type_number x) ≡ Some x
 unfolding type_of
 types_named y.BYTE = refl
-types_named y.ASCII = refl
-types_named y.SHORT = refl
-types_named y.LONG = refl
-types_named y.RATIONAL = refl
-types_named y.SBYTE = refl
-types_named y.UNDEFINED = refl
-types_named y.SSHORT = refl
-types_named y.SLONG = refl
-types_named y.SRATIONAL = refl
-types_named y.FLOAT = refl
-types_named y.DOUBLE = refl
-types_named y.IFD = refl
-types_named y.LONG8 = refl
-types_named y.SLONG8 = refl
-types_named y.IFD8 = refl
+types_named x = refl
 
 methods_named : (x named : CompressionMethod) → named_method x ≡ Some named → named_method (method_of (method_number x)) ≡ Some x
 unfolding method_of
-methods_named m.None named h = refl
-methods_named m.Huffman named h = refl
-methods_named m.Fax3 named h = refl
-methods_named m.Fax4 named h = refl
-methods_named m.LZW named h = refl
-methods_named m.JPEG named h = refl
-methods_named m.ModernJPEG named h = refl
-methods_named m.Deflate named h = refl
-methods_named m.PackBits named h = refl
-methods_named m.OldDeflate named h = refl
-methods_named m.ZSTD named h = refl
-methods_named m.WebP named h = refl
 methods_named (m.Unknown n) named h = absurd (none_some named h)
+methods_named x named h = refl
 
 interpretations_named : (x : PhotometricInterpretation) → interpretation_of (interpretation_number x) ≡ Some x
 unfolding interpretation_of
 interpretations_named i.WhiteIsZero = refl
-interpretations_named i.BlackIsZero = refl
-interpretations_named i.RGB = refl
-interpretations_named i.RGBPalette = refl
-interpretations_named i.TransparencyMask = refl
-interpretations_named i.CMYK = refl
-interpretations_named i.YCbCr = refl
-interpretations_named i.CIELab = refl
-interpretations_named i.IccLab = refl
-interpretations_named i.ItuLab = refl
+interpretations_named x = refl
 
 planars_named : (x : PlanarConfiguration) → planar_of (planar_number x) ≡ Some x
 unfolding planar_of
 planars_named c.Chunky = refl
-planars_named c.Planar = refl
+planars_named x = refl
 
 predictors_named : (x : Predictor) → predictor_of (predictor_number x) ≡ Some x
 unfolding predictor_of
 predictors_named p.None = refl
-predictors_named p.Horizontal = refl
-predictors_named p.FloatingPoint = refl
+predictors_named x = refl
 
 units_named : (x : ResolutionUnit) → unit_of (unit_number x) ≡ Some x
 unfolding unit_of
 units_named u.None = refl
-units_named u.Inch = refl
-units_named u.Centimeter = refl
+units_named x = refl
 
 formats_named : (x named : SampleFormat) → named_format x ≡ Some named → named_format (format_of (format_number x)) ≡ Some x
 unfolding format_of
-formats_named f.Uint named h = refl
-formats_named f.Int named h = refl
-formats_named f.IEEEFP named h = refl
-formats_named f.Void named h = refl
 formats_named (f.Unknown n) named h = absurd (none_some named h)
+formats_named x named h = refl
 
 extras_named : (x : ExtraSamples) → extra_of (extra_number x) ≡ Some x
 unfolding extra_of
 extras_named e.Unspecified = refl
-extras_named e.AssociatedAlpha = refl
-extras_named e.UnassociatedAlpha = refl
+extras_named x = refl
 
 pub numbers_come_back : NumbersComeBack
 numbers_come_back = record { tags = tags; methods = methods; formats = formats }

@@ -10,6 +10,26 @@ ghost use Rattle.tiff_base.specs.declared.tags.ByteOrder.TheVariants.{LittleEndi
 use crate::turn::turn_units;
 use std::fmt;
 
+/// Gives the value of a number, from the rows of a table below; `Unknown` if no row has the number.
+macro_rules! value_of {
+    ($n:expr, $kind:ident, $($number:literal $name:ident,)*) => {
+        match $n {
+            $($number => $kind::$name,)*
+            n => $kind::Unknown(n),
+        }
+    };
+}
+
+/// Gives the number of a value, from the rows of a table below.
+macro_rules! number_of {
+    ($value:expr, $kind:ident, $($number:literal $name:ident,)*) => {
+        match $value {
+            $($kind::$name => $number,)*
+            $kind::Unknown(n) => n,
+        }
+    };
+}
+
 /// The tags of a directory (TIFF 6.0, its supplements, GeoTIFF, EXIF, ICC, GDAL).
 #[derive(Clone, Copy, Debug, PartialEq, Eq, Hash)]
 #[non_exhaustive]
@@ -77,74 +97,81 @@ pub enum Tag {
     Unknown(u16),
 }
 
+/// The numbers of the tags, in their order.
+macro_rules! tags {
+    ($read:ident, $of:expr) => {
+        $read!(
+            $of, Tag,
+            254 NewSubfileType,
+            255 SubfileType,
+            256 ImageWidth,
+            257 ImageLength,
+            258 BitsPerSample,
+            259 Compression,
+            262 PhotometricInterpretation,
+            263 Threshholding,
+            264 CellWidth,
+            265 CellLength,
+            266 FillOrder,
+            270 ImageDescription,
+            271 Make,
+            272 Model,
+            273 StripOffsets,
+            274 Orientation,
+            277 SamplesPerPixel,
+            278 RowsPerStrip,
+            279 StripByteCounts,
+            280 MinSampleValue,
+            281 MaxSampleValue,
+            282 XResolution,
+            283 YResolution,
+            284 PlanarConfiguration,
+            288 FreeOffsets,
+            289 FreeByteCounts,
+            290 GrayResponseUnit,
+            291 GrayResponseCurve,
+            296 ResolutionUnit,
+            305 Software,
+            306 DateTime,
+            315 Artist,
+            316 HostComputer,
+            317 Predictor,
+            320 ColorMap,
+            322 TileWidth,
+            323 TileLength,
+            324 TileOffsets,
+            325 TileByteCounts,
+            330 SubIfd,
+            338 ExtraSamples,
+            339 SampleFormat,
+            340 SMinSampleValue,
+            341 SMaxSampleValue,
+            347 JPEGTables,
+            530 ChromaSubsampling,
+            531 ChromaPositioning,
+            33432 Copyright,
+            33550 ModelPixelScaleTag,
+            33922 ModelTiepointTag,
+            34264 ModelTransformationTag,
+            34665 ExifDirectory,
+            34675 IccProfile,
+            34735 GeoKeyDirectoryTag,
+            34736 GeoDoubleParamsTag,
+            34737 GeoAsciiParamsTag,
+            34853 GpsDirectory,
+            36864 ExifVersion,
+            42113 GdalNodata,
+        )
+    };
+}
+
 impl Tag {
     /// Returns the tag of a number, or `Unknown` if the number has no name in this enum.
     #[tactic(auto, unfolding(crate::specs::Tags::tag_of))]
     pub fn from_u16_exhaustive(n: u16) -> Self
         ensures { result ≡ tag_of n }
     {
-        match n {
-            254 => Tag::NewSubfileType,
-            255 => Tag::SubfileType,
-            256 => Tag::ImageWidth,
-            257 => Tag::ImageLength,
-            258 => Tag::BitsPerSample,
-            259 => Tag::Compression,
-            262 => Tag::PhotometricInterpretation,
-            263 => Tag::Threshholding,
-            264 => Tag::CellWidth,
-            265 => Tag::CellLength,
-            266 => Tag::FillOrder,
-            270 => Tag::ImageDescription,
-            271 => Tag::Make,
-            272 => Tag::Model,
-            273 => Tag::StripOffsets,
-            274 => Tag::Orientation,
-            277 => Tag::SamplesPerPixel,
-            278 => Tag::RowsPerStrip,
-            279 => Tag::StripByteCounts,
-            280 => Tag::MinSampleValue,
-            281 => Tag::MaxSampleValue,
-            282 => Tag::XResolution,
-            283 => Tag::YResolution,
-            284 => Tag::PlanarConfiguration,
-            288 => Tag::FreeOffsets,
-            289 => Tag::FreeByteCounts,
-            290 => Tag::GrayResponseUnit,
-            291 => Tag::GrayResponseCurve,
-            296 => Tag::ResolutionUnit,
-            305 => Tag::Software,
-            306 => Tag::DateTime,
-            315 => Tag::Artist,
-            316 => Tag::HostComputer,
-            317 => Tag::Predictor,
-            320 => Tag::ColorMap,
-            322 => Tag::TileWidth,
-            323 => Tag::TileLength,
-            324 => Tag::TileOffsets,
-            325 => Tag::TileByteCounts,
-            330 => Tag::SubIfd,
-            338 => Tag::ExtraSamples,
-            339 => Tag::SampleFormat,
-            340 => Tag::SMinSampleValue,
-            341 => Tag::SMaxSampleValue,
-            347 => Tag::JPEGTables,
-            530 => Tag::ChromaSubsampling,
-            531 => Tag::ChromaPositioning,
-            33432 => Tag::Copyright,
-            33550 => Tag::ModelPixelScaleTag,
-            33922 => Tag::ModelTiepointTag,
-            34264 => Tag::ModelTransformationTag,
-            34665 => Tag::ExifDirectory,
-            34675 => Tag::IccProfile,
-            34735 => Tag::GeoKeyDirectoryTag,
-            34736 => Tag::GeoDoubleParamsTag,
-            34737 => Tag::GeoAsciiParamsTag,
-            34853 => Tag::GpsDirectory,
-            36864 => Tag::ExifVersion,
-            42113 => Tag::GdalNodata,
-            _ => Tag::Unknown(n),
-        }
+        tags!(value_of, n)
     }
 
     /// Returns the tag of a number, or `None` if the number has no name in this enum.
@@ -161,68 +188,7 @@ impl Tag {
     pub fn to_u16(&self) -> u16
         ensures { result ≡ tag_number self.now }
     {
-        match *self {
-            Tag::NewSubfileType => 254,
-            Tag::SubfileType => 255,
-            Tag::ImageWidth => 256,
-            Tag::ImageLength => 257,
-            Tag::BitsPerSample => 258,
-            Tag::Compression => 259,
-            Tag::PhotometricInterpretation => 262,
-            Tag::Threshholding => 263,
-            Tag::CellWidth => 264,
-            Tag::CellLength => 265,
-            Tag::FillOrder => 266,
-            Tag::ImageDescription => 270,
-            Tag::Make => 271,
-            Tag::Model => 272,
-            Tag::StripOffsets => 273,
-            Tag::Orientation => 274,
-            Tag::SamplesPerPixel => 277,
-            Tag::RowsPerStrip => 278,
-            Tag::StripByteCounts => 279,
-            Tag::MinSampleValue => 280,
-            Tag::MaxSampleValue => 281,
-            Tag::XResolution => 282,
-            Tag::YResolution => 283,
-            Tag::PlanarConfiguration => 284,
-            Tag::FreeOffsets => 288,
-            Tag::FreeByteCounts => 289,
-            Tag::GrayResponseUnit => 290,
-            Tag::GrayResponseCurve => 291,
-            Tag::ResolutionUnit => 296,
-            Tag::Software => 305,
-            Tag::DateTime => 306,
-            Tag::Artist => 315,
-            Tag::HostComputer => 316,
-            Tag::Predictor => 317,
-            Tag::ColorMap => 320,
-            Tag::TileWidth => 322,
-            Tag::TileLength => 323,
-            Tag::TileOffsets => 324,
-            Tag::TileByteCounts => 325,
-            Tag::SubIfd => 330,
-            Tag::ExtraSamples => 338,
-            Tag::SampleFormat => 339,
-            Tag::SMinSampleValue => 340,
-            Tag::SMaxSampleValue => 341,
-            Tag::JPEGTables => 347,
-            Tag::ChromaSubsampling => 530,
-            Tag::ChromaPositioning => 531,
-            Tag::Copyright => 33432,
-            Tag::ModelPixelScaleTag => 33550,
-            Tag::ModelTiepointTag => 33922,
-            Tag::ModelTransformationTag => 34264,
-            Tag::ExifDirectory => 34665,
-            Tag::IccProfile => 34675,
-            Tag::GeoKeyDirectoryTag => 34735,
-            Tag::GeoDoubleParamsTag => 34736,
-            Tag::GeoAsciiParamsTag => 34737,
-            Tag::GpsDirectory => 34853,
-            Tag::ExifVersion => 36864,
-            Tag::GdalNodata => 42113,
-            Tag::Unknown(n) => n,
-        }
+        tags!(number_of, *self)
     }
 }
 
@@ -327,6 +293,27 @@ pub enum CompressionMethod {
     Unknown(u16),
 }
 
+/// The numbers of the compression methods, in their order.
+macro_rules! methods {
+    ($read:ident, $of:expr) => {
+        $read!(
+            $of, CompressionMethod,
+            1 None,
+            2 Huffman,
+            3 Fax3,
+            4 Fax4,
+            5 LZW,
+            6 JPEG,
+            7 ModernJPEG,
+            8 Deflate,
+            32773 PackBits,
+            32946 OldDeflate,
+            50000 ZSTD,
+            50001 WebP,
+        )
+    };
+}
+
 impl CompressionMethod {
     /// Returns the method of a number, or `None` if the number has no name in this enum.
     pub fn from_u16(n: u16) -> Option<Self>
@@ -343,42 +330,14 @@ impl CompressionMethod {
     pub fn from_u16_exhaustive(n: u16) -> Self
         ensures { result ≡ method_of n }
     {
-        match n {
-            1 => CompressionMethod::None,
-            2 => CompressionMethod::Huffman,
-            3 => CompressionMethod::Fax3,
-            4 => CompressionMethod::Fax4,
-            5 => CompressionMethod::LZW,
-            6 => CompressionMethod::JPEG,
-            7 => CompressionMethod::ModernJPEG,
-            8 => CompressionMethod::Deflate,
-            32773 => CompressionMethod::PackBits,
-            32946 => CompressionMethod::OldDeflate,
-            50000 => CompressionMethod::ZSTD,
-            50001 => CompressionMethod::WebP,
-            _ => CompressionMethod::Unknown(n),
-        }
+        methods!(value_of, n)
     }
 
     /// Returns the number of the method.
     pub fn to_u16(&self) -> u16
         ensures { result ≡ method_number self.now }
     {
-        match *self {
-            CompressionMethod::None => 1,
-            CompressionMethod::Huffman => 2,
-            CompressionMethod::Fax3 => 3,
-            CompressionMethod::Fax4 => 4,
-            CompressionMethod::LZW => 5,
-            CompressionMethod::JPEG => 6,
-            CompressionMethod::ModernJPEG => 7,
-            CompressionMethod::Deflate => 8,
-            CompressionMethod::PackBits => 32773,
-            CompressionMethod::OldDeflate => 32946,
-            CompressionMethod::ZSTD => 50000,
-            CompressionMethod::WebP => 50001,
-            CompressionMethod::Unknown(n) => n,
-        }
+        methods!(number_of, *self)
     }
 }
 
@@ -530,6 +489,19 @@ pub enum SampleFormat {
     Unknown(u16),
 }
 
+/// The numbers of the sample formats, in their order.
+macro_rules! formats {
+    ($read:ident, $of:expr) => {
+        $read!(
+            $of, SampleFormat,
+            1 Uint,
+            2 Int,
+            3 IEEEFP,
+            4 Void,
+        )
+    };
+}
+
 impl SampleFormat {
     /// Returns the sample format of a number, or `None` if the number has no name in this enum.
     pub fn from_u16(n: u16) -> Option<Self>
@@ -546,26 +518,14 @@ impl SampleFormat {
     pub fn from_u16_exhaustive(n: u16) -> Self
         ensures { result ≡ format_of n }
     {
-        match n {
-            1 => SampleFormat::Uint,
-            2 => SampleFormat::Int,
-            3 => SampleFormat::IEEEFP,
-            4 => SampleFormat::Void,
-            _ => SampleFormat::Unknown(n),
-        }
+        formats!(value_of, n)
     }
 
     /// Returns the number of the sample format.
     pub fn to_u16(&self) -> u16
         ensures { result ≡ format_number self.now }
     {
-        match *self {
-            SampleFormat::Uint => 1,
-            SampleFormat::Int => 2,
-            SampleFormat::IEEEFP => 3,
-            SampleFormat::Void => 4,
-            SampleFormat::Unknown(n) => n,
-        }
+        formats!(number_of, *self)
     }
 }
 
