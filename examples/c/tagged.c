@@ -10,8 +10,8 @@
 static const char jobs[] =
     "image Gray8 16 16\n"
     "write_tag 270 text a ramp\n"
-    "write_tag 33550 f64 3fe0000000000000*2 0\n"
-    "write_data 0..ff\n";
+    "write_tag 33550 f64 0.5*2 0\n"
+    "write_data 0..255\n";
 
 static int refuse(tiff_status status, struct tiff_jobs_end end) {
     uint8_t text[80];

@@ -4,7 +4,6 @@
 
 It takes the package `mangohatch_tiff` and numpy.
 """
-import struct
 import sys
 
 import numpy
@@ -14,19 +13,13 @@ from mangohatch_tiff import TiffFile, write_jobs
 MODEL_PIXEL_SCALE = 33550
 
 
-def double(number: float) -> str:
-    """The bits of a number, as a list of jobs takes them."""
-    return struct.pack(">d", number).hex()
-
-
 def main(path: str) -> None:
     image = numpy.arange(256, dtype="u1").reshape(16, 16)
-    scale = " ".join(double(side) for side in (0.5, 0.5, 0))
     write_jobs(path, f"""
 image Gray8 {image.shape[1]} {image.shape[0]}
 write_tag 270 text a ramp
-write_tag {MODEL_PIXEL_SCALE} f64 {scale}
-write_data {image.tobytes().hex(" ")}
+write_tag {MODEL_PIXEL_SCALE} f64 0.5 0.5 0
+write_data {" ".join(str(sample) for sample in image.flat)}
 """)
     with TiffFile(path) as tif:
         print(tif.pages[0].tags[270], tif.pages[0].tags[MODEL_PIXEL_SCALE])

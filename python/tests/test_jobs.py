@@ -15,9 +15,9 @@ TAGGED = """
 image Gray8 32 16
 tiles 16 16
 write_tag 270 text two tiles
-write_tag 33550 f64 3ff0000000000000*3
+write_tag 33550 f64 1*3
 write_chunk 7*256
-write_chunk 0..ff
+write_chunk 0..255
 finish
 """
 

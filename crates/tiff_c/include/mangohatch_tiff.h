@@ -433,27 +433,58 @@ struct tiff_jobs_end {
 
        compression packbits
        image RGB8 50 50
+       resolution 2 300
        write_tag 270 text a description
-       write_tag 33550 f64 3ff0000000000000*3
-       write_data ff*7500
+       write_tag 33550 f64 1*3
+       write_data 255*7500
 
-   - An empty line, and one that begins with #, is a comment. One space separates words.
-   - Between jobs stands a setting, `predictor NUMBER` or `compression packbits|uncompressed`, or
-     the beginning of a job. `image COLOR WIDTH HEIGHT` begins an image, with a color type as
-     Gray8, RGB16 or Gray32Float. `directory` begins a directory in the chain, `extra_directory`
-     one out of it; behind either stands the number of the job, counted from 0, whose directory
-     links to it, or nothing.
-   - Inside of a job stand its steps. Of both kinds: `write_tag TAG VALUE`,
-     `write_tag_buf TAG BUFFER`, `write_entry`, `write_entry_buf`, `write_entry_bytes`,
-     `write_data_buf`, `extend_from`. Of a directory: `write_data` too. Of an image:
-     `tiles WIDTH HEIGHT`, `planar 2`, `rows_per_strip ROWS`, `extra_samples NUMBER ..`,
-     `resolution UNIT X Y`, `write_strip SAMPLES`, `write_chunk SAMPLES`, `append_data`,
-     `next_strip_sample_count`, `next_chunk_sample_count`.
-   - A job ends by `finish` or `discard`; an image also by `write_data SAMPLES`, with all of its
-     samples.
-   - VALUE is a type and a word for each number: u8, i8, u16, i16, u32, i32, u64, i64, ifd, ifd8;
-     rational and srational, as 300/1; f32 and f64, the bits as hexadecimal digits. Or it is `text`
-     and, behind one space, the text. SAMPLES are hexadecimal numbers. 7*20 is 7 twenty times.
+   A list of jobs has one of these in each line, with one space between words:
+     # ANYTHING             a comment, as is an empty line
+     predictor NUMBER       of the images that follow: 1 for none, 2 for differences of neighbours
+     compression METHOD     of the images that follow: uncompressed or packbits
+     image COLOR WIDTH HEIGHT
+                            begins an image, of a color type as Gray8, RGB16 or Gray32Float
+     directory [JOB]        begins a directory in the chain; JOB is the number, from 0, of the job whose directory links to it
+     extra_directory [JOB]  begins a directory out of the chain
+     finish                 ends an image or a directory, and replies with the offsets of a directory and of its link
+     discard                ends it in the same way, and replies with nothing
+   Steps of an image:
+     tiles WIDTH HEIGHT     stores tiles of these sides
+     rows_per_strip ROWS    stores strips of so many rows
+     planar                 stores the samples of each place in a pixel apart from the others
+     extra_samples NUMBER ..
+                            adds samples to each pixel: 0 for any, 1 for alpha that is multiplied in, 2 for other alpha
+     resolution UNIT X [Y]  pixels in a unit (1 none, 2 inch, 3 centimeter), for both axes or for each
+     resolution_unit UNIT, x_resolution X, y_resolution Y
+                            one of these alone
+     write_strip SAMPLES, write_chunk SAMPLES
+                            the samples of the next strip, or of the next strip or tile
+     next_strip_sample_count, next_chunk_sample_count
+                            replies with the number of samples that are wanted there
+     append_data VALUE      writes a value into the file, and replies with its offset
+     write_data SAMPLES     the samples of the image, or of the strips that are left; ends the image
+   Steps of a directory:
+     write_data VALUE       writes a value into the file, and replies with its offset
+   Steps of both:
+     write_tag TAG VALUE, write_tag_buf TAG BUFFER
+                            sets a tag
+     write_entry VALUE, write_entry_buf BUFFER, write_entry_bytes TYPE DIGITS
+                            replies with the entry of a value, which no tag gets
+     write_data_buf BUFFER  writes bytes into the file, and replies with their offset
+     extend_from FIELD ..   sets tags to entries
+   What the words are:
+     NUMBER, WIDTH, ROWS, TAG, TYPE ..
+                            whole numbers: decimal, or hexadecimal behind 0x
+     X, Y                   positive numbers: 300, 72.5 or 1/3
+     SAMPLES                numbers of the color type: 7, 0x7f, -1, 1.5, or of floating-point samples 0x and their bits;
+                            0..255 is each one from 0 to 255. A word has no more samples than the image
+     VALUE                  a type and its numbers, as u16 1 2; or text and, behind a space, the text, in ASCII
+     types of a value       u8 i8 u16 i16 u32 i32 u64 i64 ifd ifd8; f32 f64 with numbers as those of samples; rational, as X;
+                            srational, as -1/3; method interpretation planar predictor unit format extra
+     BUFFER                 TYPE, little or big, and DIGITS
+     FIELD                  TAG:TYPE:COUNT:DIGITS, with sixteen digits
+     DIGITS                 two hexadecimal digits for each byte; - for none
+     7*20                   of numbers and samples: 7 twenty times
 
    Errors: a VERSION that is none, TIFF_SIGNATURE_INVALID. JOBS that isn't UTF-8,
    TIFF_INVALID_INPUT, with 0 in END->line and END->job. A line that is no job, TIFF_INVALID_INPUT,

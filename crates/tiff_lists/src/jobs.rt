@@ -1,7 +1,8 @@
 //! Lists of jobs as lines of text.
 
+use crate::samples::SampleWords;
 use crate::steps::{directory_step_of, image_step_of};
-use crate::words::{ParseError, first_word, read, samples_of};
+use crate::words::{ParseError, first_word, pair_of, read};
 use std::alloc::{AllocError, Global};
 use std::mem;
 use tiff_encode::encoder::script::{
@@ -16,11 +17,16 @@ enum Begun {
         chained: bool,
         parent: Option<usize>,
     },
-    Image {
-        color: ColorTypeName,
-        width: u32,
-        height: u32,
-    },
+    Image(BegunImage),
+}
+
+// An image that has begun, and how its samples are written.
+#[derive(Clone, Copy)]
+struct BegunImage {
+    color: ColorTypeName,
+    width: u32,
+    height: u32,
+    samples: SampleWords,
 }
 
 // The jobs of the lines that were read so far.
@@ -45,12 +51,29 @@ fn directory_begun(chained: bool, words: &str) -> Result<Begun, ParseError> {
 // The beginning of an image: its color type, its width and its height.
 fn image_begun(words: &str) -> Result<Begun, ParseError> {
     let (color, words) = first_word(words);
-    let (width, height) = first_word(words);
-    Ok(Begun::Image {
-        color: read(color)?,
-        width: read(width)?,
-        height: read(height)?,
-    })
+    let color = read(color)?;
+    let (width, height) = pair_of(words)?;
+    Ok(Begun::Image(BegunImage {
+        color,
+        width,
+        height,
+        samples: SampleWords::new(color, width, height),
+    }))
+}
+
+// How samples are written after a step of an image.
+fn samples_after(samples: SampleWords, step: &ImageStep) -> SampleWords {
+    match step {
+        ImageStep::Tiles(width, height) => samples.with_tiles(*width, *height),
+        ImageStep::ExtraSamples(extra) => samples.with_extra_samples(extra.len()),
+        _ => samples,
+    }
+}
+
+// The first word, the second, and what is behind it, if there is such.
+fn three_words(words: &str) -> Option<(&str, (&str, &str))> {
+    let (first, rest) = words.split_once(' ')?;
+    Some((first, rest.split_once(' ')?))
 }
 
 // Puts an item behind the others.
@@ -133,55 +156,64 @@ impl JobList {
     }
 
     // Ends an image, and puts its job behind the others.
-    fn end_image(
-        &mut self,
-        color: ColorTypeName,
-        width: u32,
-        height: u32,
-        end: ImageEnd,
-    ) -> Result<(), ParseError> {
+    fn end_image(&mut self, image: BegunImage, end: ImageEnd) -> Result<(), ParseError> {
         self.begun = None;
         let job = ImageJob {
-            color,
-            width,
-            height,
+            color: image.color,
+            width: image.width,
+            height: image.height,
             steps: taken(self.alloc, &mut self.image_steps),
             end,
         };
         put(&mut self.jobs, Job::Image(job))
     }
 
-    // Reads a step of an image.
-    fn add_image_step(&mut self, name: &str, words: &str) -> Result<(), ParseError> {
-        let step = image_step_of(self.alloc, name, words)?;
+    // Puts a step of an image behind the others.
+    fn add_image_step(&mut self, image: BegunImage, step: ImageStep) -> Result<(), ParseError> {
+        self.begun = Some(Begun::Image(BegunImage {
+            samples: samples_after(image.samples, &step),
+            ..image
+        }));
         put(&mut self.image_steps, step)
     }
 
+    // Puts the three steps of a resolution that is given for each axis behind the others.
+    fn add_resolutions(&mut self, unit: &str, x: &str, y: &str) -> Result<(), ParseError> {
+        let (unit, x, y) = (read(unit)?, read(x)?, read(y)?);
+        put(&mut self.image_steps, ImageStep::ResolutionUnit(unit))?;
+        put(&mut self.image_steps, ImageStep::XResolution(x))?;
+        put(&mut self.image_steps, ImageStep::YResolution(y))
+    }
+
     // The end of an image that a line stands for, if it is one.
-    fn image_end(&self, line: &str) -> Result<Option<ImageEnd>, ParseError> {
+    fn image_end(&self, samples: SampleWords, line: &str) -> Result<Option<ImageEnd>, ParseError> {
         let (name, words) = first_word(line);
         match (name, words) {
             ("finish", "") => Ok(Some(ImageEnd::Finish)),
             ("discard", "") => Ok(Some(ImageEnd::Discard)),
-            ("write_data", _) => Ok(Some(ImageEnd::WriteData(samples_of(self.alloc, words)?))),
+            ("write_data", _) => {
+                let samples = samples.samples_of(self.alloc, words)?;
+                Ok(Some(ImageEnd::WriteData(samples)))
+            }
             _ => Ok(None),
         }
     }
 
+    // Reads a step of an image.
+    fn read_image_step(&mut self, image: BegunImage, line: &str) -> Result<(), ParseError> {
+        let (name, words) = first_word(line);
+        if let ("resolution", Some((unit, (x, y)))) = (name, three_words(words)) {
+            return self.add_resolutions(unit, x, y);
+        }
+        let step = image_step_of(self.alloc, image.samples, name, words)?;
+        self.add_image_step(image, step)
+    }
+
     // Reads a line of an image: a step, or its end.
-    fn go_on_image(
-        &mut self,
-        color: ColorTypeName,
-        width: u32,
-        height: u32,
-        line: &str,
-    ) -> Result<(), ParseError> {
-        match self.image_end(line)? {
-            Some(end) => self.end_image(color, width, height, end),
-            None => {
-                let (name, words) = first_word(line);
-                self.add_image_step(name, words)
-            }
+    fn go_on_image(&mut self, image: BegunImage, line: &str) -> Result<(), ParseError> {
+        match self.image_end(image.samples, line)? {
+            Some(end) => self.end_image(image, end),
+            None => self.read_image_step(image, line),
         }
     }
 
@@ -198,13 +230,7 @@ impl JobList {
             Some(Begun::Directory { chained, parent }) => {
                 self.go_on_directory(chained, parent, line)
             }
-            Some(
-                Begun::Image {
-                    color,
-                    width,
-                    height,
-                },
-            ) => self.go_on_image(color, width, height, line),
+            Some(Begun::Image(image)) => self.go_on_image(image, line),
         }
     }
 

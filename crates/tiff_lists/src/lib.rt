@@ -5,6 +5,7 @@ pub mod call;
 pub mod digits;
 pub mod jobs;
 pub mod replies;
+mod samples;
 mod steps;
 mod values;
 mod words;

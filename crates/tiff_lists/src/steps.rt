@@ -1,10 +1,10 @@
 //! The steps of jobs as words.
 
+use crate::samples::SampleWords;
 use crate::values::{buffer_of, directory_of, tagged, typed_bytes, value_of};
-use crate::words::{ParseError, first_word, list_of, pair_of, read, samples_of};
+use crate::words::{ParseError, first_word, list_of, pair_of, read};
 use std::alloc::Global;
 use tiff_encode::encoder::script::{DirectoryStep, ImageStep};
-use tiff_value::encoder::tiff_value::Rational;
 
 /// The step of a directory that a name and the words behind it stand for. Words that aren't so:
 /// `Form`.
@@ -35,12 +35,6 @@ pub fn directory_step_of(
     }
 }
 
-// The fraction that two words are.
-fn fraction(words: &str) -> Result<Rational, ParseError> {
-    let (n, d) = pair_of(words)?;
-    Ok(Rational { n, d })
-}
-
 // The step of an image, of those that allocate nothing.
 fn setting_step(name: &str, words: &str) -> Result<ImageStep, ParseError> {
     match name {
@@ -51,11 +45,11 @@ fn setting_step(name: &str, words: &str) -> Result<ImageStep, ParseError> {
         "rows_per_strip" => Ok(ImageStep::RowsPerStrip(read(words)?)),
         "resolution" => {
             let (unit, words) = first_word(words);
-            Ok(ImageStep::Resolution(read(unit)?, fraction(words)?))
+            Ok(ImageStep::Resolution(read(unit)?, read(words)?))
         }
         "resolution_unit" => Ok(ImageStep::ResolutionUnit(read(words)?)),
-        "x_resolution" => Ok(ImageStep::XResolution(fraction(words)?)),
-        "y_resolution" => Ok(ImageStep::YResolution(fraction(words)?)),
+        "x_resolution" => Ok(ImageStep::XResolution(read(words)?)),
+        "y_resolution" => Ok(ImageStep::YResolution(read(words)?)),
         _ => Err(ParseError::Form),
     }
 }
@@ -79,12 +73,17 @@ fn inner_step(alloc: Global, name: &str, words: &str) -> Result<ImageStep, Parse
     Ok(ImageStep::Directory(directory_step_of(alloc, name, words)?))
 }
 
-/// The step of an image that a name and the words behind it stand for. Words that aren't so:
-/// `Form`.
-pub fn image_step_of(alloc: Global, name: &str, words: &str) -> Result<ImageStep, ParseError> {
+/// The step of an image that a name and the words behind it stand for, where samples are written
+/// so. Words that aren't so: `Form`.
+pub fn image_step_of(
+    alloc: Global,
+    samples: SampleWords,
+    name: &str,
+    words: &str,
+) -> Result<ImageStep, ParseError> {
     match name {
-        "write_strip" => Ok(ImageStep::WriteStrip(samples_of(alloc, words)?)),
-        "write_chunk" => Ok(ImageStep::WriteChunk(samples_of(alloc, words)?)),
+        "write_strip" => Ok(ImageStep::WriteStrip(samples.samples_of(alloc, words)?)),
+        "write_chunk" => Ok(ImageStep::WriteChunk(samples.samples_of(alloc, words)?)),
         "extra_samples" => Ok(ImageStep::ExtraSamples(list_of(alloc, words)?)),
         "tiles" | "rows_per_strip" => setting_step(name, words),
         "resolution" | "resolution_unit" => setting_step(name, words),

@@ -38,69 +38,97 @@ pub trait FromWord: Sized {
     fn from_word(word: &str) -> Option<Self>;
 }
 
+// The number that digits are, without a sign: decimal, or hexadecimal behind `0x`.
+fn magnitude(word: &str) -> Option<u64> {
+    let (digits, radix) = match word.strip_prefix("0x") {
+        Some(digits) => (digits, 16),
+        None => (word, 10),
+    };
+    if digits.starts_with('+') {
+        return None;
+    }
+    u64::from_str_radix(digits, radix).ok()
+}
+
+// The number that digits are, behind `-` if it is negative.
+fn signed(word: &str) -> Option<i64> {
+    match word.strip_prefix("-") {
+        None => i64::try_from(magnitude(word)?).ok(),
+        Some(word) => 0i64.checked_sub_unsigned(magnitude(word)?),
+    }
+}
+
 impl FromWord for u8 {
     fn from_word(word: &str) -> Option<u8> {
-        word.parse::<u8>().ok()
+        u8::try_from(magnitude(word)?).ok()
     }
 }
 
 impl FromWord for i8 {
     fn from_word(word: &str) -> Option<i8> {
-        word.parse::<i8>().ok()
+        i8::try_from(signed(word)?).ok()
     }
 }
 
 impl FromWord for u16 {
     fn from_word(word: &str) -> Option<u16> {
-        word.parse::<u16>().ok()
+        u16::try_from(magnitude(word)?).ok()
     }
 }
 
 impl FromWord for i16 {
     fn from_word(word: &str) -> Option<i16> {
-        word.parse::<i16>().ok()
+        i16::try_from(signed(word)?).ok()
     }
 }
 
 impl FromWord for u32 {
     fn from_word(word: &str) -> Option<u32> {
-        word.parse::<u32>().ok()
+        u32::try_from(magnitude(word)?).ok()
     }
 }
 
 impl FromWord for i32 {
     fn from_word(word: &str) -> Option<i32> {
-        word.parse::<i32>().ok()
+        i32::try_from(signed(word)?).ok()
     }
 }
 
 impl FromWord for u64 {
     fn from_word(word: &str) -> Option<u64> {
-        word.parse::<u64>().ok()
+        magnitude(word)
     }
 }
 
 impl FromWord for i64 {
     fn from_word(word: &str) -> Option<i64> {
-        word.parse::<i64>().ok()
+        signed(word)
     }
 }
 
 impl FromWord for usize {
     fn from_word(word: &str) -> Option<usize> {
-        word.parse::<usize>().ok()
+        usize::try_from(magnitude(word)?).ok()
     }
 }
 
+// The bits of a floating-point number are the number itself in decimal, or hexadecimal digits
+// behind `0x`.
 impl FromWord for Bits32 {
     fn from_word(word: &str) -> Option<Bits32> {
-        Some(Bits32(u32::from_str_radix(word, 16).ok()?))
+        if word.starts_with("0x") {
+            return Some(Bits32(u32::from_word(word)?));
+        }
+        Some(Bits32(word.parse::<f32>().ok()?.to_bits()))
     }
 }
 
 impl FromWord for Bits64 {
     fn from_word(word: &str) -> Option<Bits64> {
-        Some(Bits64(u64::from_str_radix(word, 16).ok()?))
+        if word.starts_with("0x") {
+            return Some(Bits64(u64::from_word(word)?));
+        }
+        Some(Bits64(word.parse::<f64>().ok()?.to_bits()))
     }
 }
 
@@ -170,9 +198,24 @@ impl FromWord for Ifd8 {
     }
 }
 
+// The fraction that a decimal number is: `72.5` is 725/10.
+fn decimal(whole: &str, digits: &str) -> Option<Rational> {
+    if !digits.bytes().all(|digit| digit.is_ascii_digit()) {
+        return None;
+    }
+    let d = 10u32.checked_pow(u32::try_from(digits.len()).ok()?)?;
+    let whole = whole.parse::<u32>().ok()?.checked_mul(d)?;
+    let n = whole.checked_add(digits.parse::<u32>().ok()?)?;
+    Some(Rational { n, d })
+}
+
+// A fraction, as `300/1`, `300` or `72.5`.
 impl FromWord for Rational {
     fn from_word(word: &str) -> Option<Rational> {
-        let (n, d) = word.split_once('/')?;
+        if let Some((whole, digits)) = word.split_once('.') {
+            return decimal(whole, digits);
+        }
+        let (n, d) = word.split_once('/').unwrap_or((word, "1"));
         Some(Rational {
             n: u32::from_word(n)?,
             d: u32::from_word(d)?,
@@ -182,7 +225,7 @@ impl FromWord for Rational {
 
 impl FromWord for SRational {
     fn from_word(word: &str) -> Option<SRational> {
-        let (n, d) = word.split_once('/')?;
+        let (n, d) = word.split_once('/').unwrap_or((word, "1"));
         Some(SRational {
             n: i32::from_word(n)?,
             d: i32::from_word(d)?,
@@ -265,8 +308,11 @@ pub fn pair_of<A: FromWord + Drop, B: FromWord>(words: &str) -> Result<(A, B), P
     Ok((first, read::<B>(second)?))
 }
 
-// A word, and how often it counts: `7` once, or `7*20` twenty times.
-fn repeated(word: &str) -> Result<(&str, usize), ParseError> {
+// The most items that a word may stand for where no image sets a bound: 2^32.
+const MOST_ITEMS: u64 = 1 << 32;
+
+/// A word, and how often it counts: `7` once, or `7*20` twenty times.
+pub fn repeated(word: &str) -> Result<(&str, u64), ParseError> {
     let (word, count) = word.split_once('*').unwrap_or((word, "1"));
     Ok((word, read(count)?))
 }
@@ -274,6 +320,9 @@ fn repeated(word: &str) -> Result<(&str, usize), ParseError> {
 // Adds what a word stands for, as often as it counts.
 fn push_items<T: FromWord + Drop>(list: &mut Vec<T>, word: &str) -> Result<(), ParseError> {
     let (word, count) = repeated(word)?;
+    if count > MOST_ITEMS {
+        return Err(ParseError::Form);
+    }
     for _ in 0..count {
         list.push(read::<T>(word)?)?;
     }
@@ -296,36 +345,4 @@ pub fn list_of<T: FromWord + Drop>(alloc: Global, words: &str) -> Result<Vec<T>,
 /// The bytes that hexadecimal digits are; `Form` for anything else.
 pub fn digits_of(alloc: Global, word: &str) -> Result<Vec<u8>, ParseError> {
     bytes_of(alloc, word)?.ok_or(ParseError::Form)
-}
-
-// Adds the samples from one number to another: for `0..ff` 256 samples, for `7` one.
-fn push_range(samples: &mut Vec<u64>, word: &str) -> Result<(), ParseError> {
-    let (first, last) = word.split_once("..").unwrap_or((word, word));
-    let (first, last) = (read::<Bits64>(first)?, read::<Bits64>(last)?);
-    for sample in first.0..=last.0 {
-        samples.push(sample)?;
-    }
-    Ok(())
-}
-
-// Adds the samples of a word, as often as it counts.
-fn push_samples(samples: &mut Vec<u64>, word: &str) -> Result<(), ParseError> {
-    let (word, count) = repeated(word)?;
-    for _ in 0..count {
-        push_range(samples, word)?;
-    }
-    Ok(())
-}
-
-/// The samples that words stand for: hexadecimal numbers, or ranges from one to another, each once
-/// or a decimal number of times. Words that aren't so: `Form`.
-pub fn samples_of(alloc: Global, words: &str) -> Result<Vec<u64>, ParseError> {
-    let mut samples = Vec::new(alloc);
-    if words.is_empty() {
-        return Ok(samples);
-    }
-    for word in words.split(' ') {
-        push_samples(&mut samples, word)?;
-    }
-    Ok(samples)
 }

@@ -4,7 +4,8 @@ use std::alloc::Global;
 use tiff::TiffResult;
 use tiff_base::VERSION;
 
-/// Each command with its words, and what it does.
+/// Each command with its words, and what it does; and the words of a list of jobs. The header for C
+/// and CALLING.md repeat the latter.
 pub const HELP: &str = "tiffpage: TIFF and BigTIFF pages
 
   gray OUT W H IN        writes the bytes of IN as one gray page of W by H samples
@@ -22,6 +23,54 @@ pub const HELP: &str = "tiffpage: TIFF and BigTIFF pages
                          where none of them is refused; with --keep-going in each case
   help, --help           prints these lines
   --version              prints the version
+
+A list of jobs has one of these in each line, with one space between words:
+  # ANYTHING             a comment, as is an empty line
+  predictor NUMBER       of the images that follow: 1 for none, 2 for differences of neighbours
+  compression METHOD     of the images that follow: uncompressed or packbits
+  image COLOR WIDTH HEIGHT
+                         begins an image, of a color type as Gray8, RGB16 or Gray32Float
+  directory [JOB]        begins a directory in the chain; JOB is the number, from 0, of the job whose directory links to it
+  extra_directory [JOB]  begins a directory out of the chain
+  finish                 ends an image or a directory, and replies with the offsets of a directory and of its link
+  discard                ends it in the same way, and replies with nothing
+Steps of an image:
+  tiles WIDTH HEIGHT     stores tiles of these sides
+  rows_per_strip ROWS    stores strips of so many rows
+  planar                 stores the samples of each place in a pixel apart from the others
+  extra_samples NUMBER ..
+                         adds samples to each pixel: 0 for any, 1 for alpha that is multiplied in, 2 for other alpha
+  resolution UNIT X [Y]  pixels in a unit (1 none, 2 inch, 3 centimeter), for both axes or for each
+  resolution_unit UNIT, x_resolution X, y_resolution Y
+                         one of these alone
+  write_strip SAMPLES, write_chunk SAMPLES
+                         the samples of the next strip, or of the next strip or tile
+  next_strip_sample_count, next_chunk_sample_count
+                         replies with the number of samples that are wanted there
+  append_data VALUE      writes a value into the file, and replies with its offset
+  write_data SAMPLES     the samples of the image, or of the strips that are left; ends the image
+Steps of a directory:
+  write_data VALUE       writes a value into the file, and replies with its offset
+Steps of both:
+  write_tag TAG VALUE, write_tag_buf TAG BUFFER
+                         sets a tag
+  write_entry VALUE, write_entry_buf BUFFER, write_entry_bytes TYPE DIGITS
+                         replies with the entry of a value, which no tag gets
+  write_data_buf BUFFER  writes bytes into the file, and replies with their offset
+  extend_from FIELD ..   sets tags to entries
+What the words are:
+  NUMBER, WIDTH, ROWS, TAG, TYPE ..
+                         whole numbers: decimal, or hexadecimal behind 0x
+  X, Y                   positive numbers: 300, 72.5 or 1/3
+  SAMPLES                numbers of the color type: 7, 0x7f, -1, 1.5, or of floating-point samples 0x and their bits;
+                         0..255 is each one from 0 to 255. A word has no more samples than the image
+  VALUE                  a type and its numbers, as u16 1 2; or text and, behind a space, the text, in ASCII
+  types of a value       u8 i8 u16 i16 u32 i32 u64 i64 ifd ifd8; f32 f64 with numbers as those of samples; rational, as X;
+                         srational, as -1/3; method interpretation planar predictor unit format extra
+  BUFFER                 TYPE, little or big, and DIGITS
+  FIELD                  TAG:TYPE:COUNT:DIGITS, with sixteen digits
+  DIGITS                 two hexadecimal digits for each byte; - for none
+  7*20                   of numbers and samples: 7 twenty times
 ";
 
 /// Returns the line of the version, which is the version of the calls for C.

@@ -37,6 +37,12 @@ enum Failure<'a> {
 
     /// The line with this number is no job.
     NoJob(usize),
+
+    /// The line with this number is not UTF-8.
+    NoText(usize),
+
+    /// A list of jobs has no image and no directory.
+    NoPage,
 }
 
 impl fmt::Display for Failure<'_> {
@@ -47,6 +53,8 @@ impl fmt::Display for Failure<'_> {
             Failure::Tiff(fault) => write!(f, "{fault}"),
             Failure::NoCall(number) => write!(f, "line {number} is no call"),
             Failure::NoJob(number) => write!(f, "line {number} is no job"),
+            Failure::NoText(number) => write!(f, "line {number} is not UTF-8"),
+            Failure::NoPage => write!(f, "the list has no image and no directory"),
         }
     }
 }
@@ -67,7 +75,7 @@ impl Failure<'_> {
         ensures { result ≤ 2 }
     {
         match self {
-            Failure::NoCall(_) | Failure::NoJob(_) => 2,
+            Failure::NoCall(_) | Failure::NoJob(_) | Failure::NoText(_) | Failure::NoPage => 2,
             _ => 1,
         }
     }
@@ -89,10 +97,18 @@ fn write<'a, F: Files>(files: &mut F, name: &'a str, bytes: &[u8]) -> Result<(),
     }
 }
 
+// The number, from 1, of the line that goes on behind these bytes.
+fn line_after(bytes: &[u8]) -> usize {
+    let ended = bytes.iter().filter(|byte| **byte == b'\n').count();
+    ended.saturating_add(1)
+}
+
 // The text of standard input.
 fn read_input<'a, F: Files>(files: &mut F) -> Result<String, Failure<'a>> {
-    let bytes = read(files, "-")?;
-    String::from_utf8(bytes).map_err(|_| Failure::Read("-"))
+    String::from_utf8(read(files, "-")?).map_err(|fault| {
+        let text = fault.as_bytes().get(..fault.utf8_error().valid_up_to());
+        Failure::NoText(line_after(text.unwrap_or_default()))
+    })
 }
 
 // The calls that standard input lists.
@@ -141,6 +157,14 @@ fn write_kept<'a, F: Files>(
     Ok(lines)
 }
 
+// Whether a job makes an image or a directory.
+fn is_page(job: &Job) -> bool {
+    match job {
+        Job::Image(_) | Job::Directory(_) => true,
+        _ => false,
+    }
+}
+
 // Runs the jobs that standard input lists, writes their file, if it is to be written, and returns a
 // line for each reply.
 fn job_replies<'a, F: Files>(
@@ -150,6 +174,9 @@ fn job_replies<'a, F: Files>(
     files: &mut F,
 ) -> Result<Lines, Failure<'a>> {
     let jobs = listed_jobs(alloc, files)?;
+    if !keep_going && !jobs.iter().any(is_page) {
+        return Err(Failure::NoPage);
+    }
     let written = write_by(alloc, kind, keep_going, &jobs)?;
     write_kept(output, written, files)
 }
@@ -333,9 +360,10 @@ fn print_lines<O: Write, E: Write>(alloc: Global, lines: Lines, out: &mut O, err
 ///
 /// 0: all is done. 1: an error, with a line `error: ..` on `err`; or a write to `out` or `err` that
 /// fails, a page with an error in a check, or a job or a step of one that is refused. 2: a wrong
-/// command line, with the usage line on `err`; or a line of standard input that is no call or no
-/// job, with a line `error: ..` on `err` that has the number of that line, before any call is made.
-/// Without words, the usage line is printed on `out`.
+/// command line, with the usage line on `err`; or a line of standard input that is not UTF-8, no
+/// call or no job, with a line `error: ..` on `err` that has the number of that line, before any
+/// call is made; or a list of jobs without an image or a directory, unless the words have
+/// `--keep-going`. Without words, the usage line is printed on `out`.
 ///
 /// Errors are found in this order: of the command line; of reading the input; of reading standard
 /// input; of its lines; of the decoder or the encoder; of writing the output. After an error
