@@ -14,7 +14,3 @@ mod place;
 pub mod read;
 pub mod tags;
 mod turn;
-
-/// The version of the calls for C, which is `MANGOHATCH_TIFF_VERSION` of their header. It is raised
-/// when a call changes or is added.
-pub const VERSION: u32 = 2;

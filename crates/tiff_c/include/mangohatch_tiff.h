@@ -65,7 +65,7 @@ LINKING
 #ifndef MANGOHATCH_TIFF_H
 #define MANGOHATCH_TIFF_H
 
-#define MANGOHATCH_TIFF_VERSION 2
+#define MANGOHATCH_TIFF_VERSION 3
 
 /* A PAGE that is the directory at an offset of the file. */
 #define TIFF_AT(offset) ((size_t)(offset) | (size_t)1 << 63)

@@ -2,7 +2,7 @@
 
 use std::alloc::Global;
 use tiff::TiffResult;
-use tiff_base::VERSION;
+use tiff_lists::VERSION;
 
 /// Each command with its words, and what it does; and the words of a list of jobs. The header for C
 /// and CALLING.md repeat the latter.

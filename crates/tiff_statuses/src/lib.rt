@@ -18,7 +18,7 @@ ghost use Rattle.tiff_statuses.specs.Writer as writer;
 ghost use Rattle.tiff_statuses.specs.Writer.{IsShown};
 
 use std::alloc::Global;
-pub use tiff_base::VERSION;
+pub use tiff_lists::VERSION;
 
 pub mod calls;
 mod frame;
