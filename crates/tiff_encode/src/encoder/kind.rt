@@ -249,6 +249,10 @@ impl<K: TiffKind, O: OffsetNumber> Model for DirectoryOffset<K, O> {
 impl<K: TiffKind, O: OffsetNumber> Copy for DirectoryOffset<K, O> {}
 
 impl<K: TiffKind, O: OffsetNumber> Clone for DirectoryOffset<K, O> {
+    ghost use Rattle.std.specs.Prelude.{◌≡◌};
+
+    ghost is_clone = { λ d e. e ≡ d };
+
     fn clone(&self) -> Result<Self, AllocError> {
         Ok(DirectoryOffset {
             offset: self.offset,
