@@ -66,11 +66,26 @@ pub fn parent_of(job: &Job) -> Option<usize> {
     }
 }
 
-/// The lines that describe jobs, without comments.
+// The unit and both numbers of a line that sets a resolution for each axis.
+fn axes(line: &str) -> Option<(&str, &str, &str)> {
+    let (unit, numbers) = line.strip_prefix("resolution ")?.split_once(' ')?;
+    let (x, y) = numbers.split_once(' ')?;
+    Some((unit, x, y))
+}
+
+/// The lines that describe jobs, without comments; one for each step, so three for the line of a
+/// resolution for each axis.
 pub fn told_lines(alloc: Global, text: &str) -> Result<Vec<String>, AllocError> {
     let mut lines = Vec::new(alloc);
     for line in text.lines() {
-        if !line.is_empty() && !line.starts_with('#') {
+        if line.is_empty() || line.starts_with('#') {
+            continue;
+        }
+        if let Some((unit, x, y)) = axes(line) {
+            lines.push(format!(in alloc; "resolution_unit {unit}")?)?;
+            lines.push(format!(in alloc; "x_resolution {x}")?)?;
+            lines.push(format!(in alloc; "y_resolution {y}")?)?;
+        } else {
             lines.push(String::from_str(alloc, line)?)?;
         }
     }
