@@ -5,7 +5,7 @@ use Rattle.std.specs.Prelude.{◌==◌, slice_index, replicate, Result, Ok, Err,
 use Rattle.std.specs.Int.{div_ceil, w8, w16, w32, w64, to_le_bytes}
 use Rattle.std.specs.Simd.{first_chunks}
 use Rattle.std.proofs.lemmas.Bool.{cases_Bool, cases_eq, cases_lt, eqb-true}
-use Rattle.std.proofs.lemmas.List.{append-nil, drop_all, length-drop, length-take-le, take-append-drop, ext_get_or, map-append, map-id, map-set, length-append, length-set, get_or-append_right, get_or_append_left, get_or-set_same, get_or-set_other, length-replicate, get_or-replicate, drop-drop, length-map, take_all, get_or-map}
+use Rattle.std.proofs.lemmas.List.{append-nil, drop_all, length-drop, length-take-le, take-append-drop, ext_get_or, map-append, map-id, map-set, length-append, length-set, get_or-append_right, get_or_append_left, get_or-set_same, get_or-set_other, length-replicate, drop-drop, length-map, take_all, get_or-map, set_split, take_at, drop_at, take-map, drop-map}
 use Rattle.std.proofs.lemmas.List.FromFn.{length-map-range_with_len, get_or-map-range_with_len, map-range_with_len_more}
 use Rattle.std.proofs.lemmas.Nat.{div-add-mod', div_below, mod_below, le-div, div-mul-add, mod-mul-add, row_fits}
 use Rattle.std.proofs.Math.ListN.{set}
@@ -14,15 +14,15 @@ use Rattle.std.proofs.Math.Seq.{take-add, take-append_seam}
 use Rattle.tiff_base.specs.declared.tags.ByteOrder.{ByteOrder}
 use Rattle.tiff_base.specs.declared.tags.ByteOrder.TheVariants.{LittleEndian, BigEndian}
 use Rattle.tiff_base.specs.Number.{number}
-use Rattle.tiff_base.specs.SourceAndSink.{AreOctets, bytes_at}
-use Rattle.tiff_page.specs.NumberBytes.{byte_of, all_bytes, bytes_in, IsPut, NumbersArePut, whole_enough}
+use Rattle.tiff_base.specs.SourceAndSink.{AreOctets}
+use Rattle.tiff_page.specs.NumberBytes.{byte_of, all_bytes, bytes_in, IsPut, whole_enough}
 use Rattle.tiff_page.specs.Pixels.{tabulate, width_of, numbers_in, row_number}
 use Rattle.tiff_page.specs.BufferPositions.{Writes, filled_to}
 use Rattle.tiff_page.specs.Row.{IsSize}
 use Rattle.tiff_page.proofs.Filled.{zero_in}
-use Rattle.tiff_page.proofs.Rects.{writes_more, writes_as, writes_none}
+use Rattle.tiff_page.proofs.Rects.{copied, writes_more, writes_as, writes_none}
 use Rattle.tiff_page.proofs.RowLaws.{power_pos, bytes_of_numbers}
-use Rattle.tiff_page.proofs.Rows.{each_same, each_at, digits, by_size, little_digits, number_lt}
+use Rattle.tiff_page.proofs.Rows.{each_same, each_at, digits, by_size, little_digits, number_lt, number_within}
 
 -- ---- the bytes of a number
 
@@ -84,6 +84,62 @@ byte_at size ns i h = get_or-map-range_with_len (λ i. byte_of size (get_or ns (
 pub some_size : (size : ℕ) → IsSize size → 0 < size
 some_size size z = by_size (λ n. 0 < n) size (omega arith) (omega arith) (omega arith) (omega arith) z
 
+-- byte j of number k
+byte_in : (size : ℕ) (ns : List ℕ) (k j : ℕ) → k < length ns → j < size → get_or (bytes_in size ns) (k * size + j) 0 ≡ byte_of size (get_or ns k 0) j
+byte_in size ns k j h w =
+    byte_at size ns (k * size + j) (omega (arith, row_fits k size (length ns) size h (omega arith), w))
+    ∙ (λ i. byte_of size (get_or ns (div-mul-add k size j w i) 0) (mod-mul-add k size j w i))
+
+-- two lists of the bytes of `count` numbers
+same_bytes : (size count : ℕ) (xs ys : List ℕ) → 0 < size → length xs ≡ count * size → length ys ≡ count * size
+    → ((k j : ℕ) → k < count → j < size → get_or xs (k * size + j) 0 ≡ get_or ys (k * size + j) 0) → xs ≡ ys
+same_bytes size count xs ys s lx ly e =
+    ext_get_or 0 xs ys (lx ∙ sym ly)
+    (λ i b.
+    subst (λ (n : ℕ). get_or xs n 0 ≡ get_or ys n 0) (div-add-mod' i size) (e (i / size) (i % size) (div_below i size count s (omega (arith, b, lx))) (mod_below i size s)))
+
+-- the bytes of two lists, one after the other
+bytes_append : (size : ℕ) (ns ms : List ℕ) → 0 < size → bytes_in size (ns ++ ms) ≡ bytes_in size ns ++ bytes_in size ms
+bytes_append size ns ms s =
+    let long : length (ns ++ ms) ≡ length ns + length ms = length-append ns ms in
+    let front : length (bytes_in size ns) ≡ length ns * size = length_bytes size ns in
+    same_bytes size (length ns + length ms) (bytes_in size (ns ++ ms)) (bytes_in size ns ++ bytes_in size ms) s
+    (length_bytes size (ns ++ ms) ∙ ap (λ (m : ℕ). m * size) long)
+    (length-append (bytes_in size ns) (bytes_in size ms) ∙ (λ t. front t + length_bytes size ms t) ∙ sym (add-mul (length ns) (length ms) size))
+    (λ k j h w.
+    byte_in size (ns ++ ms) k j (omega (arith, h, long)) w
+    ∙ ⊎_elim
+    (λ (a : k < length ns).
+    ap (λ (x : ℕ). byte_of size x j) (get_or_append_left ns ms 0 k a) ∙ sym (byte_in size ns k j a w)
+    ∙ sym (get_or_append_left (bytes_in size ns) (bytes_in size ms) 0 (k * size + j) (omega (arith, row_fits k size (length ns) size a (omega arith), w, front))))
+    (λ (a : length ns ≤ k).
+    let m : ℕ = k - length ns in
+    let parts : k * size ≡ length ns * size + m * size = (let e : k ≡ length ns + m = omega (arith, a) in ap (λ (n : ℕ). n * size) e) ∙ add-mul (length ns) m size in
+    let there : m * size + j ≡ k * size + j - length ns * size = omega (arith, parts) in
+    ap (λ (x : ℕ). byte_of size x j) (get_or-append_right ns ms (length ns) k 0 refl a) ∙ sym (byte_in size ms m j (omega (arith, h, a)) w)
+    ∙ ap (λ (n : ℕ). get_or (bytes_in size ms) n 0) there
+    ∙ sym (get_or-append_right (bytes_in size ns) (bytes_in size ms) (length ns * size) (k * size + j) 0 front (omega (arith, parts))))
+    (cases_lt k (length ns)))
+
+-- the bytes of the first numbers, and of the others
+bytes_split : (size k : ℕ) (ns : List ℕ) → 0 < size → k ≤ length ns
+    → (bytes_in size (take k ns) ≡ take (k * size) (bytes_in size ns)) × (bytes_in size (drop k ns) ≡ drop (k * size) (bytes_in size ns))
+bytes_split size k ns s h =
+    let front : List ℕ = bytes_in size (take k ns) in
+    let rest : List ℕ = bytes_in size (drop k ns) in
+    let l : length front ≡ k * size = length_bytes size (take k ns) ∙ ap (λ (m : ℕ). m * size) (length-take-le k ns h) in
+    let all : front ++ rest ≡ bytes_in size ns = sym (bytes_append size (take k ns) (drop k ns) s) ∙ ap (bytes_in size) (take-append-drop k ns) in
+    (sym (take_at front rest (k * size) l) ∙ ap (take (k * size)) all, sym (drop_at front rest (k * size) l) ∙ ap (drop (k * size)) all)
+
+-- a row of whole numbers has the bytes of its numbers
+row_is : (size count : ℕ) (row : List ℕ) → IsSize size → AreOctets row → length row ≡ count * size → bytes_in size (tabulate count (row_number LittleEndian size row)) ≡ row
+row_is size count row z o l =
+    let f : ℕ → ℕ = row_number LittleEndian size row in
+    let n : length (tabulate count f) ≡ count = length-map-range_with_len f 0 count in
+    same_bytes size count (bytes_in size (tabulate count f)) row (some_size size z) (length_bytes size (tabulate count f) ∙ ap (λ (m : ℕ). m * size) n) l
+    (λ k j h w.
+    byte_in size (tabulate count f) k j (omega (arith, h, n)) w ∙ ap (λ (x : ℕ). byte_of size x j) (get_or-map-range_with_len f 0 count k k 0 h (omega arith)) ∙ byte_back size row k j z o w)
+
 -- the numbers that a list's bytes hold are the list
 pub numbers_again : (size : ℕ) (ns : List ℕ) → IsSize size → numbers_in size (bytes_in size ns) ≡ ns
 unfolding numbers_in
@@ -100,8 +156,7 @@ numbers_again size ns z =
     get_or-map-range_with_len f 0 (div_ceil (length bytes) size) k k 0 c (omega arith)
     ∙ ap (number LittleEndian (width_of size)) (each_same size (λ j. get_or bytes (k * size + j) 0) (byte_of size (get_or ns k 0))
     (λ j w.
-    let r : k * size + j < length ns * size = omega (arith, row_fits k size (length ns) size h (omega arith), w) in
-    byte_at size ns (k * size + j) r ∙ (λ i. byte_of size (get_or ns (div-mul-add k size j w i) 0) (mod-mul-add k size j w i))))
+    byte_in size ns k j h w))
     ∙ little_digits size (byte_of size (get_or ns k 0)) z ∙ of_bytes size (get_or ns k 0) z)
 
 -- the number to which a byte belongs is in the list
@@ -111,63 +166,16 @@ number_there bits size at xs s h = div_below at size (length xs) s (omega (arith
 -- the bytes of zeros
 pub zeros_in : (size n : ℕ) (ns : List ℕ) → IsSize size → ns ≡ replicate n 0 → bytes_in size ns ≡ replicate (n * size) 0
 zeros_in size n ns z e =
-    let s : 0 < size = some_size size z in
     let count : length ns ≡ n = ap (λ (xs : List ℕ). length xs) e ∙ length-replicate n 0 in
-    let m : length ns * size ≡ n * size = ap (λ (k : ℕ). k * size) count in
-    let l : length (bytes_in size ns) ≡ n * size = length_bytes size ns ∙ m in
-    ext_get_or 0 (bytes_in size ns) (replicate (n * size) 0) (l ∙ sym (length-replicate (n * size) 0))
-    (λ i b.
-    let h : i < n * size = omega (arith, b, l) in
-    byte_at size ns i (omega (arith, h, m))
-    ∙ ap (λ (x : ℕ). byte_of size x (i % size)) (ap (λ (xs : List ℕ). get_or xs (i / size) 0) e ∙ get_or-replicate n (i / size) 0 0 (div_below i size n s h))
-    ∙ byte_is size 0 (i % size) (power_pos size) ∙ ap (λ (m : ℕ). m % 256) (zero-div (256 ^ (i % size)))
-    ∙ sym (get_or-replicate (n * size) i 0 0 h))
+    same_bytes size n (bytes_in size ns) (replicate (n * size) 0) (some_size size z) (length_bytes size ns ∙ ap (λ (m : ℕ). m * size) count) (length-replicate (n * size) 0)
+    (λ k j h w.
+    byte_in size ns k j (omega (arith, h, count)) w ∙ ap (λ (x : ℕ). byte_of size x j) (ap (λ (xs : List ℕ). get_or xs k 0) e ∙ zero_in n k)
+    ∙ byte_is size 0 j (power_pos size) ∙ ap (λ (m : ℕ). m % 256) (zero-div (256 ^ j)) ∙ sym (zero_in (n * size) (k * size + j)))
 
 -- ---- whole numbers are written
 
-whole_front : (size : ℕ) (bytes : List ℕ) → length bytes ≡ size → bytes_at bytes (0 * size) size ≡ bytes
-whole_front size bytes e = (let z : 0 * size ≡ 0 = omega arith in ap (λ (m : ℕ). take size (drop m bytes)) z) ∙ take_all size bytes (omega (arith, e))
-
--- where a byte of such numbers is
-in_numbers : (size first count at len i : ℕ) → 0 < size → at ≡ first * size → len ≡ count * size → (first ≤ i / size) × (i / size < first + count) → (at ≤ i) × (i < at + len)
-in_numbers size first count at len i s a l w =
-    let d : i / size * size + i % size ≡ i = div-add-mod' i size in
-    let x : first * size ≤ i / size * size = mul-le-mul_right size w.0 in
-    let y : (i / size + 1) * size ≤ (first + count) * size = mul-le-mul_right size (omega (arith, w.1)) in
-    (omega (arith, d, x, a), omega (arith, d, y, a, l, mod_below i size s))
-
-of_numbers : (size first count at len i : ℕ) → 0 < size → at ≡ first * size → len ≡ count * size → (at ≤ i) × (i < at + len) → (first ≤ i / size) × (i / size < first + count)
-of_numbers size first count at len i s a l w =
-    (le-div first i size s (omega (arith, w.0, a)), div_below i size (first + count) s (omega (arith, w.1, a, l)))
-
-pub placed_put : (size first count at : ℕ) (row old new : List ℕ) → IsSize size → AreOctets row → at ≡ first * size → length row ≡ count * size
-    → NumbersArePut size first row count old new → IsPut at row (bytes_in size old) (bytes_in size new)
-placed_put size first count at row old new z o a l w =
-    let s : 0 < size = some_size size z in
-    let same : length new * size ≡ length old * size = ap (λ (m : ℕ). m * size) w.0 in (
-      length_bytes size new ∙ (same ∙ sym (length_bytes size old)),
-      λ i b.
-          let h : i < length old * size = omega (arith, b, length_bytes size old) in
-          let k : i / size < length old = div_below i size (length old) s h in
-          let now : get_or (bytes_in size new) i 0 ≡ byte_of size (get_or new (i / size) 0) (i % size) = byte_at size new i (omega (arith, h, same)) in
-          ⊎_elim
-          (λ t.
-          let p : (at ≤ i) × (i < at + length row) = in_numbers size first count at (length row) i s a l t.0 in
-          let d : i / size * size + i % size ≡ i = div-add-mod' i size in
-          let m : (first + (i / size - first)) * size ≡ i / size * size = (let e : first + (i / size - first) ≡ i / size = omega (arith, t.0.0) in ap (λ (x : ℕ). x * size) e) in
-          let e : (i / size - first) * size + i % size ≡ i - at = omega (arith, d, m, a) in
-          inl (p, now ∙ (ap (λ (x : ℕ). byte_of size x (i % size)) t.1 ∙ (byte_back size row (i / size - first) (i % size) z o (mod_below i size s) ∙ ap (λ (x : ℕ). get_or row x 0) e))))
-          (λ t.
-          inr (λ p. t.0 (of_numbers size first count at (length row) i s a l p), now ∙ (ap (λ (x : ℕ). byte_of size x (i % size)) t.1 ∙ sym (byte_at size old i h))))
-          (w.1 (i / size) k),
-    )
-
 of_whole : (n size : ℕ) → n % size ≡ 0 → n ≡ n / size * size
 of_whole n size h = omega (arith, h, div-add-mod' n size)
-
-pub row_put_whole : (size at : ℕ) (row old new : List ℕ) → IsSize size → AreOctets row → at % size ≡ 0 → length row % size ≡ 0
-    → NumbersArePut size (at / size) row (length row / size) old new → IsPut at row (bytes_in size old) (bytes_in size new)
-row_put_whole size at row old new z o a l w = placed_put size (at / size) (length row / size) at row old new z o (of_whole at size a) (of_whole (length row) size l) w
 
 -- the numbers are in the list
 pub numbers_fit : {X : Type 0} (bits : X → ℕ) (size at len : ℕ) (xs : List X) → 0 < size → at % size ≡ 0 → len % size ≡ 0 → at + len ≤ length (bytes_in size (map bits xs))
@@ -178,17 +186,6 @@ numbers_fit bits size at len xs s a l h =
     let c : at / size + len / size ≤ length xs * size / size = le-div (at / size + len / size) (length xs * size) size s b in
     omega (arith, c, mul-div_cancel (length xs) s)
 
--- one position of a list
-pub set_one : (xs : List ℕ) (i v : ℕ) → i < length xs → Writes (λ k. k ≡ i) (λ k. v) xs (set xs i v)
-set_one xs i v h = (
-  length-set xs i v,
-  λ k l.
-      ⊎_elim
-      (λ (e : k ≡ i). inl (e, ap (λ (m : ℕ). get_or (set xs i v) m 0) e ∙ get_or-set_same xs i v 0 h))
-      (λ (n : k ≡ i → ⊥). inr (n, get_or-set_other xs i k v 0 n))
-      (cases_eq k i),
-)
-
 piece_at : (size count : ℕ) (bytes : List ℕ) (n : ℕ) (d : List ℕ) → n < count → get_or (first_chunks size count bytes) n d ≡ take size (drop (n * size) bytes)
 piece_at size zero bytes n d h = absurd (omega arith)
 piece_at size (suc count) bytes zero d h = let e : 0 * size ≡ 0 = omega arith in ap (λ (k : ℕ). take size (drop k bytes)) (sym e)
@@ -196,81 +193,72 @@ piece_at size (suc count) bytes (suc n) d h =
     let e : size + n * size ≡ suc n * size = omega arith in
     piece_at size count (drop size bytes) n d (omega arith) ∙ ap (take size) (drop-drop (n * size) size bytes ∙ ap (λ (k : ℕ). drop k bytes) e)
 
-within : (size len n : ℕ) → n < len / size → (n + 1) * size ≤ len
-within size len n h =
-    let a : (n + 1) * size ≤ len / size * size = mul-le-mul_right size (omega (arith, h)) in
-    omega (arith, a, div-add-mod' len size)
+-- the number of a piece of a row
+module _ {X : Type 0} (bits : X → ℕ) (size k : ℕ) (row : List ℕ) (x : X) (pieces : List (List ℕ)) (piece d : List ℕ) (are : pieces ≡ first_chunks size (length row / size) row) (h : k < length row / size) (here : piece ≡ get_or pieces k d) (is : bits x ≡ number LittleEndian (width_of size) piece) where
+  piece_number : bits x ≡ row_number LittleEndian size row k
+  piece_number =
+      is
+      ∙ ap (number LittleEndian (width_of size))
+      (here ∙ (ap (λ (ps : List (List ℕ)). get_or ps k d) are ∙ (piece_at size (length row / size) row k d h ∙ sym (each_at size k row (number_within k size (length row) h)))))
 
-pub none_placed : (size first : ℕ) (row old : List ℕ) → NumbersArePut size first row 0 old old
-none_placed size first row old = writes_none (λ i. (first ≤ i) × (i < first + 0)) (λ i. row_number LittleEndian size row (i - first)) old (λ i p. absurd (omega (arith, p.0, p.1)))
+  -- one more number is written
+  pub placed_more : (old mid new : List X) → k < length mid → new ≡ set mid k x → map bits mid ≡ tabulate k (row_number LittleEndian size row) ++ drop k (map bits old)
+      → map bits new ≡ tabulate (k + 1) (row_number LittleEndian size row) ++ drop (k + 1) (map bits old)
+  placed_more old mid new in_list more done =
+      let f : ℕ → ℕ = row_number LittleEndian size row in
+      let ys : List ℕ = drop k (map bits old) in
+      let l : length (tabulate k f) ≡ k = length-map-range_with_len f 0 k in
+      let rest : drop (suc k) (tabulate k f ++ ys) ≡ drop (k + 1) (map bits old) =
+      (let e : suc k ≡ k + 1 = omega arith in ap (λ (n : ℕ). drop n (tabulate k f ++ ys)) e)
+      ∙ sym (drop-drop 1 k (tabulate k f ++ ys)) ∙ ap (drop 1) (drop_at (tabulate k f) ys k l) ∙ drop-drop 1 k (map bits old) in
+      ap (map bits) more ∙ map-set bits mid k x ∙ set_split (map bits mid) k (bits x) (omega (arith, in_list, length-map mid bits))
+      ∙ ap (λ (zs : List ℕ). take k zs ++ bits x ∷ drop (suc k) zs) done
+      ∙ (λ t. take_at (tabulate k f) ys k l t ++ piece_number t ∷ rest t)
+      ∙ sym (append_assoc (tabulate k f) (f k ∷ []) (drop (k + 1) (map bits old)))
+      ∙ ap (λ (xs : List ℕ). xs ++ drop (k + 1) (map bits old)) (sym (map-range_with_len_more f 0 k k (omega arith)))
 
--- one more number is written
-pub placed_more : {X : Type 0} (bits : X → ℕ) (size first k : ℕ) (row : List ℕ) (old mid new : List X) (x : X) (pieces : List (List ℕ)) (piece d : List ℕ)
-    → pieces ≡ first_chunks size (length row / size) row → k < length row / size → piece ≡ get_or pieces k d → bits x ≡ number LittleEndian (width_of size) piece
-    → first + k < length mid → new ≡ set mid (first + k) x → NumbersArePut size first row k (map bits old) (map bits mid)
-    → NumbersArePut size first row (k + 1) (map bits old) (map bits new)
-placed_more bits size first k row old mid new x pieces piece d are h here is in_list more w =
-    let found : piece ≡ tabulate size (λ j. get_or row (k * size + j) 0) =
-    here ∙ (ap (λ (ps : List (List ℕ)). get_or ps k d) are ∙ (piece_at size (length row / size) row k d h ∙ sym (each_at size k row (within size (length row) k h)))) in
-    let value : ℕ → ℕ = λ i. row_number LittleEndian size row (i - first) in
-    let e : map bits new ≡ set (map bits mid) (first + k) (bits x) = ap (map bits) more ∙ map-set bits mid (first + k) x in
-    let one : Writes (λ i. i ≡ first + k) value (map bits mid) (map bits new) =
-    subst (λ (xs : List ℕ). Writes (λ i. i ≡ first + k) value (map bits mid) xs) (sym e)
-    (writes_as (λ i. i ≡ first + k) (λ i. bits x) value (map bits mid) (set (map bits mid) (first + k) (bits x))
-    (λ i q. is ∙ (ap (number LittleEndian (width_of size)) found ∙ (let s : k ≡ i - first = omega (arith, q) in ap (row_number LittleEndian size row) s)))
-    (set_one (map bits mid) (first + k) (bits x) (omega (arith, in_list, length-map mid bits)))) in
-    writes_more (λ i. (first ≤ i) × (i < first + k)) (λ i. i ≡ first + k) (λ i. (first ≤ i) × (i < first + (k + 1))) value (map bits old) (map bits mid) (map bits new)
-    (λ i p. (p.0, omega (arith, p.1)))
-    (λ i q. (omega (arith, q), omega (arith, q)))
-    (λ i r. ⊎_elim (λ (a : i < first + k). inl (r.0, a)) (λ (a : first + k ≤ i). inr (omega (arith, a, r.1))) (cases_lt i (first + k)))
-    w one
+  -- one more number is appended
+  pub pushed_more : (old mid new : List X) → new ≡ mid ++ x ∷ [] → map bits mid ≡ map bits old ++ tabulate k (row_number LittleEndian size row)
+      → map bits new ≡ map bits old ++ tabulate (k + 1) (row_number LittleEndian size row)
+  pushed_more old mid new more done =
+      let f : ℕ → ℕ = row_number LittleEndian size row in
+      ap (map bits) more ∙ map-append bits mid (x ∷ [])
+      ∙ (λ t. done t ++ piece_number t ∷ [])
+      ∙ append_assoc (map bits old) (tabulate k f) (f k ∷ [])
+      ∙ ap (λ (xs : List ℕ). map bits old ++ xs) (sym (map-range_with_len_more f 0 k k (omega arith)))
 
--- numbers that are written at the front of the rest of a list are written after the numbers before
--- the rest
-pub placed_behind : {X : Type 0} (bits : X → ℕ) (size first count : ℕ) (row : List ℕ) (front old new : List X) → length front ≡ first
-    → NumbersArePut size 0 row count (map bits old) (map bits new) → NumbersArePut size first row count (map bits (front ++ old)) (map bits (front ++ new))
-placed_behind bits size first count row front old new e w =
-    let f : List ℕ = map bits front in
-    let l : length f ≡ first = length-map front bits ∙ e in
-    let a : map bits (front ++ old) ≡ f ++ map bits old = map-append bits front old in
-    let b : map bits (front ++ new) ≡ f ++ map bits new = map-append bits front new in
-    let la : length (map bits (front ++ old)) ≡ first + length (map bits old) = ap (λ (xs : List ℕ). length xs) a ∙ (length-append f (map bits old) ∙ ap (λ (n : ℕ). n + length (map bits old)) l) in
-    let lb : length (map bits (front ++ new)) ≡ first + length (map bits new) = ap (λ (xs : List ℕ). length xs) b ∙ (length-append f (map bits new) ∙ ap (λ (n : ℕ). n + length (map bits new)) l) in (
-      lb ∙ (ap (λ (n : ℕ). first + n) w.0 ∙ sym la),
-      λ i h.
-          ⊎_elim
-          (λ (n : i < first).
-          inr (
-            λ p. absurd (omega (arith, p.0, n)),
-            ap (λ (xs : List ℕ). get_or xs i 0) b ∙ (get_or_append_left f (map bits new) 0 i (omega (arith, n, l)) ∙ (sym (get_or_append_left f (map bits old) 0 i (omega (arith, n, l))) ∙ ap (λ (xs : List ℕ). get_or xs i 0) (sym a))),
-          ))
-          (λ (n : first ≤ i).
-          let k : ℕ = i - first in
-          let now : get_or (map bits (front ++ new)) i 0 ≡ get_or (map bits new) k 0 =
-          ap (λ (xs : List ℕ). get_or xs i 0) b ∙ get_or-append_right f (map bits new) first i 0 l n in
-          let was : get_or (map bits (front ++ old)) i 0 ≡ get_or (map bits old) k 0 =
-          ap (λ (xs : List ℕ). get_or xs i 0) a ∙ get_or-append_right f (map bits old) first i 0 l n in
-          let zero_less : k - 0 ≡ i - first = omega arith in
-          ⊎_elim
-          (λ t. inl ((n, omega (arith, n, t.0.1)), now ∙ (t.1 ∙ ap (row_number LittleEndian size row) zero_less)))
-          (λ t. inr (λ p. t.0 (omega arith, omega (arith, n, p.1)), now ∙ (t.1 ∙ sym was)))
-          (w.1 k (omega (arith, h, la, n))))
-          (cases_lt i first),
-    )
+-- a row of whole numbers is put into the bytes of a list, if its numbers are put into the list
+row_put : (size first count : ℕ) (row old new : List ℕ) → IsSize size → AreOctets row → length row ≡ count * size → first + count ≤ length old
+    → new ≡ take first old ++ (tabulate count (row_number LittleEndian size row) ++ drop (first + count) old) → IsPut (first * size) row (bytes_in size old) (bytes_in size new)
+row_put size first count row old new z o l h e =
+    let s : 0 < size = some_size size z in
+    let more : List ℕ = tabulate count (row_number LittleEndian size row) in
+    let rest : List ℕ = drop (first + count) old in
+    let end : (first + count) * size ≡ first * size + length row = add-mul first count size ∙ ap (λ (n : ℕ). first * size + n) (sym l) in
+    let within : (first + count) * size ≤ length old * size = mul-le-mul_right size h in
+    copied (bytes_in size old) row (bytes_in size new) (first * size) (omega (arith, within, end, length_bytes size old))
+    (ap (bytes_in size) e ∙ bytes_append size (take first old) (more ++ rest) s
+    ∙ (λ t. (bytes_split size first old s (omega (arith, h))).0 t ++ bytes_append size more rest s t)
+    ∙ (λ t. take (first * size) (bytes_in size old) ++ (row_is size count row z o l t ++ ((bytes_split size (first + count) old s h).1 ∙ ap (λ (n : ℕ). drop n (bytes_in size old)) end) t)))
 
 -- the list after a write to its rest, as a goal has it
-pub put_behind : {X : Type 0} (bits : X → ℕ) (size first count : ℕ) (row : List ℕ) (old mid : List X) → first ≤ length old
-    → NumbersArePut size 0 row count (map bits (mid_of first (length old - first) old)) (map bits mid)
-    → NumbersArePut size first row count (map bits old) (map bits (put_mid first (length old - first) old mid))
-put_behind bits size first count row old mid h w =
+pub row_put_whole : {X : Type 0} (bits : X → ℕ) (size at : ℕ) (row : List ℕ) (old mid : List X) → IsSize size → AreOctets row → at % size ≡ 0 → length row % size ≡ 0
+    → at / size + length row / size ≤ length old
+    → map bits mid ≡ tabulate (length row / size) (row_number LittleEndian size row) ++ drop (length row / size) (map bits (mid_of (at / size) (length old - at / size) old))
+    → IsPut at row (bytes_in size (map bits old)) (bytes_in size (map bits (put_mid (at / size) (length old - at / size) old mid)))
+row_put_whole {X = X} bits size at row old mid z o a l h w =
+    let first : ℕ = at / size in
+    let count : ℕ = length row / size in
+    let numbers : List ℕ = tabulate count (row_number LittleEndian size row) in
     let rest : length (drop first old) ≡ length old - first = length-drop first old in
     let all : mid_of first (length old - first) old ≡ drop first old = take_all (length old - first) (drop first old) (omega (arith, rest)) in
     let none : put_mid first (length old - first) old mid ≡ take first old ++ mid =
     ap (λ xs. take first old ++ (mid ++ xs)) (drop_all (length old - first) (drop first old) (omega (arith, rest))) ∙ ap (λ xs. take first old ++ xs) (append-nil mid) in
-    let put = placed_behind bits size first count row (take first old) (drop first old) mid (length-take-le first old h)
-    (subst (λ xs. NumbersArePut size 0 row count (map bits xs) (map bits mid)) all w) in
-    subst (λ xs. NumbersArePut size first row count (map bits old) (map bits xs)) (sym none)
-    (subst (λ xs. NumbersArePut size first row count (map bits xs) (map bits (take first old ++ mid))) (take-append-drop first old) put)
+    let behind : drop count (map bits (mid_of first (length old - first) old)) ≡ drop (first + count) (map bits old) =
+    ap (λ (xs : List X). drop count (map bits xs)) all ∙ ap (drop count) (sym (drop-map bits first old)) ∙ drop-drop count first (map bits old) in
+    subst (λ (n : ℕ). IsPut n row (bytes_in size (map bits old)) (bytes_in size (map bits (put_mid first (length old - first) old mid)))) (sym (of_whole at size a))
+    (row_put size first count row (map bits old) (map bits (put_mid first (length old - first) old mid)) z o (of_whole (length row) size l) (omega (arith, h, length-map old bits))
+    (ap (map bits) none ∙ map-append bits (take first old) mid ∙ (λ t. sym (take-map bits first old) t ++ (w ∙ ap (λ (xs : List ℕ). numbers ++ xs) behind) t)))
 
 -- ---- single bytes are written
 
@@ -286,52 +274,45 @@ pub byte_put : {X : Type 0} (bits : X → ℕ) (size at byte : ℕ) (bytes : Lis
     → new ≡ set old (at / size) x → IsPut at (byte ∷ []) (bytes_in size (map bits old)) (bytes_in size (map bits new))
 byte_put bits size at byte bytes old new y d x given z o in_list found told set_in is more =
     let s : 0 < size = some_size size z in
-    let n : ℕ = bits y in
-    let was : n ≡ get_or (map bits old) (at / size) 0 = ap bits found ∙ sym (get_or-map bits old (at / size) d 0 in_list) in
-    let made : bytes ≡ set (all_bytes size n) (at % size) byte = set_in ∙ ap (λ (xs : List ℕ). set xs (at % size) byte) told in
+    let q : ℕ = at / size in
+    let r : ℕ = at % size in
     let ns : List ℕ = map bits old in
-    let ms : List ℕ = map bits new in
-    let all : length (all_bytes size n) ≡ size = length-map-range_with_len (byte_of size n) 0 size in
-    let full : length bytes ≡ size = ap (λ (xs : List ℕ). length xs) made ∙ (length-set (all_bytes size n) (at % size) byte ∙ all) in
-    let l : at / size < length ns = omega (arith, in_list, length-map old bits) in
-    let e : ms ≡ set ns (at / size) (bits x) = ap (map bits) more ∙ map-set bits old (at / size) x in
-    let same : length ms ≡ length ns = ap (λ (xs : List ℕ). length xs) e ∙ length-set ns (at / size) (bits x) in
-    let wide : length ms * size ≡ length ns * size = ap (λ (m : ℕ). m * size) same in
-    let b : bits x ≡ row_number LittleEndian size bytes 0 = is ∙ ap (number LittleEndian (width_of size)) (sym (each_at size 0 bytes (omega (arith, full)) ∙ whole_front size bytes full)) in
-    let set_is : (j : ℕ) → j < size → byte_of size (bits x) j ≡ get_or (set (all_bytes size n) (at % size) byte) j 0 =
+    let here : q < length ns = omega (arith, in_list, length-map old bits) in
+    let place : q * size + r ≡ at = div-add-mod' at size in
+    let full : length given ≡ size = ap (λ (xs : List ℕ). length xs) told ∙ length-map-range_with_len (byte_of size (bits y)) 0 size in
+    let long : length bytes ≡ 1 * size = ap (λ (xs : List ℕ). length xs) set_in ∙ length-set given r byte ∙ omega (arith, full) in
+    let was : (j : ℕ) → j < size → get_or given j 0 ≡ get_or (bytes_in size ns) (q * size + j) 0 =
     λ j h.
-    ap (λ (m : ℕ). byte_of size m j) b ∙ (byte_back size bytes 0 j z o h ∙ ((let q : 0 * size + j ≡ j = omega arith in ap (λ (m : ℕ). get_or bytes m 0) q) ∙ ap (λ (xs : List ℕ). get_or xs j 0) made)) in
-    let here : get_or ms (at / size) 0 ≡ bits x = ap (λ (xs : List ℕ). get_or xs (at / size) 0) e ∙ get_or-set_same ns (at / size) (bits x) 0 l in (
-      length_bytes size ms ∙ (wide ∙ sym (length_bytes size ns)),
-      λ i d.
-          let h : i < length ns * size = omega (arith, d, length_bytes size ns) in
-          let now : get_or (bytes_in size ms) i 0 ≡ byte_of size (get_or ms (i / size) 0) (i % size) = byte_at size ms i (omega (arith, h, wide)) in
-          let r : i % size < size = mod_below i size s in
+    ap (λ (xs : List ℕ). get_or xs j 0) told ∙ get_or-map-range_with_len (byte_of size (bits y)) 0 size j j 0 h (omega arith)
+    ∙ ap (λ (n : ℕ). byte_of size n j) (ap bits found ∙ sym (get_or-map bits old q d 0 in_list)) ∙ sym (byte_in size ns q j here h) in
+    let one : bits x ≡ row_number LittleEndian size bytes 0 =
+    is ∙ ap (number LittleEndian (width_of size)) (sym (each_at size 0 bytes (omega (arith, long)) ∙ (let e : 0 * size ≡ 0 = omega arith in ap (λ (m : ℕ). take size (drop m bytes)) e) ∙ take_all size bytes (omega (arith, long)))) in
+    let put : IsPut (q * size) bytes (bytes_in size ns) (bytes_in size (map bits new)) =
+    row_put size q 1 bytes ns (map bits new) z o long (omega (arith, here))
+    (ap (map bits) more ∙ map-set bits old q x ∙ set_split ns q (bits x) here ∙ (let e : suc q ≡ q + 1 = omega arith in λ t. take q ns ++ one t ∷ drop (e t) ns)) in (
+      put.0,
+      λ i l.
           ⊎_elim
-          (λ (q : i ≡ at).
-          let quotient : i / size ≡ at / size = ap (λ (m : ℕ). m / size) q in
-          let rest : i % size ≡ at % size = ap (λ (m : ℕ). m % size) q in
-          let zero_off : i - at ≡ 0 = omega (arith, q) in
+          (λ (e : i ≡ at).
           inl (
-            (omega (arith, q), omega (arith, q)),
-            now ∙ ((λ t. byte_of size (get_or ms (quotient t) 0) (i % size)) ∙ (ap (λ (m : ℕ). byte_of size m (i % size)) here
-                ∙ (set_is (i % size) r ∙ (ap (λ (m : ℕ). get_or (set (all_bytes size n) (at % size) byte) m 0) rest
-                ∙ (get_or-set_same (all_bytes size n) (at % size) byte 0 (omega (arith, all, mod_below at size s)) ∙ sym (ap (λ (m : ℕ). get_or (byte ∷ []) m 0) zero_off)))))),
+            (omega (arith, e), omega (arith, e)),
+            ⊎_elim
+                (λ p. p.1 ∙ (let j : i - q * size ≡ r = omega (arith, e, place) in ap (λ (m : ℕ). get_or bytes m 0) j) ∙ ap (λ (xs : List ℕ). get_or xs r 0) set_in
+                ∙ get_or-set_same given r byte 0 (omega (arith, full, mod_below at size s)) ∙ (let k : 0 ≡ i - at = omega (arith, e) in ap (λ (m : ℕ). get_or (byte ∷ []) m 0) k))
+                (λ p. Prim.absurd (p.0 (omega (arith, e, place), omega (arith, e, place, long, mod_below at size s))))
+                (put.1 i l),
           ))
-          (λ (q : i ≡ at → ⊥).
+          (λ (n : i ≡ at → ⊥).
           inr (
-            λ p. q (omega (arith, p.0, p.1)),
-            now ∙ (⊎_elim
-                (λ (quotient : i / size ≡ at / size).
-                let other : i % size ≡ at % size → ⊥ = λ rest. q (omega (arith, div-add-mod' i size, div-add-mod' at size, rest, ap (λ (m : ℕ). m * size) quotient)) in
-                (λ t. byte_of size (get_or ms (quotient t) 0) (i % size)) ∙ (ap (λ (m : ℕ). byte_of size m (i % size)) here
-                ∙ (set_is (i % size) r ∙ (get_or-set_other (all_bytes size n) (at % size) (i % size) byte 0 other
-                ∙ (get_or-map-range_with_len (byte_of size n) 0 size (i % size) (i % size) 0 r (omega arith)
-                ∙ (ap (λ (m : ℕ). byte_of size m (i % size)) was ∙ (λ t. byte_of size (get_or ns (sym quotient t) 0) (i % size))))))))
-                (λ (far : i / size ≡ at / size → ⊥).
-                ap (λ (m : ℕ). byte_of size m (i % size)) (ap (λ (xs : List ℕ). get_or xs (i / size) 0) e ∙ get_or-set_other ns (at / size) (i / size) (bits x) 0 far))
-                (cases_eq (i / size) (at / size))
-                ∙ sym (byte_at size ns i h)),
+            λ p. n (omega (arith, p.0, p.1)),
+            ⊎_elim
+                (λ p.
+                let j : ℕ = i - q * size in
+                let k : q * size + j ≡ i = omega (arith, p.0.0) in
+                p.1 ∙ ap (λ (xs : List ℕ). get_or xs j 0) set_in ∙ get_or-set_other given r j byte 0 (λ e. n (omega (arith, e, k, place)))
+                ∙ was j (omega (arith, p.0.1, k, long)) ∙ ap (λ (m : ℕ). get_or (bytes_in size ns) m 0) k)
+                (λ p. p.1)
+                (put.1 i l),
           ))
           (cases_eq i at),
     )
@@ -373,37 +354,9 @@ zeros_behind f x old new n z e = ap (map f) e ∙ map-append f old (replicate n 
 pub no_zeros_behind : {A : Type 0} (f : A → ℕ) (old new : List A) (n : ℕ) → new ≡ old → n ≡ 0 → map f new ≡ map f old ++ replicate n 0
 no_zeros_behind f old new n e z = ap (map f) e ∙ sym (append-nil (map f old)) ∙ ap (λ k. map f old ++ replicate k 0) (sym z)
 
-no_byte : (size i : ℕ) → byte_of size 0 (i % size) ≡ 0
-no_byte size i = byte_is size 0 (i % size) (power_pos size) ∙ ap (λ (m : ℕ). m % 256) (zero-div (256 ^ (i % size)))
-
 -- the bytes of zeros after a list follow its bytes
-pub bytes_behind : (size : ℕ) (ns : List ℕ) (n : ℕ) → IsSize size → bytes_in size (ns ++ replicate n 0) ≡ bytes_in size ns ++ replicate (n * size) 0
-bytes_behind size ns n z =
-    let s : 0 < size = some_size size z in
-    let all : List ℕ = ns ++ replicate n 0 in
-    let long : length all ≡ length ns + n = length-append ns (replicate n 0) ∙ ap (λ (m : ℕ). length ns + m) (length-replicate n 0) in
-    let parts : (length ns + n) * size ≡ length ns * size + n * size = add-mul (length ns) n size in
-    let whole : length (bytes_in size all) ≡ length ns * size + n * size = length_bytes size all ∙ ap (λ (m : ℕ). m * size) long ∙ parts in
-    let front : length (bytes_in size ns) ≡ length ns * size = length_bytes size ns in
-    let behind : List ℕ = replicate (n * size) 0 in
-    let both : length (bytes_in size ns ++ behind) ≡ length ns * size + n * size =
-    length-append (bytes_in size ns) behind ∙ (λ t. front t + length-replicate {A = ℕ} (n * size) 0 t) in
-    ext_get_or 0 (bytes_in size all) (bytes_in size ns ++ behind) (whole ∙ sym both)
-    (λ i b.
-    let h : i < length all * size = omega (arith, b, length_bytes size all) in
-    byte_at size all i h
-    ∙ ⊎_elim
-    (λ (l : i < length ns * size).
-    let k : i / size < length ns = div_below i size (length ns) s l in
-    ap (λ (x : ℕ). byte_of size x (i % size)) (get_or_append_left ns (replicate n 0) 0 (i / size) k)
-    ∙ sym (byte_at size ns i l)
-    ∙ sym (get_or_append_left (bytes_in size ns) behind 0 i (omega (arith, l, front))))
-    (λ (l : length ns * size ≤ i).
-    let k : length ns ≤ i / size = le-div (length ns) i size s l in
-    ap (λ (x : ℕ). byte_of size x (i % size)) (get_or-append_right ns (replicate n 0) (length ns) (i / size) 0 refl k ∙ zero_in n (i / size - length ns))
-    ∙ no_byte size i
-    ∙ sym (get_or-append_right (bytes_in size ns) behind (length ns * size) i 0 front l ∙ zero_in (n * size) (i - length ns * size)))
-    (cases_lt i (length ns * size)))
+bytes_behind : (size : ℕ) (ns : List ℕ) (n : ℕ) → IsSize size → bytes_in size (ns ++ replicate n 0) ≡ bytes_in size ns ++ replicate (n * size) 0
+bytes_behind size ns n z = bytes_append size ns (replicate n 0) (some_size size z) ∙ ap (λ (xs : List ℕ). bytes_in size ns ++ xs) (zeros_in size n (replicate n 0) z refl)
 
 less-times : (m n size : ℕ) → (m - n) * size ≡ m * size - n * size
 less-times m n size =
@@ -445,50 +398,7 @@ plain_zeros_behind old new n e = sym (map-id new) ∙ e ∙ ap (λ (xs : List �
 pub numbers_behind : (size count : ℕ) (row ns ms : List ℕ) → IsSize size → AreOctets row → length row ≡ count * size
     → ms ≡ ns ++ tabulate count (row_number LittleEndian size row) → bytes_in size ms ≡ bytes_in size ns ++ row
 numbers_behind size count row ns ms z o l e =
-    let s : 0 < size = some_size size z in
-    let more : List ℕ = tabulate count (row_number LittleEndian size row) in
-    let long : length ms ≡ length ns + count = ap (λ (xs : List ℕ). length xs) e ∙ length-append ns more ∙ ap (λ (m : ℕ). length ns + m) (length-map-range_with_len (row_number LittleEndian size row) 0 count) in
-    let all : length ms * size ≡ length ns * size + count * size = ap (λ (m : ℕ). m * size) long ∙ add-mul (length ns) count size in
-    let front : length (bytes_in size ns) ≡ length ns * size = length_bytes size ns in
-    let both : length (bytes_in size ns ++ row) ≡ length ns * size + count * size = length-append (bytes_in size ns) row ∙ (λ t. front t + l t) in
-    ext_get_or 0 (bytes_in size ms) (bytes_in size ns ++ row) (length_bytes size ms ∙ all ∙ sym both)
-    (λ i b.
-    let h : i < length ms * size = omega (arith, b, length_bytes size ms) in
-    byte_at size ms i h
-    ∙ ap (λ (xs : List ℕ). byte_of size (get_or xs (i / size) 0) (i % size)) e
-    ∙ ⊎_elim
-    (λ (a : i < length ns * size).
-    let k : i / size < length ns = div_below i size (length ns) s a in
-    ap (λ (x : ℕ). byte_of size x (i % size)) (get_or_append_left ns more 0 (i / size) k)
-    ∙ sym (byte_at size ns i a)
-    ∙ sym (get_or_append_left (bytes_in size ns) row 0 i (omega (arith, a, front))))
-    (λ (a : length ns * size ≤ i).
-    let k : length ns ≤ i / size = le-div (length ns) i size s a in
-    let j : ℕ = i / size - length ns in
-    let below : i / size < length ms = div_below i size (length ms) s h in
-    let r : j < count = omega (arith, below, long, k) in
-    let at : length ns + j ≡ i / size = omega (arith, k) in
-    let parts : length ns * size + j * size ≡ i / size * size = sym (add-mul (length ns) j size) ∙ ap (λ (m : ℕ). m * size) at in
-    let there : j * size + i % size ≡ i - length ns * size = omega (arith, parts, div-add-mod' i size) in
-    ap (λ (x : ℕ). byte_of size x (i % size))
-    (get_or-append_right ns more (length ns) (i / size) 0 refl k ∙ get_or-map-range_with_len (row_number LittleEndian size row) 0 count j j 0 r (omega arith))
-    ∙ byte_back size row j (i % size) z o (mod_below i size s)
-    ∙ ap (λ (m : ℕ). get_or row m 0) there
-    ∙ sym (get_or-append_right (bytes_in size ns) row (length ns * size) i 0 front a))
-    (cases_lt i (length ns * size)))
-
--- one more number is appended
-pub pushed_more : {X : Type 0} (bits : X → ℕ) (size k : ℕ) (row : List ℕ) (old mid new : List X) (x : X) (pieces : List (List ℕ)) (piece d : List ℕ)
-    → pieces ≡ first_chunks size (length row / size) row → k < length row / size → piece ≡ get_or pieces k d → bits x ≡ number LittleEndian (width_of size) piece
-    → new ≡ mid ++ x ∷ [] → map bits mid ≡ map bits old ++ tabulate k (row_number LittleEndian size row)
-    → map bits new ≡ map bits old ++ tabulate (k + 1) (row_number LittleEndian size row)
-pushed_more bits size k row old mid new x pieces piece d are h here is more done =
-    let found : piece ≡ tabulate size (λ j. get_or row (k * size + j) 0) =
-    here ∙ (ap (λ (ps : List (List ℕ)). get_or ps k d) are ∙ (piece_at size (length row / size) row k d h ∙ sym (each_at size k row (within size (length row) k h)))) in
-    ap (map bits) more ∙ map-append bits mid (x ∷ [])
-    ∙ (λ t. done t ++ (is ∙ ap (number LittleEndian (width_of size)) found) t ∷ [])
-    ∙ append_assoc (map bits old) (tabulate k (row_number LittleEndian size row)) (row_number LittleEndian size row k ∷ [])
-    ∙ ap (λ (xs : List ℕ). map bits old ++ xs) (sym (map-range_with_len_more (row_number LittleEndian size row) 0 k k (omega arith)))
+    ap (bytes_in size) e ∙ bytes_append size ns (tabulate count (row_number LittleEndian size row)) (some_size size z) ∙ ap (λ (xs : List ℕ). bytes_in size ns ++ xs) (row_is size count row z o l)
 
 -- The next piece of a row of whole numbers has whole numbers too, and a list with room for the rest
 -- of the row has room for the piece and then for what is left.

@@ -5,8 +5,7 @@ use Rattle.std.proofs.lemmas.Grind.{div_ceil_times}
 use Rattle.std.proofs.Math.Nat.{add-mul, mul-le-mul_right}
 use Rattle.std.specs.Int.{div_ceil}
 use Rattle.std.specs.Prelude.{◌≡◌, ℕ, [], ◌+◌, ◌-◌, ◌*◌, ◌/◌, ◌%◌, ◌^◌, ◌<◌, ◌≤◌, ◌==◌, if◌then◌else◌, List, length, slice_index}
-use Rattle.tiff_base.specs.declared.tags.ByteOrder.TheVariants.{LittleEndian}
-use Rattle.tiff_page.specs.Pixels.{tabulate, row_number}
+use Rattle.tiff_page.specs.Pixels.{tabulate}
 use Rattle.tiff_page.specs.BufferPositions.{Writes}
 use Rattle.tiff_page.specs.Row.{IsSize}
 
@@ -27,12 +26,6 @@ bytes_in size numbers =
 abbrev pub IsPut : ℕ → List ℕ → List ℕ → List ℕ → Type 0
 IsPut at row old new =
     Writes (λ i. (at ≤ i) × (i < at + length row)) (λ i. slice_index row (i - at)) old new
-
--- `count` numbers of a row are written from number `first` on, and each other number is unchanged
-abbrev pub NumbersArePut : ℕ → ℕ → List ℕ → ℕ → List ℕ → List ℕ → Type 0
-NumbersArePut size first row count old new =
-    Writes (λ i. (first ≤ i)
-    × (i < first + count)) (λ i. row_number LittleEndian size row (i - first)) old new
 
 -- an empty list has no bytes
 pub no_bytes : (size : ℕ) → bytes_in size [] ≡ []

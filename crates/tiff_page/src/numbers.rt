@@ -1,14 +1,15 @@
 //! Lists of numbers into which rows of bytes are written.
+#![tactic(auto, using(crate::proofs::NumberBytes::bytes_1, crate::proofs::NumberBytes::bytes_2, crate::proofs::NumberBytes::bytes_4, crate::proofs::NumberBytes::bytes_8,), unfolding(tiff_base::specs::Number::number))]
 
 ghost use Rattle.std.proofs.Common.{refl, inl, inr};
 ghost use Rattle.std.specs.Int.{div_ceil, w8, w16, w32, w64, cast_unsigned};
-ghost use Rattle.std.specs.Prelude.{◌≡◌, ℕ, ◌+◌, ◌-◌, ◌*◌, ◌/◌, ◌%◌, ◌^◌, ◌≤◌, ◌<◌, ◌↔◌, ◌++◌, IsTrue, length, map, replicate, ◌∷◌, [], OnOk};
+ghost use Rattle.std.specs.Prelude.{◌≡◌, ℕ, ◌+◌, ◌-◌, ◌*◌, ◌/◌, ◌%◌, ◌^◌, ◌≤◌, ◌<◌, ◌↔◌, ◌++◌, IsTrue, drop, length, map, replicate, ◌∷◌, [], OnOk};
 ghost use Rattle.std.specs.Vec.{vec_capacity, vec_len};
 ghost use Rattle.tiff_base.specs.Number.{number};
 ghost use Rattle.tiff_base.specs.declared.tags.ByteOrder.TheVariants.{LittleEndian};
 ghost use Rattle.tiff_page.specs.BufferPositions.{filled_to};
-ghost use Rattle.tiff_page.specs.NumberBytes.{all_bytes, bytes_in, IsPut, NumbersArePut};
-ghost use Rattle.tiff_page.specs.Pixels.{width_of};
+ghost use Rattle.tiff_page.specs.NumberBytes.{all_bytes, bytes_in, IsPut};
+ghost use Rattle.tiff_page.specs.Pixels.{row_number, tabulate, width_of};
 ghost use Rattle.tiff_page.specs.Row.{IsSize};
 
 use std::alloc::AllocError;
@@ -42,14 +43,12 @@ impl Number<1> for u8 {
         0
     }
 
-    #[tactic(auto, unfolding(tiff_base::specs::Number::number))]
     fn of(bytes: [u8; 1]) -> u8
         ensures { result ≡ number LittleEndian w8 bytes }
     {
         u8::from_le_bytes(bytes)
     }
 
-    #[tactic(auto, using(crate::proofs::NumberBytes::bytes_1))]
     fn bytes(self) -> [u8; 1] {
         self.to_le_bytes()
     }
@@ -64,14 +63,12 @@ impl Number<2> for u16 {
         0
     }
 
-    #[tactic(auto, unfolding(tiff_base::specs::Number::number))]
     fn of(bytes: [u8; 2]) -> u16
         ensures { result ≡ number LittleEndian w16 bytes }
     {
         u16::from_le_bytes(bytes)
     }
 
-    #[tactic(auto, using(crate::proofs::NumberBytes::bytes_2))]
     fn bytes(self) -> [u8; 2] {
         self.to_le_bytes()
     }
@@ -86,14 +83,12 @@ impl Number<4> for u32 {
         0
     }
 
-    #[tactic(auto, unfolding(tiff_base::specs::Number::number))]
     fn of(bytes: [u8; 4]) -> u32
         ensures { result ≡ number LittleEndian w32 bytes }
     {
         u32::from_le_bytes(bytes)
     }
 
-    #[tactic(auto, using(crate::proofs::NumberBytes::bytes_4))]
     fn bytes(self) -> [u8; 4] {
         self.to_le_bytes()
     }
@@ -108,14 +103,12 @@ impl Number<8> for u64 {
         0
     }
 
-    #[tactic(auto, unfolding(tiff_base::specs::Number::number))]
     fn of(bytes: [u8; 8]) -> u64
         ensures { result ≡ number LittleEndian w64 bytes }
     {
         u64::from_le_bytes(bytes)
     }
 
-    #[tactic(auto, using(crate::proofs::NumberBytes::bytes_8))]
     fn bytes(self) -> [u8; 8] {
         self.to_le_bytes()
     }
@@ -130,14 +123,12 @@ impl Number<2> for Bits16 {
         Bits16(0)
     }
 
-    #[tactic(auto, unfolding(tiff_base::specs::Number::number))]
     fn of(bytes: [u8; 2]) -> Bits16
         ensures { result.0 ≡ number LittleEndian w16 bytes }
     {
         Bits16(u16::from_le_bytes(bytes))
     }
 
-    #[tactic(auto, using(crate::proofs::NumberBytes::bytes_2))]
     fn bytes(self) -> [u8; 2] {
         self.0.to_le_bytes()
     }
@@ -152,14 +143,12 @@ impl Number<4> for Bits32 {
         Bits32(0)
     }
 
-    #[tactic(auto, unfolding(tiff_base::specs::Number::number))]
     fn of(bytes: [u8; 4]) -> Bits32
         ensures { result.0 ≡ number LittleEndian w32 bytes }
     {
         Bits32(u32::from_le_bytes(bytes))
     }
 
-    #[tactic(auto, using(crate::proofs::NumberBytes::bytes_4))]
     fn bytes(self) -> [u8; 4] {
         self.0.to_le_bytes()
     }
@@ -174,14 +163,12 @@ impl Number<8> for Bits64 {
         Bits64(0)
     }
 
-    #[tactic(auto, unfolding(tiff_base::specs::Number::number))]
     fn of(bytes: [u8; 8]) -> Bits64
         ensures { result.0 ≡ number LittleEndian w64 bytes }
     {
         Bits64(u64::from_le_bytes(bytes))
     }
 
-    #[tactic(auto, using(crate::proofs::NumberBytes::bytes_8))]
     fn bytes(self) -> [u8; 8] {
         self.0.to_le_bytes()
     }
@@ -196,14 +183,12 @@ impl Number<1> for i8 {
         0
     }
 
-    #[tactic(auto, unfolding(tiff_base::specs::Number::number))]
     fn of(bytes: [u8; 1]) -> i8
         ensures { cast_unsigned w8 result ≡ number LittleEndian w8 bytes }
     {
         u8::from_le_bytes(bytes).cast_signed()
     }
 
-    #[tactic(auto, using(crate::proofs::NumberBytes::bytes_1))]
     fn bytes(self) -> [u8; 1] {
         self.cast_unsigned().to_le_bytes()
     }
@@ -218,14 +203,12 @@ impl Number<2> for i16 {
         0
     }
 
-    #[tactic(auto, unfolding(tiff_base::specs::Number::number))]
     fn of(bytes: [u8; 2]) -> i16
         ensures { cast_unsigned w16 result ≡ number LittleEndian w16 bytes }
     {
         u16::from_le_bytes(bytes).cast_signed()
     }
 
-    #[tactic(auto, using(crate::proofs::NumberBytes::bytes_2))]
     fn bytes(self) -> [u8; 2] {
         self.cast_unsigned().to_le_bytes()
     }
@@ -240,14 +223,12 @@ impl Number<4> for i32 {
         0
     }
 
-    #[tactic(auto, unfolding(tiff_base::specs::Number::number))]
     fn of(bytes: [u8; 4]) -> i32
         ensures { cast_unsigned w32 result ≡ number LittleEndian w32 bytes }
     {
         u32::from_le_bytes(bytes).cast_signed()
     }
 
-    #[tactic(auto, using(crate::proofs::NumberBytes::bytes_4))]
     fn bytes(self) -> [u8; 4] {
         self.cast_unsigned().to_le_bytes()
     }
@@ -262,14 +243,12 @@ impl Number<8> for i64 {
         0
     }
 
-    #[tactic(auto, unfolding(tiff_base::specs::Number::number))]
     fn of(bytes: [u8; 8]) -> i64
         ensures { cast_unsigned w64 result ≡ number LittleEndian w64 bytes }
     {
         u64::from_le_bytes(bytes).cast_signed()
     }
 
-    #[tactic(auto, using(crate::proofs::NumberBytes::bytes_8))]
     fn bytes(self) -> [u8; 8] {
         self.cast_unsigned().to_le_bytes()
     }
@@ -295,27 +274,17 @@ pub(crate) fn grow<T: Number<N>, const N: usize>(
 
 // Writes the numbers of a row of whole numbers at the front of a list. The loop has only one index,
 // so that LLVM vectorizes it.
-#[tactic(auto, using(crate::proofs::NumberBytes::none_placed, crate::proofs::NumberBytes::placed_more))]
 fn put_front<T: Number<N>, const N: usize>(numbers: &mut [T], row: &[u8])
     requires some { 0 < N }
     requires room { length row.now / N ≤ length numbers.old }
-    ensures { NumbersArePut N 0 row.now (length row.now / N) (map T.bits numbers.old)
-        (map T.bits numbers.new) }
+    ensures { map T.bits numbers.new
+        ≡ tabulate (length row.now / N) (row_number LittleEndian N row.now)
+        ++ drop (length row.now / N) (map T.bits numbers.old) }
 {
     let (pieces, _) = row.as_chunks::<N>();
     for k in 0..pieces.len() {
         numbers[k] = T::of(pieces[k]);
     }
-}
-
-// Writes the numbers of a row of whole numbers from number `first` on.
-fn put_numbers<T: Number<N>, const N: usize>(numbers: &mut [T], first: usize, row: &[u8])
-    requires some { 0 < N }
-    requires room { first + length row.now / N ≤ length numbers.old }
-    ensures { NumbersArePut N first row.now (length row.now / N) (map T.bits numbers.old)
-        (map T.bits numbers.new) }
-{
-    put_front(&mut numbers[first..], row);
 }
 
 // Writes a byte at a position among the bytes of numbers.
@@ -346,7 +315,7 @@ fn put_bytes<T: Number<N>, const N: usize>(numbers: &mut [T], at: usize, row: &[
 }
 
 /// Writes a row at a position among the bytes of numbers, whole numbers at once.
-#[tactic(auto, using(crate::proofs::NumberBytes::row_put_whole, crate::proofs::NumberBytes::numbers_fit))]
+#[tactic(auto, using(crate::proofs::NumberBytes::numbers_fit))]
 pub(crate) fn put_row<T: Number<N>, const N: usize>(numbers: &mut [T], at: usize, row: &[u8])
     requires some { 0 < N }
     requires room { at + length row.now ≤ length (bytes_in N (map T.bits numbers.old)) }
@@ -355,7 +324,7 @@ pub(crate) fn put_row<T: Number<N>, const N: usize>(numbers: &mut [T], at: usize
         (bytes_in N (map T.bits numbers.new)) }
 {
     if at % N == 0 && row.len() % N == 0 {
-        put_numbers(numbers, at / N, row);
+        put_front(&mut numbers[at / N..], row);
     } else {
         put_bytes(numbers, at, row);
     }
