@@ -3,7 +3,7 @@ use Rattle.std.proofs.Common.{take, drop, mul_assoc, ◌≡◌, ℕ, ◌+◌, �
 use Rattle.std.specs.Prelude.{nat_lt}
 use Rattle.std.proofs.lemmas.List.{get_or_past, get_or-take, get_or-drop, length-take-le, length-drop}
 use borrow.Rule.Slice.PartMut.{put_mid}
-use Rattle.std.proofs.lemmas.Bool.{cases_Bool, cases_lt, lt-ltb, le-ltb, ltb-false}
+use Rattle.std.proofs.lemmas.Bool.{cases_Bool, cases_lt, lt-ltb, le-ltb, ltb-false, ltb-true}
 use Rattle.std.proofs.lemmas.Nat.{div-add-mod', div-mul-add, mod-mul-add, mod_below, div_below}
 use Rattle.std.proofs.Math.Nat.{mul-le-mul_right, mul_comm}
 use Rattle.tiff_base.specs.declared.color.ColorType.{ColorType}
@@ -16,7 +16,7 @@ use Rattle.tiff_base.specs.declared.tags.Predictor.TheVariants as predictor
 use Rattle.tiff_page.specs.Layout.{samples_in_chunk, row_bits, row_bytes}
 use Rattle.tiff_page.specs.Page.{PageRecord}
 use Rattle.tiff_page.specs.Pixels.{stored_samples, stored_row_bytes, is_byte_plane, needs_whole_rows, row_number, summed_number, joined_number, number_by, number_of_row, shown_number, in_row}
-use Rattle.tiff_page.specs.Row.{IsSize, RowReplaced}
+use Rattle.tiff_page.specs.Row.{IsSize, RowReplaced, TurnsNumbers}
 use Rattle.tiff_page.specs.OutputRow.{HoldsNumbersOf, handed_byte, needs_swap}
 use Rattle.tiff_page.specs.ReadablePage.{IsRead}
 use Rattle.tiff_page.proofs.Rows.{put_below, put_there, by_size, digits, little_digits, some_size, sums_same, stayed, bytes_stayed}
@@ -99,6 +99,22 @@ holds_same LittleEndian p row t = record { same_length = refl; numbers = λ d. s
 holds_same BigEndian p row t =
     let l : p.depth ≤ 8 = ltb-false 8 p.depth t in
     record { same_length = refl; numbers = λ d. bytes_stayed BigEndian (p.depth / 8) row (omega (arith, d, l)); packed = λ d. refl }
+
+-- the little-endian numbers of a row
+pub holds_turned : (order : ByteOrder) (p : PageRecord) (row out : List ℕ) → needs_swap order p.depth ≡ true → length out ≡ length row
+    → (p.depth < 8) ⊎ (length row / (p.depth / 8) * (p.depth / 8) ≡ length row) → TurnsNumbers (p.depth / 8) row out → HoldsNumbersOf order p row out
+holds_turned LittleEndian p row out t l whole turned = cc
+holds_turned BigEndian p row out t l whole turned =
+    let deep : 8 < p.depth = ltb-true 8 p.depth t in
+    record {
+      same_length = l;
+      numbers = λ d. record {
+        numbers = turned;
+        behind = λ i h. (let past : length row ≤ i = ⊎_elim (λ (q : p.depth < 8). Prim.absurd (omega (arith, q, deep))) (λ e. omega (arith, e, h)) whole in
+            get_or_past out i 0 (omega (arith, past, l)) ∙ sym (get_or_past row i 0 past));
+      };
+      packed = λ d. Prim.absurd (omega (arith, d, deep));
+    }
 
 pub whole_stood : (order : ByteOrder) (p : PageRecord) (row : List ℕ) → needs_swap order p.depth ≡ false → IsSize (p.depth / 8)
     → RowReplaced (p.depth / 8) (row_number order (p.depth / 8) row) row row

@@ -1,6 +1,6 @@
 -- A row is read: its bytes are taken and output.
 use Rattle.std.proofs.Common.{◌≡◌, ℕ, ◌+◌, ◌*◌, ◌/◌, ◌<◌, ◌≤◌, ◌⊎◌, true, false, List, ◌++◌, take, drop, length, ap, sym, ◌∙◌, inl, inr, ⊎_elim, arith}
-use Rattle.std.specs.Prelude.{Result, Ok, Err, slice_index}
+use Rattle.std.specs.Prelude.{slice_index}
 use Rattle.std.proofs.lemmas.Bool.{cases_lt}
 use Rattle.std.proofs.lemmas.List.{length-append}
 use Rattle.std.proofs.Math.Nat.{mul-div_cancel}
@@ -13,13 +13,11 @@ use Rattle.tiff_base.proofs.Causes.{cause_along}
 use Rattle.tiff_page.specs.Page.{PageRecord}
 use Rattle.tiff_page.specs.Layout.{row_bits, row_bytes, samples_in_chunk}
 use Rattle.tiff_page.specs.Pixels.{stored_row_bytes, needs_whole_rows, needed_of_row}
-use Rattle.tiff_page.specs.OutputRow.{StoresAllShown, handed_byte, needs_swap}
-use Rattle.tiff_page.specs.RowReads.{NumbersRead, TakesNumbers, TakesRow}
-use Rattle.tiff_page.specs.ChunkData.{IsTooShort, Takes, bytes_left}
-use Rattle.tiff_page.specs.declared.chunk_data.ChunkCursor.{ChunkCursor}
+use Rattle.tiff_page.specs.OutputRow.{StoresAllShown, handed_byte}
+use Rattle.tiff_page.specs.RowReads.{TakesRow}
+use Rattle.tiff_page.specs.ChunkData.{IsTooShort}
 use Rattle.tiff_page.proofs.ChunkRows.{bits_are}
 use Rattle.tiff_page.proofs.Data.{behind_front}
-use Rattle.tiff_page.proofs.OutputRow.{holds_same}
 
 pub front_of : (front rest : List ℕ) (n : ℕ) → length front ≡ n → take n (front ++ rest) ≡ front
 front_of front rest n e = ap (λ m. take m (front ++ rest)) (sym e) ∙ take-append_seam front rest
@@ -37,19 +35,6 @@ taken order p color left rest filled out e n h =
       behind = behind_front filled rest need n ∙ ap (drop need) (sym e);
       handed = λ b bl. h b bl ∙ ap (λ (z : List ℕ). handed_byte order p z color b) (sym t);
     }
-
-pub stood_taken : (order : ByteOrder) (p : PageRecord) (left rest out : List ℕ) → needs_swap order p.depth ≡ false → left ≡ out ++ rest → TakesNumbers order p left rest out
-stood_taken order p left rest out t e = record { row = out; next = e; holds = holds_same order p out t }
-
-pub numbers_cause : (failed : Type 0) (left : List ℕ) (n m : ℕ) (e : TiffError) → n ≡ m → IsCause ⊥ failed e (IsTooShort left n e)
-    → IsCause (Unit {0}) failed e (IsTooShort left m e)
-numbers_cause failed left n m e q c =
-    cause_along e (λ z. Prim.absurd z) (λ f. f) (λ t. record { fault = t.fault; short = omega (arith, t.short, q) }) c
-
-pub numbers_stood : (file : List ℕ) (order : ByteOrder) (p : PageRecord) (old new : ChunkCursor) (failed : Type 0) (n : ℕ) (out : List ℕ) (result : Result (Unit {0}) TiffError)
-    → needs_swap order p.depth ≡ false → n ≡ length out → Takes file old new ⊥ failed n out result → NumbersRead file order p old new failed out result
-numbers_stood file order p old new failed n out (Ok done) t e k = stood_taken order p (bytes_left file old) (bytes_left file new) out t k.0
-numbers_stood file order p old new failed n out (Err fault) t e k = numbers_cause failed (bytes_left file old) n (length out) fault e k
 
 pub row_taken : (order : ByteOrder) (p : PageRecord) (color : ColorType) (left rest filled out : List ℕ) → needs_whole_rows p color ≡ false → left ≡ filled ++ rest
     → length filled ≡ length out → ((b : ℕ) → b < length out → slice_index out b ≡ handed_byte order p filled color b)

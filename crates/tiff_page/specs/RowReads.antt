@@ -1,5 +1,5 @@
 -- What is read of a row of a chunk.
-use Rattle.std.specs.Prelude.{◌≡◌, ℕ, ◌<◌, ◌≤◌, List, ◌++◌, length, take, drop, slice_index, Result, Ok, Err}
+use Rattle.std.specs.Prelude.{◌≡◌, ℕ, ◌<◌, ◌≤◌, List, length, take, drop, slice_index, Result, Ok, Err}
 use Rattle.tiff_base.specs.declared.color.ColorType.{ColorType}
 use Rattle.tiff_base.specs.declared.error.TiffError.{TiffError}
 use Rattle.tiff_base.specs.declared.tags.ByteOrder.{ByteOrder}
@@ -8,7 +8,7 @@ use Rattle.tiff_page.specs.declared.chunk_data.ChunkCursor.{ChunkCursor}
 use Rattle.tiff_page.specs.NumberBytes.{IsPut}
 use Rattle.tiff_page.specs.Page.{PageRecord}
 use Rattle.tiff_page.specs.Pixels.{needed_of_row}
-use Rattle.tiff_page.specs.OutputRow.{HoldsNumbersOf, handed_byte}
+use Rattle.tiff_page.specs.OutputRow.{handed_byte}
 use Rattle.tiff_page.specs.ChunkData.{bytes_left, IsTooShort}
 
 -- A row was read and output, and `rest` is what is left after it.
@@ -19,20 +19,6 @@ pub record TakesRow (order : ByteOrder) (p : PageRecord) (color : ColorType)
   pub handed : (b : ℕ) → b < length out
       → slice_index out b ≡ handed_byte order p (take (needed_of_row p color (length out)) left)
       color b
-
--- The next bytes were read, and a buffer holds their numbers.
-pub record TakesNumbers (order : ByteOrder) (p : PageRecord) (left rest out : List ℕ) : Type 0 where
-  pub row : List ℕ
-  pub next : left ≡ row ++ rest
-  pub holds : HoldsNumbersOf order p row out
-
--- the result of a call that reads numbers into a buffer
-abbrev pub NumbersRead : List ℕ → ByteOrder → PageRecord → ChunkCursor → ChunkCursor → Type 0
-    → List ℕ → Result (Unit {0}) TiffError → Type 0
-NumbersRead file order p old new failed out (Ok done) =
-    TakesNumbers order p (bytes_left file old) (bytes_left file new) out
-NumbersRead file order p old new failed out (Err e) =
-    IsCause (Unit {0}) failed e (IsTooShort (bytes_left file old) (length out) e)
 
 -- the result of a call that reads a row into a buffer
 abbrev pub RowRead : List ℕ → ByteOrder → PageRecord → ColorType → ChunkCursor → ChunkCursor

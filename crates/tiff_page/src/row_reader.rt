@@ -5,9 +5,8 @@ ghost use Rattle.tiff_base.specs.Answers.{AsksOnly, IsKept};
 ghost use Rattle.tiff_page.specs.Layout.{row_bytes};
 ghost use Rattle.tiff_page.specs.Pixels.{needed_of_row, needs_whole_rows, stored_row_bytes};
 ghost use Rattle.tiff_page.specs.ReadablePage.{IsRead};
-ghost use Rattle.tiff_page.specs.Row.{IsSize};
 ghost use Rattle.tiff_page.specs.OutputRow.{needs_swap};
-ghost use Rattle.tiff_page.specs.RowReads.{NumbersRead, RowRead};
+ghost use Rattle.tiff_page.specs.RowReads.{RowRead};
 ghost use Rattle.tiff_page.specs.Reach.{StoredReadable, Moves};
 ghost use Rattle.tiff_page.specs.PageView as view;
 
@@ -71,8 +70,9 @@ impl RowFormat<'_> {
         Ok(())
     }
 
-    // Reads the next bytes into a scratch buffer, and writes their numbers byte-swapped into `out`.
-    #[tactic(auto, using(crate::proofs::RowRead::numbers_cause))]
+    // Reads the next bytes as `read_finished` does, if their numbers are byte-swapped: they come by
+    // way of a scratch buffer.
+    #[tactic(auto, using(crate::proofs::RowRead::row_cause))]
     #[inline(always)]
     fn read_turned<R: Source>(
         &self,
@@ -81,13 +81,16 @@ impl RowFormat<'_> {
         room: &mut Vec<u8>,
         out: &mut [u8],
     ) -> TiffResult<()>
+        requires read { IsRead (view.page self.now.page.now) self.now.color }
+        requires in_place { needs_whole_rows (view.page self.now.page.now) self.now.color
+            ≡ false }
+        requires whole { (self.now.page.now.depth < 8)
+            ⊎ (length out.old / (self.now.page.now.depth / 8)
+            * (self.now.page.now.depth / 8) ≡ length out.old) }
         requires turned { needs_swap self.now.order self.now.page.now.depth ≡ true }
-        requires size { IsSize (self.now.page.now.depth / 8) }
-        requires whole { length out.old / (self.now.page.now.depth / 8)
-            * (self.now.page.now.depth / 8) ≡ length out.old }
         ensures kept { IsKept R.told R.failures result source.old source.new }
-        ensures numbers { NumbersRead (R.told source.old).bytes self.now.order
-            (view.page self.now.page.now) cursor.old cursor.new
+        ensures row { RowRead (R.told source.old).bytes self.now.order
+            (view.page self.now.page.now) self.now.color cursor.old cursor.new
             (R.failures source.old < R.failures source.new) out.new result }
         ensures asked { AsksOnly (StoredReadable (R.told source.old) cursor.old (length out.old))
             result }
@@ -96,35 +99,8 @@ impl RowFormat<'_> {
         room.resize(out.len(), 0)?;
         cursor.read(source, room)?;
         to_little_endian(room, usize::from(self.page.depth / 8), out);
+        finish_row(self.page, self.color, out);
         Ok(())
-    }
-
-    // Reads the next bytes into a buffer, with their numbers in little-endian order.
-    #[tactic(auto, using(crate::proofs::RowRead::numbers_cause))]
-    #[inline(always)]
-    fn read_numbers<R: Source>(
-        &self,
-        source: &mut R,
-        cursor: &mut ChunkCursor,
-        room: &mut RowScratch,
-        out: &mut [u8],
-    ) -> TiffResult<()>
-        requires read { IsRead (view.page self.now.page.now) self.now.color }
-        requires whole { (self.now.page.now.depth < 8)
-            ⊎ (length out.old / (self.now.page.now.depth / 8)
-            * (self.now.page.now.depth / 8) ≡ length out.old) }
-        ensures kept { IsKept R.told R.failures result source.old source.new }
-        ensures numbers { NumbersRead (R.told source.old).bytes self.now.order
-            (view.page self.now.page.now) cursor.old cursor.new
-            (R.failures source.old < R.failures source.new) out.new result }
-        ensures asked { AsksOnly (StoredReadable (R.told source.old) cursor.old (length out.old))
-            result }
-        ensures moves { OnOk result (Moves cursor.old (length out.old) cursor.new) }
-    {
-        if needs_swap(self.order, self.page) {
-            return self.read_turned(source, cursor, &mut room.other, out);
-        }
-        cursor.read(source, out)
     }
 
     /// Reads the next bytes into a buffer as they are output, if this needs no whole stored rows.
@@ -151,7 +127,10 @@ impl RowFormat<'_> {
             result }
         ensures moves { OnOk result (Moves cursor.old (length out.old) cursor.new) }
     {
-        self.read_numbers(source, cursor, room, out)?;
+        if needs_swap(self.order, self.page) {
+            return self.read_turned(source, cursor, &mut room.other, out);
+        }
+        cursor.read(source, out)?;
         finish_row(self.page, self.color, out);
         Ok(())
     }
@@ -187,7 +166,6 @@ impl RowFormat<'_> {
     }
 
     /// Reads the next row into a buffer as it is output.
-    #[tactic(auto, using(crate::proofs::RowRead::row_taken, crate::proofs::RowRead::row_cause))]
     #[inline(always)]
     pub(crate) fn read_row<R: Source>(
         &self,
@@ -215,8 +193,6 @@ impl RowFormat<'_> {
             self.read_changed_row(source, cursor, room, out)?;
             return Ok(());
         }
-        cursor.read(source, out)?;
-        finish_row(self.page, self.color, out);
-        Ok(())
+        self.read_finished(source, cursor, room, out)
     }
 }
