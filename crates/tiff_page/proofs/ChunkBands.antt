@@ -563,9 +563,3 @@ rows_put value stride top n rows old new some len is put =
     (λ i p. rows_placed stride top n i some p.0 (omega (arith, p.1, len)))
     (λ i q. let b = rows_bytes stride top n i some q in (b.0, omega (arith, b.1, len)))
     put)
-
-pub more_whole : (stride a b : ℕ) → a ≤ b → b * stride ≡ a * stride + (b - a) * stride
-more_whole stride a b l =
-    let e : b ≡ a + (b - a) = omega (arith, l) in
-    let s : (a + (b - a)) * stride ≡ a * stride + (b - a) * stride = omega arith in
-    ap (λ (m : ℕ). m * stride) e ∙ s

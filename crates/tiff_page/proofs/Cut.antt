@@ -210,9 +210,9 @@ image_early wanting failed file order p limits color type planes stride len e w 
     cause_along e (λ _. tt) (λ f. f)
     (λ t. samples_early file order p limits color (image_part p planes stride) type len e (plane_some p.width p.height p.chunk_width p.chunk_height w h cw ch) some typed t) c
 
-pub chunk_early : (wanting failed : Type 0) (file : List ℕ) (order : ByteOrder) (p : PageRecord) (limits : Limits) (color : ColorType) (type : DecodingSampleType) (i stride len : ℕ) (e : TiffError)
-    → sample_type_of p ≡ Ok type → IsCause wanting failed e (early_fault file p limits color type i len ≡ Err e)
-    → IsCause (Unit {0}) failed e (samples file order p limits color (chunk_part p i 1 stride) len ≡ Err e)
-chunk_early wanting failed file order p limits color type i stride len e typed c =
+pub chunk_early : (wanting failed : Type 0) (file : List ℕ) (order : ByteOrder) (p : PageRecord) (limits : Limits) (color : ColorType) (type : DecodingSampleType) (i planes stride len : ℕ) (e : TiffError)
+    → 0 < planes → sample_type_of p ≡ Ok type → IsCause wanting failed e (early_fault file p limits color type i len ≡ Err e)
+    → IsCause (Unit {0}) failed e (samples file order p limits color (chunk_part p i planes stride) len ≡ Err e)
+chunk_early wanting failed file order p limits color type i planes stride len e some typed c =
     cause_along e (λ _. tt) (λ f. f)
-    (λ t. samples_early file order p limits color (chunk_part p i 1 stride) type len e (omega arith) (omega arith) typed t) c
+    (λ t. samples_early file order p limits color (chunk_part p i planes stride) type len e (omega arith) some typed t) c

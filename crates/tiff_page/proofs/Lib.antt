@@ -1,3 +1,4 @@
+pub mod Sides
 pub mod Sizes
 pub mod PositionLaws
 pub mod Planes

@@ -1,5 +1,5 @@
 -- Which bytes reads of pixels ask a source for.
-use Rattle.std.proofs.Common.{◌≡◌, ℕ, ◌+◌, ◌-◌, ◌*◌, ◌<◌, ◌≤◌, Bool, true, false, List, Ok, Err, refl, ap, sym, subst, arith, ⊎_elim}
+use Rattle.std.proofs.Common.{◌≡◌, ℕ, ◌+◌, ◌-◌, ◌*◌, ◌<◌, ◌≤◌, Bool, true, false, List, Ok, Err, ap, sym, subst, arith, ⊎_elim}
 use Rattle.std.specs.Prelude.{Result, slice_index, if◌then◌else◌}
 use Rattle.std.proofs.lemmas.Bool.{cases_lt}
 use Rattle.std.proofs.Math.Nat.{mul-le-mul_right}
@@ -12,7 +12,7 @@ use Rattle.tiff_base.proofs.Told.{part_readable}
 use Rattle.tiff_page.specs.declared.chunk_data.ChunkCursor.{ChunkCursor}
 use Rattle.tiff_page.specs.declared.chunk_data.ChunkCursor.TheVariants.{Plain, Packed, Ended}
 use Rattle.tiff_page.specs.declared.samples.ReadRequest.{ReadRequest}
-use Rattle.tiff_page.specs.declared.samples.ReadRequest.TheVariants.{Image, Chunk}
+use Rattle.tiff_page.specs.declared.samples.ReadRequest.TheVariants.{Image, Chunks}
 use Rattle.tiff_page.specs.Methods.{is_packed}
 use Rattle.tiff_page.specs.Laws.{HasSides}
 use Rattle.tiff_page.specs.Page.{PageRecord}
@@ -161,24 +161,20 @@ image_asked p color planes stride chunk e s t same l asked r =
 
 -- the first chunk is in the part
 pub first_readable : (file : List ℕ) (order : ByteOrder) (p : PageRecord) (request : ReadRequest) (s : SourceRecord) → HasSides p → IsLaid p request
-    → PartReadable s p (color_in request) (part_of file order p request) → ChunkReadable s p (color_in request) (first_in request)
+    → PartReadable s p (color_in request) (part_of p request) → ChunkReadable s p (color_in request) (first_in request)
 first_readable file order p (Image layout planes) s sides laid r =
     let x : 0 * chunks_of_plane p + (0 + 0) ≡ 0 = omega arith in
-    subst (λ k. ChunkReadable s p layout.color k) x (r.chunk 0 laid.1 0 (plane_some p.width p.height p.chunk_width p.chunk_height sides.wide sides.high sides.chunk_wide sides.chunk_high))
-first_readable file order p (Chunk color i stride) s sides laid r =
+    subst (λ k. ChunkReadable s p layout.color k) x (r.chunk 0 laid.some 0 (plane_some p.width p.height p.chunk_width p.chunk_height sides.wide sides.high sides.chunk_wide sides.chunk_high))
+first_readable file order p (Chunks color i planes stride) s sides laid r =
     let x : 0 * chunks_of_plane p + (i + 0) ≡ i = omega arith in
-    subst (λ k. ChunkReadable s p color k) x (r.chunk 0 (omega arith) 0 (omega arith))
-
-part_same : (file other : List ℕ) (order : ByteOrder) (p : PageRecord) (request : ReadRequest) → part_of file order p request ≡ part_of other order p request
-part_same file other order p (Image layout planes) = refl
-part_same file other order p (Chunk color i stride) = refl
+    subst (λ k. ChunkReadable s p color k) x (r.chunk 0 laid.some 0 (omega arith))
 
 -- a portion is read from a source with the same bytes
 pub portion_filled : (order : ByteOrder) (p : PageRecord) (request : ReadRequest) (e : TiffError) (s t : SourceRecord) → t ≡ s
-    → (PartReadable t p (color_in request) (part_of t.bytes order p request) → IsNotDevice e)
-    → PartReadable s p (color_in request) (part_of s.bytes order p request) → IsNotDevice e
+    → (PartReadable t p (color_in request) (part_of p request) → IsNotDevice e)
+    → PartReadable s p (color_in request) (part_of p request) → IsNotDevice e
 portion_filled order p request e s t same asked r =
-    asked (subst (λ z. PartReadable z p (color_in request) (part_of z.bytes order p request)) (sym same) r)
+    asked (subst (λ z. PartReadable z p (color_in request) (part_of p request)) (sym same) r)
 
 -- ---- what a layout defines
 

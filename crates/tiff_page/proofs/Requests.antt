@@ -18,12 +18,13 @@ use Rattle.tiff_base.proofs.Causes.{cause_along}
 use Rattle.tiff_ifd.specs.declared.limits.Limits.{Limits}
 use Rattle.tiff_page.specs.declared.layout.DecodingSampleType.{DecodingSampleType}
 use Rattle.tiff_page.specs.declared.samples.ReadRequest.{ReadRequest}
-use Rattle.tiff_page.specs.declared.samples.ReadRequest.TheVariants.{Image, Chunk}
+use Rattle.tiff_page.specs.declared.samples.ReadRequest.TheVariants.{Image, Chunks}
 use Rattle.tiff_page.specs.EarlyFaults.{early_fault}
 use Rattle.tiff_page.specs.Laws.{HasSides}
 use Rattle.tiff_page.specs.Layout.{LayoutRecord, row_bytes, sample_type_of, size_of}
 use Rattle.tiff_page.specs.NumberBytes.{bytes_in}
 use Rattle.tiff_page.specs.Page.{PageRecord}
+use Rattle.tiff_page.specs.PageView as view
 use Rattle.tiff_page.specs.PixelCalls.{Part, part_fault, bytes_with_region, fill_buffer, samples}
 use Rattle.tiff_page.specs.PixelFault.{limit_fault}
 use Rattle.tiff_page.specs.Pixels.{Region, tabulate, width_of, numbers_in, byte_at}
@@ -42,13 +43,13 @@ use Rattle.tiff_page.proofs.Rows.{each_same, by_size}
 pub portion_early : (wanting failed : Type 0) (file : List ℕ) (order : ByteOrder) (p : PageRecord) (limits : Limits) (request : ReadRequest) (color : ColorType) (type : DecodingSampleType) (first len : ℕ) (e : TiffError)
     → HasSides p → IsLaid p request → sample_type_of p ≡ Ok type → color ≡ color_in request → first ≡ first_in request
     → IsCause wanting failed e (early_fault file p limits color type first len ≡ Err e)
-    → IsCause (Unit {0}) failed e (samples file order p limits (color_in request) (part_of file order p request) len ≡ Err e)
+    → IsCause (Unit {0}) failed e (samples file order p limits (color_in request) (part_of p request) len ≡ Err e)
 portion_early wanting failed file order p limits (Image layout planes) color type first len e sides laid typed c f h =
-    image_early wanting failed file order p limits layout.color type planes layout.row_bytes len e sides.wide sides.high sides.chunk_wide sides.chunk_high laid.1 typed
+    image_early wanting failed file order p limits layout.color type planes layout.row_bytes len e sides.wide sides.high sides.chunk_wide sides.chunk_high laid.some typed
     (subst (λ (n : ℕ). IsCause wanting failed e (early_fault file p limits layout.color type n len ≡ Err e)) f
     (subst (λ (c : ColorType). IsCause wanting failed e (early_fault file p limits c type first len ≡ Err e)) c h))
-portion_early wanting failed file order p limits (Chunk shade i stride) color type first len e sides laid typed c f h =
-    chunk_early wanting failed file order p limits shade type i stride len e typed
+portion_early wanting failed file order p limits (Chunks shade i planes stride) color type first len e sides laid typed c f h =
+    chunk_early wanting failed file order p limits shade type i planes stride len e laid.some typed
     (subst (λ (n : ℕ). IsCause wanting failed e (early_fault file p limits shade type n len ≡ Err e)) f
     (subst (λ (c : ColorType). IsCause wanting failed e (early_fault file p limits c type first len ≡ Err e)) c h))
 
@@ -79,15 +80,15 @@ module _ (file : List ℕ) (order : ByteOrder) (p : PageRecord) where
       (cases_lt 0 stride)
 
   portion_past : (request : ReadRequest) (i : ℕ) → HasSides p → IsLaid p request → room_of p request ≤ i
-      → byte_at file order p (color_in request) (part_of file order p request).region (part_of file order p request).stride (part_of file order p request).planes i ≡ None
+      → byte_at file order p (color_in request) (part_of p request).region (part_of p request).stride (part_of p request).planes i ≡ None
   portion_past (Image layout planes) i sides laid behind =
-      let l : LayoutRecord = record { color = layout.color; row_bytes = layout.row_bytes; plane_stride = layout.plane_stride } in
-      let g = layout_gives p p.width p.height l laid.0 in
+      let l : LayoutRecord = view.layout layout in
+      let g = layout_gives p p.width p.height l laid.laid in
       let plane : layout.plane_stride ≡ layout.row_bytes * p.height = g.0.1 ∙ ap (λ m. m * p.height) (sym g.0.0) in
       let fits : row_bytes p layout.color p.width ≤ layout.row_bytes = omega (arith, g.0.0) in
-      past layout.color (part_of file order p (Image layout planes)).region layout.row_bytes planes i fits sides.high (subst (λ (m : ℕ). planes * m ≤ i) plane behind)
-  portion_past (Chunk color k stride) i sides laid behind =
-      past color (part_of file order p (Chunk color k stride)).region stride 1 i laid.1 (chunks_within p k sides).some_row (omega (arith, behind, mul_comm (rect p k).height stride))
+      past layout.color (part_of p (Image layout planes)).region layout.row_bytes planes i fits sides.high (subst (λ (m : ℕ). planes * m ≤ i) plane behind)
+  portion_past (Chunks color k planes stride) i sides laid behind =
+      past color (part_of p (Chunks color k planes stride)).region stride planes i laid.columns (chunks_within p k sides).some_row (subst (λ (m : ℕ). planes * m ≤ i) (mul_comm (rect p k).height stride) behind)
 
 -- ---- lists of zeros that are longer
 
@@ -131,7 +132,7 @@ filled_up size f n z none =
 
 module _ (file : List ℕ) (order : ByteOrder) (p : PageRecord) (limits : Limits) (request : ReadRequest) (sides : HasSides p) (laid : IsLaid p request) where
   abbrev part : Part
-  part = part_of file order p request
+  part = part_of p request
 
   abbrev in_place : ℕ → ℕ
   in_place i = unwrap_or (byte_at file order p (color_in request) part.region part.stride part.planes i) 0

@@ -1,13 +1,18 @@
 -- Some rows of a chunk, and the rows of an image that the chunks side by side have.
-use Rattle.std.specs.Prelude.{◌≡◌, ℕ, ◌+◌, ◌-◌, ◌*◌, ◌%◌, ◌^◌, ◌<◌, ◌≤◌, Bool, List, length, nat_lt, slice_index, Ok}
+use Rattle.std.specs.Prelude.{◌≡◌, ℕ, ◌+◌, ◌-◌, ◌*◌, ◌%◌, ◌^◌, ◌<◌, ◌≤◌, Bool, List, length, nat_lt, slice_index, Result, Ok}
 use Rattle.tiff_base.specs.declared.color.ColorType.{ColorType}
+use Rattle.tiff_base.specs.declared.error.TiffError.{TiffError}
+use Rattle.tiff_base.specs.declared.error.TiffError.TheVariants.{IoError}
+use Rattle.tiff_base.specs.declared.io.IoKind.TheVariants.{UnexpectedEof}
 use Rattle.tiff_base.specs.declared.tags.ByteOrder.{ByteOrder}
 use Rattle.tiff_ifd.specs.declared.limits.Limits.{Limits}
+use Rattle.tiff_page.specs.declared.layout.PlaneLayout.{PlaneLayout}
 use Rattle.tiff_page.specs.Page.{PageRecord}
-use Rattle.tiff_page.specs.PixelFault.{form_fault}
-use Rattle.tiff_page.specs.Rect.{rect, across}
-use Rattle.tiff_page.specs.Layout.{row_bytes}
-use Rattle.tiff_page.specs.Pixels.{chunk_data, stored_row_bytes, needed_of_row}
+use Rattle.tiff_page.specs.PageView as view
+use Rattle.tiff_page.specs.PixelFault.{each_below, fail_if, form_fault}
+use Rattle.tiff_page.specs.Rect.{rect, across, chunks_of_plane}
+use Rattle.tiff_page.specs.Layout.{layout_of, row_bytes}
+use Rattle.tiff_page.specs.Pixels.{chunk_data, is_short, stored_row_bytes, needed_of_row}
 use Rattle.tiff_page.specs.BufferPositions.{Writes, IsIn, in_rect, chunk_byte, image_byte, filled_to}
 
 -- the data of a chunk are too few for its first n rows
@@ -53,6 +58,22 @@ GrowsByRows file order p color stride from to end old new =
     (total : ℕ) → end ≤ total
     → WritesImageRows file order p color stride from to (filled_to total old) (filled_to total new)
 
+-- the first error of the chunks side by side that begin with one, of too few data for the rows below
+-- row `to` of each, or for all rows
+abbrev pub rows_fault : List ℕ → ByteOrder → PageRecord → ColorType → ℕ → ℕ
+    → Result (Unit {0}) TiffError
+rows_fault file order p color first to =
+    each_below
+    (λ column. fail_if (rows_short file order p color (first + column) to) (IoError UnexpectedEof))
+    (across p)
+
+abbrev pub tiles_fault : List ℕ → ByteOrder → PageRecord → ColorType → ℕ
+    → Result (Unit {0}) TiffError
+tiles_fault file order p color first =
+    each_below
+    (λ column. fail_if (is_short file order p color (first + column)) (IoError UnexpectedEof))
+    (across p)
+
 -- The chunks side by side in an image that begin with one are read some rows of each at a time:
 -- it is the first of them, one plane is read, they all pass the checks of their form, and a place
 -- in a chunk's data is a number below 2^64.
@@ -62,3 +83,13 @@ pub record AreBanded (p : PageRecord) (limits : Limits) (color : ColorType) (pla
   pub leftmost : first % across p ≡ 0
   pub formed : (column : ℕ) → column < across p → form_fault p limits color (first + column) ≡ Ok tt
   pub few : stored_row_bytes p * p.chunk_height < 2 ^ 64
+
+-- The rows from `from` on, below row `to`, of the chunks side by side that begin with one of the
+-- first plane, which are read some rows of each at a time.
+pub record AreTileRows (p : PageRecord) (limits : Limits) (layout : PlaneLayout) (first from to : ℕ)
+    : Type 0 where
+  pub laid : layout_of p p.width p.height ≡ Ok (view.layout layout)
+  pub banded : AreBanded p limits layout.color 1 first
+  pub chunk : first < chunks_of_plane p
+  pub some_rows : from < to
+  pub within : to ≤ (rect p first).height

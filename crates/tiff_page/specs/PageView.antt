@@ -1,6 +1,8 @@
--- A page as its record.
+-- A page and the layout of its planes as their records.
+use Rattle.tiff_page.specs.declared.layout.PlaneLayout.{PlaneLayout}
 use Rattle.tiff_page.specs.declared.page.Page.{Page}
 use Rattle.tiff_page.specs.declared.page.ChunkTable.{ChunkTable}
+use Rattle.tiff_page.specs.Layout.{LayoutRecord}
 use Rattle.tiff_page.specs.Page.{PageRecord, Chunks}
 
 abbrev pub page : Page → PageRecord
@@ -31,3 +33,6 @@ chunks c =
       offsets = c.offsets;
       byte_counts = c.byte_counts;
     }
+
+abbrev pub layout : PlaneLayout → LayoutRecord
+layout l = record { color = l.color; row_bytes = l.row_bytes; plane_stride = l.plane_stride }

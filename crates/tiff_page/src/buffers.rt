@@ -45,8 +45,7 @@ pub fn planes_layout(page: &Page, alloc: Global, width: u32, height: u32) -> Tif
 // Returns the layout of a buffer for all planes of a plane layout.
 pub(crate) fn all_planes(page: &Page, layout: PlaneLayout) -> BufferLayoutPreference
     requires { layout.plane_stride * layouts.planes page.now.planar layout.color < 2 ^ 64 }
-    ensures { result ≡ spec.all_planes (view.page page.now) (record
-        { color = layout.color; row_bytes = layout.row_bytes; plane_stride = layout.plane_stride }) }
+    ensures { result ≡ spec.all_planes (view.page page.now) (view.layout layout) }
 {
     let planes = usize::from(planes(page, layout.color));
     BufferLayoutPreference {

@@ -1,6 +1,6 @@
 //! Errors that the decoder finds before it allocates memory for samples.
 
-ghost use Rattle.std.specs.Prelude.{◌≡◌, ◌+◌, ◌-◌, ◌*◌, ◌<◌, ◌≤◌, ◌^◌, length, min, nat_lt};
+ghost use Rattle.std.specs.Prelude.{◌≡◌, ◌+◌, ◌-◌, ◌*◌, ◌<◌, ◌^◌, length, min, nat_lt};
 ghost use Rattle.std.specs.Int.{div_ceil};
 ghost use Rattle.tiff_base.specs.Answers.{AnswersWithoutMemory, AsksOnly, IsKept};
 ghost use Rattle.tiff_base.specs.SourceAndSink.{AreReadable};
@@ -87,31 +87,10 @@ fn reach_packed<R: Source>(source: &mut R, at: u64, count: u64, needed: u128) ->
     reach(source, at, least)
 }
 
-// Returns `IoError(UnexpectedEof)` if the source has fewer bytes of a chunk than the data of the
-// chunk take at least. Reads at most one byte.
-fn cut_fault<R: Source>(source: &mut R, page: &Page, color: ColorType, index: u32) -> TiffResult<()>
-    requires listed { index < length page.now.offsets }
-    ensures kept { IsKept R.told R.failures result source.old source.new }
-    ensures answer { AnswersWithoutMemory (λ _. tt) result (fail_if
-        (spec.is_cut (R.told source.old).bytes (view.page page.now) color index)
-        (tiff.IoError io.UnexpectedEof))
-        (R.failures source.old) (R.failures source.new) }
-    ensures asked { AsksOnly (ChunkReadable (R.told source.old) (view.page page.now) color index) result }
-{
-    let chunk = index as usize;
-    let at = page.offsets.as_slice()[chunk];
-    let count = page.byte_counts.as_slice()[chunk];
-    let needed = needed_bytes(page, color, index);
-    if is_packed(page.method) {
-        return reach_packed(source, at, count, needed);
-    }
-    reach(source, at, needed)
-}
-
 impl PageReader<'_> {
     /// Returns the first error of a chunk, as far as it is found before memory is allocated for its
     /// samples: an error of `form_fault`, or `IoError(UnexpectedEof)` if the source has too few
-    /// bytes for the chunk's data. Reads at most one byte.
+    /// bytes for what the chunk's data take at least. Reads at most one byte.
     pub(crate) fn early_fault<R: Source>(
         &self,
         source: &mut R,
@@ -127,7 +106,14 @@ impl PageReader<'_> {
         ensures asked { AsksOnly (ChunkReadable (R.told source.old) (view.page self.now.page.now) color index)
             result }
     {
-        form_fault(self.page, self.limits, color, index as usize)?;
-        cut_fault(source, self.page, color, index)
+        let page = self.page;
+        let chunk = index as usize;
+        form_fault(page, self.limits, color, chunk)?;
+        let at = page.offsets.as_slice()[chunk];
+        let needed = needed_bytes(page, color, index);
+        if is_packed(page.method) {
+            return reach_packed(source, at, page.byte_counts.as_slice()[chunk], needed);
+        }
+        reach(source, at, needed)
     }
 }

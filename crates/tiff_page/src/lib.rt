@@ -18,7 +18,6 @@ pub mod page_reader;
 pub mod pixels;
 pub mod position;
 pub mod predictors;
-mod read_chunks;
 pub mod read_page;
 pub mod row_reader;
 pub mod row_sink;

@@ -11,19 +11,18 @@
 //! data it may ask for all bytes that the byte count of the chunk includes.
 
 ghost use Rattle.std.specs.Int.{div_ceil};
-ghost use Rattle.std.specs.Prelude.{◌≡◌, ℕ, ◌*◌, ◌<◌, ◌≤◌, ◌^◌, ◌⊎◌, Ok, IfOk, [], length, map, replicate, if◌then◌else◌, nat_le};
+ghost use Rattle.std.specs.Prelude.{◌≡◌, ℕ, ◌*◌, ◌<◌, ◌≤◌, ◌^◌, Ok, IfOk, [], length, map, replicate, if◌then◌else◌, nat_le};
 ghost use Rattle.tiff_base.specs.Answers.{Answers, AnswersWithoutSource, AsksOnly, Gives, IsKept};
 ghost use Rattle.tiff_base.specs.Sparing.{AnswersSparingly, IsListFault};
 ghost use Rattle.tiff_page.specs.Buffers as buffers;
-ghost use Rattle.tiff_page.specs.EarlyFaults.{WantsAfter, WantsWhere, chunk_bytes_early, chunk_early, early_fault, image_bytes_early, image_early, planes_early, samples_early, strided_early, unit_bytes_early};
+ghost use Rattle.tiff_page.specs.EarlyFaults.{WantsAfter, WantsWhere, chunk_bytes_early, chunk_early, image_bytes_early, image_early, planes_early, samples_early, strided_early, unit_bytes_early};
 ghost use Rattle.tiff_page.specs.BufferPositions.{filled_to};
 ghost use Rattle.tiff_page.specs.PixelCalls.{image_of};
 ghost use Rattle.tiff_page.specs.Layout as layouts;
 ghost use Rattle.tiff_page.specs.PixelCalls as calls;
-ghost use Rattle.tiff_page.specs.PixelCalls.{fill_buffer};
-ghost use Rattle.tiff_page.specs.Reach.{ChunkReadable, ChunksReadable, ImageReadable, PartReadable};
+ghost use Rattle.tiff_page.specs.Reach.{ChunkReadable, ChunksReadable, ImageReadable};
 ghost use Rattle.tiff_page.specs.Rect as rects;
-ghost use Rattle.tiff_page.specs.Samples.{samples_as, color_in, first_in, part_of, IsLaid, room_of};
+ghost use Rattle.tiff_page.specs.Samples.{samples_as, color_in, first_in, IsLaid, room_of, request_early, request_bytes, request_samples, RequestReadable};
 ghost use Rattle.tiff_page.specs.PageView as view;
 ghost use Rattle.tiff_page.specs.declared.layout.DecodingSampleType.TheVariants as type;
 
@@ -77,12 +76,7 @@ fn planes_used(page: &Page, layout: PlaneLayout, len: usize) -> u16
     requires plane { 0 < layout.plane_stride }
     requires some { 0 < layouts.planes page.now.planar layout.color }
     requires room { layout.plane_stride ≤ len }
-    ensures value { result ≡ calls.planes_used (view.page page.now)
-        (record {
-          color = layout.color;
-          row_bytes = layout.row_bytes;
-          plane_stride = layout.plane_stride;
-        }) len }
+    ensures value { result ≡ calls.planes_used (view.page page.now) (view.layout layout) len }
     ensures some { 0 < result }
     ensures room { result * layout.plane_stride ≤ len }
 {
@@ -93,11 +87,8 @@ fn planes_used(page: &Page, layout: PlaneLayout, len: usize) -> u16
 // Returns the layout of a chunk as a part of its page.
 #[tactic(auto, using(crate::proofs::PixelSteps::colored, crate::proofs::PixelSteps::columns, crate::proofs::PixelSteps::stride))]
 fn chunk_layout(page: &Page, alloc: Global, index: u32) -> TiffResult<PlaneLayout>
-    ensures answer { AnswersWithoutSource (λ l. record {
-      color = l.color;
-      row_bytes = l.row_bytes;
-      plane_stride = l.plane_stride;
-    }) result (buffers.planes_layout (view.page page.now) (rects.rect (view.page page.now) index).width
+    ensures answer { AnswersWithoutSource view.layout result
+        (buffers.planes_layout (view.page page.now) (rects.rect (view.page page.now) index).width
         (rects.rect (view.page page.now) index).height) }
     ensures memory { WantsWhere (IsListFault (layouts.color_of (view.page page.now))) result }
     ensures colored { IfOk result (λ l. layouts.color_of (view.page page.now) ≡ Ok l.color) }
@@ -127,12 +118,7 @@ fn rows_len(page: &Page, index: u32, stride: usize) -> usize
 fn planes_within(page: &Page, limits: &Limits, layout: PlaneLayout) -> u16
     requires some { 0 < layouts.planes page.now.planar layout.color }
     requires fits { layout.plane_stride * layouts.planes page.now.planar layout.color < 2 ^ 64 }
-    ensures value { result ≡ calls.planes_within (view.page page.now) limits.now
-        (record {
-          color = layout.color;
-          row_bytes = layout.row_bytes;
-          plane_stride = layout.plane_stride;
-        }) }
+    ensures value { result ≡ calls.planes_within (view.page page.now) limits.now (view.layout layout) }
     ensures some { 0 < result }
     ensures fits { layout.plane_stride * result < 2 ^ 64 }
 {
@@ -150,7 +136,7 @@ impl ReadRequest {
     {
         match self {
             ReadRequest::Image(layout, _) => layout.color,
-            ReadRequest::Chunk(color, _, _) => color,
+            ReadRequest::Chunks(color, _, _, _) => color,
         }
     }
 
@@ -160,7 +146,7 @@ impl ReadRequest {
     {
         match self {
             ReadRequest::Image(_, _) => 0,
-            ReadRequest::Chunk(_, index, _) => index,
+            ReadRequest::Chunks(_, index, _, _) => index,
         }
     }
 }
@@ -179,12 +165,10 @@ impl PageReader<'_> {
         requires { 0 < N }
         ensures kept { IsKept R.told R.failures result source.old source.new }
         ensures answer { AnswersSparingly (λ _. tt) result
-            (early_fault (R.told source.old).bytes (view.page self.now.page.now)
-            self.now.limits.now (color_in request) sample_type (first_in request) len) (R.failures source.old)
-            (R.failures source.new) }
-        ensures asked { AsksOnly
-            (ChunkReadable (R.told source.old) (view.page self.now.page.now) (color_in request)
-            (first_in request)) result }
+            (request_early (R.told source.old).bytes self.now request sample_type len)
+            (R.failures source.old) (R.failures source.new) }
+        ensures asked { AsksOnly (ChunkReadable (R.told source.old) (view.page self.now.page.now)
+            (color_in request) (first_in request)) result }
         ensures none { IfOk result (λ v. v.items ≡ []) }
     {
         limit_fault(self.limits, size_of(sample_type), len)?;
@@ -205,26 +189,21 @@ impl PageReader<'_> {
         requires few { room_of (view.page self.now.page.now) request < 2 ^ 64 }
         ensures later { W.goes_on sink.old sink.new }
         ensures kept { IsKept R.told R.failures result source.old source.new }
-        ensures answer { (total : ℕ) → W.whole (room_of (view.page self.now.page.now) request)
-            ≤ total → Answers (λ _. filled_to total (W.bytes sink.new)) result
-            (fill_buffer (R.told source.old).bytes self.now.order
-            (view.page self.now.page.now) self.now.limits.now (color_in request)
-            (part_of (R.told source.old).bytes self.now.order (view.page self.now.page.now) request)
-            (filled_to total (W.bytes sink.old))) (R.failures source.old) (R.failures source.new) }
-        ensures asked { AsksOnly
-            (PartReadable (R.told source.old) (view.page self.now.page.now) (color_in request)
-            (part_of (R.told source.old).bytes self.now.order
-            (view.page self.now.page.now) request)) result }
+        ensures answer { (total : ℕ) → W.whole (room_of (view.page self.now.page.now) request) ≤ total
+            → Answers (λ _. filled_to total (W.bytes sink.new)) result
+            (request_bytes (R.told source.old).bytes self.now request (filled_to total (W.bytes sink.old)))
+            (R.failures source.old) (R.failures source.new) }
+        ensures asked { AsksOnly (RequestReadable (R.told source.old) self.now request) result }
     {
         match request {
             ReadRequest::Image(layout, planes) => {
                 self.image(source, ImagePlanes { layout, planes }, sink)
             }
-            ReadRequest::Chunk(color, index, stride) => {
+            ReadRequest::Chunks(color, index, planes, stride) => {
                 let unit = UnitRequest {
                     color,
                     index,
-                    planes: 1,
+                    planes,
                     stride,
                 };
                 self.unit(source, unit, sink)
@@ -247,83 +226,33 @@ impl PageReader<'_> {
         requires none { W.bytes sink.old ≡ [] }
         ensures kept { IsKept R.told R.failures result source.old source.new }
         ensures answer { Answers (λ _. W.bytes sink.new) result
-            (fill_buffer (R.told source.old).bytes self.now.order
-            (view.page self.now.page.now) self.now.limits.now (color_in request)
-            (part_of (R.told source.old).bytes self.now.order (view.page self.now.page.now) request)
-            (replicate (W.whole len) 0))
+            (request_bytes (R.told source.old).bytes self.now request (replicate (W.whole len) 0))
             (R.failures source.old) (R.failures source.new) }
-        ensures asked { AsksOnly
-            (PartReadable (R.told source.old) (view.page self.now.page.now) (color_in request)
-            (part_of (R.told source.old).bytes self.now.order
-            (view.page self.now.page.now) request)) result }
+        ensures asked { AsksOnly (RequestReadable (R.told source.old) self.now request) result }
     {
         self.requested(source, request, sink)?;
         sink.zeros_to(len)?;
         Ok(())
     }
 
-    // Reads an image into a slice.
-    fn image_into<R: Source>(
+    // Reads an image or chunks into a slice.
+    fn request_into<R: Source>(
         &self,
         source: &mut R,
-        part: ImagePlanes,
+        request: ReadRequest,
         buf: &mut [u8],
     ) -> TiffResult<()>
-        requires laid { layouts.layout_of (view.page self.now.page.now) self.now.page.now.width
-            self.now.page.now.height ≡ Ok
-            (record {
-              color = part.layout.color;
-              row_bytes = part.layout.row_bytes;
-              plane_stride = part.layout.plane_stride;
-            }) }
-        requires some { 0 < part.planes }
-        requires room { part.planes * part.layout.plane_stride ≤ length buf.old }
+        requires laid { IsLaid (view.page self.now.page.now) request }
+        requires room { room_of (view.page self.now.page.now) request ≤ length buf.old }
         ensures kept { IsKept R.told R.failures result source.old source.new }
         ensures answer { Answers (λ _. buf.new) result
-            (fill_buffer (R.told source.old).bytes self.now.order
-            (view.page self.now.page.now) self.now.limits.now part.layout.color
-            (calls.image_part (view.page self.now.page.now) part.planes part.layout.row_bytes)
-            buf.old) (R.failures source.old) (R.failures source.new) }
-        ensures asked { AsksOnly
-            (PartReadable (R.told source.old) (view.page self.now.page.now) part.layout.color
-            (calls.image_part (view.page self.now.page.now)
-            part.planes part.layout.row_bytes)) result }
+            (request_bytes (R.told source.old).bytes self.now request buf.old)
+            (R.failures source.old) (R.failures source.new) }
+        ensures asked { AsksOnly (RequestReadable (R.told source.old) self.now request) result }
     {
         let mut scratch = RowScratch::new(self.alloc);
         let mut sink = ByteSlice::new(buf, &mut scratch);
-        self.image(source, part, &mut sink)
-    }
-
-    // Reads a chunk, or the chunk of each plane of a coding unit, into a slice.
-    fn unit_into<R: Source>(
-        &self,
-        source: &mut R,
-        unit: UnitRequest,
-        buf: &mut [u8],
-    ) -> TiffResult<()>
-        requires colored { layouts.color_of (view.page self.now.page.now) ≡ Ok unit.color }
-        requires columns { layouts.row_bytes (view.page self.now.page.now) unit.color
-            (rects.rect (view.page self.now.page.now) unit.index).width ≤ unit.stride }
-        requires some { 0 < unit.planes }
-        requires room { unit.planes
-            * ((rects.rect (view.page self.now.page.now) unit.index).height * unit.stride)
-            ≤ length buf.old }
-        requires which { (unit.planes ≡ 1)
-            ⊎ (unit.index < rects.chunks_of_plane (view.page self.now.page.now)) }
-        ensures kept { IsKept R.told R.failures result source.old source.new }
-        ensures answer { Answers (λ _. buf.new) result
-            (fill_buffer (R.told source.old).bytes self.now.order
-            (view.page self.now.page.now) self.now.limits.now unit.color
-            (calls.chunk_part (view.page self.now.page.now) unit.index unit.planes unit.stride)
-            buf.old) (R.failures source.old) (R.failures source.new) }
-        ensures asked { AsksOnly
-            (PartReadable (R.told source.old) (view.page self.now.page.now) unit.color
-            (calls.chunk_part (view.page self.now.page.now)
-            unit.index unit.planes unit.stride)) result }
-    {
-        let mut scratch = RowScratch::new(self.alloc);
-        let mut sink = ByteSlice::new(buf, &mut scratch);
-        self.unit(source, unit, &mut sink)
+        self.requested(source, request, &mut sink)
     }
 
     // Returns the bytes of an image or a chunk whose samples are bytes.
@@ -338,19 +267,11 @@ impl PageReader<'_> {
         requires typed { layouts.sample_type_of (view.page self.now.page.now) ≡ Ok type.U8 }
         ensures kept { IsKept R.told R.failures result source.old source.new }
         ensures memory { WantsAfter
-            (early_fault (R.told source.old).bytes (view.page self.now.page.now) self.now.limits.now
-            (color_in request) type.U8 (first_in request) len) result }
+            (request_early (R.told source.old).bytes self.now request type.U8 len) result }
         ensures answer { Answers (λ v. record { sample_type = type.U8; numbers = v.items }) result
-            (calls.samples (R.told source.old).bytes self.now.order (view.page self.now.page.now)
-            self.now.limits.now
-            (color_in request)
-            (part_of (R.told source.old).bytes self.now.order (view.page self.now.page.now)
-            request) len)
+            (request_samples (R.told source.old).bytes self.now request len)
             (R.failures source.old) (R.failures source.new) }
-        ensures asked { AsksOnly
-            (PartReadable (R.told source.old) (view.page self.now.page.now) (color_in request)
-            (part_of (R.told source.old).bytes self.now.order
-            (view.page self.now.page.now) request)) result }
+        ensures asked { AsksOnly (RequestReadable (R.told source.old) self.now request) result }
     {
         let bytes = self.allocate_output(source, request, DecodingSampleType::U8, len)?;
         let mut sink = ByteList::new(self.alloc, bytes);
@@ -360,7 +281,7 @@ impl PageReader<'_> {
 
     // Returns the numbers of an image or a chunk whose samples have a number type of `N` bytes.
     #[tactic(auto, using(crate::proofs::Requests::portion_early, crate::proofs::Requests::numbers_given, crate::proofs::Requests::filling_cause))]
-    fn read_typed<R: Source, T: Number<N>, const N: usize>(
+    fn read_as<R: Source, T: Number<N>, const N: usize>(
         &self,
         source: &mut R,
         request: ReadRequest,
@@ -374,20 +295,12 @@ impl PageReader<'_> {
         requires size { layouts.size_of sample_type ≡ N }
         ensures kept { IsKept R.told R.failures result source.old source.new }
         ensures memory { WantsAfter
-            (early_fault (R.told source.old).bytes (view.page self.now.page.now) self.now.limits.now
-            (color_in request) sample_type (first_in request) len) result }
+            (request_early (R.told source.old).bytes self.now request sample_type len) result }
         ensures answer { Answers (λ v. record { sample_type = sample_type; numbers = map T.bits v.items })
             result
-            (calls.samples (R.told source.old).bytes self.now.order (view.page self.now.page.now)
-            self.now.limits.now
-            (color_in request)
-            (part_of (R.told source.old).bytes self.now.order (view.page self.now.page.now)
-            request) len)
+            (request_samples (R.told source.old).bytes self.now request len)
             (R.failures source.old) (R.failures source.new) }
-        ensures asked { AsksOnly
-            (PartReadable (R.told source.old) (view.page self.now.page.now) (color_in request)
-            (part_of (R.told source.old).bytes self.now.order
-            (view.page self.now.page.now) request)) result }
+        ensures asked { AsksOnly (RequestReadable (R.told source.old) self.now request) result }
     {
         let numbers = self.allocate_output(source, request, sample_type, len)?;
         let mut sink = NumberList::<T, N>::new(self.alloc, numbers);
@@ -408,56 +321,29 @@ impl PageReader<'_> {
         ensures kept { IsKept R.told R.failures result source.old source.new }
         ensures memory { WantsAfter
             (samples_early (R.told source.old).bytes (view.page self.now.page.now)
-            self.now.limits.now
-            (color_in request) (first_in request) len) result }
-        ensures answer { Answers samples_as result (calls.samples (R.told source.old).bytes self.now.order
-            (view.page self.now.page.now) self.now.limits.now (color_in request)
-            (part_of (R.told source.old).bytes self.now.order (view.page self.now.page.now) request)
-            len) (R.failures source.old)
+            self.now.limits.now (color_in request) (first_in request) len) result }
+        ensures answer { Answers samples_as result (request_samples (R.told source.old).bytes self.now request len) (R.failures source.old)
             (R.failures source.new) }
-        ensures asked { AsksOnly
-            (PartReadable (R.told source.old) (view.page self.now.page.now) (color_in request)
-            (part_of (R.told source.old).bytes self.now.order
-            (view.page self.now.page.now) request)) result }
+        ensures asked { AsksOnly (RequestReadable (R.told source.old) self.now request) result }
     {
-        let sample_type = sample_type_of(self.page, self.alloc)?;
-        match sample_type {
+        let kind = sample_type_of(self.page, self.alloc)?;
+        match kind {
             DecodingSampleType::U8 => self.read_bytes(source, request, len).map(Samples::U8),
-            DecodingSampleType::U16 => self
-                .read_typed(source, request, sample_type, len)
-                .map(Samples::U16),
-            DecodingSampleType::U32 => self
-                .read_typed(source, request, sample_type, len)
-                .map(Samples::U32),
-            DecodingSampleType::U64 => self
-                .read_typed(source, request, sample_type, len)
-                .map(Samples::U64),
-            DecodingSampleType::F16 => self
-                .read_typed(source, request, sample_type, len)
-                .map(Samples::F16),
-            DecodingSampleType::F32 => self
-                .read_typed(source, request, sample_type, len)
-                .map(Samples::F32),
-            DecodingSampleType::F64 => self
-                .read_typed(source, request, sample_type, len)
-                .map(Samples::F64),
-            DecodingSampleType::I8 => self
-                .read_typed(source, request, sample_type, len)
-                .map(Samples::I8),
-            DecodingSampleType::I16 => self
-                .read_typed(source, request, sample_type, len)
-                .map(Samples::I16),
-            DecodingSampleType::I32 => self
-                .read_typed(source, request, sample_type, len)
-                .map(Samples::I32),
-            DecodingSampleType::I64 => self
-                .read_typed(source, request, sample_type, len)
-                .map(Samples::I64),
+            DecodingSampleType::U16 => self.read_as(source, request, kind, len).map(Samples::U16),
+            DecodingSampleType::U32 => self.read_as(source, request, kind, len).map(Samples::U32),
+            DecodingSampleType::U64 => self.read_as(source, request, kind, len).map(Samples::U64),
+            DecodingSampleType::F16 => self.read_as(source, request, kind, len).map(Samples::F16),
+            DecodingSampleType::F32 => self.read_as(source, request, kind, len).map(Samples::F32),
+            DecodingSampleType::F64 => self.read_as(source, request, kind, len).map(Samples::F64),
+            DecodingSampleType::I8 => self.read_as(source, request, kind, len).map(Samples::I8),
+            DecodingSampleType::I16 => self.read_as(source, request, kind, len).map(Samples::I16),
+            DecodingSampleType::I32 => self.read_as(source, request, kind, len).map(Samples::I32),
+            DecodingSampleType::I64 => self.read_as(source, request, kind, len).map(Samples::I64),
         }
     }
 
     /// Returns the samples of an image, row by row; of a planar image, those of its first plane.
-    #[tactic(auto, using(crate::proofs::Planes::image_is_first_plane))]
+    #[tactic(auto, using(crate::proofs::Planes::image_is_first_plane, crate::proofs::Wants::layout_wanted))]
     pub fn read_image<R: Source>(&self, source: &mut R) -> TiffResult<Samples>
         ensures kept { IsKept R.told R.failures result source.old source.new }
         ensures memory { WantsAfter
@@ -478,7 +364,7 @@ impl PageReader<'_> {
 
     /// Returns the samples of all planes of an image, with the layout of all planes. If all planes
     /// aren't within `decoding_buffer_size`, returns the samples of the first plane only.
-    #[tactic(auto, unfolding(crate::specs::PixelCalls::read_image_to_buffer))]
+    #[tactic(auto, using(crate::proofs::Wants::layout_wanted), unfolding(crate::specs::PixelCalls::read_image_to_buffer))]
     pub fn read_image_to_buffer<R: Source>(
         &self,
         source: &mut R,
@@ -509,7 +395,7 @@ impl PageReader<'_> {
     /// Reads an image into a slice: as many whole planes as the slice holds, one after another. The
     /// bytes after them stay unchanged. Returns `InsufficientOutputBufferSize` if the slice has
     /// fewer bytes than a plane.
-    #[tactic(auto, using(crate::proofs::Wants::may_want), unfolding(crate::specs::PixelCalls::read_image_bytes))]
+    #[tactic(auto, using(crate::proofs::Wants::may_want, crate::proofs::Wants::layout_wanted), unfolding(crate::specs::PixelCalls::read_image_bytes))]
     pub fn read_image_bytes<R: Source>(&self, source: &mut R, buf: &mut [u8]) -> TiffResult<()>
         ensures kept { IsKept R.told R.failures result source.old source.new }
         ensures memory { WantsAfter
@@ -528,13 +414,12 @@ impl PageReader<'_> {
         room_fault(buf.len(), layout.plane_stride)?;
         let planes = planes_used(page, layout, buf.len());
         form_fault(page, self.limits, layout.color, 0)?;
-        let part = ImagePlanes { layout, planes };
-        self.image_into(source, part, buf)
+        self.request_into(source, ReadRequest::Image(layout, planes), buf)
     }
 
     /// Returns the samples of a chunk, in rows of its own width in the image. Returns
     /// `InconsistentSizesEncountered` if the index is past the list of chunks.
-    #[tactic(auto, unfolding(crate::specs::PixelCalls::read_chunk))]
+    #[tactic(auto, using(crate::proofs::Wants::layout_wanted), unfolding(crate::specs::PixelCalls::read_chunk))]
     pub fn read_chunk<R: Source>(&self, source: &mut R, index: u32) -> TiffResult<Samples>
         ensures kept { IsKept R.told R.failures result source.old source.new }
         ensures memory { WantsAfter
@@ -549,14 +434,14 @@ impl PageReader<'_> {
             result }
     {
         let layout = chunk_layout(self.page, self.alloc, index)?;
-        let request = ReadRequest::Chunk(layout.color, index, layout.row_bytes);
+        let request = ReadRequest::Chunks(layout.color, index, 1, layout.row_bytes);
         self.read_samples(source, request, layout.plane_stride)
     }
 
     /// Reads a chunk into a slice, in rows of its own width in the image. The bytes after the chunk
     /// stay unchanged. Returns `InsufficientOutputBufferSize` if the slice has fewer bytes than the
     /// chunk, and `InconsistentSizesEncountered` if the index is past the list of chunks.
-    #[tactic(auto, using(crate::proofs::Wants::may_want), unfolding(crate::specs::PixelCalls::read_chunk_bytes))]
+    #[tactic(auto, using(crate::proofs::Wants::may_want, crate::proofs::Wants::layout_wanted), unfolding(crate::specs::PixelCalls::read_chunk_bytes))]
     pub fn read_chunk_bytes<R: Source>(
         &self,
         source: &mut R,
@@ -578,20 +463,15 @@ impl PageReader<'_> {
         let layout = chunk_layout(self.page, self.alloc, index)?;
         room_fault(buf.len(), layout.plane_stride)?;
         form_fault(self.page, self.limits, layout.color, index as usize)?;
-        let unit = UnitRequest {
-            color: layout.color,
-            index,
-            planes: 1,
-            stride: layout.row_bytes,
-        };
-        self.unit_into(source, unit, buf)
+        let request = ReadRequest::Chunks(layout.color, index, 1, layout.row_bytes);
+        self.request_into(source, request, buf)
     }
 
     /// Returns the samples of a chunk, with its rows `stride` bytes apart and zeros between them.
     /// Returns `InsufficientOutputRowStride` if the stride is below the number of bytes of a row;
     /// `LimitsExceeded` if the stored height of a chunk in such rows has 2^64 bytes or more;
     /// `InconsistentSizesEncountered` if the index is past the list of chunks.
-    #[tactic(auto, unfolding(crate::specs::PixelCalls::read_chunk_to_buffer))]
+    #[tactic(auto, using(crate::proofs::Wants::layout_wanted), unfolding(crate::specs::PixelCalls::read_chunk_to_buffer))]
     pub fn read_chunk_to_buffer<R: Source>(
         &self,
         source: &mut R,
@@ -615,7 +495,7 @@ impl PageReader<'_> {
         stride_fault(stride, layout.row_bytes)?;
         checked_byte_count(stride, page.chunk_height as usize)?;
         let len = rows_len(page, index, stride);
-        let request = ReadRequest::Chunk(layout.color, index, stride);
+        let request = ReadRequest::Chunks(layout.color, index, 1, stride);
         self.read_samples(source, request, len)
     }
 
@@ -623,7 +503,7 @@ impl PageReader<'_> {
     /// slice holds, one after another. The bytes after them stay unchanged. Returns
     /// `InvalidCodingUnit(unit, chunks)` if the unit isn't below the number of chunks of a plane,
     /// and `InsufficientOutputBufferSize` if the slice has fewer bytes than a chunk.
-    #[tactic(auto, using(crate::proofs::Wants::may_want), unfolding(crate::specs::PixelCalls::read_coding_unit_bytes))]
+    #[tactic(auto, using(crate::proofs::Wants::may_want, crate::proofs::Wants::layout_wanted), unfolding(crate::specs::PixelCalls::read_coding_unit_bytes))]
     pub fn read_coding_unit_bytes<R: Source>(
         &self,
         source: &mut R,
@@ -648,12 +528,7 @@ impl PageReader<'_> {
         room_fault(buf.len(), layout.plane_stride)?;
         let planes = planes_used(page, layout, buf.len());
         form_fault(page, self.limits, layout.color, unit as usize)?;
-        let unit = UnitRequest {
-            color: layout.color,
-            index: unit,
-            planes,
-            stride: layout.row_bytes,
-        };
-        self.unit_into(source, unit, buf)
+        let request = ReadRequest::Chunks(layout.color, unit, planes, layout.row_bytes);
+        self.request_into(source, request, buf)
     }
 }

@@ -20,11 +20,12 @@ pub enum Samples {
     I64(Vec<i64>),
 }
 
-/// What to read: an image or a chunk.
+/// What to read: an image, or a chunk of one plane or several.
 #[derive(Clone, Copy, Debug)]
 pub enum ReadRequest {
     /// An image of a layout, in this number of planes.
     Image(PlaneLayout, u16),
-    /// A chunk in a color, by its index, and the number of bytes from a row to the next.
-    Chunk(ColorType, u32, usize),
+    /// A chunk in a color, by its index, in this number of planes, and the number of bytes from a
+    /// row to the next.
+    Chunks(ColorType, u32, u16, usize),
 }

@@ -6,17 +6,13 @@
 
 ghost use Rattle.std.specs.Prelude.{◌≡◌, ℕ, ◌+◌, ◌-◌, ◌*◌, ◌^◌, ◌<◌, ◌≤◌, IsTrue, Ok, length, OnOk};
 ghost use Rattle.tiff_base.specs.Answers.{Answers, AsksOnly, IsKept};
-ghost use Rattle.tiff_base.specs.declared.error.TiffError.TheVariants as tiff;
-ghost use Rattle.tiff_base.specs.declared.io.IoKind.TheVariants as io;
-ghost use Rattle.tiff_page.specs.ChunkBands.{AreBanded, AreImageRows, GrowsByRows, PutsImageRows, rows_short};
+ghost use Rattle.tiff_page.specs.ChunkBands.{AreBanded, AreImageRows, AreTileRows, GrowsByRows, PutsImageRows, rows_fault, tiles_fault};
 ghost use Rattle.tiff_page.specs.Layout.{layout_of};
-ghost use Rattle.tiff_page.specs.PixelCalls.{image_part};
 ghost use Rattle.tiff_page.specs.PixelFault as fault;
-ghost use Rattle.tiff_page.specs.PixelFault.{each_below, fail_if};
-ghost use Rattle.tiff_page.specs.Pixels.{is_short};
-ghost use Rattle.tiff_page.specs.Reach.{PartReadable};
 ghost use Rattle.tiff_page.specs.Rect as rects;
 ghost use Rattle.tiff_page.specs.PageView as view;
+ghost use Rattle.tiff_page.specs.Samples.{RequestReadable};
+ghost use Rattle.tiff_page.specs.declared.samples.ReadRequest.TheVariants as request;
 
 use crate::chunk_rows::{ChunkBand, ChunkReader, Destination};
 use crate::faults::form_fault;
@@ -62,21 +58,18 @@ fn uses_scratch<W: RowSink>(page: &Page) -> bool {
     W::GROWS || stored_row_bytes(page) < SHORT
 }
 
-// Returns how many rows of an image, of `row_bytes` bytes, fit into the scratch buffer, at least 1.
-fn rows_of_scratch(row_bytes: usize) -> usize
+// Returns how many rows of each of the tiles side by side are read at once, if tiles are, at least 1:
+// as many rows of the image as fit into the scratch buffer, or as many of a tile as a piece has.
+fn rows_of_piece<W: RowSink>(page: &Page, row_bytes: usize) -> usize
     requires { 0 < row_bytes }
     ensures { 0 < result }
 {
-    (SCRATCH / row_bytes).max(1)
-}
-
-// Returns how many rows of each tile of a page are read at once straight to their positions, at
-// least 1.
-fn rows_of_piece(page: &Page) -> usize
-    ensures { 0 < result }
-{
-    let stored = stored_row_bytes(page).max(1);
-    (PIECE / stored).max(1)
+    let rows = if uses_scratch::<W>(page) {
+        SCRATCH / row_bytes
+    } else {
+        PIECE / stored_row_bytes(page).max(1)
+    };
+    rows.max(1)
 }
 
 /// Returns how many rows of each of the tiles side by side are read at once, if the image has
@@ -85,19 +78,13 @@ fn rows_of_piece(page: &Page) -> usize
 pub(crate) fn tile_rows_at_once<W: RowSink>(page: &Page, row_bytes: usize) -> usize
     requires { 0 < row_bytes }
 {
-    if uses_scratch::<W>(page) {
-        return if row_bytes <= SCRATCH {
-            rows_of_scratch(row_bytes)
-        } else {
-            0
-        };
-    }
-    let rows = rows_of_piece(page);
-    if rows < page.chunk_height as usize {
-        rows
+    let rows = rows_of_piece::<W>(page, row_bytes);
+    let several = if uses_scratch::<W>(page) {
+        row_bytes <= SCRATCH
     } else {
-        0
-    }
+        rows < page.chunk_height as usize
+    };
+    if several { rows } else { 0 }
 }
 
 impl PageReader<'_> {
@@ -145,17 +132,8 @@ impl PageReader<'_> {
         part: TileRowPart,
         sink: &mut W,
     ) -> TiffResult<()>
-        requires laid { layout_of (view.page self.now.page.now) self.now.page.now.width
-            self.now.page.now.height ≡ Ok (record {
-              color = part.layout.color;
-              row_bytes = part.layout.row_bytes;
-              plane_stride = part.layout.plane_stride;
-            }) }
-        requires banded { AreBanded (view.page self.now.page.now) self.now.limits.now
-            part.layout.color 1 part.first }
-        requires chunk { part.first < rects.chunks_of_plane (view.page self.now.page.now) }
-        requires some_rows { part.from < part.to }
-        requires within { part.to ≤ (rects.rect (view.page self.now.page.now) part.first).height }
+        requires tiles { AreTileRows (view.page self.now.page.now) self.now.limits.now part.layout
+            part.first part.from part.to }
         requires there { (part.top + (part.to - part.from)) * part.layout.row_bytes
             ≤ length (W.bytes sink.old) }
         requires few { (part.top + (part.to - part.from)) * part.layout.row_bytes < 2 ^ 64 }
@@ -167,14 +145,10 @@ impl PageReader<'_> {
             ((rects.rect (view.page self.now.page.now) part.first).y + part.from)
             (part.to - part.from) part.top (W.bytes sink.old) (W.bytes sink.new)) }
         ensures answer { Answers (λ _. tt) result
-            (each_below (λ column. fail_if
-            (rows_short (R.told source.old).bytes self.now.order (view.page self.now.page.now)
-            part.layout.color (part.first + column) part.to)
-            (tiff.IoError io.UnexpectedEof)) (rects.across (view.page self.now.page.now)))
-            (R.failures source.old) (R.failures source.new) }
-        ensures asked { AsksOnly
-            (PartReadable (R.told source.old) (view.page self.now.page.now) part.layout.color
-            (image_part (view.page self.now.page.now) 1 part.layout.row_bytes)) result }
+            (rows_fault (R.told source.old).bytes self.now.order (view.page self.now.page.now)
+            part.layout.color part.first part.to) (R.failures source.old) (R.failures source.new) }
+        ensures asked { AsksOnly (RequestReadable (R.told source.old) self.now
+            (request.Image part.layout 1)) result }
     {
         let page = self.page;
         for column in 0..chunks_across(page) {
@@ -212,17 +186,8 @@ impl PageReader<'_> {
         part: TileRowPart,
         scratch: &mut ByteList,
     ) -> TiffResult<()>
-        requires laid { layout_of (view.page self.now.page.now) self.now.page.now.width
-            self.now.page.now.height ≡ Ok (record {
-              color = part.layout.color;
-              row_bytes = part.layout.row_bytes;
-              plane_stride = part.layout.plane_stride;
-            }) }
-        requires banded { AreBanded (view.page self.now.page.now) self.now.limits.now
-            part.layout.color 1 part.first }
-        requires chunk { part.first < rects.chunks_of_plane (view.page self.now.page.now) }
-        requires some_rows { part.from < part.to }
-        requires within { part.to ≤ (rects.rect (view.page self.now.page.now) part.first).height }
+        requires tiles { AreTileRows (view.page self.now.page.now) self.now.limits.now part.layout
+            part.first part.from part.to }
         requires alone { part.top ≡ 0 }
         ensures kept { IsKept R.told R.failures result source.old source.new }
         ensures rows { OnOk result
@@ -233,14 +198,10 @@ impl PageReader<'_> {
         ensures all { OnOk result
             (length scratch.new.bytes.items ≡ (part.to - part.from) * part.layout.row_bytes) }
         ensures answer { Answers (λ _. tt) result
-            (each_below (λ column. fail_if
-            (rows_short (R.told source.old).bytes self.now.order (view.page self.now.page.now)
-            part.layout.color (part.first + column) part.to)
-            (tiff.IoError io.UnexpectedEof)) (rects.across (view.page self.now.page.now)))
-            (R.failures source.old) (R.failures source.new) }
-        ensures asked { AsksOnly
-            (PartReadable (R.told source.old) (view.page self.now.page.now) part.layout.color
-            (image_part (view.page self.now.page.now) 1 part.layout.row_bytes)) result }
+            (rows_fault (R.told source.old).bytes self.now.order (view.page self.now.page.now)
+            part.layout.color part.first part.to) (R.failures source.old) (R.failures source.new) }
+        ensures asked { AsksOnly (RequestReadable (R.told source.old) self.now
+            (request.Image part.layout 1)) result }
     {
         let len = (part.to - part.from) * part.layout.row_bytes;
         scratch.bytes.resize(len, 0)?;
@@ -248,127 +209,46 @@ impl PageReader<'_> {
         Ok(())
     }
 
-    // Reads a row of tiles straight to their positions. The sink gets zeros where it has too few
-    // bytes.
-    fn straight_tile_row<R: Source, W: RowSink>(
+    // Reads rows of tiles that lie side by side to their rows in the sink, straight or by way of a
+    // scratch buffer. The sink gets zeros where it has too few bytes.
+    fn image_rows<R: Source, W: RowSink>(
         &self,
         source: &mut R,
-        next: ChunkRequest,
-        sink: &mut W,
-    ) -> TiffResult<()>
-        requires laid { layout_of (view.page self.now.page.now) self.now.page.now.width
-            self.now.page.now.height ≡ Ok (record {
-              color = next.part.layout.color;
-              row_bytes = next.part.layout.row_bytes;
-              plane_stride = next.part.layout.plane_stride;
-            }) }
-        requires banded { AreBanded (view.page self.now.page.now) self.now.limits.now
-            next.part.layout.color next.part.planes next.chunk }
-        requires room { next.part.layout.plane_stride ≤ W.room sink.old }
-        requires chunk { next.chunk < rects.chunks_of_plane (view.page self.now.page.now) }
-        ensures later { W.goes_on sink.old sink.new }
-        ensures kept { IsKept R.told R.failures result source.old source.new }
-        ensures ok { OnOk result
-            (GrowsByRows (R.told source.old).bytes self.now.order (view.page self.now.page.now)
-            next.part.layout.color next.part.layout.row_bytes
-            (rects.rect (view.page self.now.page.now) next.chunk).y
-            ((rects.rect (view.page self.now.page.now) next.chunk).y
-            + (rects.rect (view.page self.now.page.now) next.chunk).height)
-            (W.whole next.part.layout.plane_stride) (W.bytes sink.old)
-            (W.bytes sink.new)) }
-        ensures answer { Answers (λ _. tt) result
-            (each_below (λ column. fail_if
-            (is_short (R.told source.old).bytes self.now.order (view.page self.now.page.now)
-            next.part.layout.color (next.chunk + column))
-            (tiff.IoError io.UnexpectedEof)) (rects.across (view.page self.now.page.now)))
-            (R.failures source.old) (R.failures source.new) }
-        ensures asked { AsksOnly
-            (PartReadable (R.told source.old) (view.page self.now.page.now) next.part.layout.color
-            (image_part (view.page self.now.page.now) 1 next.part.layout.row_bytes)) result }
-    {
-        let layout = next.part.layout;
-        let place = rect(self.page, next.chunk);
-        let (top, height) = (place.y as usize, place.height as usize);
-        let most = rows_of_piece(self.page);
-        let mut from = 0;
-        while from < height {
-            let to = from + most.min(height - from);
-            let part = TileRowPart {
-                layout,
-                first: next.chunk,
-                from,
-                to,
-                top: top + from,
-            };
-            sink.zeros_to((top + to) * layout.row_bytes)?;
-            self.tile_row_part(source, part, sink)?;
-            from = to;
-        }
-        Ok(())
-    }
-
-    // Reads a row of tiles by way of a scratch buffer.
-    fn tile_row_by_scratch<R: Source, W: RowSink>(
-        &self,
-        source: &mut R,
-        next: ChunkRequest,
+        part: TileRowPart,
         scratch: &mut ByteList,
         sink: &mut W,
     ) -> TiffResult<()>
-        requires laid { layout_of (view.page self.now.page.now) self.now.page.now.width
-            self.now.page.now.height ≡ Ok (record {
-              color = next.part.layout.color;
-              row_bytes = next.part.layout.row_bytes;
-              plane_stride = next.part.layout.plane_stride;
-            }) }
-        requires banded { AreBanded (view.page self.now.page.now) self.now.limits.now
-            next.part.layout.color next.part.planes next.chunk }
-        requires room { next.part.layout.plane_stride ≤ W.room sink.old }
-        requires chunk { next.chunk < rects.chunks_of_plane (view.page self.now.page.now) }
+        requires tiles { AreTileRows (view.page self.now.page.now) self.now.limits.now part.layout
+            part.first part.from part.to }
+        requires top { part.top ≡ (rects.rect (view.page self.now.page.now) part.first).y + part.from }
+        requires fits { (part.top + (part.to - part.from)) * part.layout.row_bytes
+            ≤ part.layout.plane_stride }
+        requires room { part.layout.plane_stride ≤ W.room sink.old }
         ensures later { W.goes_on sink.old sink.new }
         ensures kept { IsKept R.told R.failures result source.old source.new }
         ensures ok { OnOk result
             (GrowsByRows (R.told source.old).bytes self.now.order (view.page self.now.page.now)
-            next.part.layout.color next.part.layout.row_bytes
-            (rects.rect (view.page self.now.page.now) next.chunk).y
-            ((rects.rect (view.page self.now.page.now) next.chunk).y
-            + (rects.rect (view.page self.now.page.now) next.chunk).height)
-            (W.whole next.part.layout.plane_stride) (W.bytes sink.old)
-            (W.bytes sink.new)) }
+            part.layout.color part.layout.row_bytes part.top (part.top + (part.to - part.from))
+            (W.whole part.layout.plane_stride) (W.bytes sink.old) (W.bytes sink.new)) }
         ensures answer { Answers (λ _. tt) result
-            (each_below (λ column. fail_if
-            (is_short (R.told source.old).bytes self.now.order (view.page self.now.page.now)
-            next.part.layout.color (next.chunk + column))
-            (tiff.IoError io.UnexpectedEof)) (rects.across (view.page self.now.page.now)))
-            (R.failures source.old) (R.failures source.new) }
-        ensures asked { AsksOnly
-            (PartReadable (R.told source.old) (view.page self.now.page.now) next.part.layout.color
-            (image_part (view.page self.now.page.now) 1 next.part.layout.row_bytes)) result }
+            (rows_fault (R.told source.old).bytes self.now.order (view.page self.now.page.now)
+            part.layout.color part.first part.to) (R.failures source.old) (R.failures source.new) }
+        ensures asked { AsksOnly (RequestReadable (R.told source.old) self.now
+            (request.Image part.layout 1)) result }
     {
-        let layout = next.part.layout;
-        let place = rect(self.page, next.chunk);
-        let (top, height) = (place.y as usize, place.height as usize);
-        let most = rows_of_scratch(layout.row_bytes);
-        let mut from = 0;
-        while from < height {
-            let to = from + most.min(height - from);
-            let part = TileRowPart {
-                layout,
-                first: next.chunk,
-                from,
-                to,
-                top: 0,
-            };
-            self.scratch_rows(source, part, scratch)?;
-            sink.place((top + from) * layout.row_bytes, &scratch.bytes)?;
-            from = to;
+        let end = part.top + (part.to - part.from);
+        if uses_scratch::<W>(self.page) {
+            self.scratch_rows(source, TileRowPart { top: 0, ..part }, scratch)?;
+            sink.place(part.top * part.layout.row_bytes, &scratch.bytes)?;
+            return Ok(());
         }
+        sink.zeros_to(end * part.layout.row_bytes)?;
+        self.tile_row_part(source, part, sink)?;
         Ok(())
     }
 
-    /// Reads the row of tiles that begins with a chunk, some rows of each at a time; some by way of
-    /// a scratch buffer. Returns `IoError(UnexpectedEof)` if the data of one of the tiles are too
-    /// few.
+    /// Reads the row of tiles that begins with a chunk, some rows of each at a time. Returns
+    /// `IoError(UnexpectedEof)` if the data of one of the tiles are too few.
     pub(crate) fn tile_row<R: Source, W: RowSink>(
         &self,
         source: &mut R,
@@ -377,11 +257,7 @@ impl PageReader<'_> {
         sink: &mut W,
     ) -> TiffResult<()>
         requires laid { layout_of (view.page self.now.page.now) self.now.page.now.width
-            self.now.page.now.height ≡ Ok (record {
-              color = next.part.layout.color;
-              row_bytes = next.part.layout.row_bytes;
-              plane_stride = next.part.layout.plane_stride;
-            }) }
+            self.now.page.now.height ≡ Ok (view.layout next.part.layout) }
         requires banded { AreBanded (view.page self.now.page.now) self.now.limits.now
             next.part.layout.color next.part.planes next.chunk }
         requires room { next.part.layout.plane_stride ≤ W.room sink.old }
@@ -394,21 +270,30 @@ impl PageReader<'_> {
             (rects.rect (view.page self.now.page.now) next.chunk).y
             ((rects.rect (view.page self.now.page.now) next.chunk).y
             + (rects.rect (view.page self.now.page.now) next.chunk).height)
-            (W.whole next.part.layout.plane_stride) (W.bytes sink.old)
-            (W.bytes sink.new)) }
+            (W.whole next.part.layout.plane_stride) (W.bytes sink.old) (W.bytes sink.new)) }
         ensures answer { Answers (λ _. tt) result
-            (each_below (λ column. fail_if
-            (is_short (R.told source.old).bytes self.now.order (view.page self.now.page.now)
-            next.part.layout.color (next.chunk + column))
-            (tiff.IoError io.UnexpectedEof)) (rects.across (view.page self.now.page.now)))
-            (R.failures source.old) (R.failures source.new) }
-        ensures asked { AsksOnly
-            (PartReadable (R.told source.old) (view.page self.now.page.now) next.part.layout.color
-            (image_part (view.page self.now.page.now) 1 next.part.layout.row_bytes)) result }
+            (tiles_fault (R.told source.old).bytes self.now.order (view.page self.now.page.now)
+            next.part.layout.color next.chunk) (R.failures source.old) (R.failures source.new) }
+        ensures asked { AsksOnly (RequestReadable (R.told source.old) self.now
+            (request.Image next.part.layout 1)) result }
     {
-        if uses_scratch::<W>(self.page) {
-            return self.tile_row_by_scratch(source, next, scratch, sink);
+        let layout = next.part.layout;
+        let place = rect(self.page, next.chunk);
+        let (top, height) = (place.y as usize, place.height as usize);
+        let most = rows_of_piece::<W>(self.page, layout.row_bytes);
+        let mut from = 0;
+        while from < height {
+            let to = from + most.min(height - from);
+            let rows = TileRowPart {
+                layout,
+                first: next.chunk,
+                from,
+                to,
+                top: top + from,
+            };
+            self.image_rows(source, rows, scratch, sink)?;
+            from = to;
         }
-        self.straight_tile_row(source, next, sink)
+        Ok(())
     }
 }

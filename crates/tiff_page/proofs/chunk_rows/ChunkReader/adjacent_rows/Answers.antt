@@ -1,9 +1,7 @@
 use Rattle.std.proofs.Common.{arith, ◌≡◌, ℕ, ◌<◌, ◌≤◌, ◌∙◌, ◌+◌, ◌*◌, length, refl, drop, ap, subst}
 use Rattle.std.proofs.lemmas.Result.{err_from_is_err_and}
 use Rattle.tiff_base.proofs.Told.{same_bytes}
-use Rattle.tiff_page.specs.declared.page.Page.{Page}
 use Rattle.tiff_page.specs.Counts.{all_chunks}
-use Rattle.tiff_page.specs.Laws.{HasSides}
 use Rattle.tiff_page.specs.Layout.{row_bytes}
 use Rattle.tiff_page.specs.Pixels.{chunk_data}
 use Rattle.tiff_page.specs.BufferPositions.{filled_to, Writes, IsIn, in_rect, chunk_byte}
@@ -14,10 +12,8 @@ use Rattle.tiff_page.proofs.Reach.{front_stands, stands_on, chunk_asked}
 use Rattle.tiff_page.proofs.Bands.{rows_below, band_within, band_of_numbers, band_put, band_bytes_are, band_held, next_band, short_band}
 use Rattle.tiff_page.proofs.Filled.{put_filled}
 use Rattle.tiff_page.proofs.Rects.{no_row}
+use Rattle.tiff_page.proofs.Sides.{sides_of}
 use Rattle.tiff_page.proofs.chunk_rows.ChunkReader.adjacent_rows.Goals as goal
-
-abbrev pub sides_of : (p : Page) → HasSides (view.page p)
-sides_of p = record { wide = p.wide; high = p.high; chunk_wide = p.chunk_wide; chunk_high = p.chunk_high }
 
 pub loop-row-init : goal.loop-row-init
 loop-row-init g c =
@@ -109,7 +105,6 @@ loop-row-preserved g c =
     let end = (destination.top + (rect p k).height) * destination.stride in
     let below = rows_below destination.top (rect p k).height destination.stride end row more c.requires.some (omega arith) rl in
     let stop = g.met.W.RowSink.enough (at + more * destination.stride) end (omega (arith, below.1)) in
-    let ends = band_within bytes order p color k destination.left destination.stride sides stored listed together row more (omega (arith, h, c.loop-row-test.true)) rl in
     record {
       later = g.met.W.RowSink.further c.args.sink.now c.loop-row.sink c.rows.new.self c.loop-row.invariant.later c.in_ok-rows.ensures.later;
       within = rl;

@@ -2,10 +2,8 @@ use Rattle.std.proofs.Common.{arith, ◌≡◌, ℕ, ◌<◌, ◌≤◌, ◌∙�
 use Rattle.std.proofs.Math.Nat.{mul-le-mul_right}
 use Rattle.std.proofs.lemmas.Result.{err_from_is_err_and}
 use Rattle.tiff_base.proofs.Told.{same_bytes}
-use Rattle.tiff_page.specs.declared.page.Page.{Page}
 use Rattle.tiff_page.specs.Pixels.{chunk_data, stored_row_bytes, needed_of_row}
 use Rattle.tiff_page.specs.Counts.{all_chunks}
-use Rattle.tiff_page.specs.Laws.{HasSides}
 use Rattle.tiff_page.specs.Layout.{row_bytes}
 use Rattle.tiff_page.specs.Rect.{rect}
 use Rattle.tiff_page.specs.BufferPositions.{Writes, IsIn, in_rect, chunk_byte}
@@ -16,10 +14,8 @@ use Rattle.tiff_page.specs.Reach.{Moves}
 use Rattle.tiff_page.proofs.Reach.{chunk_asked, front_stands, row_asked, behind_asked, next_stands, stands_on}
 use Rattle.tiff_page.proofs.ChunkRead.{row_below, width_within, row_some, row_bytes_are, row_held, next_row, too_short}
 use Rattle.tiff_page.proofs.Rects.{no_row, row_put_there, row_room}
+use Rattle.tiff_page.proofs.Sides.{sides_of}
 use Rattle.tiff_page.proofs.chunk_rows.ChunkReader.separate_rows.Goals as goal
-
-abbrev pub sides_of : (p : Page) → HasSides (view.page p)
-sides_of p = record { wide = p.wide; high = p.high; chunk_wide = p.chunk_wide; chunk_high = p.chunk_high }
 
 pub loop-row-init : goal.loop-row-init
 loop-row-init g c =

@@ -11,7 +11,7 @@ pub returns-in_err-requested-clause-answer : goal.returns-in_err-requested-claus
 returns-in_err-requested-clause-answer g c =
     let p = view.page c.args.self.now.page.now in
     let file = (g.R.Source.told c.args.source.now).bytes in
-    let fill = fill_buffer file c.args.self.now.order p c.args.self.now.limits.now (color_in c.args.request) (part_of file c.args.self.now.order p c.args.request) in
+    let fill = fill_buffer file c.args.self.now.order p c.args.self.now.limits.now (color_in c.args.request) (part_of p c.args.request) in
     let e = c.in_err-requested.field-0.0 in
     let total = g.W.RowSink.whole c.args.len in
     let enough = g.met.W.RowSink.enough (room_of p c.args.request) c.args.len c.requires.room in
@@ -23,7 +23,7 @@ pub returns-clause-answer : goal.returns-clause-answer
 returns-clause-answer g c =
     let p = view.page c.args.self.now.page.now in
     let file = (g.R.Source.told c.args.source.now).bytes in
-    let fill = fill_buffer file c.args.self.now.order p c.args.self.now.limits.now (color_in c.args.request) (part_of file c.args.self.now.order p c.args.request) in
+    let fill = fill_buffer file c.args.self.now.order p c.args.self.now.limits.now (color_in c.args.request) (part_of p c.args.request) in
     let total = g.W.RowSink.whole c.args.len in
     let enough = g.met.W.RowSink.enough (room_of p c.args.request) c.args.len c.requires.room in
     let empty = none_filled total (g.W.RowSink.bytes c.args.sink.now) c.requires.none in

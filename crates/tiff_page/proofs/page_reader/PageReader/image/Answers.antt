@@ -4,33 +4,24 @@ use Rattle.tiff_base.specs.Answers.{IsCause}
 use Rattle.tiff_base.specs.declared.error.TiffError.TheVariants.{IoError}
 use Rattle.tiff_base.specs.declared.io.IoKind.TheVariants.{UnexpectedEof}
 use Rattle.tiff_base.proofs.Told.{same_bytes}
-use Rattle.tiff_page.specs.Layout.{LayoutRecord}
-use Rattle.tiff_page.specs.Laws.{HasSides}
 use Rattle.tiff_page.specs.Pixels.{is_short}
 use Rattle.tiff_page.specs.PixelFault.{chunk_fault, each_below, fail_if}
 use Rattle.tiff_page.specs.BufferPositions.{filled_to, Writes, IsBefore, image_byte}
 use Rattle.tiff_page.specs.ChunkBands.{AreBanded, WritesImageRows}
 use Rattle.tiff_page.specs.Rect.{rect, across, chunks_of_plane}
 use Rattle.tiff_page.specs.PageView as view
-use Rattle.tiff_page.specs.declared.page.Page.{Page}
-use Rattle.tiff_page.specs.declared.layout.PlaneLayout.{PlaneLayout}
 use Rattle.tiff_page.proofs.Covering.{planes_written}
 use Rattle.tiff_page.proofs.ChunkBands as bands
 use Rattle.tiff_page.proofs.Filling.{chunk_cause, image_filled, of_chunk, one_more, stride_some}
 use Rattle.tiff_page.proofs.Reach.{image_asked}
 use Rattle.tiff_page.proofs.Sizes.{parts_some}
+use Rattle.tiff_page.proofs.Sides.{sides_of}
 use Rattle.tiff_page.proofs.page_reader.PageReader.image.Goals as goal
-
-abbrev pub sides_of : (p : Page) → HasSides (view.page p)
-sides_of p = record { wide = p.wide; high = p.high; chunk_wide = p.chunk_wide; chunk_high = p.chunk_high }
-
-abbrev pub layout : PlaneLayout → LayoutRecord
-layout l = record { color = l.color; row_bytes = l.row_bytes; plane_stride = l.plane_stride }
 
 pub tile_rows_at_once-rows-requires : goal.tile_rows_at_once-rows-requires
 tile_rows_at_once-rows-requires g c =
     let p = c.args.self.now.page.now in
-    stride_some (g.R.Source.told c.args.source.now).bytes c.args.self.now.order (view.page p) c.args.self.now.limits.now (layout c.args.part.layout) (sides_of p) p.sampled p.deep c.requires.laid
+    stride_some (g.R.Source.told c.args.source.now).bytes c.args.self.now.order (view.page p) c.args.self.now.limits.now (view.layout c.args.part.layout) (sides_of p) p.sampled p.deep c.requires.laid.laid
 
 pub returns-in_err-tile_row-clause-answer : goal.returns-in_err-tile_row-clause-answer
 returns-in_err-tile_row-clause-answer g c =
@@ -41,7 +32,7 @@ returns-in_err-tile_row-clause-answer g c =
     let e = c.in_err-tile_row.field-0.0 in
     let banded : AreBanded (view.page p) c.args.self.now.limits.now color c.args.part.planes chunk = c.if-is_banded.ensures refl in
     let inside : chunk < chunks_of_plane (view.page p) = omega (arith, c.loop-chunk-test.true, c.chunks_of_plane-chunks.ensures.count) in
-    let last = bands.all_indices file c.args.self.now.order (view.page p) c.args.self.now.limits.now (layout c.args.part.layout) (sides_of p) p.sampled p.deep c.requires.laid chunk 0 c.args.part.planes banded inside (parts_some p.width p.chunk_width p.chunk_wide p.wide) in
+    let last = bands.all_indices file c.args.self.now.order (view.page p) c.args.self.now.limits.now (view.layout c.args.part.layout) (sides_of p) p.sampled p.deep c.requires.laid.laid chunk 0 c.args.part.planes banded inside (parts_some p.width p.chunk_width p.chunk_wide p.wide) in
     let given = subst
     (λ (bytes : List ℕ).
     IsCause (Unit {0}) (g.R.Source.failures c.loop-chunk.source < g.R.Source.failures c.tile_row.new.source) e
@@ -57,7 +48,7 @@ overflow_add-chunk g c =
     let chunk = c.loop-chunk.chunk in
     let banded : AreBanded (view.page p) c.args.self.now.limits.now c.args.part.layout.color c.args.part.planes chunk = c.if-is_banded.ensures refl in
     let inside : chunk < chunks_of_plane (view.page p) = omega (arith, c.loop-chunk-test.true, c.chunks_of_plane-chunks.ensures.count) in
-    let last = bands.all_indices (g.R.Source.told c.args.source.now).bytes c.args.self.now.order (view.page p) c.args.self.now.limits.now (layout c.args.part.layout) (sides_of p) p.sampled p.deep c.requires.laid chunk 0 c.args.part.planes banded inside (parts_some p.width p.chunk_width p.chunk_wide p.wide) in
+    let last = bands.all_indices (g.R.Source.told c.args.source.now).bytes c.args.self.now.order (view.page p) c.args.self.now.limits.now (view.layout c.args.part.layout) (sides_of p) p.sampled p.deep c.requires.laid.laid chunk 0 c.args.part.planes banded inside (parts_some p.width p.chunk_width p.chunk_wide p.wide) in
     omega (arith, last, c.chunks_across.ensures, c.chunks_of_plane-chunks.ensures.count)
 
 pub loop-chunk-preserved-then-is_banded : goal.loop-chunk-preserved-then-is_banded
@@ -77,9 +68,9 @@ loop-chunk-preserved-then-is_banded g c =
     let banded : AreBanded (view.page p) limits color planes chunk = c.if-is_banded.ensures refl in
     let inside : chunk < chunks_of_plane (view.page p) = omega (arith, c.loop-chunk-test.true, c.chunks_of_plane-chunks.ensures.count) in
     let some : 0 < many = parts_some p.width p.chunk_width p.chunk_wide p.wide in
-    let last = bands.all_indices file order (view.page p) limits (layout c.args.part.layout) (sides_of p) p.sampled p.deep c.requires.laid chunk 0 planes banded inside some in
-    let rows = bands.its_rows file order (view.page p) limits (layout c.args.part.layout) (sides_of p) p.sampled p.deep c.requires.laid chunk 0 planes banded inside some in
-    let room = bands.its_room file order (view.page p) limits (layout c.args.part.layout) (sides_of p) p.sampled p.deep c.requires.laid chunk 0 planes banded inside some in
+    let last = bands.all_indices file order (view.page p) limits (view.layout c.args.part.layout) (sides_of p) p.sampled p.deep c.requires.laid.laid chunk 0 planes banded inside some in
+    let rows = bands.its_rows file order (view.page p) limits (view.layout c.args.part.layout) (sides_of p) p.sampled p.deep c.requires.laid.laid chunk 0 planes banded inside some in
+    let room = bands.its_room file order (view.page p) limits (view.layout c.args.part.layout) (sides_of p) p.sampled p.deep c.requires.laid.laid chunk 0 planes banded inside some in
     let e : many ≡ c.chunks_across.result = sym c.chunks_across.ensures in
     let given = subst
     (λ (told : List ℕ). each_below (λ column. fail_if (is_short told order (view.page p) color (chunk + column)) (IoError UnexpectedEof)) many ≡ Ok tt)
@@ -94,7 +85,7 @@ loop-chunk-preserved-then-is_banded g c =
       same = c.in_ok-tile_row.ensures.kept.told ∙ i.same;
       count = omega (arith, c.in_ok-tile_row.ensures.kept.swallowed, i.count);
       below = omega (arith, last, e);
-      none = subst (λ (n : ℕ). each_below (of_chunk file order (view.page p) limits (layout c.args.part.layout) (sides_of p) p.sampled p.deep c.requires.laid planes) (chunk + n) ≡ Ok tt) e none;
+      none = subst (λ (n : ℕ). each_below (of_chunk file order (view.page p) limits (view.layout c.args.part.layout) (sides_of p) p.sampled p.deep c.requires.laid.laid planes) (chunk + n) ≡ Ok tt) e none;
       written = λ total l.
           let old = filled_to total (bytes c.args.sink.now) in
           let mid = filled_to total (bytes c.loop-chunk.sink) in
@@ -116,7 +107,7 @@ returns-in_err-chunk-clause-answer g c =
     (each_below (λ plane. chunk_fault (view.page p) c.args.self.now.limits.now (is_short bytes c.args.self.now.order (view.page p) c.args.part.layout.color) c.args.part.layout.color (plane * chunks_of_plane (view.page p) + (0 + c.loop-chunk.chunk))) c.args.part.planes ≡ Err c.in_err-chunk.field-0.0))
     (same_bytes c.loop-chunk.invariant.same) c.in_err-chunk.ensures.answer in
     let answered = err_from_is_err_and c.from_residual-in_err-chunk.result c.from_residual-in_err-chunk.ensures.1 in
-    λ total _. rw (answered.1, answered.2) (chunk_cause file c.args.self.now.order (view.page p) c.args.self.now.limits.now (layout c.args.part.layout) (sides_of p) p.sampled p.deep c.requires.laid c.args.part.planes
+    λ total _. rw (answered.1, answered.2) (chunk_cause file c.args.self.now.order (view.page p) c.args.self.now.limits.now (view.layout c.args.part.layout) (sides_of p) p.sampled p.deep c.requires.laid.laid c.args.part.planes
     _ _ c.loop-chunk.chunk (filled_to total (g.W.RowSink.bytes c.args.sink.now)) c.in_err-chunk.field-0.0 (λ f. omega (arith, f, c.loop-chunk.invariant.count)) (omega (arith, c.loop-chunk-test.true, c.chunks_of_plane-chunks.ensures.count)) c.loop-chunk.invariant.none given)
 
 pub loop-chunk-preserved : goal.loop-chunk-preserved
@@ -139,7 +130,7 @@ loop-chunk-preserved g c =
       same = c.in_ok-chunk.ensures.kept.told ∙ i.same;
       count = omega (arith, c.in_ok-chunk.ensures.kept.swallowed, i.count);
       below = omega (arith, c.loop-chunk-test.true, c.chunks_of_plane-chunks.ensures.count);
-      none = one_more (of_chunk file order (view.page p) c.args.self.now.limits.now (layout c.args.part.layout) (sides_of p) p.sampled p.deep c.requires.laid planes) c.loop-chunk.chunk i.none given;
+      none = one_more (of_chunk file order (view.page p) c.args.self.now.limits.now (view.layout c.args.part.layout) (sides_of p) p.sampled p.deep c.requires.laid.laid planes) c.loop-chunk.chunk i.none given;
       written = λ total l.
           let old = filled_to total (bytes c.args.sink.now) in
           let new = filled_to total (bytes c.chunk.new.sink) in
@@ -158,8 +149,8 @@ returns-clause-answer g c = λ total l.
     let old = filled_to total (g.W.RowSink.bytes c.args.sink.now) in
     let new = filled_to total (g.W.RowSink.bytes c.loop-chunk.sink) in
     let e : c.loop-chunk.chunk ≡ chunks_of_plane (view.page p) = omega (arith, c.loop-chunk-test.false, c.loop-chunk.invariant.below, c.chunks_of_plane-chunks.ensures.count) in
-    image_filled file c.args.self.now.order (view.page p) c.args.self.now.limits.now (layout c.args.part.layout) (sides_of p) p.sampled p.deep c.requires.laid c.args.part.planes old new c.requires.some
-    (subst (λ (m : ℕ). each_below (of_chunk file c.args.self.now.order (view.page p) c.args.self.now.limits.now (layout c.args.part.layout) (sides_of p) p.sampled p.deep c.requires.laid c.args.part.planes) m ≡ Ok tt) e c.loop-chunk.invariant.none)
+    image_filled file c.args.self.now.order (view.page p) c.args.self.now.limits.now (view.layout c.args.part.layout) (sides_of p) p.sampled p.deep c.requires.laid.laid c.args.part.planes old new c.requires.laid.some
+    (subst (λ (m : ℕ). each_below (of_chunk file c.args.self.now.order (view.page p) c.args.self.now.limits.now (view.layout c.args.part.layout) (sides_of p) p.sampled p.deep c.requires.laid.laid c.args.part.planes) m ≡ Ok tt) e c.loop-chunk.invariant.none)
     (subst (λ (m : ℕ). Writes (IsBefore (view.page p) c.args.part.layout.color c.args.part.layout.row_bytes c.args.part.planes m 0) (image_byte (view.page p) c.args.part.layout.color c.args.part.layout.row_bytes file c.args.self.now.order) old new) e (c.loop-chunk.invariant.written total l))
 
 pub returns-in_err-chunk-clause-asked : goal.returns-in_err-chunk-clause-asked

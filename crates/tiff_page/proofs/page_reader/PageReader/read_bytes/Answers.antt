@@ -2,17 +2,13 @@ use Rattle.std.proofs.Common.{arith, refl}
 use Rattle.std.specs.Prelude.{replicate}
 use Rattle.std.proofs.lemmas.Result.{err_from_is_err_and}
 use Rattle.tiff_base.proofs.Told.{same_bytes}
-use Rattle.tiff_page.specs.Laws.{HasSides}
 use Rattle.tiff_page.specs.Samples.{color_in, first_in}
 use Rattle.tiff_page.specs.PageView as view
 use Rattle.tiff_page.specs.declared.layout.DecodingSampleType.TheVariants as type
-use Rattle.tiff_page.specs.declared.page.Page.{Page}
 use Rattle.tiff_page.proofs.Requests.{portion_early, bytes_given, filling_cause}
 use Rattle.tiff_page.proofs.Reach.{first_readable, portion_filled}
+use Rattle.tiff_page.proofs.Sides.{sides_of}
 use Rattle.tiff_page.proofs.page_reader.PageReader.read_bytes.Goals as goal
-
-abbrev pub sides_of : (p : Page) → HasSides (view.page p)
-sides_of p = record { wide = p.wide; high = p.high; chunk_wide = p.chunk_wide; chunk_high = p.chunk_high }
 
 pub returns-in_err-bytes-clause-answer : goal.returns-in_err-bytes-clause-answer
 returns-in_err-bytes-clause-answer g c =

@@ -2,28 +2,17 @@ use Rattle.std.proofs.Common.{◌≡◌, Ok, length, arith, refl}
 use Rattle.std.proofs.lemmas.Result.{err_from_is_err_and}
 use Rattle.tiff_page.specs.PageView as view
 use Rattle.tiff_page.specs.Buffers.{planes_layout}
-use Rattle.tiff_page.specs.Layout.{LayoutRecord}
-use Rattle.tiff_page.specs.declared.layout.PlaneLayout.{PlaneLayout}
 use Rattle.tiff_page.specs.PixelCalls.{chunk_part, room_fault}
 use Rattle.tiff_page.specs.Rect.{rect}
 use Rattle.std.proofs.lemmas.Grind.{common_steps}
 use Rattle.tiff_page.proofs.Cut.{chunk_form}
-use Rattle.tiff_page.proofs.Wants.{layout_wanted}
 use Rattle.tiff_page.proofs.Reach.{laid_asked}
 use Rattle.tiff_page.proofs.page_reader.PageReader.read_chunk_bytes.Goals as goal
-
-abbrev pub layout : PlaneLayout → LayoutRecord
-layout l = record { color = l.color; row_bytes = l.row_bytes; plane_stride = l.plane_stride }
-
-pub returns-in_err-layout-clause-memory : goal.returns-in_err-layout-clause-memory
-returns-in_err-layout-clause-memory g c =
-    let answered = err_from_is_err_and c.from_residual.result c.from_residual.ensures.1 in
-    rw (answered.1, answered.2) (λ wanted. layout_wanted (view.page c.args.self.now.page.now) (rect (view.page c.args.self.now.page.now) c.args.index).width (rect (view.page c.args.self.now.page.now) c.args.index).height _ (c.in_err-layout.ensures.memory wanted))
 
 pub returns-in_err-form_fault-clause-answer : goal.returns-in_err-form_fault-clause-answer
 returns-in_err-form_fault-clause-answer g c =
     let answered = err_from_is_err_and c.from_residual-in_err-form_fault.result c.from_residual-in_err-form_fault.ensures.1 in
-    let l = layout c.in_ok-layout.layout in
+    let l = view.layout c.in_ok-layout.layout in
     let room : room_fault (length c.args.buf.now) l.plane_stride ≡ Ok tt = grind (arith, common_steps) in
     rw (answered.1, answered.2)
     (chunk_form _ _ (g.R.Source.told c.args.source.now).bytes c.args.self.now.order (view.page c.args.self.now.page.now) c.args.self.now.limits.now c.args.buf.now l c.in_err-form_fault.field-0.0 c.args.index c.in_ok-layout.ensures.answer room c.in_err-form_fault.ensures.answer)
@@ -31,5 +20,5 @@ returns-in_err-form_fault-clause-answer g c =
 pub returns-clause-asked : goal.returns-clause-asked
 returns-clause-asked g c =
     let p = view.page c.args.self.now.page.now in
-    let l = layout c.in_ok-layout.layout in
-    laid_asked p (planes_layout p (rect p c.args.index).width (rect p c.args.index).height) (λ l. chunk_part p c.args.index 1 l.row_bytes) l (chunk_part p c.args.index 1 l.row_bytes) (g.R.Source.told c.args.source.now) _ c.in_ok-layout.ensures.answer refl c.unit_into.ensures.asked
+    let l = view.layout c.in_ok-layout.layout in
+    laid_asked p (planes_layout p (rect p c.args.index).width (rect p c.args.index).height) (λ l. chunk_part p c.args.index 1 l.row_bytes) l (chunk_part p c.args.index 1 l.row_bytes) (g.R.Source.told c.args.source.now) _ c.in_ok-layout.ensures.answer refl c.request_into.ensures.asked

@@ -7,25 +7,17 @@ use Rattle.tiff_base.proofs.Told.{same_bytes}
 use Rattle.tiff_base.proofs.Causes.{cause_along}
 use Rattle.tiff_page.specs.PixelCalls.{image_part}
 use Rattle.tiff_page.specs.PixelFault.{fail_if}
-use Rattle.tiff_page.specs.Layout.{LayoutRecord}
-use Rattle.tiff_page.specs.Laws.{HasSides}
 use Rattle.tiff_page.specs.BufferPositions.{Writes, IsIn, in_rect, image_byte, left_of}
 use Rattle.tiff_page.specs.ChunkBands.{rows_short}
 use Rattle.tiff_page.specs.Rect.{rect, across, chunks_of_plane}
 use Rattle.tiff_page.specs.PageView as view
 use Rattle.tiff_page.specs.declared.page.Page.{Page}
-use Rattle.tiff_page.specs.declared.layout.PlaneLayout.{PlaneLayout}
 use Rattle.tiff_page.proofs.ChunkBands as bands
 use Rattle.tiff_page.proofs.Filling.{one_more, first_at, stride_some}
 use Rattle.tiff_page.proofs.Reach.{part_asked}
 use Rattle.tiff_page.proofs.Sizes.{plane_few}
+use Rattle.tiff_page.proofs.Sides.{sides_of}
 use Rattle.tiff_page.proofs.page_reader.PageReader.tile_row_part.Goals as goal
-
-abbrev pub sides_of : (p : Page) → HasSides (view.page p)
-sides_of p = record { wide = p.wide; high = p.high; chunk_wide = p.chunk_wide; chunk_high = p.chunk_high }
-
-abbrev pub layout : PlaneLayout → LayoutRecord
-layout l = record { color = l.color; row_bytes = l.row_bytes; plane_stride = l.plane_stride }
 
 -- the chunks of a plane are fewer than 2^32
 pub chunks_few : (p : Page) → chunks_of_plane (view.page p) < 2 ^ 32
@@ -35,7 +27,7 @@ pub overflow_cast-index : goal.overflow_cast-index
 overflow_cast-index g c =
     let p = c.args.self.now.page.now in
     let inside : c.loop-column.column < across (view.page p) = omega (arith, c.loop-column-test.true, c.chunks_across-column-end.ensures) in
-    let i = bands.its_index (g.R.Source.told c.args.source.now).bytes c.args.self.now.order (view.page p) c.args.self.now.limits.now (layout c.args.part.layout) (sides_of p) p.sampled p.deep c.requires.laid c.args.part.first c.loop-column.column 1 c.requires.banded c.requires.chunk inside in
+    let i = bands.its_index (g.R.Source.told c.args.source.now).bytes c.args.self.now.order (view.page p) c.args.self.now.limits.now (view.layout c.args.part.layout) (sides_of p) p.sampled p.deep c.requires.tiles.laid c.args.part.first c.loop-column.column 1 c.requires.tiles.banded c.requires.tiles.chunk inside in
     let n = chunks_few p in
     omega (arith, i, n)
 
@@ -43,7 +35,7 @@ pub overflow_add-index : goal.overflow_add-index
 overflow_add-index g c =
     let p = c.args.self.now.page.now in
     let inside : c.loop-column.column < across (view.page p) = omega (arith, c.loop-column-test.true, c.chunks_across-column-end.ensures) in
-    let i = bands.its_index (g.R.Source.told c.args.source.now).bytes c.args.self.now.order (view.page p) c.args.self.now.limits.now (layout c.args.part.layout) (sides_of p) p.sampled p.deep c.requires.laid c.args.part.first c.loop-column.column 1 c.requires.banded c.requires.chunk inside in
+    let i = bands.its_index (g.R.Source.told c.args.source.now).bytes c.args.self.now.order (view.page p) c.args.self.now.limits.now (view.layout c.args.part.layout) (sides_of p) p.sampled p.deep c.requires.tiles.laid c.args.part.first c.loop-column.column 1 c.requires.tiles.banded c.requires.tiles.chunk inside in
     let n = chunks_few p in
     omega (arith, i, n)
 
@@ -51,51 +43,51 @@ pub image_destination-place-requires : goal.image_destination-place-requires
 image_destination-place-requires g c =
     let p = c.args.self.now.page.now in
     let inside : c.loop-column.column < across (view.page p) = omega (arith, c.loop-column-test.true, c.chunks_across-column-end.ensures) in
-    bands.its_index (g.R.Source.told c.args.source.now).bytes c.args.self.now.order (view.page p) c.args.self.now.limits.now (layout c.args.part.layout) (sides_of p) p.sampled p.deep c.requires.laid c.args.part.first c.loop-column.column 1 c.requires.banded c.requires.chunk inside
+    bands.its_index (g.R.Source.told c.args.source.now).bytes c.args.self.now.order (view.page p) c.args.self.now.limits.now (view.layout c.args.part.layout) (sides_of p) p.sampled p.deep c.requires.tiles.laid c.args.part.first c.loop-column.column 1 c.requires.tiles.banded c.requires.tiles.chunk inside
 
 pub separate_rows-requires-clause-read : goal.separate_rows-requires-clause-read
 separate_rows-requires-clause-read g c =
     let p = c.args.self.now.page.now in
     let inside : c.loop-column.column < across (view.page p) = omega (arith, c.loop-column-test.true, c.chunks_across-column-end.ensures) in
-    bands.its_read (g.R.Source.told c.args.source.now).bytes c.args.self.now.order (view.page p) c.args.self.now.limits.now (layout c.args.part.layout) (sides_of p) p.sampled p.deep c.requires.laid c.args.part.first c.loop-column.column 1 c.requires.banded c.requires.chunk inside
+    bands.its_read (g.R.Source.told c.args.source.now).bytes c.args.self.now.order (view.page p) c.args.self.now.limits.now (view.layout c.args.part.layout) (sides_of p) p.sampled p.deep c.requires.tiles.laid c.args.part.first c.loop-column.column 1 c.requires.tiles.banded c.requires.tiles.chunk inside
 
 pub separate_rows-requires-clause-formed : goal.separate_rows-requires-clause-formed
 separate_rows-requires-clause-formed g c =
     let p = c.args.self.now.page.now in
     let inside : c.loop-column.column < across (view.page p) = omega (arith, c.loop-column-test.true, c.chunks_across-column-end.ensures) in
-    bands.its_method (g.R.Source.told c.args.source.now).bytes c.args.self.now.order (view.page p) c.args.self.now.limits.now (layout c.args.part.layout) (sides_of p) p.sampled p.deep c.requires.laid c.args.part.first c.loop-column.column 1 c.requires.banded c.requires.chunk inside
+    bands.its_method (g.R.Source.told c.args.source.now).bytes c.args.self.now.order (view.page p) c.args.self.now.limits.now (view.layout c.args.part.layout) (sides_of p) p.sampled p.deep c.requires.tiles.laid c.args.part.first c.loop-column.column 1 c.requires.tiles.banded c.requires.tiles.chunk inside
 
 pub separate_rows-requires-clause-listed : goal.separate_rows-requires-clause-listed
 separate_rows-requires-clause-listed g c =
     let p = c.args.self.now.page.now in
     let inside : c.loop-column.column < across (view.page p) = omega (arith, c.loop-column-test.true, c.chunks_across-column-end.ensures) in
-    bands.its_place (g.R.Source.told c.args.source.now).bytes c.args.self.now.order (view.page p) c.args.self.now.limits.now (layout c.args.part.layout) (sides_of p) p.sampled p.deep c.requires.laid c.args.part.first c.loop-column.column 1 c.requires.banded c.requires.chunk inside (length p.offsets) p.counted
+    bands.its_place (g.R.Source.told c.args.source.now).bytes c.args.self.now.order (view.page p) c.args.self.now.limits.now (view.layout c.args.part.layout) (sides_of p) p.sampled p.deep c.requires.tiles.laid c.args.part.first c.loop-column.column 1 c.requires.tiles.banded c.requires.tiles.chunk inside (length p.offsets) p.counted
 
 pub separate_rows-requires-clause-within : goal.separate_rows-requires-clause-within
 separate_rows-requires-clause-within g c =
     let p = c.args.self.now.page.now in
     let inside : c.loop-column.column < across (view.page p) = omega (arith, c.loop-column-test.true, c.chunks_across-column-end.ensures) in
-    let h = bands.its_height (g.R.Source.told c.args.source.now).bytes c.args.self.now.order (view.page p) c.args.self.now.limits.now (layout c.args.part.layout) (sides_of p) p.sampled p.deep c.requires.laid c.args.part.first c.loop-column.column 1 c.requires.banded c.requires.chunk inside in
-    omega (arith, h, c.requires.within)
+    let h = bands.its_height (g.R.Source.told c.args.source.now).bytes c.args.self.now.order (view.page p) c.args.self.now.limits.now (view.layout c.args.part.layout) (sides_of p) p.sampled p.deep c.requires.tiles.laid c.args.part.first c.loop-column.column 1 c.requires.tiles.banded c.requires.tiles.chunk inside in
+    omega (arith, h, c.requires.tiles.within)
 
 pub separate_rows-requires-clause-start : goal.separate_rows-requires-clause-start
 separate_rows-requires-clause-start g c =
     let p = c.args.self.now.page.now in
     let inside : c.loop-column.column < across (view.page p) = omega (arith, c.loop-column-test.true, c.chunks_across-column-end.ensures) in
-    bands.its_start (g.R.Source.told c.args.source.now).bytes c.args.self.now.order (view.page p) c.args.self.now.limits.now (layout c.args.part.layout) (sides_of p) p.sampled p.deep c.requires.laid c.args.part.first c.loop-column.column 1 c.requires.banded c.requires.chunk inside
-    c.args.part.from c.args.part.to c.requires.some_rows c.requires.within
+    bands.its_start (g.R.Source.told c.args.source.now).bytes c.args.self.now.order (view.page p) c.args.self.now.limits.now (view.layout c.args.part.layout) (sides_of p) p.sampled p.deep c.requires.tiles.laid c.args.part.first c.loop-column.column 1 c.requires.tiles.banded c.requires.tiles.chunk inside
+    c.args.part.from c.args.part.to c.requires.tiles.some_rows c.requires.tiles.within
 
 pub separate_rows-requires-clause-some : goal.separate_rows-requires-clause-some
 separate_rows-requires-clause-some g c =
     let p = c.args.self.now.page.now in
-    let l = stride_some (g.R.Source.told c.args.source.now).bytes c.args.self.now.order (view.page p) c.args.self.now.limits.now (layout c.args.part.layout) (sides_of p) p.sampled p.deep c.requires.laid in
+    let l = stride_some (g.R.Source.told c.args.source.now).bytes c.args.self.now.order (view.page p) c.args.self.now.limits.now (view.layout c.args.part.layout) (sides_of p) p.sampled p.deep c.requires.tiles.laid in
     omega (arith, l, c.image_destination-place.ensures.stride)
 
 pub separate_rows-requires-clause-columns : goal.separate_rows-requires-clause-columns
 separate_rows-requires-clause-columns g c =
     let p = c.args.self.now.page.now in
     let inside : c.loop-column.column < across (view.page p) = omega (arith, c.loop-column-test.true, c.chunks_across-column-end.ensures) in
-    let l = bands.its_columns (g.R.Source.told c.args.source.now).bytes c.args.self.now.order (view.page p) c.args.self.now.limits.now (layout c.args.part.layout) (sides_of p) p.sampled p.deep c.requires.laid c.args.part.first c.loop-column.column 1 c.requires.banded c.requires.chunk inside in
+    let l = bands.its_columns (g.R.Source.told c.args.source.now).bytes c.args.self.now.order (view.page p) c.args.self.now.limits.now (view.layout c.args.part.layout) (sides_of p) p.sampled p.deep c.requires.tiles.laid c.args.part.first c.loop-column.column 1 c.requires.tiles.banded c.requires.tiles.chunk inside in
     omega (arith, l, c.image_destination-place.ensures.left, c.image_destination-place.ensures.stride)
 
 pub separate_rows-requires-clause-there : goal.separate_rows-requires-clause-there
@@ -129,7 +121,7 @@ returns-in_err-separate_rows-clause-asked g c =
     let p = c.args.self.now.page.now in
     let inside : c.loop-column.column < across (view.page p) = omega (arith, c.loop-column-test.true, c.chunks_across-column-end.ensures) in
     let i = c.args.part.first + c.loop-column.column in
-    let below = bands.its_index (g.R.Source.told c.args.source.now).bytes c.args.self.now.order (view.page p) c.args.self.now.limits.now (layout c.args.part.layout) (sides_of p) p.sampled p.deep c.requires.laid c.args.part.first c.loop-column.column 1 c.requires.banded c.requires.chunk inside in
+    let below = bands.its_index (g.R.Source.told c.args.source.now).bytes c.args.self.now.order (view.page p) c.args.self.now.limits.now (view.layout c.args.part.layout) (sides_of p) p.sampled p.deep c.requires.tiles.laid c.args.part.first c.loop-column.column 1 c.requires.tiles.banded c.requires.tiles.chunk inside in
     let answered = err_from_is_err_and c.from_residual.result c.from_residual.ensures.1 in
     rw (answered.1, answered.2) (part_asked (view.page p) c.args.part.layout.color (image_part (view.page p) 1 c.args.part.layout.row_bytes) 0 i i _ (g.R.Source.told c.args.source.now) (g.R.Source.told c.loop-column.source) c.loop-column.invariant.same
     (omega arith) (omega arith) below c.in_err-separate_rows.ensures.asked)
@@ -160,8 +152,8 @@ loop-column-preserved g c =
       same = c.in_ok-separate_rows.ensures.kept.told ∙ c.loop-column.invariant.same;
       count = omega (arith, c.in_ok-separate_rows.ensures.kept.swallowed, c.loop-column.invariant.count);
       none = one_more (λ k. fail_if (rows_short file order (view.page p) color (part.first + k) part.to) (IoError UnexpectedEof)) column c.loop-column.invariant.none given;
-      written = bands.its_beside file order (view.page p) c.args.self.now.limits.now (layout part.layout) (sides_of p) p.sampled p.deep c.requires.laid part.first column 1 c.requires.banded c.requires.chunk inside
-          part.from part.to top old mid new c.requires.some_rows c.requires.within c.loop-column.invariant.written wrote;
+      written = bands.its_beside file order (view.page p) c.args.self.now.limits.now (view.layout part.layout) (sides_of p) p.sampled p.deep c.requires.tiles.laid part.first column 1 c.requires.tiles.banded c.requires.tiles.chunk inside
+          part.from part.to top old mid new c.requires.tiles.some_rows c.requires.tiles.within c.loop-column.invariant.written wrote;
     }
 
 pub returns-clause-ok : goal.returns-clause-ok
@@ -174,5 +166,5 @@ returns-clause-ok g c =
     let file = (g.R.Source.told c.args.source.now).bytes in
     let value = in_rect (λ r b. image_byte (view.page p) color stride file order (((rect (view.page p) part.first).y + part.from + r) * stride + b)) stride part.top 0 in
     let e : c.loop-column.column ≡ across (view.page p) = omega (arith, c.loop-column-test.false, c.loop-column.auto.column-end, c.chunks_across-column-end.ensures) in
-    let l = bands.all_columns file order (view.page p) c.args.self.now.limits.now (layout part.layout) (sides_of p) p.sampled p.deep c.requires.laid part.first 1 c.requires.banded c.requires.chunk in
+    let l = bands.all_columns file order (view.page p) c.args.self.now.limits.now (view.layout part.layout) (sides_of p) p.sampled p.deep c.requires.tiles.laid part.first 1 c.requires.tiles.banded c.requires.tiles.chunk in
     subst (λ (m : ℕ). Writes (IsIn stride part.top (part.to - part.from) 0 m) value (g.W.RowSink.bytes c.args.sink.now) (g.W.RowSink.bytes c.loop-column.sink)) (ap (bands.edge (view.page p) color) e ∙ l) c.loop-column.invariant.written

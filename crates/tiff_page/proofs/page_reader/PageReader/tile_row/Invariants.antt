@@ -1,12 +1,9 @@
 use Rattle.std.proofs.Common.{◌≡◌, ℕ, ◌+◌, ◌-◌, ◌<◌, ◌≤◌, Ok}
-use Rattle.tiff_base.specs.declared.error.TiffError.TheVariants.{IoError}
-use Rattle.tiff_base.specs.declared.io.IoKind.TheVariants.{UnexpectedEof}
-use Rattle.tiff_page.specs.PixelFault.{each_below, fail_if}
 use Rattle.tiff_page.specs.BufferPositions.{filled_to}
-use Rattle.tiff_page.specs.ChunkBands.{WritesImageRows, rows_short}
-use Rattle.tiff_page.specs.Rect.{rect, across}
+use Rattle.tiff_page.specs.ChunkBands.{WritesImageRows, rows_fault}
+use Rattle.tiff_page.specs.Rect.{rect}
 use Rattle.tiff_page.specs.PageView as view
-use Rattle.tiff_page.proofs.page_reader.PageReader.straight_tile_row.Given as goal
+use Rattle.tiff_page.proofs.page_reader.PageReader.tile_row.Given as goal
 
 -- the rows so far are in the list, filled up with zeros, and the data are enough for them
 abbrev pub invariant-loop-from : goal.invariant-loop-from
@@ -21,7 +18,7 @@ invariant-loop-from g l =
       same : g.R.Source.told l.source ≡ g.R.Source.told l.fn.source;
       count : g.R.Source.failures l.source ≡ g.R.Source.failures l.fn.source;
       below : l.from ≤ l.height;
-      none : 0 < l.from → each_below (λ column. fail_if (rows_short bytes l.self.order p color (l.fn.next.chunk + column) l.from) (IoError UnexpectedEof)) (across p) ≡ Ok tt;
+      none : 0 < l.from → rows_fault bytes l.self.order p color l.fn.next.chunk l.from ≡ Ok tt;
       written : (total : ℕ) → g.W.RowSink.whole l.fn.next.part.layout.plane_stride ≤ total → WritesImageRows bytes l.self.order p color stride y (y + l.from) (filled_to total (g.W.RowSink.bytes l.fn.sink)) (filled_to total (g.W.RowSink.bytes l.sink));
     }
 

@@ -1,17 +1,13 @@
 use Rattle.std.proofs.Common.{arith, ap, map, ℕ, List, ◌∙◌}
 use Rattle.std.proofs.lemmas.Result.{err_from_is_err_and}
 use Rattle.tiff_base.proofs.Told.{same_bytes}
-use Rattle.tiff_page.specs.Laws.{HasSides}
 use Rattle.tiff_page.specs.NumberBytes.{bytes_in, no_bytes}
 use Rattle.tiff_page.specs.Samples.{color_in, first_in}
 use Rattle.tiff_page.specs.PageView as view
-use Rattle.tiff_page.specs.declared.page.Page.{Page}
 use Rattle.tiff_page.proofs.Requests.{filling_cause, zeros_filled}
 use Rattle.tiff_page.proofs.Reach.{first_readable, portion_filled}
-use Rattle.tiff_page.proofs.page_reader.PageReader.read_typed.Goals as goal
-
-abbrev pub sides_of : (p : Page) → HasSides (view.page p)
-sides_of p = record { wide = p.wide; high = p.high; chunk_wide = p.chunk_wide; chunk_high = p.chunk_high }
+use Rattle.tiff_page.proofs.Sides.{sides_of}
+use Rattle.tiff_page.proofs.page_reader.PageReader.read_as.Goals as goal
 
 pub returns-clause-answer : goal.returns-clause-answer
 returns-clause-answer g c =

@@ -1,0 +1,91 @@
+use Rattle.std.proofs.Common.{arith, ap, sym, ◌≡◌, ℕ, List, ◌∙◌, ◌+◌, ◌-◌, ◌*◌, ◌≤◌, length, subst}
+use Rattle.std.proofs.Math.Nat.{le-mul_of_pos_right}
+use Rattle.tiff_page.specs.Layout.{row_bytes}
+use Rattle.tiff_page.specs.BufferPositions.{filled_to, image_byte, IsIn, Writes}
+use Rattle.tiff_page.specs.ChunkBands.{AreImageRows, PutsImageRows}
+use Rattle.tiff_page.specs.PageView as view
+use Rattle.tiff_page.proofs.ChunkBands as bands
+use Rattle.tiff_page.proofs.Filled.{put_filled, rows_filled}
+use Rattle.tiff_page.proofs.Filling.{row_is, stride_some}
+use Rattle.tiff_page.proofs.Sides.{sides_of}
+use Rattle.tiff_page.proofs.page_reader.PageReader.image_rows.Goals as goal
+
+pub overflow_add-end : goal.overflow_add-end
+overflow_add-end g c =
+    let p = c.args.self.now.page.now in
+    let part = c.args.part in
+    let some : part.top + (part.to - part.from) ≤ (part.top + (part.to - part.from)) * part.layout.row_bytes = le-mul_of_pos_right (part.top + (part.to - part.from)) (stride_some (g.R.Source.told c.args.source.now).bytes c.args.self.now.order (view.page p) c.args.self.now.limits.now (view.layout part.layout) (sides_of p) p.sampled p.deep c.requires.tiles.laid) in
+    omega (arith, c.requires.fits, some)
+
+pub overflow_mul-part : goal.overflow_mul-part
+overflow_mul-part g c =
+    let part = c.args.part in
+    let split : (part.top + (part.to - part.from)) * part.layout.row_bytes ≡ part.top * part.layout.row_bytes + (part.to - part.from) * part.layout.row_bytes = omega arith in
+    omega (arith, c.requires.fits, split)
+
+pub place-requires-clause-room : goal.place-requires-clause-room
+place-requires-clause-room g c =
+    let part = c.args.part in
+    let split : (part.top + (part.to - part.from)) * part.layout.row_bytes ≡ part.top * part.layout.row_bytes + (part.to - part.from) * part.layout.row_bytes = omega arith in
+    let n = ap (λ (xs : List ℕ). length xs) c.deref.ensures.value in
+    omega (arith, c.requires.fits, split, c.in_ok-scratch_rows.ensures.all, n, c.requires.room)
+
+pub place-requires-clause-fits : goal.place-requires-clause-fits
+place-requires-clause-fits g c =
+    let part = c.args.part in
+    let split : (part.top + (part.to - part.from)) * part.layout.row_bytes ≡ part.top * part.layout.row_bytes + (part.to - part.from) * part.layout.row_bytes = omega arith in
+    let n = ap (λ (xs : List ℕ). length xs) c.deref.ensures.value in
+    omega (arith, c.requires.fits, split, c.in_ok-scratch_rows.ensures.all, n)
+
+pub returns-then-uses_scratch-clause-ok : goal.returns-then-uses_scratch-clause-ok
+returns-then-uses_scratch-clause-ok g c =
+    let p = c.args.self.now.page.now in
+    let part = c.args.part in
+    let file = (g.R.Source.told c.args.source.now).bytes in
+    let order = c.args.self.now.order in
+    let color = part.layout.color in
+    let stride = part.layout.row_bytes in
+    let bytes = g.W.RowSink.bytes in
+    let old = bytes c.args.sink.now in
+    let new = bytes c.place.new.self in
+    let value = image_byte (view.page p) color stride file order in
+    let rows = c.deref.result.now in
+    let count = part.to - part.from in
+    let at = part.top * stride in
+    let split : (part.top + count) * stride ≡ at + count * stride = omega arith in
+    let len : length rows ≡ count * stride = ap (λ (xs : List ℕ). length xs) c.deref.ensures.value ∙ c.in_ok-scratch_rows.ensures.all in
+    let is = subst (AreImageRows file order (view.page p) color stride part.top) (sym c.deref.ensures.value)
+    (subst (λ (m : ℕ). AreImageRows file order (view.page p) color stride m c.scratch_rows.new.scratch.bytes.items) (sym c.requires.top) c.in_ok-scratch_rows.ensures.rows) in
+    let last : at + length rows ≤ part.layout.plane_stride = omega (arith, c.requires.fits, split, len) in
+    let enough = g.met.W.RowSink.enough (at + length rows) part.layout.plane_stride last in
+    let high : count ≡ part.top + count - part.top = omega arith in
+    λ total k.
+    let put_there = put_filled total (g.W.RowSink.whole (at + length rows)) at rows old new (omega (arith, enough.1, k)) enough.0 c.in_ok-place.ensures.placed in
+    let wrote = bands.rows_put value stride part.top count rows (filled_to total old) (filled_to total new) (stride_some (g.R.Source.told c.args.source.now).bytes c.args.self.now.order (view.page p) c.args.self.now.limits.now (view.layout part.layout) (sides_of p) p.sampled p.deep c.requires.tiles.laid) len is put_there in
+    subst (λ (m : ℕ). Writes (IsIn stride part.top m 0 (row_bytes (view.page p) color p.width)) value (filled_to total old) (filled_to total new)) high
+    (subst (λ (m : ℕ). Writes (IsIn stride part.top count 0 m) value (filled_to total old) (filled_to total new)) (row_is (g.R.Source.told c.args.source.now).bytes c.args.self.now.order (view.page p) c.args.self.now.limits.now (view.layout part.layout) (sides_of p) p.sampled p.deep c.requires.tiles.laid) wrote)
+
+pub returns-clause-ok : goal.returns-clause-ok
+returns-clause-ok g c =
+    let p = c.args.self.now.page.now in
+    let part = c.args.part in
+    let file = (g.R.Source.told c.args.source.now).bytes in
+    let order = c.args.self.now.order in
+    let color = part.layout.color in
+    let stride = part.layout.row_bytes in
+    let bytes = g.W.RowSink.bytes in
+    let old = bytes c.args.sink.now in
+    let mid = bytes c.zeros_to.new.self in
+    let new = bytes c.tile_row_part.new.sink in
+    let value = image_byte (view.page p) color stride file order in
+    let count = part.to - part.from in
+    let end = (part.top + count) * stride in
+    let high : count ≡ part.top + count - part.top = omega arith in
+    let put = subst (λ (m : ℕ). PutsImageRows file order (view.page p) color stride part.top m part.top mid new) high
+    (subst (λ (m : ℕ). PutsImageRows file order (view.page p) color stride m count part.top mid new) (sym c.requires.top) c.in_ok-tile_row_part.ensures.ok) in
+    let some = stride_some (g.R.Source.told c.args.source.now).bytes c.args.self.now.order (view.page p) c.args.self.now.limits.now (view.layout part.layout) (sides_of p) p.sampled p.deep c.requires.tiles.laid in
+    let wrote = bands.rows_in_place file order (view.page p) color stride part.top (part.top + count) mid new some put in
+    let enough = g.met.W.RowSink.enough end part.layout.plane_stride c.requires.fits in
+    let last : (part.top + (part.top + count - part.top)) * stride ≡ end = ap (λ (m : ℕ). m * stride) (omega arith) in
+    λ total k.
+    rows_filled stride part.top (part.top + count - part.top) 0 (row_bytes (view.page p) color p.width) (g.W.RowSink.whole end) total value old mid new some (omega (arith, last, enough.0)) c.in_ok-zeros_to.ensures.zeros wrote (omega (arith, enough.1, k))

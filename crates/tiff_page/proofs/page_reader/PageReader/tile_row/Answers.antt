@@ -1,0 +1,126 @@
+use Rattle.std.proofs.Common.{arith, Ok, Err, ap, subst, ◌≡◌, ℕ, List, ◌∙◌, ◌+◌, ◌-◌, ◌*◌, ◌<◌, ◌≤◌}
+use Rattle.std.proofs.lemmas.Result.{err_from_is_err_and}
+use Rattle.std.proofs.Math.Nat.{le-mul_of_pos_right}
+use Rattle.tiff_base.specs.Answers.{IsCause}
+use Rattle.tiff_base.proofs.Told.{same_bytes}
+use Rattle.tiff_base.proofs.Causes.{cause_along}
+use Rattle.tiff_page.specs.Layout.{row_bytes}
+use Rattle.tiff_page.specs.BufferPositions.{filled_to, image_byte}
+use Rattle.tiff_page.specs.ChunkBands.{AreBanded, WritesImageRows, rows_fault}
+use Rattle.tiff_page.specs.Rect.{rect, across}
+use Rattle.tiff_page.specs.PageView as view
+use Rattle.tiff_page.proofs.ChunkBands as bands
+use Rattle.tiff_page.proofs.Filling.{stride_some}
+use Rattle.tiff_page.proofs.Sides.{sides_of}
+use Rattle.tiff_page.proofs.page_reader.PageReader.tile_row.Goals as goal
+
+pub rows_of_piece-most-requires : goal.rows_of_piece-most-requires
+rows_of_piece-most-requires g c =
+    let p = c.args.self.now.page.now in
+    stride_some (g.R.Source.told c.args.source.now).bytes c.args.self.now.order (view.page p) c.args.self.now.limits.now (view.layout c.args.next.part.layout) (sides_of p) p.sampled p.deep c.requires.laid
+
+pub overflow_add-rows : goal.overflow_add-rows
+overflow_add-rows g c =
+    let p = c.args.self.now.page.now in
+    let l = c.args.next.part.layout in
+    let file = (g.R.Source.told c.args.source.now).bytes in
+    let y = ap (λ r. r.y) c.rect-place.ensures.position in
+    let h = ap (λ r. r.height) c.rect-place.ensures.position in
+    let end = (rect (view.page p) c.args.next.chunk).y + c.loop-from.from in
+    let fits : end * l.row_bytes ≤ l.plane_stride = bands.rows_end file c.args.self.now.order (view.page p) c.args.self.now.limits.now (view.layout l) (sides_of p) p.sampled p.deep c.requires.laid c.args.next.chunk c.loop-from.from (omega (arith, h, c.loop-from.invariant.below)) in
+    let k : end ≤ end * l.row_bytes = le-mul_of_pos_right end (stride_some file c.args.self.now.order (view.page p) c.args.self.now.limits.now (view.layout l) (sides_of p) p.sampled p.deep c.requires.laid) in
+    omega (arith, y, fits, k)
+
+pub image_rows-requires-clause-tiles : goal.image_rows-requires-clause-tiles
+image_rows-requires-clause-tiles g c =
+    let p = view.page c.args.self.now.page.now in
+    let h = ap (λ r. r.height) c.rect-place.ensures.position in
+    record {
+      laid = c.requires.laid;
+      banded = subst (λ (n : ℕ). AreBanded p c.args.self.now.limits.now c.args.next.part.layout.color n c.args.next.chunk) c.requires.banded.one c.requires.banded;
+      chunk = c.requires.chunk;
+      some_rows = omega (arith, c.rows_of_piece-most.ensures, c.min.ensures, c.loop-from-test.true);
+      within = omega (arith, h, c.min.ensures, c.loop-from-test.true, c.loop-from.invariant.below);
+    }
+
+pub image_rows-requires-clause-top : goal.image_rows-requires-clause-top
+image_rows-requires-clause-top g c = ap (λ r. r.y + c.loop-from.from) c.rect-place.ensures.position
+
+pub image_rows-requires-clause-fits : goal.image_rows-requires-clause-fits
+image_rows-requires-clause-fits g c =
+    let p = c.args.self.now.page.now in
+    let l = c.args.next.part.layout in
+    let file = (g.R.Source.told c.args.source.now).bytes in
+    let h = ap (λ r. r.height) c.rect-place.ensures.position in
+    let from = c.loop-from.from in
+    let to = from + c.min.result in
+    let end : (rect (view.page p) c.args.next.chunk).y + to ≡ c.rect-place.result.y + from + (to - from) = let y = ap (λ r. r.y) c.rect-place.ensures.position in omega (arith, y) in
+    subst (λ (m : ℕ). m * l.row_bytes ≤ l.plane_stride) end (bands.rows_end file c.args.self.now.order (view.page p) c.args.self.now.limits.now (view.layout l) (sides_of p) p.sampled p.deep c.requires.laid c.args.next.chunk to (omega (arith, h, c.min.ensures, c.loop-from-test.true, c.loop-from.invariant.below)))
+
+pub returns-in_err-image_rows-clause-answer : goal.returns-in_err-image_rows-clause-answer
+returns-in_err-image_rows-clause-answer g c =
+    let p = c.args.self.now.page.now in
+    let l = c.args.next.part.layout in
+    let order = c.args.self.now.order in
+    let first = c.args.next.chunk in
+    let e = c.in_err-image_rows.field-0.0 in
+    let file = (g.R.Source.told c.args.source.now).bytes in
+    let to = c.loop-from.from + c.min.result in
+    let h = ap (λ r. r.height) c.rect-place.ensures.position in
+    let high = λ (column : ℕ) (il : column < across (view.page p)). bands.its_height file c.args.self.now.order (view.page p) c.args.self.now.limits.now (view.layout l) (sides_of p) p.sampled p.deep c.requires.laid first column c.args.next.part.planes c.requires.banded c.requires.chunk il in
+    let inside : to ≤ (rect (view.page p) first).height = omega (arith, h, c.min.ensures, c.loop-from-test.true, c.loop-from.invariant.below) in
+    let given = subst (λ (bytes : List ℕ). IsCause (Unit {0}) (g.R.Source.failures c.loop-from.source < g.R.Source.failures c.image_rows.new.source) e (rows_fault bytes order (view.page p) l.color first to ≡ Err e)) (same_bytes c.loop-from.invariant.same) c.in_err-image_rows.ensures.answer in
+    let answered = err_from_is_err_and c.from_residual.result c.from_residual.ensures.1 in
+    rw (answered.1, answered.2) (cause_along e (λ w. w) (λ f. omega (arith, f, c.loop-from.invariant.count)) (λ z. bands.short_rows file order (view.page p) l.color first to high inside e z) given)
+
+pub loop-from-preserved : goal.loop-from-preserved
+loop-from-preserved g c =
+    let p = view.page c.args.self.now.page.now in
+    let order = c.args.self.now.order in
+    let color = c.args.next.part.layout.color in
+    let stride = c.args.next.part.layout.row_bytes in
+    let file = (g.R.Source.told c.args.source.now).bytes in
+    let first = c.args.next.chunk in
+    let from = c.loop-from.from in
+    let to = from + c.min.result in
+    let y = (rect p first).y in
+    let i = c.loop-from.invariant in
+    let top : c.rect-place.result.y + from ≡ y + from = ap (λ r. r.y + from) c.rect-place.ensures.position in
+    let end : c.rect-place.result.y + from + (to - from) ≡ y + to = omega (arith, top) in
+    let same = same_bytes i.same in
+    let now = c.in_ok-image_rows.ensures in
+    record {
+      later = g.met.W.RowSink.further c.args.sink.now c.loop-from.sink c.image_rows.new.sink i.later now.later;
+      same = now.kept.told ∙ i.same;
+      count = omega (arith, now.kept.swallowed, i.count);
+      below = omega (arith, c.min.ensures, c.loop-from-test.true, i.below);
+      none = λ z. subst (λ (told : List ℕ). rows_fault told order p color first to ≡ Ok tt) same now.answer;
+      written = λ total l.
+          let mid = filled_to total (g.W.RowSink.bytes c.loop-from.sink) in
+          let new = filled_to total (g.W.RowSink.bytes c.image_rows.new.sink) in
+          bands.more_rows (image_byte p color stride file order) stride y (y + from) (y + to) (row_bytes p color p.width) (filled_to total (g.W.RowSink.bytes c.args.sink.now)) mid new (omega arith) (omega arith)
+          (i.written total l)
+          (subst (λ (m : ℕ). WritesImageRows file order p color stride (y + from) m mid new) end
+          (subst (λ (m : ℕ). WritesImageRows file order p color stride m (c.rect-place.result.y + from + (to - from)) mid new) top
+          (subst (λ (told : List ℕ). WritesImageRows told order p color stride (c.rect-place.result.y + from) (c.rect-place.result.y + from + (to - from)) mid new) same (now.ok total l))));
+    }
+
+pub returns-clause-answer : goal.returns-clause-answer
+returns-clause-answer g c =
+    let p = c.args.self.now.page.now in
+    let l = c.args.next.part.layout in
+    let first = c.args.next.chunk in
+    let file = (g.R.Source.told c.args.source.now).bytes in
+    let h = ap (λ r. r.height) c.rect-place.ensures.position in
+    let high = λ (column : ℕ) (il : column < across (view.page p)). bands.its_height file c.args.self.now.order (view.page p) c.args.self.now.limits.now (view.layout l) (sides_of p) p.sampled p.deep c.requires.laid first column c.args.next.part.planes c.requires.banded c.requires.chunk il in
+    let e : c.loop-from.from ≡ (rect (view.page p) first).height = omega (arith, h, c.loop-from-test.false, c.loop-from.invariant.below) in
+    bands.rows_enough file c.args.self.now.order (view.page p) l.color first c.loop-from.from high (omega (arith, e)) e (c.loop-from.invariant.none (omega (arith, c.loop-from-test.false, c.rect-place.ensures.high)))
+
+pub returns-clause-ok : goal.returns-clause-ok
+returns-clause-ok g c =
+    let p = view.page c.args.self.now.page.now in
+    let first = c.args.next.chunk in
+    let h = ap (λ r. r.height) c.rect-place.ensures.position in
+    let e : c.loop-from.from ≡ (rect p first).height = omega (arith, h, c.loop-from-test.false, c.loop-from.invariant.below) in
+    λ total l. subst (λ (m : ℕ). WritesImageRows (g.R.Source.told c.args.source.now).bytes c.args.self.now.order p c.args.next.part.layout.color c.args.next.part.layout.row_bytes (rect p first).y ((rect p first).y + m) (filled_to total (g.W.RowSink.bytes c.args.sink.now)) (filled_to total (g.W.RowSink.bytes c.loop-from.sink))) e
+    (c.loop-from.invariant.written total l)
