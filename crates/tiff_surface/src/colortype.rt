@@ -1,10 +1,13 @@
 //! `tiff::encoder::colortype`: the differences of a row.
 
 use crate::report::Report;
+use std::alloc::Global;
 use std::fmt::Debug;
+use tiff::TiffResult;
 use tiff::encoder::Sample;
 use tiff::encoder::colortype::{
-    ColorType, Gray8, Gray16, Gray32, Gray64, GrayI8, GrayI16, GrayI32, GrayI64, RGB8,
+    CMYK8, ColorType, Gray8, Gray16, Gray32, Gray64, GrayI8, GrayI16, GrayI32, GrayI64, RGB8,
+    RGB16, RGB64, YCbCr8,
 };
 
 // The differences of a row: by the samples of a pixel, and by two.
@@ -24,6 +27,69 @@ where
     report.line("ColorType::horizontal_predict_stride", out);
 }
 
+// The differences of a row by the samples of a pixel.
+fn differences<C: ColorType>(alloc: Global, row: &[C::Inner]) -> TiffResult<Vec<C::Inner>>
+where
+    C::Inner: Drop,
+{
+    let mut out = Vec::new(alloc);
+    C::horizontal_predict(row, &mut out)?;
+    Ok(out)
+}
+
+// The differences of the same numbers, by one to four samples.
+fn add_differences(report: &mut Report) {
+    let alloc = report.alloc();
+    let row = [1u8, 2, 3, 50, 100, 7, 8, 9, 10, 120, 11, 12];
+    report.line(
+        "Gray8::horizontal_predict",
+        differences::<Gray8>(alloc, &row),
+    );
+    report.line("RGB8::horizontal_predict", differences::<RGB8>(alloc, &row));
+    report.line(
+        "CMYK8::horizontal_predict",
+        differences::<CMYK8>(alloc, &row),
+    );
+    report.line(
+        "YCbCr8::horizontal_predict",
+        differences::<YCbCr8>(alloc, &row),
+    );
+    let row = [1i8, 2, 3, 50, 100, 7, 8, 9, 10, 120, 11, 12];
+    report.line(
+        "GrayI8::horizontal_predict",
+        differences::<GrayI8>(alloc, &row),
+    );
+}
+
+// The same of larger samples.
+fn add_large_differences(report: &mut Report) {
+    let alloc = report.alloc();
+    let row = [1u16, 2, 3, 50, 100, 7, 8, 9, 10, 120, 11, 12];
+    report.line(
+        "Gray16::horizontal_predict",
+        differences::<Gray16>(alloc, &row),
+    );
+    report.line(
+        "RGB16::horizontal_predict",
+        differences::<RGB16>(alloc, &row),
+    );
+    let row = [1i16, 2, 3, 50, 100, 7, 8, 9, 10, 120, 11, 12];
+    report.line(
+        "GrayI16::horizontal_predict",
+        differences::<GrayI16>(alloc, &row),
+    );
+    let row = [1u32, 2, 3, 50, 100, 7, 8, 9, 10, 120, 11, 12];
+    report.line(
+        "Gray32::horizontal_predict",
+        differences::<Gray32>(alloc, &row),
+    );
+    let row = [1u64, 2, 3, 50, 100, 7, 8, 9, 10, 120, 11, 12];
+    report.line(
+        "RGB64::horizontal_predict",
+        differences::<RGB64>(alloc, &row),
+    );
+}
+
 // The sample of the lowest bits of a number.
 fn cut<S: Sample>(number: u64) -> S {
     S::cut(number)
@@ -41,4 +107,6 @@ pub fn add_lines(report: &mut Report) {
     add_row::<GrayI64>(report, &[9223372036854775807, -2, -1]);
     add_row::<RGB8>(report, &[1, 2, 3, 5, 7, 9]);
     report.line("Sample::cut", cut::<u8>(258));
+    add_differences(report);
+    add_large_differences(report);
 }

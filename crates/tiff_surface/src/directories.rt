@@ -1,8 +1,10 @@
 //! `tiff::encoder`: directories.
 
 use crate::report::Report;
+use std::alloc::Global;
 use tiff::TiffResult;
-use tiff::encoder::{DirectoryEncoder, HasDirectory, TiffEncoder, TiffKind};
+use tiff::directory::{Directory, Entry};
+use tiff::encoder::{DirectoryEncoder, DirectoryOffset, HasDirectory, TiffEncoder, TiffKind};
 use tiff::io::{MemorySink, Sink};
 use tiff::tags::{Tag, Type, ValueBuffer};
 
@@ -47,6 +49,33 @@ fn add_directory<W: Sink, K: TiffKind>(
     directory.finish()
 }
 
+// Writes a directory of given fields out of the chain, and compares its offset with one that is made
+// of its pointer and the fields.
+fn add_offset<W: Sink>(
+    report: &mut Report,
+    encoder: &mut TiffEncoder<W>,
+    fields: &Directory,
+) -> TiffResult<()> {
+    let mut directory = encoder.extra_directory()?;
+    let answer = directory.extend_from(fields);
+    report.line("DirectoryEncoder::extend_from", answer);
+    let written = directory.finish_with_offsets()?;
+    report.line("DirectoryOffset", (written.pointer, written.offset));
+    let made = DirectoryOffset::new(written.pointer, fields)?;
+    report.line("DirectoryOffset::new", (made.pointer, made.offset));
+    report.line("DirectoryOffset::eq", made == written);
+    Ok(())
+}
+
+// Two fields of one number each.
+fn sides(alloc: Global) -> TiffResult<Directory> {
+    let fields = [
+        (Tag::ImageWidth, Entry::new(Type::LONG, 1, [100, 0, 0, 0])),
+        (Tag::ImageLength, Entry::new(Type::LONG, 1, [200, 0, 0, 0])),
+    ];
+    Directory::from_iter(alloc, fields)
+}
+
 /// Adds the lines of directories.
 pub fn add_lines(report: &mut Report) -> TiffResult<()> {
     let alloc = report.alloc();
@@ -55,5 +84,6 @@ pub fn add_lines(report: &mut Report) -> TiffResult<()> {
     let answer = add_directory(report, &mut encoder, &buffer);
     report.line("DirectoryEncoder::finish", answer);
     report.line("TiffEncoder::into_inner", encoder.into_inner().into_vec());
-    Ok(())
+    let mut encoder = TiffEncoder::new(alloc, MemorySink::new(Vec::new(alloc)))?;
+    add_offset(report, &mut encoder, &sides(alloc)?)
 }

@@ -41,6 +41,14 @@ fn add_fields(report: &mut Report, directory: &mut Directory) {
     add_counts(report, "Directory::iter", directory);
 }
 
+// Sets one field three times.
+fn add_last(report: &mut Report, directory: &mut Directory) {
+    let tag = Tag::Unknown(1);
+    let items = [(tag, bytes(0)), (tag, bytes(1)), (tag, bytes(65535))];
+    report.line("Directory::extend", directory.extend(items));
+    add_counts(report, "Directory::extend", directory);
+}
+
 // What a directory returns of its fields.
 fn add_answers(report: &mut Report, directory: &mut Directory) {
     report.line("Directory::get", directory.get(Tag::ImageWidth));
@@ -69,7 +77,8 @@ pub fn add_lines(report: &mut Report) -> TiffResult<()> {
     add_fields(report, &mut directory);
     add_answers(report, &mut directory);
     add_links(report, &mut directory);
-    let made = Directory::from_iter(report.alloc(), [(Tag::Make, bytes(4))])?;
+    let mut made = Directory::from_iter(report.alloc(), [(Tag::Make, bytes(4))])?;
     add_counts(report, "Directory::from_iter", &made);
+    add_last(report, &mut made);
     Ok(())
 }

@@ -4,6 +4,7 @@
 //! `tiff`.
 #![tactic(auto)]
 
+mod borrowed;
 mod color;
 mod colortype;
 mod directories;
@@ -42,7 +43,8 @@ fn add_files(report: &mut Report) -> TiffResult<()> {
     stream::add_lines(report)?;
     io::add_lines(report)?;
     fields::add_lines(report)?;
-    directories::add_lines(report)
+    directories::add_lines(report)?;
+    borrowed::add_lines(report)
 }
 
 fn main(rt: HostRuntime) -> std::io::Result<()> {
