@@ -1,5 +1,5 @@
 -- The bytes that the steps of a decoder's calls read.
-use Rattle.std.proofs.Common.{◌≡◌, ℕ, ◌+◌, ◌-◌, ◌≤◌, List, length, Option, None, Some, Bool, true, false, Result, Ok, ap, sym, ◌∙◌, subst, arith}
+use Rattle.std.proofs.Common.{◌≡◌, ℕ, ◌+◌, ◌-◌, ◌≤◌, List, length, Option, None, Some, Bool, true, false, cond, Result, Ok, ap, sym, ◌∙◌, subst, arith}
 use Rattle.std.proofs.lemmas.Option.{slice_get_within}
 use Rattle.std.specs.Prelude.{option_map}
 use Rattle.std.specs.List.{slice_get, last_or}
@@ -20,12 +20,16 @@ use Rattle.tiff_page.proofs.Reach.{asks_more}
 use Rattle.tiff_decode.specs.Asked.{EntryReadable, NextPageReadable, OpenReadable, SeekReadable}
 use Rattle.tiff_decode.specs.ChainPosition.{IsAt}
 use Rattle.tiff_decode.specs.Machine.{Decoding, source_of}
-use Rattle.tiff_decode.specs.Outcome.{chain_from, chain_of, end_fault, first_directory, next_offset}
+use Rattle.tiff_decode.specs.Outcome.{chain_from, chain_of, end_fault, first_directory, next_offset, not_found}
 use Rattle.tiff_decode.proofs.ChainPosition.{last_of}
 
 -- the bytes that a call reads, for an equal view of the decoder
 pub asked_of : (P : Decoding → Type 0) (d old : Decoding) (e : TiffError) → d ≡ old → (P d → IsNotDevice e) → P old → IsNotDevice e
 asked_of P d old e seen asked q = asked (subst P (sym seen) q)
+
+-- an error that says that there is no directory
+pub none_asks : {P : Type 0} (e : TiffError) → e ≡ not_found → P → IsNotDevice e
+none_asks e h p = subst (λ (x : TiffError). IsNotDevice x) (sym h) tt
 
 -- ---- opening
 
@@ -96,3 +100,9 @@ pub next_behind : (d old : Decoding) (t : SourceRecord) (walk : Walked) (e : Tif
     → (NextReadable t d.kind d.order walk → IsNotDevice e) → NextPageReadable old → IsNotDevice e
 next_behind d old t walk e seen same b h asked q =
     asked (subst (λ (x : SourceRecord). NextReadable x d.kind d.order walk) (sym same) ((subst (λ (x : Decoding). NextPageReadable x) (sym seen) q).behind walk b h))
+
+-- the way to the directory of an index, where the error is hidden that ends the chain
+pub sought_past : (d old : Decoding) (index : ℕ) (e fault : TiffError) (open_before : Bool) → d ≡ old
+    → (WayReadable (source_of d) d.kind d.order d.first index → IsNotDevice e) → fault ≡ cond open_before e not_found → SeekReadable old index → IsNotDevice fault
+sought_past d old index e fault true seen asked f q = subst (λ (x : TiffError). IsNotDevice x) (sym f) (sought_way d old index e seen asked q)
+sought_past d old index e fault false seen asked f q = subst (λ (x : TiffError). IsNotDevice x) (sym f) tt

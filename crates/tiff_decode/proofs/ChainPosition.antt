@@ -302,6 +302,13 @@ next_closed d walk at k end a m e l h =
 
 -- ---- seek_to_image
 
+-- the outcome of a seek past the end, from a place that a directory follows, and from one that none follows
+abbrev past_open : Decoding → Chain → Call
+past_open d c = record { answer = Err (end_fault c.end); next = record d.state { pointer = pointed (last_or None c.offsets); more = false } }
+
+abbrev past_closed : Decoding → Call
+past_closed d = record { answer = Err not_found; next = record d.state { pointer = None } }
+
 pub seek_known : (r : Result (Unit {0}) TiffError) (d mid new : Decoding) (k offset : ℕ) → slice_get (chain_of d).offsets k ≡ Some offset
     → mid ≡ d → Follows (λ x. x) (enter mid offset) r mid new → Follows (λ x. x) (seek_to_image d k) r d new
 seek_known r d mid new k offset h e f = enters r (seek_to_image d k) offset d mid new e (sought_by d k (Some offset) h) f
@@ -310,3 +317,93 @@ seek_known r d mid new k offset h e f = enters r (seek_to_image d k) offset d mi
 pub none_of : (r : Option ℕ) → ((p : ℕ) → r ≡ Some p → ⊥) → r ≡ None
 none_of None h = refl
 none_of (Some p) h = absurd (h p refl)
+
+-- an error that leaves the decoder as it is
+pub stays_refused : (G : Type 0) (e : TiffError) (o : Call) (d : Decoding) (told : SourceRecord) (after : ℕ) → keeps_state e ≡ true → told ≡ source_of d
+    → IsCause (Unit {0}) (d.failures < after) e G → d.failures ≤ after → NoneSwallowed {X = Unit {0}} (Err e) d.failures after
+    → Follows (λ x. x) o (Err e) d (record d { bytes = told.bytes; readable = told.readable; failures = after })
+stays_refused G OutOfMemory o d told after k t c l s = (tt, told_same d told after t s)
+stays_refused G (IoError Device) o d told after k t c l s =
+    record { grew = c; at = record { stands = λ i. record d { bytes = (t i).bytes; readable = (t i).readable; failures = after }; failures = l } }
+stays_refused G (IoError UnexpectedEof) o d told after k t c l s = absurd (cc)
+stays_refused G (IoError InvalidData) o d told after k t c l s = absurd (cc)
+stays_refused G (IoError InvalidInput) o d told after k t c l s = absurd (cc)
+stays_refused G (IoError WriteZero) o d told after k t c l s = absurd (cc)
+stays_refused G (FormatError x) o d told after k t c l s = absurd (cc)
+stays_refused G (UnsupportedError x) o d told after k t c l s = absurd (cc)
+stays_refused G LimitsExceeded o d told after k t c l s = absurd (cc)
+stays_refused G IntSizeError o d told after k t c l s = absurd (cc)
+stays_refused G (UsageError x) o d told after k t c l s = absurd (cc)
+
+-- the cause of an error that does not leave the decoder as it is
+cause_is : (W F G : Type 0) (e : TiffError) → keeps_state e ≡ false → IsCause W F e G → G
+cause_is W F G OutOfMemory k c = absurd (cc)
+cause_is W F G (IoError Device) k c = absurd (cc)
+cause_is W F G (IoError UnexpectedEof) k c = c
+cause_is W F G (IoError InvalidData) k c = c
+cause_is W F G (IoError InvalidInput) k c = c
+cause_is W F G (IoError WriteZero) k c = c
+cause_is W F G (FormatError x) k c = c
+cause_is W F G (UnsupportedError x) k c = c
+cause_is W F G LimitsExceeded k c = c
+cause_is W F G IntSizeError k c = c
+cause_is W F G (UsageError x) k c = c
+
+-- a seek past the end, from a place that a directory follows
+seek_open : (d : Decoding) (k : ℕ) (offsets : List ℕ) (end : Option TiffError) (pointer : Option IfdPointer) (more : Bool) → d.state.more ≡ true
+    → slice_get (chain_of d).offsets k ≡ None → chain_of d ≡ record { offsets = offsets; end = end }
+    → pointer ≡ cond d.state.more (pointed (last_or None offsets)) None → more ≡ false
+    → seek_to_image d k ≡ record { answer = Err (end_fault end); next = record d.state { pointer = pointer; more = more } }
+seek_open d k offsets end pointer more o h c p m =
+    let at = p ∙ ap (λ (b : Bool). cond b (pointed (last_or None offsets)) None) o in
+    sought_by d k None h
+    ∙ ap (λ (b : Bool). cond b (past_open d (chain_of d)) (past_closed d)) o
+    ∙ ap (past_open d) c
+    ∙ (λ i. record { answer = Err (end_fault end); next = record d.state { pointer = sym at i; more = sym m i } })
+
+-- a seek past the end, from a place that none follows
+seek_closed : (d : Decoding) (k : ℕ) (offsets : List ℕ) (pointer : Option IfdPointer) (more : Bool) → d.state.more ≡ false
+    → slice_get (chain_of d).offsets k ≡ None → pointer ≡ cond d.state.more (pointed (last_or None offsets)) None → more ≡ false
+    → seek_to_image d k ≡ record { answer = Err not_found; next = record d.state { pointer = pointer; more = more } }
+seek_closed d k offsets pointer more o h p m =
+    let at = p ∙ ap (λ (b : Bool). cond b (pointed (last_or None offsets)) None) o in
+    let open_as = o ∙ sym m in
+    sought_by d k None h
+    ∙ ap (λ (b : Bool). cond b (past_open d (chain_of d)) (past_closed d)) o
+    ∙ (λ i. record { answer = Err not_found; next = record d.state { pointer = sym at i; more = open_as i } })
+
+-- a seek past a chain that ends without an error
+seek_past_by : (d : Decoding) (k : ℕ) (offsets : List ℕ) (pointer : Option IfdPointer) (more b : Bool) → d.state.more ≡ b
+    → slice_get (chain_of d).offsets k ≡ None → chain_of d ≡ record { offsets = offsets; end = None }
+    → pointer ≡ cond d.state.more (pointed (last_or None offsets)) None → more ≡ false
+    → seek_to_image d k ≡ record { answer = Err not_found; next = record d.state { pointer = pointer; more = more } }
+seek_past_by d k offsets pointer more true o h c p m = seek_open d k offsets None pointer more o h c p m
+seek_past_by d k offsets pointer more false o h c p m = seek_closed d k offsets pointer more o h p m
+
+pub seek_past : (d : Decoding) (k : ℕ) (offsets : List ℕ) (pointer : Option IfdPointer) (more : Bool)
+    → slice_get (chain_of d).offsets k ≡ None → chain_of d ≡ record { offsets = offsets; end = None }
+    → pointer ≡ cond d.state.more (pointed (last_or None offsets)) None → more ≡ false
+    → seek_to_image d k ≡ record { answer = Err not_found; next = record d.state { pointer = pointer; more = more } }
+seek_past d k offsets pointer more h c p m = seek_past_by d k offsets pointer more d.state.more refl h c p m
+
+-- a seek past a chain that ends with an error
+seek_cut_by : (W F G : Type 0) (e fault : TiffError) (d new : Decoding) (k : ℕ) (offsets : List ℕ) (pointer : Option IfdPointer) (more b : Bool) → d.state.more ≡ b
+    → keeps_state e ≡ false → IsCause W F e G → (G → (slice_get (chain_of d).offsets k ≡ None) × (chain_of d ≡ record { offsets = offsets; end = Some e }))
+    → pointer ≡ cond d.state.more (pointed (last_or None offsets)) None → more ≡ false → fault ≡ cond d.state.more e not_found
+    → new ≡ record d { state = record d.state { pointer = pointer; more = more } } → Follows (λ x. x) (seek_to_image d k) (Err fault) d new
+seek_cut_by W F G e fault d new k offsets pointer more true o m c ends p q f a =
+    let same : fault ≡ e = f ∙ ap (λ (b : Bool). cond b e not_found) o in
+    let P : TiffError → Type 0 = λ x. Follows (λ y. y) (seek_to_image d k) (Err x) d new in
+    subst P (sym same)
+    (answered W F G e (seek_to_image d k) (record d.state { pointer = pointer; more = more }) d new m c
+    (λ h. seek_open d k offsets (Some e) pointer more o (ends h).0 (ends h).1 p q) a)
+seek_cut_by W F G e fault d new k offsets pointer more false o m c ends p q f a =
+    let same : fault ≡ not_found = f ∙ ap (λ (b : Bool). cond b e not_found) o in
+    none_found fault (seek_to_image d k) (record d.state { pointer = pointer; more = more }) d new same
+    (seek_closed d k offsets pointer more o (ends (cause_is W F G e m c)).0 p q) a
+
+pub seek_cut : (W F G : Type 0) (e fault : TiffError) (d new : Decoding) (k : ℕ) (offsets : List ℕ) (pointer : Option IfdPointer) (more : Bool)
+    → keeps_state e ≡ false → IsCause W F e G → (G → (slice_get (chain_of d).offsets k ≡ None) × (chain_of d ≡ record { offsets = offsets; end = Some e }))
+    → pointer ≡ cond d.state.more (pointed (last_or None offsets)) None → more ≡ false → fault ≡ cond d.state.more e not_found
+    → new ≡ record d { state = record d.state { pointer = pointer; more = more } } → Follows (λ x. x) (seek_to_image d k) (Err fault) d new
+seek_cut W F G e fault d new k offsets pointer more m c ends p q f a = seek_cut_by W F G e fault d new k offsets pointer more d.state.more refl m c ends p q f a

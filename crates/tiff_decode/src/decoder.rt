@@ -61,6 +61,18 @@ fn keeps_state(fault: &TiffError) -> bool
     )
 }
 
+// The error of a seek past the end of the chain: the one that ends the chain, where another
+// directory followed the decoder's position before. A function of its own, since an error that is
+// dropped at one exit and returned at another costs a case for each of its variants.
+fn shown_fault(fault: TiffError, was_open: bool) -> TiffError
+    ensures { result ≡ (if was_open then fault else outcome.not_found) }
+{
+    if was_open {
+        return fault;
+    }
+    TiffFormatError::ImageFileDirectoryNotFound.into()
+}
+
 // Reads the header and the first directory. The returned walk along the chain has entered that
 // directory.
 #[tactic(auto, using(crate::proofs::Opening::headless))]
@@ -611,7 +623,6 @@ impl<R: Source> Decoder<R> {
     /// `ifd_pointer` is `None`. In both cases `more_images` is false afterwards. Where the page has
     /// an error, returns that error; then the decoder is at the directory of the index and keeps
     /// its former page. After `OutOfMemory` and `IoError(Device)` the decoder is unchanged.
-    #[tactic(auto, unfolding(crate::specs::Outcome::seek_to_image))]
     pub fn seek_to_image(&mut self, ifd_index: usize) -> TiffResult<()>
         ensures follows { Follows (λ x. x) (outcome.seek_to_image self.old ifd_index) result self.old self.new }
         ensures asked { AsksOnly (SeekReadable self.old ifd_index) result }
@@ -637,10 +648,7 @@ impl<R: Source> Decoder<R> {
                 }
                 let was_open = self.standing.more;
                 self.standing = CurrentDirectory::past(&self.walk, was_open);
-                if was_open {
-                    return Err(fault);
-                }
-                return Err(TiffFormatError::ImageFileDirectoryNotFound.into());
+                return Err(shown_fault(fault, was_open));
             }
         }
     }

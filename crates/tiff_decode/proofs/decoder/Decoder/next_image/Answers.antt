@@ -2,8 +2,8 @@ use Rattle.std.proofs.Common.{Some, None, Err, false, refl, sym, ◌∙◌}
 use Rattle.tiff_page.specs.PageView as view
 use Rattle.tiff_decode.specs.Machine.{Decoding, decoding}
 use Rattle.tiff_decode.specs.Outcome.{next_image}
-use Rattle.tiff_decode.proofs.Asked.{entered_page, last_is, next_behind, next_entry}
-use Rattle.tiff_decode.proofs.ChainPosition.{offset_behind, next_known, next_read, next_closed, none_of, past_end, added_at, answered, unfailed, none_found, shown_open, told_same, stands_told}
+use Rattle.tiff_decode.proofs.Asked.{entered_page, last_is, next_behind, next_entry, none_asks}
+use Rattle.tiff_decode.proofs.ChainPosition.{offset_behind, next_known, next_read, next_closed, none_of, past_end, added_at, answered, unfailed, none_found, shown_open, told_same, stands_told, stays_refused}
 use Rattle.tiff_decode.proofs.decoder.Decoder.next_image.Goals as goal
 
 pub returns-in-Some-clause-follows : goal.returns-in-Some-clause-follows
@@ -41,6 +41,15 @@ returns-in-Ok-None-clause-follows g c =
     (past_end s.walk.offsets c.following-at.result (sym c.get-known.ensures ∙ none_of c.get-known.result c.in_default.not-Some))
     (e.1 s.first c.self.invariant.begins))
     (stands_told (record d.state { more = false }) d _ _ c.enter_behind.ensures.kept.told c.in-Ok-None.ensures.kept.swallowed))
+
+pub returns-then-keeps_state-clause-follows : goal.returns-then-keeps_state-clause-follows
+returns-then-keeps_state-clause-follows g c =
+    let s = c.self.inside in
+    let d : Decoding = decoding (g.R.Source.told s.tags.source) s.tags.kind s.tags.order s.first (g.R.Source.failures s.tags.source) s.standing.pointer s.standing.more
+    (view.page s.page) s.tags.directory s.offset s.tags.limits in
+    shown_open (Err c.in-Err.fault) d _ _ c.self.view_is (cc)
+    (stays_refused _ c.in-Err.fault (next_image d) d (g.R.Source.told c.enter_behind.new.source) _ (sym c.keeps_state.ensures ∙ c.if-keeps_state.true)
+    c.enter_behind.ensures.kept.told c.in-Err.ensures.cut c.enter_behind.ensures.kept.failures c.in-Err.ensures.kept.swallowed)
 
 pub returns-in-Err-clause-follows : goal.returns-in-Err-clause-follows
 returns-in-Err-clause-follows g c =
@@ -97,3 +106,6 @@ returns-in-Err-clause-asked g c =
     next_behind d _ (g.R.Source.told s.tags.source) s.walk c.in-Err.fault c.self.view_is refl c.self.invariant.begins
     (last_is s.walk.offsets s.standing.pointer s.standing.at c.following-at.result s.standing.more c.self.invariant.stands (cc) c.following-at.ensures.number
     (past_end s.walk.offsets c.following-at.result (sym c.get-known.ensures ∙ none_of c.get-known.result c.in_default.not-Some))) c.in-Err.ensures.asked
+
+pub returns-in-Ok-None-clause-asked : goal.returns-in-Ok-None-clause-asked
+returns-in-Ok-None-clause-asked g c = none_asks c.into-in-Ok-None.result c.into-in-Ok-None.ensures

@@ -1,11 +1,11 @@
-use Rattle.std.proofs.Common.{Bool, refl, subst, sym, ◌∙◌}
+use Rattle.std.proofs.Common.{Bool, Err, refl, subst, sym, ◌∙◌}
 use Rattle.tiff_base.proofs.Told.{same_bytes}
 use Rattle.tiff_page.specs.PageView as view
 use Rattle.tiff_decode.specs.ChainPosition.{IsAt}
-use Rattle.tiff_decode.specs.Machine.{Decoding, decoding}
+use Rattle.tiff_decode.specs.Machine.{State, Decoding, decoding}
 use Rattle.tiff_decode.specs.Outcome.{seek_to_image}
-use Rattle.tiff_decode.proofs.Asked.{sought_entry, sought_way}
-use Rattle.tiff_decode.proofs.ChainPosition.{seek_known, along_on, some_longer, stands_longer, shown, told_same}
+use Rattle.tiff_decode.proofs.Asked.{none_asks, sought_entry, sought_past, sought_way}
+use Rattle.tiff_decode.proofs.ChainPosition.{none_found, seek_cut, seek_known, seek_past, along_on, some_longer, stands_longer, stands_told, stays_refused, shown, told_same, unfailed}
 use Rattle.tiff_decode.proofs.decoder.Decoder.seek_to_image.Goals as goal
 
 pub invariant_of-self : goal.invariant_of-self
@@ -19,6 +19,16 @@ invariant_of-self g c =
     (stands_longer s.walk.offsets c.offset_of.new.self.offsets longer.0 s.standing.pointer s.standing.at s.standing.more longer.1 c.self.invariant.stands)
     (sym (rw c.in-Ok-Some.field-0-is at c.in-Ok-Some.ensures.there)))
 
+pub invariant_of-self-in-Ok-None : goal.invariant_of-self-in-Ok-None
+invariant_of-self-in-Ok-None g c =
+    let s = c.self.inside in
+    let longer = c.offset_of.ensures.longer in
+    let past = c.past-self-inside in
+    along_on s.tags.kind _ s.tags.order _ (g.R.Source.told s.tags.source).bytes _ s.first c.offset_of.new.self past.result.pointer past.result.at past.result.more
+    refl refl (same_bytes c.offset_of.ensures.kept.told) (c.offset_of.ensures.begins s.first c.self.invariant.begins)
+    (some_longer s.walk.offsets c.offset_of.new.self.offsets longer.0 longer.1 c.self.invariant.some)
+    (subst (λ (more : Bool). IsAt c.offset_of.new.self.offsets past.result.pointer past.result.at more) (sym past.ensures.more) past.ensures.stands)
+
 pub invariant_of-self-then-keeps_state : goal.invariant_of-self-then-keeps_state
 invariant_of-self-then-keeps_state g c =
     let s = c.self.inside in
@@ -27,16 +37,6 @@ invariant_of-self-then-keeps_state g c =
     refl refl (same_bytes c.offset_of.ensures.kept.told) (c.offset_of.ensures.begins s.first c.self.invariant.begins)
     (some_longer s.walk.offsets c.offset_of.new.self.offsets longer.0 longer.1 c.self.invariant.some)
     (stands_longer s.walk.offsets c.offset_of.new.self.offsets longer.0 s.standing.pointer s.standing.at s.standing.more longer.1 c.self.invariant.stands)
-
-pub invariant_of-self-then-was_open : goal.invariant_of-self-then-was_open
-invariant_of-self-then-was_open g c =
-    let s = c.self.inside in
-    let longer = c.offset_of.ensures.longer in
-    let past = c.past-self-inside-in-Err in
-    along_on s.tags.kind _ s.tags.order _ (g.R.Source.told s.tags.source).bytes _ s.first c.offset_of.new.self past.result.pointer past.result.at past.result.more
-    refl refl (same_bytes c.offset_of.ensures.kept.told) (c.offset_of.ensures.begins s.first c.self.invariant.begins)
-    (some_longer s.walk.offsets c.offset_of.new.self.offsets longer.0 longer.1 c.self.invariant.some)
-    (subst (λ (more : Bool). IsAt c.offset_of.new.self.offsets past.result.pointer past.result.at more) (sym past.ensures.more) past.ensures.stands)
 
 pub invariant_of-self-in-Err : goal.invariant_of-self-in-Err
 invariant_of-self-in-Err g c =
@@ -59,6 +59,43 @@ returns-in-Ok-Some-clause-follows g c =
     (seek_known c.enter_offset.result d mid _ c.args.ifd_index c.in-Ok-Some.offset (h s.first c.self.invariant.begins)
     (told_same d _ _ c.offset_of.ensures.kept.told c.in-Ok-Some.ensures.kept.swallowed) (c.enter_offset.ensures.follows s.first s.offset))
 
+pub returns-in-Ok-None-clause-follows : goal.returns-in-Ok-None-clause-follows
+returns-in-Ok-None-clause-follows g c =
+    let s = c.self.inside in
+    let d : Decoding = decoding (g.R.Source.told s.tags.source) s.tags.kind s.tags.order s.first (g.R.Source.failures s.tags.source) s.standing.pointer s.standing.more
+    (view.page s.page) s.tags.directory s.offset s.tags.limits in
+    let past = c.past-self-inside in
+    let next : State = record d.state { pointer = past.result.pointer; more = past.result.more } in
+    let none = rw c.in-Ok-None.field-0-is at c.in-Ok-None.ensures.offset in
+    let ends = rw c.in-Ok-None.field-0-is at c.in-Ok-None.ensures.end in
+    shown (λ x. seek_to_image x c.args.ifd_index) (Err c.into.result) d _ _ c.self.view_is
+    (none_found c.into.result (seek_to_image d c.args.ifd_index) next d _ c.into.ensures
+    (seek_past d c.args.ifd_index c.offset_of.new.self.offsets past.result.pointer past.result.more (none s.first c.self.invariant.begins) (ends s.first c.self.invariant.begins)
+    past.ensures.pointer past.ensures.more)
+    (stands_told next d _ _ c.offset_of.ensures.kept.told c.in-Ok-None.ensures.kept.swallowed))
+
+pub returns-then-keeps_state-clause-follows : goal.returns-then-keeps_state-clause-follows
+returns-then-keeps_state-clause-follows g c =
+    let s = c.self.inside in
+    let d : Decoding = decoding (g.R.Source.told s.tags.source) s.tags.kind s.tags.order s.first (g.R.Source.failures s.tags.source) s.standing.pointer s.standing.more
+    (view.page s.page) s.tags.directory s.offset s.tags.limits in
+    shown (λ x. seek_to_image x c.args.ifd_index) (Err c.in-Err.fault) d _ _ c.self.view_is
+    (stays_refused _ c.in-Err.fault (seek_to_image d c.args.ifd_index) d (g.R.Source.told c.offset_of.new.source) _ (sym c.keeps_state.ensures ∙ c.if-keeps_state.true)
+    c.offset_of.ensures.kept.told c.in-Err.ensures.cut c.offset_of.ensures.kept.failures c.in-Err.ensures.kept.swallowed)
+
+pub returns-in-Err-clause-follows : goal.returns-in-Err-clause-follows
+returns-in-Err-clause-follows g c =
+    let s = c.self.inside in
+    let d : Decoding = decoding (g.R.Source.told s.tags.source) s.tags.kind s.tags.order s.first (g.R.Source.failures s.tags.source) s.standing.pointer s.standing.more
+    (view.page s.page) s.tags.directory s.offset s.tags.limits in
+    let past = c.past-self-inside-in-Err in
+    let next : State = record d.state { pointer = past.result.pointer; more = past.result.more } in
+    let moves = sym c.keeps_state.ensures ∙ c.if-keeps_state.false in
+    shown (λ x. seek_to_image x c.args.ifd_index) (Err c.shown_fault.result) d _ _ c.self.view_is
+    (seek_cut _ _ _ c.in-Err.fault c.shown_fault.result d _ c.args.ifd_index c.offset_of.new.self.offsets past.result.pointer past.result.more moves c.in-Err.ensures.cut
+    (λ cut. cut s.first c.self.invariant.begins) past.ensures.pointer past.ensures.more c.shown_fault.ensures
+    (stands_told next d _ _ c.offset_of.ensures.kept.told (unfailed c.in-Err.fault _ _ moves c.in-Err.ensures.kept.swallowed)))
+
 -- ---- the bytes that the call reads
 
 pub returns-in-Ok-Some-clause-asked : goal.returns-in-Ok-Some-clause-asked
@@ -76,3 +113,13 @@ returns-then-keeps_state-clause-asked g c =
     let d : Decoding = decoding (g.R.Source.told s.tags.source) s.tags.kind s.tags.order s.first (g.R.Source.failures s.tags.source) s.standing.pointer s.standing.more
     (view.page s.page) s.tags.directory s.offset s.tags.limits in
     sought_way d _ c.args.ifd_index c.in-Err.fault c.self.view_is (c.in-Err.ensures.asked s.first c.self.invariant.begins)
+
+pub returns-in-Ok-None-clause-asked : goal.returns-in-Ok-None-clause-asked
+returns-in-Ok-None-clause-asked g c = none_asks c.into.result c.into.ensures
+
+pub returns-in-Err-clause-asked : goal.returns-in-Err-clause-asked
+returns-in-Err-clause-asked g c =
+    let s = c.self.inside in
+    let d : Decoding = decoding (g.R.Source.told s.tags.source) s.tags.kind s.tags.order s.first (g.R.Source.failures s.tags.source) s.standing.pointer s.standing.more
+    (view.page s.page) s.tags.directory s.offset s.tags.limits in
+    sought_past d _ c.args.ifd_index c.in-Err.fault c.shown_fault.result s.standing.more c.self.view_is (c.in-Err.ensures.asked s.first c.self.invariant.begins) c.shown_fault.ensures
