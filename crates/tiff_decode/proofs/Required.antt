@@ -1,6 +1,6 @@
 -- The value of a required tag, and its conversion.
 use Rattle.std.specs.Prelude.{◌≡◌, ℕ, List, Option, None, Some, Result, Ok, Err}
-use Rattle.std.proofs.Common.{refl, ap, ◌∙◌}
+use Rattle.std.proofs.Common.{◌⊎◌, inr, ◌^◌, refl, ap, ◌∙◌}
 use Rattle.tiff_base.specs.declared.error.TiffError.{TiffError}
 use Rattle.tiff_base.specs.declared.error.TiffError.TheVariants.{FormatError}
 use Rattle.tiff_base.specs.declared.error.TiffFormatError.TheVariants.{RequiredTagNotFound}
@@ -13,6 +13,9 @@ use Rattle.tiff_ifd.specs.Fitted.{fitted_numbers}
 use Rattle.tiff_ifd.specs.Into.{into_u64_vec}
 use Rattle.tiff_ifd.specs.TagQueries.{find_unsigned_vec}
 use Rattle.tiff_page.proofs.Found.{number_found, required_found}
+use Rattle.tiff_decode.specs.Machine.{Decoding}
+use Rattle.tiff_decode.specs.Outcome.{find_tag_unsigned_vec, page_tags, WantsTag}
+use Rattle.tiff_decode.specs.Reader.{FirstUnfit}
 use Rattle.tiff_ifd.specs.TagLookup.{TagLookup, if_found, find, ok_or_fault, require}
 
 -- a value that is there is the required value
@@ -57,3 +60,15 @@ unfolding find_unsigned_vec
 numbers_found limit look tag ns h =
     let numbers = found_before (find into_u64_vec look tag) (fitted_numbers tag limit) ns h in
     number_found into_u64_vec look tag numbers.0 numbers.1
+
+-- the numbers of a tag that a decoder finds belong to a tag that it finds
+wanted_by : (d : Decoding) (tag : Tag) (ns : List ℕ) → (find_tag_unsigned_vec d tag).answer ≡ Ok (Some ns) → WantsTag d tag
+unfolding find_tag_unsigned_vec
+wanted_by d tag ns h = numbers_found (2 ^ 64) (page_tags d) tag ns h
+
+-- the first of the numbers that does not fit
+pub unfit_found : {X E : Type 0} (gives : ℕ → Result X E → Type 0) (d : Decoding) (failed : Type 0) (tag : Tag) (ns : List ℕ) (e : TiffError)
+    → (find_tag_unsigned_vec d tag).answer ≡ Ok (Some ns) → IsCause (Unit {0}) ⊥ e (FirstUnfit {X = X} gives tag ns e)
+    → IsCause (WantsTag d tag) failed e
+    (((find_tag_unsigned_vec d tag).answer ≡ Err e) ⊎ ((ns : List ℕ) × ((find_tag_unsigned_vec d tag).answer ≡ Ok (Some ns)) × FirstUnfit {X = X} gives tag ns e))
+unfit_found gives d failed tag ns e h c = cause_along e (λ w. wanted_by d tag ns h) (λ f. absurd f) (λ u. inr (ns, h, u)) c

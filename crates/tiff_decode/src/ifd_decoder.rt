@@ -327,7 +327,6 @@ impl<R: Source> Decoder<R> {
     /// Reads the numbers of a tag of the page as a list of `T`. Returns `None` if the page does not
     /// have the tag. Returns the errors of `find_tag` and of `Value::into_u64_vec`, and
     /// `InvalidTagValueType` for a number that is no `T`.
-    #[tactic(auto, using(crate::proofs::Required::numbers_found), unfolding(crate::specs::Outcome::find_tag_unsigned_vec))]
     pub fn find_tag_unsigned_vec<T: TryFrom<u64> + Drop>(
         &mut self,
         tag: Tag,
@@ -596,7 +595,6 @@ impl<'a, R: Source> IfdDecoder<'a, R> {
     /// Reads the numbers of a tag as a list of `T`. Returns `None` if the directory does not have
     /// the tag. Returns the errors of `find_tag` and of `Value::into_u64_vec`, and
     /// `InvalidTagValueType` for a number that is no `T`.
-    #[tactic(auto, using(crate::proofs::Required::numbers_found), unfolding(crate::specs::Outcome::find_tag_unsigned_vec))]
     pub fn find_tag_unsigned_vec<T: TryFrom<u64> + Drop>(
         &mut self,
         tag: Tag,
