@@ -11,3 +11,4 @@ pub mod Pieces
 pub mod CallsMade
 pub mod Wraps
 pub mod SampleBytes
+pub mod TagBytes
