@@ -38,6 +38,13 @@ static void print_page(size_t number, const struct tiff_listed_page *page) {
     printf(", method %" PRIu32 ", %" PRIu32 " %s\n", page->method, page->count, page->chunk_kind == TIFF_TILES ? "tiles" : "strips");
 }
 
+/* Returns the status of the program, and tells of what couldn't be written. The last bytes may reach standard output only as it is closed. */
+static int close_output(int status) {
+    if (!ferror(stdout) && !fclose(stdout)) return status;
+    fprintf(stderr, "cannot write standard output\n");
+    return 1;
+}
+
 int main(int argc, char **argv) {
     size_t len = 0, count = 0;
     uint8_t *file = argc == 2 ? read_file(argv[1], &len) : NULL;
@@ -47,11 +54,12 @@ int main(int argc, char **argv) {
     }
     struct tiff_listed_page first;
     tiff_status end = tiff_list_pages(file, len, &first, 0, &count);
-    struct tiff_listed_page *pages = count ? malloc(count * sizeof *pages) : NULL;
-    if (pages) end = tiff_list_pages(file, len, pages, count, &count);
-    for (size_t i = 0; pages && i < count; i++) print_page(i, &pages[i]);
+    struct tiff_listed_page *pages = malloc((count + 1) * sizeof *pages);
+    if (!pages) return fprintf(stderr, "out of memory\n"), 1;
+    if (count) end = tiff_list_pages(file, len, pages, count, &count);
+    for (size_t i = 0; i < count; i++) print_page(i, &pages[i]);
     if (end != TIFF_DONE) print_fault(stderr, end);
     free(pages);
     free(file);
-    return end == TIFF_DONE ? 0 : 1;
+    return close_output(end == TIFF_DONE ? 0 : 1);
 }

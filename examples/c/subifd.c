@@ -50,6 +50,13 @@ static tiff_status write_image(const uint8_t *file, size_t len, uint64_t offset)
     return status;
 }
 
+/* Returns the status of the program, and tells of what couldn't be written. The last bytes may reach standard output only as it is closed. */
+static int close_output(int status) {
+    if (!ferror(stdout) && !fclose(stdout)) return status;
+    fprintf(stderr, "cannot write standard output\n");
+    return 1;
+}
+
 int main(int count, char **words) {
     size_t len;
     uint64_t offset;
@@ -67,5 +74,5 @@ int main(int count, char **words) {
         fprintf(stderr, "%.*s\n", (int)said, (char *)text);
     }
     free(file);
-    return status != TIFF_DONE;
+    return close_output(status != TIFF_DONE);
 }

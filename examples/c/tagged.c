@@ -20,6 +20,13 @@ static int refuse(tiff_status status, struct tiff_jobs_end end) {
     return 1;
 }
 
+/* Returns the status of the program, and tells of what couldn't be written. The last bytes may reach standard output only as it is closed. */
+static int close_output(int status) {
+    if (!ferror(stdout) && !fclose(stdout)) return status;
+    fprintf(stderr, "cannot write standard output\n");
+    return 1;
+}
+
 int main(void) {
     struct tiff_jobs_end end;
     size_t len, size = 4096;
@@ -29,5 +36,5 @@ int main(void) {
     if (status) return refuse(status, end);
     fwrite(file, 1, len, stdout);
     free(file);
-    return 0;
+    return close_output(0);
 }

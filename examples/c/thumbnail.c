@@ -25,6 +25,13 @@ static uint8_t *file_bytes(const char *name, size_t *len) {
     return bytes;
 }
 
+/* Returns the status of the program, and tells of what couldn't be written. The last bytes may reach standard output only as it is closed. */
+static int close_output(int status) {
+    if (!ferror(stdout) && !fclose(stdout)) return status;
+    fprintf(stderr, "cannot write standard output\n");
+    return 1;
+}
+
 int main(int argc, char **argv) {
     struct tiff_sides sides;
     struct tiff_color color;
@@ -51,5 +58,5 @@ int main(int argc, char **argv) {
             fwrite(pixels + (y * step * sides.width + x * step) * color.samples, 1, color.samples, stdout);
     free(pixels);
     free(file);
-    return 0;
+    return close_output(0);
 }

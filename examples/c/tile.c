@@ -24,6 +24,13 @@ static int refuse(const char *what, tiff_status status) {
     return 1;
 }
 
+/* Returns the status of the program, and tells of what couldn't be written. The last bytes may reach standard output only as it is closed. */
+static int close_output(int status) {
+    if (!ferror(stdout) && !fclose(stdout)) return status;
+    fprintf(stderr, "cannot write standard output\n");
+    return 1;
+}
+
 int main(int argc, char **argv) {
     size_t len;
     uint8_t *file = argc == 4 ? read_file(argv[1], &len) : NULL;
@@ -50,5 +57,5 @@ int main(int argc, char **argv) {
     fwrite(tile, 1, size, stdout);
     free(tile);
     free(file);
-    return 0;
+    return close_output(0);
 }

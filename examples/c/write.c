@@ -21,6 +21,13 @@ static void swap_bytes(uint8_t *samples, size_t len) {
     }
 }
 
+/* Returns the status of the program, and tells of what couldn't be written. The last bytes may reach standard output only as it is closed. */
+static int close_output(int status) {
+    if (!ferror(stdout) && !fclose(stdout)) return status;
+    fprintf(stderr, "cannot write standard output\n");
+    return 1;
+}
+
 int main(void) {
     char kind;
     unsigned width, height, most;
@@ -51,5 +58,5 @@ int main(void) {
     fwrite(file, 1, file_len, stdout);
     free(file);
     free(samples);
-    return 0;
+    return close_output(0);
 }
