@@ -114,3 +114,11 @@ IsExact (command.View input page output) = Unit {0}
 IsExact (command.Check input limit) = Unit {0}
 IsExact (command.Jobs output kind keep_going) = Unit {0}
 IsExact command = ⊥
+
+-- the name of the file that a command writes, if it writes one
+abbrev pub output_of : Command → Option (List ℕ)
+output_of (command.Gray output width height input) = Some output.now
+output_of (command.Raw input page output limit) = Some output.now
+output_of (command.View input page output) = Some output.now
+output_of (command.Jobs output kind keep_going) = Some output.now
+output_of command = None

@@ -1,7 +1,7 @@
 //! The command line.
 
-ghost use Rattle.std.specs.Prelude.{◌≡◌, ◌⊎◌, [], ◌∷◌, IfNone, IfSome, Some, codes, map, string_bytes};
-ghost use Rattle.tiff_program.specs.Words.{AskFor, AskForJobs, AskForLimit, IsAsked, IsCheck, IsExact, IsHelp, IsJobs, IsNumber, IsPlain, IsRaw, IsView};
+ghost use Rattle.std.specs.Prelude.{◌≡◌, ◌⊎◌, [], ◌∷◌, IfNone, IfSome, Some, codes, map, option_map, string_bytes};
+ghost use Rattle.tiff_program.specs.Words.{AskFor, AskForJobs, AskForLimit, IsAsked, IsCheck, IsExact, IsHelp, IsJobs, IsNumber, IsPlain, IsRaw, IsView, output_of};
 
 use tiff::tags::FileKind;
 
@@ -59,6 +59,21 @@ pub enum Command<'a> {
     },
     /// To print the version.
     Version,
+}
+
+impl<'a> Command<'a> {
+    /// The name of the file that the command writes, if it writes one.
+    pub fn output(&self) -> Option<&'a str>
+        ensures { option_map (λ name. name.now) result ≡ output_of self.now }
+    {
+        match self {
+            Command::Gray { output, .. }
+            | Command::Raw { output, .. }
+            | Command::View { output, .. }
+            | Command::Jobs { output, .. } => Some(*output),
+            _ => None,
+        }
+    }
 }
 
 // The kind of the file, and whether the command keeps going, by the words behind the output of

@@ -1,5 +1,7 @@
 //! Files, read and written whole.
 
+ghost use Rattle.std.specs.Prelude.{◌≡◌, ◌⊎◌, IfOk, codes, false};
+
 use tiff::TiffResult;
 
 /// Files by their names. `OutOfMemory` says that there is no memory for the bytes; any other error
@@ -8,6 +10,15 @@ pub trait Files {
     /// All bytes of a file; for the name `-` those of standard input.
     fn read(&mut self, name: &str) -> TiffResult<Vec<u8>>;
 
-    /// Makes a file of these bytes.
+    /// Makes a file of these bytes; for the name `-` writes them to standard output.
     fn write(&mut self, name: &str, bytes: &[u8]) -> TiffResult<()>;
+
+    /// Whether two names are those of one file, so that writing one replaces the other. The name `-`
+    /// is that of no file. The only error is `OutOfMemory`.
+    fn are_same(&mut self, one: &str, other: &str) -> TiffResult<bool>
+        ensures stream { IfOk result (λ same.
+            (one.now ≡ codes "-") ⊎ (other.now ≡ codes "-") → same ≡ false) }
+    {
+        Ok(one == other && one != "-")
+    }
 }

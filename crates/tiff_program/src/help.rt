@@ -12,7 +12,7 @@ pub const HELP: &str = "tiffpage: TIFF and BigTIFF pages
   raw IN PAGE OUT [--limit BYTES]
                          writes the samples of a page, numbered from 0, as bytes, the lowest of each first; with --limit, the
                          samples, and a chunk of them in the file, may each have so many bytes and no more
-  view IN PAGE OUT       writes a page as a PNG picture
+  view IN PAGE OUT       writes a page as a PNG picture, but not in the place of IN
   tags IN PAGE           prints a line for each entry of a page: tag, type, count, bytes
   list IN                prints a line for each page: number, offset, sides, color, method, kind and number of chunks
   check IN [--limit BYTES]
@@ -23,6 +23,9 @@ pub const HELP: &str = "tiffpage: TIFF and BigTIFF pages
                          where none of them is refused; with --keep-going in each case
   help, --help           prints these lines
   --version              prints the version
+
+IN is a file, or - for standard input. OUT is a file, or - for standard output; then jobs prints the replies on standard error.
+gray and raw replace IN where OUT is the same file.
 
 A list of jobs has one of these in each line, with one space between words:
   # ANYTHING             a comment, as is an empty line

@@ -30,6 +30,9 @@ use tiff_uses::gray_file;
 enum Failure<'a> {
     Read(&'a str),
     Write(&'a str),
+
+    /// The output is the file of the input.
+    WriteInput(&'a str),
     Tiff(TiffError),
 
     /// The line with this number is no call.
@@ -50,6 +53,7 @@ impl fmt::Display for Failure<'_> {
         match self {
             Failure::Read(name) => write!(f, "cannot read {name}"),
             Failure::Write(name) => write!(f, "cannot write {name}"),
+            Failure::WriteInput(name) => write!(f, "cannot write {name}: it is the input"),
             Failure::Tiff(fault) => write!(f, "{fault}"),
             Failure::NoCall(number) => write!(f, "line {number} is no call"),
             Failure::NoJob(number) => write!(f, "line {number} is no job"),
@@ -105,7 +109,7 @@ fn line_after(bytes: &[u8]) -> usize {
 
 // The text of standard input.
 fn read_input<'a, F: Files>(files: &mut F) -> Result<String, Failure<'a>> {
-    String::from_utf8(read(files, "-")?).map_err(|fault| {
+    String::from_utf8(read(files, STREAM)?).map_err(|fault| {
         let text = fault.as_bytes().get(..fault.utf8_error().valid_up_to());
         Failure::NoText(line_after(text.unwrap_or_default()))
     })
@@ -230,7 +234,20 @@ fn write_samples<'a, F: Files>(
     write_alone(alloc, files, output, &samples)
 }
 
-// Writes the picture of a page.
+// Refuses an output that is the file of the input.
+fn refuse_input<'a, F: Files>(
+    files: &mut F,
+    input: &str,
+    output: &'a str,
+) -> Result<(), Failure<'a>> {
+    if files.are_same(input, output)? {
+        return Err(Failure::WriteInput(output));
+    }
+    Ok(())
+}
+
+// Writes the picture of a page, but not in the place of its file: the file has more than the
+// picture.
 fn write_picture<'a, F: Files>(
     alloc: Global,
     input: &'a str,
@@ -239,6 +256,7 @@ fn write_picture<'a, F: Files>(
     files: &mut F,
 ) -> Result<Lines, Failure<'a>> {
     let file = read(files, input)?;
+    refuse_input(files, input, output)?;
     let picture = page_picture(alloc, file, page)?;
     write_alone(alloc, files, output, &picture)
 }
@@ -327,7 +345,10 @@ fn execute<'a, F: Files>(
     }
 }
 
-const USAGE: &str = "usage: tiffpage gray|raw|tags|list ..";
+const USAGE: &str = "usage: tiffpage gray|raw|tags|list ..\n";
+
+// The name of the standard streams.
+const STREAM: &str = "-";
 
 // Prints the line of a failure: by one write, or piece by piece if there is no memory for its text.
 fn print_failure<E: Write>(alloc: Global, failure: &Failure<'_>, err: &mut E) {
@@ -337,16 +358,22 @@ fn print_failure<E: Write>(alloc: Global, failure: &Failure<'_>, err: &mut E) {
     };
 }
 
-// Prints lines, and behind them the line of the error by which the chain ends, if there is one.
-// Returns the status.
-fn print_lines<O: Write, E: Write>(alloc: Global, lines: Lines, out: &mut O, err: &mut E) -> u8
-    ensures status { result ≤ 1 }
-    ensures well { result ≡ 0 → (lines.well ≡ true) × (lines.end ≡ None) }
-{
-    let Lines { text, end, well } = lines;
-    if out.write_all(text.as_bytes()).is_err() {
-        return 1;
+// Prints a text on standard output. If that fails, it prints the line of the failure, and returns
+// false.
+fn print_text<O: Write, E: Write>(alloc: Global, text: &str, out: &mut O, err: &mut E) -> bool {
+    let is_printed = out.write_all(text.as_bytes()).is_ok();
+    if !is_printed {
+        print_failure(alloc, &Failure::Write(STREAM), err);
     }
+    is_printed
+}
+
+// Prints the line of the error by which the chain ends, if there is one. Returns the status behind
+// lines that are printed.
+fn print_end<E: Write>(alloc: Global, end: Option<TiffError>, well: bool, err: &mut E) -> u8
+    ensures status { result ≤ 1 }
+    ensures well { result ≡ 0 → (well ≡ true) × (end ≡ None) }
+{
     match end {
         Some(fault) => {
             print_failure(alloc, &Failure::Tiff(fault), err);
@@ -356,21 +383,49 @@ fn print_lines<O: Write, E: Write>(alloc: Global, lines: Lines, out: &mut O, err
     }
 }
 
+// Prints lines, and behind them the line of the error by which the chain ends, if there is one.
+// Returns the status.
+fn print_lines<O: Write, E: Write>(alloc: Global, lines: Lines, out: &mut O, err: &mut E) -> u8
+    ensures status { result ≤ 1 }
+    ensures well { result ≡ 0 → (lines.well ≡ true) × (lines.end ≡ None) }
+{
+    let Lines { text, end, well } = lines;
+    if !print_text(alloc, text.as_str(), out, err) {
+        return 1;
+    }
+    print_end(alloc, end, well, err)
+}
+
+// Prints lines on standard error, where standard output has the file of the command. Returns the
+// status.
+fn print_aside<E: Write>(alloc: Global, lines: Lines, err: &mut E) -> u8
+    ensures status { result ≤ 1 }
+    ensures well { result ≡ 0 → (lines.well ≡ true) × (lines.end ≡ None) }
+{
+    let Lines { text, end, well } = lines;
+    if err.write_all(text.as_bytes()).is_err() {
+        return 1;
+    }
+    print_end(alloc, end, well, err)
+}
+
 /// Does what the words of a command line ask for, and returns the status.
 ///
-/// 0: all is done. 1: an error, with a line `error: ..` on `err`; or a write to `out` or `err` that
-/// fails, a page with an error in a check, or a job or a step of one that is refused. 2: a wrong
+/// 0: all is done. 1: an error, with a line `error: ..` on `err`, also of a write to `out` that
+/// fails; or a write to `err` that fails, a page with an error in a check, or a job or a step of one
+/// that is refused. 2: a wrong
 /// command line, with the usage line on `err`; or a line of standard input that is not UTF-8, no
 /// call or no job, with a line `error: ..` on `err` that has the number of that line, before any
 /// call is made; or a list of jobs without an image or a directory, unless the words have
 /// `--keep-going`. Without words, the usage line is printed on `out`.
 ///
-/// Errors are found in this order: of the command line; of reading the input; of reading standard
-/// input; of its lines; of the decoder or the encoder; of writing the output. After an error
-/// nothing is printed on `out`, with two exceptions. If the chain of a file whose pages are listed
-/// or checked ends by an error, the lines of the pages are printed. The replies to all jobs are
-/// printed, also if a job is refused; the file of the jobs is made if none is refused, or if the
-/// words have `--keep-going`.
+/// Errors are found in this order: of the command line; of reading the input; of a picture that
+/// would replace it; of reading standard input; of its lines; of the decoder or the encoder; of
+/// writing the output. After an error nothing is printed on `out`, with two exceptions. If the chain
+/// of a file whose pages are listed or checked ends by an error, the lines of the pages are printed.
+/// The replies to all jobs are printed, also if a job is refused; the file of the jobs is made if
+/// none is refused, or if the words have `--keep-going`. If that file is `-`, standard output, the
+/// replies are printed on `err`.
 pub fn run<F: Files, O: Write, E: Write>(
     alloc: Global,
     words: &[String],
@@ -381,16 +436,18 @@ pub fn run<F: Files, O: Write, E: Write>(
     ensures { result ≤ 2 }
 {
     if words.is_empty() {
-        return u8::from(writeln!(out, "{USAGE}").is_err());
+        return u8::from(!print_text(alloc, USAGE, out, err));
     }
     let Some(command) = parse(words) else {
-        return if writeln!(err, "{USAGE}").is_ok() {
+        return if err.write_all(USAGE.as_bytes()).is_ok() {
             2
         } else {
             1
         };
     };
+    let is_aside = command.output().is_some_and(|name| name == STREAM);
     match execute(alloc, command, files) {
+        Ok(lines) if is_aside => print_aside(alloc, lines, err),
         Ok(lines) => print_lines(alloc, lines, out, err),
         Err(failure) => {
             print_failure(alloc, &failure, err);

@@ -9,15 +9,16 @@ use tiff::io::IoKind;
 use tiff::{TiffError, TiffResult};
 use tiff_program::files::Files;
 
-/// The files of the machine.
+/// The files of the machine, and its standard output.
 #[derive(Drop)]
-pub struct MachineFiles<'a, R: Machine + AllocGlobal + Input> {
+pub struct MachineFiles<'a, R: Machine + AllocGlobal + Input, O: Write + Drop> {
     rt: &'a R,
+    out: O,
 }
 
-impl<'a, R: Machine + AllocGlobal + Input> MachineFiles<'a, R> {
-    pub fn new(rt: &'a R) -> Self {
-        MachineFiles { rt }
+impl<'a, R: Machine + AllocGlobal + Input, O: Write + Drop> MachineFiles<'a, R, O> {
+    pub fn new(rt: &'a R, out: O) -> Self {
+        MachineFiles { rt, out }
     }
 }
 
@@ -124,7 +125,14 @@ fn write_whole<R: Machine + AllocGlobal>(rt: &R, name: &str, bytes: &[u8]) -> io
     replace(rt, behind.as_path().to_string_lossy(), bytes)
 }
 
-impl<R: Machine + AllocGlobal + Input> Files for MachineFiles<'_, R> {
+// Whether two names lead to one file.
+fn lead_to_one<R: Machine + AllocGlobal>(rt: &R, one: &str, other: &str) -> io::Result<bool> {
+    let one = fs::canonicalize(rt, one)?;
+    let other = fs::canonicalize(rt, other)?;
+    Ok(one.as_path().to_string_lossy() == other.as_path().to_string_lossy())
+}
+
+impl<R: Machine + AllocGlobal + Input, O: Write + Drop> Files for MachineFiles<'_, R, O> {
     fn read(&mut self, name: &str) -> TiffResult<Vec<u8>> {
         let read = if name == "-" {
             input(self.rt)
@@ -135,6 +143,24 @@ impl<R: Machine + AllocGlobal + Input> Files for MachineFiles<'_, R> {
     }
 
     fn write(&mut self, name: &str, bytes: &[u8]) -> TiffResult<()> {
-        write_whole(self.rt, name, bytes).map_err(|e| fault(e.kind()))
+        let written = if name == "-" {
+            self.out.write_all(bytes)
+        } else {
+            write_whole(self.rt, name, bytes)
+        };
+        written.map_err(|e| fault(e.kind()))
+    }
+
+    // Links are followed. Another hard link of a file is another file, since a file that is written
+    // leaves its other names as they were. A name that leads nowhere is that of no other file.
+    fn are_same(&mut self, one: &str, other: &str) -> TiffResult<bool> {
+        if one == "-" || other == "-" {
+            return Ok(false);
+        }
+        match lead_to_one(self.rt, one, other) {
+            Ok(same) => Ok(same),
+            Err(e) if e.kind() == ErrorKind::OutOfMemory => Err(TiffError::OutOfMemory),
+            Err(_) => Ok(one == other),
+        }
     }
 }

@@ -20,7 +20,7 @@ fn main(rt: HostRuntime) -> io::Result<ExitCode> {
             return Ok(ExitCode::from(2));
         }
     };
-    let mut files = MachineFiles::new(&rt);
+    let mut files = MachineFiles::new(&rt, rt.stdout());
     let mut out = rt.stdout();
     let mut err = rt.stderr();
     let status = run(rt.alloc(), words.as_slice(), &mut files, &mut out, &mut err);
