@@ -413,11 +413,10 @@ fn print_aside<E: Write>(alloc: Global, lines: Lines, err: &mut E) -> u8
 ///
 /// 0: all is done. 1: an error, with a line `error: ..` on `err`, also of a write to `out` that
 /// fails; or a write to `err` that fails, a page with an error in a check, or a job or a step of one
-/// that is refused. 2: a wrong
-/// command line, with the usage line on `err`; or a line of standard input that is not UTF-8, no
-/// call or no job, with a line `error: ..` on `err` that has the number of that line, before any
-/// call is made; or a list of jobs without an image or a directory, unless the words have
-/// `--keep-going`. Without words, the usage line is printed on `out`.
+/// that is refused. 2: a wrong command line, with the usage line on `err`; or a line of standard
+/// input that is not UTF-8, no call or no job, with a line `error: ..` on `err` that has the number
+/// of that line, before any call is made; or a list of jobs without an image or a directory, unless
+/// the words have `--keep-going`. Without words, the usage line is printed on `out`.
 ///
 /// Errors are found in this order: of the command line; of reading the input; of a picture that
 /// would replace it; of reading standard input; of its lines; of the decoder or the encoder; of
