@@ -112,14 +112,18 @@ impl FromWord for usize {
     }
 }
 
-// The bits of a floating-point number are the number itself in decimal, or hexadecimal digits
-// behind `0x`.
+// The bits of a floating-point number: the number in decimal, or the bits as hexadecimal digits
+// behind `0x`. Of NaN there are many, so its bits have to be given.
 impl FromWord for Bits32 {
     fn from_word(word: &str) -> Option<Bits32> {
         if word.starts_with("0x") {
             return Some(Bits32(u32::from_word(word)?));
         }
-        Some(Bits32(word.parse::<f32>().ok()?.to_bits()))
+        let number = word.parse::<f32>().ok()?;
+        if number.is_nan() {
+            return None;
+        }
+        Some(Bits32(number.to_bits()))
     }
 }
 
@@ -128,7 +132,11 @@ impl FromWord for Bits64 {
         if word.starts_with("0x") {
             return Some(Bits64(u64::from_word(word)?));
         }
-        Some(Bits64(word.parse::<f64>().ok()?.to_bits()))
+        let number = word.parse::<f64>().ok()?;
+        if number.is_nan() {
+            return None;
+        }
+        Some(Bits64(number.to_bits()))
     }
 }
 
