@@ -59,18 +59,30 @@ fn add_second<R: Source>(report: &mut Report, decoder: &mut Decoder<R>) -> TiffR
     Ok(())
 }
 
+// Writes a file into a sink that is lent.
+fn add_written(report: &mut Report, sink: &mut MemorySink) -> TiffResult<()> {
+    let mut encoder = TiffEncoder::new(report.alloc(), sink)?;
+    let answer = write_file(report, &mut encoder);
+    report.line("TiffEncoder::new, a borrowed sink", answer);
+    Ok(())
+}
+
+// Reads a file from a source that is lent.
+fn add_read(report: &mut Report, source: &mut MemorySource) -> TiffResult<()> {
+    let mut decoder = Decoder::new(report.alloc(), source)?;
+    let answer = add_second(report, &mut decoder);
+    report.line("Decoder::new, a borrowed source", answer);
+    Ok(())
+}
+
 /// Adds the lines of a file that is written into a borrowed sink and read from a borrowed source.
 pub fn add_lines(report: &mut Report) -> TiffResult<()> {
     let mut sink = MemorySink::new(Vec::new(report.alloc()));
-    let mut encoder = TiffEncoder::new(report.alloc(), &mut sink)?;
-    let answer = write_file(report, &mut encoder);
-    report.line("TiffEncoder::new, a borrowed sink", answer);
+    add_written(report, &mut sink)?;
     report.line("MemorySink::append, behind the file", sink.append(&[6]));
     report.line("MemorySink::len", sink.len());
     let mut source = MemorySource::new(sink.into_vec());
-    let mut decoder = Decoder::new(report.alloc(), &mut source)?;
-    let answer = add_second(report, &mut decoder);
-    report.line("Decoder::new, a borrowed source", answer);
+    add_read(report, &mut source)?;
     let mut last = [0u8; 2];
     report.line(
         "MemorySource::read_at, behind the file",
