@@ -5,12 +5,14 @@ use Rattle.std.specs.List.{flat_map}
 use Rattle.tiff_base.specs.Number.{le}
 use Rattle.tiff_base.specs.SourceAndSink.{AreOctets}
 use Rattle.tiff_base.specs.declared.error.TiffError.{TiffError}
-use Rattle.tiff_base.specs.Answers.{◌>>=◌}
+use Rattle.tiff_base.specs.Answers.{◌>>=◌, AnswersWithoutSource}
+use Rattle.tiff_base.proofs.Causes.{cause_along}
 use Rattle.tiff_ifd.specs.declared.limits.Limits.{Limits}
 use Rattle.tiff_page.specs.Image.{Decoded}
+use Rattle.tiff_decode.specs.Machine.{Decoding}
 use Rattle.tiff_decode.specs.Outcome.{decoder_of, seek_to_image}
 use Rattle.tiff_decode.specs.Result.{bytes_of}
-use Rattle.tiff_program.specs.AtPage.{in_file_under, page_decoder, under}
+use Rattle.tiff_program.specs.AtPage.{AnswersUnder, in_file_under, page_decoder, under}
 use Rattle.tiff_program.specs.Samples.{page_image, sample_bytes}
 
 -- samples of one byte are their bytes
@@ -35,3 +37,25 @@ bytes_under limits file page r e =
     let bytes : Decoded → Result (List ℕ) TiffError = λ samples. Ok (bytes_of samples) in
     sym (behind_both (decoder_of file 0) (λ d. (seek_to_image (under limits d) page).answer) (λ d. page_image (page_decoder (under limits d) page)) bytes)
     ∙ ap (λ x. x >>= bytes) e
+
+-- what follows a call at a page of a file, under limits
+bound : {Y Y' : Type 0} (given : Decoding → Result Y TiffError) (f : Y → Result Y' TiffError) (limits : Limits) (file : List ℕ) (page : ℕ)
+    → in_file_under (λ d. given d >>= f) limits file page ≡ (in_file_under given limits file page >>= f)
+bound given f limits file page =
+    sym (behind_both (decoder_of file 0) (λ d. (seek_to_image (under limits d) page).answer) (λ d. given (page_decoder (under limits d) page)) f)
+
+-- an error of the call is that of what follows it
+pub under_refused : {X X' Y Y' : Type 0} (view : X → Y) (view' : X' → Y') (given : Decoding → Result Y TiffError) (f : Y → Result Y' TiffError)
+    (limits : Limits) (file : List ℕ) (page : ℕ) (e : TiffError)
+    → AnswersUnder {X = X} view given limits (Err e) file page → AnswersUnder {X = X'} view' (λ d. given d >>= f) limits (Err e) file page
+under_refused view view' given f limits file page e h =
+    cause_along e (λ w. w) (λ x. x) (λ g. bound given f limits file page ∙ ap (λ y. y >>= f) g) h
+
+-- what follows the call reads nothing more
+pub under_then : {X X' Y Y' : Type 0} (view : X → Y) (view' : X' → Y') (given : Decoding → Result Y TiffError) (f : Y → Result Y' TiffError)
+    (limits : Limits) (file : List ℕ) (page : ℕ) (x : X) (r : Result X' TiffError)
+    → AnswersUnder view given limits (Ok x) file page → AnswersWithoutSource view' r (f (view x))
+    → AnswersUnder view' (λ d. given d >>= f) limits r file page
+under_then view view' given f limits file page x (Ok v) h t = bound given f limits file page ∙ ap (λ y. y >>= f) h ∙ t
+under_then view view' given f limits file page x (Err e) h t =
+    cause_along e (λ w. w) (λ n. absurd n) (λ g. bound given f limits file page ∙ ap (λ y. y >>= f) h ∙ g) t

@@ -20,17 +20,34 @@ AskForLimit words None = words ≡ []
 AskForLimit words (Some limit) = (count : List ℕ) × (words ≡ codes "--limit" ∷ count ∷ [])
     × IsNumber 64 count limit
 
--- These words ask for the samples of the page with this number of a file, for an output, and for a
--- limit or none.
-abbrev pub AskForSamples : List (List ℕ) → List ℕ → ℕ → List ℕ → Option ℕ → Type 0
-AskForSamples (input ∷ page ∷ output ∷ options) from number to limit = (from ≡ input)
-    × IsNumber 32 page number × (to ≡ output) × AskForLimit options limit
-AskForSamples _ from number to limit = ⊥
+-- These words ask for all planes, and behind that for this limit, or for none.
+abbrev pub AskForPlanesFirst : List (List ℕ) → Option ℕ → Type 0
+AskForPlanesFirst (name ∷ options) limit = (name ≡ codes "--planes") × AskForLimit options limit
+AskForPlanesFirst [] limit = ⊥
+
+-- These words ask for this limit, and behind that for all planes.
+abbrev pub AskForPlanesLast : List (List ℕ) → Option ℕ → Type 0
+AskForPlanesLast (name ∷ count ∷ planes ∷ more) (Some limit) = (name ≡ codes "--limit")
+    × IsNumber 64 count limit × (planes ≡ codes "--planes") × (more ≡ [])
+AskForPlanesLast _ limit = ⊥
+
+-- These words, behind those of `raw`, ask for all planes or for the first one, and for this limit,
+-- or for none. Each option stands at most once, in any order.
+abbrev pub AskForPlanes : List (List ℕ) → Bool → Option ℕ → Type 0
+AskForPlanes words true limit = AskForPlanesFirst words limit ⊎ AskForPlanesLast words limit
+AskForPlanes words false limit = AskForLimit words limit
+
+-- These words ask for the samples of the page with this number of a file, for an output, for all
+-- planes or for the first one, and for a limit or none.
+abbrev pub AskForSamples : List (List ℕ) → List ℕ → ℕ → List ℕ → Bool → Option ℕ → Type 0
+AskForSamples (input ∷ page ∷ output ∷ options) from number to planes limit = (from ≡ input)
+    × IsNumber 32 page number × (to ≡ output) × AskForPlanes options planes limit
+AskForSamples _ from number to planes limit = ⊥
 
 -- This command is the `raw` that these words ask for.
 abbrev pub IsRaw : List (List ℕ) → Command → Type 0
-IsRaw words (command.Raw input page output limit) =
-    AskForSamples words input.now page output.now limit
+IsRaw words (command.Raw input page output planes limit) =
+    AskForSamples words input.now page output.now planes limit
 IsRaw words _ = ⊥
 
 -- These words ask for the picture of the page with this number of a file, and for an output.
@@ -84,7 +101,7 @@ IsHelp name = (name ≡ codes "help") ⊎ (name ≡ codes "--help")
 abbrev pub IsPlain : List ℕ → List (List ℕ) → Command → Type 0
 IsPlain name words command.Help = IsHelp name × (words ≡ [])
 IsPlain name words command.Version = (name ≡ codes "--version") × (words ≡ [])
-IsPlain name words (command.Raw input page output limit) = ⊥
+IsPlain name words (command.Raw input page output planes limit) = ⊥
 IsPlain name words (command.View input page output) = ⊥
 IsPlain name words (command.Check input limit) = ⊥
 IsPlain name words (command.Jobs output kind keep_going) = ⊥
@@ -92,8 +109,8 @@ IsPlain name words _ = ⊤
 
 -- This name, with these words behind it, asks for this command.
 abbrev pub IsAsked : List ℕ → List (List ℕ) → Command → Type 0
-IsAsked name words (command.Raw input page output limit) = (name ≡ codes "raw")
-    × IsRaw words (command.Raw input page output limit)
+IsAsked name words (command.Raw input page output planes limit) = (name ≡ codes "raw")
+    × IsRaw words (command.Raw input page output planes limit)
 IsAsked name words (command.View input page output) = (name ≡ codes "view")
     × IsView words (command.View input page output)
 IsAsked name words (command.Check input limit) = (name ≡ codes "check")
@@ -109,7 +126,7 @@ AskFor (name ∷ words) command = IsAsked name words command
 
 -- For this command, the contracts specify exactly which words ask for it.
 abbrev pub IsExact : Command → Type 0
-IsExact (command.Raw input page output limit) = Unit {0}
+IsExact (command.Raw input page output planes limit) = Unit {0}
 IsExact (command.View input page output) = Unit {0}
 IsExact (command.Check input limit) = Unit {0}
 IsExact (command.Jobs output kind keep_going) = Unit {0}
@@ -118,7 +135,7 @@ IsExact command = ⊥
 -- the name of the file that a command writes, if it writes one
 abbrev pub output_of : Command → Option (List ℕ)
 output_of (command.Gray output width height input) = Some output.now
-output_of (command.Raw input page output limit) = Some output.now
+output_of (command.Raw input page output planes limit) = Some output.now
 output_of (command.View input page output) = Some output.now
 output_of (command.Jobs output kind keep_going) = Some output.now
 output_of command = None

@@ -1,7 +1,7 @@
 //! The command line.
 
 ghost use Rattle.std.specs.Prelude.{◌≡◌, ◌⊎◌, [], ◌∷◌, IfNone, IfSome, Some, codes, map, option_map, string_bytes};
-ghost use Rattle.tiff_program.specs.Words.{AskFor, AskForJobs, AskForLimit, IsAsked, IsCheck, IsExact, IsHelp, IsJobs, IsNumber, IsPlain, IsRaw, IsView, output_of};
+ghost use Rattle.tiff_program.specs.Words.{AskFor, AskForJobs, AskForLimit, AskForPlanes, AskForPlanesFirst, AskForPlanesLast, IsAsked, IsCheck, IsExact, IsHelp, IsJobs, IsNumber, IsPlain, IsRaw, IsView, output_of};
 
 use tiff::tags::FileKind;
 
@@ -15,12 +15,13 @@ pub enum Command<'a> {
         height: u32,
         input: &'a str,
     },
-    /// To write the samples of a page as bytes; no buffer is larger than the limit, if there is
-    /// one.
+    /// To write the samples of a page as bytes, of all planes or of the first one; no buffer is
+    /// larger than the limit, if there is one.
     Raw {
         input: &'a str,
         page: u32,
         output: &'a str,
+        planes: bool,
         limit: Option<usize>,
     },
     /// To write a page as a PNG file.
@@ -137,6 +138,59 @@ fn limit_words(words: &[String]) -> Option<Option<usize>>
     }
 }
 
+// The limit, if there is one, by words that ask for all planes first.
+fn planes_first(words: &[String]) -> Option<Option<usize>>
+    ensures some { IfSome result (AskForPlanesFirst (map string_bytes words.now)) }
+    ensures none { IfNone result ((limit : _)
+        → ¬ AskForPlanesFirst (map string_bytes words.now) limit) }
+{
+    let (name, options) = words.split_first()?;
+    if name.as_str() != "--planes" {
+        return None;
+    }
+    limit_words(options)
+}
+
+// The limit, by words that ask for all planes behind it.
+fn planes_last(words: &[String]) -> Option<Option<usize>>
+    ensures some { IfSome result (AskForPlanesLast (map string_bytes words.now)) }
+    ensures none { IfNone result ((limit : _)
+        → ¬ AskForPlanesLast (map string_bytes words.now) limit) }
+{
+    let (name, rest) = words.split_first()?;
+    let (count, rest) = rest.split_first()?;
+    let (planes, rest) = rest.split_first()?;
+    if !rest.is_empty() {
+        return None;
+    }
+    if name.as_str() != "--limit" {
+        return None;
+    }
+    if planes.as_str() != "--planes" {
+        return None;
+    }
+    let limit = byte_count(count.as_str())?;
+    Some(Some(limit))
+}
+
+// Whether all planes are asked for, and the limit, if there is one, by the words behind those of
+// `raw`.
+fn raw_options(words: &[String]) -> Option<(bool, Option<usize>)>
+    ensures some { IfSome result (λ asked.
+        AskForPlanes (map string_bytes words.now) asked.0 asked.1) }
+    ensures none { IfNone result ((planes : _) → (limit : _)
+        → ¬ AskForPlanes (map string_bytes words.now) planes limit) }
+{
+    if let Some(limit) = planes_first(words) {
+        return Some((true, limit));
+    }
+    if let Some(limit) = planes_last(words) {
+        return Some((true, limit));
+    }
+    let limit = limit_words(words)?;
+    Some((false, limit))
+}
+
 // The command `raw`, by the words behind its name.
 fn parse_raw(words: &[String]) -> Option<Command<'_>>
     ensures some { IfSome result (IsRaw (map string_bytes words.now)) }
@@ -146,11 +200,12 @@ fn parse_raw(words: &[String]) -> Option<Command<'_>>
     let (number, rest) = rest.split_first()?;
     let page = page_number(number.as_str())?;
     let (output, options) = rest.split_first()?;
-    let limit = limit_words(options)?;
+    let (planes, limit) = raw_options(options)?;
     Some(Command::Raw {
         input: input.as_str(),
         page,
         output: output.as_str(),
+        planes,
         limit,
     })
 }

@@ -9,9 +9,10 @@ use tiff_lists::VERSION;
 pub const HELP: &str = "tiffpage: TIFF and BigTIFF pages
 
   gray OUT W H IN        writes the bytes of IN as one gray page of W by H samples
-  raw IN PAGE OUT [--limit BYTES]
-                         writes the samples of a page, numbered from 0, as bytes, the lowest of each first; with --limit, the
-                         samples, and a chunk of them in the file, may each have so many bytes and no more
+  raw IN PAGE OUT [--planes] [--limit BYTES]
+                         writes the samples of a page, numbered from 0, as bytes, the lowest of each first: of a page in planes
+                         those of the first plane; with --planes those of all planes, one plane behind the other; with --limit,
+                         the samples, and a chunk of them in the file, may each have so many bytes and no more
   view IN PAGE OUT       writes a page as a PNG picture, but not in the place of IN
   tags IN PAGE           prints a line for each entry of a page: tag, type, count, bytes
   list IN                prints a line for each page: number, offset, sides, color, method, kind and number of chunks

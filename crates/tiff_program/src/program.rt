@@ -10,7 +10,7 @@ use crate::help::{HELP, version_line};
 use crate::jobs::{Written, write_by};
 use crate::list::{file_check, file_list};
 use crate::listing::page_tags;
-use crate::samples::page_samples;
+use crate::samples::{page_planes, page_samples};
 use crate::view::page_picture;
 use std::alloc::Global;
 use std::fmt;
@@ -221,16 +221,21 @@ fn limits_for(limit: Option<usize>) -> Limits
     limits
 }
 
-// Writes the samples of a page.
+// Writes the samples of a page: of all planes, or of the first one.
 fn write_samples<'a, F: Files>(
     alloc: Global,
     input: &'a str,
-    (page, limit): (u32, Option<usize>),
+    (page, planes, limit): (u32, bool, Option<usize>),
     output: &'a str,
     files: &mut F,
 ) -> Result<Lines, Failure<'a>> {
     let file = read(files, input)?;
-    let samples = page_samples(alloc, file, page, limits_for(limit))?;
+    let limits = limits_for(limit);
+    let samples = if planes {
+        page_planes(alloc, file, page, limits)?
+    } else {
+        page_samples(alloc, file, page, limits)?
+    };
     write_alone(alloc, files, output, &samples)
 }
 
@@ -324,8 +329,9 @@ fn execute<'a, F: Files>(
             input,
             page,
             output,
+            planes,
             limit,
-        } => write_samples(alloc, input, (page, limit), output, files),
+        } => write_samples(alloc, input, (page, planes, limit), output, files),
         Command::View {
             input,
             page,

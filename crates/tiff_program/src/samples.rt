@@ -3,18 +3,19 @@
 ghost use Rattle.std.specs.List.{flat_map};
 ghost use Rattle.std.specs.Prelude.{◌≡◌, Ok};
 ghost use Rattle.tiff_base.specs.Number.{le};
-ghost use Rattle.tiff.specs.Answers.{AnswersWithoutSource};
+ghost use Rattle.tiff.specs.Answers.{Answers, AnswersWithoutSource};
 ghost use Rattle.tiff.specs.Result.{bytes_of, decoded_as};
-ghost use Rattle.tiff_program.specs.AtPage.{AnswersUnder, VisitsPage};
-ghost use Rattle.tiff_program.specs.Samples.{page_image, sample_bytes};
+ghost use Rattle.tiff_pages.specs.Check.{all_bytes};
+ghost use Rattle.tiff_program.specs.AtPage.{AnswersUnder, VisitsPage, at_page};
+ghost use Rattle.tiff_program.specs.Samples.{page_image, page_planes, plane_bytes, sample_bytes};
 
 use crate::calls::replies_to_both;
 use crate::replies::{image_read, sought};
 use std::alloc::Global;
-use tiff::TiffResult;
 use tiff::decoder::script::Call;
-use tiff::decoder::{Decoder, DecodingResult, Limits};
+use tiff::decoder::{BufferLayoutPreference, Decoder, DecodingResult, Limits};
 use tiff::io::{MemorySource, Source};
+use tiff::{TiffError, TiffResult};
 
 // The image of a page.
 #[tactic(auto, using(crate::proofs::Visits::image_visit))]
@@ -80,4 +81,57 @@ pub fn page_samples(alloc: Global, file: Vec<u8>, page: u32, limits: Limits) -> 
 {
     let image = image_in(alloc, file, page, limits)?;
     to_bytes(alloc, image)
+}
+
+// Reads the planes of the image of a page, as many as the limit allows. The layout is that of all
+// planes.
+fn read_planes<R: Source>(
+    decoder: &mut Decoder<R>,
+    page: usize,
+    samples: &mut DecodingResult,
+) -> TiffResult<BufferLayoutPreference>
+    ensures { Answers (λ layout. (layout, decoded_as samples.new)) result
+        (at_page page_planes decoder.old page) decoder.old.failures decoder.new.failures }
+{
+    decoder.seek_to_image(page)?;
+    decoder.read_image_to_buffer(samples)
+}
+
+// Reads the planes of the image of a page of a file, under limits. The file is dropped before the
+// layout is returned.
+#[tactic(auto, unfolding(tiff_decode::specs::Outcome::set_limits))]
+fn planes_in(
+    alloc: Global,
+    file: Vec<u8>,
+    page: u32,
+    limits: Limits,
+    samples: &mut DecodingResult,
+) -> TiffResult<BufferLayoutPreference>
+    ensures { AnswersUnder (λ layout. (layout, decoded_as samples.new)) page_planes limits result
+        file.items page }
+{
+    let mut opened = Decoder::new(alloc, MemorySource::new(file))?.with_limits(limits);
+    read_planes(&mut opened, page as usize, samples)
+}
+
+// Samples as bytes, with the lowest byte of each first. Fewer than `len` bytes: `LimitsExceeded`.
+fn all_bytes(alloc: Global, samples: DecodingResult, len: usize) -> TiffResult<Vec<u8>>
+    ensures { AnswersWithoutSource (λ v. v.items) result (all_bytes len (decoded_as samples)) }
+{
+    let bytes = to_bytes(alloc, samples)?;
+    if bytes.len() < len {
+        return Err(TiffError::LimitsExceeded);
+    }
+    Ok(bytes)
+}
+
+/// The samples of the image of a page of a file in all its planes, one plane behind the other, as
+/// bytes, with the lowest byte of each sample first, under limits; or the first error, as
+/// [`page_samples`] returns it, and `LimitsExceeded` if the limits don't allow all planes.
+pub fn page_planes(alloc: Global, file: Vec<u8>, page: u32, limits: Limits) -> TiffResult<Vec<u8>>
+    ensures { AnswersUnder (λ v. v.items) plane_bytes limits result file.items page }
+{
+    let mut samples = DecodingResult::U8(Vec::new(alloc));
+    let layout = planes_in(alloc, file, page, limits, &mut samples)?;
+    all_bytes(alloc, samples, layout.complete_len)
 }
