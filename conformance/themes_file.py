@@ -3,7 +3,7 @@ from files import (ASCII, BIG_BE, BIG_LE, BIG_TYPES, BITS, BYTE, CLASSIC, COUNTS
                    PLANES, PREDICTOR, PRIVATE, RATIONAL, ROWS, SAMPLES, SHORT, SUBIFDS, TILE_COUNTS, TILE_LENGTH, TILE_OFFSETS, TILE_WIDTH, TYPES, WIDTH,
                    Field, Image, Page, bare, build, size_of)
 
-VALID, UNUSUAL, MUST, MAY = "valid", "unusual", "must be refused", "may be refused"
+VALID, UNUSUAL, MUST, MAY = "valid", "valid but unusual", "must be refused", "may be refused"
 FIELDS = "TIFF 6.0 section 2"
 BASELINE = "baseline TIFF, which each reader has to read"
 BIG = "BigTIFF is a layout of its own, which a reader may lack"

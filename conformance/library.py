@@ -1,0 +1,75 @@
+"""What the library answers to a file, by its program tiffpage, and where the second road answers otherwise."""
+import subprocess
+import sys
+import tempfile
+from pathlib import Path
+
+import second_road as road
+import words
+
+TOP = Path(__file__).resolve().parent.parent
+# The program as `./tiffpage --unproved help` keeps it, and as `./tiffpage help` does.
+PROGRAMS = [TOP / "out/trial/tiffpage", TOP / "crates/tiffpage/out/tiffpage"]
+SECONDS = 60
+
+
+def program():
+    """Returns the program tiffpage."""
+    for path in PROGRAMS:
+        if path.is_file():
+            return path
+    sys.exit("conformance: there is no program tiffpage yet: `./tiffpage --unproved help` builds it, within minutes")
+
+
+def run(command, path, *rest, asked=""):
+    """Runs a command of tiffpage on a file, and returns what it printed, what it printed as errors, and its status."""
+    try:
+        ran = subprocess.run([program(), command, path, *rest], input=asked.encode(), capture_output=True, timeout=SECONDS)
+    except subprocess.TimeoutExpired:
+        return "", f"no end within {SECONDS} seconds", -1
+    return ran.stdout.decode("utf-8", errors="replace"), ran.stderr.decode("utf-8", errors="replace"), ran.returncode
+
+
+def same_reply(call, ours, theirs):
+    """Returns whether a reply of the library is the expected one; of a refused read, what its list has isn't specified."""
+    if call == "read_image_to_buffer" and ours.startswith("refused:"):
+        return theirs == ours or theirs.startswith(f"{ours}, ")
+    return theirs == ours
+
+
+def differences(path, whole):
+    """Returns each difference of the two roads on a file: what was asked, what the second road says, and what the library does.
+
+    The calls are asked for all of the file; with `whole`, `list`, `check` and `tags` are run too.
+    """
+    data = Path(path).read_bytes()
+    try:
+        found = road.opened(data)
+    except road.Refused as fault:
+        asked = [("calls", "", run("calls", path, asked="dimensions\n"))] + ([(word, "", run(word, path)) for word in ("list", "check")] if whole else [])
+        ours = ("", f"error: {words.text(fault)}\n", 1)
+        return [(word, ours, theirs) for word, _, theirs in asked if theirs != ours]
+    differ = differences_of_calls(path, found)
+    if whole:
+        asked = [("list", words.list_words(*found), run("list", path)), ("check", words.check_words(*found), run("check", path))]
+        asked += [(f"tags {n}", words.tags_lines(found[0], found[1], n), run("tags", path, str(n))) for n in range(len(found[1]))]
+        differ += [one for one in asked if one[1] != one[2]]
+    return differ
+
+
+def differences_of_calls(path, found):
+    """Returns each call on an opened file whose reply differs."""
+    asked, ours = words.calls(*found)
+    out, errors, status = run("calls", path, asked="".join(f"{call}\n" for call in asked))
+    theirs = out.split("\n")[:-1]
+    if status != 0 or errors or len(theirs) != len(ours):
+        return [("calls", ("".join(f"{one}\n" for one in ours), "", 0), (out, errors, status))]
+    return [one for one in zip(asked, ours, theirs) if not same_reply(*one)]
+
+
+def differences_of_bytes(data, whole=False):
+    """Returns each difference of the two roads on a file of these bytes."""
+    with tempfile.NamedTemporaryFile(suffix=".tif") as file:
+        file.write(data)
+        file.flush()
+        return differences(file.name, whole)
