@@ -14,7 +14,7 @@ FORM, WRONGLY, ACCEPTED, OTHER = "read, not compared", "refused though valid", "
 CRASH, LONG, MUCH = "crash", "too long", "too much memory"
 # The kinds of answers, those that are faults last.
 KINDS = [SAME, RIGHTLY, MAYBE, OPEN, FORM, WRONGLY, ACCEPTED, OTHER, CRASH, LONG, MUCH]
-FAULTS = KINDS[KINDS.index(WRONGLY):]
+EXPECTED, FAULTS = (SAME, RIGHTLY), KINDS[KINDS.index(WRONGLY):]
 
 MEMORY = re.compile(r"MemoryError|[Oo]ut of memory|[Cc]annot allocate|bad_alloc|[Mm]emory allocation failed|cache resources exhausted|Unable to allocate")
 

@@ -1,6 +1,6 @@
 """The themes of the suite that are about samples: strips, tiles, planes, depths, colors, packed data, predictors, methods."""
-from files import (BE, BITS, BIG_LE, CLASSIC, COUNTS, EXTRA, FORMAT, FORMS, LE, LENGTH, LONG, LONG8, METHOD, OFFSETS, PLANES, ROWS, SAMPLES, SHORT, SUBSAMPLING,
-                   TILE_COUNTS, TILE_LENGTH, TILE_OFFSETS, TILE_WIDTH, BYTE, WIDTH, Field, Image, build, literal, noise, run)
+from files import (BITS, BIG_LE, CLASSIC, COUNTS, EXTRA, FORMAT, FORMS, LONG, LONG8, METHOD, OFFSETS, ROWS, SAMPLES, SHORT, SUBSAMPLING,
+                   TILE_COUNTS, TILE_LENGTH, TILE_OFFSETS, TILE_WIDTH, BYTE, TYPES, Field, Image, build, literal, noise, run)
 from themes_file import BASELINE, BIG, MAY, UNUSUAL, VALID
 
 EXTENSION = "an extension of TIFF 6.0 part 2, which a reader may lack"
@@ -223,8 +223,17 @@ def color_subsampled():
             yield (f"palette-{name}-{form.name}", build(form, [page if field else page.without(320)]).bytes(), f"palette samples with a {name}", "TIFF 6.0 section 5", MAY, "a palette has three SHORTs for each color")
 
 
+def color_extra_types():
+    for form in FORMS:
+        for kind in (BYTE, SHORT, LONG):
+            for count in (1, 2):
+                page = Image(3, 2, samples=3 + count, meaning=2).page().with_fields({EXTRA: Field(kind, [0] * count)})
+                sort = sort_of(form, False) if kind == SHORT else (UNUSUAL, "readers are asked to accept BYTE, SHORT and LONG for each field of an unsigned number")
+                yield f"extra-type-{TYPES[kind][0]}-{count}-{form.name}", build(form, [page]).bytes(), f"ExtraSamples has {count} values of type {TYPES[kind][0]}", "TIFF 6.0 section 18", *sort
+
+
 def colors():
-    for part in (color_kinds, color_extras, color_subsampled):
+    for part in (color_kinds, color_extras, color_subsampled, color_extra_types):
         yield from part()
 
 
