@@ -145,7 +145,8 @@ def chain_pages():
         yield f"empty-first-{form.name}", build(form, [Page({})]).bytes(), "the only directory has no entries", form.section, MUST, "an image has sides"
         for subtype in (0, 1, 2, 4, 7):
             page = small(2).with_fields({254: Field(LONG, [subtype])})
-            yield f"subfile-{subtype}-{form.name}", build(form, [small(1), page]).bytes(), f"the second page's NewSubfileType is {subtype}", "TIFF 6.0 section 8", *of_form(form)
+            sort = of_form(form) if subtype in (0, 2) else (MAY, "a reader may take a reduced image or a mask for a part of the page before it")
+            yield f"subfile-{subtype}-{form.name}", build(form, [small(1), page]).bytes(), f"the second page's NewSubfileType is {subtype}", "TIFF 6.0 section 8", *sort
 
 
 def chain_below():
