@@ -33,7 +33,7 @@ def header_versions():
     for form in FORMS:
         for version in (0, 1, 40, 41, 44, 42 * 256, 43 * 256, 0x2A2A, 0x7FFF, 0xFFFF, 85):
             yield (f"version-{version}-{form.name}", plain(form).laid(2, form.pack("H", version)), f"the version is {version}, neither 42 nor 43", form.section,
-                   MUST, "the version is what says that this is a TIFF file")
+                   *((MAY, "the number is that of another format, of raw pictures, which a reader may know") if version == 85 else (MUST, "the version says that this is a TIFF file")))
         other = 42 if form.big else 43
         yield (f"version-other-{form.name}", plain(form).laid(2, form.pack("H", other)), f"the version is {other}, and the rest is that of the other kind", form.section,
                MAY, "its bytes are read as another layout, in which what they mean is chance")

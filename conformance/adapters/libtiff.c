@@ -4,7 +4,6 @@
 
    A page whose strips or tiles have all samples of a pixel together is read by TIFFReadEncodedStrip or TIFFReadEncodedTile, plane by plane if it has several;
    the words `scanlines` behind FILE read strips by TIFFReadScanline instead. Messages of libtiff go to standard error. */
-#include <stdarg.h>
 #include <stdint.h>
 #include <stdio.h>
 #include <stdlib.h>
@@ -112,29 +111,21 @@ static int describe(TIFF *tif, struct page *p) {
     return p->rows != NULL;
 }
 
-static int errors;
-
-static void note(const char *module, const char *format, va_list rest) {
-    errors++;
-    fprintf(stderr, "%s: ", module ? module : "");
-    vfprintf(stderr, format, rest);
-    fputc('\n', stderr);
-}
-
-/* The status is 1 if libtiff refuses a page or says that there is an error. */
+/* The status is 1 if libtiff refuses a page, or a directory to which the one before it links. */
 int main(int count, char **words) {
     int by_scanlines = count == 3 && strcmp(words[2], "scanlines") == 0;
-    TIFFSetErrorHandler(note);
     TIFF *tif = count >= 2 ? TIFFOpen(words[1], "r") : NULL;
     if (!tif) return 1;
-    do {
+    for (;;) {
         struct page p;
         if (!describe(tif, &p)) return 1;
         if (!(p.tiled ? read_tiles(tif, &p) : by_scanlines ? read_scanlines(tif, &p) : read_strips(tif, &p))) return 1;
         printf("page %u %u %u %zu\n", p.width, p.height, p.samples, p.size);
         fwrite(p.rows, p.size, (size_t)p.width * p.height * p.samples, stdout);
         free(p.rows);
-    } while (TIFFReadDirectory(tif));
+        if (TIFFLastDirectory(tif)) break;
+        if (!TIFFReadDirectory(tif)) return 1;
+    }
     TIFFClose(tif);
-    return errors != 0;
+    return 0;
 }
