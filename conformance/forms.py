@@ -8,7 +8,7 @@ import words
 LONGEST = 64
 # How many bytes of an image are told as they are.
 FIRST = 64
-# The meanings of samples that readers turn into other colors.
+# The meanings of samples that readers turn into other colors. Numbers that are signed or floating some readers turn into their own range.
 TURNED = ("CMYK", "YCbCr", "CIELab", "IccLab", "ItuLab", "RGBPalette", "TransparencyMask")
 
 
@@ -92,14 +92,14 @@ def checksums(file, page, shown):
 
 def image_item(file, page):
     """Returns what reading an image gives: how many bytes it has as the library returns them, their Adler-32, the first of
-    them, the forms in which other readers return it, and whether some turn it into other colors."""
+    them, the forms in which other readers return it, and whether some turn it into other colors or numbers."""
     try:
         data = words.whole(file, page)
     except road.Refused as fault:
         return {"error": words.form(fault)}
     _, shown = road.color_of(page)
     return {"bytes": len(data), "adler32": f"{road.adler(data):08x}", "first": data[:FIRST].hex(), "forms": checksums(file, page, shown),
-            "turned": page.meaning in TURNED or page.extra[:1] == [1]}
+            "turned": page.meaning in TURNED or page.extra[:1] == [1] or page.format != 1}
 
 
 def page_item(file, item):
