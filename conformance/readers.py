@@ -49,8 +49,7 @@ class Forked:
 
 def libtiff(words, out, errors):
     """Compiles the program that reads by libtiff, and returns the reader."""
-    program = HERE.parent / "out/conformance-libtiff"
-    program.parent.mkdir(parents=True, exist_ok=True)
+    program = Path(out).with_name("libtiff")
     subprocess.run(["cc", "-O2", "-o", program, HERE / "adapters/libtiff.c", "-ltiff"], check=True)
     version = subprocess.run(["pkg-config", "--modversion", "libtiff-4"], capture_output=True, text=True).stdout.strip()
     return Command([str(program), "{}", *words], f"libtiff {version}", out, errors)
