@@ -90,6 +90,12 @@ def checksums(file, page, shown):
     return [[samples, bytes_, crc(as_bytes(made, bytes_))] for samples, bytes_, made in forms]
 
 
+def is_turned(page):
+    """Returns whether some readers turn an image into other colors or numbers: they also divide colors by an associated alpha, or by one of which nothing is said."""
+    is_alpha = page.extra[:1] == [1] or page.meaning == "RGB" and page.samples > 3 and not page.extra
+    return page.meaning in TURNED or is_alpha or page.format != 1
+
+
 def image_item(file, page):
     """Returns what reading an image gives: how many bytes it has as the library returns them, their Adler-32, the first of
     them, the forms in which other readers return it, and whether some turn it into other colors or numbers."""
@@ -99,7 +105,7 @@ def image_item(file, page):
         return {"error": words.form(fault)}
     _, shown = road.color_of(page)
     return {"bytes": len(data), "adler32": f"{road.adler(data):08x}", "first": data[:FIRST].hex(), "forms": checksums(file, page, shown),
-            "turned": page.meaning in TURNED or page.extra[:1] == [1] or page.format != 1}
+            "turned": is_turned(page)}
 
 
 def page_item(file, item):

@@ -1,4 +1,5 @@
 """What the library answers to a file, by its program tiffpage, and where the second road answers otherwise."""
+import resource
 import subprocess
 import sys
 import tempfile
@@ -10,7 +11,8 @@ import words
 TOP = Path(__file__).resolve().parent.parent
 # The program as `./tiffpage --unproved help` keeps it, and as `./tiffpage help` does.
 PROGRAMS = [TOP / "out/trial/tiffpage", TOP / "crates/tiffpage/out/tiffpage"]
-SECONDS = 60
+# The processor seconds that it may take for a file, and those by the clock, of which a busy machine takes many more.
+SECONDS, LONGEST = 60, 1800
 
 
 def program():
@@ -21,12 +23,17 @@ def program():
     sys.exit("conformance: there is no program tiffpage yet: `./tiffpage --unproved help` builds it, within minutes")
 
 
+def limit():
+    """Limits the processor seconds of a process."""
+    resource.setrlimit(resource.RLIMIT_CPU, (SECONDS, SECONDS))
+
+
 def run(command, path, *rest, asked=""):
     """Runs a command of tiffpage on a file, and returns what it printed, what it printed as errors, and its status."""
     try:
-        ran = subprocess.run([program(), command, path, *rest], input=asked.encode(), capture_output=True, timeout=SECONDS)
+        ran = subprocess.run([program(), command, path, *rest], input=asked.encode(), capture_output=True, timeout=LONGEST, preexec_fn=limit)
     except subprocess.TimeoutExpired:
-        return "", f"no end within {SECONDS} seconds", -1
+        return "", f"no end within {LONGEST} seconds", -1
     return ran.stdout.decode("utf-8", errors="replace"), ran.stderr.decode("utf-8", errors="replace"), ran.returncode
 
 
