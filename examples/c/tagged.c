@@ -6,7 +6,7 @@
 #include <string.h>
 #include "mangohatch_tiff.h"
 
-/* A line for each step. 3fe0000000000000 are the bits of 0.5; 0..ff are the samples from 0 to 255. */
+/* A line for each step; 0..255 are the samples from 0 to 255. */
 static const char jobs[] =
     "image Gray8 16 16\n"
     "write_tag 270 text a ramp\n"
