@@ -1,0 +1,459 @@
+//! The calls of the C library, of version 3, over slices. All `unsafe` of this crate is here.
+//!
+//! What the header asks of each call that gets pointers is that none is null, that the memory that
+//! the call reads stays as it is meanwhile, and that the memory that it writes lies apart from that.
+//! Slices and references give all of it: their pointers are never null, also not of an empty slice;
+//! nobody writes behind a `&`, and nothing else points to what is behind a `&mut`. A call reads and
+//! writes no more of a slice than its length, which is passed with it, and keeps no pointer. The
+//! structs below are those of the header, and each pattern of bits is a value of them, so whatever
+//! a call writes into one is a value.
+
+use std::num::NonZeroU32;
+
+/// What is read: a file of the caller's memory, and the number of a page or the offset of a
+/// directory in it.
+#[derive(Clone, Copy)]
+pub(crate) struct Place<'a> {
+    file: &'a [u8],
+    page: usize,
+}
+
+impl<'a> Place<'a> {
+    /// Returns the first page.
+    pub(crate) fn first(file: &'a [u8]) -> Place<'a> {
+        Place { file, page: 0 }
+    }
+
+    /// Returns the directory at an offset. One at 2^63 or behind is in no file.
+    pub(crate) fn at(file: &'a [u8], offset: u64) -> Place<'a> {
+        Place {
+            file,
+            page: offset as usize | 1 << 63,
+        }
+    }
+}
+
+/// The number of an error.
+#[derive(Clone, Copy, Debug, PartialEq, Eq)]
+pub(crate) struct Fault(NonZeroU32);
+
+impl Fault {
+    /// Returns the number, as the header has it.
+    pub(crate) fn number(self) -> u32 {
+        self.0.get()
+    }
+
+    /// Returns the error of a status, if it is one.
+    pub(crate) fn of(status: u32) -> Option<Fault> {
+        NonZeroU32::new(status).map(Fault)
+    }
+}
+
+/// Returns the result of a call, or its error.
+fn answer<T>(status: u32, result: T) -> Result<T, Fault> {
+    match Fault::of(status) {
+        None => Ok(result),
+        Some(fault) => Err(fault),
+    }
+}
+
+/// `struct tiff_layout`.
+#[derive(Clone, Copy, Debug, Default, PartialEq, Eq)]
+#[repr(C)]
+pub(crate) struct Layout {
+    pub(crate) len: usize,
+    pub(crate) complete_len: usize,
+}
+
+/// `struct tiff_color`.
+#[derive(Clone, Copy, Debug, Default, PartialEq, Eq)]
+#[repr(C)]
+pub(crate) struct Color {
+    pub(crate) kind: u32,
+    pub(crate) bits: u32,
+    pub(crate) samples: u32,
+}
+
+/// `struct tiff_chunks`.
+#[derive(Clone, Copy, Debug, Default, PartialEq, Eq)]
+#[repr(C)]
+pub(crate) struct Chunks {
+    pub(crate) kind: u32,
+    pub(crate) count: u32,
+    pub(crate) width: u32,
+    pub(crate) height: u32,
+}
+
+/// `struct tiff_listed_page`.
+#[derive(Clone, Copy, Debug, Default, PartialEq, Eq)]
+#[repr(C)]
+pub(crate) struct ListedPage {
+    pub(crate) offset: u64,
+    pub(crate) status: u32,
+    pub(crate) width: u32,
+    pub(crate) height: u32,
+    pub(crate) method: u32,
+    pub(crate) color_status: u32,
+    pub(crate) color: Color,
+    pub(crate) chunk_kind: u32,
+    pub(crate) count_status: u32,
+    pub(crate) count: u32,
+}
+
+/// `struct tiff_field`.
+#[derive(Clone, Copy, Debug, Default, PartialEq, Eq)]
+#[repr(C)]
+pub(crate) struct Field {
+    pub(crate) kind: u32,
+    pub(crate) count: u64,
+}
+
+/// The declarations of the header.
+mod c {
+    use super::{Chunks, Field, Layout, ListedPage};
+
+    extern "C" {
+        pub(super) fn tiff_list_pages(
+            file: *const u8,
+            len: usize,
+            pages: *mut ListedPage,
+            room: usize,
+            count: *mut usize,
+        ) -> u32;
+        pub(super) fn tiff_page_layout(
+            file: *const u8,
+            len: usize,
+            page: usize,
+            layout: *mut Layout,
+        ) -> u32;
+        pub(super) fn tiff_page_chunks(
+            file: *const u8,
+            len: usize,
+            page: usize,
+            chunks: *mut Chunks,
+        ) -> u32;
+        pub(super) fn tiff_read_image_bytes(
+            file: *const u8,
+            len: usize,
+            page: usize,
+            buffer: *mut u8,
+            size: usize,
+        ) -> u32;
+        pub(super) fn tiff_read_chunk_bytes(
+            file: *const u8,
+            len: usize,
+            page: usize,
+            chunk: u32,
+            buffer: *mut u8,
+            size: usize,
+        ) -> u32;
+        pub(super) fn tiff_read_coding_unit_bytes(
+            file: *const u8,
+            len: usize,
+            page: usize,
+            unit: u32,
+            buffer: *mut u8,
+            size: usize,
+        ) -> u32;
+        pub(super) fn tiff_tag_field(
+            file: *const u8,
+            len: usize,
+            page: usize,
+            tag: u16,
+            field: *mut Field,
+        ) -> u32;
+        pub(super) fn tiff_tag_number(
+            file: *const u8,
+            len: usize,
+            page: usize,
+            tag: u16,
+            number: *mut u64,
+        ) -> u32;
+        pub(super) fn tiff_tag_numbers(
+            file: *const u8,
+            len: usize,
+            page: usize,
+            tag: u16,
+            numbers: *mut u64,
+            room: usize,
+            count: *mut usize,
+        ) -> u32;
+        pub(super) fn tiff_tag_bytes(
+            file: *const u8,
+            len: usize,
+            page: usize,
+            tag: u16,
+            at: u64,
+            buffer: *mut u8,
+            size: usize,
+            written: *mut usize,
+        ) -> u32;
+        pub(super) fn tiff_tag_text(
+            file: *const u8,
+            len: usize,
+            page: usize,
+            tag: u16,
+            text: *mut u8,
+            size: usize,
+            len_of_text: *mut usize,
+        ) -> u32;
+        pub(super) fn tiff_fault_text(status: u32, buffer: *mut u8, size: usize) -> usize;
+    }
+}
+
+/// Lists the pages of a file: as many as there is room for. Returns how many there are, and the
+/// error by which their chain ends.
+fn list_into(file: &[u8], pages: &mut [ListedPage]) -> (usize, Option<Fault>) {
+    let mut count = 0;
+    // SAFETY: slices and a reference, as the head of this file says; `ListedPage` is the header's.
+    let status = unsafe {
+        c::tiff_list_pages(
+            file.as_ptr(),
+            file.len(),
+            pages.as_mut_ptr(),
+            pages.len(),
+            &mut count,
+        )
+    };
+    (count, Fault::of(status))
+}
+
+/// Lists the pages of a file, and returns the error by which their chain ends. A file of which no
+/// page is listed has the error of its header or of its first page.
+pub(crate) fn list_pages(file: &[u8]) -> (Vec<ListedPage>, Option<Fault>) {
+    // Most files have few pages, so one call is enough.
+    let mut pages = vec![ListedPage::default(); 8];
+    let (mut count, mut end) = list_into(file, &mut pages);
+    if count > pages.len() {
+        pages.resize(count, ListedPage::default());
+        (count, end) = list_into(file, &mut pages);
+    }
+    pages.truncate(count);
+    (pages, end)
+}
+
+/// Returns how many bytes the image of a page has.
+pub(crate) fn page_layout(place: Place<'_>) -> Result<Layout, Fault> {
+    let Place { file, page } = place;
+    let mut layout = Layout::default();
+    // SAFETY: a slice and a reference, as the head of this file says; `Layout` is the header's.
+    let status = unsafe { c::tiff_page_layout(file.as_ptr(), file.len(), page, &mut layout) };
+    answer(status, layout)
+}
+
+/// Returns the chunks of a page.
+pub(crate) fn page_chunks(place: Place<'_>) -> Result<Chunks, Fault> {
+    let Place { file, page } = place;
+    let mut chunks = Chunks::default();
+    // SAFETY: a slice and a reference, as the head of this file says; `Chunks` is the header's.
+    let status = unsafe { c::tiff_page_chunks(file.as_ptr(), file.len(), page, &mut chunks) };
+    answer(status, chunks)
+}
+
+/// Reads the image of a page.
+pub(crate) fn read_image(place: Place<'_>, buffer: &mut [u8]) -> Result<(), Fault> {
+    let Place { file, page } = place;
+    // SAFETY: slices, as the head of this file says.
+    let status = unsafe {
+        c::tiff_read_image_bytes(
+            file.as_ptr(),
+            file.len(),
+            page,
+            buffer.as_mut_ptr(),
+            buffer.len(),
+        )
+    };
+    answer(status, ())
+}
+
+/// Reads a chunk of a page.
+pub(crate) fn read_chunk(place: Place<'_>, chunk: u32, buffer: &mut [u8]) -> Result<(), Fault> {
+    let Place { file, page } = place;
+    // SAFETY: slices, as the head of this file says.
+    let status = unsafe {
+        c::tiff_read_chunk_bytes(
+            file.as_ptr(),
+            file.len(),
+            page,
+            chunk,
+            buffer.as_mut_ptr(),
+            buffer.len(),
+        )
+    };
+    answer(status, ())
+}
+
+/// Reads a coding unit of a page.
+pub(crate) fn read_coding_unit(
+    place: Place<'_>,
+    unit: u32,
+    buffer: &mut [u8],
+) -> Result<(), Fault> {
+    let Place { file, page } = place;
+    // SAFETY: slices, as the head of this file says.
+    let status = unsafe {
+        c::tiff_read_coding_unit_bytes(
+            file.as_ptr(),
+            file.len(),
+            page,
+            unit,
+            buffer.as_mut_ptr(),
+            buffer.len(),
+        )
+    };
+    answer(status, ())
+}
+
+/// Returns the type and the count of the values of a tag.
+pub(crate) fn tag_field(place: Place<'_>, tag: u16) -> Result<Field, Fault> {
+    let Place { file, page } = place;
+    let mut field = Field::default();
+    // SAFETY: a slice and a reference, as the head of this file says; `Field` is the header's.
+    let status = unsafe { c::tiff_tag_field(file.as_ptr(), file.len(), page, tag, &mut field) };
+    answer(status, field)
+}
+
+/// Returns the value of a tag that has one, an unsigned number.
+pub(crate) fn tag_number(place: Place<'_>, tag: u16) -> Result<u64, Fault> {
+    let Place { file, page } = place;
+    let mut number = 0;
+    // SAFETY: a slice and a reference, as the head of this file says.
+    let status = unsafe { c::tiff_tag_number(file.as_ptr(), file.len(), page, tag, &mut number) };
+    answer(status, number)
+}
+
+/// Puts the values of a tag, unsigned numbers, into a slice, and returns how many there are.
+fn numbers_into(place: Place<'_>, tag: u16, numbers: &mut [u64]) -> Result<usize, Fault> {
+    let Place { file, page } = place;
+    let mut count = 0;
+    // SAFETY: slices and a reference, as the head of this file says.
+    let status = unsafe {
+        c::tiff_tag_numbers(
+            file.as_ptr(),
+            file.len(),
+            page,
+            tag,
+            numbers.as_mut_ptr(),
+            numbers.len(),
+            &mut count,
+        )
+    };
+    answer(status, count)
+}
+
+/// Returns the values of a tag, unsigned numbers.
+pub(crate) fn tag_numbers(place: Place<'_>, tag: u16) -> Result<Vec<u64>, Fault> {
+    let mut numbers = vec![0; 8];
+    let mut count = numbers_into(place, tag, &mut numbers)?;
+    if count > numbers.len() {
+        numbers.resize(count, 0);
+        count = numbers_into(place, tag, &mut numbers)?;
+    }
+    numbers.truncate(count);
+    Ok(numbers)
+}
+
+/// Copies bytes of the values of a tag, from byte `at` on, and returns how many.
+pub(crate) fn tag_bytes(
+    place: Place<'_>,
+    tag: u16,
+    at: u64,
+    buffer: &mut [u8],
+) -> Result<usize, Fault> {
+    let Place { file, page } = place;
+    let mut written = 0;
+    // SAFETY: slices and a reference, as the head of this file says.
+    let status = unsafe {
+        c::tiff_tag_bytes(
+            file.as_ptr(),
+            file.len(),
+            page,
+            tag,
+            at,
+            buffer.as_mut_ptr(),
+            buffer.len(),
+            &mut written,
+        )
+    };
+    answer(status, written)
+}
+
+/// Returns the text of a tag that has so many values.
+pub(crate) fn tag_text(place: Place<'_>, tag: u16, count: usize) -> Result<Vec<u8>, Fault> {
+    let Place { file, page } = place;
+    let mut text = vec![0; count];
+    let mut len = 0;
+    // SAFETY: slices and a reference, as the head of this file says.
+    let status = unsafe {
+        c::tiff_tag_text(
+            file.as_ptr(),
+            file.len(),
+            page,
+            tag,
+            text.as_mut_ptr(),
+            text.len(),
+            &mut len,
+        )
+    };
+    text.truncate(len);
+    answer(status, text)
+}
+
+/// Returns the library's text of an error.
+pub(crate) fn fault_text(fault: Fault) -> String {
+    let mut text = [0; 128];
+    // SAFETY: a slice, as the head of this file says.
+    let len = unsafe { c::tiff_fault_text(fault.number(), text.as_mut_ptr(), text.len()) };
+    String::from_utf8_lossy(&text[..len.min(text.len())]).into_owned()
+}
+
+/// A number type without padding, of which each pattern of bits is a value.
+///
+/// # Safety
+///
+/// That has to be true of the type.
+pub(crate) unsafe trait Plain: Copy + Default {}
+
+macro_rules! plain {
+    ($($number:ty)*) => {
+        // SAFETY: the numbers of the language are such types, and `f16` is a `u16` in its memory.
+        $(unsafe impl Plain for $number {})*
+    };
+}
+
+plain!(u8 u16 u32 u64 i8 i16 i32 i64 f32 f64 crate::half::f16);
+
+/// Returns the bytes of numbers.
+pub(crate) fn bytes_of<T: Plain>(numbers: &[T]) -> &[u8] {
+    // SAFETY: the memory of the slice, of the same length in bytes; a byte is aligned anywhere, and
+    // without padding each byte has a value.
+    unsafe { std::slice::from_raw_parts(numbers.as_ptr().cast(), size_of_val(numbers)) }
+}
+
+/// Returns the bytes of numbers, to be changed.
+pub(crate) fn bytes_of_mut<T: Plain>(numbers: &mut [T]) -> &mut [u8] {
+    // SAFETY: as above, borrowed for as long; whatever bytes are written make numbers.
+    unsafe { std::slice::from_raw_parts_mut(numbers.as_mut_ptr().cast(), size_of_val(numbers)) }
+}
+
+#[cfg(test)]
+mod tests {
+    use super::*;
+
+    #[test]
+    fn structs_are_laid_out_as_in_the_header() {
+        assert_eq!((size_of::<Layout>(), size_of::<Color>()), (16, 12));
+        assert_eq!((size_of::<Chunks>(), size_of::<Field>()), (16, 16));
+        assert_eq!((size_of::<ListedPage>(), align_of::<ListedPage>()), (56, 8));
+    }
+
+    #[test]
+    fn numbers_are_seen_as_bytes() {
+        let mut numbers = [0x0102u16, 0x0304];
+        let expected: Vec<u8> = numbers.iter().flat_map(|n| n.to_ne_bytes()).collect();
+        assert_eq!(bytes_of(&numbers), expected);
+        bytes_of_mut(&mut numbers)[..2].copy_from_slice(&7u16.to_ne_bytes());
+        assert_eq!(numbers, [7, 0x0304]);
+        assert!(bytes_of::<f64>(&[]).is_empty());
+    }
+}
