@@ -1,6 +1,8 @@
 //! The names of the reading side of the crate `tiff` 0.11.3, each with its signature there: that
 //! this file compiles is the test.
 
+#![allow(clippy::type_complexity)]
+
 use std::fmt::Debug;
 use std::fs::File;
 use std::hash::Hash;

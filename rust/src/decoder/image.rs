@@ -298,6 +298,7 @@ impl Image {
         if limit == usize::MAX {
             return Ok(());
         }
+        let place = self.place(file);
         let stored = match &mut self.stored {
             Some(stored) => stored,
             none => {
@@ -305,12 +306,7 @@ impl Image {
                     0 => Tag::StripByteCounts,
                     _ => Tag::TileByteCounts,
                 };
-                let page = if self.is_first {
-                    file.first_page()
-                } else {
-                    file.place(IfdPointer(self.facts.offset))
-                };
-                let counts = ffi::tag_numbers(page, tag.to_u16());
+                let counts = ffi::tag_numbers(place, tag.to_u16());
                 none.insert(counts.map_err(|fault| file.fault(fault))?)
             }
         };

@@ -151,8 +151,10 @@ impl<R: Read + Seek> Decoder<R> {
         let file = File::new(bytes);
         let (pages, end) = ffi::list_pages(file.bytes());
         let Some(&first) = pages.first() else {
-            let fault = end.map_or(TiffError::IntSizeError, |fault| file.first_fault(fault));
-            return Err(fault);
+            return match end {
+                Some(fault) => Err(file.first_fault(fault)),
+                None => not_found(),
+            };
         };
         let image = load(&file, 0, first)?;
         Ok(Decoder {
