@@ -399,18 +399,18 @@ macro_rules! themes {
 }
 
 themes! {
-    files "01-files.txt" 1
-    chain "02-chain.txt" 1
-    values "03-values.txt" 1
-    pages "04-pages.txt" 1
-    chunks "05-chunks.txt" 1
-    tiles_and_planes "06-tiles-and-planes.txt" 1
-    images "07-images.txt" 1
-    forged "08-forged.txt" 1
-    cuts "09-cuts.txt" 1
-    calls "11-calls.txt" 1
-    page_lists "12-page-lists.txt" 1
-    images_written "16-images-written.txt" 1
-    color_types "20-color-types.txt" 1
-    rust_crate "23-rust-crate.txt" 1
+    files "01-files.txt" 40
+    chain "02-chain.txt" 42
+    values "03-values.txt" 73
+    pages "04-pages.txt" 22
+    chunks "05-chunks.txt" 165
+    tiles_and_planes "06-tiles-and-planes.txt" 39
+    images "07-images.txt" 28
+    forged "08-forged.txt" 147
+    cuts "09-cuts.txt" 205
+    calls "11-calls.txt" 44
+    page_lists "12-page-lists.txt" 73
+    images_written "16-images-written.txt" 78
+    color_types "20-color-types.txt" 82
+    rust_crate "23-rust-crate.txt" 124
 }
