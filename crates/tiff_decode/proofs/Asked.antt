@@ -18,7 +18,7 @@ use Rattle.tiff_ifd.specs.IfdChainWalk.{ChainBegins, NextReadable, Walked, WayRe
 use Rattle.tiff_page.specs.Reach.{PageReadable}
 use Rattle.tiff_page.proofs.Reach.{asks_more}
 use Rattle.tiff_decode.specs.Asked.{EntryReadable, NextPageReadable, OpenReadable, SeekReadable}
-use Rattle.tiff_decode.specs.ChainPosition.{IsAt}
+use Rattle.tiff_decode.specs.ChainPosition.{IsAt, index_behind}
 use Rattle.tiff_decode.specs.Machine.{Decoding, source_of}
 use Rattle.tiff_decode.specs.Outcome.{chain_from, chain_of, end_fault, first_directory, next_offset, not_found}
 use Rattle.tiff_decode.proofs.ChainPosition.{last_of}
@@ -86,13 +86,14 @@ next_entry d old t at r seen same h asked =
     (λ q. subst (λ (x : SourceRecord). EntryReadable x d.kind d.order at) (sym same) (q.entry at h)) asked)
 
 -- the last of some offsets, where no other offset follows it
-pub last_is : (offsets : List ℕ) (pointer : Option IfdPointer) (at k : ℕ) (more : Bool) → IsAt offsets pointer at more → more ≡ true → k ≡ at + 1 → length offsets ≤ k
+pub last_is : (offsets : List ℕ) (pointer : Option IfdPointer) (at k : ℕ) → IsAt offsets pointer at → k ≡ index_behind pointer at → length offsets ≤ k
     → last_or None offsets ≡ option_map (λ p. p.0) pointer
-last_is offsets (Some p) at k more h m e l =
+last_is offsets (Some p) at k h e l =
     let w = slice_get_within offsets at p.0 h in
     let here : length offsets - 1 ≡ at = omega (arith, w, l, e) in
     last_of offsets ∙ ap (slice_get offsets) here ∙ h
-last_is offsets None at k more h m e l = (let n : false ≡ true = sym h ∙ m in absurd (cc))
+last_is [] None at k h e l = refl
+last_is (p ∷ ps) None at k h e l = absurd (omega (arith, l, e))
 
 -- the directory that the last link leads to
 pub next_behind : (d old : Decoding) (t : SourceRecord) (walk : Walked) (e : TiffError) → d ≡ old → t ≡ source_of d

@@ -19,15 +19,15 @@ use Rattle.tiff_ifd.specs.Chain.{Chain, chain}
 use Rattle.tiff_ifd.specs.IfdChainWalk.{Walked, ChainBegins, ChainEnds}
 use Rattle.tiff_ifd.proofs.Chain.{apart_chain}
 use Rattle.tiff_ifd.proofs.Begun.{offset_begun}
-use Rattle.tiff_decode.specs.ChainPosition.{IsAt, IsInChain}
+use Rattle.tiff_decode.specs.ChainPosition.{IsAt, IsInChain, index_behind}
 use Rattle.tiff_decode.specs.Machine.{State, Decoding, Outcome, GivesOutcome, FollowsBut, Follows, keeps_state, source_of}
 use Rattle.tiff_decode.specs.Outcome.{chain_of, offset_after, next_offset, next_outcome, next_image, enter, entry_outcome, seek_to_image, seek_outcome, end_outcome, end_fault, not_found, show_outcome, show_directory}
 
 -- ---- the position of the pointer
 
-pub within : (offsets : List ℕ) (pointer : Option IfdPointer) (at : ℕ) (more : Bool) → IsAt offsets pointer at more → more ≡ true → at < length offsets
-within offsets (Some p) at more h m = slice_get_within offsets at p.0 h
-within offsets None at more h m = (let e : false ≡ true = sym h ∙ m in absurd (cc))
+pub within : (offsets : List ℕ) (pointer : Option IfdPointer) (at : ℕ) → IsAt offsets pointer at → index_behind pointer at ≤ length offsets
+within offsets (Some p) at h = (let l = slice_get_within offsets at p.0 h in omega (arith, l))
+within offsets None at h = omega arith
 
 last_more : (x : ℕ) (xs : List ℕ) → last_or (Some x) xs ≡ slice_get (x ∷ xs) (length xs)
 last_more x [] = refl
@@ -44,14 +44,14 @@ pub last_pointed : (offsets : List ℕ) (last : Option ℕ) → last ≡ slice_g
     → pointed last ≡ pointed (last_or None offsets)
 last_pointed offsets last h = ap pointed (h ∙ sym (last_of offsets))
 
-stands_by : (offsets : List ℕ) (n : ℕ) (r : Option ℕ) → slice_get offsets n ≡ r → IsAt offsets (pointed r) n false
+stands_by : (offsets : List ℕ) (n : ℕ) (r : Option ℕ) → slice_get offsets n ≡ r → IsAt offsets (pointed r) n
 stands_by offsets n (Some p) h = h
-stands_by offsets n None h = refl
+stands_by offsets n None h = tt
 
 pub stands_last : (offsets : List ℕ) (last : Option ℕ) (pointer : Option IfdPointer) (n : ℕ) → last ≡ slice_get offsets (length offsets - 1)
-    → pointer ≡ option_map (λ p. record { 0 = p }) last → n ≡ length offsets - 1 → IsAt offsets pointer n false
+    → pointer ≡ option_map (λ p. record { 0 = p }) last → n ≡ length offsets - 1 → IsAt offsets pointer n
 stands_last offsets last pointer n h e k =
-    let P : Option IfdPointer → Type 0 = λ x. IsAt offsets x n false in
+    let P : Option IfdPointer → Type 0 = λ x. IsAt offsets x n in
     subst P (sym e) (stands_by offsets n last (ap (slice_get offsets) k ∙ sym h))
 
 front : (xs ys : List ℕ) (k p : ℕ) → slice_get xs k ≡ Some p → slice_get (xs ++ ys) k ≡ Some p
@@ -60,19 +60,10 @@ front (x ∷ xs) ys zero p h = h
 front (x ∷ xs) ys (suc k) p h = front xs ys k p h
 
 -- more offsets were entered
-pub stands_longer : (offsets longer more_offsets : List ℕ) (pointer : Option IfdPointer) (at : ℕ) (more : Bool) → longer ≡ offsets ++ more_offsets
-    → IsAt offsets pointer at more → IsAt longer pointer at more
-stands_longer offsets longer more_offsets (Some p) at more e h = ap (λ (ps : List ℕ). slice_get ps at) e ∙ front offsets more_offsets at p.0 h
-stands_longer offsets longer more_offsets None at more e h = h
-
--- a list that begins with a non-empty list is not empty
-pub some_longer : (offsets longer more_offsets : List ℕ) → longer ≡ offsets ++ more_offsets → 0 < length offsets → 0 < length longer
-some_longer offsets longer more_offsets e l = (let n = ap length e ∙ length-append offsets more_offsets in omega arith)
-
--- The chain of a decoder has an offset.
-pub some_offsets : (kind : FileKind) (order : ByteOrder) (bytes : List ℕ) (first : ℕ) (walk : Walked) (pointer : Option IfdPointer) (at : ℕ) (more : Bool)
-    → IsInChain kind order bytes first walk pointer at more → 0 < length (chain kind order bytes first).offsets
-some_offsets kind order bytes first walk pointer at more c = some_longer walk.offsets (chain kind order bytes first).offsets c.begins.rest c.begins.offsets c.some
+pub stands_longer : (offsets longer more_offsets : List ℕ) (pointer : Option IfdPointer) (at : ℕ) → longer ≡ offsets ++ more_offsets
+    → IsAt offsets pointer at → IsAt longer pointer at
+stands_longer offsets longer more_offsets (Some p) at e h = ap (λ (ps : List ℕ). slice_get ps at) e ∙ front offsets more_offsets at p.0 h
+stands_longer offsets longer more_offsets None at e h = tt
 
 -- ---- the offset after the pointer
 
@@ -96,16 +87,16 @@ after_is (q ∷ ps) (suc i) p d h =
     ap (λ (b : Bool). cond b (slice_get ps 0) (offset_after p ps)) (differ q p (each_at (λ y. nat_eq q y ≡ false) ps i p (IsDistinct-head nat_eq q ps d) h))
     ∙ after_is ps i p (IsDistinct-tail nat_eq q ps d) h
 
-pub next_is : (kind : FileKind) (order : ByteOrder) (bytes : List ℕ) (first : ℕ) (walk : Walked) (pointer : Option IfdPointer) (at : ℕ) (more : Bool)
-    → IsInChain kind order bytes first walk pointer at more → more ≡ true
-    → next_offset pointer (chain kind order bytes first).offsets ≡ slice_get (chain kind order bytes first).offsets (at + 1)
-next_is kind order bytes first walk (Some p) at more a m =
+pub next_is : (kind : FileKind) (order : ByteOrder) (bytes : List ℕ) (first : ℕ) (walk : Walked) (pointer : Option IfdPointer) (at : ℕ)
+    → IsInChain kind order bytes first walk pointer at
+    → next_offset pointer (chain kind order bytes first).offsets ≡ slice_get (chain kind order bytes first).offsets (index_behind pointer at)
+next_is kind order bytes first walk (Some p) at a =
     let l : at < length walk.offsets = slice_get_within walk.offsets at p.0 a.stands in
     let e : at + 1 ≡ suc at = omega arith in
     after_is (chain kind order bytes first).offsets at p.0 (apart_chain kind order bytes first).differ
     (offset_begun kind order bytes first walk at l a.begins ∙ a.stands)
     ∙ ap (slice_get (chain kind order bytes first).offsets) (sym e)
-next_is kind order bytes first walk None at more a m = (let e : false ≡ true = sym a.stands ∙ m in absurd (cc))
+next_is kind order bytes first walk None at a = refl
 
 -- ---- the results of the calls
 
@@ -236,33 +227,33 @@ shown_open r seen old new e m h =
     let P : Decoding → Type 0 = λ d. FollowsBut (d.state.more ≡ true) (λ x. x) (next_image d) r d new in
     subst P e (open_wanting (next_image seen) r seen new m h)
 
-pub along_on : (kind kind' : FileKind) (order order' : ByteOrder) (bytes bytes' : List ℕ) (first : ℕ) (walk : Walked) (pointer : Option IfdPointer) (at : ℕ) (more : Bool)
-    → kind' ≡ kind → order' ≡ order → bytes' ≡ bytes → ChainBegins kind order bytes first walk → 0 < length walk.offsets
-    → IsAt walk.offsets pointer at more → IsInChain kind' order' bytes' first walk pointer at more
-along_on kind kind' order order' bytes bytes' first walk pointer at more k o b w l s =
-    let K : FileKind → Type 0 = λ x. IsInChain x order' bytes' first walk pointer at more in
-    let O : ByteOrder → Type 0 = λ x. IsInChain kind x bytes' first walk pointer at more in
-    let B : List ℕ → Type 0 = λ x. IsInChain kind order x first walk pointer at more in
-    subst K (sym k) (subst O (sym o) (subst B (sym b) (record { begins = w; some = l; stands = s })))
+pub along_on : (kind kind' : FileKind) (order order' : ByteOrder) (bytes bytes' : List ℕ) (first : ℕ) (walk : Walked) (pointer : Option IfdPointer) (at : ℕ)
+    → kind' ≡ kind → order' ≡ order → bytes' ≡ bytes → ChainBegins kind order bytes first walk
+    → IsAt walk.offsets pointer at → IsInChain kind' order' bytes' first walk pointer at
+along_on kind kind' order order' bytes bytes' first walk pointer at k o b w s =
+    let K : FileKind → Type 0 = λ x. IsInChain x order' bytes' first walk pointer at in
+    let O : ByteOrder → Type 0 = λ x. IsInChain kind x bytes' first walk pointer at in
+    let B : List ℕ → Type 0 = λ x. IsInChain kind order x first walk pointer at in
+    subst K (sym k) (subst O (sym o) (subst B (sym b) (record { begins = w; stands = s })))
 
 -- ---- next_image
 
 abbrev Along : Decoding → Walked → ℕ → Type 0
-Along d walk at = IsInChain d.kind d.order d.bytes d.first walk d.state.pointer at d.state.more
+Along d walk at = IsInChain d.kind d.order d.bytes d.first walk d.state.pointer at
 
 -- the offset after the pointer, once it is entered
-pub offset_behind : (d : Decoding) (walk longer : Walked) (at k offset : ℕ) → Along d walk at → d.state.more ≡ true → k ≡ at + 1 → ChainBegins d.kind d.order d.bytes d.first longer
+pub offset_behind : (d : Decoding) (walk longer : Walked) (at k offset : ℕ) → Along d walk at → d.state.more ≡ true → k ≡ index_behind d.state.pointer at → ChainBegins d.kind d.order d.bytes d.first longer
     → slice_get longer.offsets k ≡ Some offset → next_offset d.state.pointer (chain_of d).offsets ≡ Some offset
 offset_behind d walk longer at k offset a m e b h =
-    next_is d.kind d.order d.bytes d.first walk d.state.pointer at d.state.more a m
+    next_is d.kind d.order d.bytes d.first walk d.state.pointer at a
     ∙ ap (slice_get (chain_of d).offsets) (sym e)
     ∙ offset_begun d.kind d.order d.bytes d.first longer k (slice_get_within longer.offsets k offset h) b ∙ h
 
-behind : (d : Decoding) (walk longer : Walked) (at k offset : ℕ) → Along d walk at → d.state.more ≡ true → k ≡ at + 1 → ChainBegins d.kind d.order d.bytes d.first longer
+behind : (d : Decoding) (walk longer : Walked) (at k offset : ℕ) → Along d walk at → d.state.more ≡ true → k ≡ index_behind d.state.pointer at → ChainBegins d.kind d.order d.bytes d.first longer
     → slice_get longer.offsets k ≡ Some offset → next_image d ≡ enter d offset
 behind d walk longer at k offset a m e b h = next_by d (Some offset) m (offset_behind d walk longer at k offset a m e b h)
 
-pub next_known : (r : Result (Unit {0}) TiffError) (d new : Decoding) (walk : Walked) (at k offset : ℕ) → Along d walk at → d.state.more ≡ true → k ≡ at + 1
+pub next_known : (r : Result (Unit {0}) TiffError) (d new : Decoding) (walk : Walked) (at k offset : ℕ) → Along d walk at → d.state.more ≡ true → k ≡ index_behind d.state.pointer at
     → slice_get walk.offsets k ≡ Some offset → Follows (λ x. x) (enter d offset) r d new → Follows (λ x. x) (next_image d) r d new
 next_known r d new walk at k offset a m e h f = same_outcome r (enter d offset) (next_image d) d new (sym (behind d walk walk at k offset a m e a.begins h)) f
 
@@ -276,7 +267,7 @@ added_at offsets longer k p e l m =
     ap (λ (ps : List ℕ). slice_get ps k) e ∙ ap (slice_get (offsets ++ p ∷ [])) n ∙ at_end offsets p
 
 pub next_read : (r : Result (Unit {0}) TiffError) (d mid new : Decoding) (walk longer : Walked) (at k offset : ℕ) (directory : DirectoryRecord)
-    → Along d walk at → d.state.more ≡ true → k ≡ at + 1 → ChainBegins d.kind d.order d.bytes d.first longer
+    → Along d walk at → d.state.more ≡ true → k ≡ index_behind d.state.pointer at → ChainBegins d.kind d.order d.bytes d.first longer
     → slice_get longer.offsets k ≡ Some offset → directory_at d.kind d.order d.bytes offset ≡ Ok directory
     → mid ≡ d
     → Follows (λ x. x) (entry_outcome mid offset (Ok directory)) r mid new → Follows (λ x. x) (next_image d) r d new
@@ -289,12 +280,12 @@ past_end [] k h = omega arith
 past_end (x ∷ xs) zero h = absurd (cc)
 past_end (x ∷ xs) (suc k) h = (let l : length xs ≤ k = past_end xs k h in omega (arith, l))
 
-pub next_closed : (d : Decoding) (walk : Walked) (at k : ℕ) (end : Option TiffError) → Along d walk at → d.state.more ≡ true → k ≡ at + 1 → length walk.offsets ≤ k
+pub next_closed : (d : Decoding) (walk : Walked) (at k : ℕ) (end : Option TiffError) → Along d walk at → d.state.more ≡ true → k ≡ index_behind d.state.pointer at → length walk.offsets ≤ k
     → ChainEnds d.kind d.order d.bytes d.first walk end
     → next_image d ≡ record { answer = Err (end_fault end); next = record d.state { more = false } }
 next_closed d walk at k end a m e l h =
     next_by d None m
-    (next_is d.kind d.order d.bytes d.first walk d.state.pointer at d.state.more a m
+    (next_is d.kind d.order d.bytes d.first walk d.state.pointer at a
     ∙ ap (slice_get (chain_of d).offsets) (sym e)
     ∙ ap (λ (c : Chain). slice_get c.offsets k) h
     ∙ slice_get_past walk.offsets k l)

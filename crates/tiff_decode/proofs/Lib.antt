@@ -12,3 +12,4 @@ pub mod CallsMade
 pub mod Wraps
 pub mod SampleBytes
 pub mod TagBytes
+pub mod Opened

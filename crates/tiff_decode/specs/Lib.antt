@@ -13,3 +13,4 @@ pub mod NextState
 pub mod Reader
 pub mod ChainPosition
 pub mod Items
+pub mod Opened

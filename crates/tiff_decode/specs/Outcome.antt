@@ -136,9 +136,9 @@ abbrev pub offset_after : ℕ → List ℕ → Option ℕ
 offset_after offset [] = None
 offset_after offset (p ∷ ps) = if p == offset then slice_get ps 0 else offset_after offset ps
 
--- the offset after a pointer in the chain
+-- the offset after a pointer in the chain; the first offset where there is no pointer
 abbrev pub next_offset : Option IfdPointer → List ℕ → Option ℕ
-next_offset None offsets = None
+next_offset None offsets = slice_get offsets 0
 next_offset (Some pointer) offsets = offset_after pointer.0 offsets
 
 -- the outcome where no directory can be entered: the error that ends the chain, and `more` is false

@@ -11,7 +11,7 @@ ghost use Rattle.tiff_ifd.specs.Stretches.{DirectoryReadable};
 ghost use Rattle.tiff_ifd.specs.IfdChainWalk.{ChainBegins, ChainEnds, NextReadable};
 ghost use Rattle.tiff_page.specs.Reach.{PageReadable};
 ghost use Rattle.tiff_decode.specs.Asked.{EntryReadable, NextPageReadable, OpenReadable, SeekReadable};
-ghost use Rattle.tiff_decode.specs.ChainPosition.{IsInChain, IsAt};
+ghost use Rattle.tiff_decode.specs.ChainPosition.{IsInChain, IsAt, index_behind};
 ghost use Rattle.tiff_decode.specs.Machine.{Decoding, Follows, FollowsBut, FollowsOrFaults, FollowsWithoutEither, Tells, decoding, keeps_state, source_of};
 ghost use Rattle.tiff_decode.specs.Outcome as outcome;
 ghost use Rattle.tiff_decode.specs.Outcome.{decoder_of, first_directory, page_in};
@@ -35,7 +35,7 @@ use tiff_page::page::Page;
 use tiff_page::read_page::read_page;
 
 // The offset where the low-level reads begin: after the header.
-fn header_end(kind: FileKind) -> u64
+pub(crate) fn header_end(kind: FileKind) -> u64
     ensures { result ≡ outcome.header_end kind }
 {
     match kind {
@@ -86,7 +86,7 @@ fn read_first_directory<R: Source>(
         result
         (first_directory (R.told source.old).bytes) (R.failures source.old) (R.failures source.new) }
     ensures walk { IfOk result (λ r. IsInChain r.0.kind r.0.order (R.told source.old).bytes r.0.first r.1
-        (Some (record { 0 = r.0.first })) 0 (is_some r.2.next)) }
+        (Some (record { 0 = r.0.first })) 0) }
     ensures asked { AsksOnly (OpenReadable (R.told source.old)) result }
 {
     let header = read_header(source)?;
@@ -139,7 +139,7 @@ impl CurrentDirectory {
         ensures pointer { result.pointer ≡ (if was_open then option_map (λ offset. record { 0 = offset })
             (last_or None walk.now.offsets) else None) }
         ensures more { result.more ≡ false }
-        ensures stands { IsAt walk.now.offsets result.pointer result.at false }
+        ensures stands { IsAt walk.now.offsets result.pointer result.at }
     {
         if !was_open {
             return CurrentDirectory {
@@ -155,16 +155,29 @@ impl CurrentDirectory {
         };
     }
 
+    // The position before the first directory.
+    pub(crate) fn before_first() -> Self
+        ensures { result ≡ record { pointer = None; at = 0; more = true } }
+    {
+        CurrentDirectory {
+            pointer: None,
+            at: 0,
+            more: true,
+        }
+    }
+
     // The index of the directory that follows the position, where one follows it.
     #[tactic(auto, using(crate::proofs::ChainPosition::within))]
     fn following(&self, walk: &IfdChainWalk) -> usize
-        requires stands { IsAt walk.now.offsets self.now.pointer self.now.at self.now.more }
-        requires more { self.now.more ≡ true }
-        ensures number { result ≡ self.now.at + 1 }
+        requires stands { IsAt walk.now.offsets self.now.pointer self.now.at }
+        ensures number { result ≡ index_behind self.now.pointer self.now.at }
         ensures entered { result ≤ length walk.now.offsets }
     {
         let _entered = walk.len();
-        self.at + 1
+        match self.pointer {
+            Some(_) => self.at + 1,
+            None => 0,
+        }
     }
 }
 
@@ -235,8 +248,8 @@ fn enter_directory<R: Source>(
         (R.failures tags.new.source) standing.new.pointer
         standing.new.more (page_record page.new) tags.new.directory here tags.new.limits) }
     ensures stands { (offsets : List ℕ)
-        → IsAt offsets standing.old.pointer standing.old.at standing.old.more → slice_get offsets
-        read.place.at ≡ Some read.place.offset → IsAt offsets standing.new.pointer standing.new.at standing.new.more }
+        → IsAt offsets standing.old.pointer standing.old.at → slice_get offsets
+        read.place.at ≡ Some read.place.offset → IsAt offsets standing.new.pointer standing.new.at }
     ensures asked { AsksOnly (PageReadable (R.told tags.old.source) tags.old.kind tags.old.order read.directory)
         result }
 {
@@ -281,8 +294,8 @@ fn enter_offset<R: Source>(
         (R.failures tags.new.source) standing.new.pointer
         standing.new.more (page_record page.new) tags.new.directory here tags.new.limits) }
     ensures stands { (offsets : List ℕ)
-        → IsAt offsets standing.old.pointer standing.old.at standing.old.more → slice_get offsets
-        place.at ≡ Some place.offset → IsAt offsets standing.new.pointer standing.new.at standing.new.more }
+        → IsAt offsets standing.old.pointer standing.old.at → slice_get offsets
+        place.at ≡ Some place.offset → IsAt offsets standing.new.pointer standing.new.at }
     ensures asked { AsksOnly (EntryReadable (R.told tags.old.source) tags.old.kind tags.old.order place.offset)
         result }
 {
@@ -431,7 +444,7 @@ impl<R: Source> Model for Decoder<R> {
     } };
 
     ghost invariant = { λ d. IsInChain d.tags.kind d.tags.order (R.told d.tags.source).bytes d.first d.walk
-        d.standing.pointer d.standing.at d.standing.more };
+        d.standing.pointer d.standing.at };
 }
 
 /// Shows what the decoder knows of the file and the page. Does not read the source.
@@ -537,15 +550,6 @@ impl<R: Source> Decoder<R> {
         ensures { result ≡ self.now.state.more }
     {
         self.standing.more
-    }
-
-    /// States in its contract that the chain of each decoder has at least one directory. Does
-    /// nothing.
-    #[tactic(auto, using(crate::proofs::ChainPosition::some_offsets))]
-    pub fn has_pages(&self)
-        ensures { 0 < length (outcome.chain_of self.now).offsets }
-    {
-        let _walk = &self.walk;
     }
 
     /// The allocator that the caller passed to the decoder.

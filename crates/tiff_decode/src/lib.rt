@@ -7,6 +7,7 @@ pub mod decoder;
 pub mod ifd_decoder;
 pub mod layouts;
 pub mod low_level;
+pub mod open;
 pub mod pixels;
 pub mod reply;
 pub mod result;

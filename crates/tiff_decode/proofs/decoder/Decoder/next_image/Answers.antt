@@ -95,7 +95,7 @@ returns-then-keeps_state-clause-asked g c =
     let d : Decoding = decoding (g.R.Source.told s.tags.source) s.tags.kind s.tags.order s.first (g.R.Source.failures s.tags.source) s.standing.pointer s.standing.more
     (view.page s.page) s.tags.directory s.offset s.tags.limits in
     next_behind d _ (g.R.Source.told s.tags.source) s.walk c.in-Err.fault c.self.view_is refl c.self.invariant.begins
-    (last_is s.walk.offsets s.standing.pointer s.standing.at c.following-at.result s.standing.more c.self.invariant.stands (cc) c.following-at.ensures.number
+    (last_is s.walk.offsets s.standing.pointer s.standing.at c.following-at.result c.self.invariant.stands c.following-at.ensures.number
     (past_end s.walk.offsets c.following-at.result (sym c.get-known.ensures ∙ none_of c.get-known.result c.in_default.not-Some))) c.in-Err.ensures.asked
 
 pub returns-in-Err-clause-asked : goal.returns-in-Err-clause-asked
@@ -104,7 +104,7 @@ returns-in-Err-clause-asked g c =
     let d : Decoding = decoding (g.R.Source.told s.tags.source) s.tags.kind s.tags.order s.first (g.R.Source.failures s.tags.source) s.standing.pointer s.standing.more
     (view.page s.page) s.tags.directory s.offset s.tags.limits in
     next_behind d _ (g.R.Source.told s.tags.source) s.walk c.in-Err.fault c.self.view_is refl c.self.invariant.begins
-    (last_is s.walk.offsets s.standing.pointer s.standing.at c.following-at.result s.standing.more c.self.invariant.stands (cc) c.following-at.ensures.number
+    (last_is s.walk.offsets s.standing.pointer s.standing.at c.following-at.result c.self.invariant.stands c.following-at.ensures.number
     (past_end s.walk.offsets c.following-at.result (sym c.get-known.ensures ∙ none_of c.get-known.result c.in_default.not-Some))) c.in-Err.ensures.asked
 
 pub returns-in-Ok-None-clause-asked : goal.returns-in-Ok-None-clause-asked

@@ -1,22 +1,21 @@
-use Rattle.std.proofs.Common.{Bool, Err, refl, subst, sym, ◌∙◌}
+use Rattle.std.proofs.Common.{Err, refl, sym, ◌∙◌}
 use Rattle.tiff_base.proofs.Told.{same_bytes}
 use Rattle.tiff_page.specs.PageView as view
-use Rattle.tiff_decode.specs.ChainPosition.{IsAt}
 use Rattle.tiff_decode.specs.Machine.{State, Decoding, decoding}
 use Rattle.tiff_decode.specs.Outcome.{seek_to_image}
 use Rattle.tiff_decode.proofs.Asked.{none_asks, sought_entry, sought_past, sought_way}
-use Rattle.tiff_decode.proofs.ChainPosition.{none_found, seek_cut, seek_known, seek_past, along_on, some_longer, stands_longer, stands_told, stays_refused, shown, told_same, unfailed}
+use Rattle.tiff_decode.proofs.ChainPosition.{none_found, seek_cut, seek_known, seek_past, along_on, stands_longer, stands_told, stays_refused, shown, told_same, unfailed}
 use Rattle.tiff_decode.proofs.decoder.Decoder.seek_to_image.Goals as goal
 
 pub invariant_of-self : goal.invariant_of-self
 invariant_of-self g c =
     let s = c.self.inside in
     let longer = c.offset_of.ensures.longer in
-    along_on s.tags.kind _ s.tags.order _ (g.R.Source.told s.tags.source).bytes _ s.first c.offset_of.new.self _ _ _
+    along_on s.tags.kind _ s.tags.order _ (g.R.Source.told s.tags.source).bytes _ s.first c.offset_of.new.self _ _
     c.enter_offset.ensures.kind c.enter_offset.ensures.order (same_bytes (c.enter_offset.ensures.kept.told ∙ c.offset_of.ensures.kept.told))
-    (c.offset_of.ensures.begins s.first c.self.invariant.begins) (some_longer s.walk.offsets c.offset_of.new.self.offsets longer.0 longer.1 c.self.invariant.some)
+    (c.offset_of.ensures.begins s.first c.self.invariant.begins)
     (c.enter_offset.ensures.stands c.offset_of.new.self.offsets
-    (stands_longer s.walk.offsets c.offset_of.new.self.offsets longer.0 s.standing.pointer s.standing.at s.standing.more longer.1 c.self.invariant.stands)
+    (stands_longer s.walk.offsets c.offset_of.new.self.offsets longer.0 s.standing.pointer s.standing.at longer.1 c.self.invariant.stands)
     (sym (rw c.in-Ok-Some.field-0-is at c.in-Ok-Some.ensures.there)))
 
 pub invariant_of-self-in-Ok-None : goal.invariant_of-self-in-Ok-None
@@ -24,29 +23,26 @@ invariant_of-self-in-Ok-None g c =
     let s = c.self.inside in
     let longer = c.offset_of.ensures.longer in
     let past = c.past-self-inside in
-    along_on s.tags.kind _ s.tags.order _ (g.R.Source.told s.tags.source).bytes _ s.first c.offset_of.new.self past.result.pointer past.result.at past.result.more
+    along_on s.tags.kind _ s.tags.order _ (g.R.Source.told s.tags.source).bytes _ s.first c.offset_of.new.self past.result.pointer past.result.at
     refl refl (same_bytes c.offset_of.ensures.kept.told) (c.offset_of.ensures.begins s.first c.self.invariant.begins)
-    (some_longer s.walk.offsets c.offset_of.new.self.offsets longer.0 longer.1 c.self.invariant.some)
-    (subst (λ (more : Bool). IsAt c.offset_of.new.self.offsets past.result.pointer past.result.at more) (sym past.ensures.more) past.ensures.stands)
+    past.ensures.stands
 
 pub invariant_of-self-then-keeps_state : goal.invariant_of-self-then-keeps_state
 invariant_of-self-then-keeps_state g c =
     let s = c.self.inside in
     let longer = c.offset_of.ensures.longer in
-    along_on s.tags.kind _ s.tags.order _ (g.R.Source.told s.tags.source).bytes _ s.first c.offset_of.new.self _ _ _
+    along_on s.tags.kind _ s.tags.order _ (g.R.Source.told s.tags.source).bytes _ s.first c.offset_of.new.self _ _
     refl refl (same_bytes c.offset_of.ensures.kept.told) (c.offset_of.ensures.begins s.first c.self.invariant.begins)
-    (some_longer s.walk.offsets c.offset_of.new.self.offsets longer.0 longer.1 c.self.invariant.some)
-    (stands_longer s.walk.offsets c.offset_of.new.self.offsets longer.0 s.standing.pointer s.standing.at s.standing.more longer.1 c.self.invariant.stands)
+    (stands_longer s.walk.offsets c.offset_of.new.self.offsets longer.0 s.standing.pointer s.standing.at longer.1 c.self.invariant.stands)
 
 pub invariant_of-self-in-Err : goal.invariant_of-self-in-Err
 invariant_of-self-in-Err g c =
     let s = c.self.inside in
     let longer = c.offset_of.ensures.longer in
     let past = c.past-self-inside-in-Err in
-    along_on s.tags.kind _ s.tags.order _ (g.R.Source.told s.tags.source).bytes _ s.first c.offset_of.new.self past.result.pointer past.result.at past.result.more
+    along_on s.tags.kind _ s.tags.order _ (g.R.Source.told s.tags.source).bytes _ s.first c.offset_of.new.self past.result.pointer past.result.at
     refl refl (same_bytes c.offset_of.ensures.kept.told) (c.offset_of.ensures.begins s.first c.self.invariant.begins)
-    (some_longer s.walk.offsets c.offset_of.new.self.offsets longer.0 longer.1 c.self.invariant.some)
-    (subst (λ (more : Bool). IsAt c.offset_of.new.self.offsets past.result.pointer past.result.at more) (sym past.ensures.more) past.ensures.stands)
+    past.ensures.stands
 
 pub returns-in-Ok-Some-clause-follows : goal.returns-in-Ok-Some-clause-follows
 returns-in-Ok-Some-clause-follows g c =
