@@ -10,7 +10,7 @@ use Rattle.tiff_base.proofs.Causes.{cause_along}
 use Rattle.tiff_ifd.specs.TagLookup.{ok_or_fault}
 use Rattle.tiff_page.specs.Page.{PageRecord}
 use Rattle.tiff_decode.specs.DefaultLimits.{default_limits}
-use Rattle.tiff_decode.specs.Machine.{Decoding, State}
+use Rattle.tiff_decode.specs.Machine.{Decoding}
 use Rattle.tiff_decode.specs.Opened.{OpensFirst, before_first, moved, opened_by, opened_of}
 use Rattle.tiff_decode.specs.Outcome.{chain_from, decoder_of, end_fault, enter, entry_outcome, first_directory, first_state, page_in, seek_outcome, seek_to_image, with_page}
 

@@ -98,5 +98,4 @@ impl<R: Source> Decoder<R> {
 #[tactic(auto, using(crate::proofs::Opened::opens_first))]
 pub fn opens_first()
     ensures { OpensFirst }
-{
-}
+{}
