@@ -73,6 +73,10 @@ opened_of bytes failures = do
   header ← header_at bytes
   Ok (opened_by bytes failures header)
 
+-- a decoder that goes back before its first page; its page and its directory stay
+abbrev pub rewound : Decoding → Decoding
+rewound d = record d { state = record d.state { pointer = None; more = true } }
+
 -- a decoder after a call, or the error of the call
 abbrev pub moved : Decoding → Outcome (Unit {0}) → Result Decoding TiffError
 moved d outcome = do

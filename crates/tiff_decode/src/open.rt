@@ -5,7 +5,7 @@ ghost use Rattle.tiff_base.specs.Answers.{Answers, AnswersBut, AsksOnly, FailsFr
 ghost use Rattle.tiff_ifd.specs.Stretches.{HeaderReadable};
 ghost use Rattle.tiff_page.specs.PageView.{page as page_record};
 ghost use Rattle.tiff_decode.specs.Machine.{Decoding};
-ghost use Rattle.tiff_decode.specs.Opened.{OpensFirst, no_page, opened_of};
+ghost use Rattle.tiff_decode.specs.Opened.{OpensFirst, no_page, opened_of, rewound};
 
 use crate::decoder::{CurrentDirectory, Decoder, header_end};
 use std::alloc::{AllocError, Global};
@@ -90,6 +90,17 @@ impl<R: Source> Decoder<R> {
             standing: CurrentDirectory::before_first(),
             offset: header_end(header.kind),
         })
+    }
+}
+
+impl<R: Source> Decoder<R> {
+    /// Goes back before the first page, from any position (this project's): `more_images` is true,
+    /// and `next_image` enters the first page. The page and its tags stay until then. Reads
+    /// nothing.
+    pub fn rewind(&mut self)
+        ensures { self.new ≡ rewound self.old }
+    {
+        self.standing = CurrentDirectory::before_first();
     }
 }
 
