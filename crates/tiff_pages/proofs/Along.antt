@@ -1,5 +1,5 @@
 -- The pages of a file are listed along its chain.
-use Rattle.std.proofs.Common.{◌≡◌, ℕ, suc, ◌-◌, ◌<◌, ◌≤◌, List, [], ◌∷◌, ◌++◌, length, Option, None, Some, IsSome, true, Result, Ok, Err, OnOk, inr, refl, ap, sym, ◌∙◌, subst, arith}
+use Rattle.std.proofs.Common.{◌≡◌, ℕ, suc, ◌-◌, ◌<◌, ◌≤◌, List, [], ◌∷◌, ◌++◌, length, Option, None, Some, IsSome, true, Result, Ok, Err, OnOk, inl, inr, refl, ap, sym, ◌∙◌, subst, arith}
 use Rattle.std.proofs.lemmas.Option.{slice_get_within}
 use Rattle.std.specs.Prelude.{is_some, unwrap_or}
 use Rattle.std.specs.List.{slice_get}
@@ -17,7 +17,7 @@ use Rattle.tiff_laws.proofs.Listed.{listed_first, listed_next, listed_fewer, lis
 use Rattle.tiff_pages.specs.declared.pages.PageItem.{PageItem}
 use Rattle.tiff_pages.specs.Pages.{HasItsPage, IsOfFile, WasOnItsWay, facts_at, facts_of, facts_told, item_at, pages_of, state_along, times_on, times_to_end}
 
-abbrev Answer : Type 0
+abbrev pub Answer : Type 0
 Answer = Result (Unit {0}) TiffError
 
 -- Pages were listed up to the one at which the decoder is, to which it came by a seek and by going
@@ -29,7 +29,7 @@ pub record ListsAlong (start d : Decoding) (items : List PageItem) : Type 0 wher
 -- ---- results
 
 -- A result that comes from the file is the given one.
-of_file : (wanting : Type 0) (o : Outcome (Unit {0})) (r : Answer) (old new : Decoding) → IsOfFile r → FollowsBut wanting (λ x. x) o r old new → GivesOutcome r o old new
+pub of_file : (wanting : Type 0) (o : Outcome (Unit {0})) (r : Answer) (old new : Decoding) → IsOfFile r → FollowsBut wanting (λ x. x) o r old new → GivesOutcome r o old new
 of_file wanting o (Ok u) old new k h = h
 of_file wanting o (Err OutOfMemory) old new k h = absurd (cc)
 of_file wanting o (Err (IoError Device)) old new k h = absurd (cc)
@@ -86,7 +86,7 @@ within_end n len (Some e) h = omega (arith, h)
 pub on_its_way : (start d : Decoding) (n : ℕ) (answer : Answer) (state : State) → IsAlong start n d → state ≡ state_along start n → WasOnItsWay start state
 on_its_way start d n answer state a h =
     let within = slice_get_within (chain_of start).offsets n a.offset a.is_offset in
-    inr (n, within_end n (length (chain_of start).offsets) (chain_of start).end within, h)
+    inr (inl (n, within_end n (length (chain_of start).offsets) (chain_of start).end within, h))
 
 -- ---- an item
 

@@ -51,7 +51,9 @@ along_limits d (suc n) = next_limits (record d { state = state_along d n }) ∙ 
 
 -- The limits are kept on the way, and at its end.
 pub way_limits : (d : Decoding) (state : State) → WasOnItsWay d state → state.limits ≡ d.state.limits
-way_limits d state w = ⊎_elim (λ h. ap (λ (s : State). s.limits) h) (λ h. ap (λ (s : State). s.limits) h.2 ∙ along_limits d h.0) w
+way_limits d state w =
+    ⊎_elim (λ h. ap (λ (s : State). s.limits) h)
+    (λ v. ⊎_elim (λ h. ap (λ (s : State). s.limits) h.2 ∙ along_limits d h.0) (λ h. ap (λ (s : State). s.limits) h.1) v) w
 
 pub end_limits : (old new : Decoding) (n : ℕ) → new ≡ record old { state = state_along old n } → new.state.limits ≡ old.state.limits
 end_limits old new n h = ap (λ (d : Decoding). d.state.limits) h ∙ along_limits old n

@@ -4,3 +4,4 @@ pub mod Kept
 pub mod PageReads
 mod Checked
 mod Sums
+mod NoPages

@@ -1,5 +1,5 @@
 -- The pages of a file, each with its facts or its error (this project's).
-use Rattle.std.specs.Prelude.{◌≡◌, ◌⊎◌, ℕ, zero, suc, ◌-◌, ◌<◌, ◌≤◌, List, length, false, IfErr, OnOk, map, Option, None, Some, Result, Ok, Err}
+use Rattle.std.specs.Prelude.{◌≡◌, ◌⊎◌, ℕ, zero, suc, ◌-◌, ◌<◌, ◌≤◌, List, [], length, false, IfErr, OnOk, map, Option, None, Some, Result, Ok, Err}
 use Rattle.tiff_base.specs.declared.color.ChunkType.{ChunkType}
 use Rattle.tiff_base.specs.declared.color.ChunkType.TheVariants.{Strip, Tile}
 use Rattle.tiff_base.specs.declared.error.TiffError.{TiffError}
@@ -8,6 +8,7 @@ use Rattle.tiff_page.specs.Page.{PageRecord}
 use Rattle.tiff_page.specs.Counts.{strip_count, tile_count}
 use Rattle.tiff_page.specs.Layout.{color_of}
 use Rattle.tiff_decode.specs.Machine.{State, Decoding, StandsAt, keeps_state}
+use Rattle.tiff_decode.specs.Opened.{rewound}
 use Rattle.tiff_decode.specs.Outcome.{chain_of, next_image, page_in, seek_to_image}
 use Rattle.tiff_laws.specs.Pages.{page_at}
 use Rattle.tiff_pages.specs.declared.pages.PageFacts.{PageFacts}
@@ -69,11 +70,14 @@ times_on offsets (Some e) = offsets
 abbrev pub times_to_end : Decoding → ℕ
 times_to_end d = times_on (length (chain_of d).offsets) (chain_of d).end
 
--- the state is the decoder's own, or one on its way along the chain: that after the last call that
--- neither ran out of memory nor failed by the device
+-- the state is the decoder's own, or one on its way along the chain, or, for a chain without
+-- directories, that before the first page: the state after the last call that neither ran out of
+-- memory nor failed by the device
 abbrev pub WasOnItsWay : Decoding → State → Type 0
 WasOnItsWay d state =
-    (state ≡ d.state) ⊎ ((n : ℕ) × (n ≤ times_to_end d) × (state ≡ state_along d n))
+    (state ≡ d.state)
+    ⊎ (((n : ℕ) × (n ≤ times_to_end d) × (state ≡ state_along d n))
+    ⊎ (((chain_of d).offsets ≡ []) × (state ≡ (rewound d).state)))
 
 -- The list leaves the decoder at the chain's end. An error leaves it where the last call left it,
 -- and its file is the same.

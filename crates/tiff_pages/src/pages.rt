@@ -3,7 +3,8 @@
 ghost use Rattle.std.specs.Prelude.{◌≡◌, ◌<◌, ◌≤◌, ◌++◌, ◌∷◌, [], IfErr, IfOk, IfSome, IsSome, MatchResult, None, Ok, OnErr, OnOk, Some, true};
 ghost use Rattle.tiff_base.specs.Answers.{Answers, IsCause};
 ghost use Rattle.tiff_decode.specs.Machine.{Decoding, StandsAt, keeps_state};
-ghost use Rattle.tiff_decode.specs.Outcome.{page_in};
+ghost use Rattle.tiff_decode.specs.Opened.{rewound};
+ghost use Rattle.tiff_decode.specs.Outcome.{chain_of, page_in, seek_to_image};
 ghost use Rattle.tiff_pages.specs.Pages.{HasItsPage, IsOfFile, LeavesPages, OnlyReads, WasOnItsWay, facts_of, facts_told, pages_in, pages_of, state_along, times_to_end};
 
 use tiff_base::color::{ChunkType, ColorType};
@@ -132,6 +133,22 @@ fn item_here<R: Source>(decoder: &mut Decoder<R>, entered: TiffResult<()>) -> Ti
     Ok(PageItem { place, page })
 }
 
+// The error by which a chain without directories ends. A decoder past the end returns another one,
+// so it goes back first.
+fn end_of_none<R: Source>(decoder: &mut Decoder<R>) -> TiffResult<Option<TiffError>>
+    requires { (chain_of decoder.old).offsets ≡ [] }
+    ensures end { IfOk result (λ end. end ≡ (chain_of decoder.old).end) }
+    ensures past { OnOk result
+        (decoder.new ≡ record decoder.old { state = (seek_to_image decoder.old 0).next }) }
+    ensures file { StandsAt decoder.new.state decoder.old decoder.new }
+    ensures back { OnErr result (decoder.new.state ≡ (rewound decoder.old).state) }
+    ensures refused { IfErr result (λ e. IsCause (Unit {0}) (decoder.old.failures < decoder.new.failures) e ⊥) }
+{
+    decoder.rewind();
+    let entered = file_answer(decoder.seek_to_image(0))?;
+    Ok(entered.err())
+}
+
 // Lists the pages of a decoder's file into an empty list, and returns the error by which their
 // chain ends, if it ends by one.
 fn list_pages<R: Source>(
@@ -151,8 +168,10 @@ fn list_pages<R: Source>(
     walk_goes_on();
     walk_ends();
     walk_moves();
-    decoder.has_pages();
     let entered = file_answer(decoder.seek_to_image(0))?;
+    if decoder.ifd_pointer().is_none() {
+        return end_of_none(decoder);
+    }
     pages.push(item_here(decoder, entered)?)?;
     'pages: while decoder.more_images() {
         let here = place_of(decoder);
@@ -167,10 +186,11 @@ fn list_pages<R: Source>(
 
 /// Lists the pages of a decoder's file, from the first one to the end of the chain, wherever the
 /// decoder is: each with its facts, or with the first error of the page under the decoder's limits;
-/// and the error by which the chain ends, if it ends by one. The decoder is then at the chain's
-/// last directory. The only errors of the list are `OutOfMemory` and an error of the device,
-/// `IoError(Device)`. After these, the decoder is where the last call left it, and the caller can
-/// list the pages again.
+/// and the error by which the chain ends, if it ends by one. So a decoder that was opened by
+/// [`Decoder::open`] lists a first page that is refused as it does others. The decoder is then at
+/// the chain's last directory, or at none if the first one can't be read. The only errors of the
+/// list are `OutOfMemory` and an error of the device, `IoError(Device)`. After these, the decoder
+/// is where the last call left it, and the caller can list the pages again.
 pub fn pages<R: Source>(decoder: &mut Decoder<R>) -> TiffResult<PageList>
     ensures answer { Answers pages_in result (Ok (pages_of decoder.old)) decoder.old.failures
         decoder.new.failures }

@@ -1,28 +1,33 @@
-use Rattle.std.proofs.Common.{rules, ◌≡◌, true, false, Err, Some, None, refl, ap, ◌∙◌}
+use Rattle.std.proofs.Common.{rules, ◌≡◌, true, false, Err, Some, None, refl, ap, sym, ◌∙◌}
 use Rattle.std.specs.Result.{result_err}
 use Rattle.tiff_decode.specs.Machine.{Decoding}
 use Rattle.tiff_decode.specs.Outcome.{next_image}
 use Rattle.tiff_pages.proofs.Along.{all_listed, ended, fewer, has_page, kept_state, lists_first, lists_next, moved, on_its_way, some_after, some_pointer, sought_first, stands_behind, stands_last, went_on}
+use Rattle.tiff_pages.proofs.NoPages.{found, lists_none, none_by, some_by, some_here, stands_none, still_none, way_none}
 use Rattle.tiff_pages.proofs.pages.list_pages.Goals as goal
 
 pub item_here-requires-clause-place : goal.item_here-requires-clause-place
 item_here-requires-clause-place g c =
-    let a = sought_first c.walk_seeks.ensures c.args.decoder.now c.seek_to_image.new.self c.seek_to_image.result c.in_ok-entered.entered c.has_pages.ensures c.in_ok-entered.ensures
+    let a = sought_first c.walk_seeks.ensures c.args.decoder.now c.seek_to_image.new.self c.seek_to_image.result c.in_ok-entered.entered (some_here c.args.decoder.now c.seek_to_image.new.self c.seek_to_image.result c.in_ok-entered.ensures.1 c.seek_to_image.ensures.follows
+    (λ p. some_by c.ifd_pointer.result c.is_none.result c.is_none.ensures c.if-is_none.false (c.ifd_pointer.ensures.0 ∙ p))) c.in_ok-entered.ensures
     c.seek_to_image.ensures.follows in
-    some_pointer c.args.decoder.now c.seek_to_image.new.self 0 c.in_ok-entered.entered a.0
+    rw c.ifd_pointer.ensures.1 (some_pointer c.args.decoder.now c.seek_to_image.new.self 0 c.in_ok-entered.entered a.0)
 
 pub item_here-requires-clause-page : goal.item_here-requires-clause-page
 item_here-requires-clause-page g c =
-    let a = sought_first c.walk_seeks.ensures c.args.decoder.now c.seek_to_image.new.self c.seek_to_image.result c.in_ok-entered.entered c.has_pages.ensures c.in_ok-entered.ensures
+    let a = sought_first c.walk_seeks.ensures c.args.decoder.now c.seek_to_image.new.self c.seek_to_image.result c.in_ok-entered.entered (some_here c.args.decoder.now c.seek_to_image.new.self c.seek_to_image.result c.in_ok-entered.ensures.1 c.seek_to_image.ensures.follows
+    (λ p. some_by c.ifd_pointer.result c.is_none.result c.is_none.ensures c.if-is_none.false (c.ifd_pointer.ensures.0 ∙ p))) c.in_ok-entered.ensures
     c.seek_to_image.ensures.follows in
-    has_page c.args.decoder.now c.seek_to_image.new.self 0 c.in_ok-entered.entered a.0
+    rw c.ifd_pointer.ensures.1 (has_page c.args.decoder.now c.seek_to_image.new.self 0 c.in_ok-entered.entered a.0)
 
 pub pages-init : goal.pages-init
 pages-init g c =
-    let a = sought_first c.walk_seeks.ensures c.args.decoder.now c.seek_to_image.new.self c.seek_to_image.result c.in_ok-entered.entered c.has_pages.ensures c.in_ok-entered.ensures
+    let a = sought_first c.walk_seeks.ensures c.args.decoder.now c.seek_to_image.new.self c.seek_to_image.result c.in_ok-entered.entered (some_here c.args.decoder.now c.seek_to_image.new.self c.seek_to_image.result c.in_ok-entered.ensures.1 c.seek_to_image.ensures.follows
+    (λ p. some_by c.ifd_pointer.result c.is_none.result c.is_none.ensures c.if-is_none.false (c.ifd_pointer.ensures.0 ∙ p))) c.in_ok-entered.ensures
     c.seek_to_image.ensures.follows in
     lists_first c.args.decoder.now c.seek_to_image.new.self c.item_here.new.decoder c.in_ok-entered.entered c.in_ok-item_here.field-0 c.args.pages.now.items c.push.new.self.items a
-    c.in_ok-item_here.ensures.reads.stays c.in_ok-item_here.ensures.place c.in_ok-item_here.ensures.page c.requires c.in_ok-push.ensures.items
+    (c.in_ok-item_here.ensures.reads.stays ∙ c.ifd_pointer.ensures.1) (rw c.ifd_pointer.ensures.1 at c.in_ok-item_here.ensures.place)
+    (rw c.ifd_pointer.ensures.1 at c.in_ok-item_here.ensures.page) c.requires c.in_ok-push.ensures.items
 
 pub returns-in_err-entered-2-clause-way : goal.returns-in_err-entered-2-clause-way
 returns-in_err-entered-2-clause-way g c =
@@ -118,3 +123,29 @@ returns-clause-end g c =
     let over : c.pages.decoder.state.more ≡ false = (let e = c.more_images.ensures in let t = c.pages-test.false in cc) in
     let l = c.pages.invariant in
     stands_last c.args.decoder.now c.pages.decoder c.pages.pages.items l (c.walk_ends.ensures c.args.decoder.now c.pages.decoder l.listed.number l.listed.along over)
+
+-- ---- a chain without directories
+
+pub end_of_none-requires : goal.end_of_none-requires
+end_of_none-requires g c =
+    let f = found c.args.decoder.now c.seek_to_image.new.self c.seek_to_image.result c.walk_seeks.ensures c.in_ok-entered.ensures.1 c.seek_to_image.ensures.follows
+    (sym c.ifd_pointer.ensures.0 ∙ none_by c.ifd_pointer.result c.is_none.result c.is_none.ensures c.if-is_none.true) in
+    rw c.ifd_pointer.ensures.1 (still_none c.args.decoder.now c.seek_to_image.new.self f)
+
+pub returns-then-is_none-clause-pages : goal.returns-then-is_none-clause-pages
+returns-then-is_none-clause-pages g c =
+    let f = found c.args.decoder.now c.seek_to_image.new.self c.seek_to_image.result c.walk_seeks.ensures c.in_ok-entered.ensures.1 c.seek_to_image.ensures.follows
+    (sym c.ifd_pointer.ensures.0 ∙ none_by c.ifd_pointer.result c.is_none.result c.is_none.ensures c.if-is_none.true) in
+    lists_none c.args.decoder.now c.seek_to_image.new.self c.args.pages.now.items c.end_of_none.result f c.requires (rw c.ifd_pointer.ensures.1 at c.end_of_none.ensures.end)
+
+pub returns-then-is_none-clause-end : goal.returns-then-is_none-clause-end
+returns-then-is_none-clause-end g c =
+    let f = found c.args.decoder.now c.seek_to_image.new.self c.seek_to_image.result c.walk_seeks.ensures c.in_ok-entered.ensures.1 c.seek_to_image.ensures.follows
+    (sym c.ifd_pointer.ensures.0 ∙ none_by c.ifd_pointer.result c.is_none.result c.is_none.ensures c.if-is_none.true) in
+    stands_none c.args.decoder.now c.seek_to_image.new.self c.end_of_none.new.decoder c.end_of_none.result f (rw c.ifd_pointer.ensures.1 at c.end_of_none.ensures.past)
+
+pub returns-then-is_none-clause-way : goal.returns-then-is_none-clause-way
+returns-then-is_none-clause-way g c =
+    let f = found c.args.decoder.now c.seek_to_image.new.self c.seek_to_image.result c.walk_seeks.ensures c.in_ok-entered.ensures.1 c.seek_to_image.ensures.follows
+    (sym c.ifd_pointer.ensures.0 ∙ none_by c.ifd_pointer.result c.is_none.result c.is_none.ensures c.if-is_none.true) in
+    way_none c.args.decoder.now c.seek_to_image.new.self c.end_of_none.new.decoder c.end_of_none.result f (rw c.ifd_pointer.ensures.1 at c.end_of_none.ensures.back)
