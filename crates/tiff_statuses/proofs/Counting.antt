@@ -9,6 +9,7 @@ use Rattle.tiff_base.proofs.Causes.{cause_along}
 use Rattle.tiff_ifd.proofs.Chain.{apart_chain}
 use Rattle.tiff_page.specs.PixelFault.{each_below}
 use Rattle.tiff_decode.specs.Machine.{Decoding}
+use Rattle.tiff_decode.specs.Opened.{OpensFirst}
 use Rattle.tiff_decode.specs.Outcome.{decoder_of, chain_of, next_image, seek_to_image}
 use Rattle.tiff_laws.specs.Pages.{IsAlong, GoesOn, WalkOpens, WalkGoesOn, WalkEnds}
 use Rattle.tiff_statuses.specs.Calls.{decoder_at_page, page_count, plain_end}
@@ -62,6 +63,10 @@ count_of d pages end h p e =
 
 -- ---- a decoder that was opened
 
+-- A decoder opened at the first page is at page 0.
+pub at_first_page : OpensFirst → (file : List ℕ) (page : ℕ) → page ≡ 0 → decoder_of file 0 ≡ decoder_at_page file page
+at_first_page opens file page z = opens file 0 ∙ ap (decoder_at_page file) (sym z)
+
 module _ (opens : WalkOpens) where
   -- A decoder has the bytes that it was opened on.
   pub bytes_opened : (file : List ℕ) (d : Decoding) → decoder_of file 0 ≡ Ok d → d.bytes ≡ file
@@ -69,10 +74,6 @@ module _ (opens : WalkOpens) where
 
   pub opened_again : (file : List ℕ) (d : Decoding) → decoder_of file 0 ≡ Ok d → decoder_of d.bytes 0 ≡ Ok d
   opened_again file d h = ap (λ (b : List ℕ). decoder_of b 0) (bytes_opened file d h) ∙ h
-
-  -- To go to the first page moves nothing.
-  pub at_first_page : (file : List ℕ) (page : ℕ) (d : Decoding) → page ≡ 0 → decoder_of file 0 ≡ Ok d → decoder_at_page file page ≡ Ok d
-  at_first_page file page d z h = rw (z, h, (opens file 0 d h).stays) refl
 
   -- A decoder that was opened is at the first page, which was entered.
   pub counts_first : (d : Decoding) → decoder_of d.bytes 0 ≡ Ok d → Counting d 1 d

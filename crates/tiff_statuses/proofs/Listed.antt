@@ -4,14 +4,14 @@ use Rattle.std.specs.List.{slice_get}
 use Rattle.tiff_base.specs.declared.error.TiffError.{TiffError}
 use Rattle.tiff_base.specs.Answers.{◌>>=◌, Answers, AnswersWithoutSource}
 use Rattle.tiff_decode.specs.Machine.{Decoding}
-use Rattle.tiff_decode.specs.Outcome.{decoder_of}
+use Rattle.tiff_decode.specs.Opened.{opened_of}
 use Rattle.tiff_pages.specs.declared.pages.PageList.{PageList}
 use Rattle.tiff_pages.specs.Pages.{Pages, pages_in, pages_of}
 use Rattle.tiff_statuses.specs.List.{list_of}
 use Rattle.tiff_statuses.proofs.Slices.{answer_here}
 
 -- No read failed, so a result is that of the file.
-pub pages_here : (file : List ℕ) (d : Decoding) (result : Result PageList TiffError) (before after : ℕ) → decoder_of file 0 ≡ Ok d
+pub pages_here : (file : List ℕ) (d : Decoding) (result : Result PageList TiffError) (before after : ℕ) → opened_of file 0 ≡ Ok d
     → Answers pages_in result (Ok (pages_of d)) before after → before ≡ 0 → after ≡ 0 → AnswersWithoutSource pages_in result (list_of file)
 pages_here file d result before after h a b e =
     let P : Result Pages TiffError → Type 0 = λ g. AnswersWithoutSource pages_in result g in

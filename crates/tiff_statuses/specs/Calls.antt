@@ -9,6 +9,7 @@ use Rattle.tiff_base.specs.Answers.{◌>>=◌}
 use Rattle.tiff_base.specs.Color.{bit_depth, num_samples}
 use Rattle.tiff_base.specs.Field.{Field}
 use Rattle.tiff_decode.specs.Machine.{Decoding, Outcome}
+use Rattle.tiff_decode.specs.Opened.{moved, opened_of}
 use Rattle.tiff_decode.specs.Outcome as outcome
 use Rattle.tiff_decode.specs.Reader.{reader_of}
 use Rattle.tiff_base.specs.declared.error.TiffError.TheVariants.{FormatError, UsageError}
@@ -37,23 +38,21 @@ page_outcome d page =
     if nat_lt page (2 ^ 63) then outcome.seek_to_image d page
     else outcome.show_directory d (record { 0 = page - 2 ^ 63 })
 
--- the decoder at a page
+-- the decoder at a page, of a file that is opened by its header: no other page is asked for
 abbrev pub decoder_at_page : List ℕ → ℕ → Result Decoding TiffError
 decoder_at_page file page = do
-  d ← outcome.decoder_of file 0
-  _ ← (page_outcome d page).answer
-  Ok (record d { state = (page_outcome d page).next })
+  d ← opened_of file 0
+  moved d (page_outcome d page)
 
--- the decoder at the first page of a file, with the directory at an offset in place of that page's
+-- the decoder before the first page of a file, with the tags of the directory at an offset
 abbrev pub tags_at_offset : List ℕ → ℕ → Result Decoding TiffError
 tags_at_offset file offset = do
-  d ← outcome.decoder_of file 0
+  d ← opened_of file 0
   directory ← (outcome.read_directory d (record { 0 = offset })).answer
   Ok (reader_of d (Some directory))
 
--- the decoder by which tags are read: at the page with this number; or, for the directory at an
--- offset, at the first page, with that directory in place of its own; whether that directory is a
--- page isn't asked
+-- the decoder by which tags are read: at the page with this number; or with the directory at an
+-- offset, of which it isn't asked whether it is a page
 abbrev pub tags_at_page : List ℕ → ℕ → Result Decoding TiffError
 tags_at_page file page = if nat_lt page (2 ^ 63) then decoder_at_page file page
     else tags_at_offset file (page - 2 ^ 63)
@@ -266,5 +265,5 @@ order_number BigEndian = 1
 -- the byte order of a file
 abbrev pub file_byte_order : List ℕ → Result ℕ TiffError
 file_byte_order file = do
-  d ← outcome.decoder_of file 0
+  d ← opened_of file 0
   Ok (order_number d.order)

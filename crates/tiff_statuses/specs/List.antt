@@ -5,7 +5,7 @@ use Rattle.tiff_base.specs.declared.error.TiffError.{TiffError}
 use Rattle.tiff_base.specs.declared.error.TiffError.TheVariants.{OutOfMemory}
 use Rattle.tiff_base.specs.Answers.{◌>>=◌}
 use Rattle.tiff_base.specs.Tags.{method_number}
-use Rattle.tiff_decode.specs.Outcome.{decoder_of}
+use Rattle.tiff_decode.specs.Opened.{opened_of}
 use Rattle.tiff_pages.specs.declared.pages.PageFacts.{PageFacts}
 use Rattle.tiff_pages.specs.declared.pages.PageItem.{PageItem}
 use Rattle.tiff_pages.specs.Pages.{Pages, pages_of}
@@ -58,10 +58,10 @@ item_told item = page_told item.place.0 item.page
 abbrev pub filled : {A : Type 0} → List A → List A → List A
 filled items old = take (length old) items ++ drop (length items) old
 
--- the pages of a file, and how their chain ends; or the error of its header or its first page
+-- the pages of a file, and how their chain ends; or the error of its header
 abbrev pub list_of : List ℕ → Result Pages TiffError
 list_of file = do
-  d ← decoder_of file 0
+  d ← opened_of file 0
   Ok (pages_of d)
 
 -- the number of the error by which a chain ends; 0 for none

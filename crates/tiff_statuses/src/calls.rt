@@ -7,6 +7,7 @@ ghost use Rattle.tiff_base.specs.Color.{num_samples};
 ghost use Rattle.tiff_base.specs.declared.error.TiffError.TheVariants.{FormatError};
 ghost use Rattle.tiff_base.specs.declared.error.TiffFormatError.TheVariants.{RequiredTagNotFound};
 ghost use Rattle.tiff_ifd.specs.TagLookup.{ok_or_fault};
+ghost use Rattle.tiff_decode.specs.Opened.{opened_of};
 ghost use Rattle.tiff_decode.specs.Outcome as outcome;
 ghost use Rattle.tiff_decode.specs.Reader.{reader_of};
 ghost use Rattle.tiff_statuses.specs.Calls as calls;
@@ -19,6 +20,7 @@ use tiff_base::io::{SliceSource, Source};
 use tiff_base::tags::{ByteOrder, IfdPointer, Tag};
 use tiff_decode::decoder::Decoder;
 use tiff_decode::ifd_decoder::IfdDecoder;
+use tiff_decode::open::opens_first;
 use tiff_ifd::limits::Limits;
 use tiff_laws::pages::{walk_ends, walk_goes_on, walk_opens};
 use tiff_page::layout::{BufferLayoutPreference, TiffCodingUnit};
@@ -91,8 +93,17 @@ pub(crate) fn never_failed(decoder: &Decoder<SliceSource<'_>>)
     let _source = decoder.inner();
 }
 
+// A decoder before the first page of a file.
+pub(crate) fn open(alloc: Global, file: &[u8]) -> TiffResult<Decoder<SliceSource<'_>>>
+    ensures { AnswersWithoutSource (λ d. d) result (opened_of file.now 0) }
+{
+    let decoder = Decoder::open(alloc, SliceSource::new(file))?;
+    never_failed(&decoder);
+    Ok(decoder)
+}
+
 // A decoder at the first page of a file.
-pub(crate) fn open_first(alloc: Global, file: &[u8]) -> TiffResult<Decoder<SliceSource<'_>>>
+fn open_first(alloc: Global, file: &[u8]) -> TiffResult<Decoder<SliceSource<'_>>>
     ensures { AnswersWithoutSource (λ d. d) result (outcome.decoder_of file.now 0) }
 {
     let decoder = Decoder::new(alloc, SliceSource::new(file))?;
@@ -141,8 +152,8 @@ fn go_to(decoder: &mut Decoder<SliceSource<'_>>, page: usize) -> TiffResult<()>
     show(decoder, (page - AT) as u64)
 }
 
-// A decoder at a page of a file. It is opened at the first page; for page 0, that directory isn't
-// read again.
+// A decoder at a page of a file. To open it at the first page reads that directory once, to seek
+// page 0 twice.
 pub(crate) fn open_at(
     alloc: Global,
     file: &[u8],
@@ -150,11 +161,11 @@ pub(crate) fn open_at(
 ) -> TiffResult<Decoder<SliceSource<'_>>>
     ensures { AnswersWithoutSource (λ d. d) result (calls.decoder_at_page file.now page) }
 {
-    walk_opens();
-    let mut decoder = open_first(alloc, file)?;
+    opens_first();
     if page == 0 {
-        return Ok(decoder);
+        return open_first(alloc, file);
     }
+    let mut decoder = open(alloc, file)?;
     go_to(&mut decoder, page)?;
     Ok(decoder)
 }
@@ -172,8 +183,8 @@ fn directory_here(decoder: &mut Decoder<SliceSource<'_>>, offset: u64) -> TiffRe
     answer
 }
 
-// A decoder for the tags of a page: at the page with a number; or at the first page, together with
-// the directory at an offset. Whether that directory is a page isn't asked.
+// A decoder for the tags of a page: at the page with a number; or before the first page, together
+// with the directory at an offset. Whether that directory is a page isn't asked.
 pub(crate) fn open_tags(
     alloc: Global,
     file: &[u8],
@@ -185,7 +196,7 @@ pub(crate) fn open_tags(
     if page < AT {
         return Ok((open_at(alloc, file, page)?, None));
     }
-    let mut decoder = open_first(alloc, file)?;
+    let mut decoder = open(alloc, file)?;
     let directory = directory_here(&mut decoder, (page - AT) as u64)?;
     Ok((decoder, Some(directory)))
 }
@@ -732,5 +743,5 @@ fn order_number(order: ByteOrder) -> u32
 pub fn byte_order(alloc: Global, file: &[u8]) -> TiffResult<u32>
     ensures { AnswersWithoutSource (λ n. n) result (calls.file_byte_order file.now) }
 {
-    Ok(order_number(open_first(alloc, file)?.byte_order()))
+    Ok(order_number(open(alloc, file)?.byte_order()))
 }

@@ -6,7 +6,7 @@ ghost use Rattle.tiff_pages.specs.Pages.{pages_in};
 ghost use Rattle.tiff_statuses.specs.List as list;
 ghost use Rattle.tiff_statuses.specs.Status as status;
 
-use crate::calls::{Color, color_by, never_failed, open_first};
+use crate::calls::{Color, color_by, never_failed, open};
 use crate::status::{Status, fault_number, status_of};
 use std::alloc::Global;
 use tiff_base::color::{ChunkType, ColorType};
@@ -117,7 +117,7 @@ fn fill(out: &mut [ListedPage], items: &[PageItem])
 fn list_pages(alloc: Global, file: &[u8]) -> TiffResult<PageList>
     ensures { AnswersWithoutSource pages_in result (list.list_of file.now) }
 {
-    let mut decoder = open_first(alloc, file)?;
+    let mut decoder = open(alloc, file)?;
     never_failed(&decoder);
     let listed = pages(&mut decoder);
     never_failed(&decoder);
