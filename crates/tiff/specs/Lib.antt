@@ -3,6 +3,7 @@ pub use Rattle.tiff_base.specs.Memory
 pub use Rattle.tiff_page.specs.Image
 pub use Rattle.tiff_page.specs.PixelCalls
 pub use Rattle.tiff_decode.specs.Machine
+pub use Rattle.tiff_decode.specs.Opened
 pub use Rattle.tiff_decode.specs.Outcome
 pub use Rattle.tiff_decode.specs.DefaultLimits
 pub use Rattle.tiff_decode.specs.Promise

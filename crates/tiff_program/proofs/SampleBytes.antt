@@ -10,7 +10,8 @@ use Rattle.tiff_base.proofs.Causes.{cause_along}
 use Rattle.tiff_ifd.specs.declared.limits.Limits.{Limits}
 use Rattle.tiff_page.specs.Image.{Decoded}
 use Rattle.tiff_decode.specs.Machine.{Decoding}
-use Rattle.tiff_decode.specs.Outcome.{decoder_of, seek_to_image}
+use Rattle.tiff_decode.specs.Opened.{opened_of}
+use Rattle.tiff_decode.specs.Outcome.{seek_to_image}
 use Rattle.tiff_decode.specs.Result.{bytes_of}
 use Rattle.tiff_program.specs.AtPage.{AnswersUnder, in_file_under, page_decoder, under}
 use Rattle.tiff_program.specs.Samples.{page_image, sample_bytes}
@@ -35,14 +36,14 @@ pub bytes_under : (limits : Limits) (file : List ℕ) (page : ℕ) (r : Result D
     → in_file_under sample_bytes limits file page ≡ (r >>= λ samples. Ok (bytes_of samples))
 bytes_under limits file page r e =
     let bytes : Decoded → Result (List ℕ) TiffError = λ samples. Ok (bytes_of samples) in
-    sym (behind_both (decoder_of file 0) (λ d. (seek_to_image (under limits d) page).answer) (λ d. page_image (page_decoder (under limits d) page)) bytes)
+    sym (behind_both (opened_of file 0) (λ d. (seek_to_image (under limits d) page).answer) (λ d. page_image (page_decoder (under limits d) page)) bytes)
     ∙ ap (λ x. x >>= bytes) e
 
 -- what follows a call at a page of a file, under limits
 bound : {Y Y' : Type 0} (given : Decoding → Result Y TiffError) (f : Y → Result Y' TiffError) (limits : Limits) (file : List ℕ) (page : ℕ)
     → in_file_under (λ d. given d >>= f) limits file page ≡ (in_file_under given limits file page >>= f)
 bound given f limits file page =
-    sym (behind_both (decoder_of file 0) (λ d. (seek_to_image (under limits d) page).answer) (λ d. given (page_decoder (under limits d) page)) f)
+    sym (behind_both (opened_of file 0) (λ d. (seek_to_image (under limits d) page).answer) (λ d. given (page_decoder (under limits d) page)) f)
 
 -- an error of the call is that of what follows it
 pub under_refused : {X X' Y Y' : Type 0} (view : X → Y) (view' : X' → Y') (given : Decoding → Result Y TiffError) (f : Y → Result Y' TiffError)

@@ -6,7 +6,8 @@ use Rattle.tiff_decode.specs.Failures.{fault_of}
 use Rattle.tiff.specs.Answers.{Answers, AnswersBut, ◌>>=◌}
 use Rattle.tiff.specs.Machine.{Decoding}
 use Rattle.tiff.specs.DefaultLimits.{default_limits}
-use Rattle.tiff.specs.Outcome.{decoder_of, seek_to_image, set_limits}
+use Rattle.tiff.specs.Opened.{opened_of}
+use Rattle.tiff.specs.Outcome.{seek_to_image, set_limits}
 use Rattle.tiff_ifd.specs.declared.limits.Limits.{Limits}
 
 -- the decoder at the page with this number
@@ -31,10 +32,11 @@ pub record VisitsPage {X Y : Type 0} (view : X → Y) (given : Decoding
     pub failures : old.failures ≤ new.failures
     pub stands : IsNamedFault (fault_of result) → new.state ≡ (seek_to_image old page).next
 
--- the given result at the page of a file with this number, or the first error
+-- the given result at the page of a file with this number, or the first error; the file is opened
+-- by its header, so no page before it is asked for
 abbrev pub in_file : {Y : Type 0} → (Decoding → Result Y TiffError) → List ℕ → ℕ
     → Result Y TiffError
-in_file given file page = decoder_of file 0 >>= λ d. at_page given d page
+in_file given file page = opened_of file 0 >>= λ d. at_page given d page
 
 -- The result, seen by `view`, is the given one at the page of a file, unless memory is out or the
 -- device fails.
@@ -55,11 +57,10 @@ limits_for (Some bytes) =
 abbrev pub under : Limits → Decoding → Decoding
 under limits d = record d { state = (set_limits d limits).next }
 
--- the given result under limits at the page of a file with this number, or the first error; the
--- file is opened under the default limits
+-- the given result under limits at the page of a file with this number, or the first error
 abbrev pub in_file_under : {Y : Type 0} → (Decoding → Result Y TiffError) → Limits → List ℕ → ℕ
     → Result Y TiffError
-in_file_under given limits file page = decoder_of file 0 >>= λ d.
+in_file_under given limits file page = opened_of file 0 >>= λ d.
     at_page given (under limits d) page
 
 -- The result, seen by `view`, is the given one under limits at the page of a file, unless memory is

@@ -2,16 +2,15 @@
 use Rattle.std.specs.Prelude.{ℕ, Bool, List, Option, Result, Ok}
 use Rattle.tiff_base.specs.declared.error.TiffError.{TiffError}
 use Rattle.tiff.specs.Answers.{◌>>=◌}
-use Rattle.tiff.specs.Outcome.{decoder_of}
+use Rattle.tiff.specs.Opened.{opened_of}
 use Rattle.tiff_ifd.specs.declared.limits.Limits.{Limits}
 use Rattle.tiff_pages.specs.Check.{Checks, are_well, checks_of}
 use Rattle.tiff_program.specs.AtPage.{under}
 
--- the checks of the pages of a file under limits, or the first error; the file is opened under the
--- default limits
+-- the checks of the pages of a file under limits, or the error of its header
 abbrev pub checks_under : Limits → List ℕ → Result Checks TiffError
 checks_under limits file = do
-  d ← decoder_of file 0
+  d ← opened_of file 0
   Ok (checks_of (under limits d))
 
 -- whether the image of each page was read, and how the chain ends

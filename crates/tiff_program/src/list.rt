@@ -19,17 +19,17 @@ pub fn file_list(alloc: Global, file: Vec<u8>) -> TiffResult<Lines> {
 }
 
 /// Checks the pages of a file under limits, as [`check_pages`] does; or returns the error of the
-/// file's header, or of its first page. The file is opened under the default limits.
+/// file's header. A first page that is refused is checked as others are.
 #[tactic(auto, unfolding(tiff_decode::specs::Outcome::set_limits))]
 pub fn check_file(alloc: Global, file: Vec<u8>, limits: Limits) -> TiffResult<FileCheck>
     ensures { AnswersBut (Unit {0}) (Unit {0}) checks_in result (checks_under limits file.items) }
 {
-    let mut decoder = Decoder::new(alloc, MemorySource::new(file))?.with_limits(limits);
+    let mut decoder = Decoder::open(alloc, MemorySource::new(file))?.with_limits(limits);
     check_pages(alloc, &mut decoder)
 }
 
 /// Reads each page of a file whole under limits, and returns a line for each; or returns the error
-/// of the file's header, or of its first page. The lines are well if each page was read.
+/// of the file's header. The lines are well if each page was read.
 pub fn file_check(alloc: Global, file: Vec<u8>, limits: Limits) -> TiffResult<Lines>
     ensures { AnswersBut (Unit {0}) (Unit {0}) (λ lines. (lines.well, lines.end)) result
         (told_under limits file.items) }

@@ -236,6 +236,6 @@ pub fn list_entries<R: Source>(
 pub fn page_tags(alloc: Global, file: Vec<u8>, page: u32) -> TiffResult<String>
     ensures { AnswersIn string_bytes listing result file.items page }
 {
-    let mut decoder = Decoder::new(alloc, MemorySource::new(file))?;
+    let mut decoder = Decoder::open(alloc, MemorySource::new(file))?;
     list_entries(alloc, &mut decoder, page as usize)
 }

@@ -68,13 +68,12 @@ pub fn image_bytes<R: Source>(
 fn image_in(alloc: Global, file: Vec<u8>, page: u32, limits: Limits) -> TiffResult<DecodingResult>
     ensures { AnswersUnder decoded_as page_image limits result file.items page }
 {
-    let mut decoder = Decoder::new(alloc, MemorySource::new(file))?.with_limits(limits);
+    let mut decoder = Decoder::open(alloc, MemorySource::new(file))?.with_limits(limits);
     read_page(alloc, &mut decoder, page as usize)
 }
 
 /// The samples of the image of a page of a file as bytes, with the lowest byte of each first, under
-/// limits; or the first error: of the file's header or its first page; of the seek to the page; of
-/// the image. The file is opened under the default limits.
+/// limits; or the first error: of the file's header; of the seek to the page; of the image.
 #[tactic(auto, using(crate::proofs::SampleBytes::bytes_under))]
 pub fn page_samples(alloc: Global, file: Vec<u8>, page: u32, limits: Limits) -> TiffResult<Vec<u8>>
     ensures { AnswersUnder (λ v. v.items) sample_bytes limits result file.items page }
@@ -110,7 +109,7 @@ fn planes_in(
     ensures { AnswersUnder (λ layout. (layout, decoded_as samples.new)) page_planes limits result
         file.items page }
 {
-    let mut opened = Decoder::new(alloc, MemorySource::new(file))?.with_limits(limits);
+    let mut opened = Decoder::open(alloc, MemorySource::new(file))?.with_limits(limits);
     read_planes(&mut opened, page as usize, samples)
 }
 

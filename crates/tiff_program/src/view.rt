@@ -199,6 +199,6 @@ pub fn page_view<R: Source>(
 pub fn page_picture(alloc: Global, file: Vec<u8>, page: u32) -> TiffResult<Vec<u8>>
     ensures { AnswersIn (λ v. v.items) picture result file.items page }
 {
-    let mut decoder = Decoder::new(alloc, MemorySource::new(file))?;
+    let mut decoder = Decoder::open(alloc, MemorySource::new(file))?;
     page_view(alloc, &mut decoder, page as usize)
 }

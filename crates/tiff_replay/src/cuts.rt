@@ -58,7 +58,7 @@ fn reply_of(alloc: Global, file: &File, len: usize) -> Result<String, AllocError
     let mut reader = Reader::new(alloc);
     let reads = CallCount::new(alloc)?;
     let source = ScriptedSource::new(file.cut_to(len)?, false, Failure::Never, reads)?;
-    let mut text = reader.open(source)?;
+    let mut text = reader.open(source, file.by_header())?;
     if text.as_str() != "opened" {
         return Ok(text);
     }

@@ -19,6 +19,8 @@ pub struct File {
     bytes: Vec<u8>,
     bytewise: bool,
     failure: Failure,
+    // Whether it is opened by its header alone, before its first page.
+    by_header: bool,
 }
 
 /// The bytes of the file with this name, if it exists.
@@ -115,6 +117,10 @@ impl File {
                 self.bytewise = true;
                 (true, 1)
             }
+            ["by_header", ..] => {
+                self.by_header = true;
+                (true, 1)
+            }
             ["fails", read, ..] => (self.fail(read), 2),
             ["cut", len, ..] => (self.cut(len), 2),
             ["add", digits, ..] => (self.add(digits)?, 2),
@@ -141,6 +147,11 @@ impl File {
 }
 
 impl File {
+    /// Whether the file is opened by its header alone.
+    pub fn by_header(&self) -> bool {
+        self.by_header
+    }
+
     /// The source of the file, which counts its reads.
     pub fn source(&self, reads: &CallCount) -> Result<ScriptedSource, AllocError> {
         self.source_of(self.bytewise, self.failure, reads)
@@ -199,6 +210,7 @@ pub fn file_of(
         bytes,
         bytewise: false,
         failure: Failure::Never,
+        by_header: false,
     };
     let known = file.follow_all(rest)?;
     Ok(known.then_some(file))

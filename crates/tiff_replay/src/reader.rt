@@ -29,9 +29,17 @@ const STATE: [&str; 7] = [
     "byte_order",
 ];
 
-// A decoder of a source.
-fn decoder_of(alloc: Global, source: ScriptedSource) -> TiffResult<Box<Decoder<ScriptedSource>>> {
-    let decoder = Decoder::new(alloc, source)?;
+// A decoder of a source, at its first page, or before it.
+fn decoder_of(
+    alloc: Global,
+    source: ScriptedSource,
+    by_header: bool,
+) -> TiffResult<Box<Decoder<ScriptedSource>>> {
+    let decoder = if by_header {
+        Decoder::open(alloc, source)?
+    } else {
+        Decoder::new(alloc, source)?
+    };
     Ok(Box::new(alloc, decoder)?)
 }
 
@@ -82,10 +90,14 @@ impl Reader {
         self.decoder = None;
     }
 
-    /// Opens a source in place of the former one.
-    pub fn open(&mut self, source: ScriptedSource) -> Result<String, AllocError> {
+    /// Opens a source in place of the former one, at its first page, or by its header alone.
+    pub fn open(
+        &mut self,
+        source: ScriptedSource,
+        by_header: bool,
+    ) -> Result<String, AllocError> {
         self.decoder = None;
-        match decoder_of(self.alloc, source) {
+        match decoder_of(self.alloc, source, by_header) {
             Ok(decoder) => {
                 self.decoder = Some(decoder);
                 String::from_str(self.alloc, "opened")

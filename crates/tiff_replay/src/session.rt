@@ -83,13 +83,15 @@ impl Session {
 
     // Opens a file in place of the former one.
     fn open(&mut self, alloc: Global, file: File, words: &str) -> Result<String, AllocError> {
+        let by_header = file.by_header();
         if !self.trying {
-            return self.reader.open(file.source(&CallCount::new(alloc)?)?);
+            let source = file.source(&CallCount::new(alloc)?)?;
+            return self.reader.open(source, by_header);
         }
         let mut script = Script::new(alloc, file)?;
         let state = self.reader.state()?;
         let source = script.file.source(&script.reads)?;
-        let reply = self.reader.open(source)?;
+        let reply = self.reader.open(source, by_header)?;
         script.add(words, &reply, state)?;
         self.script = Some(script);
         Ok(reply)

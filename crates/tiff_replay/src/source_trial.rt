@@ -88,7 +88,7 @@ impl<'a> Trial<'a> {
             .script
             .file
             .source_of(self.bytewise, failure, &self.reads)?;
-        self.reader.open(source)
+        self.reader.open(source, self.script.file.by_header())
     }
 
     // The report of a mismatch, if the reply isn't the wanted one.
