@@ -38,3 +38,4 @@ pub mod Running
 pub mod Samples
 pub mod Stepped
 pub mod Appending
+pub mod GoingOn

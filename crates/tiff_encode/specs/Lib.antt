@@ -35,3 +35,4 @@ pub mod ImageStepping
 pub mod JobEnding
 pub mod Running
 pub mod AppendLaws
+pub mod Appending
