@@ -19,12 +19,12 @@ use Rattle.tiff_encode.specs.Appending.{header_end, EndsInHeader, EndsIn, bytes_
 use Rattle.tiff_encode.proofs.Slices.{exact, is_exact}
 use Rattle.tiff_encode.proofs.Kept.{directory_parts}
 
-some_offset : (kind : FileKind) → 0 < offset_len kind
+pub some_offset : (kind : FileKind) → 0 < offset_len kind
 some_offset Classic = lit< tt
 some_offset Big = lit< tt
 
 -- a number that is read is within the file
-number_within : (file : List ℕ) (w : Width) (p x : ℕ) → 0 < byte_len w → number_at LittleEndian w file p ≡ Ok x
+pub number_within : (file : List ℕ) (w : Width) (p x : ℕ) → 0 < byte_len w → number_at LittleEndian w file p ≡ Ok x
     → p + byte_len w ≤ length file
 number_within file w p x some e =
     let F : List ℕ → Result ℕ TiffError = λ s. Ok (number LittleEndian w s) in

@@ -39,3 +39,4 @@ pub mod Samples
 pub mod Stepped
 pub mod Appending
 pub mod GoingOn
+pub mod LongerChain

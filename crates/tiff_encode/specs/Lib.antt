@@ -36,3 +36,4 @@ pub mod JobEnding
 pub mod Running
 pub mod AppendLaws
 pub mod Appending
+pub mod LongerChain

@@ -9,6 +9,7 @@ pub mod reading;
 ghost use Rattle.tiff_encode.specs.AppendLaws.{DirectoryCallsAppend, ImageCallsAppend, EndsLinkParent};
 ghost use Rattle.tiff_encode.specs.Held.{ChunksShow, ImagesShow, PageTold};
 ghost use Rattle.tiff_encode.specs.Laws.{HeaderStands, KeptByAppending, KeptByPatching, KeptByTearing, GrownByRegion, GrownByInline, GrownByPlaced, GrownByListing, FinishStep, OpsStand, OpsGrow, OpsBegun, OpsTorn, OpsJoin, OpsAppend, FirstTold, ModelsAgree};
+ghost use Rattle.tiff_encode.specs.LongerChain.{ChainGoesOn};
 ghost use Rattle.tiff_encode.specs.RunLaws.{OffsetsAgree, OneStep, OneStored};
 ghost use Rattle.tiff_encode.specs.CallLaws.{PlacedFits, FinishFits};
 
@@ -162,4 +163,9 @@ pub fn image_calls_append()
 /// States that an end appends, and changes no link except its parent's.
 pub fn ends_link_parent()
     ensures { EndsLinkParent }
+{}
+
+/// States that the chain of a file goes on behind the file where its last link points there.
+pub fn chain_goes_on()
+    ensures { ChainGoesOn }
 {}

@@ -1,0 +1,80 @@
+-- The chain of a file's directories when another directory is appended behind the file and linked
+-- from its last link (TIFF 6.0 section 2).
+use Rattle.std.specs.Prelude.{◌≡◌, ℕ, ◌^◌, ◌<◌, ◌≤◌, ◌⊎◌, List, [], ◌∷◌, ◌++◌, length, Option, None, Some, Result, Ok, Err}
+use Rattle.tiff_base.specs.declared.error.TiffError.{TiffError}
+use Rattle.tiff_base.specs.declared.tags.FileKind.{FileKind}
+use Rattle.tiff_base.specs.declared.tags.ByteOrder.TheVariants.{LittleEndian}
+use Rattle.tiff_base.specs.Answers.{◌>>=◌}
+use Rattle.tiff_base.specs.Directory.{count_width, offset_width, link, link_offset}
+use Rattle.tiff_base.specs.Number.{number_at, le}
+use Rattle.tiff_base.specs.SourceAndSink.{put}
+use Rattle.tiff_ifd.specs.Chain.{Chain, chain, link_from}
+use Rattle.tiff_encode.specs.Appending.{header_end}
+use Rattle.tiff_encode.specs.FileBytes.{offset_len, count_len}
+use Rattle.tiff_encode.specs.Model.{In, IsClear, header_link}
+
+-- the chain of a little-endian file from a link on
+abbrev pub chain_behind : FileKind → List ℕ → Option ℕ → Chain
+chain_behind kind file None = record { offsets = []; end = None }
+chain_behind kind file (Some first) = chain kind LittleEndian file first
+
+-- the chain of a little-endian file from the header's link on
+abbrev pub file_chain : FileKind → List ℕ → Result Chain TiffError
+file_chain kind file = do
+  first ← number_at LittleEndian (offset_width kind) file (header_link kind)
+  Ok (chain_behind kind file (link first))
+
+-- the offset of the link of the directory at an offset
+abbrev pub link_offset_at : FileKind → List ℕ → ℕ → Result ℕ TiffError
+link_offset_at kind file offset = do
+  count ← number_at LittleEndian (count_width kind) file offset
+  Ok (link_offset kind offset count)
+
+-- the offset of the link behind a list of directories: that of the last of them, or the header's
+abbrev pub link_behind : FileKind → List ℕ → List ℕ → Result ℕ TiffError
+link_behind kind file [] = Ok (header_link kind)
+link_behind kind file (offset ∷ []) = link_offset_at kind file offset
+link_behind kind file (offset ∷ next ∷ offsets) = link_behind kind file (next ∷ offsets)
+
+-- a result, unless a chain ends with an error
+abbrev pub unless_cut : Option TiffError → Result ℕ TiffError → Result ℕ TiffError
+unless_cut None result = result
+unless_cut (Some e) result = Err e
+
+-- the offset of the last link of a file, or the error with which its chain ends
+abbrev pub last_link_at : FileKind → List ℕ → Result ℕ TiffError
+last_link_at kind file = do
+  found ← file_chain kind file
+  unless_cut found.end (link_behind kind file found.offsets)
+
+-- The link at q is that of the header or behind the header. No directory at one of these offsets
+-- has its number of entries there, and each has its own link there or apart from it.
+pub record IsReadOnce (kind : FileKind) (file : List ℕ) (q : ℕ) (offsets : List ℕ) : Type 0 where
+  pub header : (q ≡ header_link kind) ⊎ (header_end kind ≤ q)
+  pub counts : (offset : ℕ) → In offset offsets → IsClear kind q offset (count_len kind)
+  pub links : (offset own : ℕ) → In offset offsets → link_offset_at kind file offset ≡ Ok own
+      → (own ≡ q) ⊎ IsClear kind q own (offset_len kind)
+
+-- Each directory at one of these offsets links to none, or to one at a given offset or behind it.
+abbrev pub LinkBehind : FileKind → List ℕ → ℕ → List ℕ → Type 0
+LinkBehind kind file least offsets =
+    (offset next : ℕ) → In offset offsets → link_from kind LittleEndian file offset ≡ Ok (Some next)
+    → least ≤ next
+
+-- the file with bytes appended, and with an offset in the link at q
+abbrev pub with_more : FileKind → List ℕ → List ℕ → ℕ → ℕ → List ℕ
+with_more kind file more q offset = put (file ++ more) q (le (offset_len kind) offset)
+
+-- The law: if the last link of a file points to a directory behind the former end, from which the
+-- chain doesn't go back before that end, then the chain of the file is the former chain and then
+-- the chain from that directory on.
+abbrev pub ChainGoesOn : Type 0
+ChainGoesOn =
+    (kind : FileKind) (file more : List ℕ) (q offset : ℕ) (former rest : Chain)
+    → file_chain kind file ≡ Ok former → last_link_at kind file ≡ Ok q
+    → IsReadOnce kind file q former.offsets
+    → length file ≤ offset → offset < 256 ^ offset_len kind
+    → chain kind LittleEndian (with_more kind file more q offset) offset ≡ rest
+    → LinkBehind kind (with_more kind file more q offset) (length file) rest.offsets
+    → file_chain kind (with_more kind file more q offset)
+    ≡ Ok (record { offsets = former.offsets ++ rest.offsets; end = rest.end })
