@@ -9,14 +9,14 @@ use Rattle.tiff_base.specs.declared.error.TiffError.{TiffError}
 use Rattle.tiff_base.specs.declared.tags.FileKind.{FileKind}
 use Rattle.tiff_base.specs.declared.tags.FileKind.TheVariants.{Classic, Big}
 use Rattle.tiff_base.specs.declared.tags.ByteOrder.TheVariants.{LittleEndian}
-use Rattle.tiff_base.specs.SourceAndSink.{bytes_at, exactly_at}
+use Rattle.tiff_base.specs.SourceAndSink.{bytes_at, exactly_at, put}
 use Rattle.tiff_base.specs.Number.{number, number_at}
 use Rattle.tiff_base.specs.Field.{DirectoryRecord}
 use Rattle.tiff_base.specs.Directory.{count_width, offset_width, link, directory_at}
 use Rattle.tiff_encode.specs.FileBytes.{offset_len}
 use Rattle.tiff_encode.specs.Model.{In, FinishedDirectory, ByteRegion, BytesAreApart, header_link, own_link, IsLink, IsClear, body_len, whole_len}
-use Rattle.tiff_encode.specs.Appending.{header_end, EndsInHeader, EndsIn, bytes_between, header_file_model, former_model, GoesOnBehind}
-use Rattle.tiff_encode.proofs.Slices.{exact, is_exact}
+use Rattle.tiff_encode.specs.Appending.{header_end, EndsInHeader, EndsIn, bytes_between, header_file_model, former_model, GoesOnBehind, Continues}
+use Rattle.tiff_encode.proofs.Slices.{exact, is_exact, exact_append, exact_put_before, exact_put_behind}
 use Rattle.tiff_encode.proofs.Kept.{directory_parts}
 
 pub some_offset : (kind : FileKind) → 0 < offset_len kind
@@ -168,3 +168,16 @@ behind_directory kind file first d chain h e =
       link = inr (d, (inl refl, e));
       last = ap m.links e ∙ target;
     }
+
+-- ---- the bytes of the former file
+
+-- bytes apart from the link stay
+pub bytes_stay : (kind : FileKind) (q : ℕ) (file new : List ℕ) → q + offset_len kind ≤ length file → Continues kind q file new
+    → (p n : ℕ) (s : List ℕ) → IsClear kind q p n → exactly_at file p n ≡ Ok s → exactly_at new p n ≡ Ok s
+bytes_stay kind q file new room c p n s a e =
+    let fit : q + length c.over ≤ length file = omega (arith, c.whole, room) in
+    let P : List ℕ → Type 0 = λ f. exactly_at f p n ≡ Ok s in
+    subst P (sym c.bytes) (exact_append (put file q c.over) c.more p n s (elim a as (λ _. exactly_at (put file q c.over) p n ≡ Ok s) [
+      | inl b ↦ exact_put_before file q c.over p n s fit b e
+      | inr b ↦ exact_put_behind file q c.over p n s fit (omega (arith, c.whole, b)) e
+    ]))

@@ -40,3 +40,4 @@ pub mod Stepped
 pub mod Appending
 pub mod GoingOn
 pub mod LongerChain
+pub mod FormerBytes

@@ -18,13 +18,13 @@ use Rattle.tiff_base.specs.Number.{number, number_at, le}
 use Rattle.tiff_base.specs.SourceAndSink.{exactly_at, put}
 use Rattle.tiff_ifd.specs.Chain.{link_from, unless_met, enter_at, IsChain, Chain, chain}
 use Rattle.tiff_ifd.proofs.Chain.{the_chain, one_chain, equal_numbers}
-use Rattle.tiff_encode.specs.Appending.{header_end}
+use Rattle.tiff_encode.specs.Appending.{header_end, Continues}
 use Rattle.tiff_encode.specs.FileBytes.{offset_len, count_len}
 use Rattle.tiff_encode.specs.Model.{In, IsClear, header_link}
-use Rattle.tiff_encode.specs.LongerChain.{chain_behind, file_chain, link_offset_at, link_behind, unless_cut, last_link_at, IsReadOnce, LinkBehind, with_more, ChainGoesOn}
+use Rattle.tiff_encode.specs.LongerChain.{chain_behind, file_chain, link_offset_at, link_behind, unless_cut, last_link_at, IsReadOnce, LinkBehind, ChainGoesOn}
 use Rattle.tiff_encode.proofs.Slices.{ok_bind, ok_inj, some_inj, none_some, exact_append, exact_put_before, exact_put_behind, exact_put_here, length-le, number-le, is_offset_width, number_kept}
 use Rattle.tiff_encode.proofs.Kept.{directory_from}
-use Rattle.tiff_encode.proofs.GoingOn.{some_offset, number_within}
+use Rattle.tiff_encode.proofs.GoingOn.{some_offset, number_within, bytes_stay}
 
 abbrev Link : Type 0
 Link = Result (Option ℕ) TiffError
@@ -92,11 +92,13 @@ unfolding Entered
 entered met (Err e) after h = absurd cc
 entered met (Ok None) after h = (h, λ n s. absurd cc)
 entered met (Ok (Some n)) after h =
-    let t = entered_by (list_any (nat_eq n) met) n after h in
-    (ap (λ (o : Option ℕ). let r : Link = Ok o in r) (sym t.1), λ m s. (
-    let same : n ≡ m = some_inj n m (sym t.1 ∙ s) in
-    let P : ℕ → Type 0 = λ k. list_any (nat_eq k) met ≡ false in
-    subst P same t.0))
+    let t = entered_by (list_any (nat_eq n) met) n after h in (
+      ap (λ (o : Option ℕ). let r : Link = Ok o in r) (sym t.1),
+      λ m s. (
+          let same : n ≡ m = some_inj n m (sym t.1 ∙ s) in
+          let P : ℕ → Type 0 = λ k. list_any (nat_eq k) met ≡ false in
+          subst P same t.0),
+    )
 
 -- a link is entered if it is none, or not met
 enters : (met : List ℕ) (r : Link) (after : Option ℕ) → r ≡ Ok after → ((n : ℕ) → after ≡ Some n → list_any (nat_eq n) met ≡ false)
@@ -131,9 +133,12 @@ behind_more kind new len former f met (Some p) (x ∷ xs) end b c =
     let free : (n : ℕ) → c.1 ≡ Some n → list_any (nat_eq n) ((p ∷ met) ++ former) ≡ false = λ n s.
     let P : ℕ → Type 0 = λ y. link_from kind LittleEndian new y ≡ Ok (Some n) in
     let own : link_from kind LittleEndian new x ≡ Ok (Some n) = subst P (sym c.0) (e.0 ∙ ap (λ (o : Option ℕ). let r : Link = Ok o in r) s) in
-    list_any-append (nat_eq n) (p ∷ met) former ∙ (rw (e.1 n s) (f n (b x n (inl refl) own))) in
-    (c.0, c.1, enters ((p ∷ met) ++ former) (link_from kind LittleEndian new p) c.1 e.0 free,
-    behind_more kind new len former f (p ∷ met) c.1 xs end (λ o n i. b o n (inr i)) c.3)
+    list_any-append (nat_eq n) (p ∷ met) former ∙ (rw (e.1 n s) (f n (b x n (inl refl) own))) in (
+      c.0,
+      c.1,
+      enters ((p ∷ met) ++ former) (link_from kind LittleEndian new p) c.1 e.0 free,
+      behind_more kind new len former f (p ∷ met) c.1 xs end (λ o n i. b o n (inr i)) c.3,
+    )
 
 -- ---- the longer file
 
@@ -179,63 +184,45 @@ module _ (kind : FileKind) (file : List ℕ) (q : ℕ) where
       subst Q here (parts.2.1.0 ∙ ap (λ (y : ℕ). let r : Result ℕ TiffError = Ok y in r) zero)
   last_zero met (Some n) p (p2 ∷ ps) c l = last_zero (n ∷ met) c.1 p2 ps c.3 l
 
-  module _ (more : List ℕ) (d : ℕ) (room : q + offset_len kind ≤ length file) (behind : length file ≤ d) (fits : d < 256 ^ offset_len kind) where
-    new : List ℕ
-    new = with_more kind file more q d
-
+  module _ (new : List ℕ) (d : ℕ) (room : q + offset_len kind ≤ length file) (behind : (d ≡ 0) ⊎ (length file ≤ d)) (continues : Continues kind q file new) (here : number_at LittleEndian (offset_width kind) new q ≡ Ok d) where
     -- numbers apart from the link stay
     number_stays : (w : Width) (p x : ℕ) → IsClear kind q p (byte_len w) → number_at LittleEndian w file p ≡ Ok x → number_at LittleEndian w new p ≡ Ok x
-    unfolding new
-    number_stays w p x c =
-        let k : ℕ = offset_len kind in
-        let over : List ℕ = le k d in
-        let t : length over ≡ k = length-le 0 k d in
-        let fit : q + length over ≤ length (file ++ more) = omega (arith, t, room, length-append file more) in
-        number_kept file new w p x (λ s e.
-        let longer = exact_append file more p (byte_len w) s e in
-        elim c as (λ _. exactly_at new p (byte_len w) ≡ Ok s) [
-          | inl b ↦ exact_put_before (file ++ more) q over p (byte_len w) s fit b longer
-          | inr b ↦ exact_put_behind (file ++ more) q over p (byte_len w) s fit (omega (arith, t, b)) longer
-        ])
+    number_stays w p x c = number_kept file new w p x (λ s. bytes_stay kind q file new room continues p (byte_len w) s c)
 
-    -- the link has the new offset
-    number_here : number_at LittleEndian (offset_width kind) new q ≡ Ok d
-    unfolding new
-    number_here =
-        let k : ℕ = offset_len kind in
-        let over : List ℕ = le k d in
-        let t : length over ≡ k = length-le 0 k d in
-        let e : exactly_at new q k ≡ Ok over = ap (λ n. exactly_at new q n) (sym t) ∙ exact_put_here (file ++ more) q over (omega (arith, t, room, length-append file more)) in
-        let F : List ℕ → Result ℕ TiffError = λ s. Ok (number LittleEndian (offset_width kind) s) in
-        ok_bind (exactly_at new q k) F over d e (ap (λ x. Ok x) (number-le (offset_width kind) d (is_offset_width kind) fits))
+    -- the new link is to a directory behind the former end, if to any
+    link_far : (y : ℕ) → link d ≡ Some y → length file ≤ y
+    link_far y s = elim (cases_eq d 0) [
+      | inl z ↦ absurd (none_some {x = y} (ap link (sym z) ∙ s))
+      | inr o ↦
+          (let same = some_inj d y (sym (other_link d o) ∙ s) in
+          elim behind [ inl z ↦ absurd (o z) | inr f ↦ omega (arith, same, f) ])
+    ]
 
-    module _ (rest : List ℕ) (end : Option TiffError) (goes : IsChain (link_from kind LittleEndian (with_more kind file more q d)) [] (Some d) rest end)
-        (links : LinkBehind kind (with_more kind file more q d) (length file) rest) where
+    module _ (rest : List ℕ) (end : Option TiffError) (goes : IsChain (link_from kind LittleEndian new) [] (link d) rest end)
+        (links : LinkBehind kind new (length file) rest) where
       -- a chain goes on
       chain_on : (met : List ℕ) (next : Option ℕ) (p : ℕ) (ps : List ℕ) → NotMet (length file) met → IsChain former_link met next (p ∷ ps) None
           → link_behind kind file (p ∷ ps) ≡ Ok q → number_at LittleEndian (offset_width kind) file q ≡ Ok 0
           → IsReadOnce kind file q (p ∷ ps)
           → IsChain (link_from kind LittleEndian new) met next ((p ∷ ps) ++ rest) end
-      unfolding former_link Entered new NotMet
+      unfolding former_link Entered NotMet
       chain_on met None p ps m c l z r = absurd c
       chain_on met (Some n) p [] m c l z r =
           let e = entered (n ∷ met) (former_link n) c.1 c.2 in
           let parts = link_parts kind file n c.1 e.0 in
           let C : ℕ → Type 0 = λ y. IsClear kind q y (count_len kind) in
           let P : ℕ → Type 0 = λ y. link_offset_at kind file y ≡ Ok q in
-          let here : link_offset kind n parts.0 ≡ q = ok_inj (link_offset kind n parts.0) q (sym (own_link_at kind file n parts.0 parts.2.0) ∙ subst P c.0 l) in
+          let place : link_offset kind n parts.0 ≡ q = ok_inj (link_offset kind n parts.0) q (sym (own_link_at kind file n parts.0 parts.2.0) ∙ subst P c.0 l) in
           let count = number_stays (count_width kind) n parts.0 (subst C c.0 (r.counts p (inl refl))) parts.2.0 in
           let Q : ℕ → Type 0 = λ y. number_at LittleEndian (offset_width kind) new y ≡ Ok d in
-          let one = link_whole kind new n parts.0 d count (subst Q (sym here) number_here) in
+          let own = link_whole kind new n parts.0 d count (subst Q (sym place) here) in
           let w = number_within file (count_width kind) n parts.0 (some_count kind) parts.2.0 in
-          let below : n < length file = omega (arith, w, some_count kind) in
-          let so_far = more_met (length file) n met below m in
-          let own : link_from kind LittleEndian new n ≡ Ok (Some d) = one ∙ ap (λ (o : Option ℕ). let r : Link = Ok o in r) (some_link d (omega (arith, below, behind))) in
-          let free : (y : ℕ) → (let a : Option ℕ = Some d in a ≡ Some y) → list_any (nat_eq y) (n ∷ met) ≡ false = λ y s.
-          let same = some_inj d y s in
-          so_far y (omega (arith, same, behind)) in
-          (c.0, Some d, enters (n ∷ met) (link_from kind LittleEndian new n) (Some d) own free,
-          behind_more kind new (length file) (n ∷ met) so_far [] (Some d) rest end links goes)
+          let so_far = more_met (length file) n met (omega (arith, w, some_count kind)) m in (
+            c.0,
+            link d,
+            enters (n ∷ met) (link_from kind LittleEndian new n) (link d) own (λ y s. so_far y (link_far y s)),
+            behind_more kind new (length file) (n ∷ met) so_far [] (link d) rest end links goes,
+          )
       chain_on met (Some n) p (p2 ∷ ps) m c l z r =
           let e = entered (n ∷ met) (former_link n) c.1 c.2 in
           let parts = link_parts kind file n c.1 e.0 in
@@ -254,10 +241,13 @@ module _ (kind : FileKind) (file : List ℕ) (q : ℕ) where
                 absurd (subst R stop c.3))
             | inr a ↦ link_whole kind new n parts.0 parts.1 count (number_stays (offset_width kind) own parts.1 a parts.2.1.0)
                 ∙ ap (λ (o : Option ℕ). let r : Link = Ok o in r) (sym parts.2.1.1)
-          ] in
-          (c.0, c.1, enters (n ∷ met) (link_from kind LittleEndian new n) c.1 kept e.1,
-          chain_on (n ∷ met) c.1 p2 ps (more_met (length file) n met below m) c.3 l z
-          (record { header = r.header; counts = λ o i. r.counts o (inr i); links = λ o y i. r.links o y (inr i) }))
+          ] in (
+            c.0,
+            c.1,
+            enters (n ∷ met) (link_from kind LittleEndian new n) c.1 kept e.1,
+            chain_on (n ∷ met) c.1 p2 ps (more_met (length file) n met below m) c.3 l z
+                (record { header = r.header; counts = λ o i. r.counts o (inr i); links = λ o y i. r.links o y (inr i) }),
+          )
 
 -- ---- the chain from the header on
 
@@ -277,39 +267,33 @@ uncut None r q h = (refl, h)
 uncut (Some e) r q h = absurd cc
 
 -- the header's link and the chain from it on, in the longer file
-from_header : (kind : FileKind) (file more : List ℕ) (q d first : ℕ) (offsets rest : List ℕ) (end : Option TiffError)
+from_header : (kind : FileKind) (file new : List ℕ) (q d first : ℕ) (offsets rest : List ℕ) (end : Option TiffError)
     → number_at LittleEndian (offset_width kind) file (header_link kind) ≡ Ok first
     → IsChain (link_from kind LittleEndian file) [] (link first) offsets None → link_behind kind file offsets ≡ Ok q → IsReadOnce kind file q offsets
-    → length file ≤ d → d < 256 ^ offset_len kind
-    → IsChain (link_from kind LittleEndian (with_more kind file more q d)) [] (Some d) rest end
-    → LinkBehind kind (with_more kind file more q d) (length file) rest
-    → (begin : ℕ) × ((number_at LittleEndian (offset_width kind) (with_more kind file more q d) (header_link kind) ≡ Ok begin)
-    × IsChain (link_from kind LittleEndian (with_more kind file more q d)) [] (link begin) (offsets ++ rest) end)
-unfolding new former_link
-from_header kind file more q d first [] rest end n c l r behind fits goes b =
-    let here : header_link kind ≡ q = ok_inj (header_link kind) q l in
-    let w = number_within file (offset_width kind) (header_link kind) first (some_offset kind) n in
-    let Q : ℕ → Type 0 = λ y. number_at LittleEndian (offset_width kind) (with_more kind file more q d) y ≡ Ok d in
-    let P : Option ℕ → Type 0 = λ y. IsChain (link_from kind LittleEndian (with_more kind file more q d)) [] y rest end in
-    (d, (subst Q (sym here) (number_here kind file q more d (omega (arith, here, w)) behind fits),
-    subst P (sym (some_link d (omega (arith, w, behind, some_offset kind)))) goes))
-from_header kind file more q d first (p ∷ ps) rest end n c l r behind fits goes b =
+    → Continues kind q file new → number_at LittleEndian (offset_width kind) new q ≡ Ok d → (d ≡ 0) ⊎ (length file ≤ d)
+    → IsChain (link_from kind LittleEndian new) [] (link d) rest end → LinkBehind kind new (length file) rest
+    → (begin : ℕ) × ((number_at LittleEndian (offset_width kind) new (header_link kind) ≡ Ok begin)
+    × IsChain (link_from kind LittleEndian new) [] (link begin) (offsets ++ rest) end)
+unfolding former_link
+from_header kind file new q d first [] rest end n c l r on here behind goes b =
+    let Q : ℕ → Type 0 = λ y. number_at LittleEndian (offset_width kind) new y ≡ Ok d in
+    (d, (subst Q (sym (ok_inj (header_link kind) q l)) here, goes))
+from_header kind file new q d first (p ∷ ps) rest end n c l r on here behind goes b =
     let z = last_zero kind file q [] (link first) p ps c l in
     let room : q + offset_len kind ≤ length file = number_within file (offset_width kind) q 0 (some_offset kind) z in
     let Q : ℕ → Type 0 = λ y. number_at LittleEndian (offset_width kind) file y ≡ Ok 0 in
     let P : ℕ → Type 0 = λ y. IsChain (link_from kind LittleEndian file) [] (link y) (p ∷ ps) None in
-    let header : number_at LittleEndian (offset_width kind) (with_more kind file more q d) (header_link kind) ≡ Ok first =
-    elim r.header as (λ _. number_at LittleEndian (offset_width kind) (with_more kind file more q d) (header_link kind) ≡ Ok first) [
+    let header : number_at LittleEndian (offset_width kind) new (header_link kind) ≡ Ok first =
+    elim r.header as (λ _. number_at LittleEndian (offset_width kind) new (header_link kind) ≡ Ok first) [
       | inl s ↦ absurd (subst P (ok_inj first 0 (sym n ∙ subst Q s z)) c)
-      | inr a ↦ number_stays kind file q more d room behind fits (offset_width kind) (header_link kind) first (inl a) n
+      | inr a ↦ number_stays kind file q new d room behind on here (offset_width kind) (header_link kind) first (inl a) n
     ] in
-    (first, (header, chain_on kind file q more d room behind fits rest end goes b [] (link first) p ps (none_met (length file)) c l z r))
+    (first, (header, chain_on kind file q new d room behind on here rest end goes b [] (link first) p ps (none_met (length file)) c l z r))
 
 pub chain_goes_on : ChainGoesOn
-chain_goes_on kind file more q d former rest f l r behind fits c b =
-    let file' : List ℕ = with_more kind file more q d in
+chain_goes_on kind file new q d former rest f l r on here behind c b =
     let F : ℕ → Result Chain TiffError = λ first. Ok (chain_behind kind file (link first)) in
-    let G : ℕ → Result Chain TiffError = λ first. Ok (chain_behind kind file' (link first)) in
+    let G : ℕ → Result Chain TiffError = λ first. Ok (chain_behind kind new (link first)) in
     let Last : Chain → Result ℕ TiffError = λ found. unless_cut found.end (link_behind kind file found.offsets) in
     let i = bind_ok (number_at LittleEndian (offset_width kind) file (header_link kind)) F former f in
     let same : chain_behind kind file (link i.0) ≡ former = ok_inj (chain_behind kind file (link i.0)) former i.1.1 in
@@ -317,9 +301,9 @@ chain_goes_on kind file more q d former rest f l r behind fits c b =
     let P : Chain → Type 0 = λ x. IsChain (link_from kind LittleEndian file) [] (link i.0) x.offsets x.end in
     let E : Option TiffError → Type 0 = λ e. IsChain (link_from kind LittleEndian file) [] (link i.0) former.offsets e in
     let walked = subst E u.0 (subst P same (chain_of kind file (link i.0))) in
-    let R : Chain → Type 0 = λ x. IsChain (link_from kind LittleEndian file') [] (Some d) x.offsets x.end in
-    let goes = subst R c (the_chain kind LittleEndian file' d) in
-    let h = from_header kind file more q d i.0 former.offsets rest.offsets rest.end i.1.0 walked u.1 r behind fits goes b in
+    let R : Chain → Type 0 = λ x. IsChain (link_from kind LittleEndian new) [] (link d) x.offsets x.end in
+    let goes = subst R c (chain_of kind new (link d)) in
+    let h = from_header kind file new q d i.0 former.offsets rest.offsets rest.end i.1.0 walked u.1 r on here behind goes b in
     let all : Chain = record { offsets = former.offsets ++ rest.offsets; end = rest.end } in
-    ok_bind (number_at LittleEndian (offset_width kind) file' (header_link kind)) G h.0 all h.1.0
-    (ap (λ (x : Chain). let y : Result Chain TiffError = Ok x in y) (chain_is kind file' (link h.0) (former.offsets ++ rest.offsets) rest.end h.1.1))
+    ok_bind (number_at LittleEndian (offset_width kind) new (header_link kind)) G h.0 all h.1.0
+    (ap (λ (x : Chain). let y : Result Chain TiffError = Ok x in y) (chain_is kind new (link h.0) (former.offsets ++ rest.offsets) rest.end h.1.1))

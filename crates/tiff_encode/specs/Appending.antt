@@ -1,14 +1,15 @@
 -- An encoder that goes on behind a file (this project's).
-use Rattle.std.specs.Prelude.{◌≡◌, ℕ, ◌+◌, ◌-◌, ◌≤◌, ◌==◌, List, [], ◌∷◌, length, None, Ok, if◌then◌else◌}
+use Rattle.std.specs.Prelude.{◌≡◌, ℕ, ◌+◌, ◌-◌, ◌≤◌, ◌⊎◌, ◌==◌, List, [], ◌∷◌, ◌++◌, length, None, Ok, if◌then◌else◌}
 use Rattle.std.specs.FinMap.{len}
 use Rattle.tiff_base.specs.declared.tags.FileKind.{FileKind}
 use Rattle.tiff_base.specs.declared.tags.ByteOrder.TheVariants.{LittleEndian}
 use Rattle.tiff_base.specs.declared.tags.CompressionMethod.TheVariants as method
 use Rattle.tiff_base.specs.declared.tags.Predictor.TheVariants as predictor
-use Rattle.tiff_base.specs.SourceAndSink.{bytes_at, exactly_at}
+use Rattle.tiff_base.specs.SourceAndSink.{bytes_at, exactly_at, put}
 use Rattle.tiff_base.specs.Number.{number_at}
 use Rattle.tiff_base.specs.Directory.{count_width, offset_width, directory_at}
 use Rattle.tiff_encode.specs.FileBytes.{offset_len, header_mark}
+use Rattle.tiff_encode.specs.WriteOps.{WriteOp, Appended, Supplied, Listed, Linked, bytes_after}
 use Rattle.tiff_encode.specs.Machine.{FileState}
 use Rattle.tiff_encode.specs.Model.{FinishedDirectory, ByteRegion, Model, header_link, IsLink, Stands, whole_len}
 
@@ -82,3 +83,38 @@ pub record GoesOnBehind (kind : FileKind) (file : List ℕ) (chain : ℕ) (forme
   pub stands : Stands kind file former
   pub link : IsLink kind former chain
   pub last : former.links chain ≡ 0
+
+-- ---- the bytes of the former file
+
+-- A file has the bytes of a former file, but other bytes in the link at q, and more bytes behind
+-- them.
+pub record Continues (kind : FileKind) (q : ℕ) (file new : List ℕ) : Type 0 where
+  pub over : List ℕ
+  pub whole : length over ≡ offset_len kind
+  pub more : List ℕ
+  pub bytes : new ≡ put file q over ++ more
+
+-- each write of a link among these writes is to the link at q, or behind the first n bytes
+abbrev pub LinksFrom : ℕ → ℕ → List WriteOp → Type 0
+LinksFrom q n [] = Unit {0}
+LinksFrom q n (Appended more ∷ ops) = LinksFrom q n ops
+LinksFrom q n (Supplied supplied ∷ ops) = LinksFrom q n ops
+LinksFrom q n (Listed fields ∷ ops) = LinksFrom q n ops
+LinksFrom q n (Linked offset target ∷ ops) = ((offset ≡ q) ⊎ (n ≤ offset)) × LinksFrom q n ops
+
+-- The law: a file continues a former file, whose link at q is within it, after writes that change
+-- no other link of the former file: as the former file stands, after all of the writes, after a
+-- part of appended bytes, and after a part of a link.
+pub record FormerStays (kind : FileKind) (q : ℕ) (file : List ℕ) : Type 0 where
+  pub begun : Continues kind q file file
+  pub written : (bytes : List ℕ) (ops : List WriteOp) → Continues kind q file bytes
+      → LinksFrom q (length file) ops → Continues kind q file (bytes_after kind bytes ops)
+  pub cut : (bytes more : List ℕ) → Continues kind q file bytes
+      → Continues kind q file (bytes ++ more)
+  pub torn : (bytes over : List ℕ) (offset : ℕ) → Continues kind q file bytes
+      → length over ≤ offset_len kind → (offset ≡ q) ⊎ (length file ≤ offset)
+      → Continues kind q file (put bytes offset over)
+
+abbrev pub FormerBytesStay : Type 0
+FormerBytesStay = (kind : FileKind) (q : ℕ) (file : List ℕ) → q + offset_len kind ≤ length file
+    → FormerStays kind q file

@@ -1,15 +1,14 @@
--- The chain of a file's directories when another directory is appended behind the file and linked
--- from its last link (TIFF 6.0 section 2).
-use Rattle.std.specs.Prelude.{◌≡◌, ℕ, ◌^◌, ◌<◌, ◌≤◌, ◌⊎◌, List, [], ◌∷◌, ◌++◌, length, Option, None, Some, Result, Ok, Err}
+-- The last link of a file's chain of directories, and the chain after it goes on from there (TIFF
+-- 6.0 section 2).
+use Rattle.std.specs.Prelude.{◌≡◌, ℕ, ◌≤◌, ◌⊎◌, List, [], ◌∷◌, ◌++◌, length, Option, None, Some, Result, Ok, Err}
 use Rattle.tiff_base.specs.declared.error.TiffError.{TiffError}
 use Rattle.tiff_base.specs.declared.tags.FileKind.{FileKind}
 use Rattle.tiff_base.specs.declared.tags.ByteOrder.TheVariants.{LittleEndian}
 use Rattle.tiff_base.specs.Answers.{◌>>=◌}
 use Rattle.tiff_base.specs.Directory.{count_width, offset_width, link, link_offset}
-use Rattle.tiff_base.specs.Number.{number_at, le}
-use Rattle.tiff_base.specs.SourceAndSink.{put}
+use Rattle.tiff_base.specs.Number.{number_at}
 use Rattle.tiff_ifd.specs.Chain.{Chain, chain, link_from}
-use Rattle.tiff_encode.specs.Appending.{header_end}
+use Rattle.tiff_encode.specs.Appending.{header_end, Continues}
 use Rattle.tiff_encode.specs.FileBytes.{offset_len, count_len}
 use Rattle.tiff_encode.specs.Model.{In, IsClear, header_link}
 
@@ -61,20 +60,16 @@ LinkBehind kind file least offsets =
     (offset next : ℕ) → In offset offsets → link_from kind LittleEndian file offset ≡ Ok (Some next)
     → least ≤ next
 
--- the file with bytes appended, and with an offset in the link at q
-abbrev pub with_more : FileKind → List ℕ → List ℕ → ℕ → ℕ → List ℕ
-with_more kind file more q offset = put (file ++ more) q (le (offset_len kind) offset)
-
--- The law: if the last link of a file points to a directory behind the former end, from which the
--- chain doesn't go back before that end, then the chain of the file is the former chain and then
--- the chain from that directory on.
+-- The law: the last link of a file has another number in a file that continues it, and that number
+-- is 0, or the offset of a directory behind the former end from which the chain doesn't go back
+-- before that end. Then the chain is the former chain and then the chain from that link on.
 abbrev pub ChainGoesOn : Type 0
 ChainGoesOn =
-    (kind : FileKind) (file more : List ℕ) (q offset : ℕ) (former rest : Chain)
+    (kind : FileKind) (file new : List ℕ) (q offset : ℕ) (former rest : Chain)
     → file_chain kind file ≡ Ok former → last_link_at kind file ≡ Ok q
-    → IsReadOnce kind file q former.offsets
-    → length file ≤ offset → offset < 256 ^ offset_len kind
-    → chain kind LittleEndian (with_more kind file more q offset) offset ≡ rest
-    → LinkBehind kind (with_more kind file more q offset) (length file) rest.offsets
-    → file_chain kind (with_more kind file more q offset)
+    → IsReadOnce kind file q former.offsets → Continues kind q file new
+    → number_at LittleEndian (offset_width kind) new q ≡ Ok offset
+    → (offset ≡ 0) ⊎ (length file ≤ offset)
+    → chain_behind kind new (link offset) ≡ rest → LinkBehind kind new (length file) rest.offsets
+    → file_chain kind new
     ≡ Ok (record { offsets = former.offsets ++ rest.offsets; end = rest.end })

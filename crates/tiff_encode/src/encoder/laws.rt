@@ -6,6 +6,7 @@ pub mod fit;
 pub mod image;
 pub mod reading;
 
+ghost use Rattle.tiff_encode.specs.Appending.{FormerBytesStay};
 ghost use Rattle.tiff_encode.specs.AppendLaws.{DirectoryCallsAppend, ImageCallsAppend, EndsLinkParent};
 ghost use Rattle.tiff_encode.specs.Held.{ChunksShow, ImagesShow, PageTold};
 ghost use Rattle.tiff_encode.specs.Laws.{HeaderStands, KeptByAppending, KeptByPatching, KeptByTearing, GrownByRegion, GrownByInline, GrownByPlaced, GrownByListing, FinishStep, OpsStand, OpsGrow, OpsBegun, OpsTorn, OpsJoin, OpsAppend, FirstTold, ModelsAgree};
@@ -168,4 +169,10 @@ pub fn ends_link_parent()
 /// States that the chain of a file goes on behind the file where its last link points there.
 pub fn chain_goes_on()
     ensures { ChainGoesOn }
+{}
+
+/// States that the bytes of a file that an encoder goes on behind stay, except those of its last
+/// link.
+pub fn former_bytes_stay()
+    ensures { FormerBytesStay }
 {}
