@@ -41,3 +41,4 @@ pub mod Appending
 pub mod GoingOn
 pub mod LongerChain
 pub mod FormerBytes
+pub mod FormerPages

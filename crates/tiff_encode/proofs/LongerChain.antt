@@ -1,5 +1,5 @@
 -- The chain of a file goes on where its last link points to a directory behind its former end.
-use Rattle.std.proofs.Common.{◌≡◌, ℕ, zero, suc, ◌+◌, ◌-◌, ◌*◌, ◌^◌, ◌<◌, ◌≤◌, ◌⊎◌, List, [], ◌∷◌, ◌++◌, length, Option, None, Some, Bool, true, false, cond, Result, Ok, Err, refl, ap, sym, ◌∙◌, inl, inr, subst, arith, length-append, nat_eq, ◌||◌, lit<}
+use Rattle.std.proofs.Common.{◌≡◌, ℕ, ◌+◌, ◌<◌, ◌≤◌, ◌⊎◌, List, [], ◌∷◌, ◌++◌, length, Option, None, Some, Bool, true, false, cond, Result, Ok, Err, refl, ap, sym, ◌∙◌, inl, inr, subst, arith, nat_eq, lit<}
 use Rattle.std.proofs.lemmas.Bool.{cases_eq, ne_eqb}
 use Rattle.std.proofs.lemmas.List.Folds.{list_any-append}
 use Rattle.std.specs.Int.{Width, byte_len}
@@ -14,15 +14,14 @@ use Rattle.tiff_base.specs.declared.tags.ByteOrder.TheVariants.{LittleEndian}
 use Rattle.tiff_base.specs.Answers.{◌>>=◌}
 use Rattle.tiff_base.specs.Field.{DirectoryRecord}
 use Rattle.tiff_base.specs.Directory.{count_width, offset_width, entries_from, last_of_each, first_entry, link, link_offset, directory_at}
-use Rattle.tiff_base.specs.Number.{number, number_at, le}
-use Rattle.tiff_base.specs.SourceAndSink.{exactly_at, put}
-use Rattle.tiff_ifd.specs.Chain.{link_from, unless_met, enter_at, IsChain, Chain, chain}
-use Rattle.tiff_ifd.proofs.Chain.{the_chain, one_chain, equal_numbers}
-use Rattle.tiff_encode.specs.Appending.{header_end, Continues}
+use Rattle.tiff_base.specs.Number.{number_at}
+use Rattle.tiff_ifd.specs.Chain.{link_from, unless_met, IsChain, Chain}
+use Rattle.tiff_ifd.proofs.Chain.{the_chain, one_chain}
+use Rattle.tiff_encode.specs.Appending.{Continues}
 use Rattle.tiff_encode.specs.FileBytes.{offset_len, count_len}
-use Rattle.tiff_encode.specs.Model.{In, IsClear, header_link}
-use Rattle.tiff_encode.specs.LongerChain.{chain_behind, file_chain, link_offset_at, link_behind, unless_cut, last_link_at, IsReadOnce, LinkBehind, ChainGoesOn}
-use Rattle.tiff_encode.proofs.Slices.{ok_bind, ok_inj, some_inj, none_some, exact_append, exact_put_before, exact_put_behind, exact_put_here, length-le, number-le, is_offset_width, number_kept}
+use Rattle.tiff_encode.specs.Model.{IsClear, header_link}
+use Rattle.tiff_encode.specs.LongerChain.{chain_behind, link_offset_at, link_behind, unless_cut, IsReadOnce, LinkBehind, ChainGoesOn}
+use Rattle.tiff_encode.proofs.Slices.{ok_bind, ok_inj, some_inj, none_some, number_kept}
 use Rattle.tiff_encode.proofs.Kept.{directory_from}
 use Rattle.tiff_encode.proofs.GoingOn.{some_offset, number_within, bytes_stay}
 
@@ -31,13 +30,13 @@ Link = Result (Option ℕ) TiffError
 
 -- ---- the link of one directory
 
--- a directory whose link is read has a count and a link
-link_parts : (kind : FileKind) (file : List ℕ) (p : ℕ) (after : Option ℕ) → link_from kind LittleEndian file p ≡ Ok after
+-- a directory that is read has a count, entries and a link
+pub directory_split : (kind : FileKind) (file : List ℕ) (p : ℕ) (d : DirectoryRecord) → directory_at kind LittleEndian file p ≡ Ok d
     → (count x : ℕ) × ((number_at LittleEndian (count_width kind) file p ≡ Ok count)
-    × ((number_at LittleEndian (offset_width kind) file (link_offset kind p count) ≡ Ok x) × (after ≡ link x)))
+    × ((number_at LittleEndian (offset_width kind) file (link_offset kind p count) ≡ Ok x)
+    × (d ≡ record { entries = last_of_each (entries_from kind LittleEndian file (first_entry kind p) count); next = link x })))
 unfolding directory_at
-link_parts kind file p after h =
-    let Next : DirectoryRecord → Link = λ d. Ok d.next in
+directory_split kind file p d h =
     let made : ℕ → ℕ → DirectoryRecord = λ count next. record {
       entries = last_of_each (entries_from kind LittleEndian file (first_entry kind p) count);
       next = link next;
@@ -45,11 +44,19 @@ link_parts kind file p after h =
     let Made : ℕ → ℕ → Result DirectoryRecord TiffError = λ count next. Ok (made count next) in
     let Counted : ℕ → Result DirectoryRecord TiffError =
     λ count. number_at LittleEndian (offset_width kind) file (link_offset kind p count) >>= Made count in
+    let c = bind_ok (number_at LittleEndian (count_width kind) file p) Counted d h in
+    let x = bind_ok (number_at LittleEndian (offset_width kind) file (link_offset kind p c.0)) (Made c.0) d c.1.1 in
+    (c.0, x.0, (c.1.0, (x.1.0, sym (ok_inj (made c.0 x.0) d x.1.1))))
+
+-- a directory whose link is read has a count and a link
+link_parts : (kind : FileKind) (file : List ℕ) (p : ℕ) (after : Option ℕ) → link_from kind LittleEndian file p ≡ Ok after
+    → (count x : ℕ) × ((number_at LittleEndian (count_width kind) file p ≡ Ok count)
+    × ((number_at LittleEndian (offset_width kind) file (link_offset kind p count) ≡ Ok x) × (after ≡ link x)))
+link_parts kind file p after h =
+    let Next : DirectoryRecord → Link = λ d. Ok d.next in
     let d = bind_ok (directory_at kind LittleEndian file p) Next after h in
-    let c = bind_ok (number_at LittleEndian (count_width kind) file p) Counted d.0 d.1.0 in
-    let x = bind_ok (number_at LittleEndian (offset_width kind) file (link_offset kind p c.0)) (Made c.0) d.0 c.1.1 in
-    let same : made c.0 x.0 ≡ d.0 = ok_inj (made c.0 x.0) d.0 x.1.1 in
-    (c.0, x.0, (c.1.0, (x.1.0, sym (ok_inj d.0.next after d.1.1) ∙ ap (λ (r : DirectoryRecord). r.next) (sym same))))
+    let s = directory_split kind file p d.0 d.1.0 in
+    (s.0, s.1, (s.2.0, (s.2.1.0, sym (ok_inj d.0.next after d.1.1) ∙ ap (λ (r : DirectoryRecord). r.next) s.2.1.1)))
 
 -- the link of a directory whose count and link are read
 link_whole : (kind : FileKind) (file : List ℕ) (p count x : ℕ) → number_at LittleEndian (count_width kind) file p ≡ Ok count

@@ -37,3 +37,4 @@ pub mod Running
 pub mod AppendLaws
 pub mod Appending
 pub mod LongerChain
+pub mod FormerPages

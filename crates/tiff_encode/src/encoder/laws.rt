@@ -8,6 +8,7 @@ pub mod reading;
 
 ghost use Rattle.tiff_encode.specs.Appending.{FormerBytesStay};
 ghost use Rattle.tiff_encode.specs.AppendLaws.{DirectoryCallsAppend, ImageCallsAppend, EndsLinkParent};
+ghost use Rattle.tiff_encode.specs.FormerPages.{FormerPagesStay};
 ghost use Rattle.tiff_encode.specs.Held.{ChunksShow, ImagesShow, PageTold};
 ghost use Rattle.tiff_encode.specs.Laws.{HeaderStands, KeptByAppending, KeptByPatching, KeptByTearing, GrownByRegion, GrownByInline, GrownByPlaced, GrownByListing, FinishStep, OpsStand, OpsGrow, OpsBegun, OpsTorn, OpsJoin, OpsAppend, FirstTold, ModelsAgree};
 ghost use Rattle.tiff_encode.specs.LongerChain.{ChainGoesOn};
@@ -175,4 +176,10 @@ pub fn chain_goes_on()
 /// link.
 pub fn former_bytes_stay()
     ensures { FormerBytesStay }
+{}
+
+/// States that the directories and pages of a file that an encoder goes on behind are read as
+/// before.
+pub fn former_pages_stay()
+    ensures { FormerPagesStay }
 {}
