@@ -42,3 +42,4 @@ pub mod GoingOn
 pub mod LongerChain
 pub mod FormerBytes
 pub mod FormerPages
+pub mod PagesGoOn

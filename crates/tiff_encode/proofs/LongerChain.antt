@@ -49,7 +49,7 @@ directory_split kind file p d h =
     (c.0, x.0, (c.1.0, (x.1.0, sym (ok_inj (made c.0 x.0) d x.1.1))))
 
 -- a directory whose link is read has a count and a link
-link_parts : (kind : FileKind) (file : List ℕ) (p : ℕ) (after : Option ℕ) → link_from kind LittleEndian file p ≡ Ok after
+pub link_parts : (kind : FileKind) (file : List ℕ) (p : ℕ) (after : Option ℕ) → link_from kind LittleEndian file p ≡ Ok after
     → (count x : ℕ) × ((number_at LittleEndian (count_width kind) file p ≡ Ok count)
     × ((number_at LittleEndian (offset_width kind) file (link_offset kind p count) ≡ Ok x) × (after ≡ link x)))
 link_parts kind file p after h =
@@ -74,16 +74,25 @@ some_count Big = lit< tt
 -- ---- entered links
 
 -- none of the offsets is at or behind an end
-NotMet : ℕ → List ℕ → Type 0
+pub NotMet : ℕ → List ℕ → Type 0
 NotMet len met = (z : ℕ) → len ≤ z → list_any (nat_eq z) met ≡ false
 
-none_met : (len : ℕ) → NotMet len []
+pub none_met : (len : ℕ) → NotMet len []
 unfolding NotMet
 none_met len z l = refl
 
-more_met : (len p : ℕ) (met : List ℕ) → p < len → NotMet len met → NotMet len (p ∷ met)
+pub more_met : (len p : ℕ) (met : List ℕ) → p < len → NotMet len met → NotMet len (p ∷ met)
 unfolding NotMet
 more_met len p met l n z b = rw (ne_eqb z p (λ s. omega (arith, s, l, b))) (n z b)
+
+-- offsets are met only before a later end, too
+pub later : (len least : ℕ) (met : List ℕ) → len ≤ least → NotMet len met → NotMet least met
+unfolding NotMet
+later len least met l n z b = n z (omega (arith, l, b))
+
+pub not_met : (len : ℕ) (met : List ℕ) → NotMet len met → (z : ℕ) → len ≤ z → list_any (nat_eq z) met ≡ false
+unfolding NotMet
+not_met len met n = n
 
 -- a link that is entered is the link of the directory, and isn't met
 entered_by : (b : Bool) (n : ℕ) (after : Option ℕ) → cond b (Err (FormatError CycleInOffsets)) (Ok (Some n)) ≡ Ok after → (b ≡ false) × (after ≡ Some n)
@@ -91,10 +100,10 @@ entered_by true n after h = absurd cc
 entered_by false n after h = (refl, cc)
 
 -- what is known of an entered directory: its link, which is none or not met
-Entered : List ℕ → Link → Option ℕ → Type 0
+pub Entered : List ℕ → Link → Option ℕ → Type 0
 Entered met r after = (r ≡ Ok after) × ((n : ℕ) → after ≡ Some n → list_any (nat_eq n) met ≡ false)
 
-entered : (met : List ℕ) (r : Link) (after : Option ℕ) → (r >>= unless_met met) ≡ Ok after → Entered met r after
+pub entered : (met : List ℕ) (r : Link) (after : Option ℕ) → (r >>= unless_met met) ≡ Ok after → Entered met r after
 unfolding Entered
 entered met (Err e) after h = absurd cc
 entered met (Ok None) after h = (h, λ n s. absurd cc)
@@ -107,8 +116,12 @@ entered met (Ok (Some n)) after h =
           subst P same t.0),
     )
 
+pub entered_link : (met : List ℕ) (r : Link) (after : Option ℕ) → (r >>= unless_met met) ≡ Ok after → r ≡ Ok after
+unfolding Entered
+entered_link met r after h = (entered met r after h).0
+
 -- a link is entered if it is none, or not met
-enters : (met : List ℕ) (r : Link) (after : Option ℕ) → r ≡ Ok after → ((n : ℕ) → after ≡ Some n → list_any (nat_eq n) met ≡ false)
+pub enters : (met : List ℕ) (r : Link) (after : Option ℕ) → r ≡ Ok after → ((n : ℕ) → after ≡ Some n → list_any (nat_eq n) met ≡ false)
     → (r >>= unless_met met) ≡ Ok after
 enters met r None h f = ap (λ z. z >>= unless_met met) h
 enters met r (Some n) h f = ap (λ z. z >>= unless_met met) h ∙ (rw (f n refl) refl)
@@ -150,22 +163,22 @@ behind_more kind new len former f met (Some p) (x ∷ xs) end b c =
 -- ---- the longer file
 
 -- a link of another number than 0 is to a directory, and a link to none is 0
-other_link : (x : ℕ) → (x ≡ 0 → ⊥) → link x ≡ Some x
+pub other_link : (x : ℕ) → (x ≡ 0 → ⊥) → link x ≡ Some x
 other_link x d = rw (ne_eqb x 0 d) refl
 
-some_link : (x : ℕ) → 0 < x → link x ≡ Some x
+pub some_link : (x : ℕ) → 0 < x → link x ≡ Some x
 some_link x p = other_link x (λ s. omega (arith, s, p))
 
-zero_link : (x : ℕ) → link x ≡ None → x ≡ 0
+pub zero_link : (x : ℕ) → link x ≡ None → x ≡ 0
 zero_link x h = elim (cases_eq x 0) [ inl s ↦ s | inr d ↦ absurd (none_some {x = x} (sym h ∙ other_link x d)) ]
 
 -- a chain without an offset that ends well begins at no directory
-ended : (l : ℕ → Link) (met : List ℕ) (next : Option ℕ) → IsChain l met next [] None → next ≡ None
+pub ended : (l : ℕ → Link) (met : List ℕ) (next : Option ℕ) → IsChain l met next [] None → next ≡ None
 ended l met None c = refl
 ended l met (Some n) c = absurd (none_some c.2)
 
 -- the link of a directory, by its count
-own_link_at : (kind : FileKind) (file : List ℕ) (p count : ℕ) → number_at LittleEndian (count_width kind) file p ≡ Ok count
+pub own_link_at : (kind : FileKind) (file : List ℕ) (p count : ℕ) → number_at LittleEndian (count_width kind) file p ≡ Ok count
     → link_offset_at kind file p ≡ Ok (link_offset kind p count)
 own_link_at kind file p count c =
     let F : ℕ → Result ℕ TiffError = λ n. Ok (link_offset kind p n) in
@@ -258,18 +271,18 @@ module _ (kind : FileKind) (file : List ℕ) (q : ℕ) where
 
 -- ---- the chain from the header on
 
-chain_of : (kind : FileKind) (file : List ℕ) (next : Option ℕ)
+pub chain_of : (kind : FileKind) (file : List ℕ) (next : Option ℕ)
     → IsChain (link_from kind LittleEndian file) [] next (chain_behind kind file next).offsets (chain_behind kind file next).end
 chain_of kind file None = refl
 chain_of kind file (Some first) = the_chain kind LittleEndian file first
 
-chain_is : (kind : FileKind) (file : List ℕ) (next : Option ℕ) (offsets : List ℕ) (end : Option TiffError)
+pub chain_is : (kind : FileKind) (file : List ℕ) (next : Option ℕ) (offsets : List ℕ) (end : Option TiffError)
     → IsChain (link_from kind LittleEndian file) [] next offsets end → chain_behind kind file next ≡ record { offsets = offsets; end = end }
 chain_is kind file next offsets end h =
     let e = one_chain kind LittleEndian file [] next (chain_behind kind file next).offsets offsets (chain_behind kind file next).end end (chain_of kind file next) h in
     λ i. record { offsets = e.0 i; end = e.1 i }
 
-uncut : (end : Option TiffError) (r : Result ℕ TiffError) (q : ℕ) → unless_cut end r ≡ Ok q → (end ≡ None) × (r ≡ Ok q)
+pub uncut : (end : Option TiffError) (r : Result ℕ TiffError) (q : ℕ) → unless_cut end r ≡ Ok q → (end ≡ None) × (r ≡ Ok q)
 uncut None r q h = (refl, h)
 uncut (Some e) r q h = absurd cc
 

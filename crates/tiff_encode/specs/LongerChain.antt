@@ -1,16 +1,17 @@
 -- The last link of a file's chain of directories, and the chain after it goes on from there (TIFF
 -- 6.0 section 2).
-use Rattle.std.specs.Prelude.{◌≡◌, ℕ, ◌≤◌, ◌⊎◌, List, [], ◌∷◌, ◌++◌, length, Option, None, Some, Result, Ok, Err}
+use Rattle.std.specs.Prelude.{◌≡◌, ℕ, ◌+◌, ◌≤◌, ◌⊎◌, List, [], ◌∷◌, ◌++◌, length, map, Option, None, Some, Result, Ok, Err}
+use Rattle.std.specs.FinMap.{len}
 use Rattle.tiff_base.specs.declared.error.TiffError.{TiffError}
 use Rattle.tiff_base.specs.declared.tags.FileKind.{FileKind}
 use Rattle.tiff_base.specs.declared.tags.ByteOrder.TheVariants.{LittleEndian}
 use Rattle.tiff_base.specs.Answers.{◌>>=◌}
-use Rattle.tiff_base.specs.Directory.{count_width, offset_width, link, link_offset}
+use Rattle.tiff_base.specs.Directory.{count_width, offset_width, link, link_offset, directory_at}
 use Rattle.tiff_base.specs.Number.{number_at}
 use Rattle.tiff_ifd.specs.Chain.{Chain, chain, link_from}
-use Rattle.tiff_encode.specs.Appending.{header_end, Continues}
+use Rattle.tiff_encode.specs.Appending.{header_end, Continues, HasHeader, EndsInHeader, EndsIn}
 use Rattle.tiff_encode.specs.FileBytes.{offset_len, count_len}
-use Rattle.tiff_encode.specs.Model.{In, IsClear, header_link}
+use Rattle.tiff_encode.specs.Model.{In, FinishedDirectory, Model, Stands, IsLink, IsClear, header_link, own_link}
 
 -- the chain of a little-endian file from a link on
 abbrev pub chain_behind : FileKind → List ℕ → Option ℕ → Chain
@@ -73,3 +74,41 @@ ChainGoesOn =
     → chain_behind kind new (link offset) ≡ rest → LinkBehind kind new (length file) rest.offsets
     → file_chain kind new
     ≡ Ok (record { offsets = former.offsets ++ rest.offsets; end = rest.end })
+
+-- Directories of a model are linked one after another from the link at q on, each at or behind an
+-- offset and behind the one before it. The link of the last is 0.
+abbrev pub AreLinked : FileKind → Model → ℕ → ℕ → List FinishedDirectory → Type 0
+AreLinked kind m least q [] = m.links q ≡ 0
+AreLinked kind m least q (d ∷ ds) =
+    In d m.directories × ((m.links q ≡ d.offset) × ((least ≤ d.offset)
+    × AreLinked kind m (d.offset + 1) (own_link kind d) ds))
+
+-- The law: a file that continues a file, and contains a model in which directories behind the
+-- former end are linked one after another from the former last link on, has the former chain and
+-- then these directories.
+abbrev pub PagesGoOn : Type 0
+PagesGoOn =
+    (kind : FileKind) (file new : List ℕ) (q : ℕ) (former : Chain) (m : Model)
+    (ds : List FinishedDirectory)
+    → file_chain kind file ≡ Ok former → last_link_at kind file ≡ Ok q
+    → IsReadOnce kind file q former.offsets → Continues kind q file new
+    → Stands kind new m → IsLink kind m q → AreLinked kind m (length file) q ds
+    → file_chain kind new
+    ≡ Ok (record { offsets = former.offsets ++ map (λ d. d.offset) ds; end = None })
+
+-- The last link of a file with a header is where an encoder can go on: that of the header if the
+-- chain has no directory, and else that of the last one.
+pub record LastEnds (kind : FileKind) (file : List ℕ) (q first : ℕ) (former : Chain)
+    : Type 0 where
+  pub none : former.offsets ≡ [] → EndsInHeader kind file × (q ≡ header_link kind)
+  pub last : (before : List ℕ) (d : FinishedDirectory) (next : Option ℕ)
+      → former.offsets ≡ before ++ d.offset ∷ []
+      → directory_at kind LittleEndian file d.offset
+      ≡ Ok (record { entries = d.fields; next = next })
+      → number_at LittleEndian (count_width kind) file d.offset ≡ Ok (len d.fields)
+      → header_end kind ≤ d.offset → EndsIn kind file first d × (q ≡ own_link kind d)
+
+abbrev pub LastLinkEnds : Type 0
+LastLinkEnds = (kind : FileKind) (file : List ℕ) (q first : ℕ) (former : Chain)
+    → HasHeader kind file first → file_chain kind file ≡ Ok former
+    → last_link_at kind file ≡ Ok q → LastEnds kind file q first former

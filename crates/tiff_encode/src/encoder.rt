@@ -124,12 +124,13 @@ impl<W: Sink, K: TiffKind> TiffEncoder<W, K> {
 }
 
 impl<W: Sink, K: TiffKind> TiffEncoder<W, K> {
-    /// Goes on behind the little-endian file of the kind `K` that the sink contains. `link` is the
-    /// offset of the last link of its IFD chain (TIFF 6.0 section 2), 4 bytes in a classic file and
-    /// 8 bytes in a BigTIFF file: the link of the last directory, or the header's if the file has no
-    /// directory. The next directory that ends in the chain overwrites this link, and no other byte
-    /// of the file changes. The call reads and writes nothing. Returns `IoError(InvalidInput)` if
-    /// the link isn't within the bytes of the sink. This project adds this function.
+    /// Goes on behind the little-endian file of the kind `K` that the sink contains: what is
+    /// written is appended at the end of the sink. `link` is the offset of the last link of the IFD
+    /// chain (TIFF 6.0 section 2), which has 4 bytes in a classic file and 8 bytes in a BigTIFF
+    /// file: the link of the last directory, or that of the header if the file has no directory.
+    /// The next directory of the chain writes its offset there when it ends. The call reads and
+    /// writes nothing. Returns `IoError(InvalidInput)` if the link isn't within the bytes of the
+    /// sink. This project adds this function.
     pub fn append_to(alloc: Global, sink: W, link: u64) -> TiffResult<Self>
         ensures answer { MatchResult result
             (λ e. (link + offset_len K.kind ≤ length (W.told sink))

@@ -11,7 +11,7 @@ ghost use Rattle.tiff_encode.specs.AppendLaws.{DirectoryCallsAppend, ImageCallsA
 ghost use Rattle.tiff_encode.specs.FormerPages.{FormerPagesStay};
 ghost use Rattle.tiff_encode.specs.Held.{ChunksShow, ImagesShow, PageTold};
 ghost use Rattle.tiff_encode.specs.Laws.{HeaderStands, KeptByAppending, KeptByPatching, KeptByTearing, GrownByRegion, GrownByInline, GrownByPlaced, GrownByListing, FinishStep, OpsStand, OpsGrow, OpsBegun, OpsTorn, OpsJoin, OpsAppend, FirstTold, ModelsAgree};
-ghost use Rattle.tiff_encode.specs.LongerChain.{ChainGoesOn};
+ghost use Rattle.tiff_encode.specs.LongerChain.{ChainGoesOn, LastLinkEnds, PagesGoOn};
 ghost use Rattle.tiff_encode.specs.RunLaws.{OffsetsAgree, OneStep, OneStored};
 ghost use Rattle.tiff_encode.specs.CallLaws.{PlacedFits, FinishFits};
 
@@ -182,4 +182,16 @@ pub fn former_bytes_stay()
 /// before.
 pub fn former_pages_stay()
     ensures { FormerPagesStay }
+{}
+
+/// States that the chain of a file that an encoder goes on behind is the former chain and then the
+/// directories that are linked behind it.
+pub fn pages_go_on()
+    ensures { PagesGoOn }
+{}
+
+/// States that the last link of a file is that of its header or of its last directory, where an
+/// encoder can go on.
+pub fn last_link_ends()
+    ensures { LastLinkEnds }
 {}
