@@ -13,6 +13,7 @@ use Rattle.tiff_base.specs.SourceAndSink.{bytes_at, exactly_at, put}
 use Rattle.tiff_base.specs.Number.{number, number_at}
 use Rattle.tiff_base.specs.Field.{DirectoryRecord}
 use Rattle.tiff_base.specs.Directory.{count_width, offset_width, link, directory_at}
+use Rattle.tiff_value.specs.Written.{Written, new_writer}
 use Rattle.tiff_encode.specs.FileBytes.{offset_len}
 use Rattle.tiff_encode.specs.Model.{In, FinishedDirectory, ByteRegion, BytesAreApart, header_link, own_link, IsLink, IsClear, body_len, whole_len}
 use Rattle.tiff_encode.specs.Appending.{header_end, EndsInHeader, EndsIn, bytes_between, header_file_model, former_model, GoesOnBehind, Continues}
@@ -50,7 +51,7 @@ reads_between file from to l u =
     (ap (λ n. take n (drop from file)) s)
 
 -- a file without a directory contains the model of its header and the bytes behind it
-pub behind_header : (kind : FileKind) (file : List ℕ) (chain : ℕ) → EndsInHeader kind file → chain ≡ header_link kind
+behind_header : (kind : FileKind) (file : List ℕ) (chain : ℕ) → EndsInHeader kind file → chain ≡ header_link kind
     → GoesOnBehind kind file chain (header_file_model kind file)
 behind_header kind file chain h e =
     let room = number_within file (offset_width kind) (header_link kind) 0 (some_offset kind) h.link in
@@ -92,7 +93,7 @@ behind_header kind file chain h e =
     }
 
 -- a file whose last link is that of a directory contains the model of this directory, and of all bytes between the header and the directory and behind it
-pub behind_directory : (kind : FileKind) (file : List ℕ) (first : ℕ) (d : FinishedDirectory) (chain : ℕ) → EndsIn kind file first d
+behind_directory : (kind : FileKind) (file : List ℕ) (first : ℕ) (d : FinishedDirectory) (chain : ℕ) → EndsIn kind file first d
     → chain ≡ own_link kind d → GoesOnBehind kind file chain (former_model kind file first d)
 behind_directory kind file first d chain h e =
     let m = former_model kind file first d in
@@ -168,6 +169,20 @@ behind_directory kind file first d chain h e =
       link = inr (d, (inl refl, e));
       last = ap m.links e ∙ target;
     }
+
+-- a new writer goes on behind the bytes of its sink
+pub writer_behind_header : (kind : FileKind) (told : List ℕ) (failures chain : ℕ) (w : Written) → w ≡ new_writer told failures
+    → EndsInHeader kind told → chain ≡ header_link kind → GoesOnBehind kind w.bytes chain (header_file_model kind told)
+writer_behind_header kind told failures chain w s h e =
+    let P : Written → Type 0 = λ v. GoesOnBehind kind v.bytes chain (header_file_model kind told) in
+    subst P (sym s) (behind_header kind told chain h e)
+
+pub writer_behind_directory : (kind : FileKind) (told : List ℕ) (failures chain : ℕ) (w : Written) → w ≡ new_writer told failures
+    → (first : ℕ) (d : FinishedDirectory) → EndsIn kind told first d → chain ≡ own_link kind d
+    → GoesOnBehind kind w.bytes chain (former_model kind told first d)
+writer_behind_directory kind told failures chain w s first d h e =
+    let P : Written → Type 0 = λ v. GoesOnBehind kind v.bytes chain (former_model kind told first d) in
+    subst P (sym s) (behind_directory kind told first d chain h e)
 
 -- ---- the bytes of the former file
 
