@@ -43,3 +43,4 @@ pub mod LongerChain
 pub mod FormerBytes
 pub mod FormerPages
 pub mod PagesGoOn
+pub mod FormerSamples

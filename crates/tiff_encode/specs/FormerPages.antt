@@ -1,16 +1,20 @@
--- The directories and pages of a file that an encoder goes on behind are read as before (this
--- project's).
-use Rattle.std.specs.Prelude.{◌≡◌, ℕ, ◌+◌, ◌*◌, ◌≤◌, ◌⊎◌, List, length, Some, Ok}
+-- The directories, pages and samples of a file that an encoder goes on behind are read as before
+-- (this project's).
+use Rattle.std.specs.Prelude.{◌≡◌, ℕ, ◌+◌, ◌*◌, ◌%◌, ◌≤◌, ◌⊎◌, List, length, slice_index, Some, Ok}
 use Rattle.std.specs.FinMap.{FinMap, get}
 use Rattle.std.specs.Ordering.{nat_cmp}
 use Rattle.tiff_base.specs.declared.tags.FileKind.{FileKind}
 use Rattle.tiff_base.specs.declared.tags.ByteOrder.TheVariants.{LittleEndian}
+use Rattle.tiff_base.specs.declared.tags.CompressionMethod.TheVariants as method
 use Rattle.tiff_base.specs.Field.{Field, DirectoryRecord}
 use Rattle.tiff_base.specs.FieldBytes.{field_len, field_offset}
 use Rattle.tiff_base.specs.Directory.{count_width, offset_width, entry_len, link, link_offset, directory_at}
 use Rattle.tiff_base.specs.Number.{number_at}
 use Rattle.tiff_base.specs.SourceAndSink.{exactly_at}
 use Rattle.tiff_ifd.specs.declared.limits.Limits.{Limits}
+use Rattle.tiff_page.specs.Page.{PageRecord}
+use Rattle.tiff_page.specs.Pixels.{planar_or, stored_row_bytes, shown_sample}
+use Rattle.tiff_page.specs.Rect.{chunk_of_pixel}
 use Rattle.tiff_encode.specs.Appending.{Continues}
 use Rattle.tiff_encode.specs.FileBytes.{offset_len, count_len}
 use Rattle.tiff_encode.specs.Model.{IsClear}
@@ -54,3 +58,27 @@ pub record FormerReads (kind : FileKind) (q : ℕ) (file new : List ℕ) : Type 
 abbrev pub FormerPagesStay : Type 0
 FormerPagesStay = (kind : FileKind) (q : ℕ) (file new : List ℕ) → q + offset_len kind ≤ length file
     → Continues kind q file new → FormerReads kind q file new
+
+-- ---- samples
+
+-- n bytes are within the file and apart from the link at q
+abbrev pub AreBytesClear : FileKind → List ℕ → ℕ → ℕ → ℕ → Type 0
+AreBytesClear kind file q at n = (at + n ≤ length file) × IsClear kind q at n
+
+-- What is read for a row of a chunk is within the file and apart from the link at q: the bytes of
+-- the row if the chunk isn't compressed, and all its counted bytes if it is PackBits data.
+abbrev pub IsRowClear : FileKind → List ℕ → ℕ → PageRecord → ℕ → ℕ → Type 0
+IsRowClear kind file q p chunk row =
+    ((p.method ≡ method.None)
+    × AreBytesClear kind file q (slice_index p.offsets chunk + row * stored_row_bytes p)
+    (stored_row_bytes p))
+    ⊎ ((p.method ≡ method.PackBits)
+    × AreBytesClear kind file q (slice_index p.offsets chunk) (slice_index p.byte_counts chunk))
+
+-- The law: each sample of a page is the same, if the row that has it is apart from the link at q.
+abbrev pub FormerSamplesStay : Type 0
+FormerSamplesStay = (kind : FileKind) (q : ℕ) (file new : List ℕ) → q + offset_len kind ≤ length file
+    → Continues kind q file new → (p : PageRecord) (x y sample : ℕ)
+    → IsRowClear kind file q p (chunk_of_pixel p (planar_or p.planar sample 0) x y)
+    (y % p.chunk_height)
+    → shown_sample new LittleEndian p x y sample ≡ shown_sample file LittleEndian p x y sample

@@ -8,7 +8,7 @@ pub mod reading;
 
 ghost use Rattle.tiff_encode.specs.Appending.{FormerBytesStay};
 ghost use Rattle.tiff_encode.specs.AppendLaws.{DirectoryCallsAppend, ImageCallsAppend, EndsLinkParent};
-ghost use Rattle.tiff_encode.specs.FormerPages.{FormerPagesStay};
+ghost use Rattle.tiff_encode.specs.FormerPages.{FormerPagesStay, FormerSamplesStay};
 ghost use Rattle.tiff_encode.specs.Held.{ChunksShow, ImagesShow, PageTold};
 ghost use Rattle.tiff_encode.specs.Laws.{HeaderStands, KeptByAppending, KeptByPatching, KeptByTearing, GrownByRegion, GrownByInline, GrownByPlaced, GrownByListing, FinishStep, OpsStand, OpsGrow, OpsBegun, OpsTorn, OpsJoin, OpsAppend, FirstTold, ModelsAgree};
 ghost use Rattle.tiff_encode.specs.LongerChain.{ChainGoesOn, LastLinkEnds, PagesGoOn};
@@ -194,4 +194,9 @@ pub fn pages_go_on()
 /// encoder can go on.
 pub fn last_link_ends()
     ensures { LastLinkEnds }
+{}
+
+/// States that the samples of a file that an encoder goes on behind are shown as before.
+pub fn former_samples_stay()
+    ensures { FormerSamplesStay }
 {}
