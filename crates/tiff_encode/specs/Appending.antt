@@ -86,8 +86,7 @@ pub record GoesOnBehind (kind : FileKind) (file : List ℕ) (chain : ℕ) (forme
 
 -- ---- the bytes of the former file
 
--- A file has the bytes of a former file, but other bytes in the link at q, and more bytes behind
--- them.
+-- A file has the bytes of a former file, except those of the link at q, and more bytes behind them.
 pub record Continues (kind : FileKind) (q : ℕ) (file new : List ℕ) : Type 0 where
   pub over : List ℕ
   pub whole : length over ≡ offset_len kind

@@ -1,5 +1,4 @@
--- The last link of a file's chain of directories, and the chain after it goes on from there (TIFF
--- 6.0 section 2).
+-- The last link of a file, and the chain of a file that goes on from there (TIFF 6.0 section 2).
 use Rattle.std.specs.Prelude.{◌≡◌, ℕ, ◌+◌, ◌≤◌, ◌⊎◌, List, [], ◌∷◌, ◌++◌, length, map, Option, None, Some, Result, Ok, Err}
 use Rattle.std.specs.FinMap.{len}
 use Rattle.tiff_base.specs.declared.error.TiffError.{TiffError}
@@ -47,8 +46,9 @@ last_link_at kind file = do
   found ← file_chain kind file
   unless_cut found.end (link_behind kind file found.offsets)
 
--- The link at q is that of the header or behind the header. No directory at one of these offsets
--- has its number of entries there, and each has its own link there or apart from it.
+-- The link at q is that of the header, or behind the header. No directory at one of these offsets
+-- has a byte of its number of entries in that link, and each has its own link there or apart from
+-- it.
 pub record IsReadOnce (kind : FileKind) (file : List ℕ) (q : ℕ) (offsets : List ℕ) : Type 0 where
   pub header : (q ≡ header_link kind) ⊎ (header_end kind ≤ q)
   pub counts : (offset : ℕ) → In offset offsets → IsClear kind q offset (count_len kind)

@@ -143,8 +143,8 @@ impl<W: Sink, K: TiffKind> TiffEncoder<W, K> {
             → IfOk result
             (λ e. GoesOnBehind K.kind e.bytes e.chain (header_file_model K.kind (W.told sink))) }
 
-        // If the link is that of a directory, this directory, and all bytes before and behind it,
-        // stay.
+        // If the link is that of a directory, this directory stays, and all bytes between the header
+        // and it, and behind it.
         ensures behind_directory { (first : ℕ) (d : FinishedDirectory)
             → EndsIn K.kind (W.told sink) first d → link ≡ own_link K.kind d
             → IfOk result
