@@ -26,6 +26,12 @@ pub Keeps : List ℕ → List ℕ → ℕ → ℕ → Type 0
 Keeps file new from to = (p n : ℕ) (s : List ℕ) → from ≤ p → p + n ≤ to → exactly_at file p n ≡ Ok s
     → exactly_at new p n ≡ Ok s
 
+pub keeps : (file new : List ℕ) (from to : ℕ)
+    → ((p n : ℕ) (s : List ℕ) → from ≤ p → p + n ≤ to → exactly_at file p n ≡ Ok s → exactly_at new p n ≡ Ok s)
+    → Keeps file new from to
+unfolding Keeps
+keeps file new from to f = f
+
 -- ---- entries
 
 -- two functions that agree give the same list
@@ -132,7 +138,7 @@ directory_from kind file p n fields t c e l =
     let r : Result DirectoryRecord TiffError = Ok d in r) e
 
 -- a directory whose bytes stay the same keeps its entries
-body_kept : (kind : FileKind) (file new : List ℕ) (p n : ℕ) (fields : FinMap nat_cmp Field)
+pub body_kept : (kind : FileKind) (file new : List ℕ) (p n : ℕ) (fields : FinMap nat_cmp Field)
     → Keeps file new p (p + (count_len kind + entry_len kind * n))
     → p + (count_len kind + entry_len kind * n) ≤ length file
     → last_of_each (entries_from kind LittleEndian file (first_entry kind p) n) ≡ fields

@@ -38,3 +38,9 @@ pub mod Running
 pub mod Samples
 pub mod Stepped
 pub mod Appending
+pub mod GoingOn
+pub mod LongerChain
+pub mod FormerBytes
+pub mod FormerPages
+pub mod PagesGoOn
+pub mod FormerSamples

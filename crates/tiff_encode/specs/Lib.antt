@@ -35,3 +35,6 @@ pub mod ImageStepping
 pub mod JobEnding
 pub mod Running
 pub mod AppendLaws
+pub mod Appending
+pub mod LongerChain
+pub mod FormerPages

@@ -16,11 +16,13 @@ ghost use Rattle.tiff_base.specs.Types.{type_size};
 ghost use Rattle.tiff_base.specs.declared.tags.FileKind.TheVariants.{Big, Classic};
 ghost use Rattle.tiff_value.specs.ColorType.{sample_number};
 ghost use Rattle.tiff_value.specs.Differences.{differences};
+ghost use Rattle.tiff_encode.specs.Appending.{EndsInHeader, EndsIn, GoesOnBehind, continued_file, header_file_model, former_model};
 ghost use Rattle.tiff_encode.specs.FileBytes.{padding, offset_len};
 ghost use Rattle.tiff_encode.specs.Calls as calls;
 ghost use Rattle.tiff_encode.specs.Causes.{is_past};
 ghost use Rattle.tiff_encode.specs.Encoder.{HeaderFails};
 ghost use Rattle.tiff_encode.specs.Machine.{begun_file};
+ghost use Rattle.tiff_encode.specs.Model.{FinishedDirectory, header_link, own_link};
 ghost use Rattle.tiff_encode.specs.Shows.{LeavesHeader};
 ghost use Rattle.tiff_encode.specs.FileWrites.{AppendsToFile, PointsLink};
 
@@ -31,8 +33,8 @@ pub use self::kind::{DirectoryOffset, OffsetNumber, TiffKind, TiffKindBig, TiffK
 pub use self::settings::Compression;
 use std::alloc::Global;
 use std::marker::{Model, PhantomData};
-use tiff_base::error::TiffResult;
-use tiff_base::io::Sink;
+use tiff_base::error::{TiffError, TiffResult};
+use tiff_base::io::{IoKind, Sink};
 use tiff_base::tags::FileKind;
 pub use tiff_base::tags::Predictor;
 use tiff_value::encoder::chunk::write_chunk;
@@ -114,6 +116,49 @@ impl<W: Sink, K: TiffKind> TiffEncoder<W, K> {
             alloc,
             writer,
             chain,
+            predictor: Predictor::None,
+            compression: Compression::Uncompressed,
+            kind: PhantomData,
+        })
+    }
+}
+
+impl<W: Sink, K: TiffKind> TiffEncoder<W, K> {
+    /// Goes on behind the little-endian file of the kind `K` that the sink contains: what is
+    /// written is appended at the end of the sink. `link` is the offset of the last link of the IFD
+    /// chain (TIFF 6.0 section 2), which has 4 bytes in a classic file and 8 bytes in a BigTIFF
+    /// file: the link of the last directory, or that of the header if the file has no directory.
+    /// The next directory of the chain writes its offset there when it ends. The call reads and
+    /// writes nothing. Returns `IoError(InvalidInput)` if the link isn't within the bytes of the
+    /// sink. This project adds this function.
+    pub fn append_to(alloc: Global, sink: W, link: u64) -> TiffResult<Self>
+        ensures answer { MatchResult result
+            (λ e. (link + offset_len K.kind ≤ length (W.told sink))
+            × (e ≡ continued_file K.kind (W.told sink) (W.failures sink) link))
+            (λ e. (length (W.told sink) < link + offset_len K.kind)
+            × (e ≡ TiffError.IoError IoKind.InvalidInput)) }
+
+        // If the file has no directory, all its bytes behind the header stay.
+        ensures behind_header { EndsInHeader K.kind (W.told sink) → link ≡ header_link K.kind
+            → IfOk result
+            (λ e. GoesOnBehind K.kind e.bytes e.chain (header_file_model K.kind (W.told sink))) }
+
+        // If the link is that of a directory, this directory stays, and all bytes between the header
+        // and it, and behind it.
+        ensures behind_directory { (first : ℕ) (d : FinishedDirectory)
+            → EndsIn K.kind (W.told sink) first d → link ≡ own_link K.kind d
+            → IfOk result
+            (λ e. GoesOnBehind K.kind e.bytes e.chain (former_model K.kind (W.told sink) first d)) }
+    {
+        let writer = TiffWriter::new(sink);
+        let len = writer.len();
+        if len < link || len - link < offset_size::<K>() {
+            return Err(TiffError::IoError(IoKind::InvalidInput));
+        }
+        Ok(TiffEncoder {
+            alloc,
+            writer,
+            chain: link,
             predictor: Predictor::None,
             compression: Compression::Uncompressed,
             kind: PhantomData,

@@ -1,6 +1,7 @@
 -- Worked examples of the definitions of `tiff_encode`.
 pub mod FileBytes
 pub mod Causes
+pub mod Appending
 pub mod Calls
 pub mod Chunks
 pub mod Model

@@ -1,6 +1,7 @@
 //! Worked examples of the definitions of `tiff_encode`: calls of the writer, their errors, what
 //! they leave, and lists of jobs.
 
+pub mod appending;
 pub mod calls;
 pub mod causes;
 pub mod chunks;

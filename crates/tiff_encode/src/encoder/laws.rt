@@ -6,9 +6,12 @@ pub mod fit;
 pub mod image;
 pub mod reading;
 
+ghost use Rattle.tiff_encode.specs.Appending.{FormerBytesStay};
 ghost use Rattle.tiff_encode.specs.AppendLaws.{DirectoryCallsAppend, ImageCallsAppend, EndsLinkParent};
+ghost use Rattle.tiff_encode.specs.FormerPages.{FormerPagesStay, FormerSamplesStay};
 ghost use Rattle.tiff_encode.specs.Held.{ChunksShow, ImagesShow, PageTold};
 ghost use Rattle.tiff_encode.specs.Laws.{HeaderStands, KeptByAppending, KeptByPatching, KeptByTearing, GrownByRegion, GrownByInline, GrownByPlaced, GrownByListing, FinishStep, OpsStand, OpsGrow, OpsBegun, OpsTorn, OpsJoin, OpsAppend, FirstTold, ModelsAgree};
+ghost use Rattle.tiff_encode.specs.LongerChain.{ChainGoesOn, LastLinkEnds, PagesGoOn};
 ghost use Rattle.tiff_encode.specs.RunLaws.{OffsetsAgree, OneStep, OneStored};
 ghost use Rattle.tiff_encode.specs.CallLaws.{PlacedFits, FinishFits};
 
@@ -162,4 +165,38 @@ pub fn image_calls_append()
 /// States that an end appends, and changes no link except its parent's.
 pub fn ends_link_parent()
     ensures { EndsLinkParent }
+{}
+
+/// States that the chain of a file goes on behind the file where its last link points there.
+pub fn chain_goes_on()
+    ensures { ChainGoesOn }
+{}
+
+/// States that the bytes of a file that an encoder goes on behind stay, except those of its last
+/// link.
+pub fn former_bytes_stay()
+    ensures { FormerBytesStay }
+{}
+
+/// States that the directories and pages of a file that an encoder goes on behind are read as
+/// before.
+pub fn former_pages_stay()
+    ensures { FormerPagesStay }
+{}
+
+/// States that the chain of a file that an encoder goes on behind is the former chain and then the
+/// directories that are linked behind it.
+pub fn pages_go_on()
+    ensures { PagesGoOn }
+{}
+
+/// States that the last link of a file is that of its header or of its last directory, where an
+/// encoder can go on.
+pub fn last_link_ends()
+    ensures { LastLinkEnds }
+{}
+
+/// States that the samples of a file that an encoder goes on behind are shown as before.
+pub fn former_samples_stay()
+    ensures { FormerSamplesStay }
 {}
