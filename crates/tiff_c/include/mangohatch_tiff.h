@@ -23,11 +23,11 @@ DESCRIPTION
     refuse, as of a color filter array (PhotometricInterpretation 32803), or of Exif. With a
     number, they read the tags of that page, and refuse it as the other calls do.
 
-    Each call that reads first opens the file at its first page, so it returns the error of a
-    header or a first page that is refused, and then the error of PAGE: for a number behind the end
-    of the chain, the error by which the chain ends, else TIFF_IMAGE_FILE_DIRECTORY_NOT_FOUND; for
-    an offset where FILE ends within the directory, TIFF_UNEXPECTED_EOF; else the first error of the
-    page. Any call that reads or writes a file may return TIFF_OUT_OF_MEMORY. The comment of each
+    Each call that reads opens the file by its header and asks for no other page than PAGE. So it
+    returns the error of a header that is refused, and then the error of PAGE: for a number behind
+    the end of the chain, the error by which the chain ends, else
+    TIFF_IMAGE_FILE_DIRECTORY_NOT_FOUND; for an offset where FILE ends within the directory,
+    TIFF_UNEXPECTED_EOF; else the first error of the page. Any call that reads or writes a file may return TIFF_OUT_OF_MEMORY. The comment of each
     call names the errors that come behind these. Of several errors a call returns the first one.
 
     A call that returns TIFF_DONE has written its result. A call that returns any other status
@@ -258,8 +258,8 @@ struct tiff_listed_page {
    *COUNT is how many pages there are, even if ROOM is less; with a ROOM of 0 the call just counts.
    The call opens the file once and walks along the chain once. It returns TIFF_DONE if the chain
    ends by a link of 0, else the error by which the chain ends. If it lists nothing, *COUNT is 0
-   and PAGES stays; it then returns the error of the header or of the first page, or
-   TIFF_OUT_OF_MEMORY. */
+   and PAGES stays; it then returns the error of the header, that of a first directory that can't
+   be read, or TIFF_OUT_OF_MEMORY. */
 tiff_status tiff_list_pages(const uint8_t *file, size_t len, struct tiff_listed_page *pages, size_t room, size_t *count);
 
 /* Reads the chunk with the number CHUNK, counted from 0, into BUFFER: as it is in the image, cut at

@@ -292,8 +292,8 @@ pub extern "C" fn tiff_page_count(alloc: Global, file: &[u8], pages: &mut usize)
 
 /// Puts the pages of a file into `pages`, along its chain of directories, as many as fit, and how
 /// many there are into `count`, even if not all fit. Returns 0, or the number of the error by which
-/// the chain ends. If the file's header or first page is refused, or memory is out, it returns that
-/// error. `count` is then 0, and `pages` is as it was.
+/// the chain ends. If the file's header is refused, or memory is out, it returns that error. `count`
+/// is then 0, and `pages` is as it was.
 #[unsafe(no_mangle)]
 pub extern "C" fn tiff_list_pages(
     alloc: Global,

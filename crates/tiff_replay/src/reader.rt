@@ -91,11 +91,7 @@ impl Reader {
     }
 
     /// Opens a source in place of the former one, at its first page, or by its header alone.
-    pub fn open(
-        &mut self,
-        source: ScriptedSource,
-        by_header: bool,
-    ) -> Result<String, AllocError> {
+    pub fn open(&mut self, source: ScriptedSource, by_header: bool) -> Result<String, AllocError> {
         self.decoder = None;
         match decoder_of(self.alloc, source, by_header) {
             Ok(decoder) => {

@@ -284,8 +284,8 @@ pub fn page_count(alloc: Global, file: &[u8], pages: &mut usize) -> u32
 
 /// Puts the pages of a file into `pages`, along its chain of directories, as many as fit, and how
 /// many there are into `count`, even if not all fit. Returns 0, or the number of the error by which
-/// the chain ends. If the file's header or first page is refused, or memory is out, it returns that
-/// error. `count` is then 0, and `pages` is as it was.
+/// the chain ends. If the file's header is refused, or memory is out, it returns that error. `count`
+/// is then 0, and `pages` is as it was.
 pub fn list_pages(alloc: Global, file: &[u8], pages: &mut [ListedPage], count: &mut usize) -> u32
     ensures { ListTells (list_of file.now) result pages.old pages.new count.new }
 {

@@ -2,19 +2,21 @@
 
 use tiff::decoder::reply::{refusal_text, reply_text, text_of};
 use tiff::decoder::script::{Call, run_call, run_calls};
-use tiff::decoder::{Decoder, DecodingBuffer, DecodingResult, Limits};
+use tiff::decoder::{Decoder, DecodingBuffer, DecodingResult, Limits, opens_first};
 use tiff::io::Source;
 
 // Pages and limits.
 fn name_pages<R: Source>() {
     let _call = Decoder::<R>::new;
+    let _call = Decoder::<R>::open;
+    let _call = Decoder::<R>::rewind;
+    let _law = opens_first;
     let _call = Decoder::<R>::with_limits;
     let _call = Decoder::<R>::set_limits;
     let _call = Decoder::<R>::dimensions;
     let _call = Decoder::<R>::colortype;
     let _call = Decoder::<R>::ifd_pointer;
     let _call = Decoder::<R>::more_images;
-    let _call = Decoder::<R>::has_pages;
     let _call = Decoder::<R>::allocator;
     let _call = Decoder::<R>::byte_order;
     let _call = Decoder::<R>::inner;

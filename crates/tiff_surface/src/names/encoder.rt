@@ -11,6 +11,7 @@ fn name_encoders<W: Sink, K: TiffKind>() {
     let _call = TiffEncoder::<W, TiffKindStandard>::new;
     let _call = TiffEncoder::<W, TiffKindBig>::new_big;
     let _call = TiffEncoder::<W, K>::new_generic;
+    let _call = TiffEncoder::<W, K>::append_to;
     let _call = TiffEncoder::<W, K>::with_predictor;
     let _call = TiffEncoder::<W, K>::with_compression;
     let _call = TiffEncoder::<W, K>::into_inner;

@@ -78,8 +78,19 @@ fn name_data() {
     let _law = laws::reading::written_is_read;
 }
 
+// A file that an encoder goes on behind.
+fn name_former() {
+    let _law = laws::former_bytes_stay;
+    let _law = laws::former_pages_stay;
+    let _law = laws::former_samples_stay;
+    let _law = laws::last_link_ends;
+    let _law = laws::chain_goes_on;
+    let _law = laws::pages_go_on;
+}
+
 /// Names the laws.
 pub fn name_laws() {
+    name_former();
     name_files();
     name_ops();
     name_images();
