@@ -27,13 +27,14 @@ DESCRIPTION
     returns the error of a header that is refused, and then the error of PAGE: for a number behind
     the end of the chain, the error by which the chain ends, else
     TIFF_IMAGE_FILE_DIRECTORY_NOT_FOUND; for an offset where FILE ends within the directory,
-    TIFF_UNEXPECTED_EOF; else the first error of the page. Any call that reads or writes a file may return TIFF_OUT_OF_MEMORY. The comment of each
-    call names the errors that come behind these. Of several errors a call returns the first one.
+    TIFF_UNEXPECTED_EOF; else the first error of the page. Any call that reads or writes a file may
+    return TIFF_OUT_OF_MEMORY. The comment of each call names the errors that come behind these. Of
+    several errors a call returns the first one.
 
     A call that returns TIFF_DONE has written its result. A call that returns any other status
     leaves a struct or a number as it was; what it leaves in a buffer of bytes is not specified.
-    tiff_list_pages, tiff_tag_numbers, tiff_tag_floats, tiff_tag_text, tiff_write_image and
-    tiff_write_jobs specify more.
+    tiff_list_pages, tiff_list_tags, tiff_tag_numbers, tiff_tag_floats, tiff_tag_text,
+    tiff_write_image and tiff_write_jobs specify more.
 
     A file may claim any size: call tiff_page_layout and judge its result before you allocate for
     an image. The calls that read pixels have no limit for the size of a chunk in the file: they
@@ -65,7 +66,7 @@ LINKING
 #ifndef MANGOHATCH_TIFF_H
 #define MANGOHATCH_TIFF_H
 
-#define MANGOHATCH_TIFF_VERSION 3
+#define MANGOHATCH_TIFF_VERSION 4
 
 /* A PAGE that is the directory at an offset of the file. */
 #define TIFF_AT(offset) ((size_t)(offset) | (size_t)1 << 63)
@@ -333,6 +334,23 @@ tiff_status tiff_tag_floats(const uint8_t *file, size_t len, size_t page, uint16
    TIFF_INVALID_TYPE_FOR_TAG. Any status but TIFF_DONE leaves TEXT and *LEN_OF_TEXT as they were.
    tiff_tag_bytes copies the bytes of any text as they are in the file. */
 tiff_status tiff_tag_text(const uint8_t *file, size_t len, size_t page, uint16_t tag, uint8_t *text, size_t size, size_t *len_of_text);
+
+/* An entry of a directory: its tag, the type and the count of its values, as tiff_tag_field returns
+   them, and where the values are. IN_PLACE is 1 if they are in the entry itself; then OFFSET is 0.
+   Else IN_PLACE is 0, and OFFSET is where they are in the file, or would be if the file had them. */
+struct tiff_tag_entry {
+    uint64_t count;
+    uint64_t offset;
+    uint16_t number;
+    uint16_t type;
+    uint32_t in_place;
+};
+
+/* Lists the tags of a page, or of any directory by TIFF_AT, into ENTRIES: in ascending order, as
+   many as ROOM allows. The elements of ENTRIES behind them stay. *COUNT is how many tags there are,
+   even if ROOM is less. Of several entries of one tag the last one counts, and entries of unknown
+   types are left out. Any status but TIFF_DONE leaves ENTRIES and *COUNT as they were. */
+tiff_status tiff_list_tags(const uint8_t *file, size_t len, size_t page, struct tiff_tag_entry *entries, size_t room, size_t *count);
 
 /* The byte order of a file, which tiff_byte_order puts into *ORDER. */
 enum {

@@ -6,6 +6,7 @@
 
 ghost use Rattle.std.specs.Prelude.{◌≡◌, ◌⊎◌};
 ghost use Rattle.tiff_statuses.specs.Calls as calls;
+ghost use Rattle.tiff_statuses.specs.Entries.{list_tags};
 ghost use Rattle.tiff_statuses.specs.Jobs.{JobsTell};
 ghost use Rattle.tiff_statuses.specs.List.{ListTells, list_of};
 ghost use Rattle.tiff_statuses.specs.Status.{StatusPuts, StatusTells};
@@ -16,6 +17,7 @@ ghost use Rattle.tiff_statuses.specs.Writer.{IsShown};
 use std::alloc::Global;
 use tiff_statuses::VERSION;
 use tiff_statuses::calls::{Chunks, Color, FieldSize, Layout, PageSamples, Sides};
+use tiff_statuses::entries::TagEntry;
 use tiff_statuses::jobs::JobsEnd;
 use tiff_statuses::list::ListedPage;
 use tiff_statuses::writer::NewImage;
@@ -269,6 +271,23 @@ pub extern "C" fn tiff_tag_text(
         (len.new, text.new) }
 {
     tiff_statuses::tag_text(alloc, file, page, number, text, len)
+}
+
+/// Puts the entries of the directory of a page into `entries`, in the order of their tags, as many
+/// as fit, and how many there are into `count`, even if not all fit. Returns 0, or the number of the
+/// first error: of the file or the page. An error leaves `entries` and `count` as they were.
+#[unsafe(no_mangle)]
+pub extern "C" fn tiff_list_tags(
+    alloc: Global,
+    file: &[u8],
+    page: usize,
+    entries: &mut [TagEntry],
+    count: &mut usize,
+) -> u32
+    ensures { StatusPuts (list_tags file.now page entries.old) result (count.old, entries.old)
+        (count.new, entries.new) }
+{
+    tiff_statuses::list_tags(alloc, file, page, entries, count)
 }
 
 /// Puts the byte order of a file into `order`: 0 for little-endian, 1 for big-endian. Returns 0, or

@@ -145,8 +145,8 @@ fn end_of_none<R: Source>(decoder: &mut Decoder<R>) -> TiffResult<Option<TiffErr
     ensures refused { IfErr result (λ e. IsCause (Unit {0}) (decoder.old.failures < decoder.new.failures) e ⊥) }
 {
     decoder.rewind();
-    let entered = file_answer(decoder.seek_to_image(0))?;
-    Ok(entered.err())
+    let sought = file_answer(decoder.seek_to_image(0))?;
+    Ok(sought.err())
 }
 
 // Lists the pages of a decoder's file into an empty list, and returns the error by which their

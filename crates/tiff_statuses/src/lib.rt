@@ -10,6 +10,7 @@
 
 ghost use Rattle.std.specs.Prelude.{◌≡◌, ◌⊎◌};
 ghost use Rattle.tiff_statuses.specs.Calls as calls;
+ghost use Rattle.tiff_statuses.specs.Entries.{list_tags};
 ghost use Rattle.tiff_statuses.specs.Jobs.{JobsTell};
 ghost use Rattle.tiff_statuses.specs.List.{ListTells, list_of};
 ghost use Rattle.tiff_statuses.specs.Status.{StatusPuts, StatusTells};
@@ -21,6 +22,7 @@ use std::alloc::Global;
 pub use tiff_lists::VERSION;
 
 pub mod calls;
+pub mod entries;
 mod frame;
 pub mod jobs;
 pub mod list;
@@ -30,6 +32,7 @@ pub mod values;
 pub mod writer;
 
 use crate::calls::{Chunks, Color, FieldSize, Layout, PageSamples, Sides};
+use crate::entries::TagEntry;
 use crate::jobs::{JobsEnd, run_version, tell};
 use crate::list::{ListedPage, list_into};
 use crate::status::{done, given, text_of};
@@ -261,6 +264,23 @@ pub fn tag_text(
         (len.new, text.new) }
 {
     given(values::tag_text(alloc, file, page, number, text), len)
+}
+
+/// Puts the entries of the directory of a page into `entries`, in the order of their tags, as many
+/// as fit, and how many there are into `count`, even if not all fit. Returns 0, or the number of the
+/// first error: of the file or the page. An error leaves `entries` and `count` as they were.
+#[tactic(auto, using(crate::proofs::StatusTells::puts_both))]
+pub fn list_tags(
+    alloc: Global,
+    file: &[u8],
+    page: usize,
+    entries: &mut [TagEntry],
+    count: &mut usize,
+) -> u32
+    ensures { StatusPuts (list_tags file.now page entries.old) result (count.old, entries.old)
+        (count.new, entries.new) }
+{
+    given(entries::list_tags(alloc, file, page, entries), count)
 }
 
 /// Puts the byte order of a file into `order`: 0 for little-endian, 1 for big-endian. Returns 0, or

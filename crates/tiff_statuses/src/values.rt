@@ -19,7 +19,7 @@ use tiff_decode::decoder::Decoder;
 
 // Puts as many items into a slice as fit; the elements behind them stay.
 #[tactic(auto, using(crate::proofs::Filled::put_front))]
-fn fill<T: Copy>(out: &mut [T], items: &[T])
+pub(crate) fn fill<T: Copy>(out: &mut [T], items: &[T])
     ensures { out.new ≡ filled items.now out.old }
 {
     let count = out.len().min(items.len());

@@ -14,7 +14,7 @@ use file::{print_file, print_list, print_text};
 use jobs::print_all_jobs;
 use page::{print_chunks, print_parts, print_pixels, print_samples, print_sides};
 use std::io;
-use tags::{BITS_PER_SAMPLE, print_tags, print_values};
+use tags::{BITS_PER_SAMPLE, print_entries, print_tags, print_values};
 use written::{AT, DIRECTORY, print_too_long, write};
 
 fn print_page(rt: &HostRuntime, file: &[u8], page: usize) -> io::Result<()> {
@@ -30,6 +30,9 @@ fn print_page(rt: &HostRuntime, file: &[u8], page: usize) -> io::Result<()> {
 fn print_pages(rt: &HostRuntime, file: &[u8]) -> io::Result<()> {
     print_page(rt, file, 0)?;
     print_page(rt, file, 1)?;
+    print_entries(rt, file, 0)?;
+    print_entries(rt, file, 1)?;
+    print_entries(rt, file, AT + DIRECTORY)?;
     print_sides(rt, file, AT + DIRECTORY)?;
     print_sides(rt, file, AT + 400)?;
     print_chunks(rt, file, 0, 1)?;

@@ -2,6 +2,7 @@
 
 use std::io;
 use tiff_statuses::calls::FieldSize;
+use tiff_statuses::entries::TagEntry;
 
 /// The tag of several values that the page has.
 pub const BITS_PER_SAMPLE: u16 = 258;
@@ -21,6 +22,26 @@ pub fn print_tags(rt: &HostRuntime, file: &[u8], page: usize) -> io::Result<()> 
     let (buf, written) = (&mut bytes, &mut count);
     let status = tiff_statuses::tag_bytes(rt.alloc(), file, page, BITS_PER_SAMPLE, 2, buf, written);
     println!(rt; "tag_bytes {page}: {status}, {count}, {bytes:?}")
+}
+
+/// Prints the first entries of a directory.
+pub fn print_entries(rt: &HostRuntime, file: &[u8], page: usize) -> io::Result<()> {
+    let none = TagEntry {
+        count: 9,
+        offset: 9,
+        number: 9,
+        kind: 9,
+        in_place: 9,
+    };
+    let mut entries = [none; 12];
+    let mut count = 9;
+    let (out, told) = (&mut entries, &mut count);
+    let status = tiff_statuses::list_tags(rt.alloc(), file, page, out, told);
+    println!(rt; "list_tags {page}: {status}, {count}")?;
+    for entry in entries {
+        println!(rt; "{entry:?}")?;
+    }
+    Ok(())
 }
 
 /// Prints the values of a tag as whole numbers.
