@@ -8,3 +8,4 @@ pub mod Values
 pub mod Frame
 pub mod Unkept
 pub mod Zeros
+pub mod Pages

@@ -106,8 +106,9 @@ fn run_kind<K: TiffKind>(alloc: Global, jobs: &[Job]) -> TiffResult<Ran>
     })
 }
 
-// Runs jobs over an empty sink, for a file of a kind that is given as a value.
-fn run(alloc: Global, kind: FileKind, jobs: &[Job]) -> TiffResult<Ran>
+/// Runs jobs over an empty sink, for a file of a kind that is given as a value. Its only error is
+/// `OutOfMemory`.
+pub fn run(alloc: Global, kind: FileKind, jobs: &[Job]) -> TiffResult<Ran>
     ensures { MatchResult result (λ ran. RanJobs kind jobs.now ran.file.items ran.refused)
         (λ e. e ≡ TiffError.OutOfMemory) }
 {
@@ -138,8 +139,9 @@ pub fn run_listed(alloc: Global, kind: FileKind, text: &[u8]) -> TiffResult<Answ
     }
 }
 
-// Puts the file of jobs into a buffer if none of them had an error.
-fn tell_ran(ran: Ran, buffer: &mut [u8], len: &mut usize, end: &mut JobsEnd) -> u32
+/// Puts the file of jobs into a buffer if none of them had an error, and its length into `len`; else
+/// the number of the first job that had one into `end`, and returns the status of that error.
+pub fn tell_ran(ran: Ran, buffer: &mut [u8], len: &mut usize, end: &mut JobsEnd) -> u32
     ensures { TellsRan ran.file.items ran.refused result buffer.old buffer.new len.old len.new
         end.new }
 {

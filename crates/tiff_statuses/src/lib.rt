@@ -24,6 +24,7 @@ pub mod calls;
 mod frame;
 pub mod jobs;
 pub mod list;
+pub mod pages;
 mod samples;
 mod status;
 pub mod values;
