@@ -398,8 +398,8 @@ fn jobs_of(alloc: Global, pages: &[NewPage<'_>]) -> Result<Vec<Job>, (usize, Ref
     ensures { Makes (λ e. IsOutAt e.1) (λ v. map job_view v.items) result (jobs_of_pages pages.now) }
 {
     let mut jobs = Vec::new(alloc);
-    for i in 0..pages.len() {
-        if let Err(refusal) = add_page(alloc, &pages[i], &mut jobs) {
+    for (i, page) in pages.iter().enumerate() {
+        if let Err(refusal) = add_page(alloc, page, &mut jobs) {
             return Err((i + 1, refusal));
         }
     }

@@ -1,6 +1,6 @@
 //! How samples are made of little-endian bytes.
 
-ghost use Rattle.std.specs.Prelude.{◌≡◌, ◌^◌, ◌%◌, ◌<◌, length, map, IfOk};
+ghost use Rattle.std.specs.Prelude.{◌≡◌, ◌^◌, ◌%◌, ◌<◌, ◌≤◌, length, map, IfOk};
 ghost use Rattle.std.specs.Int.{w8, w16, w32, w64};
 ghost use Rattle.tiff_base.specs.declared.tags.ByteOrder.TheVariants.{LittleEndian};
 ghost use Rattle.tiff_base.specs.Number.{number};
@@ -103,6 +103,7 @@ pub fn numbers_of<U: Number<N>, const N: usize>(
     bytes: &[u8],
 ) -> Result<Vec<u64>, AllocError>
     requires some { 0 < N }
+    requires few { N ≤ 8 }
     requires whole { length bytes.now % N ≡ 0 }
     ensures { IfOk result (λ v. v.items ≡ numbers_in N bytes.now) }
 {
