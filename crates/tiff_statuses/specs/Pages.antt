@@ -217,7 +217,7 @@ resolution_steps page (Some unit) =
 -- the calls that say how the chunks lie
 abbrev pub layout_steps : NewPage → PlanarConfiguration → List PageStep
 layout_steps page planar =
-    tile_steps page.tile_width page.tile_height
+    tile_steps page.tile_width page.tile_length
     ++ (row_steps page.rows_per_strip ++ planar_steps planar)
 
 -- the calls before the tags of the caller's own

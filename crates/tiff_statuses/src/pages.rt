@@ -56,7 +56,7 @@ pub struct NewPage<'a> {
     pub height: u32,
     pub rows_per_strip: u32,
     pub tile_width: u32,
-    pub tile_height: u32,
+    pub tile_length: u32,
     pub method: u16,
     pub predictor: u16,
     pub planar: u16,
@@ -247,8 +247,8 @@ fn add_layout(
     ensures { MatchResult result (λ _. map step_view steps.new.items ≡ map step_view steps.old.items
         ++ spec.layout_steps page.now planar) IsOut }
 {
-    if page.tile_width != 0 || page.tile_height != 0 {
-        steps.push(ImageStep::Tiles(page.tile_width, page.tile_height))?;
+    if page.tile_width != 0 || page.tile_length != 0 {
+        steps.push(ImageStep::Tiles(page.tile_width, page.tile_length))?;
     }
     if page.rows_per_strip != 0 {
         steps.push(ImageStep::RowsPerStrip(page.rows_per_strip))?;
