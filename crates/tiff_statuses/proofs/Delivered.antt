@@ -185,6 +185,6 @@ told_pages version pages answer status old new len_old len_new end a t = (answer
 
 pub kept_pages : (answer : Result PagesAnswer TiffError) (status : ℕ) (old new : List ℕ) (len_old len_new : ℕ) (end : PagesEnd)
     → TellsPages answer status old new len_old len_new end → (status ≡ 0) ⊎ (new ≡ old)
-kept_pages (Ok (pages_ran ran)) status old new len_old len_new end (at, (t, e)) = kept_ran ran.file.items ran.refused status old new len_old len_new at t
+kept_pages (Ok (pages_ran ran field)) status old new len_old len_new end (at, (t, e)) = kept_ran ran.file.items ran.refused status old new len_old len_new at t
 kept_pages (Ok (pages_refused page refusal)) status old new len_old len_new end t = inr t.1.0.0
 kept_pages (Err e) status old new len_old len_new end t = inr t.1.0.0

@@ -1,5 +1,5 @@
 -- Pages that C passes: the jobs of the encoder that they stand for, and what C gets for them.
-use Rattle.std.specs.Prelude.{◌≡◌, ◌⊎◌, ℕ, ◌+◌, ◌*◌, ◌==◌, ◌&&◌, ◌++◌, List, [], ◌∷◌, length, map, slice_get, if◌then◌else◌, Option, None, Some, Result, Ok, Err}
+use Rattle.std.specs.Prelude.{◌≡◌, ◌⊎◌, ℕ, ◌+◌, ◌-◌, ◌*◌, ◌==◌, ◌&&◌, ◌++◌, List, [], ◌∷◌, length, map, slice_get, if◌then◌else◌, Option, None, Some, Result, Ok, Err}
 use Rattle.std.specs.Int.{div_ceil}
 use Rattle.tiff_base.specs.declared.error.TiffError.{TiffError}
 use Rattle.tiff_base.specs.declared.error.TiffError.TheVariants.{FormatError, UnsupportedError, IoError, UsageError, OutOfMemory}
@@ -147,6 +147,7 @@ field_number field.Resolution = 5
 field_number field.ExtraSamples = 6
 field_number field.Tags = 7
 field_number field.Samples = 8
+field_number field.Layout = 9
 
 -- an error is that of a field
 abbrev pub in_field : {A : Type 0} → PageField → Result A TiffError → Result A Refusal
@@ -269,14 +270,45 @@ jobs_from n (page ∷ pages) = do
 abbrev pub jobs_of_pages : List NewPage → Result (List PageJob) (ℕ × Refusal)
 jobs_of_pages pages = jobs_from 1 pages
 
+-- ---- what was refused
+
+-- the field that a call of an image is made for
+abbrev pub step_field : PageStep → PageField
+step_field (extra_samples extra) = field.ExtraSamples
+step_field (tiles width height) = field.Layout
+step_field (rows_per_strip rows) = field.Layout
+step_field in_planes = field.Planar
+step_field (resolution_unit unit) = field.Resolution
+step_field (x_resolution x) = field.Resolution
+step_field (y_resolution y) = field.Resolution
+step_field (write_tag_buf tag buffer) = field.Tags
+step_field other_step = field.Whole
+
+-- the field of a step, if there is one
+abbrev pub field_of : Option ImageStep → PageField
+field_of None = field.Whole
+field_of (Some step) = step_field (step_view step)
+
+-- the field of a step of a job
+abbrev pub field_in : Option Job → ℕ → PageField
+field_in (Some (job.Image image)) step = field_of (slice_get image.steps.items step)
+field_in _ step = field.Whole
+
+-- the field of the step that was refused; the page as a whole, if its beginning or its samples were
+abbrev pub refused_field : List Job → Option (ℕ × ℕ) → Option ℕ → PageField
+refused_field jobs (Some refused) (Some step) = field_in (slice_get jobs (refused.0 - 1)) step
+refused_field jobs _ _ = field.Whole
+
 -- ---- what C gets
 
--- The jobs of the pages were run; or the first page and field that are refused are known, or at
+-- The jobs of the pages were run, and `field` is that of the step that was refused; or the first page and field that are refused are known, or at
 -- which memory was out, and no job was run.
 abbrev pub AnswersPages : FileKind → List NewPage → PagesAnswer → Type 0
-AnswersPages kind pages (Ran ran) =
+AnswersPages kind pages (Ran ran field) =
     (jobs : List Job)
-    × ((jobs_of_pages pages ≡ Ok (map job_view jobs)) × RanJobs kind jobs ran.file.items ran.refused)
+    × ((jobs_of_pages pages ≡ Ok (map job_view jobs))
+    × (RanJobs kind jobs ran.file.items ran.refused ran.step
+    × (field ≡ refused_field jobs ran.refused ran.step)))
 AnswersPages kind pages (Refused page refusal) =
     IsOutAt refusal ⊎ (jobs_of_pages pages ≡ Err (page, refusal))
 
@@ -290,10 +322,10 @@ page_of_job job = div_ceil job 3
 -- The file of pages is delivered as that of jobs; a job that had an error is told as its page. A
 -- page that is refused is told with its field and the number of the error.
 abbrev pub TellsPages : Result PagesAnswer TiffError → ℕ → List ℕ → List ℕ → ℕ → ℕ → PagesEnd → Type 0
-TellsPages (Ok (Ran ran)) status old new len_old len_new end =
+TellsPages (Ok (Ran ran field)) status old new len_old len_new end =
     (at : JobsEnd)
     × (TellsRan ran.file.items ran.refused status old new len_old len_new at
-    × (end ≡ record { page = page_of_job at.job; field = 0 }))
+    × (end ≡ record { page = page_of_job at.job; field = field_number field }))
 TellsPages (Ok (Refused page refusal)) status old new len_old len_new end =
     (status ≡ fault_number refusal.fault)
     × (Stays old new len_old len_new × (end ≡ record { page = page; field = field_number refusal.field }))

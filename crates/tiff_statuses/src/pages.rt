@@ -1,6 +1,6 @@
 //! A file of several pages, whose parameters, tags and samples C passes.
 
-ghost use Rattle.std.specs.Prelude.{◌≡◌, ◌++◌, map, MatchResult};
+ghost use Rattle.std.specs.Prelude.{◌≡◌, ◌++◌, map, slice_get, MatchResult};
 ghost use Rattle.tiff_base.specs.Types.{type_size};
 ghost use Rattle.tiff_value.specs.ColorTypes.{inner_size, inner_type};
 ghost use Rattle.tiff_statuses.specs.Pages as spec;
@@ -82,6 +82,8 @@ pub enum PageField {
     ExtraSamples = 6,
     Tags = 7,
     Samples = 8,
+    /// The strips or tiles.
+    Layout = 9,
 }
 
 /// Where a list of pages was refused: the number of the page, from 1, and the number of its field.
@@ -108,8 +110,8 @@ pub enum PagesAnswer {
     /// The page of this number, from 1, is refused.
     Refused(usize, Refusal),
 
-    /// The jobs of the pages were run.
-    Ran(Ran),
+    /// The jobs of the pages were run. The field is that of a step that was refused.
+    Ran(Ran, PageField),
 }
 
 /// What a page names by numbers. Without a unit it has no resolutions.
@@ -406,6 +408,47 @@ fn jobs_of(alloc: Global, pages: &[NewPage<'_>]) -> Result<Vec<Job>, (usize, Ref
     Ok(jobs)
 }
 
+// ---- what was refused
+
+// The field that a call of an image is made for.
+fn step_field(step: &ImageStep) -> PageField
+    ensures { result ≡ spec.step_field (step_view step.now) }
+{
+    match step {
+        ImageStep::ExtraSamples(_) => PageField::ExtraSamples,
+        ImageStep::Tiles(_, _) | ImageStep::RowsPerStrip(_) => PageField::Layout,
+        ImageStep::Planar => PageField::Planar,
+        ImageStep::ResolutionUnit(_) | ImageStep::XResolution(_) | ImageStep::YResolution(_) => {
+            PageField::Resolution
+        }
+        ImageStep::Directory(DirectoryStep::WriteTagBuf(_, _)) => PageField::Tags,
+        _ => PageField::Whole,
+    }
+}
+
+// The field of a step of a job, both counted from 0.
+fn field_in(jobs: &[Job], job: usize, step: usize) -> PageField
+    ensures { result ≡ spec.field_in (slice_get jobs.now job) step }
+{
+    let Some(Job::Image(image)) = jobs.get(job) else {
+        return PageField::Whole;
+    };
+    match image.steps.get(step) {
+        Some(step) => step_field(step),
+        None => PageField::Whole,
+    }
+}
+
+// The field of the step that was refused.
+fn refused_field(jobs: &[Job], ran: &Ran) -> PageField
+    ensures { result ≡ spec.refused_field jobs.now ran.now.refused ran.now.step }
+{
+    match (ran.refused, ran.step) {
+        (Some((job, _status)), Some(step)) => field_in(jobs, job.saturating_sub(1), step),
+        _ => PageField::Whole,
+    }
+}
+
 // ---- the file
 
 // Runs the jobs of pages, unless a page is refused. Its only error is `OutOfMemory`.
@@ -413,7 +456,11 @@ fn run_kind(alloc: Global, kind: FileKind, pages: &[NewPage<'_>]) -> TiffResult<
     ensures { MatchResult result (AnswersPages kind pages.now) (λ e. e ≡ TiffError.OutOfMemory) }
 {
     match jobs_of(alloc, pages) {
-        Ok(jobs) => Ok(PagesAnswer::Ran(run(alloc, kind, &jobs)?)),
+        Ok(jobs) => {
+            let ran = run(alloc, kind, &jobs)?;
+            let field = refused_field(&jobs, &ran);
+            Ok(PagesAnswer::Ran(ran, field))
+        }
         Err((page, refusal)) => Ok(PagesAnswer::Refused(page, refusal)),
     }
 }
@@ -443,10 +490,13 @@ pub fn tell_pages(
 {
     *end = NO_PAGE;
     match answer {
-        Ok(PagesAnswer::Ran(ran)) => {
+        Ok(PagesAnswer::Ran(ran, field)) => {
             let mut at = JobsEnd { line: 0, job: 0 };
             let status = tell_ran(ran, buffer, len, &mut at);
-            end.page = at.job.div_ceil(3);
+            *end = PagesEnd {
+                page: at.job.div_ceil(3),
+                field: field as u32,
+            };
             status
         }
         Ok(PagesAnswer::Refused(page, refusal)) => {
