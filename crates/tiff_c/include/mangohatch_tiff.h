@@ -568,6 +568,7 @@ enum {
     TIFF_FIELD_EXTRA_SAMPLES = 6,
     TIFF_FIELD_TAGS = 7,
     TIFF_FIELD_SAMPLES = 8,
+    TIFF_FIELD_LAYOUT = 9, /* the strips or tiles */
 };
 struct tiff_pages_end {
     size_t page;
@@ -603,10 +604,12 @@ struct tiff_pages_end {
    none, TIFF_INVALID_INPUT; of TAGS, a type that is none, TIFF_UNSUPPORTED_DATA_TYPE, and values_len
    that is not as many bytes as COUNT values have, TIFF_MISMATCHED_ENTRY_LENGTH; samples_len that is
    no whole number of samples, TIFF_MISMATCHED_ENTRY_LENGTH. Then, with the number of the first such
-   page in END->page and 0 in END->field: a side of 0, TIFF_INVALID_DIMENSIONS; the predictors that
-   tiff_write_image refuses; sides of tiles that are 0 or no multiples of 16, and ROWS_PER_STRIP
-   beside tiles, TIFF_INVALID_INPUT; too few samples, TIFF_INVALID_DATA; a file that its kind can't
-   hold, TIFF_INT_SIZE_ERROR. At last a BUFFER that is too short, with 0 in both.
+   page in END->page, the first error of that page. With 0 in END->field: a side of 0,
+   TIFF_INVALID_DIMENSIONS; the predictors that tiff_write_image refuses; too few samples,
+   TIFF_INVALID_DATA; a file that its kind can't hold, TIFF_INT_SIZE_ERROR. With TIFF_FIELD_LAYOUT:
+   sides of tiles that are 0 or no multiples of 16, and ROWS_PER_STRIP beside tiles,
+   TIFF_INVALID_INPUT. With the field of what is set: TIFF_INT_SIZE_ERROR. At last a BUFFER that is
+   too short, with 0 in both.
 
    The call allocates the file, eight bytes for each sample of all pages, and the bytes of TAGS. */
 tiff_status tiff_write_pages(uint16_t version, const struct tiff_new_page *pages, size_t count, uint8_t *buffer, size_t size, size_t *len,

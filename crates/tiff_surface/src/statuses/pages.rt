@@ -1,6 +1,6 @@
 //! The call that writes pages.
 
-use super::page::{print_parts, print_samples, print_sides};
+use super::page::{print_parts, print_pixels, print_samples, print_sides};
 use super::tags::print_values;
 use std::io;
 use tiff_statuses::pages::{Fraction, NewPage, NewTag, PagesEnd};
@@ -149,15 +149,19 @@ fn print_write(
     Ok(len)
 }
 
-// Prints the pages of a file that was written.
+// Prints the pages of a file that was written, the tags of the first one, and the samples of the
+// others.
 fn print_written(rt: &HostRuntime, file: &[u8]) -> io::Result<()> {
-    for page in 0..4 {
+    for page in 0..3 {
         print_sides(rt, file, page)?;
         print_samples(rt, file, page)?;
         print_parts(rt, file, page)?;
-        print_values(rt, file, page, DESCRIPTION)?;
     }
-    print_values(rt, file, 0, SCALE)
+    print_values(rt, file, 0, DESCRIPTION)?;
+    print_values(rt, file, 0, SCALE)?;
+    print_values(rt, file, 1, DESCRIPTION)?;
+    print_pixels(rt, file, 1)?;
+    print_pixels(rt, file, 2)
 }
 
 // Prints the answer to a page behind one that is well.
