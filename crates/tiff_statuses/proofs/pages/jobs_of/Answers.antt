@@ -1,4 +1,4 @@
-use Rattle.std.proofs.Common.{◌≡◌, map}
+use Rattle.std.proofs.Common.{map}
 use Rattle.tiff_statuses.specs.Pages.{job_view, jobs_of_pages}
 use Rattle.tiff_statuses.proofs.PagesMade.{page_made, page_refused}
 use Rattle.tiff_statuses.proofs.pages.jobs_of.Goals as goal

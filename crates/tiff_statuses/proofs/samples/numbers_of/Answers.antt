@@ -1,4 +1,4 @@
-use Rattle.std.proofs.Common.{ℕ, ◌≡◌, ◌<◌, subst, arith}
+use Rattle.std.proofs.Common.{ℕ, ◌<◌, subst, arith}
 use Rattle.tiff_statuses.proofs.PieceNumbers.{next_whole}
 use Rattle.tiff_statuses.proofs.samples.numbers_of.Goals as goal
 
