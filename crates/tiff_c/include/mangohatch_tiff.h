@@ -34,7 +34,7 @@ DESCRIPTION
     A call that returns TIFF_DONE has written its result. A call that returns any other status
     leaves a struct or a number as it was; what it leaves in a buffer of bytes is not specified.
     tiff_list_pages, tiff_list_tags, tiff_tag_numbers, tiff_tag_floats, tiff_tag_text,
-    tiff_write_image and tiff_write_jobs specify more.
+    tiff_write_image, tiff_write_jobs and tiff_write_pages specify more.
 
     A file may claim any size: call tiff_page_layout and judge its result before you allocate for
     an image. The calls that read pixels have no limit for the size of a chunk in the file: they
@@ -47,9 +47,9 @@ DESCRIPTION
     the tag, as many as FILE was found to have.
 
 POINTERS
-    No pointer may be null, not even with a length of 0: pass the address of any byte then. FILE
-    with a length of 0 is no TIFF file (TIFF_SIGNATURE_NOT_FOUND). The memory that a call reads and
-    the memory that it writes may not overlap.
+    No pointer may be null, not even with a length of 0, nor in a struct: pass the address of any
+    object of its type then. FILE with a length of 0 is no TIFF file (TIFF_SIGNATURE_NOT_FOUND). The
+    memory that a call reads and the memory that it writes may not overlap.
 
 VERSION
     MANGOHATCH_TIFF_VERSION is the version of these calls; it is raised when a call changes or is
@@ -515,6 +515,123 @@ struct tiff_jobs_end {
    sample of the list, and the list. */
 tiff_status tiff_write_jobs(uint16_t version, const uint8_t *jobs, size_t jobs_len, uint8_t *buffer, size_t size, size_t *len,
                             struct tiff_jobs_end *end);
+
+/* A fraction: numerator and denominator. */
+struct tiff_fraction {
+    uint32_t n;
+    uint32_t d;
+};
+
+/* A tag of a page: its number; the number of the type of its values (1: BYTE, 2: ASCII, 3: SHORT,
+   4: LONG, 5: RATIONAL, 12: DOUBLE ..; TIFF 6.0 section 2); how many values there are; and their
+   bytes, of each number the lowest byte first. A text has a zero at its end, which counts. */
+struct tiff_new_tag {
+    uint16_t number;
+    uint16_t type;
+    size_t count;
+    const uint8_t *values;
+    size_t values_len;
+};
+
+/* A page to be written. COLOR, WIDTH, HEIGHT, METHOD and PREDICTOR are as in struct tiff_image.
+   The page is stored in tiles of TILE_WIDTH and TILE_LENGTH; or, where both are 0, in strips of
+   ROWS_PER_STRIP rows; or, where that is 0 too, in strips as tiff_write_image writes them. PLANAR is
+   TIFF_CHUNKY or TIFF_PLANAR: whether a file stores the samples of a pixel side by side, or those
+   of each place in a pixel apart from the others. RESOLUTION_UNIT is the unit of both resolutions;
+   without one, the page has none, and the call ignores the resolutions. EXTRA_SAMPLES are the
+   values of the tag ExtraSamples, one for each sample that a pixel has besides those of its color: 0
+   for any, 1 for alpha that is multiplied in, 2 for other alpha. TAGS are the caller's own. One of
+   them replaces what the call set before it under the same number; BitsPerSample, SampleFormat and
+   the places of strips or tiles are set behind them. SAMPLES are the samples row by row from the
+   top, those of a pixel side by side, also of a planar page, each with its lowest byte first. */
+enum {
+    TIFF_CHUNKY = 1,
+    TIFF_PLANAR = 2,
+    /* the units of resolutions */
+    TIFF_NO_RESOLUTION = 0, /* no resolutions */
+    TIFF_NO_UNIT = 1,
+    TIFF_INCH = 2,
+    TIFF_CENTIMETER = 3,
+};
+struct tiff_new_page {
+    uint32_t color;
+    uint32_t width;
+    uint32_t height;
+    uint32_t rows_per_strip;
+    uint32_t tile_width;
+    uint32_t tile_length;
+    uint16_t method;
+    uint16_t predictor;
+    uint16_t planar;
+    uint16_t resolution_unit;
+    struct tiff_fraction x_resolution;
+    struct tiff_fraction y_resolution;
+    const uint16_t *extra_samples;
+    size_t extra_samples_len;
+    const struct tiff_new_tag *tags;
+    size_t tags_len;
+    const uint8_t *samples;
+    size_t samples_len;
+};
+
+/* Where a list of pages was refused: the number of the page, counted from 1, and its field. 0 is
+   none. */
+enum {
+    TIFF_FIELD_NONE = 0, /* the page as a whole */
+    TIFF_FIELD_COLOR = 1,
+    TIFF_FIELD_METHOD = 2,
+    TIFF_FIELD_PREDICTOR = 3,
+    TIFF_FIELD_PLANAR = 4,
+    TIFF_FIELD_RESOLUTION = 5,
+    TIFF_FIELD_EXTRA_SAMPLES = 6,
+    TIFF_FIELD_TAGS = 7,
+    TIFF_FIELD_SAMPLES = 8,
+    TIFF_FIELD_LAYOUT = 9, /* the strips or tiles */
+};
+struct tiff_pages_end {
+    size_t page;
+    uint32_t field;
+};
+
+/* Writes a file of COUNT pages into BUFFER, of SIZE bytes; *LEN is how many bytes the file has. The
+   pages are in the file's chain of directories, in their order. VERSION is TIFF_CLASSIC or TIFF_BIG.
+   The bytes of BUFFER behind the file stay. It is the file that tiff_write_jobs writes for these
+   jobs of each page:
+
+       predictor PREDICTOR
+       compression METHOD
+       image COLOR WIDTH HEIGHT
+       extra_samples EXTRA_SAMPLES      unless there are none
+       tiles TILE_WIDTH TILE_LENGTH     unless both are 0
+       rows_per_strip ROWS_PER_STRIP    unless it is 0
+       planar                           for TIFF_PLANAR
+       resolution RESOLUTION_UNIT X_RESOLUTION Y_RESOLUTION
+                                        unless the unit is TIFF_NO_RESOLUTION
+       write_tag_buf NUMBER BUFFER      for each of TAGS
+       write_data SAMPLES
+
+   A BUFFER that is too short: TIFF_INSUFFICIENT_OUTPUT_BUFFER_SIZE, and *LEN is set all the same. So
+   a first call with a SIZE of 0 returns the length. Any status but TIFF_DONE leaves BUFFER as it
+   was. Any status but TIFF_DONE and that of a BUFFER that is too short leaves *LEN as it was.
+
+   Errors: a VERSION that is none, TIFF_SIGNATURE_INVALID, with 0 in END->page. Then, with the number
+   of the first such page in END->page and its first such field in END->field, and before a page is
+   written: a color type that is none, TIFF_INVALID_INPUT; a method that this library doesn't write,
+   TIFF_UNSUPPORTED_COMPRESSION_METHOD; a predictor that is none, TIFF_UNKNOWN_PREDICTOR; a PLANAR
+   that is none, TIFF_UNKNOWN_PLANAR_CONFIGURATION; a unit that is none, and an extra sample that is
+   none, TIFF_INVALID_INPUT; of TAGS, a type that is none, TIFF_UNSUPPORTED_DATA_TYPE, and values_len
+   that is not as many bytes as COUNT values have, TIFF_MISMATCHED_ENTRY_LENGTH; samples_len that is
+   no whole number of samples, TIFF_MISMATCHED_ENTRY_LENGTH. Then, with the number of the first such
+   page in END->page, the first error of that page. With 0 in END->field: a side of 0,
+   TIFF_INVALID_DIMENSIONS; the predictors that tiff_write_image refuses; too few samples,
+   TIFF_INVALID_DATA; a file that its kind can't hold, TIFF_INT_SIZE_ERROR. With TIFF_FIELD_LAYOUT:
+   sides of tiles that are 0 or no multiples of 16, and ROWS_PER_STRIP beside tiles,
+   TIFF_INVALID_INPUT. With the field of what is set: TIFF_INT_SIZE_ERROR. At last a BUFFER that is
+   too short, with 0 in both.
+
+   The call allocates the file, eight bytes for each sample of all pages, and the bytes of TAGS. */
+tiff_status tiff_write_pages(uint16_t version, const struct tiff_new_page *pages, size_t count, uint8_t *buffer, size_t size, size_t *len,
+                             struct tiff_pages_end *end);
 
 /* Returns the version of the calls of this library; MANGOHATCH_TIFF_VERSION is the version of this
    header. */

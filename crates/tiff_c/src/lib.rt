@@ -9,6 +9,7 @@ ghost use Rattle.tiff_statuses.specs.Calls as calls;
 ghost use Rattle.tiff_statuses.specs.Entries.{list_tags};
 ghost use Rattle.tiff_statuses.specs.Jobs.{JobsTell};
 ghost use Rattle.tiff_statuses.specs.List.{ListTells, list_of};
+ghost use Rattle.tiff_statuses.specs.Pages.{PagesTell};
 ghost use Rattle.tiff_statuses.specs.Status.{StatusPuts, StatusTells};
 ghost use Rattle.tiff_statuses.specs.Values as values;
 ghost use Rattle.tiff_statuses.specs.Writer as writer;
@@ -20,6 +21,7 @@ use tiff_statuses::calls::{Chunks, Color, FieldSize, Layout, PageSamples, Sides}
 use tiff_statuses::entries::TagEntry;
 use tiff_statuses::jobs::JobsEnd;
 use tiff_statuses::list::ListedPage;
+use tiff_statuses::pages::{NewPage, PagesEnd};
 use tiff_statuses::writer::NewImage;
 
 /// Puts the width and the height of a page, in pixels, into `sides`. Returns 0, or the number of
@@ -368,6 +370,34 @@ pub extern "C" fn tiff_write_jobs(
     ensures stays { (result ≡ 0) ⊎ (buffer.new ≡ buffer.old) }
 {
     tiff_statuses::write_jobs(alloc, version, jobs, buffer, len, end)
+}
+
+/// Writes the file of these pages into `buffer`, puts how many bytes the file has into `len`, and
+/// puts where the list is refused into `end`. Returns 0, or the number of the first error: of the
+/// version, `TiffSignatureInvalid`; of the first page with a field that is refused, before any page
+/// is written; of the first page that the encoder refuses; of a buffer that is too short,
+/// `InsufficientOutputBufferSize`. The fields are refused in this order: the color type,
+/// `IoError(InvalidInput)`; the method, `UnsupportedCompressionMethod`; the predictor,
+/// `UnknownPredictor`; the planar configuration, `UnknownPlanarConfiguration`; the unit of the
+/// resolutions, `IoError(InvalidInput)`; an extra sample, `IoError(InvalidInput)`; a tag,
+/// `UnsupportedDataType` for its type and `MismatchedEntryLength` for bytes that are not as many
+/// values as it says; samples with a part of one left over, `MismatchedEntryLength`. An error leaves
+/// `buffer` as it was, and `len` too, unless only the buffer is too short. The call allocates the
+/// file, eight bytes for each sample of all pages, and the bytes of the tags.
+#[unsafe(no_mangle)]
+pub extern "C" fn tiff_write_pages(
+    alloc: Global,
+    version: u16,
+    pages: &[NewPage<'_>],
+    buffer: &mut [u8],
+    len: &mut usize,
+    end: &mut PagesEnd,
+) -> u32
+    ensures answer { PagesTell version pages.now result buffer.old buffer.new len.old len.new
+        end.new }
+    ensures stays { (result ≡ 0) ⊎ (buffer.new ≡ buffer.old) }
+{
+    tiff_statuses::write_pages(alloc, version, pages, buffer, len, end)
 }
 
 /// Returns the version of these calls, which is `MANGOHATCH_TIFF_VERSION` of the header for C. It

@@ -18,3 +18,4 @@ mod FrameAlike
 mod BytesBack
 mod FrameZeros
 mod FrameWritten
+mod PagesMade

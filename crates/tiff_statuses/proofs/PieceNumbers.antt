@@ -1,7 +1,7 @@
 -- Numbers that are made of bytes one by one.
 use Rattle.std.proofs.Common.{◌≡◌, ℕ, zero, suc, ◌+◌, ◌*◌, ◌/◌, ◌%◌, ◌<◌, ◌≤◌, List, [], ◌∷◌, ◌++◌, map, length, take, drop, get_or, ap, sym, ◌∙◌, arith}
 use Rattle.std.proofs.lemmas.Nat.{row_fits, div-add-mod'}
-use Rattle.std.proofs.lemmas.List.{drop-drop, map-append}
+use Rattle.std.proofs.lemmas.List.{drop-drop, map-append, map-id}
 use Rattle.std.proofs.lemmas.List.FromFn.{map-range_with_len_more}
 use Rattle.std.specs.Prelude.{slice_index}
 use Rattle.std.specs.Int.{div_ceil}
@@ -39,3 +39,13 @@ unfolding numbers_in
 all_whole bits size bytes xs none done =
     let e : length bytes / size ≡ div_ceil (length bytes) size = omega (arith, none) in
     done ∙ ap (λ (k : ℕ). tabulate k (number_in size bytes)) e
+
+-- The same of numbers themselves.
+pub next_whole : (size : ℕ) (bytes : List ℕ) (n : ℕ) (xs ys : List ℕ) (x : ℕ) (pieces : List (List ℕ)) (piece d : List ℕ)
+    → pieces ≡ first_chunks size (length bytes / size) bytes → n < length bytes / size → xs ≡ tabulate n (number_in size bytes)
+    → piece ≡ get_or pieces n d → x ≡ number LittleEndian (width_of size) piece → ys ≡ xs ++ x ∷ [] → ys ≡ tabulate (n + 1) (number_in size bytes)
+next_whole size bytes n xs ys x pieces piece d are h done here is more =
+    sym (map-id ys) ∙ next_number (λ (k : ℕ). k) size bytes n xs ys x pieces piece d are h (map-id xs ∙ done) here is more
+
+pub numbers_whole : (size : ℕ) (bytes xs : List ℕ) → length bytes % size ≡ 0 → xs ≡ tabulate (length bytes / size) (number_in size bytes) → xs ≡ numbers_in size bytes
+numbers_whole size bytes xs none done = sym (map-id xs) ∙ all_whole (λ (k : ℕ). k) size bytes xs none (map-id xs ∙ done)

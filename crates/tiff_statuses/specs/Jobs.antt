@@ -1,5 +1,5 @@
 -- What C gets for a list of jobs: the file that the jobs leave, or where the list was refused.
-use Rattle.std.specs.Prelude.{◌≡◌, ℕ, ◌+◌, ◌==◌, ◌++◌, List, [], ◌∷◌, map, if◌then◌else◌, Option, None, Some, Result, Ok, Err}
+use Rattle.std.specs.Prelude.{◌≡◌, ℕ, ◌+◌, ◌-◌, ◌==◌, ◌++◌, Bool, not, List, [], ◌∷◌, map, position, slice_get, if◌then◌else◌, Option, None, Some, Result, Ok, Err}
 use Rattle.tiff_base.specs.declared.error.TiffError.{TiffError}
 use Rattle.tiff_base.specs.declared.error.TiffError.TheVariants.{FormatError, IoError, OutOfMemory}
 use Rattle.tiff_base.specs.declared.error.TiffFormatError.TheVariants.{TiffSignatureInvalid}
@@ -7,6 +7,7 @@ use Rattle.tiff_base.specs.declared.io.IoKind.TheVariants.{InvalidInput}
 use Rattle.tiff_base.specs.declared.tags.FileKind.{FileKind}
 use Rattle.tiff_encode.specs.declared.encoder.script.Job.{Job}
 use Rattle.tiff_encode.specs.declared.encoder.script.JobReply.{JobReply}
+use Rattle.tiff_encode.specs.declared.encoder.script.StepReply.{StepReply}
 use Rattle.tiff_encode.specs.Jobs.{LeavesJobs}
 use Rattle.tiff_statuses.specs.declared.jobs.Answer.{Answer}
 use Rattle.tiff_statuses.specs.declared.jobs.Answer.TheVariants.{NoJob, Ran}
@@ -31,23 +32,39 @@ first_refused n [] = None
 first_refused n (reply ∷ replies) = if job_status reply == 0 then first_refused (n + 1) replies
     else Some (n, job_status reply)
 
+-- whether a step was refused
+abbrev pub is_refused : Result StepReply TiffError → Bool
+is_refused reply = not (status reply == 0)
+
+-- the step of a job that had the job's first error, counted from 0; none if that is the error of
+-- its end
+abbrev pub step_in : Option JobReply → Option ℕ
+step_in None = None
+step_in (Some reply) = position is_refused reply.steps.items
+
+-- the step that had the error of the first job that had one
+abbrev pub refused_step : List JobReply → Option (ℕ × ℕ) → Option ℕ
+refused_step replies None = None
+refused_step replies (Some refused) = step_in (slice_get replies (refused.0 - 1))
+
 -- ---- what jobs leave
 
--- The jobs left this file on an empty sink, and `refused` is the first of them that had an error,
--- counted from 1.
+-- The jobs left this file on an empty sink, `refused` is the first of them that had an error,
+-- counted from 1, and `step` is the step that had it.
 pub record RanJobs (kind : FileKind) (jobs : List Job) (file : List ℕ) (refused : Option (ℕ × ℕ))
-    : Type 0 where
+    (step : Option ℕ) : Type 0 where
   pub replies : List JobReply
   pub before : ℕ
   pub after : ℕ
   pub leaves : LeavesJobs kind jobs replies [] before file after
   pub refused_is : refused ≡ first_refused 1 replies
+  pub step_is : step ≡ refused_step replies refused
 
 -- The answer to a text of jobs: a line of it is no job, or all its jobs were run. CALLING.md
 -- describes which lines are jobs; no clause does.
 abbrev pub AnswersJobs : FileKind → Answer → Type 0
 AnswersJobs kind (NoJob line) = Unit {0}
-AnswersJobs kind (Ran ran) = (jobs : List Job) × RanJobs kind jobs ran.file.items ran.refused
+AnswersJobs kind (Ran ran) = (jobs : List Job) × RanJobs kind jobs ran.file.items ran.refused ran.step
 
 -- ---- what C gets
 

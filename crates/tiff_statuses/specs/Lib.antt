@@ -9,3 +9,4 @@ pub mod Frame
 pub mod Unkept
 pub mod Zeros
 pub mod Entries
+pub mod Pages

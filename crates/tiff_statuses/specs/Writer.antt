@@ -9,6 +9,7 @@ use Rattle.tiff_base.specs.declared.io.IoKind.TheVariants.{InvalidInput}
 use Rattle.tiff_base.specs.declared.io.SinkFault.TheVariants as sink
 use Rattle.tiff_base.specs.declared.tags.FileKind.{FileKind}
 use Rattle.tiff_base.specs.declared.tags.FileKind.TheVariants.{Classic, Big}
+use Rattle.tiff_base.specs.declared.tags.Predictor.{Predictor}
 use Rattle.tiff_base.specs.declared.tags.Predictor.TheVariants as predictor
 use Rattle.tiff_base.specs.Answers.{◌>>=◌}
 use Rattle.tiff_base.specs.Tags.{method_of, predictor_of}
@@ -38,15 +39,25 @@ kind_of n = if n == 42 then Some Classic else if n == 43 then Some Big else None
 abbrev pub packing_of : ℕ → Option Compression
 packing_of n = if n == 1 then Some Uncompressed else if n == 32773 then Some Packbits else None
 
+-- the color type, the compression and the predictor of a number, or the error of a number that
+-- names nothing
+abbrev pub color_named : ℕ → Result ColorTypeName TiffError
+color_named n = ok_or_fault (slice_get color_types n) (IoError InvalidInput)
+
+abbrev pub packing_named : ℕ → Result Compression TiffError
+packing_named n =
+    ok_or_fault (packing_of n) (UnsupportedError (UnsupportedCompressionMethod (method_of n)))
+
+abbrev pub predictor_named : ℕ → Result Predictor TiffError
+predictor_named n = ok_or_fault (predictor_of n) (FormatError (UnknownPredictor n))
+
 -- how to write an image, by name; or the error of the first number that names nothing
 abbrev pub settings_of : NewImage → Result Settings TiffError
 settings_of image = do
   kind ← ok_or_fault (kind_of image.version) (FormatError TiffSignatureInvalid)
-  color ← ok_or_fault (slice_get color_types image.color) (IoError InvalidInput)
-  compression ← ok_or_fault (packing_of image.method)
-      (UnsupportedError (UnsupportedCompressionMethod (method_of image.method)))
-  predictor ← ok_or_fault (predictor_of image.predictor)
-      (FormatError (UnknownPredictor image.predictor))
+  color ← color_named image.color
+  compression ← packing_named image.method
+  predictor ← predictor_named image.predictor
   Ok (record { kind = kind; color = color; compression = compression; predictor = predictor })
 
 -- the samples that bytes are, the lowest byte of each first; an error where a part of one is left

@@ -1,7 +1,7 @@
 //! The file of a list of jobs, which C passes as lines of text.
 
-ghost use Rattle.std.specs.Prelude.{◌≡◌, map, IfErr, MatchResult};
-ghost use Rattle.tiff_statuses.specs.Jobs.{AnswersJobs, AnswersKind, RanJobs, TellsAnswer, TellsRan, first_refused, first_status, job_status};
+ghost use Rattle.std.specs.Prelude.{◌≡◌, map, position, IfErr, MatchResult};
+ghost use Rattle.tiff_statuses.specs.Jobs.{AnswersJobs, AnswersKind, RanJobs, TellsAnswer, TellsRan, first_refused, first_status, is_refused, job_status, refused_step};
 ghost use Rattle.tiff_statuses.specs.Status as status;
 ghost use Rattle.tiff_statuses.specs.Writer as writer;
 
@@ -28,12 +28,14 @@ pub struct JobsEnd {
 
 const NO_END: JobsEnd = JobsEnd { line: 0, job: 0 };
 
-/// What jobs left that were run: their file; and the number, from 1, of the first job that had an
-/// error, with the status of that error.
+/// What jobs left that were run: their file; the number, from 1, of the first job that had an error,
+/// with the status of that error; and the number, from 0, of the step of that job that had it, or
+/// none if the end of the job had it.
 #[derive(Drop)]
 pub struct Ran {
     pub file: Vec<u8>,
     pub refused: Option<(usize, u32)>,
+    pub step: Option<usize>,
 }
 
 /// What came of a text of jobs.
@@ -85,6 +87,22 @@ fn first_refused(replies: &[JobReply]) -> Option<(usize, u32)>
     None
 }
 
+// The first step that was refused.
+fn first_step(steps: &[TiffResult<StepReply>]) -> Option<usize>
+    ensures { result ≡ position is_refused steps.now }
+{
+    steps.iter().position(|step| status_of(step) != 0)
+}
+
+// The step that had the error of the first job that had one.
+fn refused_step(replies: &[JobReply], refused: Option<(usize, u32)>) -> Option<usize>
+    ensures { result ≡ refused_step replies.now refused }
+{
+    let (job, _status) = refused?;
+    let reply = replies.get(job.saturating_sub(1))?;
+    first_step(&reply.steps)
+}
+
 // Drops a value. A list of replies is dropped here, since a proof about that is long in a function
 // that isn't generic.
 fn let_go<T: Drop>(_value: T) {}
@@ -92,24 +110,27 @@ fn let_go<T: Drop>(_value: T) {}
 // Runs jobs over an empty sink, for a file of the kind `K`.
 #[tactic(auto, using(tiff_base::proofs::MemoryFaults::header_refused))]
 fn run_kind<K: TiffKind>(alloc: Global, jobs: &[Job]) -> TiffResult<Ran>
-    ensures { MatchResult result (λ ran. RanJobs K.kind jobs.now ran.file.items ran.refused)
-        (λ e. e ≡ TiffError.OutOfMemory) }
+    ensures { MatchResult result (λ ran. RanJobs K.kind jobs.now ran.file.items ran.refused
+        ran.step) (λ e. e ≡ TiffError.OutOfMemory) }
 {
     let mut replies = Vec::new(alloc);
     let sink = MemorySink::new(Vec::new(alloc));
     let sink = run_jobs::<MemorySink, K>(alloc, sink, jobs, &mut replies)?;
     let refused = first_refused(&replies);
+    let step = refused_step(&replies, refused);
     let_go(replies);
     Ok(Ran {
         file: sink.into_vec(),
         refused,
+        step,
     })
 }
 
-// Runs jobs over an empty sink, for a file of a kind that is given as a value.
-fn run(alloc: Global, kind: FileKind, jobs: &[Job]) -> TiffResult<Ran>
-    ensures { MatchResult result (λ ran. RanJobs kind jobs.now ran.file.items ran.refused)
-        (λ e. e ≡ TiffError.OutOfMemory) }
+/// Runs jobs over an empty sink, for a file of a kind that is given as a value. Its only error is
+/// `OutOfMemory`.
+pub fn run(alloc: Global, kind: FileKind, jobs: &[Job]) -> TiffResult<Ran>
+    ensures { MatchResult result (λ ran. RanJobs kind jobs.now ran.file.items ran.refused
+        ran.step) (λ e. e ≡ TiffError.OutOfMemory) }
 {
     match kind {
         FileKind::Classic => run_kind::<TiffKindStandard>(alloc, jobs),
@@ -138,8 +159,9 @@ pub fn run_listed(alloc: Global, kind: FileKind, text: &[u8]) -> TiffResult<Answ
     }
 }
 
-// Puts the file of jobs into a buffer if none of them had an error.
-fn tell_ran(ran: Ran, buffer: &mut [u8], len: &mut usize, end: &mut JobsEnd) -> u32
+/// Puts the file of jobs into a buffer if none of them had an error, and its length into `len`; else
+/// the number of the first job that had one into `end`, and returns the status of that error.
+pub fn tell_ran(ran: Ran, buffer: &mut [u8], len: &mut usize, end: &mut JobsEnd) -> u32
     ensures { TellsRan ran.file.items ran.refused result buffer.old buffer.new len.old len.new
         end.new }
 {

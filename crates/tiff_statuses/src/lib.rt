@@ -13,6 +13,7 @@ ghost use Rattle.tiff_statuses.specs.Calls as calls;
 ghost use Rattle.tiff_statuses.specs.Entries.{list_tags};
 ghost use Rattle.tiff_statuses.specs.Jobs.{JobsTell};
 ghost use Rattle.tiff_statuses.specs.List.{ListTells, list_of};
+ghost use Rattle.tiff_statuses.specs.Pages.{PagesTell};
 ghost use Rattle.tiff_statuses.specs.Status.{StatusPuts, StatusTells};
 ghost use Rattle.tiff_statuses.specs.Values as values;
 ghost use Rattle.tiff_statuses.specs.Writer as writer;
@@ -26,6 +27,7 @@ pub mod entries;
 mod frame;
 pub mod jobs;
 pub mod list;
+pub mod pages;
 mod samples;
 mod status;
 pub mod values;
@@ -35,6 +37,7 @@ use crate::calls::{Chunks, Color, FieldSize, Layout, PageSamples, Sides};
 use crate::entries::TagEntry;
 use crate::jobs::{JobsEnd, run_version, tell};
 use crate::list::{ListedPage, list_into};
+use crate::pages::{NewPage, PagesEnd, run_pages, tell_pages};
 use crate::status::{done, given, text_of};
 use crate::writer::{NewImage, deliver, write_new};
 
@@ -355,6 +358,34 @@ pub fn write_jobs(
     ensures stays { (result ≡ 0) ⊎ (buffer.new ≡ buffer.old) }
 {
     tell(run_version(alloc, version, jobs), buffer, len, end)
+}
+
+/// Writes the file of these pages into `buffer`, puts how many bytes the file has into `len`, and
+/// puts where the list is refused into `end`. Returns 0, or the number of the first error: of the
+/// version, `TiffSignatureInvalid`; of the first page with a field that is refused, before any page
+/// is written; of the first page that the encoder refuses; of a buffer that is too short,
+/// `InsufficientOutputBufferSize`. The fields are refused in this order: the color type,
+/// `IoError(InvalidInput)`; the method, `UnsupportedCompressionMethod`; the predictor,
+/// `UnknownPredictor`; the planar configuration, `UnknownPlanarConfiguration`; the unit of the
+/// resolutions, `IoError(InvalidInput)`; an extra sample, `IoError(InvalidInput)`; a tag,
+/// `UnsupportedDataType` for its type and `MismatchedEntryLength` for bytes that are not as many
+/// values as it says; samples with a part of one left over, `MismatchedEntryLength`. An error leaves
+/// `buffer` as it was, and `len` too, unless only the buffer is too short. The call allocates the
+/// file, eight bytes for each sample of all pages, and the bytes of the tags.
+#[tactic(auto, using(crate::proofs::Delivered::told_pages, crate::proofs::Delivered::kept_pages))]
+pub fn write_pages(
+    alloc: Global,
+    version: u16,
+    pages: &[NewPage<'_>],
+    buffer: &mut [u8],
+    len: &mut usize,
+    end: &mut PagesEnd,
+) -> u32
+    ensures answer { PagesTell version pages.now result buffer.old buffer.new len.old len.new
+        end.new }
+    ensures stays { (result ≡ 0) ⊎ (buffer.new ≡ buffer.old) }
+{
+    tell_pages(run_pages(alloc, version, pages), buffer, len, end)
 }
 
 /// Returns the version of these calls, which is `MANGOHATCH_TIFF_VERSION` of the header for C. It

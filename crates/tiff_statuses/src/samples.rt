@@ -1,6 +1,6 @@
 //! How samples are made of little-endian bytes.
 
-ghost use Rattle.std.specs.Prelude.{◌≡◌, ◌^◌, ◌%◌, ◌<◌, length, map, IfOk};
+ghost use Rattle.std.specs.Prelude.{◌≡◌, ◌^◌, ◌%◌, ◌<◌, ◌≤◌, length, map, IfOk};
 ghost use Rattle.std.specs.Int.{w8, w16, w32, w64};
 ghost use Rattle.tiff_base.specs.declared.tags.ByteOrder.TheVariants.{LittleEndian};
 ghost use Rattle.tiff_base.specs.Number.{number};
@@ -93,4 +93,24 @@ pub fn samples_of<S: Sample, U: Number<N>, const N: usize>(
         samples.push_reserved(sample_of::<S, U, N>(*piece));
     }
     Ok(samples)
+}
+
+/// The numbers that bytes are, `N` bytes each, with no byte left over. It allocates once, for all
+/// numbers.
+#[tactic(auto, using(crate::proofs::PieceNumbers::next_whole, crate::proofs::PieceNumbers::numbers_whole))]
+pub fn numbers_of<U: Number<N>, const N: usize>(
+    alloc: Global,
+    bytes: &[u8],
+) -> Result<Vec<u64>, AllocError>
+    requires some { 0 < N }
+    requires few { N ≤ 8 }
+    requires whole { length bytes.now % N ≡ 0 }
+    ensures { IfOk result (λ v. v.items ≡ numbers_in N bytes.now) }
+{
+    let (pieces, _) = bytes.as_chunks::<N>();
+    let mut numbers = Vec::with_capacity(alloc, pieces.len())?;
+    for piece in pieces {
+        numbers.push_reserved(U::of(*piece));
+    }
+    Ok(numbers)
 }

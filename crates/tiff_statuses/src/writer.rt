@@ -73,21 +73,38 @@ fn item_at<T: Copy>(items: &[T], number: u32) -> Option<T>
     Some(*item)
 }
 
-// The color type of a number, if there is one.
-fn color_of(number: u32) -> Option<ColorTypeName>
-    ensures { result ≡ slice_get color_types number }
+/// The color type of a number; `IoError(InvalidInput)` if it names none.
+pub fn color_named(number: u32) -> TiffResult<ColorTypeName>
+    ensures { result ≡ writer.color_named number }
 {
-    item_at(&ColorTypeName::ALL, number)
+    match item_at(&ColorTypeName::ALL, number) {
+        Some(color) => Ok(color),
+        None => Err(TiffError::IoError(IoKind::InvalidInput)),
+    }
 }
 
-// The compression of the number of a method, if this library writes that method.
-fn packing_of(method: u16) -> Option<Compression>
-    ensures { result ≡ writer.packing_of method }
+/// The compression of the number of a method; `UnsupportedCompressionMethod` if this library doesn't
+/// write that method.
+pub fn packing_named(method: u16) -> TiffResult<Compression>
+    ensures { result ≡ writer.packing_named method }
 {
     match method {
-        1 => Some(Compression::Uncompressed),
-        32773 => Some(Compression::Packbits),
-        _ => None,
+        1 => Ok(Compression::Uncompressed),
+        32773 => Ok(Compression::Packbits),
+        _ => {
+            let method = CompressionMethod::from_u16_exhaustive(method);
+            Err(TiffUnsupportedError::UnsupportedCompressionMethod(method).into())
+        }
+    }
+}
+
+/// The predictor of a number; `UnknownPredictor` if it names none.
+pub fn predictor_named(number: u16) -> TiffResult<Predictor>
+    ensures { result ≡ writer.predictor_named number }
+{
+    match Predictor::from_u16(number) {
+        Some(predictor) => Ok(predictor),
+        None => Err(TiffFormatError::UnknownPredictor(number).into()),
     }
 }
 
@@ -99,21 +116,11 @@ fn settings_of(image: &NewImage) -> TiffResult<Settings>
     let Some(kind) = kind_of(image.version) else {
         return Err(TiffFormatError::TiffSignatureInvalid.into());
     };
-    let Some(color) = color_of(image.color) else {
-        return Err(TiffError::IoError(IoKind::InvalidInput));
-    };
-    let Some(compression) = packing_of(image.method) else {
-        let method = CompressionMethod::from_u16_exhaustive(image.method);
-        return Err(TiffUnsupportedError::UnsupportedCompressionMethod(method).into());
-    };
-    let Some(predictor) = Predictor::from_u16(image.predictor) else {
-        return Err(TiffFormatError::UnknownPredictor(image.predictor).into());
-    };
     Ok(Settings {
         kind,
-        color,
-        compression,
-        predictor,
+        color: color_named(image.color)?,
+        compression: packing_named(image.method)?,
+        predictor: predictor_named(image.predictor)?,
     })
 }
 

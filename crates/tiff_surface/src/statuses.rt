@@ -6,6 +6,7 @@ mod altered;
 mod file;
 mod jobs;
 mod page;
+mod pages;
 mod tags;
 mod written;
 
@@ -13,6 +14,7 @@ use altered::{print_claim, print_refused, print_retyped};
 use file::{print_file, print_list, print_text};
 use jobs::print_all_jobs;
 use page::{print_chunks, print_parts, print_pixels, print_samples, print_sides};
+use pages::print_all_pages;
 use std::io;
 use tags::{BITS_PER_SAMPLE, print_entries, print_tags, print_values};
 use written::{AT, DIRECTORY, print_too_long, write};
@@ -63,6 +65,7 @@ pub fn print_calls(rt: &HostRuntime) -> io::Result<()> {
     print_refused(rt)?;
     print_files(rt, file)?;
     print_all_jobs(rt)?;
+    print_all_pages(rt)?;
     println!(rt; "version: {}", tiff_statuses::version())?;
     print_text(rt, 0)?;
     print_text(rt, 22)
