@@ -5,3 +5,6 @@ pub mod PageReads
 mod Checked
 mod Sums
 mod NoPages
+mod Shown
+mod Read
+mod Rooted

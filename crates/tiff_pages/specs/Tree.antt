@@ -49,11 +49,14 @@ abbrev pub names_directories : Tag → «Type» → Bool
 names_directories tag type =
     if is_offset_type type then true else list_any (nat_eq (tag_number tag)) offset_tags
 
+-- the tag of a field, if it names directories
+abbrev pub pointer_tag : ℕ × Field → Option Tag
+pointer_tag e =
+    if names_directories (tag_of e.0) e.1.field_type then Some (tag_of e.0) else None
+
 -- the tags of a directory that name directories, by ascending number
 abbrev pub pointer_tags : FinMap nat_cmp Field → List Tag
-pointer_tags fields =
-    filter_map (λ e. if names_directories (tag_of e.0) e.1.field_type then Some (tag_of e.0) else None)
-    (entries fields)
+pointer_tags fields = filter_map pointer_tag (entries fields)
 
 -- the numbers of a tag of a directory, under the decoder's limits
 abbrev pub values_of : Decoding → DirectoryRecord → Tag → Result (List ℕ) TiffError

@@ -1,6 +1,6 @@
 //! The tree of a file's directories.
 
-ghost use Rattle.std.specs.Prelude.{◌≡◌, ◌≤◌, [], IfOk, None, OnOk, Ok, fold, map, suc};
+ghost use Rattle.std.specs.Prelude.{◌≡◌, ◌≤◌, [], Err, IfOk, MatchResult, OnOk, Ok, fold, map, suc};
 ghost use Rattle.tiff_base.specs.Answers.{Answers};
 ghost use Rattle.tiff_base.specs.Directory.{directory_at};
 ghost use Rattle.tiff_pages.specs.Pages.{facts_at};
@@ -132,6 +132,21 @@ fn directory_at<R: Source>(
     file_answer(decoder.read_directory(place))
 }
 
+// The numbers of a tag of a directory, or the error by which they can't be read.
+fn values_of<R: Source>(
+    decoder: &mut Decoder<R>,
+    directory: &Directory,
+    tag: Tag,
+) -> TiffResult<TiffResult<Vec<u64>>>
+    ensures shows { Shows result decoder.old decoder.new }
+    ensures values { IfOk result (λ read. MatchResult read
+        (λ v. values_of decoder.old directory.now tag ≡ Ok v.items)
+        (λ e. values_of decoder.old directory.now tag ≡ Err e)) }
+{
+    let mut tags = decoder.read_directory_tags(directory);
+    file_answer(tags.get_tag_u64_vec(tag))
+}
+
 // What is found at an offset whose page has these facts or this error.
 fn found_at<R: Source>(
     decoder: &mut Decoder<R>,
@@ -250,14 +265,14 @@ fn list_offsets<R: Source>(
     listing: &mut Listing,
     by: NamedBy,
     depth: u32,
-    offsets: Vec<u64>,
+    offsets: &[u64],
 ) -> TiffResult<()>
     ensures shows { Shows result decoder.old decoder.new }
     ensures listing { OnOk result
-        (listing.new ≡ fold (list_offset decoder.old by depth) listing.old offsets.items) }
+        (listing.new ≡ fold (list_offset decoder.old by depth) listing.old offsets.now) }
 {
     for offset in offsets {
-        list_offset(decoder, listing, by, depth, offset)?;
+        list_offset(decoder, listing, by, depth, *offset)?;
     }
     Ok(())
 }
@@ -274,13 +289,8 @@ fn list_tag<R: Source>(
     ensures listing { OnOk result (listing.new
         ≡ list_values decoder.old by depth listing.old (values_of decoder.old directory.now by.tag)) }
 {
-    let values = file_answer(
-        decoder
-            .read_directory_tags(directory)
-            .get_tag_u64_vec(by.tag),
-    )?;
-    match values {
-        Ok(offsets) => list_offsets(decoder, listing, by, depth, offsets),
+    match values_of(decoder, directory, by.tag)? {
+        Ok(offsets) => list_offsets(decoder, listing, by, depth, &offsets),
         Err(fault) => {
             listing.push(DirectoryItem {
                 place: by.directory,
@@ -305,10 +315,11 @@ fn list_tags<R: Source>(
     ensures listing { OnOk result (listing.new ≡ fold (list_tag decoder.old directory.now place depth)
         listing.old (pointer_tags directory.now.entries)) }
 {
-    for tag in pointer_tags(decoder.allocator(), directory)? {
+    let tags = pointer_tags(decoder.allocator(), directory)?;
+    for tag in &tags {
         let by = NamedBy {
             directory: place,
-            tag,
+            tag: *tag,
         };
         list_tag(decoder, listing, directory, by, depth)?;
     }
