@@ -8,3 +8,4 @@ mod NoPages
 mod Shown
 mod Read
 mod Rooted
+mod Stepped

@@ -1,19 +1,27 @@
 -- What is read at an offset: the page of a directory, the directory, and the values of a tag.
-use Rattle.std.proofs.Common.{◌≡◌, ℕ, ◌<◌, ◌≤◌, List, true, false, Result, Ok, Err, IfErr, IfOk, OnOk, MatchResult, refl, ap, sym, ◌∙◌, subst, arith, rules}
+use Rattle.std.proofs.Common.{◌≡◌, ℕ, ◌<◌, ◌≤◌, List, Some, true, false, Result, Ok, Err, IfErr, IfOk, OnOk, MatchResult, refl, ap, sym, ◌∙◌, subst, arith, rules}
 use Rattle.tiff_base.specs.declared.error.TiffError.{TiffError}
 use Rattle.tiff_base.specs.declared.error.TiffError.TheVariants.{FormatError, UnsupportedError, IoError, LimitsExceeded, IntSizeError, UsageError, OutOfMemory}
 use Rattle.tiff_base.specs.declared.io.IoKind.TheVariants.{UnexpectedEof, InvalidData, InvalidInput, WriteZero, Device}
 use Rattle.tiff_base.specs.declared.tags.IfdPointer.{IfdPointer}
+use Rattle.tiff_base.specs.declared.tags.Tag.{Tag}
 use Rattle.tiff_base.specs.Answers.{◌>>=◌, AnswersBut, IsCause}
 use Rattle.tiff_base.specs.Directory.{directory_at}
 use Rattle.tiff_base.specs.Field.{DirectoryRecord}
 use Rattle.tiff_page.specs.Page.{PageRecord}
 use Rattle.tiff_decode.specs.Machine.{Decoding, Outcome, FollowsBut, Follows, GivesOutcome, keeps_state}
-use Rattle.tiff_decode.specs.Outcome.{page_in, read_directory, show_directory, show_outcome, with_page}
+use Rattle.tiff_decode.specs.Reader.{reader_of}
+use Rattle.tiff_decode.specs.Outcome.{get_tag_u64_vec, page_in, read_directory, show_directory, show_outcome, with_page}
 use Rattle.tiff_pages.specs.declared.pages.PageFacts.{PageFacts}
-use Rattle.tiff_pages.specs.Pages.{HasItsPage, IsOfFile, OnlyReads, facts_at, facts_of}
-use Rattle.tiff_pages.specs.Tree.{Shows, shown_as}
-use Rattle.tiff_pages.proofs.Shown.{shows_none, no_memory}
+use Rattle.tiff_pages.specs.Pages.{HasItsPage, IsOfFile, OnlyReads, facts_at, facts_of, facts_told}
+use Rattle.tiff_pages.specs.Tree.{Shows, shown_as, values_of}
+use Rattle.tiff_pages.proofs.Shown.{shows_none}
+
+abbrev Facts : Type 0
+Facts = Result PageFacts TiffError
+
+abbrev the_answer : TiffError → Result (Unit {0}) TiffError
+the_answer e = Err e
 
 -- ---- results
 
@@ -43,7 +51,7 @@ device old new h g = record { shows = only_count old new h; failures = omega (ar
 same_then : {X : Type 0} (old new : Decoding) → new ≡ old → Shows {X = X} (Err OutOfMemory) old new
 same_then {X = X} old new h =
     let P : Decoding → Type 0 = λ d. Shows {X = X} (Err OutOfMemory) old d in
-    subst P (sym h) (no_memory tt old old (shows_none tt old))
+    subst P (sym h) (record { shows = refl; failures = omega (arith); stays = tt; refused = tt })
 
 kept_by : {X Y : Type 0} (o : Outcome X) (e : TiffError) (old new : Decoding) → keeps_state e ≡ true → Follows {X = X} (λ x. x) o (Err e) old new → Shows {X = Y} (Err e) old new
 kept_by o OutOfMemory old new k h = same_then old new h.1
@@ -110,7 +118,7 @@ page_shown old new offset u directory (Ok page) r q a n =
       page = subst P (sym n) q;
       facts = ap (λ (x : Result DirectoryRecord TiffError). x >>= page_in old.kind old.order old.bytes old.state.limits >>= λ p. Ok (facts_of p)) r
           ∙ ap (λ (x : Result PageRecord TiffError). x >>= λ p. Ok (facts_of p)) q
-          ∙ sym (ap (λ (d : Decoding). Ok {E = TiffError} (facts_of d.state.page)) n);
+          ∙ (let told : Facts = Ok (facts_of new.state.page) in let given : Facts = Ok (facts_of page) in let e : given ≡ told = sym (ap (λ (d : Decoding). facts_told (Ok tt) d.state.page) n) in e);
       shows = shows_by tt old new page directory n;
     }
 
@@ -130,22 +138,32 @@ shown r told u place old new k t h =
     let P : Result (Unit {0}) TiffError → Type 0 = λ x. Follows (λ y. y) (show_directory old place) x old new in
     shown_by place u old new (subst P (sym k.0 ∙ t) h)
 
+abbrev told_error : TiffError → Facts
+told_error e = Err e
+
+same_error : (f e : TiffError) → the_answer f ≡ the_answer e → f ≡ e
+same_error f e h = cc
+
 -- The page at an offset has an error.
 page_fault : (old new : Decoding) (offset : ℕ) (e : TiffError) (directory : DirectoryRecord) (page : Result PageRecord TiffError)
     → directory_at old.kind old.order old.bytes offset ≡ Ok directory
     → page_in old.kind old.order old.bytes old.state.limits directory ≡ page → (with_page old.state directory page).answer ≡ Err e
     → new ≡ record old { state = (with_page old.state directory page).next } → (facts_at old offset ≡ Err e) × (new ≡ old)
 page_fault old new offset e directory (Ok page) r q a n = absurd (cc)
-page_fault old new offset e directory (Err f) r q a n =
-    (ap (λ (x : Result DirectoryRecord TiffError). x >>= page_in old.kind old.order old.bytes old.state.limits >>= λ p. Ok (facts_of p)) r
-    ∙ ap (λ (x : Result PageRecord TiffError). x >>= λ p. Ok (facts_of p)) q ∙ (let t : Err {A = PageFacts} f ≡ Err e = cc in t), n)
+page_fault old new offset e directory (Err f) r q a n = (
+  ap (λ (x : Result DirectoryRecord TiffError). x >>= page_in old.kind old.order old.bytes old.state.limits >>= λ p. Ok (facts_of p)) r
+      ∙ ap (λ (x : Result PageRecord TiffError). x >>= λ p. Ok (facts_of p)) q ∙ ap told_error (same_error f e a),
+  n,
+)
 
 directory_fault : (old new : Decoding) (offset : ℕ) (e : TiffError) (read : Result DirectoryRecord TiffError)
     → directory_at old.kind old.order old.bytes offset ≡ read → (show_outcome old read).answer ≡ Err e
     → new ≡ record old { state = (show_outcome old read).next } → (facts_at old offset ≡ Err e) × (new ≡ old)
-directory_fault old new offset e (Err f) r a n =
-    (ap (λ (x : Result DirectoryRecord TiffError). x >>= page_in old.kind old.order old.bytes old.state.limits >>= λ p. Ok (facts_of p)) r
-    ∙ (let t : Err {A = PageFacts} f ≡ Err e = cc in t), n)
+directory_fault old new offset e (Err f) r a n = (
+  ap (λ (x : Result DirectoryRecord TiffError). x >>= page_in old.kind old.order old.bytes old.state.limits >>= λ p. Ok (facts_of p)) r
+      ∙ ap told_error (same_error f e a),
+  n,
+)
 directory_fault old new offset e (Ok directory) r a n = page_fault old new offset e directory (page_in old.kind old.order old.bytes old.state.limits directory) r refl a n
 
 fault_by : (place : IfdPointer) (e : TiffError) (old new : Decoding) → GivesOutcome (Err e) (show_directory old place) old new → (facts_at old place.0 ≡ Err e) × (new ≡ old)
@@ -160,7 +178,7 @@ fault r told e place old new k t h =
     (still (Err e) old new g.1, sym g.0)
 
 -- The facts of the page that is shown are read.
-pub only_reads : {X Y : Type 0} (r : Result X TiffError) (old new : Decoding) → OnlyReads r old new → Shows r old new
+pub only_reads : {X : Type 0} (r : Result X TiffError) (old new : Decoding) → OnlyReads r old new → Shows r old new
 only_reads (Ok x) old new h = still x old new h.stays
 only_reads (Err e) old new h = record { shows = only_count old new h.file.stands; failures = h.file.failures; stays = tt; refused = h.refused }
 
@@ -170,3 +188,39 @@ pub read_answer : (r : Result DirectoryRecord TiffError) (result : Result (Resul
     → Shows result old new × IfOk result (λ told. told ≡ directory_at old.kind old.order old.bytes place.0)
 read_answer r (Ok told) place old new k h = read_told r told place old new k h
 read_answer r (Err e) place old new k h = (shows_refused (read_directory old place) r e old new k h, tt)
+
+-- ---- the values of a tag
+
+-- A result that comes from the file is the given one, through a view.
+given_of : {V Y : Type 0} (wanting failed : Type 0) (view : V → Y) (r : Result V TiffError) (given : Result Y TiffError) → IsOfFile r → AnswersBut wanting failed view r given
+    → MatchResult r (λ v. given ≡ Ok (view v)) (λ e. given ≡ Err e)
+given_of wanting failed view (Ok v) given k h = h
+given_of wanting failed view (Err OutOfMemory) given k h = absurd (cc)
+given_of wanting failed view (Err (IoError Device)) given k h = absurd (cc)
+given_of wanting failed view (Err (IoError UnexpectedEof)) given k h = h
+given_of wanting failed view (Err (IoError InvalidData)) given k h = h
+given_of wanting failed view (Err (IoError InvalidInput)) given k h = h
+given_of wanting failed view (Err (IoError WriteZero)) given k h = h
+given_of wanting failed view (Err (FormatError x)) given k h = h
+given_of wanting failed view (Err (UnsupportedError x)) given k h = h
+given_of wanting failed view (Err LimitsExceeded) given k h = h
+given_of wanting failed view (Err IntSizeError) given k h = h
+given_of wanting failed view (Err (UsageError x)) given k h = h
+
+abbrev pub AreValues : {V : Type 0} → (V → List ℕ) → Result (List ℕ) TiffError → Result V TiffError → Type 0
+AreValues view given read = MatchResult read (λ v. given ≡ Ok (view v)) (λ e. given ≡ Err e)
+
+values_by : (d reader : Decoding) (directory : DirectoryRecord) (tag : Tag) → reader ≡ reader_of d (Some directory) → (get_tag_u64_vec reader tag).answer ≡ values_of d directory tag
+unfolding get_tag_u64_vec
+values_by d reader directory tag h = ap (λ (x : Decoding). (get_tag_u64_vec x tag).answer) h
+
+pub values_told : {V : Type 0} (wanting failed : Type 0) (view : V → List ℕ) (d reader : Decoding) (directory : DirectoryRecord) (tag : Tag) (r : Result V TiffError)
+    (result : Result (Result V TiffError) TiffError) → reader ≡ reader_of d (Some directory)
+    → MatchResult result (λ told. (told ≡ r) × IsOfFile r) (λ e. (r ≡ Err e) × (keeps_state e ≡ true))
+    → AnswersBut wanting failed view r (get_tag_u64_vec reader tag).answer → IfOk result (AreValues view (values_of d directory tag))
+values_told wanting failed view d reader directory tag r (Err e) h k a = tt
+values_told {V = V} wanting failed view d reader directory tag r (Ok told) h k a =
+    let given = given_of wanting failed view r (get_tag_u64_vec reader tag).answer k.1 a in
+    let P : Result (List ℕ) TiffError → Type 0 = λ x. AreValues view x r in
+    let Q : Result V TiffError → Type 0 = AreValues view (values_of d directory tag) in
+    subst Q (sym k.0) (subst P (values_by d reader directory tag h) given)

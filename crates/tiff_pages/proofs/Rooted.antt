@@ -24,6 +24,12 @@ pub record WentAlong (old mid : Decoding) : Type 0 where
 pub went : (old mid : Decoding) (s : State) → mid ≡ record old { state = s } → mid.state.limits ≡ old.state.limits → WentAlong old mid
 went old mid s h l = record { state = s; at = h; limits = l }
 
+abbrev pub listing : Pages → Result Pages TiffError
+listing pages = Ok pages
+
+abbrev pub told : Directories → Result Directories TiffError
+told directories = Ok directories
+
 -- ---- the chain
 
 items_listed : (d : Decoding) (offsets : List ℕ) → map (page_item d) (map (item_at d) offsets) ≡ map (chain_item d) offsets
@@ -37,11 +43,11 @@ met_listed : (d : Decoding) (offsets : List ℕ) → map place_of (map (item_at 
 met_listed d [] = refl
 met_listed d (p ∷ ps) = ap (λ (xs : List ℕ). p ∷ xs) (met_listed d ps)
 
-pages_are : (old : Decoding) (listed : PageList) → Ok {E = TiffError} (pages_of old) ≡ Ok (pages_in listed) → pages_in listed ≡ pages_of old
+pages_are : (old : Decoding) (listed : PageList) → listing (pages_of old) ≡ listing (pages_in listed) → pages_in listed ≡ pages_of old
 pages_are old listed h = cc
 
 -- The items of the pages are those of the chain.
-chain_listed : (old mid : Decoding) (listed : PageList) (l : ListingRecord) → WentAlong old mid → Ok {E = TiffError} (pages_of old) ≡ Ok (pages_in listed)
+chain_listed : (old mid : Decoding) (listed : PageList) (l : ListingRecord) → WentAlong old mid → listing (pages_of old) ≡ listing (pages_in listed)
     → l.items ≡ map (page_item mid) listed.pages.items → l.met ≡ map (λ page. page.place.0) listed.pages.items → l ≡ chain_list old
 chain_listed old mid listed l w p i m =
     let all : listed.pages.items ≡ map (item_at old) (chain_of old).offsets = ap (λ (x : Pages). x.items) (pages_are old listed p) in
@@ -63,9 +69,9 @@ below_same a b h (suc n) l = h n (below b n l) ∙ ap (level a n) (below_same a 
 
 -- All directories are listed.
 pub all_found : {X : Type 0} (x : X) (old mid last : Decoding) (listed : PageList) (first l : ListingRecord) (items : List DirectoryItem) → WentAlong old mid
-    → Ok {E = TiffError} (pages_of old) ≡ Ok (pages_in listed)
+    → listing (pages_of old) ≡ listing (pages_in listed)
     → Shows (Ok x) mid last → first.items ≡ map (page_item mid) listed.pages.items → first.met ≡ map (λ page. page.place.0) listed.pages.items
-    → l ≡ below last (suc deepest) first → items ≡ l.items → Ok {E = TiffError} (directories_of old) ≡ Ok (record { items = items; end = listed.end })
+    → l ≡ below last (suc deepest) first → items ≡ l.items → told (directories_of old) ≡ told (record { items = items; end = listed.end })
 all_found x old mid last listed first l items w p s i m h k =
     let start = chain_listed old mid listed first w p i m in
     let levels : (depth : ℕ) (t : ListingRecord) → level last depth t ≡ level old depth t =
@@ -73,7 +79,7 @@ all_found x old mid last listed first l items w p s i m h k =
     let whole = h ∙ below_same old last levels (suc deepest) first ∙ ap (below old (suc deepest)) start in
     let found : items ≡ (directories_of old).items = k ∙ ap (λ (t : ListingRecord). t.items) whole in
     let ends : listed.end ≡ (chain_of old).end = ap (λ (t : Pages). t.end) (pages_are old listed p) in
-    λ j. Ok (record { items = sym found j; end = sym ends j })
+    λ j. told (record { items = sym found j; end = sym ends j })
 
 -- ---- where the decoder is left
 

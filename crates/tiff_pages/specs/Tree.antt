@@ -1,6 +1,6 @@
 -- The tree of a file's directories: those of the chain, and those that tags name (TIFF 6.0,
 -- Technical Note 1; BigTIFF; Exif 2.3; this project's).
-use Rattle.std.specs.Prelude.{◌≡◌, ℕ, zero, suc, ◌≤◌, ◌<◌, ◌==◌, List, [], ◌∷◌, ◌++◌, map, Bool, true, false, not, if◌then◌else◌, nat_eq, nat_lt, Option, None, Some, Result, Ok, Err, IfErr, OnOk}
+use Rattle.std.specs.Prelude.{◌≡◌, ℕ, zero, suc, ◌+◌, ◌≤◌, ◌<◌, ◌==◌, List, [], ◌∷◌, ◌++◌, map, Bool, true, false, not, if◌then◌else◌, nat_eq, nat_lt, Option, None, Some, Result, Ok, Err, IfErr, OnOk}
 use Rattle.std.specs.List.{filter_map, fold, list_any}
 use Rattle.std.specs.FinMap.{FinMap, entries, len}
 use Rattle.std.specs.Ordering.{nat_cmp}
@@ -135,19 +135,19 @@ list_named d place depth l (Err e) = l
 
 -- ---- levels
 
-abbrev pub is_directory : Found → Bool
-is_directory (Directory facts) = true
-is_directory found = false
-
 -- the item is a directory of this depth
+abbrev pub is_open_at : ℕ → ℕ → Found → Bool
+is_open_at depth at (Directory facts) = at == depth
+is_open_at depth at found = false
+
 abbrev pub is_open : ℕ → DirectoryItem → Bool
-is_open depth item = if item.depth == depth then is_directory item.found else false
+is_open depth item = is_open_at depth item.depth item.found
 
 -- the list with an item, and behind it, if it is a directory of this depth, with what it names
 abbrev pub expand : Decoding → ℕ → ListingRecord → DirectoryItem → ListingRecord
 expand d depth l item =
     if is_open depth item
-    then list_named d item.place (suc depth) (with_item l item)
+    then list_named d item.place (depth + 1) (with_item l item)
     (directory_at d.kind d.order d.bytes item.place.0)
     else with_item l item
 

@@ -4,7 +4,7 @@ ghost use Rattle.std.specs.Prelude.{◌≡◌, ◌≤◌, [], Err, IfOk, MatchRe
 ghost use Rattle.tiff_base.specs.Answers.{Answers};
 ghost use Rattle.tiff_base.specs.Directory.{directory_at};
 ghost use Rattle.tiff_pages.specs.Pages.{facts_at};
-ghost use Rattle.tiff_pages.specs.Tree.{LeavesTree, Shows, below, deepest, directories_in, directories_of, expand, found_in, found_named, list_offset, list_tag, list_values, met_by, names_directories, page_item, pointer_tags, values_of, with_item};
+ghost use Rattle.tiff_pages.specs.Tree.{LeavesTree, Shows, below, deepest, directories_in, directories_of, expand, found_in, found_named, is_open, list_offset, list_tag, list_values, met_by, names_directories, page_item, pointer_tags, values_of, with_item};
 
 use crate::pages::{PageFacts, PageItem, facts_here, file_answer, pages};
 use std::alloc::{AllocError, Global};
@@ -326,6 +326,16 @@ fn list_tags<R: Source>(
     Ok(())
 }
 
+// Whether an item is a directory of this depth.
+fn is_open(item: &DirectoryItem, depth: u32) -> bool
+    ensures { result ≡ is_open depth item.now }
+{
+    match &item.found {
+        Found::Directory(_) => item.depth == depth,
+        _ => false,
+    }
+}
+
 // Lists an item, and behind it, if it is a directory of this depth, the directories that it names.
 fn expand<R: Source>(
     decoder: &mut Decoder<R>,
@@ -338,9 +348,9 @@ fn expand<R: Source>(
     ensures listing { OnOk result (listing.new ≡ expand decoder.old depth listing.old item) }
 {
     let place = item.place;
-    let is_open = item.depth == depth && matches!(&item.found, Found::Directory(_));
+    let names = is_open(&item, depth);
     listing.push(item)?;
-    if !is_open {
+    if !names {
         return Ok(());
     }
     match directory_at(decoder, place)? {

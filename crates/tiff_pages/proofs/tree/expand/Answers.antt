@@ -1,10 +1,10 @@
-use Rattle.std.proofs.Common.{rules, ◌≡◌, ◌≤◌, [], Err, IfOk, MatchResult, OnOk, Ok, fold, map, suc, ℕ, ◌+◌, ◌-◌, ◌*◌, ◌<◌, length, ◌/◌, ◌%◌, Bool, true, false, nat_eq, nat_lt, List, ◌∷◌, ◌++◌, slice_index_or, slice_set, bit_and, bit_or, Fits, w8, w32, w64, Bor, MutBor}
-use Rattle.tiff_base.specs.Answers.{Answers}
-use Rattle.tiff_base.specs.Directory.{directory_at}
-use Rattle.tiff_pages.specs.Pages.{facts_at}
-use Rattle.tiff_pages.specs.Tree.{LeavesTree, Shows, below, deepest, directories_in, directories_of, expand, found_in, found_named, list_offset, list_tag, list_values, met_by, names_directories, page_item, pointer_tags, values_of, with_item}
+use Rattle.std.proofs.Common.{◌≡◌, true}
+use Rattle.tiff_pages.specs.Tree.{is_open}
+use Rattle.tiff_pages.proofs.Stepped.{named_behind}
 use Rattle.tiff_pages.proofs.tree.expand.Goals as goal
 
--- src/tree.rt:339:1
 pub returns-in-Ok-clause-listing : goal.returns-in-Ok-clause-listing
-returns-in-Ok-clause-listing g c = ?
+returns-in-Ok-clause-listing g c =
+    let names : true ≡ is_open c.args.depth c.args.item = (let e = c.is_open-names.ensures in let t = c.if-not-names.false in cc) in
+    named_behind c.list_tags.result c.args.decoder.now c.directory_at.new.decoder c.args.depth c.args.listing.now c.push.new.self c.list_tags.new.listing c.args.item c.in-Ok.directory
+    c.in_ok-directory.field-0 c.in_ok-directory.ensures.shows names c.in_ok-push.ensures c.in_ok-directory.ensures.directory c.in-Ok.is c.list_tags.ensures.listing

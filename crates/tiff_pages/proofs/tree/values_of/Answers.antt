@@ -1,10 +1,10 @@
-use Rattle.std.proofs.Common.{rules, ◌≡◌, ◌≤◌, [], Err, IfOk, MatchResult, OnOk, Ok, fold, map, suc, ℕ, ◌+◌, ◌-◌, ◌*◌, ◌<◌, length, ◌/◌, ◌%◌, Bool, true, false, nat_eq, nat_lt, List, ◌∷◌, ◌++◌, slice_index_or, slice_set, bit_and, bit_or, Fits, w8, w32, w64, Bor, MutBor}
-use Rattle.tiff_base.specs.Answers.{Answers}
-use Rattle.tiff_base.specs.Directory.{directory_at}
-use Rattle.tiff_pages.specs.Pages.{facts_at}
-use Rattle.tiff_pages.specs.Tree.{LeavesTree, Shows, below, deepest, directories_in, directories_of, expand, found_in, found_named, list_offset, list_tag, list_values, met_by, names_directories, page_item, pointer_tags, values_of, with_item}
+use Rattle.std.proofs.Common.{Some}
+use Rattle.tiff_decode.specs.Machine.{Decoding}
+use Rattle.tiff_decode.specs.Reader.{reader_of}
+use Rattle.tiff_pages.proofs.Read.{values_told}
 use Rattle.tiff_pages.proofs.tree.values_of.Goals as goal
 
--- src/tree.rt:136:1
 pub returns-clause-values : goal.returns-clause-values
-returns-clause-values g c = ?
+returns-clause-values g c =
+    values_told _ _ (λ v. v.items) c.args.decoder.now _ c.args.directory.now c.args.tag c.get_tag_u64_vec.result c.file_answer.result
+    (λ i. reader_of (c.read_directory_tags-tags.ensures.decoder i) (c.read_directory_tags-tags.ensures.other i)) c.file_answer.ensures c.get_tag_u64_vec.ensures.read.answer
