@@ -5,3 +5,7 @@ pub mod PageReads
 mod Checked
 mod Sums
 mod NoPages
+mod Shown
+mod Read
+mod Rooted
+mod Stepped

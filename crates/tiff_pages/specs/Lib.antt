@@ -1,3 +1,5 @@
 pub mod Pages
 pub mod Adler
 pub mod Check
+pub mod Listed
+pub mod Tree

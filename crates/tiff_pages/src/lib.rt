@@ -6,3 +6,4 @@ pub mod adler;
 pub mod check;
 pub mod lines;
 pub mod pages;
+pub mod tree;

@@ -83,9 +83,9 @@ fn chunks_here<R: Source>(decoder: &mut Decoder<R>) -> TiffResult<u32>
     }
 }
 
-// The facts of a decoder's page.
+/// The facts of a decoder's page.
 #[tactic(auto, unfolding(tiff_decode::specs::Outcome::dimensions, tiff_decode::specs::Outcome::colortype))]
-fn facts_here<R: Source>(decoder: &mut Decoder<R>) -> TiffResult<PageFacts>
+pub(crate) fn facts_here<R: Source>(decoder: &mut Decoder<R>) -> TiffResult<PageFacts>
     requires { HasItsPage decoder.old }
     ensures reads { OnlyReads result decoder.old decoder.new }
     ensures facts { IfOk result (λ facts. facts ≡ facts_of decoder.old.state.page) }

@@ -1,0 +1,10 @@
+use Rattle.std.proofs.Common.{◌≡◌, Ok, take}
+use Rattle.std.specs.List.{fold}
+use Rattle.tiff_pages.specs.Tree.{Shows, list_tag}
+use Rattle.tiff_pages.proofs.tree.list_tags.Given as goal
+
+abbrev pub invariant-loop-tag : goal.invariant-loop-tag
+invariant-loop-tag g l = record {
+  shows : Shows {X = Unit {0}} (Ok tt) l.fn.decoder l.decoder;
+  listing : l.listing ≡ fold (list_tag l.fn.decoder l.directory l.place l.depth) l.fn.listing (take l.tag-index l.tag-items);
+}
