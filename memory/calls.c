@@ -44,7 +44,9 @@ struct answer {
     uint64_t value;
     uint32_t order;
     struct tiff_jobs_end end;
+    struct tiff_pages_end pages_end;
     struct tiff_listed_page pages[LISTED];
+    struct tiff_tag_entry entries[LISTED];
     uint64_t numbers[LISTED];
     double floats[LISTED];
     uint8_t bytes[ROOM];
@@ -52,8 +54,8 @@ struct answer {
 };
 
 /* What a refusal leaves: all as it was; all but the bytes of the buffer; all but a count of 0; all but an end at no line, which may be at a job
-   that found no memory. */
-enum left { ALL, BUT_BYTES, BUT_COUNT, BUT_END };
+   that found no memory; all but the page and the field for which there was none. */
+enum left { ALL, BUT_BYTES, BUT_COUNT, BUT_END, BUT_PAGE };
 
 struct call {
     const char *name;
@@ -133,6 +135,10 @@ static tiff_status software_text(const struct input *on, struct answer *to) {
     return tiff_tag_text(on->file, on->len, on->page, 305, to->bytes, ROOM, &to->number);
 }
 
+static tiff_status list_tags(const struct input *on, struct answer *to) {
+    return tiff_list_tags(on->file, on->len, on->page, to->entries, LISTED, &to->number);
+}
+
 static tiff_status byte_order(const struct input *on, struct answer *to) { return tiff_byte_order(on->file, on->len, &to->order); }
 
 static tiff_status write_image(const struct input *on, struct answer *to) {
@@ -149,6 +155,22 @@ static tiff_status refused_jobs(const struct input *on, struct answer *to) {
     static const char jobs[] = "image Gray8 1 1\nwrite_data 7\nimage Gray8 0 1\nfinish\n";
     return tiff_write_jobs(on->image.version, (const uint8_t *)jobs, sizeof jobs - 1, to->bytes, on->size, &to->number, &to->end);
 }
+
+/* two pages of which the second has a tag of one's own and tiles, and two of which the second is refused */
+static tiff_status pages_into(const struct input *on, struct answer *to, uint16_t method) {
+    static const uint8_t words[] = "words", samples[] = {1, 2, 3, 4};
+    static const uint16_t none[1];
+    const struct tiff_new_tag tag = {270, 2, sizeof words, words, sizeof words};
+    const struct tiff_new_page pages[] = {
+        {0, 2, 1, 0, 0, 0, 1, 1, TIFF_CHUNKY, TIFF_NO_RESOLUTION, {0, 1}, {0, 1}, none, 0, &tag, 0, samples, 2},
+        {0, 2, 2, 0, 16, 16, method, 1, TIFF_CHUNKY, TIFF_INCH, {300, 1}, {300, 1}, none, 0, &tag, 1, samples, 4},
+    };
+    return tiff_write_pages(on->image.version, pages, 2, to->bytes, on->size, &to->number, &to->pages_end);
+}
+
+static tiff_status write_pages(const struct input *on, struct answer *to) { return pages_into(on, to, 32773); }
+
+static tiff_status refused_pages(const struct input *on, struct answer *to) { return pages_into(on, to, 5); }
 
 static tiff_status fault_text(const struct input *on, struct answer *to) {
     (void)on;
@@ -179,6 +201,7 @@ static const struct call readers[] = {
     {"tiff_tag_floats (33550)", ALL, scale_floats},
     {"tiff_tag_text (270)", ALL, description_text},
     {"tiff_tag_text (305)", ALL, software_text},
+    {"tiff_list_tags", ALL, list_tags},
     {"tiff_byte_order", ALL, byte_order},
     {"tiff_fault_text", ALL, fault_text},
 };
@@ -186,6 +209,8 @@ static const struct call writer = {"tiff_write_image", ALL, write_image};
 static const struct call job_writers[] = {
     {"tiff_write_jobs", BUT_END, write_jobs},
     {"tiff_write_jobs (refused)", BUT_END, refused_jobs},
+    {"tiff_write_pages", BUT_PAGE, write_pages},
+    {"tiff_write_pages (refused)", BUT_PAGE, refused_pages},
 };
 
 /* == A request that is refused */
@@ -212,6 +237,7 @@ static _Bool stays(enum left left) {
     struct answer want = pattern;
     if (left == BUT_COUNT) want.number = 0;
     if (left == BUT_END) want.end = (struct tiff_jobs_end){0, got.end.job};
+    if (left == BUT_PAGE) want.pages_end = got.pages_end;
     if (left == BUT_BYTES)
         for (size_t at = 0; at < ROOM; at++) want.bytes[at] = got.bytes[at];
     return memcmp(&want, &got, sizeof got) == 0;

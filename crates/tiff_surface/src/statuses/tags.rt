@@ -33,15 +33,11 @@ pub fn print_entries(rt: &HostRuntime, file: &[u8], page: usize) -> io::Result<(
         kind: 9,
         in_place: 9,
     };
-    let mut entries = [none; 12];
+    let mut entries = [none; 3];
     let mut count = 9;
     let (out, told) = (&mut entries, &mut count);
     let status = tiff_statuses::list_tags(rt.alloc(), file, page, out, told);
-    println!(rt; "list_tags {page}: {status}, {count}")?;
-    for entry in entries {
-        println!(rt; "{entry:?}")?;
-    }
-    Ok(())
+    println!(rt; "list_tags {page}: {status}, {count}, {entries:?}")
 }
 
 /// Prints the values of a tag as whole numbers.
