@@ -162,13 +162,13 @@ static tiff_status pages_into(const struct input *on, struct answer *to, uint16_
     static const uint16_t none[1];
     const struct tiff_new_tag tag = {270, 2, sizeof words, words, sizeof words};
     const struct tiff_new_page pages[] = {
-        {0, 2, 1, 0, 0, 0, 1, 1, TIFF_CHUNKY, TIFF_NO_RESOLUTION, {0, 1}, {0, 1}, none, 0, &tag, 0, samples, 2},
-        {0, 2, 2, 0, 16, 16, method, 1, TIFF_CHUNKY, TIFF_INCH, {300, 1}, {300, 1}, none, 0, &tag, 1, samples, 4},
+        {TIFF_GRAY8, 2, 1, 0, 0, 0, TIFF_UNCOMPRESSED, TIFF_NO_PREDICTOR, TIFF_CHUNKY, TIFF_NO_RESOLUTION, {0, 1}, {0, 1}, none, 0, &tag, 0, samples, 2},
+        {TIFF_GRAY8, 2, 2, 0, 16, 16, method, TIFF_NO_PREDICTOR, TIFF_CHUNKY, TIFF_INCH, {300, 1}, {300, 1}, none, 0, &tag, 1, samples, 4},
     };
     return tiff_write_pages(on->image.version, pages, 2, to->bytes, on->size, &to->number, &to->pages_end);
 }
 
-static tiff_status write_pages(const struct input *on, struct answer *to) { return pages_into(on, to, 32773); }
+static tiff_status write_pages(const struct input *on, struct answer *to) { return pages_into(on, to, TIFF_PACKBITS); }
 
 static tiff_status refused_pages(const struct input *on, struct answer *to) { return pages_into(on, to, 5); }
 
