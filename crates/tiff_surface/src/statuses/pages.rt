@@ -171,19 +171,28 @@ fn print_second(rt: &HostRuntime, page: &NewPage<'_>) -> io::Result<()> {
     Ok(())
 }
 
-/// Prints pages that are written, and each page that is refused.
-pub fn print_all_pages(rt: &HostRuntime) -> io::Result<()> {
-    let mut buffer = [0u8; 1000];
-    let len = print_write(rt, 42, &PAGES, &mut buffer)?;
-    print_written(rt, &buffer[..len.min(1000)])?;
-    let _len = print_write(rt, 42, &PAGES, &mut buffer[..100])?;
-    let _len = print_write(rt, 41, &PAGES, &mut buffer)?;
-    let _len = print_write(rt, 42, &[], &mut buffer)?;
-    for page in &REFUSED {
-        print_second(rt, page)?;
-    }
-    for page in &FAILED {
+// Prints the answer to each of these pages.
+fn print_seconds(rt: &HostRuntime, pages: &[NewPage<'_>]) -> io::Result<()> {
+    for page in pages {
         print_second(rt, page)?;
     }
     Ok(())
+}
+
+// Prints the answer to pages that are well, and what was written.
+fn print_well(rt: &HostRuntime) -> io::Result<()> {
+    let mut buffer = [0u8; 1000];
+    let len = print_write(rt, 42, &PAGES, &mut buffer)?;
+    print_written(rt, &buffer[..len.min(1000)])
+}
+
+/// Prints pages that are written, and each page that is refused.
+pub fn print_all_pages(rt: &HostRuntime) -> io::Result<()> {
+    print_well(rt)?;
+    let mut short = [0u8; 100];
+    let _len = print_write(rt, 42, &PAGES, &mut short)?;
+    let _len = print_write(rt, 41, &PAGES, &mut short)?;
+    let _len = print_write(rt, 42, &[], &mut short)?;
+    print_seconds(rt, &REFUSED)?;
+    print_seconds(rt, &FAILED)
 }
