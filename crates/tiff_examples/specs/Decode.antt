@@ -5,3 +5,4 @@ pub mod OutcomeQueries
 pub mod Steps
 pub mod Reader
 pub mod Asked
+pub mod Tree

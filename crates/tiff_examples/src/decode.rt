@@ -1,4 +1,5 @@
-//! Worked examples of the definitions of `tiff_decode`: results of calls, and lists of calls.
+//! Worked examples of the definitions of `tiff_decode`: results of calls, lists of calls, and
+//! the tree of directories of `tiff_pages`.
 
 pub mod asked;
 pub mod machine;
@@ -6,3 +7,4 @@ pub mod outcome;
 pub mod outcome_queries;
 pub mod reader;
 pub mod steps;
+pub mod tree;
