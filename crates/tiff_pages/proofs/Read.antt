@@ -1,15 +1,15 @@
 -- What is read at an offset: the page of a directory, the directory, and the values of a tag.
-use Rattle.std.proofs.Common.{◌≡◌, ℕ, ◌<◌, ◌≤◌, List, Some, true, false, Result, Ok, Err, IfErr, IfOk, OnOk, MatchResult, refl, ap, sym, ◌∙◌, subst, arith, rules}
+use Rattle.std.proofs.Common.{◌≡◌, ℕ, ◌<◌, List, Some, true, Result, Ok, Err, IfOk, MatchResult, refl, ap, sym, ◌∙◌, subst, arith}
 use Rattle.tiff_base.specs.declared.error.TiffError.{TiffError}
 use Rattle.tiff_base.specs.declared.error.TiffError.TheVariants.{FormatError, UnsupportedError, IoError, LimitsExceeded, IntSizeError, UsageError, OutOfMemory}
 use Rattle.tiff_base.specs.declared.io.IoKind.TheVariants.{UnexpectedEof, InvalidData, InvalidInput, WriteZero, Device}
 use Rattle.tiff_base.specs.declared.tags.IfdPointer.{IfdPointer}
 use Rattle.tiff_base.specs.declared.tags.Tag.{Tag}
-use Rattle.tiff_base.specs.Answers.{◌>>=◌, AnswersBut, IsCause}
+use Rattle.tiff_base.specs.Answers.{◌>>=◌, AnswersBut}
 use Rattle.tiff_base.specs.Directory.{directory_at}
 use Rattle.tiff_base.specs.Field.{DirectoryRecord}
 use Rattle.tiff_page.specs.Page.{PageRecord}
-use Rattle.tiff_decode.specs.Machine.{Decoding, Outcome, FollowsBut, Follows, GivesOutcome, keeps_state}
+use Rattle.tiff_decode.specs.Machine.{Decoding, Outcome, Follows, GivesOutcome, keeps_state}
 use Rattle.tiff_decode.specs.Reader.{reader_of}
 use Rattle.tiff_decode.specs.Outcome.{get_tag_u64_vec, page_in, read_directory, show_directory, show_outcome, with_page}
 use Rattle.tiff_pages.specs.declared.pages.PageFacts.{PageFacts}

@@ -1,19 +1,15 @@
 -- The tree of the directories of a file stands on its chain.
-use Rattle.std.proofs.Common.{◌≡◌, ℕ, zero, suc, ◌<◌, ◌≤◌, List, [], ◌∷◌, ◌++◌, map, Option, None, Some, Result, Ok, Err, IfErr, IfOk, OnOk, refl, ap, sym, ◌∙◌, subst, arith}
+use Rattle.std.proofs.Common.{◌≡◌, ℕ, zero, suc, List, [], ◌∷◌, map, Result, Ok, refl, ap, sym, ◌∙◌}
 use Rattle.tiff_base.specs.declared.error.TiffError.{TiffError}
-use Rattle.tiff_base.specs.Answers.{IsCause, Answers}
-use Rattle.tiff_base.proofs.Causes.{cause_along}
-use Rattle.tiff_decode.specs.Machine.{Decoding, State, StandsAt}
+use Rattle.tiff_decode.specs.Machine.{Decoding, State}
 use Rattle.tiff_decode.specs.Outcome.{chain_of}
-use Rattle.tiff_laws.specs.Pages.{SameFile}
 use Rattle.tiff_pages.specs.declared.pages.PageItem.{PageItem}
 use Rattle.tiff_pages.specs.declared.pages.PageList.{PageList}
 use Rattle.tiff_pages.specs.declared.tree.DirectoryItem.{DirectoryItem}
-use Rattle.tiff_pages.specs.declared.tree.DirectoryList.{DirectoryList}
 use Rattle.tiff_pages.specs.Listed.{ListingRecord}
-use Rattle.tiff_pages.specs.Pages.{Pages, item_at, pages_in, pages_of, state_along, times_to_end}
-use Rattle.tiff_pages.specs.Tree.{Directories, Shows, below, chain_item, chain_list, deepest, directories_in, directories_of, level, page_item, shown_as}
-use Rattle.tiff_pages.proofs.Shown.{level_same, then_shows}
+use Rattle.tiff_pages.specs.Pages.{Pages, item_at, pages_in, pages_of}
+use Rattle.tiff_pages.specs.Tree.{Directories, Shows, below, chain_item, chain_list, deepest, directories_of, level, page_item}
+use Rattle.tiff_pages.proofs.Shown.{level_same}
 
 -- The decoder went along the chain of its file, under the same limits.
 pub record WentAlong (old mid : Decoding) : Type 0 where
@@ -80,43 +76,3 @@ all_found x old mid last listed first l items w p s i m h k =
     let found : items ≡ (directories_of old).items = k ∙ ap (λ (t : ListingRecord). t.items) whole in
     let ends : listed.end ≡ (chain_of old).end = ap (λ (t : Pages). t.end) (pages_are old listed p) in
     λ j. told (record { items = sym found j; end = sym ends j })
-
--- ---- where the decoder is left
-
-pub left_at : {X : Type 0} (x : X) (old mid new : Decoding) (s : State) → mid ≡ record old { state = s } → Shows (Ok x) mid new
-    → (new ≡ shown_as (record old { state = s }) new) × (new.failures ≡ old.failures)
-left_at x old mid new s h k = (k.shows ∙ ap (λ (d : Decoding). shown_as d new) h, k.stays ∙ ap (λ (d : Decoding). d.failures) h)
-
-pub left_refused : {X : Type 0} (e : TiffError) (old mid new : Decoding) → WentAlong old mid → Shows {X = X} (Err e) mid new → SameFile old new × (old.failures ≤ new.failures)
-left_refused e old mid new w k =
-    let n : mid.failures ≡ old.failures = ap (λ (d : Decoding). d.failures) w.at in
-    let P : ℕ → Type 0 = λ n. n ≤ new.failures in (
-      record {
-        bytes = ap (λ (d : Decoding). d.bytes) k.shows ∙ ap (λ (d : Decoding). d.bytes) w.at;
-        kind = ap (λ (d : Decoding). d.kind) k.shows ∙ ap (λ (d : Decoding). d.kind) w.at;
-        order = ap (λ (d : Decoding). d.order) k.shows ∙ ap (λ (d : Decoding). d.order) w.at;
-        first = ap (λ (d : Decoding). d.first) k.shows ∙ ap (λ (d : Decoding). d.first) w.at;
-        limits = ap (λ (d : Decoding). d.state.limits) k.shows ∙ w.limits;
-      },
-      subst P n k.failures,
-    )
-
-pub left_early : (old new : Decoding) → StandsAt new.state old new → new.state.limits ≡ old.state.limits → SameFile old new × (old.failures ≤ new.failures)
-left_early old new s l = (
-  record {
-    bytes = ap (λ (d : Decoding). d.bytes) s.stands;
-    kind = ap (λ (d : Decoding). d.kind) s.stands;
-    order = ap (λ (d : Decoding). d.order) s.stands;
-    first = ap (λ (d : Decoding). d.first) s.stands;
-    limits = l;
-  },
-  s.failures,
-)
-
--- The error is only out of memory or of the device.
-pub why_refused : {X : Type 0} (e : TiffError) (old mid new : Decoding) (given : Type 0) → WentAlong old mid → Shows {X = X} (Err e) mid new
-    → IsCause (Unit {0}) (old.failures < new.failures) e given
-why_refused e old mid new given w k =
-    let n : mid.failures ≡ old.failures = ap (λ (d : Decoding). d.failures) w.at in
-    let P : ℕ → Type 0 = λ n. n < new.failures in
-    cause_along e (λ u. u) (λ f. subst P n f) (λ g. absurd g) k.refused

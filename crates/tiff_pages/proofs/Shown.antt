@@ -1,21 +1,13 @@
 -- Calls that show directories of a file, one after another.
-use Rattle.std.proofs.Common.{◌≡◌, ℕ, ◌<◌, ◌≤◌, List, Result, Ok, Err, IfErr, OnOk, refl, ap, sym, ◌∙◌, subst, arith}
+use Rattle.std.proofs.Common.{◌≡◌, ℕ, ◌<◌, ◌≤◌, Result, Ok, Err, IfErr, OnOk, refl, ap, ◌∙◌, subst, arith}
 use Rattle.tiff_base.specs.declared.error.TiffError.{TiffError}
-use Rattle.tiff_base.specs.declared.error.TiffError.TheVariants.{OutOfMemory}
 use Rattle.tiff_base.specs.declared.tags.IfdPointer.{IfdPointer}
-use Rattle.tiff_base.specs.declared.tags.Tag.{Tag}
 use Rattle.tiff_base.specs.Answers.{IsCause}
-use Rattle.tiff_base.specs.Directory.{directory_at}
 use Rattle.tiff_base.specs.Field.{DirectoryRecord}
 use Rattle.tiff_decode.specs.Machine.{Decoding}
-use Rattle.tiff_pages.specs.declared.pages.PageFacts.{PageFacts}
-use Rattle.tiff_pages.specs.declared.pages.PageItem.{PageItem}
 use Rattle.tiff_pages.specs.declared.tree.DirectoryItem.{DirectoryItem}
-use Rattle.tiff_pages.specs.declared.tree.Found.{Found}
-use Rattle.tiff_pages.specs.declared.tree.NamedBy.{NamedBy}
 use Rattle.tiff_pages.specs.Listed.{ListingRecord}
-use Rattle.tiff_pages.specs.Pages.{facts_at}
-use Rattle.tiff_pages.specs.Tree.{Shows, expand, found_at, found_named, level, list_named, list_offset, list_tag, page_item, shown_as, values_of}
+use Rattle.tiff_pages.specs.Tree.{Shows, expand, level, list_named, shown_as}
 
 -- No call shows the directory that was shown before.
 pub shows_none : {X : Type 0} (x : X) (d : Decoding) → Shows (Ok x) d d
@@ -41,29 +33,8 @@ ok_again x y a b h = record { shows = h.shows; failures = h.failures; stays = h.
 pub err_again : {X Y : Type 0} (e : TiffError) (a b : Decoding) → Shows {X = X} (Err e) a b → Shows {X = Y} (Err e) a b
 err_again e a b h = record { shows = h.shows; failures = h.failures; stays = tt; refused = h.refused }
 
-pub no_memory : {X Y : Type 0} (x : X) (a b : Decoding) → Shows (Ok x) a b → Shows {X = Y} (Err OutOfMemory) a b
-no_memory x a b h = record { shows = h.shows; failures = h.failures; stays = tt; refused = tt }
-
 -- What is read after such a call is the same.
 module _ {X : Type 0} (r : Result X TiffError) (a b : Decoding) (h : Shows r a b) where
-  pub directory_same : (offset : ℕ) → directory_at b.kind b.order b.bytes offset ≡ directory_at a.kind a.order a.bytes offset
-  directory_same offset = ap (λ (d : Decoding). directory_at d.kind d.order d.bytes offset) h.shows
-
-  pub facts_same : (offset : ℕ) → facts_at b offset ≡ facts_at a offset
-  facts_same offset = ap (λ (d : Decoding). facts_at d offset) h.shows
-
-  pub values_same : (directory : DirectoryRecord) (tag : Tag) → values_of b directory tag ≡ values_of a directory tag
-  values_same directory tag = ap (λ (d : Decoding). values_of d directory tag) h.shows
-
-  pub page_item_same : (page : PageItem) → page_item b page ≡ page_item a page
-  page_item_same page = ap (λ (d : Decoding). page_item d page) h.shows
-
-  pub list_offset_same : (by : NamedBy) (depth : ℕ) (l : ListingRecord) (offset : ℕ) → list_offset b by depth l offset ≡ list_offset a by depth l offset
-  list_offset_same by depth l offset = ap (λ (d : Decoding). list_offset d by depth l offset) h.shows
-
-  pub list_tag_same : (directory : DirectoryRecord) (place : IfdPointer) (depth : ℕ) (l : ListingRecord) (tag : Tag) → list_tag b directory place depth l tag ≡ list_tag a directory place depth l tag
-  list_tag_same directory place depth l tag = ap (λ (d : Decoding). list_tag d directory place depth l tag) h.shows
-
   pub named_same : (place : IfdPointer) (depth : ℕ) (l : ListingRecord) (read : Result DirectoryRecord TiffError) → list_named b place depth l read ≡ list_named a place depth l read
   named_same place depth l read = ap (λ (d : Decoding). list_named d place depth l read) h.shows
 

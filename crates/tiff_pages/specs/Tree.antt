@@ -1,6 +1,6 @@
 -- The tree of a file's directories: those of the chain, and those that tags name (TIFF 6.0,
 -- Technical Note 1; BigTIFF; Exif 2.3; this project's).
-use Rattle.std.specs.Prelude.{◌≡◌, ℕ, zero, suc, ◌+◌, ◌≤◌, ◌<◌, ◌==◌, List, [], ◌∷◌, ◌++◌, map, Bool, true, false, not, if◌then◌else◌, nat_eq, nat_lt, Option, None, Some, Result, Ok, Err, IfErr, OnOk}
+use Rattle.std.specs.Prelude.{◌≡◌, ℕ, zero, suc, ◌+◌, ◌≤◌, ◌<◌, ◌==◌, List, [], ◌∷◌, ◌++◌, map, Bool, true, false, if◌then◌else◌, nat_eq, nat_lt, Option, None, Some, Result, Ok, Err, IfErr, OnOk}
 use Rattle.std.specs.List.{filter_map, fold, list_any}
 use Rattle.std.specs.FinMap.{FinMap, entries, len}
 use Rattle.std.specs.Ordering.{nat_cmp}
@@ -15,7 +15,7 @@ use Rattle.tiff_base.specs.Field.{Field, DirectoryRecord}
 use Rattle.tiff_base.specs.Tags.{tag_number, tag_of}
 use Rattle.tiff_ifd.specs.Into.{into_u64_vec}
 use Rattle.tiff_ifd.specs.TagLookup.{look_in, require}
-use Rattle.tiff_decode.specs.Machine.{State, Decoding}
+use Rattle.tiff_decode.specs.Machine.{Decoding}
 use Rattle.tiff_decode.specs.Outcome.{chain_of}
 use Rattle.tiff_laws.specs.Pages.{SameFile}
 use Rattle.tiff_pages.specs.declared.pages.PageFacts.{PageFacts}

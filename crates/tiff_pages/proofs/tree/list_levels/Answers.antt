@@ -1,4 +1,4 @@
-use Rattle.std.proofs.Common.{ap, sym, ◌∙◌}
+use Rattle.std.proofs.Common.{ap, ◌∙◌}
 use Rattle.tiff_pages.specs.Listed.{ListingRecord}
 use Rattle.tiff_pages.proofs.Stepped.{both_show, levelled}
 use Rattle.tiff_pages.proofs.tree.list_levels.Goals as goal

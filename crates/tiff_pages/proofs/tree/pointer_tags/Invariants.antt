@@ -1,8 +1,7 @@
-use Rattle.std.proofs.Common.{◌≡◌, ◌++◌, Some, None, if◌then◌else◌}
+use Rattle.std.proofs.Common.{◌≡◌, ◌++◌}
 use Rattle.std.specs.FinMap.{entries}
 use Rattle.std.specs.List.{filter_map}
-use Rattle.tiff_base.specs.Tags.{tag_of}
-use Rattle.tiff_pages.specs.Tree.{names_directories, pointer_tag}
+use Rattle.tiff_pages.specs.Tree.{pointer_tag}
 use Rattle.tiff_pages.proofs.tree.pointer_tags.Given as goal
 
 abbrev pub invariant-loop-tag : goal.invariant-loop-tag

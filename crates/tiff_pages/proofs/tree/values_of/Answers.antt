@@ -1,5 +1,3 @@
-use Rattle.std.proofs.Common.{Some}
-use Rattle.tiff_decode.specs.Machine.{Decoding}
 use Rattle.tiff_decode.specs.Reader.{reader_of}
 use Rattle.tiff_pages.proofs.Read.{values_told}
 use Rattle.tiff_pages.proofs.tree.values_of.Goals as goal
