@@ -48,7 +48,8 @@ def judge_others(others: dict[str, Any]) -> None:
     for name, value in others.items():
         if name not in OTHERS:
             raise TypeError(f"imwrite() got an unexpected keyword argument {name!r}")
-        if not any(value is nothing or value == nothing for nothing in OTHERS[name]):
+        plain = value is None or isinstance(value, (bool, str, tuple, dict))
+        if not plain or value not in OTHERS[name]:
             raise UnsupportedError(f"imwrite: the parameter {name}")
 
 
@@ -168,5 +169,6 @@ def imwrite(
         tags=tuple(tags_of(extratags, subfiletype, first=False)),
         first_tags=(*first, *tags_of(extratags, subfiletype, first=True)),
         resolution=resolution_of(resolution, resolutionunit),
+        has_shape=metadata is not None,
     )
     return deliver(file, file_of(array, bigtiff, settings))

@@ -20,7 +20,8 @@ TYPES |= {"2I": 5, "2i": 10}
 # Tags that the image itself sets.
 OWN = {256, 257, 258, 259, 262, 273, 277, 278, 279, 284, 317, 322, 323, 324, 325, 338, 339}
 OWN |= {270, 282, 283, 296, 305, 306}
-MOST_DENOMINATOR = 1_000_000
+# The greatest number in a fraction.
+LONGEST = (1 << 32) - 1
 
 # A tag: its number, the type of its values, their count, the values, and whether only the first
 # page gets it.
@@ -85,8 +86,12 @@ def extra_tag(given: ExtraTag) -> NewTag:
 def fraction_of(given: Fractional) -> tuple[int, int]:
     """Returns a number as a fraction that the tags of the resolution hold."""
     exact = Fraction(*given) if isinstance(given, tuple) else Fraction(given)
-    near = exact.limit_denominator(MOST_DENOMINATOR)
-    return near.numerator, near.denominator
+    if exact <= 0:
+        raise ValueError(f"resolution: {given!r} pixels in a unit")
+    greatest = max(exact.numerator, exact.denominator)
+    if greatest <= LONGEST:
+        return exact.numerator, exact.denominator
+    return round(exact.numerator * LONGEST / greatest), round(exact.denominator * LONGEST / greatest)
 
 
 def resolution_of(

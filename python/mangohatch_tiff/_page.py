@@ -29,7 +29,7 @@ if TYPE_CHECKING:
     from ._parts import Grid, Source, Window
 
 DESCRIPTION, SOFTWARE, SUB_IFDS, IMAGE_DEPTH = 270, 305, 330, 32997
-OFFSETS = {True: (324, 325), False: (273, 279)}
+OFFSETS, LENGTHS = {True: 324, False: 273}, {True: 325, False: 279}
 
 
 class TiffPage:
@@ -335,10 +335,20 @@ class TiffPage:
         if kept != self.samplesperpixel and not shown and self._samples.planes == 1:
             what = f"{self.samplesperpixel} samples a pixel, of which the library gives {kept}; "
             raise self._refuse(what + "shown=True reads those", Status.UNSUPPORTED_SAMPLE_DEPTH)
-        stored = OFFSETS[self.is_tiled]
-        if any(0 in self.tags.told(number) for number in stored):
+        if self._lacks_chunks:
             what = "a strip or a tile that the file doesn't have: its offset or its length is 0"
             raise self._refuse(what, Status.INCONSISTENT_SIZES_ENCOUNTERED)
+
+    @cached_property
+    def dataoffsets(self) -> tuple[int, ...]:
+        """Where the strips or tiles begin in the file."""
+        return self.tags.told(OFFSETS[self.is_tiled])
+
+    @cached_property
+    def _lacks_chunks(self) -> bool:
+        """Whether the file doesn't have a chunk. The length of a plain one that is alone may be 0."""
+        alone = self.chunk_count == 1 and self.compression == COMPRESSION.NONE
+        return 0 in self.dataoffsets or (not alone and 0 in self.tags.told(LENGTHS[self.is_tiled]))
 
     def _grid(self, shown: bool) -> Grid:
         """How the chunks of the page lie, in all planes or in those that the library shows."""

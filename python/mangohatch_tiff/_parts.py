@@ -210,7 +210,8 @@ def read_window(
     """Reads a window of a page into an array of planes, rows, columns and samples."""
     grid = source.grid
     whole = (window.top, window.bottom, window.left, window.right) == (0, grid.height, 0, grid.width)
-    count = threads(workers) if array.nbytes >= STRETCH else 1
+    wanted = threads(workers)
+    count = wanted if array.nbytes >= STRETCH else 1
     if whole and source.at_once and array.flags.c_contiguous and count == 1:
         source.read_whole(array)
         return

@@ -6,6 +6,7 @@ import math
 import re
 from typing import TYPE_CHECKING, Any, NamedTuple
 
+from ._enums import COMPRESSION, PREDICTOR
 from ._library import Status, TiffError, UnsupportedError
 from ._page import DESCRIPTION, SOFTWARE, SUB_IFDS, TiffPage, room
 from ._parts import each, threads
@@ -145,6 +146,24 @@ def stack_of(pages: list[TiffPage]) -> Stack:
     return Stack(pages, one if len(pages) == 1 else (len(pages), *one))
 
 
+def judge_places(pages: list[TiffPage], begin: int) -> None:
+    """Refuses images that don't lie one behind the other where tifffile takes it that they do.
+
+    Of images that aren't packed, it reads all from where the first one begins, if the second
+    directory lies more bytes behind an offset than all images have.
+    """
+    first, size = pages[0], pages[0].nbytes
+    plain = first.compression == COMPRESSION.NONE and first.predictor == PREDICTOR.NONE
+    if len(pages) == 1 or not plain:
+        return
+    start = first.dataoffsets[0]
+    if begin + len(pages) * size > pages[1].offset:
+        return
+    places = (start + index * size for index in range(len(pages)))
+    if any(page.dataoffsets[:1] != (place,) for page, place in zip(pages, places)):
+        raise refused("images that don't lie one behind the other")
+
+
 def shaped_stack(file: TiffFile, text: str) -> Stack:
     """Returns the pages of an array whose shape tifffile wrote into the first description."""
     first = file.pages[0]
@@ -156,6 +175,7 @@ def shaped_stack(file: TiffFile, text: str) -> Stack:
     pages = file.pages[:count]
     if rest or not 0 < count == len(pages) or any(alike(page) != alike(first) for page in pages):
         raise refused(f"an array of the shape {shape}, which the pages don't make")
+    judge_places(pages, first.offset)
     return Stack(pages, shape)
 
 
@@ -173,6 +193,7 @@ def imagej_stack(file: TiffFile, text: str) -> Stack:
     known = single or (plain and images == count == len(file.pages))
     if not known or any(alike(page) != alike(first) for page in file.pages):
         raise refused("an ImageJ file of pages that make no plain hyperstack")
+    judge_places(file.pages, min(first.dataoffsets, default=0))
     return stacked(file.pages, tuple(sides))
 
 

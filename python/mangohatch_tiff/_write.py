@@ -3,14 +3,14 @@ from __future__ import annotations
 
 import math
 from collections.abc import Sequence
-from dataclasses import dataclass, field
+from dataclasses import dataclass
 from typing import TYPE_CHECKING, Any, Union
 
 import numpy
 
 from ._enums import COMPRESSION, EXTRASAMPLE, PHOTOMETRIC, PLANARCONFIG, PREDICTOR, chosen
 from ._library import Status, UnsupportedError
-from ._new_pages import COLORS, Layout, NewPage, NewTag, _write_pages
+from ._new_pages import AROUND_SAMPLES, COLORS, Layout, NewPage, NewTag, _write_pages
 
 if TYPE_CHECKING:
     from numpy.typing import ArrayLike, NDArray
@@ -36,8 +36,9 @@ class Settings:
     compression: Named = None
     predictor: Union[Named, bool] = None
     tags: tuple[NewTag, ...] = ()
-    first_tags: tuple[NewTag, ...] = field(default=())
+    first_tags: tuple[NewTag, ...] = ()
     resolution: tuple[int, tuple[int, int], tuple[int, int]] | None = None
+    has_shape: bool = False
 
 
 def ambiguous(shape: tuple[int, ...]) -> ValueError:
@@ -216,9 +217,24 @@ def pages_of(data: ArrayLike, settings: Settings) -> list[NewPage]:
     ]
 
 
+def judge_shape(pages: list[NewPage]) -> None:
+    """Refuses the shape of small images in a description, by which tifffile reads other bytes.
+
+    It takes images that aren't packed from one behind the other if the second directory lies behind
+    so many bytes, as it does if the images are smaller than what lies around them.
+    """
+    layout, size = pages[0].layout, sum(page.samples.nbytes for page in pages[1:])
+    plain = layout.method == COMPRESSION.NONE and layout.predictor == PREDICTOR.NONE
+    around = AROUND_SAMPLES + sum(len(tag.data) for tag in pages[0].tags)
+    if plain and 0 < size < around:
+        raise UnsupportedError("imwrite: metadata of several images of a few bytes")
+
+
 def file_of(data: ArrayLike, big: bool | None, settings: Settings) -> memoryview:
     """Returns the bytes of a file whose pages are an array."""
     pages = pages_of(data, settings)
+    if settings.has_shape:
+        judge_shape(pages)
     size = sum(page.samples.nbytes for page in pages)
     plain = method_of(settings.compression) == COMPRESSION.NONE
     return _write_pages(pages, size > BIG_FROM and plain if big is None else big)

@@ -151,17 +151,17 @@ def imagej_pages(text: str, count: int) -> bytes:
     """Returns a file of pages of which the first has a description of ImageJ."""
     jobs = []
     for index in range(count):
-        jobs.append("image Gray8 3 2")
+        jobs.append("image Gray8 30 20")
         if not index:
             jobs.append("write_tag_buf 270 2 little " + (text.encode() + b"\0").hex())
-        jobs.append("write_data " + " ".join(str(6 * index + place) for place in range(6)))
+        jobs.append("write_data " + " ".join(str((index + place) % 256) for place in range(600)))
     return mt.write_jobs(None, "\n".join(jobs))
 
 
 def test_imagej_of_several_pages() -> None:
     text = "ImageJ=1.53k\nimages=6\nchannels=3\nslices=2\nhyperstack=true\nmode=grayscale\n"
     file = imagej_pages(text, 6)
-    assert mt.imread(file).shape == (2, 3, 2, 3)
+    assert mt.imread(file).shape == (2, 3, 20, 30)
     assert_same(file)
     for refused in (text.replace("6", "7"), text + "order=zct\n", text.replace("3\n", "x\n", 1)):
         with pytest.raises(mt.UnsupportedError, match="ImageJ.*key="):
@@ -191,6 +191,18 @@ def test_arrays_of_other_tags_are_refused(tag: int) -> None:
     with pytest.raises(mt.UnsupportedError, match="key="):
         mt.imread(file)
     assert mt.imread(file, key=0).shape == (3, 4)
+
+
+def test_images_that_do_not_lie_one_behind_the_other() -> None:
+    """Of a few bytes, tifffile takes them from where the first image begins."""
+    small, large = samples((2, 3, 4), "u1"), samples((2, 30, 40), "u1")
+    options = {"extratags": [(65000, "B", 900, bytes(900), True)], "photometric": "minisblack"}
+    with pytest.raises(mt.UnsupportedError, match="few bytes"):
+        mt.imwrite(None, small, metadata={}, photometric="minisblack")
+    file = mt.imwrite(None, small, description='{"shape": [2, 3, 4]}', **options)
+    with pytest.raises(mt.UnsupportedError, match="one behind the other.*key="):
+        mt.imread(file)
+    assert_same(mt.imwrite(None, large.repeat(8, 1), metadata={}, photometric="minisblack"))
 
 
 def test_shapes_that_the_pages_do_not_make() -> None:

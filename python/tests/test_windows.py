@@ -39,6 +39,8 @@ def page_of(options: dict, dtype: str = "u2") -> tuple[mt.TiffPage, numpy.ndarra
     """Returns a page that tifffile writes, and its image with the samples last."""
     image = samples((37, 53, 3), dtype)
     planar = options.get("planarconfig") == "separate"
+    if "compression" in options:
+        return mt.TiffFile(mt.imwrite(None, image, photometric="rgb", **options)).pages[0], image
     file = io.BytesIO()
     given = image.transpose(2, 0, 1).copy() if planar else image
     if options.get("byteorder") == ">":

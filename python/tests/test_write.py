@@ -206,5 +206,5 @@ def test_faults() -> None:
         mt.imwrite(None, samples((3, 4), "f4"), predictor=2)
     assert fault.value.status is mt.Status.PREDICTOR_INCOMPATIBLE
     with pytest.raises(mt.TiffError) as fault:
-        mt.imwrite(None, numpy.zeros((2, 0, 4), "u1"))
+        mt.imwrite(None, numpy.zeros((2, 0, 5), "u1"))
     assert (fault.value.status, fault.value.page) == (mt.Status.INVALID_DIMENSIONS, 0)

@@ -104,6 +104,11 @@ def test_stacks(shape: tuple[int, ...], dtype: str, metadata: dict | None) -> No
     made = io.BytesIO()
     tifffile.imwrite(made, image, **options)
     expected = tifffile.imread(io.BytesIO(made.getvalue()))
+    if metadata is not None and len(expected) > 1:
+        image = numpy.repeat(image, 80 * 8, axis=-2)
+        made = io.BytesIO()
+        tifffile.imwrite(made, image, **options)
+        expected = tifffile.imread(io.BytesIO(made.getvalue()))
     page = assert_same(image, expected, **options)
     theirs = tifffile.TiffFile(io.BytesIO(made.getvalue()))
     assert len(page.parent.pages) == len(theirs.pages)
@@ -160,7 +165,7 @@ def test_resolutions(resolution: tuple, unit: object) -> None:
     page = assert_same(image, resolution=resolution, resolutionunit=unit)
     made = io.BytesIO()
     tifffile.imwrite(made, image, resolution=resolution, resolutionunit=unit, metadata=None)
-    theirs = tifffile.TiffFile(made).pages[0]
+    theirs = tifffile.TiffFile(io.BytesIO(made.getvalue())).pages[0]
     assert page.resolution == theirs.resolution
     assert page.resolutionunit == theirs.resolutionunit
     ours = mt.TiffFile(mt.imwrite(None, image, resolution=resolution, resolutionunit=unit)).pages[0]
@@ -194,7 +199,7 @@ def test_extra_tags(big: bool) -> None:
     tifffile.imwrite(
         made, samples((12, 10), "u1"), extratags=extra, bigtiff=big, metadata=None, byteorder="<"
     )
-    theirs = tifffile.TiffFile(made).pages[0].tags
+    theirs = tifffile.TiffFile(io.BytesIO(made.getvalue())).pages[0].tags
     for code, *_ in extra:
         ours, other = page.tags[code], theirs[code]
         assert (ours.dtype, ours.count, ours.value) == (other.dtype, other.count, other.value)
