@@ -144,7 +144,7 @@ def imwrite(
     `description`, `software`, `datetime` and `metadata` go to the first page. `metadata`, a
     dictionary, makes the description that keeps the shape of the array, with the dictionary's
     facts; by default there is none. `resolution` is the pixels in a unit along a row and a column,
-    numbers or fractions, in inches or in `resolutionunit`. `extratags` are tuples of a tag's number,
+    numbers or fractions, in inches or in `resolutionunit`. `extratags` are tuples: a tag's number,
     the type and the count of its values, the values, and whether the first page alone gets it.
 
     Errors: what tifffile writes and this package doesn't, as `UnsupportedError`, which names it;
@@ -153,19 +153,16 @@ def imwrite(
     import numpy
 
     from ._new_tags import resolution_of
-    from ._write import Settings, file_of
+    from ._write import Samples, Settings, Stored, file_of
 
     judge_others(others)
     array = numpy.asarray(data)
     first = texts_of(array.shape, description, metadata, software, datetime)
+    samples = Samples(photometric, planarconfig, extrasamples)
+    stored = Stored(tile, rowsperstrip, compression, predictor)
     settings = Settings(
-        photometric=photometric,
-        planarconfig=planarconfig,
-        extrasamples=extrasamples,
-        tile=tile,
-        rowsperstrip=rowsperstrip,
-        compression=compression,
-        predictor=predictor,
+        samples,
+        stored,
         tags=tuple(tags_of(extratags, subfiletype, first=False)),
         first_tags=(*first, *tags_of(extratags, subfiletype, first=True)),
         resolution=resolution_of(resolution, resolutionunit),

@@ -88,7 +88,7 @@ class NewPage:
 
 
 def words_of(samples: NDArray[Any]) -> str:
-    """Returns samples as the words of a list of jobs: numbers, floating-point ones by their bits."""
+    """Returns samples as words of a list of jobs: numbers, floating-point ones by their bits."""
     if samples.dtype.kind != "f":
         return " ".join(map(str, samples.ravel().tolist()))
     return " ".join(map(hex, samples.view(f"<u{samples.dtype.itemsize}").ravel().tolist()))

@@ -91,7 +91,8 @@ def fraction_of(given: Fractional) -> tuple[int, int]:
     greatest = max(exact.numerator, exact.denominator)
     if greatest <= LONGEST:
         return exact.numerator, exact.denominator
-    return round(exact.numerator * LONGEST / greatest), round(exact.denominator * LONGEST / greatest)
+    scale = LONGEST / greatest
+    return round(exact.numerator * scale), round(exact.denominator * scale)
 
 
 def resolution_of(

@@ -120,8 +120,8 @@ class Source:
         lines = range(window.top // grid.chunk_height, -(-window.bottom // grid.chunk_height))
         for plane in range(grid.planes):
             if grid.across == 1:
-                first, behind = grid.number(plane, lines.start, 0), grid.number(plane, lines.stop, 0)
-                yield from stretches(first, behind, most)
+                first = grid.number(plane, lines.start, 0)
+                yield from stretches(first, first + len(lines), most)
                 continue
             left = window.left // grid.chunk_width
             right = -(-window.right // grid.chunk_width)
@@ -155,14 +155,34 @@ class Source:
         target[...] = numbers[top - row : bottom - row, window.left : window.right]
 
     def _read_tiles(self, run: Run, window: Window, array: NDArray[Any]) -> None:
-        """Reads chunks that lie side by side, and puts each into its place."""
-        for (plane, row, column), tile in self.chunks(run):
-            top, bottom = max(row, window.top), min(row + tile.shape[0], window.bottom)
-            left, right = max(column, window.left), min(column + tile.shape[1], window.right)
-            target = array[plane, top - window.top : bottom - window.top]
-            target[:, left - window.left : right - window.left] = tile[
+        """Reads chunks that lie side by side, and puts them into their places."""
+        plane, row, column = self.grid.place(run.first)
+        behind = row + self.grid.rows_from(row)
+        top, bottom = max(row, window.top), min(behind, window.bottom)
+        target = array[plane, top - window.top : bottom - window.top]
+        for block in self._blocks(run):
+            left, right = max(column, window.left), min(column + block.shape[1], window.right)
+            target[:, left - window.left : right - window.left] = block[
                 top - row : bottom - row, left - column : right - column
             ]
+            column += block.shape[1]
+
+    def _blocks(self, run: Run) -> Iterator[NDArray[Any]]:
+        """Reads chunks that lie side by side; yields the whole ones as one block, and a cut one."""
+        grid, form = self.grid, self.form
+        _, row, column = grid.place(run.first)
+        rows, width = grid.rows_from(row), grid.chunk_width
+        cut = min(run.count * width, grid.width - column) % width
+        whole = run.count - (cut > 0)
+        room, rest = whole * rows * form.row_bytes(width), rows * form.row_bytes(cut)
+        raw = numpy.empty(room + rest, numpy.uint8)
+        self.read(_library.READ_CHUNKS, raw, run.first, run.count)
+        if whole:
+            numbers = form.natural(raw[:room].reshape(whole * rows, -1), width)
+            side_by_side = numbers.reshape(whole, rows, width, form.samples).transpose(1, 0, 2, 3)
+            yield side_by_side.reshape(rows, whole * width, form.samples)
+        if cut:
+            yield form.natural(raw[room:].reshape(rows, -1), cut)
 
     def chunks(self, run: Run) -> Iterator[tuple[tuple[int, int, int], NDArray[Any]]]:
         """Reads a run of chunks, and yields the place and the samples of each."""
@@ -209,7 +229,7 @@ def read_window(
 ) -> None:
     """Reads a window of a page into an array of planes, rows, columns and samples."""
     grid = source.grid
-    whole = (window.top, window.bottom, window.left, window.right) == (0, grid.height, 0, grid.width)
+    whole = window == Window(0, grid.height, 0, grid.width)
     wanted = threads(workers)
     count = wanted if array.nbytes >= STRETCH else 1
     if whole and source.at_once and array.flags.c_contiguous and count == 1:

@@ -7,8 +7,9 @@ import re
 from typing import TYPE_CHECKING, Any, NamedTuple
 
 from ._enums import COMPRESSION, PREDICTOR
+from ._facts import DESCRIPTION, SOFTWARE, SUB_IFDS
 from ._library import Status, TiffError, UnsupportedError
-from ._page import DESCRIPTION, SOFTWARE, SUB_IFDS, TiffPage, room
+from ._page import TiffPage, room
 from ._parts import each, threads
 
 if TYPE_CHECKING:
@@ -87,7 +88,10 @@ def kind_of(page: TiffPage) -> str | None:
     for name, pattern in MADE_BY.items():
         if re.match(pattern, software):
             return name
-    return next((name for name, tags in TAGGED.items() if any(tag in page.tags for tag in tags)), None)
+    for name, tags in TAGGED.items():
+        if any(tag in page.tags for tag in tags):
+            return name
+    return None
 
 
 def alike(page: TiffPage) -> tuple[Any, ...]:

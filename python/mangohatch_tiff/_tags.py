@@ -121,7 +121,7 @@ FORMATS = {
 TUPLES = {273, 279, 282, 283, 324, 325, 330, 338, 513, 514, 530, 531, 34736, 50838}
 # Tags of three curves, whose value is an array of three rows.
 CURVES = {301, 320}
-# Tags of which tifffile gives what their bytes mean, as a dictionary: Exif, GPS, and of microscopes.
+# Tags of which tifffile gives what their bytes mean: Exif, GPS, and those of microscopes.
 MEANT = {33471, 33560, 33628, 33629, 33630, 33631, 33723, 33923, 34118, 34361, 34362, 34363, 34386}
 MEANT |= {34412, 34665, 34680, 34682, 34853, 37706, 37724, 40100, 40965, 43314, 50288, 50296, 50839}
 MEANT |= {51123, 65426, 65432, 65439, 65459}
@@ -246,20 +246,23 @@ class Tags:
 
     def _decoded(self, code: int, kind: int, count: int) -> str | bytes | tuple[Number, ...]:
         """Returns the values of a tag of a type and a count."""
+        return decode(kind, self._stored(code, kind, count), self._order)
+
+    def _stored(self, code: int, kind: int, count: int) -> bytes:
+        """Returns the bytes of so many values of a type, as the file has them."""
         if kind not in FORMATS:
             raise TiffError(Status.INVALID_TYPE_FOR_TAG, self._index, code)
-        return decode(kind, self._bytes(code, count * value_size(kind)), self._order)
+        return self._bytes(code, count * value_size(kind))
 
     def _bytes(self, number: int, size: int) -> bytes:
         """Returns the bytes of the values of a tag."""
         written = c_size_t()
-        with _library.named(self._index, number), _library.locked(self._file) as (address, length):
+        with _library.named(self._index, number), _library.locked(self._file) as file:
             # Values that are longer than the file don't lie in it; the call returns that error.
-            buffer = ctypes.create_string_buffer(min(size, length + 1) or 1)
+            buffer = ctypes.create_string_buffer(min(size, file[1] + 1) or 1)
+            place = self._page, number, 0
             _library.check(
-                _library.TAG_BYTES(
-                    address, length, self._page, number, 0, buffer, len(buffer), byref(written)
-                )
+                _library.TAG_BYTES(*file, *place, buffer, len(buffer), byref(written))
             )
         return buffer.raw[: written.value]
 
@@ -332,9 +335,7 @@ class Tags:
     def data(self, key: int | str) -> bytes:
         """Returns the bytes of the values of a tag, in the file's byte order."""
         tag = self[key]
-        if tag.dtype not in FORMATS:
-            raise TiffError(Status.INVALID_TYPE_FOR_TAG, self._index, tag.code)
-        return self._bytes(tag.code, tag.count * value_size(tag.dtype))
+        return self._stored(tag.code, tag.dtype, tag.count)
 
     def first(self, number: int, default: int) -> int:
         """Returns the first unsigned number of a tag, or the default if the page has none."""

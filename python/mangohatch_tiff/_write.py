@@ -3,7 +3,7 @@ from __future__ import annotations
 
 import math
 from collections.abc import Sequence
-from dataclasses import dataclass
+from dataclasses import dataclass, replace
 from typing import TYPE_CHECKING, Any, Union
 
 import numpy
@@ -25,16 +25,30 @@ Named = Union[int, str, None]
 
 
 @dataclass(frozen=True)
-class Settings:
-    """How a caller wants an array to be written; the parameters of `imwrite`."""
+class Samples:
+    """What a caller says of the samples: their meaning, their order, and the extra ones."""
 
     photometric: Named = None
     planarconfig: Named = None
     extrasamples: Sequence[Named] | None = None
+
+
+@dataclass(frozen=True)
+class Stored:
+    """How a caller wants the samples to be stored."""
+
     tile: Sequence[int] | None = None
     rowsperstrip: int | None = None
     compression: Named = None
     predictor: Union[Named, bool] = None
+
+
+@dataclass(frozen=True)
+class Settings:
+    """How a caller wants an array to be written; `has_shape` is that a description tells it."""
+
+    samples: Samples
+    stored: Stored
     tags: tuple[NewTag, ...] = ()
     first_tags: tuple[NewTag, ...] = ()
     resolution: tuple[int, tuple[int, int], tuple[int, int]] | None = None
@@ -49,36 +63,36 @@ def ambiguous(shape: tuple[int, ...]) -> ValueError:
     )
 
 
-def meaning_of(array: NDArray[Any], settings: Settings) -> PHOTOMETRIC:
+def meaning_of(array: NDArray[Any], given: Samples) -> PHOTOMETRIC:
     """Returns what the samples of an array mean: what the caller says, or what the shape shows.
 
     Three or four samples of 8 or 16 bits at the end are RGB. Other arrays with a side of 3 or 4
     where samples may be are RGB for one version of tifffile and gray for another: they are refused.
     """
-    if settings.photometric is not None:
-        meaning = chosen(PHOTOMETRIC, settings.photometric, "photometric")
+    if given.photometric is not None:
+        meaning = chosen(PHOTOMETRIC, given.photometric, "photometric")
         if meaning not in KINDS:
             what = f"photometric={meaning.name.lower()}"
             raise UnsupportedError(what, Status.UNSUPPORTED_INTERPRETATION)
         return meaning
-    apart = settings.planarconfig is not None and planar_of(settings)
+    apart = given.planarconfig is not None and planar_of(given)
     at_end = array.ndim > 2 and array.shape[-1] in (3, 4) and not apart
     if at_end and array.dtype.kind == "u" and array.itemsize <= 2:
         return PHOTOMETRIC.RGB
-    side_by_side = settings.planarconfig is not None and not apart
+    side_by_side = given.planarconfig is not None and not apart
     before = array.ndim > 2 and array.shape[-3] in (3, 4) and not side_by_side
     if at_end or before:
         raise ambiguous(array.shape)
     return PHOTOMETRIC.MINISBLACK
 
 
-def planar_of(settings: Settings) -> bool:
+def planar_of(given: Samples) -> bool:
     """Returns whether the caller wants the samples of a pixel apart."""
-    wanted = chosen(PLANARCONFIG, settings.planarconfig, "planarconfig")
+    wanted = chosen(PLANARCONFIG, given.planarconfig, "planarconfig")
     return wanted is PLANARCONFIG.SEPARATE
 
 
-def samples_apart(array: NDArray[Any], color: str, settings: Settings) -> bool | None:
+def samples_apart(array: NDArray[Any], color: str, given: Samples) -> bool | None:
     """Returns whether samples are a side before the rows; None if a pixel has one sample.
 
     Without a planarconfig, samples of a color are at the end, or else before the rows.
@@ -87,40 +101,39 @@ def samples_apart(array: NDArray[Any], color: str, settings: Settings) -> bool |
     if array.ndim < 3:
         return None
     if color == "Gray":
-        if settings.planarconfig is None:
-            return False if settings.extrasamples else None
-        return None if settings.extrasamples == () else planar_of(settings)
-    if settings.planarconfig is not None:
-        return planar_of(settings)
+        if given.planarconfig is None:
+            return False if given.extrasamples else None
+        return None if given.extrasamples == () else planar_of(given)
+    if given.planarconfig is not None:
+        return planar_of(given)
     wanted = {3, 4} if color == "RGB" else {count}
     if shape[-1] in wanted:
         return False
     return shape[-3] in wanted or shape[-1] > shape[-3]
 
 
-def pages_of_array(array: NDArray[Any], color: str, settings: Settings) -> NDArray[Any]:
-    """Returns an array as pages, rows, columns and samples."""
-    apart = samples_apart(array, color, settings)
+def pages_of_array(array: NDArray[Any], color: str, given: Samples) -> tuple[NDArray[Any], bool]:
+    """Returns an array as pages, rows, columns and samples, and whether samples stand apart."""
+    apart = samples_apart(array, color, given)
     if apart is None:
         while array.ndim > 2 and array.shape[-1] == 1:
             array = array[..., 0]
         rows, columns = array.shape[-2:]
-        return array.reshape(math.prod(array.shape[:-2]), rows, columns, 1)
-    sides = array.shape[-3:]
-    pages = array.reshape(math.prod(array.shape[:-3]), *sides)
-    return pages.transpose(0, 2, 3, 1) if apart else pages
+        return array.reshape(math.prod(array.shape[:-2]), rows, columns, 1), False
+    pages = array.reshape(math.prod(array.shape[:-3]), *array.shape[-3:])
+    return pages.transpose(0, 2, 3, 1) if apart else pages, apart
 
 
-def extra_of(count: int, color: str, settings: Settings) -> tuple[int, ...]:
+def extra_of(count: int, color: str, given: Samples) -> tuple[int, ...]:
     """Returns the kinds of the extra samples of a pixel of so many samples."""
     extra = count - SAMPLES[color]
     if extra < 0:
         raise ValueError(f"{count} samples a pixel are too few for {color}")
-    if settings.extrasamples is None:
+    if given.extrasamples is None:
         alone = color == "RGB" and extra == 1
         kind = EXTRASAMPLE.UNASSALPHA if alone else EXTRASAMPLE.UNSPECIFIED
         return (int(kind),) * extra
-    kinds = tuple(int(chosen(EXTRASAMPLE, kind, "extrasamples")) for kind in settings.extrasamples)
+    kinds = tuple(int(chosen(EXTRASAMPLE, kind, "extrasamples")) for kind in given.extrasamples)
     if len(kinds) != extra:
         raise ValueError(f"extrasamples has {len(kinds)} kinds, and a pixel {extra} such samples")
     return kinds
@@ -161,29 +174,31 @@ def tile_of(tile: Sequence[int] | None) -> tuple[int, int] | None:
     return int(tile[0]), int(tile[1])
 
 
-def layout_of(
-    shape: tuple[int, ...], color: str, number: str, settings: Settings
-) -> tuple[tuple[str, str], Layout]:
-    """Returns the color type of pages of a shape, and how they are stored."""
-    extra = extra_of(shape[3], color, settings)
-    if extra == (EXTRASAMPLE.UNASSALPHA,) and settings.extrasamples is None and color == "RGB":
+def color_type_of(
+    count: int, color: str, number: str, given: Samples
+) -> tuple[tuple[str, str], tuple[int, ...]]:
+    """Returns the color type of pixels of so many samples, and the kinds of the extra ones."""
+    extra = extra_of(count, color, given)
+    if color == "RGB" and len(extra) == 1 and given.extrasamples is None:
         # The library's own RGBA, which has no tag ExtraSamples, is written much faster.
         color, extra = "RGBA", ()
     if (color, number) not in COLORS:
         what = f"{color} samples of type {numpy.dtype(number)}"
         raise UnsupportedError(what, Status.UNSUPPORTED_COLOR_TYPE)
-    strip = settings.rowsperstrip
+    return (color, number), extra
+
+
+def layout_of(rows: int, kind: str, stored: Stored) -> Layout:
+    """Returns how pages of so many rows are stored, of numbers of a kind."""
+    strip = stored.rowsperstrip
     if strip is not None and strip < 1:
         raise ValueError(f"rowsperstrip={strip}")
-    layout = Layout(
-        tile=tile_of(settings.tile),
-        rowsperstrip=None if settings.tile or strip is None else min(strip, shape[1]),
-        planar=shape[3] > 1 and settings.planarconfig is not None and planar_of(settings),
-        extra=extra,
-        method=method_of(settings.compression),
-        predictor=predictor_of(settings.predictor, number[0]),
+    return Layout(
+        tile=tile_of(stored.tile),
+        rowsperstrip=None if stored.tile or strip is None else min(strip, rows),
+        method=method_of(stored.compression),
+        predictor=predictor_of(stored.predictor, kind),
     )
-    return (color, number), layout
 
 
 def pages_of(data: ArrayLike, settings: Settings) -> list[NewPage]:
@@ -194,16 +209,18 @@ def pages_of(data: ArrayLike, settings: Settings) -> list[NewPage]:
     if given.dtype.kind not in "uif":
         what = f"an array of type {given.dtype}"
         raise UnsupportedError(what, Status.UNSUPPORTED_SAMPLE_FORMAT)
-    color = KINDS[meaning_of(given, settings)]
+    color = KINDS[meaning_of(given, settings.samples)]
     if color != "Gray" and given.ndim < 3:
         raise ValueError(f"an array of shape {given.shape} has no samples of {color}")
-    pages = pages_of_array(given, color, settings)
+    pages, apart = pages_of_array(given, color, settings.samples)
     if max(pages.shape[1:3]) > LONGEST_SIDE:
         raise ValueError(f"a side of an image is {LONGEST_SIDE} at most")
     if not len(pages):
         raise ValueError(f"an array of shape {given.shape} has no page")
-    number = given.dtype.str[1:]
-    kind, layout = layout_of(pages.shape, color, number, settings)
+    _, rows, _, count = pages.shape
+    kind, extra = color_type_of(count, color, given.dtype.str[1:], settings.samples)
+    layout = layout_of(rows, given.dtype.kind, settings.stored)
+    layout = replace(layout, planar=apart and count > 1, extra=extra)
     order = given.dtype.newbyteorder("<")
     return [
         NewPage(
@@ -236,5 +253,5 @@ def file_of(data: ArrayLike, big: bool | None, settings: Settings) -> memoryview
     if settings.has_shape:
         judge_shape(pages)
     size = sum(page.samples.nbytes for page in pages)
-    plain = method_of(settings.compression) == COMPRESSION.NONE
+    plain = method_of(settings.stored.compression) == COMPRESSION.NONE
     return _write_pages(pages, size > BIG_FROM and plain if big is None else big)

@@ -189,7 +189,8 @@ def test_segments_are_those_of_tifffile(
 ) -> None:
     """But for what a tile has outside the image, which the library doesn't give: zeros here."""
     planar = options.get("planarconfig") == "separate"
-    file = written(samples((3, 37, 53) if planar else (37, 53, 3), "u2"), photometric="rgb", **options)
+    image = samples((3, 37, 53) if planar else (37, 53, 3), "u2")
+    file = written(image, photometric="rgb", **options)
     monkeypatch.setattr(_parts, "STRETCH", 512)
     ours = list(mt.TiffFile(file).pages[0].segments(workers=workers))
     theirs = list(tifffile.TiffFile(io.BytesIO(file)).pages[0].segments())

@@ -23,7 +23,8 @@ def several(*arrays: numpy.ndarray, **options: object) -> bytes:
     made = io.BytesIO()
     with tifffile.TiffWriter(made) as writer:
         for array in arrays:
-            writer.write(array, photometric="minisblack", metadata=None, contiguous=False, **options)
+            settings = {"photometric": "minisblack", "metadata": None, "contiguous": False}
+            writer.write(array, **settings, **options)
     return made.getvalue()
 
 

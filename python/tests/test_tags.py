@@ -125,7 +125,8 @@ def test_tags_are_those_of_tifffile(byteorder: str, bigtiff: bool) -> None:
     assert len(ours) == len(theirs)
     for tag, other in zip(ours, theirs):
         assert (tag.code, tag.dtype, tag.count) == (other.code, other.dtype, other.count)
-        assert tag.value == other.value and type(tag.value).__name__ == type(other.value).__name__, tag
+        assert tag.value == other.value, tag
+        assert type(tag.value).__name__ == type(other.value).__name__, tag
         assert ours.valueof(tag.code) == theirs.valueof(tag.code)
         assert repr(tag)
 

@@ -12,7 +12,9 @@ from conftest import samples
 import mangohatch_tiff as mt
 
 
-def assert_same(image: numpy.ndarray, expected: object = None, **options: object) -> tifffile.TiffPage:
+def assert_same(
+    image: numpy.ndarray, expected: object = None, **options: object
+) -> tifffile.TiffPage:
     """Writes an array, compares what tifffile and this package read, and returns the first page."""
     file = mt.imwrite(None, image, **options)
     tif = tifffile.TiffFile(io.BytesIO(file))
@@ -66,8 +68,11 @@ def test_colors(options: dict, planarconfig: str | None, count: int) -> None:
         numpy.testing.assert_array_equal(mt.imread(file), image)
 
 
+EXTRAS = [("unassalpha",), ("assocalpha",), (2,), ("unspecified", "assocalpha")]
+
+
 @pytest.mark.parametrize("options", [{}, {"tile": (16, 16)}])
-@pytest.mark.parametrize("extra", [("unassalpha",), ("assocalpha",), (2,), ("unspecified", "assocalpha")])
+@pytest.mark.parametrize("extra", EXTRAS)
 def test_extra_samples(options: dict, extra: tuple) -> None:
     image = samples((20, 30, 3 + len(extra)), "u1")
     file = mt.imwrite(None, image, photometric="rgb", extrasamples=extra, **options)
@@ -122,6 +127,23 @@ def test_stacks(shape: tuple[int, ...], dtype: str, metadata: dict | None) -> No
 def test_stacks_of_colors(photometric: str, planarconfig: str) -> None:
     shape = (6, 12, 10, 3) if planarconfig == "contig" else (6, 3, 12, 10)
     assert_same(samples(shape, "u2"), photometric=photometric, planarconfig=planarconfig)
+
+
+PLACES = [((3, 20, 30), 2), ((2, 4, 20, 30), 2), ((20, 30, 3), 1), ((9, 20, 30), 2)]
+
+
+@pytest.mark.parametrize(("shape", "planarconfig"), PLACES)
+def test_colors_without_a_planarconfig(shape: tuple[int, ...], planarconfig: int) -> None:
+    """Samples are where tifffile takes them to be, and are stored in the same order."""
+    image = samples(shape, "u1")
+    made = io.BytesIO()
+    tifffile.imwrite(made, image, photometric="rgb", metadata=None)
+    theirs = tifffile.TiffFile(io.BytesIO(made.getvalue())).pages[0]
+    file = mt.imwrite(None, image, photometric="rgb")
+    page = tifffile.TiffFile(io.BytesIO(file)).pages[0]
+    assert page.planarconfig == theirs.planarconfig == planarconfig
+    assert page.shape == theirs.shape
+    numpy.testing.assert_array_equal(page.asarray(), theirs.asarray())
 
 
 def test_colors_without_a_photometric() -> None:
