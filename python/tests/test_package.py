@@ -81,3 +81,22 @@ def test_install(isolation: list[str], tmp_path: Path) -> None:
         cwd=tmp_path, capture_output=True, text=True, check=True,
     )
     assert told.stdout.split() == [mt.__version__, str(mt.library_version())]
+
+
+def test_numpy_is_for_arrays_alone(tmp_path: Path) -> None:
+    """Pages, their facts and their tags are read without numpy."""
+    path = tmp_path / "page.tif"
+    mt.imwrite(path, [[1, 2, 3]], description="a line")
+    program = f"""
+import sys
+sys.modules["numpy"] = None
+from mangohatch_tiff import TiffFile, write_jobs
+with TiffFile({str(path)!r}) as tif:
+    page = tif.pages[0]
+    print(page.shape, page.axes, page.description, page.compression.name, len(page.tags))
+"""
+    environment = {**os.environ, "PYTHONPATH": str(FOLDER)}
+    told = subprocess.run(
+        [sys.executable, "-c", program], env=environment, capture_output=True, text=True, check=True
+    )
+    assert told.stdout.startswith("(1, 3) YX a line NONE ")
