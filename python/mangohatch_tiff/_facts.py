@@ -187,7 +187,9 @@ class PageFacts:
     @property
     def is_shaped(self) -> bool:
         """Whether the description is the one in which tifffile keeps the shape of an array."""
-        return self._told_text(DESCRIPTION).startswith('{"shape":')
+        text = self._told_text(DESCRIPTION)
+        json = text.startswith("{") and '"shape":' in text and '"mibi.' not in text
+        return json or text.startswith("shape=")
 
     @property
     def tilewidth(self) -> int:

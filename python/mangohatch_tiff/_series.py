@@ -32,7 +32,7 @@ TAGGED = {
 }
 # Files whose arrays tifffile makes by what these texts tell: the beginning or the end of a text.
 DESCRIBED = {"SVS": r"Aperio ", "ScanImage": r"state\.|(?s:.*)scanimage\.SI"}
-DESCRIBED |= {"OME": r"(?s:.*)OME>\s*$", "SCN": r"(?s:.*)</scn>\s*$", "shape": r"shape="}
+DESCRIBED |= {"OME": r"(?s:.*)OME>\s*$", "SCN": r"(?s:.*)</scn>\s*$"}
 MADE_BY = {"ScanImage": r"SI\.", "QPI": r"PerkinElmer-QPI", "BIF": r".*Ventana|ScanOutputManager"}
 
 
@@ -210,7 +210,7 @@ def first_stack(file: TiffFile) -> Stack:
     """
     first = file.pages[0]
     text = first._told_text(DESCRIPTION)
-    if text.startswith("{") and '"shape":' in text:
+    if first.is_shaped:
         return shaped_stack(file, text)
     if text.startswith(("ImageJ=", "SCIFIO=")):
         return imagej_stack(file, text)
