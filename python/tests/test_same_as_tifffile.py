@@ -18,6 +18,8 @@ COUNT = 300
 TYPES = ["u1", "u2", "u4", "u8", "i1", "i2", "i4", "i8", "f2", "f4", "f8", "c8", "c16", "?"]
 PHOTOMETRICS = [None, "minisblack", "miniswhite", "rgb", "separated", "palette"]
 METADATA = [None, {}, {"axes": "auto"}]
+REFUSALS = (ValueError, TypeError, RuntimeError, KeyError, IndexError)
+REFUSALS += (tifffile.TiffFileError, tifffile.OmeXmlError)
 # Facts of a page that are compared.
 FACTS = ["shape", "dtype", "axes", "ndim", "size", "nbytes", "photometric", "planarconfig"]
 FACTS += ["samplesperpixel", "bitspersample", "sampleformat", "extrasamples", "compression"]
@@ -66,7 +68,7 @@ def file_of(chance: random.Random) -> bytes | None:
         with warnings.catch_warnings():
             warnings.simplefilter("ignore")
             tifffile.imwrite(made, image, **options)
-    except (ValueError, TypeError, RuntimeError, KeyError, IndexError, tifffile.TiffFileError):
+    except REFUSALS:
         return None
     return made.getvalue()
 
