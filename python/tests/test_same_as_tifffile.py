@@ -84,7 +84,7 @@ def read(call: Callable[[], numpy.ndarray]) -> numpy.ndarray | mt.TiffError:
 def assert_same_array(
     ours: numpy.ndarray | mt.TiffError, theirs: Callable[[], numpy.ndarray]
 ) -> None:
-    """Compares two arrays, their shapes and their number types. tifffile can't read all that it wrote."""
+    """Compares two arrays and their types. Some of what tifffile writes it can't read itself."""
     if isinstance(ours, mt.TiffError):
         return
     try:
