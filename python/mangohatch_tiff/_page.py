@@ -6,7 +6,7 @@ from functools import cached_property
 from typing import TYPE_CHECKING, Any
 
 from . import _library
-from ._enums import COMPRESSION, FILLORDER
+from ._enums import COMPRESSION, FILLORDER, SAMPLEFORMAT
 from ._facts import PageFacts
 from ._library import Status, TiffError, UnsupportedError
 
@@ -69,6 +69,7 @@ class TiffPage(PageFacts):
             signed=self.sampleformat == SIGNED,
             turned=self.is_inverted and not shown,
             swapped=self._order == ">" and self.dtype.kind in "cV",
+            alone=self.sampleformat > SAMPLEFORMAT.IEEEFP,
         )
         grid = self._grid(shown)
         return Source(self._file, self._at, grid, form, grid.planes == self._samples.planes)

@@ -100,6 +100,19 @@ class Source:
         """Reads samples into an array by a call."""
         _library.read_samples(call, self.file, (self.at, *place), room)
 
+    def read_chunks(self, run: Run, room: NDArray[Any]) -> None:
+        """Reads a run of chunks into an array, one behind the other."""
+        if not self.form.alone:
+            self.read(_library.READ_CHUNKS, room, run.first, run.count)
+            return
+        data, start = room.reshape(-1).view(numpy.uint8), 0
+        for chunk in range(run.first, run.first + run.count):
+            _, row, column = self.grid.place(chunk)
+            width = self.grid.columns_from(column)
+            size = self.grid.rows_from(row) * self.form.row_bytes(width)
+            self.read(_library.READ_CHUNK, data[start : start + size], chunk)
+            start += size
+
     def read_whole(self, array: NDArray[Any]) -> None:
         """Reads the image into an array of planes, rows, columns and samples, by one call."""
         grid, form = self.grid, self.form
@@ -145,12 +158,12 @@ class Source:
         target = array[plane, top - window.top : bottom - window.top]
         whole = (top, bottom, window.left, window.right) == (row, behind, 0, grid.width)
         if whole and form.is_direct and target.flags.c_contiguous:
-            self.read(_library.READ_CHUNKS, target, run.first, run.count)
+            self.read_chunks(run, target)
             if form.turned:
                 numpy.bitwise_not(target, out=target)
             return
         raw = numpy.empty((behind - row, form.row_bytes(grid.width)), numpy.uint8)
-        self.read(_library.READ_CHUNKS, raw, run.first, run.count)
+        self.read_chunks(run, raw)
         numbers = form.natural(raw, grid.width)
         target[...] = numbers[top - row : bottom - row, window.left : window.right]
 
@@ -176,7 +189,7 @@ class Source:
         whole = run.count - (cut > 0)
         room, rest = whole * rows * form.row_bytes(width), rows * form.row_bytes(cut)
         raw = numpy.empty(room + rest, numpy.uint8)
-        self.read(_library.READ_CHUNKS, raw, run.first, run.count)
+        self.read_chunks(run, raw)
         if whole:
             numbers = form.natural(raw[:room].reshape(whole * rows, -1), width)
             side_by_side = numbers.reshape(whole, rows, width, form.samples).transpose(1, 0, 2, 3)
@@ -190,7 +203,7 @@ class Source:
         places = [grid.place(chunk) for chunk in range(run.first, run.first + run.count)]
         sides = [(grid.rows_from(row), grid.columns_from(column)) for _, row, column in places]
         raw = numpy.empty(sum(rows * form.row_bytes(wide) for rows, wide in sides), numpy.uint8)
-        self.read(_library.READ_CHUNKS, raw, run.first, run.count)
+        self.read_chunks(run, raw)
         start = 0
         for place, (rows, wide) in zip(places, sides):
             size = form.row_bytes(wide)

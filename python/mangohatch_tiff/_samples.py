@@ -39,7 +39,8 @@ class Form:
 
     A row has whole bytes; `bits` are those of a sample and `samples` how many each pixel has there.
     With `turned`, the bytes are complemented, which takes back that the library inverted them.
-    With `swapped`, the two halves of a number stand in the other order.
+    With `swapped`, the two halves of a number stand in the other order. With `alone`, the library
+    reads chunks one by one and not several by one call, as those of complex numbers.
     """
 
     dtype: numpy.dtype[Any]
@@ -48,6 +49,7 @@ class Form:
     signed: bool = False
     turned: bool = False
     swapped: bool = False
+    alone: bool = False
 
     @property
     def is_direct(self) -> bool:

@@ -132,6 +132,9 @@ def test_complex_whole_numbers(order: str, size: int) -> None:
 
 
 def test_void_is_unsigned() -> None:
+    page = mt.TiffFile(gray_file(t339=(3, 4))).pages[0]
+    numpy.testing.assert_array_equal(page.read_chunk(0), page.asarray())
+    numpy.testing.assert_array_equal(page.read(slice(1, 2)), page.asarray()[1:2])
     file = gray_file(t339=(3, 4))
     assert mt.TiffFile(file).pages[0].dtype == numpy.uint8
     numpy.testing.assert_array_equal(mt.imread(file), tifffile.imread(io.BytesIO(file)))

@@ -6,6 +6,7 @@ import random
 import warnings
 from collections import Counter
 from collections.abc import Callable
+from typing import Any
 
 import numpy
 import pytest
@@ -73,8 +74,8 @@ def file_of(chance: random.Random) -> bytes | None:
     return made.getvalue()
 
 
-def read(call: Callable[[], numpy.ndarray]) -> numpy.ndarray | mt.TiffError:
-    """Returns an array that is read, or the error by which it is refused."""
+def read(call: Callable[[], object]) -> Any:
+    """Returns what is read, or the error by which it is refused."""
     try:
         return call()
     except mt.TiffError as fault:
@@ -102,7 +103,13 @@ def test_random_files(first: int) -> None:
         file = file_of(random.Random(seed))
         if file is None:
             continue
-        with tifffile.TiffFile(io.BytesIO(file)) as theirs, mt.TiffFile(file) as ours:
+        opened = read(lambda file=file: mt.TiffFile(file))
+        if isinstance(opened, mt.TiffError):
+            # Of bool samples in planes, tifffile writes more strips than it counts.
+            assert opened.status is mt.Status.INCONSISTENT_SIZES_ENCOUNTERED
+            counted["refused"] += 1
+            continue
+        with tifffile.TiffFile(io.BytesIO(file)) as theirs, opened as ours:
             array = read(ours.asarray)
             counted[type(array).__name__] += 1
             assert_same_array(array, theirs.asarray)
