@@ -71,8 +71,8 @@ class PageFacts:
     @property
     def _facts(self) -> ListedPage:
         """The facts of the page in the list of pages; raises the error of a refused page."""
-        with _library.named(self._named):
-            _library.check(self._listed.status)
+        if self._listed.status:
+            raise TiffError(self._listed.status, self._named)
         return self._listed
 
     def _refuse(self, what: str, status: Status) -> UnsupportedError:
@@ -82,8 +82,8 @@ class PageFacts:
     @property
     def _color(self) -> Color:
         """The color of the page."""
-        with _library.named(self._named):
-            _library.check(self._facts.color_status)
+        if self._facts.color_status:
+            raise TiffError(self._facts.color_status, self._named)
         return self._facts.color
 
     @cached_property
@@ -120,8 +120,8 @@ class PageFacts:
 
     def _first(self, number: int, default: int) -> int:
         """Returns the first number of a tag of the page; raises the error of a refused page."""
-        with _library.named(self._named):
-            _library.check(self._listed.status)
+        if self._listed.status:
+            raise TiffError(self._listed.status, self._named)
         return self.tags.first(number, default)
 
     @property
@@ -221,8 +221,8 @@ class PageFacts:
     @property
     def chunk_count(self) -> int:
         """How many strips or tiles the page has, in all planes."""
-        with _library.named(self._named):
-            _library.check(self._facts.count_status)
+        if self._facts.count_status:
+            raise TiffError(self._facts.count_status, self._named)
         return self._facts.count
 
     def _told_text(self, number: int) -> str:

@@ -4,8 +4,6 @@ from __future__ import annotations
 import ctypes
 import ctypes.util
 import os
-from collections.abc import Iterator
-from contextlib import contextmanager
 from ctypes import (
     POINTER,
     Structure,
@@ -409,29 +407,40 @@ def check(status: int) -> None:
         raise TiffError(status)
 
 
-@contextmanager
-def named(page: int | None, tag: int | None = None) -> Iterator[None]:
-    """Names the page and the tag in each error that the block raises."""
-    try:
-        yield
-    except TiffError as fault:
-        fault.page = page if fault.page is None else fault.page
-        fault.tag = tag if fault.tag is None else fault.tag
-        raise
+class named:
+    """Names the page and the tag in an error of the library that a `with` block raises."""
+
+    __slots__ = ("page", "tag")
+
+    def __init__(self, page: int | None, tag: int | None = None) -> None:
+        self.page, self.tag = page, tag
+
+    def __enter__(self) -> None:
+        return None
+
+    def __exit__(self, kind: object, fault: BaseException | None, trace: object) -> None:
+        if isinstance(fault, TiffError):
+            fault.page = self.page if fault.page is None else fault.page
+            fault.tag = self.tag if fault.tag is None else fault.tag
 
 
-@contextmanager
-def locked(owner: ReadableBuffer) -> Iterator[tuple[int, int]]:
-    """Yields the address and the length of an object's own bytes, which are locked meanwhile.
+class locked:
+    """Locks an object's own bytes during a `with` block, which gets their address and length.
 
     Nothing is copied. The object can be neither resized nor closed while the block runs.
     """
-    view = _PyBuffer()
-    _GET_BUFFER(owner, byref(view), _CONTIGUOUS)
-    try:
-        yield view.buf or ctypes.addressof(_ANY_BYTE), view.len
-    finally:
-        _RELEASE_BUFFER(byref(view))
+
+    __slots__ = ("owner", "view")
+
+    def __init__(self, owner: ReadableBuffer) -> None:
+        self.owner, self.view = owner, _PyBuffer()
+
+    def __enter__(self) -> tuple[int, int]:
+        _GET_BUFFER(self.owner, byref(self.view), _CONTIGUOUS)
+        return self.view.buf or ctypes.addressof(_ANY_BYTE), self.view.len
+
+    def __exit__(self, kind: object, fault: object, trace: object) -> None:
+        _RELEASE_BUFFER(byref(self.view))
 
 
 Answer = TypeVar("Answer", bound=Structure)
@@ -521,12 +530,14 @@ def tag_numbers(file: ReadableBuffer, page: int, number: int) -> tuple[int, ...]
 
 def told_numbers(file: ReadableBuffer, page: int, number: int) -> tuple[int, ...]:
     """Returns the values of a tag of a page as unsigned numbers; without the tag none."""
-    try:
-        return tag_numbers(file, page, number)
-    except TiffError as fault:
-        if fault.status is not Status.REQUIRED_TAG_NOT_FOUND:
-            raise
+    count, values = c_size_t(), (c_uint64 * FEW)()
+    with locked(file) as (address, length):
+        status = TAG_NUMBERS(address, length, page, number, values, FEW, byref(count))
+    if status == Status.REQUIRED_TAG_NOT_FOUND:
         return ()
+    if status or count.value > FEW:
+        return tag_numbers(file, page, number)
+    return tuple(values[: count.value])
 
 
 def tag_floats(file: ReadableBuffer, page: int, number: int) -> tuple[float, ...]:

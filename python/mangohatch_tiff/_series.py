@@ -17,8 +17,8 @@ if TYPE_CHECKING:
 
     from ._file import TiffFile
 
-# A page of more bytes is read by all threads at once.
-LARGE = 1 << 24
+# A page of more bytes is read by all threads at once, and pages of fewer by one thread.
+LARGE, SMALL = 1 << 24, 1 << 16
 # Files whose arrays tifffile makes by what these tags tell.
 TAGGED = {
     "LSM": (34412,),
@@ -71,12 +71,13 @@ class Stack(NamedTuple):
 
     def _read_each(self, array: NDArray[Any], workers: int, shown: bool) -> None:
         """Reads the pages side by side, or one after another if each has work for all threads."""
-        within = workers if len(self.pages) < workers or array[0].nbytes > LARGE else 1
+        size = array[0].nbytes
+        within = workers if len(self.pages) < workers or size > LARGE else 1
 
         def read(index: int) -> None:
             self.pages[index].asarray(out=array[index], workers=within, shown=shown)
 
-        each(read, list(range(len(self.pages))), 1 if within > 1 else workers)
+        each(read, list(range(len(self.pages))), 1 if within > 1 or size < SMALL else workers)
 
 
 def kind_of(page: TiffPage) -> str | None:
