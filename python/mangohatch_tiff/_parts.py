@@ -5,10 +5,11 @@ It needs numpy.
 from __future__ import annotations
 
 import os
+import threading
 from collections import deque
 from collections.abc import Callable, Iterator
 from concurrent.futures import Future, ThreadPoolExecutor
-from dataclasses import dataclass
+from dataclasses import dataclass, field
 from typing import TYPE_CHECKING, Any, TypeVar
 
 import numpy
@@ -22,6 +23,8 @@ if TYPE_CHECKING:
 
 # A thread reads about as many bytes by one call, and a smaller image is read by one thread.
 STRETCH = 1 << 20
+# A tile of as many bytes is put into its place alone.
+LARGE_TILE = 1 << 15
 
 Item = TypeVar("Item")
 
@@ -83,6 +86,18 @@ class Window:
     right: int
 
 
+class Scratch(threading.local):
+    """Memory of each thread, for the bytes of one run of chunks after another."""
+
+    held: NDArray[numpy.uint8] | None = None
+
+    def room(self, size: int) -> NDArray[numpy.uint8]:
+        """Returns so many bytes, which the next call returns again."""
+        if self.held is None or len(self.held) < size:
+            self.held = numpy.empty(size, numpy.uint8)
+        return self.held[:size]
+
+
 @dataclass(frozen=True)
 class Source:
     """A page whose samples are read: its file, its number for the calls, its chunks and its form.
@@ -95,6 +110,7 @@ class Source:
     grid: Grid
     form: Form
     at_once: bool
+    scratch: Scratch = field(default_factory=Scratch)
 
     def read(self, call: Any, room: NDArray[Any], *place: int) -> None:
         """Reads samples into an array by a call."""
@@ -162,8 +178,9 @@ class Source:
             if form.turned:
                 numpy.bitwise_not(target, out=target)
             return
-        raw = numpy.empty((behind - row, form.row_bytes(grid.width)), numpy.uint8)
+        raw = self.scratch.room((behind - row) * form.row_bytes(grid.width))
         self.read_chunks(run, raw)
+        raw = raw.reshape(behind - row, -1)
         numbers = form.natural(raw, grid.width)
         target[...] = numbers[top - row : bottom - row, window.left : window.right]
 
@@ -181,19 +198,26 @@ class Source:
             column += block.shape[1]
 
     def _blocks(self, run: Run) -> Iterator[NDArray[Any]]:
-        """Reads chunks that lie side by side; yields the whole ones as one block, and a cut one."""
+        """Reads chunks that lie side by side, and yields blocks of them from the left.
+
+        Large ones are blocks of their own; small whole ones are one block, and a cut one another.
+        """
         grid, form = self.grid, self.form
         _, row, column = grid.place(run.first)
         rows, width = grid.rows_from(row), grid.chunk_width
         cut = min(run.count * width, grid.width - column) % width
         whole = run.count - (cut > 0)
         room, rest = whole * rows * form.row_bytes(width), rows * form.row_bytes(cut)
-        raw = numpy.empty(room + rest, numpy.uint8)
+        raw = self.scratch.room(room + rest)
         self.read_chunks(run, raw)
         if whole:
             numbers = form.natural(raw[:room].reshape(whole * rows, -1), width)
-            side_by_side = numbers.reshape(whole, rows, width, form.samples).transpose(1, 0, 2, 3)
-            yield side_by_side.reshape(rows, whole * width, form.samples)
+            tiles = numbers.reshape(whole, rows, width, form.samples)
+            if tiles[0].nbytes >= LARGE_TILE:
+                yield from tiles
+            else:
+                side_by_side = tiles.transpose(1, 0, 2, 3)
+                yield side_by_side.reshape(rows, whole * width, form.samples)
         if cut:
             yield form.natural(raw[room:].reshape(rows, -1), cut)
 
