@@ -20,7 +20,10 @@ except ModuleNotFoundError:
     try:
         import tomli as tomllib
     except ModuleNotFoundError:
-        raise SystemExit("Building takes Python 3.11 or later, or the package tomli.") from None
+        try:
+            from pip._vendor import tomli as tomllib
+        except ImportError:
+            raise SystemExit("Building takes Python 3.11, or tomli, or a pip with it.") from None
 
 HERE = Path(__file__).resolve().parent
 BUILT = HERE.parent / "out" / "c"

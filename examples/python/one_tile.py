@@ -24,7 +24,7 @@ def main() -> None:
         if not (0 <= row < page.imagelength and 0 <= column < page.imagewidth):
             sys.exit("there is no such pixel")
         tile = tile_at(page, row, column)
-        array = page.asarray(chunk=tile)
+        array = page.read_chunk(tile)
     print(f"tile {tile}: shape {array.shape}, {array.dtype}, mean {array.mean():.2f}")
     imwrite(target, array)
 

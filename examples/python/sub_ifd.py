@@ -11,10 +11,10 @@ from mangohatch_tiff import TiffFile, imwrite
 
 def main() -> None:
     with TiffFile(sys.argv[1]) as file:
-        offsets = file[0].tags["SubIFDs"]
-        preview = file.page_at(offsets if isinstance(offsets, int) else offsets[0])
-        print(preview.shape, preview.dtype)
-        imwrite(sys.argv[2], preview.asarray())
+        offsets = file.pages[0].tags["SubIFDs"].value
+        preview = file.page_at(offsets[0])
+        print(preview)
+        imwrite(sys.argv[2], preview.asarray(), photometric=preview.photometric, planarconfig=preview.planarconfig)
 
 
 if __name__ == "__main__":

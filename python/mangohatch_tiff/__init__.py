@@ -1,25 +1,52 @@
 """Reads TIFF files from memory into numpy arrays, and writes them.
 
     with TiffFile("scan.tif") as tif:
-        for page in tif:
-            print(page.shape, page.dtype, page.tags["XResolution"])
+        for page in tif.pages:
+            print(page.shape, page.dtype, page.tags["XResolution"].value)
         image = tif.pages[0].asarray()
 
-Where this package offers what tifffile offers, it uses tifffile's names.
+What has a name of tifffile's here means the same; README.md has the table.
 """
-from ._file import TiffFile, TiffPage, imread, imwrite
+from ._enums import (
+    COMPRESSION,
+    DATATYPE,
+    EXTRASAMPLE,
+    FILLORDER,
+    PHOTOMETRIC,
+    PLANARCONFIG,
+    PREDICTOR,
+    RESUNIT,
+    SAMPLEFORMAT,
+)
+from ._file import TiffFile, imread
+from ._imwrite import imwrite
 from ._jobs import write_jobs
-from ._library import ColorKind, JobsError, Status, TiffError, library_version
-from ._tags import Tags
+from ._library import ColorKind, JobsError, Status, TiffError, UnsupportedError, library_version
+from ._page import TiffPage
+from ._tags import Tag, Tags
+from ._version import package_version
+
+__version__ = package_version()
 
 __all__ = [
+    "COMPRESSION",
     "ColorKind",
+    "DATATYPE",
+    "EXTRASAMPLE",
+    "FILLORDER",
     "JobsError",
+    "PHOTOMETRIC",
+    "PLANARCONFIG",
+    "PREDICTOR",
+    "RESUNIT",
+    "SAMPLEFORMAT",
     "Status",
+    "Tag",
     "Tags",
     "TiffError",
     "TiffFile",
     "TiffPage",
+    "UnsupportedError",
     "imread",
     "imwrite",
     "library_version",

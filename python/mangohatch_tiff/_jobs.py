@@ -2,26 +2,36 @@
 from __future__ import annotations
 
 import ctypes
+import os
 from ctypes import byref, c_size_t
 from pathlib import Path
-from typing import TYPE_CHECKING
 
 from . import _library
 from ._library import JobsEnd, JobsError, Status
 
-if TYPE_CHECKING:
-    import os
-
 CLASSIC, BIG = 42, 43
+# The room for the file in the first call; a file that is longer takes a second one.
+FIRST_ROOM = 1 << 16
 
 
-def _write_into(size: int, version: int, text: bytes) -> tuple[int, bytes, int, JobsEnd]:
+def _write_into(size: int, version: int, text: bytes) -> tuple[int, memoryview, int, JobsEnd]:
     """Writes a file into a new buffer. Returns the status, the bytes, the length and the end."""
     buffer, length, end = ctypes.create_string_buffer(size), c_size_t(), JobsEnd()
     status = _library.WRITE_JOBS(
         version, text, len(text), buffer, size, byref(length), byref(end)
     )
-    return status, buffer.raw[: length.value], length.value, end
+    return status, memoryview(buffer)[: length.value], length.value, end
+
+
+def file_of_jobs(jobs: str, big: bool, room: int = FIRST_ROOM) -> memoryview:
+    """Returns the bytes of the file that a list of jobs leaves, of `room` bytes at first."""
+    version, text = BIG if big else CLASSIC, jobs.encode()
+    status, file, length, end = _write_into(room, version, text)
+    if status == Status.INSUFFICIENT_OUTPUT_BUFFER_SIZE and not end.job:
+        status, file, length, end = _write_into(length, version, text)
+    if status:
+        raise JobsError(status, end.line, end.job)
+    return file.cast("B")
 
 
 def write_jobs(
@@ -33,13 +43,8 @@ def write_jobs(
     tiff_write_jobs. A list that is refused raises `JobsError` with the line or the job, and nothing
     is written. With `big`, the file is a BigTIFF file.
     """
-    version, text = BIG if big else CLASSIC, jobs.encode()
-    status, file, length, end = _write_into(1, version, text)
-    if status == Status.INSUFFICIENT_OUTPUT_BUFFER_SIZE and not end.job:
-        status, file, length, end = _write_into(length, version, text)
-    if status:
-        raise JobsError(status, end.line, end.job)
+    file = file_of_jobs(jobs, big)
     if path is None:
-        return file
+        return bytes(file)
     Path(path).write_bytes(file)
     return None

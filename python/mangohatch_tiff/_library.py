@@ -4,8 +4,6 @@ from __future__ import annotations
 import ctypes
 import ctypes.util
 import os
-from collections.abc import Iterator, Sequence
-from contextlib import contextmanager
 from ctypes import (
     POINTER,
     Structure,
@@ -124,14 +122,12 @@ FIRST_ROOM = 1 << 14
 FEW = 16
 
 
-class Layout(Structure):
-    """How many bytes an image has: in one plane, and in all planes."""
-
-    _fields_ = [("len", c_size_t), ("complete_len", c_size_t)]
-
-
 class Color(Structure):
     """The kind of a color, the bits of a sample, and how many samples a pixel shows."""
+
+    kind: int
+    bits: int
+    samples: int
 
     _fields_ = [("kind", c_uint32), ("bits", c_uint32), ("samples", c_uint32)]
 
@@ -143,6 +139,12 @@ class Samples(Structure):
     `planes` is 1 if the samples of a pixel lie side by side. `inverted` is 1 if zero is white in
     the file.
     """
+
+    kind: int
+    bits: int
+    samples: int
+    planes: int
+    inverted: int
 
     _fields_ = [
         ("kind", c_uint32),
@@ -156,6 +158,11 @@ class Samples(Structure):
 class Chunks(Structure):
     """The kind of a page's chunks, how many there are, and the width and the height of one."""
 
+    kind: int
+    count: int
+    width: int
+    height: int
+
     _fields_ = [
         ("kind", c_uint32),
         ("count", c_uint32),
@@ -166,6 +173,17 @@ class Chunks(Structure):
 
 class ListedPage(Structure):
     """A page in the list of a file's pages."""
+
+    offset: int
+    status: int
+    width: int
+    height: int
+    method: int
+    color_status: int
+    color: Color
+    chunk_kind: int
+    count_status: int
+    count: int
 
     _fields_ = [
         ("offset", c_uint64),
@@ -184,11 +202,17 @@ class ListedPage(Structure):
 class Sides(Structure):
     """The width and the height of a page."""
 
+    width: int
+    height: int
+
     _fields_ = [("width", c_uint32), ("height", c_uint32)]
 
 
 class Field(Structure):
     """The type of a tag, and how many values it has."""
+
+    kind: int
+    count: int
 
     _fields_ = [("kind", c_uint32), ("count", c_uint64)]
 
@@ -208,6 +232,9 @@ class Image(Structure):
 
 class JobsEnd(Structure):
     """Where a list of jobs was refused: the number of a line or a job, from 1; 0 is none."""
+
+    line: int
+    job: int
 
     _fields_ = [("line", c_size_t), ("job", c_size_t)]
 
@@ -270,10 +297,10 @@ LIST_PAGES = _declare(
 PAGE_SIDES = _declare("tiff_page_sides", *_PAGE, POINTER(Sides))
 PAGE_COLOR = _declare("tiff_page_color", *_PAGE, POINTER(Color))
 PAGE_SAMPLES = _declare("tiff_page_samples", *_PAGE, POINTER(Samples))
-PAGE_LAYOUT = _declare("tiff_page_layout", *_PAGE, POINTER(Layout))
 PAGE_CHUNKS = _declare("tiff_page_chunks", *_PAGE, POINTER(Chunks))
 READ_IMAGE = _declare("tiff_read_image_bytes", *_PAGE, *_BYTES)
 READ_CHUNK = _declare("tiff_read_chunk_bytes", *_PAGE, c_uint32, *_BYTES)
+READ_CHUNKS = _declare("tiff_read_chunks", *_PAGE, c_uint32, c_uint32, *_BYTES)
 TAG_FIELD = _declare("tiff_tag_field", *_PAGE, c_uint16, POINTER(Field))
 TAG_NUMBER = _declare("tiff_tag_number", *_PAGE, c_uint16, POINTER(_Number))
 TAG_BYTES = _declare(
@@ -313,14 +340,46 @@ def fault_text(status: int) -> str:
 
 
 class TiffError(Exception):
-    """An error of a file or a call; `status` is its number."""
+    """An error of a file or a call.
 
-    def __init__(self, status: int) -> None:
-        self.status = Status(status)
-        super().__init__(self.status)
+    `status` is its number, `page` the index of the page in the file, if it is one of the chain, and
+    `tag` the number of the tag, if a tag was asked for.
+    """
+
+    def __init__(self, status: int, page: int | None = None, tag: int | None = None) -> None:
+        self.status, self.page, self.tag = Status(status), page, tag
+        super().__init__(status, page, tag)
+
+    def __reduce__(self) -> tuple[Any, ...]:
+        return type(self), (self.status, self.page, self.tag)
+
+    def _cause(self) -> str:
+        """What the error is, without its place."""
+        return fault_text(self.status)
 
     def __str__(self) -> str:
-        return fault_text(self.status)
+        page = "" if self.page is None else f"page {self.page}: "
+        tag = "" if self.tag is None else f"tag {self.tag}: "
+        return page + tag + self._cause()
+
+
+class UnsupportedError(TiffError, ValueError):
+    """What a file has, or what a caller asks for, and this package doesn't read or write.
+
+    `what` names it, and `status` is the nearest of the library's errors.
+    """
+
+    def __init__(
+        self, what: str, status: int = Status.INVALID_INPUT, page: int | None = None
+    ) -> None:
+        super().__init__(status, page)
+        self.what = what
+
+    def __reduce__(self) -> tuple[Any, ...]:
+        return type(self), (self.what, self.status, self.page)
+
+    def _cause(self) -> str:
+        return self.what
 
 
 class JobsError(TiffError):
@@ -333,10 +392,13 @@ class JobsError(TiffError):
         super().__init__(status)
         self.line, self.job = line, job
 
-    def __str__(self) -> str:
+    def __reduce__(self) -> tuple[Any, ...]:
+        return type(self), (self.status, self.line, self.job)
+
+    def _cause(self) -> str:
         if self.line:
             return f"line {self.line} is no job"
-        return f"job {self.job}: {super().__str__()}" if self.job else super().__str__()
+        return f"job {self.job}: {super()._cause()}" if self.job else super()._cause()
 
 
 def check(status: int) -> None:
@@ -345,18 +407,40 @@ def check(status: int) -> None:
         raise TiffError(status)
 
 
-@contextmanager
-def locked(owner: ReadableBuffer) -> Iterator[tuple[int, int]]:
-    """Yields the address and the length of an object's own bytes, which are locked meanwhile.
+class named:
+    """Names the page and the tag in an error of the library that a `with` block raises."""
+
+    __slots__ = ("page", "tag")
+
+    def __init__(self, page: int | None, tag: int | None = None) -> None:
+        self.page, self.tag = page, tag
+
+    def __enter__(self) -> None:
+        return None
+
+    def __exit__(self, kind: object, fault: BaseException | None, trace: object) -> None:
+        if isinstance(fault, TiffError):
+            fault.page = self.page if fault.page is None else fault.page
+            fault.tag = self.tag if fault.tag is None else fault.tag
+
+
+class locked:
+    """Locks an object's own bytes during a `with` block, which gets their address and length.
 
     Nothing is copied. The object can be neither resized nor closed while the block runs.
     """
-    view = _PyBuffer()
-    _GET_BUFFER(owner, byref(view), _CONTIGUOUS)
-    try:
-        yield view.buf or ctypes.addressof(_ANY_BYTE), view.len
-    finally:
-        _RELEASE_BUFFER(byref(view))
+
+    __slots__ = ("owner", "view")
+
+    def __init__(self, owner: ReadableBuffer) -> None:
+        self.owner, self.view = owner, _PyBuffer()
+
+    def __enter__(self) -> tuple[int, int]:
+        _GET_BUFFER(self.owner, byref(self.view), _CONTIGUOUS)
+        return self.view.buf or ctypes.addressof(_ANY_BYTE), self.view.len
+
+    def __exit__(self, kind: object, fault: object, trace: object) -> None:
+        _RELEASE_BUFFER(byref(self.view))
 
 
 Answer = TypeVar("Answer", bound=Structure)
@@ -375,7 +459,12 @@ def at(offset: int) -> int:
     return 1 << 63 | offset
 
 
-def list_pages(file: ReadableBuffer) -> tuple[Sequence[ListedPage], Status]:
+def offset_of(page: int) -> int:
+    """Returns the offset of which `at` made this number."""
+    return page & ~(1 << 63)
+
+
+def list_pages(file: ReadableBuffer) -> tuple[list[ListedPage], Status]:
     """Returns the pages of a file, and the status with which their chain ends.
 
     One call is enough if it has room for all pages. Else a second call has the room that it needs.
@@ -389,7 +478,7 @@ def list_pages(file: ReadableBuffer) -> tuple[Sequence[ListedPage], Status]:
             room = count.value
             listed = (ListedPage * room)()
             end = LIST_PAGES(address, length, listed, room, byref(count))
-    return (ListedPage * min(count.value, room)).from_buffer_copy(listed), Status(end)
+    return list((ListedPage * min(count.value, room)).from_buffer_copy(listed)), Status(end)
 
 
 def _told(call: Any, kind: type[Answer], file: ReadableBuffer, *place: int) -> tuple[Answer, int]:
@@ -439,9 +528,27 @@ def tag_numbers(file: ReadableBuffer, page: int, number: int) -> tuple[int, ...]
     return tuple(_values(TAG_NUMBERS, c_uint64, file, page, number))
 
 
+def told_numbers(file: ReadableBuffer, page: int, number: int) -> tuple[int, ...]:
+    """Returns the values of a tag of a page as unsigned numbers; without the tag none."""
+    count, values = c_size_t(), (c_uint64 * FEW)()
+    with locked(file) as (address, length):
+        status = TAG_NUMBERS(address, length, page, number, values, FEW, byref(count))
+    if status == Status.REQUIRED_TAG_NOT_FOUND:
+        return ()
+    if status or count.value > FEW:
+        return tag_numbers(file, page, number)
+    return tuple(values[: count.value])
+
+
 def tag_floats(file: ReadableBuffer, page: int, number: int) -> tuple[float, ...]:
     """Returns the values of a tag of a page as floating-point numbers."""
     return tuple(_values(TAG_FLOATS, c_double, file, page, number))
+
+
+def read_samples(call: Any, file: ReadableBuffer, place: tuple[int, ...], room: Any) -> None:
+    """Reads samples of a page into an array; `place` is the page and what the call takes after."""
+    with locked(file) as (address, length):
+        check(call(address, length, *place, room.ctypes.data, room.nbytes))
 
 
 def tag_text(file: ReadableBuffer, page: int, number: int) -> str:

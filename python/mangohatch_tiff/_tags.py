@@ -3,12 +3,15 @@ from __future__ import annotations
 
 import ctypes
 import struct
-from collections.abc import Iterator, Mapping
+from collections import Counter
+from collections.abc import Iterator
 from ctypes import byref, c_size_t
+from functools import cached_property
 from typing import TYPE_CHECKING, Any, Union
 
-from . import _library
-from ._library import Field, Status, TiffError
+from . import _directory, _library
+from ._enums import DATATYPE, ENUMS, member
+from ._library import Field, Status, TiffError, UnsupportedError
 
 if TYPE_CHECKING:
     from _typeshed import ReadableBuffer
@@ -94,8 +97,7 @@ NAMES = {
 }
 NUMBERS = {name: number for number, name in NAMES.items()}
 
-ASCII, UNDEFINED = 2, 7
-RATIONALS = (5, 10)
+BYTE, ASCII, UNDEFINED = 1, 2, 7
 # The format of a value by its type, as `struct` writes it.
 FORMATS = {
     1: "B",
@@ -115,10 +117,18 @@ FORMATS = {
     17: "q",
     18: "Q",
 }
+# Tags whose values are a tuple even if there is one, as tifffile has them.
+TUPLES = {273, 279, 282, 283, 324, 325, 330, 338, 513, 514, 530, 531, 34736, 50838}
+# Tags of three curves, whose value is an array of three rows.
+CURVES = {301, 320}
+# Tags of which tifffile gives what their bytes mean: Exif, GPS, and those of microscopes.
+MEANT = {33471, 33560, 33628, 33629, 33630, 33631, 33723, 33923, 34118, 34361, 34362, 34363, 34386}
+MEANT |= {34412, 34665, 34680, 34682, 34853, 37706, 37724, 40100, 40965, 43314, 50288, 50296, 50839}
+MEANT |= {51123, 65426, 65432, 65439, 65459}
 
 Number = Union[int, float]
-Rational = tuple[int, int]
-TagValue = Union[str, bytes, Number, Rational, tuple[Number, ...], tuple[Rational, ...]]
+# The type of the values of a tag: a text, bytes, a number, a tuple of numbers, or an array.
+TagValue = Any
 
 
 def value_size(kind: int) -> int:
@@ -133,37 +143,83 @@ def number_of(key: object) -> int | None:
 
 
 def text_of(data: bytes) -> str:
-    """Returns a text, as UTF-8 or else as Latin-1, without the zeros at its end."""
-    data = data.rstrip(b"\0")
+    """Returns a text, as UTF-8 or else by Windows' code page, without zeros and blanks around."""
+    data = data.rstrip(b"\0").strip()
     try:
         return data.decode()
     except UnicodeDecodeError:
-        return data.decode("latin-1")
+        return data.decode("cp1252", "replace")
 
 
-def decode(kind: int, data: bytes, order: str) -> TagValue:
-    """Returns the values that these bytes are: a text, bytes, one number or pair, or a tuple."""
+def decode(kind: int, data: bytes, order: str) -> str | bytes | tuple[Number, ...]:
+    """Returns the values that these bytes are: a text, bytes, or numbers; a fraction is two."""
     if kind == ASCII:
         return text_of(data)
-    if kind == UNDEFINED:
+    if kind in (BYTE, UNDEFINED):
         return data
     form = struct.Struct(order + FORMATS[kind])
-    groups = tuple(form.iter_unpack(data))
-    values = groups if kind in RATIONALS else tuple(number for (number,) in groups)
-    return values[0] if len(values) == 1 else values
+    return tuple(number for group in form.iter_unpack(data) for number in group)
 
 
-class Tags(Mapping[Union[int, str], TagValue]):
-    """The tags of a page, by number and by name; each is read when the caller asks for it.
+class Tag:
+    """A tag of a page: its number `code`, the type of its values `dtype`, and their `count`."""
 
-    The caller may ask for the tag of any number. An iteration yields the numbers of the tags that
-    the page has and that have a name in this module.
-    """
+    def __init__(self, tags: Tags, code: int, field: Field) -> None:
+        self._tags = tags
+        self.code: int = code
+        self.dtype: int = member(DATATYPE, field.kind)
+        self.count: int = field.count
 
-    def __init__(self, file: ReadableBuffer, page: int, order: str) -> None:
+    def __repr__(self) -> str:
+        kind = self.dtype.name if isinstance(self.dtype, DATATYPE) else self.dtype
+        return f"<Tag {self.code} {self.name} {kind}[{self.count}]>"
+
+    @property
+    def name(self) -> str:
+        """The name of the tag, or its number as a text if it has no name here."""
+        return NAMES.get(self.code, str(self.code))
+
+    @cached_property
+    def value(self) -> TagValue:
+        """The value of the tag, as tifffile has it.
+
+        A text is a `str`, without zeros and blanks at its ends; values of the types BYTE and
+        UNDEFINED are `bytes`, and others numbers: one, or a tuple. A fraction is two numbers. The
+        curves of ColorMap and TransferFunction are an array of three rows. A tag that the directory
+        has twice, and one whose bytes tifffile decodes further, as Exif, raise `UnsupportedError`;
+        `Tags.numbers`, `floats`, `text` and `data` then give what the library has.
+        """
+        self._tags._judge(self.code)
+        values = self._tags._decoded(self.code, self.dtype, self.count)
+        if not isinstance(values, tuple):
+            return values
+        if self.code in CURVES:
+            import numpy
+
+            return numpy.array(values, "u2").reshape(3, -1)
+        if self.code in ENUMS:
+            values = tuple(member(ENUMS[self.code], int(value)) for value in values)
+        return values[0] if len(values) == 1 and self.code not in TUPLES else values
+
+
+class Tags:
+    """The tags of a page, by number or by name; an iteration yields the tags, as in tifffile."""
+
+    def __init__(
+        self, file: ReadableBuffer, page: int, order: str, index: int | None = None
+    ) -> None:
         self._file = file
         self._page = page
         self._order = order
+        self._index = index
+
+    def __repr__(self) -> str:
+        return "<Tags " + ", ".join(NAMES.get(code, str(code)) for code in self.keys()) + ">"
+
+    @cached_property
+    def _codes(self) -> tuple[int, ...]:
+        """The numbers of the tags of the directory, in the order of the file."""
+        return _directory.codes(self._file, _library.offset_of(self._page), self._order)
 
     def _field(self, key: object) -> Field | None:
         """Returns the type and the count of a tag, or None if the page doesn't have the tag."""
@@ -171,40 +227,82 @@ class Tags(Mapping[Union[int, str], TagValue]):
         if number is None:
             return None
         try:
-            return _library.ask(_library.TAG_FIELD, Field, self._file, self._page, number)
+            with _library.named(self._index, number):
+                return _library.ask(_library.TAG_FIELD, Field, self._file, self._page, number)
         except TiffError as fault:
             if fault.status is Status.REQUIRED_TAG_NOT_FOUND:
                 return None
             raise
 
+    def _judge(self, code: int) -> None:
+        """Refuses a tag whose value here would be another than tifffile's."""
+        cause = None
+        if Counter(self._codes)[code] > 1:
+            cause = f"the directory has the tag {code} twice, of which the library reads the last"
+        elif code in MEANT:
+            cause = f"what the bytes of the tag {code} mean isn't decoded"
+        if cause:
+            raise UnsupportedError(cause, Status.INVALID_TAG, self._index)
+
+    def _decoded(self, code: int, kind: int, count: int) -> str | bytes | tuple[Number, ...]:
+        """Returns the values of a tag of a type and a count."""
+        return decode(kind, self._stored(code, kind, count), self._order)
+
+    def _stored(self, code: int, kind: int, count: int) -> bytes:
+        """Returns the bytes of so many values of a type, as the file has them."""
+        if kind not in FORMATS:
+            raise TiffError(Status.INVALID_TYPE_FOR_TAG, self._index, code)
+        return self._bytes(code, count * value_size(kind))
+
     def _bytes(self, number: int, size: int) -> bytes:
         """Returns the bytes of the values of a tag."""
         written = c_size_t()
-        with _library.locked(self._file) as (address, length):
+        with _library.named(self._index, number), _library.locked(self._file) as file:
             # Values that are longer than the file don't lie in it; the call returns that error.
-            buffer = ctypes.create_string_buffer(min(size, length + 1) or 1)
+            buffer = ctypes.create_string_buffer(min(size, file[1] + 1) or 1)
+            place = self._page, number, 0
             _library.check(
-                _library.TAG_BYTES(
-                    address, length, self._page, number, 0, buffer, len(buffer), byref(written)
-                )
+                _library.TAG_BYTES(*file, *place, buffer, len(buffer), byref(written))
             )
         return buffer.raw[: written.value]
 
-    def __getitem__(self, key: int | str) -> TagValue:
-        number, field = number_of(key), self._field(key)
-        if number is None or field is None:
+    def __getitem__(self, key: int | str) -> Tag:
+        tag = self.get(key)
+        if tag is None:
             raise KeyError(key)
-        size = field.count * value_size(field.kind)
-        return decode(field.kind, self._bytes(number, size), self._order)
+        return tag
+
+    def get(self, key: int | str, default: Tag | None = None) -> Tag | None:
+        """Returns a tag, or the default if the page doesn't have it."""
+        number, field = number_of(key), self._field(key)
+        return default if number is None or field is None else Tag(self, number, field)
+
+    def valueof(self, key: int | str, default: TagValue = None) -> TagValue:
+        """Returns the value of a tag, or the default if the page doesn't have the tag."""
+        tag = self.get(key)
+        return default if tag is None else tag.value
 
     def __contains__(self, key: object) -> bool:
         return self._field(key) is not None
 
-    def __iter__(self) -> Iterator[int]:
-        return (number for number in NAMES if self._field(number) is not None)
+    def __iter__(self) -> Iterator[Tag]:
+        return iter(self.values())
 
     def __len__(self) -> int:
-        return sum(1 for _ in self)
+        return len(self._codes)
+
+    def keys(self) -> list[int]:
+        """Returns the numbers of the tags, in the order of the file."""
+        return list(dict.fromkeys(self._codes))
+
+    def values(self) -> list[Tag]:
+        """Returns the tags in the order of the file, without those of a type that is none."""
+        return [tag for _, tag in self.items()]
+
+    def items(self) -> list[tuple[int, Tag]]:
+        """Returns the tags in the order of the file, each with its number."""
+        tags = ((code, self.get(code)) for code in self._codes)
+        return [(code, tag) for code, tag in tags if tag is not None]
 
     def _number(self, key: int | str) -> int:
         """Returns the number of a tag; raises KeyError if it is no tag."""
@@ -214,23 +312,37 @@ class Tags(Mapping[Union[int, str], TagValue]):
         return number
 
     def numbers(self, key: int | str) -> tuple[int, ...]:
-        """Returns the values of a tag of unsigned numbers, one or several.
+        """Returns the values of a tag of unsigned numbers, one or several, as the library has them.
 
         Values of another type raise the library's error, and so does a tag that the page lacks.
         """
-        return _library.tag_numbers(self._file, self._page, self._number(key))
+        number = self._number(key)
+        with _library.named(self._index, number):
+            return _library.tag_numbers(self._file, self._page, number)
 
     def floats(self, key: int | str) -> tuple[float, ...]:
         """Returns the values of a tag of floating-point numbers of 64 bits; else as `numbers`."""
-        return _library.tag_floats(self._file, self._page, self._number(key))
+        number = self._number(key)
+        with _library.named(self._index, number):
+            return _library.tag_floats(self._file, self._page, number)
 
     def text(self, key: int | str) -> str:
         """Returns the text of a tag up to its first zero; the text has to be UTF-8."""
-        return _library.tag_text(self._file, self._page, self._number(key))
+        number = self._number(key)
+        with _library.named(self._index, number):
+            return _library.tag_text(self._file, self._page, number)
 
-    def first(self, number: int, default: int) -> Any:
-        """Returns the first value of a tag, or `default` if the page doesn't have the tag."""
-        value = self.get(number, default)
-        if not isinstance(value, tuple):
-            return value
-        return value[0] if value else default
+    def data(self, key: int | str) -> bytes:
+        """Returns the bytes of the values of a tag, in the file's byte order."""
+        tag = self[key]
+        return self._stored(tag.code, tag.dtype, tag.count)
+
+    def first(self, number: int, default: int) -> int:
+        """Returns the first unsigned number of a tag, or the default if the page has none."""
+        values = self.told(number)
+        return values[0] if values else default
+
+    def told(self, number: int) -> tuple[int, ...]:
+        """Returns the unsigned numbers of a tag, none if the page doesn't have the tag."""
+        with _library.named(self._index, number):
+            return _library.told_numbers(self._file, self._page, number)

@@ -1,93 +1,257 @@
-"""Files that are made of arrays. This module needs numpy: import it to write a file."""
+"""Arrays as pages: which sides are pages, rows, columns and samples. It needs numpy."""
 from __future__ import annotations
 
-from ctypes import byref, c_size_t
-from typing import TYPE_CHECKING, Any
+import math
+from collections.abc import Sequence
+from dataclasses import dataclass, replace
+from typing import TYPE_CHECKING, Any, Union
 
 import numpy
 
-from . import _library
-from ._library import Image, Status
+from ._enums import COMPRESSION, EXTRASAMPLE, PHOTOMETRIC, PLANARCONFIG, PREDICTOR, chosen
+from ._library import Status, UnsupportedError
+from ._new_pages import AROUND_SAMPLES, COLORS, Layout, NewPage, NewTag, _write_pages
 
 if TYPE_CHECKING:
     from numpy.typing import ArrayLike, NDArray
 
-LITTLE_ENDIAN = "<"
-# The color types of the writer: by samples of a pixel, and then by number type.
-COLORS = {
-    1: {
-        "u1": 0,
-        "u2": 1,
-        "u4": 2,
-        "u8": 3,
-        "i1": 4,
-        "i2": 5,
-        "i4": 6,
-        "i8": 7,
-        "f4": 8,
-        "f8": 9,
-    },
-    3: {"u1": 10, "u2": 11, "u4": 12, "u8": 13, "f4": 14, "f8": 15},
-    4: {"u1": 16, "u2": 17, "u4": 18, "u8": 19, "f4": 20, "f8": 21},
-}
-CLASSIC, BIG = 42, 43
-METHODS = {None: 1, "packbits": 32773}
-NO_PREDICTOR, HORIZONTAL = 1, 2
 LONGEST_SIDE = (1 << 32) - 1
-# Room for what a file has besides its samples, in most cases.
-AROUND_SAMPLES = 4096
+# From so many bytes of samples on, a file is a BigTIFF file unless the caller says else.
+BIG_FROM = (1 << 32) - (1 << 25)
+KINDS = {PHOTOMETRIC.MINISBLACK: "Gray", PHOTOMETRIC.RGB: "RGB", PHOTOMETRIC.SEPARATED: "CMYK"}
+SAMPLES = {"Gray": 1, "RGB": 3, "CMYK": 4}
+
+Named = Union[int, str, None]
 
 
-def color_of(array: NDArray[Any]) -> int:
-    """Returns the color type that an array is written as: gray, RGB or RGBA."""
-    samples = array.shape[2] if array.ndim == 3 else 1
-    color = COLORS.get(samples, {}).get(array.dtype.str[1:])
-    if color is None or array.ndim not in (2, 3):
-        raise ValueError(
-            f"An array of shape {array.shape} and type {array.dtype} is not written: it is "
-            "(rows, columns), or (rows, columns, 3 or 4) of unsigned or floating numbers."
+@dataclass(frozen=True)
+class Samples:
+    """What a caller says of the samples: their meaning, their order, and the extra ones."""
+
+    photometric: Named = None
+    planarconfig: Named = None
+    extrasamples: Sequence[Named] | None = None
+
+
+@dataclass(frozen=True)
+class Stored:
+    """How a caller wants the samples to be stored."""
+
+    tile: Sequence[int] | None = None
+    rowsperstrip: int | None = None
+    compression: Named = None
+    predictor: Union[Named, bool] = None
+
+
+@dataclass(frozen=True)
+class Settings:
+    """How a caller wants an array to be written; `has_shape` is that a description tells it."""
+
+    samples: Samples
+    stored: Stored
+    tags: tuple[NewTag, ...] = ()
+    first_tags: tuple[NewTag, ...] = ()
+    resolution: tuple[int, tuple[int, int], tuple[int, int]] | None = None
+    has_shape: bool = False
+
+
+def ambiguous(shape: tuple[int, ...]) -> ValueError:
+    """Returns the error of an array that may be one image in color or several in gray."""
+    return ValueError(
+        f"an array of shape {shape} is RGB or several gray pages: say photometric='rgb' or "
+        "photometric='minisblack'"
+    )
+
+
+def meaning_of(array: NDArray[Any], given: Samples) -> PHOTOMETRIC:
+    """Returns what the samples of an array mean: what the caller says, or what the shape shows.
+
+    Three or four samples of 8 or 16 bits at the end are RGB. Other arrays with a side of 3 or 4
+    where samples may be are RGB for one version of tifffile and gray for another: they are refused.
+    """
+    if given.photometric is not None:
+        meaning = chosen(PHOTOMETRIC, given.photometric, "photometric")
+        if meaning not in KINDS:
+            what = f"photometric={meaning.name.lower()}"
+            raise UnsupportedError(what, Status.UNSUPPORTED_INTERPRETATION)
+        return meaning
+    apart = given.planarconfig is not None and planar_of(given)
+    at_end = array.ndim > 2 and array.shape[-1] in (3, 4) and not apart
+    if at_end and array.dtype.kind == "u" and array.itemsize <= 2:
+        return PHOTOMETRIC.RGB
+    side_by_side = given.planarconfig is not None and not apart
+    before = array.ndim > 2 and array.shape[-3] in (3, 4) and not side_by_side
+    if at_end or before:
+        raise ambiguous(array.shape)
+    return PHOTOMETRIC.MINISBLACK
+
+
+def planar_of(given: Samples) -> bool:
+    """Returns whether the caller wants the samples of a pixel apart."""
+    wanted = chosen(PLANARCONFIG, given.planarconfig, "planarconfig")
+    return wanted is PLANARCONFIG.SEPARATE
+
+
+def samples_apart(array: NDArray[Any], color: str, given: Samples) -> bool | None:
+    """Returns whether samples are a side before the rows; None if a pixel has one sample.
+
+    Without a planarconfig, samples of a color are at the end, or else before the rows.
+    """
+    shape, count = array.shape, SAMPLES[color]
+    if array.ndim < 3:
+        return None
+    if color == "Gray":
+        if given.planarconfig is None:
+            return False if given.extrasamples else None
+        return None if given.extrasamples == () else planar_of(given)
+    if given.planarconfig is not None:
+        return planar_of(given)
+    wanted = {3, 4} if color == "RGB" else {count}
+    if shape[-1] in wanted:
+        return False
+    return shape[-3] in wanted or shape[-1] > shape[-3]
+
+
+def pages_of_array(array: NDArray[Any], color: str, given: Samples) -> tuple[NDArray[Any], bool]:
+    """Returns an array as pages, rows, columns and samples, and whether samples stand apart."""
+    apart = samples_apart(array, color, given)
+    if apart is None:
+        while array.ndim > 2 and array.shape[-1] == 1:
+            array = array[..., 0]
+        rows, columns = array.shape[-2:]
+        return array.reshape(math.prod(array.shape[:-2]), rows, columns, 1), False
+    pages = array.reshape(math.prod(array.shape[:-3]), *array.shape[-3:])
+    return pages.transpose(0, 2, 3, 1) if apart else pages, apart
+
+
+def extra_of(count: int, color: str, given: Samples) -> tuple[int, ...]:
+    """Returns the kinds of the extra samples of a pixel of so many samples."""
+    extra = count - SAMPLES[color]
+    if extra < 0:
+        raise ValueError(f"{count} samples a pixel are too few for {color}")
+    if given.extrasamples is None:
+        alone = color == "RGB" and extra == 1
+        kind = EXTRASAMPLE.UNASSALPHA if alone else EXTRASAMPLE.UNSPECIFIED
+        return (int(kind),) * extra
+    kinds = tuple(int(chosen(EXTRASAMPLE, kind, "extrasamples")) for kind in given.extrasamples)
+    if len(kinds) != extra:
+        raise ValueError(f"extrasamples has {len(kinds)} kinds, and a pixel {extra} such samples")
+    return kinds
+
+
+def method_of(compression: Named) -> int:
+    """Returns the method of compression that is written: none or PackBits."""
+    if compression in (None, 0, "", False):
+        return int(COMPRESSION.NONE)
+    method = chosen(COMPRESSION, compression, "compression")
+    if method not in (COMPRESSION.NONE, COMPRESSION.PACKBITS):
+        what = f"compression={method.name.lower()}"
+        raise UnsupportedError(what, Status.UNSUPPORTED_COMPRESSION_METHOD)
+    return int(method)
+
+
+def predictor_of(predictor: Union[Named, bool], kind: str) -> int:
+    """Returns the predictor that is written: none, or differences of whole numbers."""
+    if predictor in (None, False, 0):
+        return int(PREDICTOR.NONE)
+    if predictor is True:
+        wanted = PREDICTOR.FLOATINGPOINT if kind == "f" else PREDICTOR.HORIZONTAL
+    else:
+        wanted = chosen(PREDICTOR, predictor, "predictor")
+    if wanted is PREDICTOR.FLOATINGPOINT:
+        raise UnsupportedError("predictor=floatingpoint", Status.PREDICTOR_UNAVAILABLE)
+    return int(wanted)
+
+
+def tile_of(tile: Sequence[int] | None) -> tuple[int, int] | None:
+    """Returns the rows and columns of a tile, which TIFF wants as multiples of 16."""
+    if not tile:
+        return None
+    if len(tile) == 3:
+        raise UnsupportedError("a tile of several layers", Status.UNSUPPORTED_DATA_TYPE)
+    if len(tile) != 2 or any(side < 16 or side % 16 for side in tile):
+        raise ValueError(f"tile={tuple(tile)}: rows and columns, each a multiple of 16")
+    return int(tile[0]), int(tile[1])
+
+
+def color_type_of(
+    count: int, color: str, number: str, given: Samples
+) -> tuple[tuple[str, str], tuple[int, ...]]:
+    """Returns the color type of pixels of so many samples, and the kinds of the extra ones."""
+    extra = extra_of(count, color, given)
+    if color == "RGB" and len(extra) == 1 and given.extrasamples is None:
+        # The library's own RGBA, which has no tag ExtraSamples, is written much faster.
+        color, extra = "RGBA", ()
+    if (color, number) not in COLORS:
+        what = f"{color} samples of type {numpy.dtype(number)}"
+        raise UnsupportedError(what, Status.UNSUPPORTED_COLOR_TYPE)
+    return (color, number), extra
+
+
+def layout_of(rows: int, kind: str, stored: Stored) -> Layout:
+    """Returns how pages of so many rows are stored, of numbers of a kind."""
+    strip = stored.rowsperstrip
+    if strip is not None and strip < 1:
+        raise ValueError(f"rowsperstrip={strip}")
+    return Layout(
+        tile=tile_of(stored.tile),
+        rowsperstrip=None if stored.tile or strip is None else min(strip, rows),
+        method=method_of(stored.compression),
+        predictor=predictor_of(stored.predictor, kind),
+    )
+
+
+def pages_of(data: ArrayLike, settings: Settings) -> list[NewPage]:
+    """Returns the pages that an array is written as."""
+    given = numpy.asarray(data)
+    if not 2 <= given.ndim <= 4:
+        raise ValueError(f"an array of {given.ndim} dimensions: 2 to 4 are written")
+    if given.dtype.kind not in "uif":
+        what = f"an array of type {given.dtype}"
+        raise UnsupportedError(what, Status.UNSUPPORTED_SAMPLE_FORMAT)
+    color = KINDS[meaning_of(given, settings.samples)]
+    if color != "Gray" and given.ndim < 3:
+        raise ValueError(f"an array of shape {given.shape} has no samples of {color}")
+    pages, apart = pages_of_array(given, color, settings.samples)
+    if max(pages.shape[1:3]) > LONGEST_SIDE:
+        raise ValueError(f"a side of an image is {LONGEST_SIDE} at most")
+    if not len(pages):
+        raise ValueError(f"an array of shape {given.shape} has no page")
+    _, rows, _, count = pages.shape
+    kind, extra = color_type_of(count, color, given.dtype.str[1:], settings.samples)
+    layout = layout_of(rows, given.dtype.kind, settings.stored)
+    layout = replace(layout, planar=apart and count > 1, extra=extra)
+    order = given.dtype.newbyteorder("<")
+    return [
+        NewPage(
+            kind,
+            numpy.ascontiguousarray(page, order),
+            layout,
+            settings.tags + (settings.first_tags if index == 0 else ()),
+            settings.resolution,
         )
-    return color
+        for index, page in enumerate(pages)
+    ]
 
 
-def image_of(array: NDArray[Any], big: bool, compression: str | None, predictor: bool) -> Image:
-    """Returns how an array is written: its color type, its sides, and the settings."""
-    color = color_of(array)
-    height, width = array.shape[:2]
-    if max(height, width) > LONGEST_SIDE:
-        raise ValueError(f"A side of an image is {LONGEST_SIDE} at most.")
-    if compression not in METHODS:
-        raise ValueError(f"The compression is None or 'packbits', not {compression!r}.")
-    return Image(
-        color=color,
-        width=width,
-        height=height,
-        version=BIG if big else CLASSIC,
-        method=METHODS[compression],
-        predictor=HORIZONTAL if predictor else NO_PREDICTOR,
-    )
+def judge_shape(pages: list[NewPage]) -> None:
+    """Refuses the shape of small images in a description, by which tifffile reads other bytes.
+
+    It takes images that aren't packed from one behind the other if the second directory lies behind
+    so many bytes, as it does if the images are smaller than what lies around them.
+    """
+    layout, size = pages[0].layout, sum(page.samples.nbytes for page in pages[1:])
+    plain = layout.method == COMPRESSION.NONE and layout.predictor == PREDICTOR.NONE
+    around = AROUND_SAMPLES + sum(len(tag.data) for tag in pages[0].tags)
+    if plain and 0 < size < around:
+        raise UnsupportedError("imwrite: metadata of several images of a few bytes")
 
 
-def write_into(
-    size: int, image: Image, samples: NDArray[Any]
-) -> tuple[int, NDArray[numpy.uint8], int]:
-    """Writes a file into a new buffer. Returns the status, the buffer and the file's length."""
-    file, length = numpy.empty(size, numpy.uint8), c_size_t()
-    status = _library.WRITE_IMAGE(
-        byref(image), samples.ctypes.data, samples.nbytes, file.ctypes.data, size, byref(length)
-    )
-    return status, file, length.value
-
-
-def file_of(
-    array: ArrayLike, big: bool, compression: str | None, predictor: bool
-) -> NDArray[numpy.uint8]:
-    """Returns the bytes of a file whose one page is an array."""
-    given = numpy.asarray(array)
-    samples = numpy.ascontiguousarray(given, given.dtype.newbyteorder(LITTLE_ENDIAN))
-    image = image_of(samples, big, compression, predictor)
-    status, file, length = write_into(samples.nbytes + AROUND_SAMPLES, image, samples)
-    if status == Status.INSUFFICIENT_OUTPUT_BUFFER_SIZE:
-        status, file, length = write_into(length, image, samples)
-    _library.check(status)
-    return file[:length]
+def file_of(data: ArrayLike, big: bool | None, settings: Settings) -> memoryview:
+    """Returns the bytes of a file whose pages are an array."""
+    pages = pages_of(data, settings)
+    if settings.has_shape:
+        judge_shape(pages)
+    size = sum(page.samples.nbytes for page in pages)
+    plain = method_of(settings.stored.compression) == COMPRESSION.NONE
+    return _write_pages(pages, size > BIG_FROM and plain if big is None else big)

@@ -1,6 +1,7 @@
 """What the tests share: the repository's files, and arrays of samples."""
 from __future__ import annotations
 
+import struct
 from pathlib import Path
 
 import numpy
@@ -26,9 +27,14 @@ def samples(shape: tuple[int, ...], dtype: str) -> numpy.ndarray:
 
 
 def gray_file(
-    width: int = 4, height: int = 3, *, data: bytes | None = None, **fields: tuple[int, int]
+    width: int = 4,
+    height: int = 3,
+    *,
+    data: bytes | None = None,
+    order: str = "<",
+    **fields: tuple[int, int],
 ) -> bytes:
-    """Returns a little-endian file of one gray page in one strip.
+    """Returns a file of one gray page in one strip.
 
     A field `tN=(type, value)` stands in place of the tag N, or is added to the tags.
     """
@@ -37,9 +43,9 @@ def gray_file(
     tags |= {273: (4, 8), 277: (3, 1), 278: (3, height), 279: (4, len(data))}
     tags |= {int(name[1:]): field for name, field in fields.items()}
     even = data + b"\0" * (len(data) % 2)
-    file = b"II*\0" + (8 + len(even)).to_bytes(4, "little") + even
-    file += len(tags).to_bytes(2, "little")
+    file = (b"II" if order == "<" else b"MM") + struct.pack(order + "HI", 42, 8 + len(even)) + even
+    file += struct.pack(order + "H", len(tags))
     for tag, (kind, value) in sorted(tags.items()):
-        file += tag.to_bytes(2, "little") + kind.to_bytes(2, "little")
-        file += (1).to_bytes(4, "little") + value.to_bytes(4, "little")
+        form = {1: "B3x", 3: "H2x", 7: "B3x"}.get(kind, "I")
+        file += struct.pack(f"{order}HHI{form}", tag, kind, 1, value)
     return file + bytes(4)

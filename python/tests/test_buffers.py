@@ -62,7 +62,7 @@ def test_nothing_is_copied(kind: str, tmp_path: Path, monkeypatch: pytest.Monkey
     buffer = KINDS[kind](tmp_path / "image.tif")
     own = numpy.frombuffer(buffer, "u1").ctypes.data
     page = mt.TiffFile(buffer).pages[0]
-    for name, read in (("READ_IMAGE", page.asarray), ("READ_CHUNK", lambda: page.asarray(0))):
+    for name, read in (("READ_IMAGE", page.asarray), ("READ_CHUNKS", lambda: page.read_chunk(0))):
         recorder = Recorder(getattr(_library, name))
         monkeypatch.setattr(_library, name, recorder)
         image = read()
@@ -90,7 +90,7 @@ def test_a_closed_map(tmp_path: Path) -> None:
     buffer = mapped(tmp_path / "image.tif", mmap.ACCESS_READ)
     page = mt.TiffFile(buffer).pages[0]
     buffer.close()
-    for read in (page.asarray, page.tags.__len__):
+    for read in (page.asarray, page.tags.keys):
         with pytest.raises(ValueError):
             read()
     with pytest.raises(ValueError):

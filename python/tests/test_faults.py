@@ -1,7 +1,9 @@
 """Files that are damaged or not supported are refused by the status that names the fault."""
 from __future__ import annotations
 
+import copy
 import io
+import multiprocessing
 import pickle
 from pathlib import Path
 
@@ -107,6 +109,7 @@ def test_a_refused_page_stays_in_the_list() -> None:
     tif = mt.TiffFile(file)
     assert [page.status for page in tif] == [Status.DONE, Status.INVALID_DIMENSIONS]
     assert tif[0].asarray().shape == (3, 4)
+    assert "refused: INVALID_DIMENSIONS" in repr(tif[1])
     for name in ("shape", "dtype", "imagewidth", "compression", "color", "is_tiled", "nbytes"):
         assert status_of(getattr, tif[1], name) is Status.INVALID_DIMENSIONS
     assert status_of(tif[1].asarray) is Status.INVALID_DIMENSIONS
@@ -152,10 +155,48 @@ def test_all_statuses_have_a_text() -> None:
     assert Status(99) is Status.LATER_FAULT
 
 
-def test_faults_are_pickled() -> None:
-    fault = pickle.loads(pickle.dumps(mt.TiffError(Status.INVALID_TAG)))
-    assert fault.status is Status.INVALID_TAG
-    assert str(fault) == str(mt.TiffError(25))
+FAULTS = [
+    mt.TiffError(Status.INVALID_TAG),
+    mt.TiffError(Status.INVALID_TAG, 7, 270),
+    mt.JobsError(Status.INVALID_INPUT, 3, 0),
+    mt.JobsError(Status.INVALID_DIMENSIONS, 0, 2),
+    mt.UnsupportedError("a palette", Status.INVALID_DATA, 3),
+]
+
+
+def raised(fault: mt.TiffError) -> None:
+    """Raises an error, in another process."""
+    raise fault
+
+
+def assert_same(fault: mt.TiffError, other: BaseException) -> None:
+    """Compares an error with what came back in its place."""
+    assert type(other) is type(fault)
+    assert str(other) == str(fault) and vars(other) == vars(fault)
+
+
+@pytest.mark.parametrize("fault", FAULTS, ids=str)
+def test_faults_are_pickled(fault: mt.TiffError) -> None:
+    assert_same(fault, pickle.loads(pickle.dumps(fault)))
+    assert_same(fault, copy.copy(fault))
+
+
+def test_faults_of_other_processes() -> None:
+    with multiprocessing.Pool(1) as pool:
+        for fault in FAULTS:
+            answer = pool.apply_async(raised, (fault,))
+            with pytest.raises(mt.TiffError) as caught:
+                answer.get(timeout=60)
+            assert_same(fault, caught.value)
+
+
+def test_faults_name_their_page() -> None:
+    assert str(mt.TiffError(25, 7, 270)).startswith("page 7: tag 270: ")
+    assert str(mt.UnsupportedError("a palette", page=3)) == "page 3: a palette"
+    assert isinstance(mt.UnsupportedError("a palette"), ValueError)
+    with pytest.raises(mt.TiffError) as fault:
+        mt.TiffFile(gray_file(t273=(4, 1 << 20))).asarray()
+    assert (fault.value.page, fault.value.tag) == (0, None)
 
 
 def test_no_buffer() -> None:

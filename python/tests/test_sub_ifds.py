@@ -22,7 +22,7 @@ def test_sub_ifds(big: bool, order: str) -> None:
         writer.write(image[::4, ::4], photometric="rgb", subfiletype=1, tile=(16, 16))
     with TiffFile(made.getvalue()) as file:
         assert len(file) == 1
-        half, quarter = map(file.page_at, file[0].tags["SubIFDs"])
+        half, quarter = map(file.page_at, file[0].tags["SubIFDs"].value)
         assert numpy.array_equal(half.asarray(), image[::2, ::2])
         assert numpy.array_equal(quarter.asarray(), image[::4, ::4])
         assert quarter.is_tiled and quarter.chunk_count == 1 and quarter.compression == 1
@@ -48,5 +48,5 @@ def test_tags_of_no_page() -> None:
         file.page_at(len(first))
     assert caught.value.status is Status.UNKNOWN_INTERPRETATION
     tags = file.tags_at(len(first))
-    assert tags[262] == 32803 and tags.numbers("ImageWidth") == (4,)
+    assert tags[262].value == 32803 and tags.numbers("ImageWidth") == (4,)
     assert 65099 not in tags

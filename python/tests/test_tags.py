@@ -26,11 +26,11 @@ EXTRA = [
     (65011, "d", 1, 3.141592653589793, True),
 ]
 EXPECTED = {
-    65000: (1, 2, 255),
+    65000: b"\1\2\xff",
     65001: "a text",
     65002: (1, 65535),
     65003: (1, 4294967295),
-    65004: ((1, 3), (300, 7)),
+    65004: (1, 3, 300, 7),
     65005: (-1, 2, -128),
     65007: (-1, 32767),
     65008: -70000,
@@ -63,15 +63,15 @@ def file_of_tags(byteorder: str, bigtiff: bool = False, extra: list = EXTRA) -> 
 def test_types(byteorder: str, bigtiff: bool) -> None:
     tags = mt.TiffFile(file_of_tags(byteorder, bigtiff)).pages[0].tags
     for number, value in EXPECTED.items():
-        assert tags[number] == value, number
+        assert tags[number].value == value, number
 
 
 @pytest.mark.parametrize("byteorder", "<>")
 def test_long_types(byteorder: str) -> None:
     extra = [(65016, "Q", 1, 1 << 40, True), (65017, "q", 2, (-1, 1 << 40), True)]
     tags = mt.TiffFile(file_of_tags(byteorder, True, extra)).pages[0].tags
-    assert tags[65016] == 1 << 40
-    assert tags[65017] == (-1, 1 << 40)
+    assert tags[65016].value == 1 << 40
+    assert tags[65017].value == (-1, 1 << 40)
 
 
 @pytest.mark.parametrize("byteorder", "<>")
@@ -105,27 +105,39 @@ def test_values_of_one_type(byteorder: str, bigtiff: bool) -> None:
 def test_common_tags(byteorder: str) -> None:
     file = file_of_tags(byteorder)
     tags = mt.TiffFile(file).pages[0].tags
-    assert tags["ImageWidth"] == tags[256] == 5
-    assert tags["BitsPerSample"] == (16, 16, 16)
-    assert tags["ImageDescription"] == "a scan"
-    assert tags["Software"] == "tests"
-    assert tags["XResolution"] == (300, 1)
-    assert Fraction(*tags["YResolution"]) == Fraction(301, 2)
-    others = tifffile.TiffFile(io.BytesIO(file)).pages[0].tags
-    for number in ("StripOffsets", "StripByteCounts", "RowsPerStrip", "SamplesPerPixel"):
-        value = others[number].value
-        assert tags[number] == (value[0] if isinstance(value, tuple) and len(value) == 1 else value)
+    assert tags["ImageWidth"].value == tags[256].value == 5
+    assert tags["BitsPerSample"].value == (16, 16, 16)
+    assert tags["ImageDescription"].value == "a scan"
+    assert tags["Software"].value == "tests"
+    assert tags["XResolution"].value == (300, 1)
+    assert Fraction(*tags["YResolution"].value) == Fraction(301, 2)
 
 
-def test_mapping() -> None:
-    file = file_of_tags("<")
-    tags = mt.TiffFile(file).pages[0].tags
-    others = tifffile.TiffFile(io.BytesIO(file)).pages[0].tags
-    assert list(tags) == [tag.code for tag in others if tag.code in _tags.NAMES]
-    assert len(tags) == len(list(tags))
+@pytest.mark.parametrize("byteorder", "<>")
+@pytest.mark.parametrize("bigtiff", [False, True])
+def test_tags_are_those_of_tifffile(byteorder: str, bigtiff: bool) -> None:
+    """Each tag has the number, the type, the count and the value that tifffile tells."""
+    extra = [*EXTRA, (65030, "s", 0, b"  caf\xe9 \0\0", True), (65031, 7, 3, b"abc", True)]
+    file = file_of_tags(byteorder, bigtiff, extra)
+    ours = mt.TiffFile(file).pages[0].tags
+    theirs = tifffile.TiffFile(io.BytesIO(file)).pages[0].tags
+    assert [tag.code for tag in ours] == ours.keys() == theirs.keys()
+    assert len(ours) == len(theirs)
+    for tag, other in zip(ours, theirs):
+        assert (tag.code, tag.dtype, tag.count) == (other.code, other.dtype, other.count)
+        assert tag.value == other.value, tag
+        assert type(tag.value).__name__ == type(other.value).__name__, tag
+        assert ours.valueof(tag.code) == theirs.valueof(tag.code)
+        assert repr(tag)
+
+
+def test_a_mapping() -> None:
+    tags = mt.TiffFile(file_of_tags("<")).pages[0].tags
     assert 65000 in tags and "ImageWidth" in tags
     assert 65099 not in tags and "NoSuchName" not in tags and None not in tags
-    assert tags.get(65099) is None
+    assert tags.get(65099) is None and tags.valueof(65099, 7) == 7
+    assert [code for code, _ in tags.items()] == tags.keys()
+    assert "ImageWidth" in repr(tags)
     for key in (65099, "TileWidth", "NoSuchName", -1, 1 << 16, (1 << 16) + 256):
         with pytest.raises(KeyError):
             tags[key]
@@ -136,9 +148,45 @@ def test_names_are_those_of_tifffile() -> None:
         assert name in tifffile.TIFF.TAGS.getall(number), number
 
 
-def test_undefined_is_bytes() -> None:
-    tags = mt.TiffFile(gray_file(t65000=(7, 0x41))).pages[0].tags
-    assert tags[65000] == b"A"
+def test_numbers_have_the_names_of_tifffile() -> None:
+    for kind in (mt.COMPRESSION, mt.DATATYPE, mt.EXTRASAMPLE, mt.FILLORDER, mt.PHOTOMETRIC):
+        for item in kind:
+            assert getattr(tifffile, kind.__name__)[item.name] == item
+    for kind in (mt.PLANARCONFIG, mt.PREDICTOR, mt.RESUNIT, mt.SAMPLEFORMAT):
+        for item in kind:
+            assert getattr(tifffile, kind.__name__)[item.name] == item
+
+
+def test_a_tag_that_is_there_twice() -> None:
+    """tifffile gives the first one, and the library has the last one: the value is refused."""
+    made = io.BytesIO()
+    tifffile.imwrite(made, samples((3, 4), "u1"), description="of the user")
+    page = mt.TiffFile(made.getvalue()).pages[0]
+    for read in (lambda: page.description, lambda: page.tags[270].value):
+        with pytest.raises(mt.UnsupportedError, match="270 twice"):
+            read()
+    assert page.tags.text(270) == '{"shape": [3, 4]}'
+    assert page.is_shaped
+
+
+def test_tags_that_tifffile_decodes_further() -> None:
+    tags = mt.TiffFile(gray_file(t34665=(4, 8))).pages[0].tags
+    with pytest.raises(mt.UnsupportedError, match="34665"):
+        tags[34665].value
+    assert tags.numbers(34665) == (8,)
+    assert tags.data(34665) == b"\x08\0\0\0"
+
+
+def test_errors_name_the_tag() -> None:
+    with pytest.raises(mt.TiffError) as fault:
+        mt.TiffFile(gray_file()).pages[0].tags.numbers("XResolution")
+    assert (fault.value.page, fault.value.tag) == (0, 282)
+    assert "page 0: tag 282: " in str(fault.value)
+
+
+def test_bytes_and_undefined_are_bytes() -> None:
+    assert mt.TiffFile(gray_file(t65000=(7, 0x41))).pages[0].tags[65000].value == b"A"
+    assert mt.TiffFile(gray_file(t65000=(1, 0x41))).pages[0].tags[65000].value == b"A"
 
 
 def test_no_values() -> None:
@@ -149,15 +197,15 @@ def test_no_values() -> None:
 
 @pytest.mark.parametrize("order", "<>")
 def test_decode(order: str) -> None:
-    assert _tags.decode(4, struct.pack(order + "I", 7), order) == 7
+    assert _tags.decode(4, struct.pack(order + "I", 7), order) == (7,)
     assert _tags.decode(5, struct.pack(order + "2I", 1, 3), order) == (1, 3)
-    assert _tags.decode(10, struct.pack(order + "4i", 1, -3, 5, 7), order) == ((1, -3), (5, 7))
+    assert _tags.decode(10, struct.pack(order + "4i", 1, -3, 5, 7), order) == (1, -3, 5, 7)
 
 
 def test_texts() -> None:
     assert _tags.decode(2, b"a\0b\0\0", "<") == "a\0b"
     assert _tags.decode(2, "é".encode(), "<") == "é"
-    assert _tags.decode(2, "é".encode("latin-1"), "<") == "é"
+    assert _tags.decode(2, "é".encode("cp1252"), "<") == "é"
 
 
 @pytest.mark.parametrize("offset", [0, 8])
@@ -167,5 +215,5 @@ def test_values_past_the_end_of_the_file(offset: int) -> None:
     file[entry + 4 : entry + 8] = b"\xff\xff\xff\xff"
     tags = mt.TiffFile(file).pages[0].tags
     with pytest.raises(mt.TiffError) as fault:
-        tags[65000]
+        tags[65000].value
     assert fault.value.status is mt.Status.UNEXPECTED_EOF

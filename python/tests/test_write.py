@@ -1,6 +1,7 @@
 """Files that are written are read by others as what they were made of."""
 from __future__ import annotations
 
+import inspect
 import io
 from pathlib import Path
 
@@ -11,6 +12,7 @@ from conftest import samples
 from PIL import Image
 
 import mangohatch_tiff as mt
+from mangohatch_tiff import _imwrite
 
 GRAY = [f"{kind}{size}" for kind in "ui" for size in (1, 2, 4, 8)] + ["f4", "f8"]
 COLORS = [("u1", 3), ("u2", 3), ("u4", 3), ("u8", 3), ("f4", 3), ("f8", 3)]
@@ -24,7 +26,8 @@ SHAPES += [(dtype, (19, 23, count)) for dtype, count in COLORS]
 @pytest.mark.parametrize("big", [False, True])
 def test_tifffile_reads(dtype: str, shape: tuple[int, ...], compression: str, big: bool) -> None:
     image = samples(shape, dtype)
-    file = mt.imwrite(None, image, compression=compression, big=big)
+    meaning = "rgb" if len(shape) > 2 else None
+    file = mt.imwrite(None, image, compression=compression, bigtiff=big, photometric=meaning)
     numpy.testing.assert_array_equal(mt.imread(file), image)
     with tifffile.TiffFile(io.BytesIO(file)) as tif:
         assert tif.is_bigtiff == big
@@ -46,11 +49,13 @@ INTEGERS = [(dtype, shape) for dtype, shape in SHAPES if dtype[0] in "ui"]
 @pytest.mark.parametrize(("dtype", "shape"), INTEGERS)
 def test_predictor(dtype: str, shape: tuple[int, ...]) -> None:
     image = samples(shape, dtype)
-    file = mt.imwrite(None, image, predictor=True)
+    meaning = "rgb" if len(shape) > 2 else None
+    file = mt.imwrite(None, image, predictor=True, photometric=meaning)
     page = mt.TiffFile(file).pages[0]
-    assert page.tags["Predictor"] == 2
+    assert page.tags["Predictor"].value == page.predictor == 2
     numpy.testing.assert_array_equal(page.asarray(), image)
-    packed = mt.imwrite(None, image, predictor=True, compression="packbits")
+    options = {"predictor": True, "compression": "packbits", "photometric": meaning}
+    packed = mt.imwrite(None, image, **options)
     numpy.testing.assert_array_equal(tifffile.imread(io.BytesIO(packed)), image)
 
 
@@ -80,23 +85,117 @@ def test_longer_than_guessed() -> None:
 REFUSED = [
     samples((3, 4), "f2"),
     samples((3, 4), "u1") > 7,
-    samples((3, 4, 3), "i2"),
-    samples((3, 4, 2), "u1"),
-    samples((3, 4, 3, 3), "u1"),
-    samples((3,), "u1"),
     samples((3, 4), "c8"),
 ]
 
 
 @pytest.mark.parametrize("array", REFUSED)
-def test_arrays_that_are_not_written(array: numpy.ndarray) -> None:
-    with pytest.raises(ValueError):
+def test_number_types_that_are_not_written(array: numpy.ndarray) -> None:
+    with pytest.raises(mt.UnsupportedError, match=str(array.dtype)):
         mt.imwrite(None, array)
 
 
+def test_arrays_that_are_not_written() -> None:
+    for shape in ((3,), (2, 2, 2, 2, 2), (0, 3, 5)):
+        with pytest.raises(ValueError, match="an array of"):
+            mt.imwrite(None, numpy.zeros(shape, "u1"))
+    with pytest.raises(ValueError, match="too few"):
+        mt.imwrite(None, samples((5, 4, 2), "u1"), photometric="rgb", planarconfig="contig")
+    with pytest.raises(ValueError, match="no samples of RGB"):
+        mt.imwrite(None, samples((5, 4), "u1"), photometric="rgb")
+    with pytest.raises(mt.UnsupportedError, match="RGB samples of type int16"):
+        mt.imwrite(None, samples((5, 4, 3), "i2"), photometric="rgb")
+
+
+AMBIGUOUS = [((5, 6, 3), "f4"), ((5, 6, 4), "i2"), ((3, 5, 6), "u1"), ((4, 5, 6), "f4")]
+
+
+@pytest.mark.parametrize(("shape", "dtype"), AMBIGUOUS)
+def test_arrays_that_versions_of_tifffile_write_in_two_ways(
+    shape: tuple[int, ...], dtype: str
+) -> None:
+    image = samples(shape, dtype)
+    with pytest.raises(ValueError, match="say photometric"):
+        mt.imwrite(None, image)
+    numpy.testing.assert_array_equal(mt.imread(mt.imwrite(None, image, photometric=1)), image)
+
+
 def test_compression_that_is_not_written() -> None:
-    with pytest.raises(ValueError):
-        mt.imwrite(None, samples((3, 4), "u1"), compression="lzw")
+    for compression in ("lzw", "LZW", 8, "jpeg"):
+        with pytest.raises(mt.UnsupportedError, match="compression=") as fault:
+            mt.imwrite(None, samples((3, 4), "u1"), compression=compression)
+        assert fault.value.status is mt.Status.UNSUPPORTED_COMPRESSION_METHOD
+    with pytest.raises(ValueError, match="compression='squeezed' is none of"):
+        mt.imwrite(None, samples((3, 4), "u1"), compression="squeezed")
+
+
+OTHERS = {
+    "append": True,
+    "shape": (3, 4),
+    "dtype": "u1",
+    "byteorder": ">",
+    "imagej": True,
+    "ome": True,
+    "shaped": True,
+    "volumetric": True,
+    "bitspersample": 4,
+    "compressionargs": {"level": 3},
+    "subsampling": (2, 2),
+    "jpegtables": b"",
+    "colormap": numpy.zeros((3, 256), "u2"),
+    "contiguous": True,
+    "truncate": True,
+    "align": 16,
+    "maxworkers": 2,
+    "returnoffset": True,
+}
+
+
+@pytest.mark.parametrize("name", OTHERS)
+def test_other_parameters_of_tifffile(name: str) -> None:
+    with pytest.raises(mt.UnsupportedError, match=name):
+        mt.imwrite(None, samples((3, 4), "u1"), **{name: OTHERS[name]})
+
+
+def test_parameters_of_tifffile_are_known() -> None:
+    names = set(inspect.signature(tifffile.imwrite).parameters)
+    ours = set(inspect.signature(mt.imwrite).parameters) - {"others"}
+    assert ours <= names and names == ours | set(_imwrite.OTHERS)
+    defaults = {name: parameter.default for name, parameter in
+                inspect.signature(tifffile.imwrite).parameters.items()}
+    mt.imwrite(None, samples((3, 4), "u1"), **{name: defaults[name] for name in _imwrite.OTHERS})
+    with pytest.raises(TypeError, match="'bigTiff'"):
+        mt.imwrite(None, samples((3, 4), "u1"), bigTiff=True)
+
+
+def test_other_values_are_refused_by_name() -> None:
+    image = samples((32, 32), "u1")
+    for given, name in (
+        ({"photometric": "miniswhite"}, "photometric=miniswhite"),
+        ({"photometric": "palette"}, "photometric=palette"),
+        ({"tile": (1, 16, 16)}, "layers"),
+        ({"predictor": "floatingpoint"}, "predictor=floatingpoint"),
+        ({"description": "a", "metadata": {}}, "both description and metadata"),
+    ):
+        with pytest.raises(mt.UnsupportedError, match=name):
+            mt.imwrite(None, image, **given)
+    for given in (
+        {"photometric": "colorful"},
+        {"tile": (17, 16)},
+        {"tile": (16,)},
+        {"rowsperstrip": 0},
+        {"predictor": "some"},
+        {"resolution": (1, 2, 3)},
+        {"resolutionunit": "yard"},
+        {"datetime": "today"},
+        {"description": "caf\u00e9"},
+        {"extratags": [(257, "H", 1, 3, True)]},
+        {"extratags": [(65000, "H", 2, 3, True)]},
+        {"extratags": [(65000, "Z", 1, 3, True)]},
+        {"extrasamples": [0], "planarconfig": "contig"},
+    ):
+        with pytest.raises(ValueError):
+            mt.imwrite(None, image, **given)
 
 
 def test_faults() -> None:
@@ -104,5 +203,8 @@ def test_faults() -> None:
         mt.imwrite(None, numpy.zeros((0, 4), "u1"))
     assert fault.value.status is mt.Status.INVALID_DIMENSIONS
     with pytest.raises(mt.TiffError) as fault:
-        mt.imwrite(None, samples((3, 4), "f4"), predictor=True)
+        mt.imwrite(None, samples((3, 4), "f4"), predictor=2)
     assert fault.value.status is mt.Status.PREDICTOR_INCOMPATIBLE
+    with pytest.raises(mt.TiffError) as fault:
+        mt.imwrite(None, numpy.zeros((2, 0, 5), "u1"))
+    assert (fault.value.status, fault.value.page) == (mt.Status.INVALID_DIMENSIONS, 0)

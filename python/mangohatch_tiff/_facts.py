@@ -1,0 +1,330 @@
+"""The facts of a page: what its tags and the library's list of pages tell."""
+from __future__ import annotations
+
+from functools import cached_property
+from typing import TYPE_CHECKING, Any
+
+from . import _library
+from ._enums import (
+    COMPRESSION,
+    EXTRASAMPLE,
+    FILLORDER,
+    PHOTOMETRIC,
+    PLANARCONFIG,
+    PREDICTOR,
+    RESUNIT,
+    SAMPLEFORMAT,
+    member,
+)
+from ._library import Chunks, Color, ColorKind, ListedPage, Samples, Status, TiffError
+from ._library import UnsupportedError
+from ._tags import Tags
+
+if TYPE_CHECKING:
+    import numpy
+    from _typeshed import ReadableBuffer
+    from numpy.typing import NDArray
+
+DESCRIPTION, SOFTWARE, SUB_IFDS, IMAGE_DEPTH = 270, 305, 330, 32997
+OFFSETS = {True: 324, False: 273}
+
+
+class PageFacts:
+    """What is told of a page of a file, without its samples.
+
+    For a page that the library refuses, `status` is the error; the properties and calls that need
+    the facts of the page raise it. `index` is the page's number in the chain, -1 for other pages.
+    """
+
+    def __init__(self, file: ReadableBuffer, index: int, listed: ListedPage, order: str) -> None:
+        self._file = file
+        self._listed = listed
+        self._order = order
+        # Calls with the directory's offset don't walk along the pages before it.
+        self._at = _library.at(listed.offset)
+        self.index = index
+
+    def __repr__(self) -> str:
+        if self.status is not Status.DONE:
+            return f"<TiffPage {self.index} @{self.offset} refused: {self.status.name}>"
+        try:
+            shown = f"{self.shape} {self.dtype}"
+        except TiffError as fault:
+            shown = f"{self.imagelength} x {self.imagewidth}, unread: {fault}"
+        return f"<TiffPage {self.index} @{self.offset} {shown}>"
+
+    @property
+    def _named(self) -> int | None:
+        """The number of the page that errors name."""
+        return None if self.index < 0 else self.index
+
+    @property
+    def offset(self) -> int:
+        """The offset of the page's directory in the file."""
+        return self._listed.offset
+
+    @property
+    def status(self) -> Status:
+        """`Status.DONE`, or the error by which the page is refused."""
+        return Status(self._listed.status)
+
+    @property
+    def _facts(self) -> ListedPage:
+        """The facts of the page in the list of pages; raises the error of a refused page."""
+        if self._listed.status:
+            raise TiffError(self._listed.status, self._named)
+        return self._listed
+
+    def _refuse(self, what: str, status: Status) -> UnsupportedError:
+        """Returns the error of something that isn't read, of this page."""
+        return UnsupportedError(what, status, self._named)
+
+    @property
+    def _color(self) -> Color:
+        """The color of the page."""
+        if self._facts.color_status:
+            raise TiffError(self._facts.color_status, self._named)
+        return self._facts.color
+
+    @cached_property
+    def _chunks(self) -> Chunks:
+        """The page's strips or tiles."""
+        with _library.named(self._named):
+            return _library.ask(_library.PAGE_CHUNKS, Chunks, self._file, self._at)
+
+    @cached_property
+    def _samples(self) -> Samples:
+        """What the samples of the page are, and how they are laid out."""
+        with _library.named(self._named):
+            return _library.ask(_library.PAGE_SAMPLES, Samples, self._file, self._at)
+
+    @cached_property
+    def tags(self) -> Tags:
+        """The tags of the page, by number and by name."""
+        return Tags(self._file, self._at, self._order, self._named)
+
+    @property
+    def imagewidth(self) -> int:
+        """The number of columns of the image."""
+        return self._facts.width
+
+    @property
+    def imagelength(self) -> int:
+        """The number of rows of the image."""
+        return self._facts.height
+
+    @cached_property
+    def imagedepth(self) -> int:
+        """The number of layers of the image, by the tag ImageDepth: 1, or the page isn't read."""
+        return self._first(IMAGE_DEPTH, 1)
+
+    def _first(self, number: int, default: int) -> int:
+        """Returns the first number of a tag of the page; raises the error of a refused page."""
+        if self._listed.status:
+            raise TiffError(self._listed.status, self._named)
+        return self.tags.first(number, default)
+
+    @property
+    def compression(self) -> int:
+        """The method of compression, by the tag Compression."""
+        return member(COMPRESSION, self._facts.method)
+
+    @cached_property
+    def photometric(self) -> int:
+        """What the samples of a pixel mean, by the tag PhotometricInterpretation."""
+        return member(PHOTOMETRIC, self._first(262, 0))
+
+    @cached_property
+    def planarconfig(self) -> int:
+        """How the samples of a pixel lie, by the tag PlanarConfiguration."""
+        return member(PLANARCONFIG, self._first(284, 1))
+
+    @cached_property
+    def samplesperpixel(self) -> int:
+        """The number of samples of a pixel, from the page's tags."""
+        return self._first(277, 1)
+
+    @cached_property
+    def bitspersample(self) -> int:
+        """The number of bits of a sample, from the page's tags."""
+        return self._first(258, 1)
+
+    @cached_property
+    def sampleformat(self) -> int:
+        """What the bits of a sample are, by the tag SampleFormat."""
+        return member(SAMPLEFORMAT, self._first(339, 1))
+
+    @cached_property
+    def extrasamples(self) -> tuple[int, ...]:
+        """What the extra samples of a pixel are, by the tag ExtraSamples."""
+        return tuple(member(EXTRASAMPLE, value) for value in self.tags.told(338))
+
+    @cached_property
+    def fillorder(self) -> int:
+        """The order of the bits of a byte, by the tag FillOrder: 1, or the page isn't read."""
+        return member(FILLORDER, self._first(266, 1))
+
+    @cached_property
+    def predictor(self) -> int:
+        """What is stored in place of the samples, by the tag Predictor."""
+        return member(PREDICTOR, self._first(317, 1))
+
+    @property
+    def color(self) -> ColorKind:
+        """What the samples of a pixel are, as the library shows them."""
+        return ColorKind(self._color.kind)
+
+    @property
+    def is_inverted(self) -> bool:
+        """Whether zero is white in the file. With `shown=True`, zero is black in arrays."""
+        return self._samples.inverted == 1
+
+    @property
+    def is_tiled(self) -> bool:
+        """Whether the page is in tiles, and not in strips."""
+        return self._facts.chunk_kind == _library.TILES
+
+    @property
+    def is_shaped(self) -> bool:
+        """Whether the description is the one in which tifffile keeps the shape of an array."""
+        text = self._told_text(DESCRIPTION)
+        json = text.startswith("{") and '"shape":' in text and '"mibi.' not in text
+        return json or text.startswith("shape=")
+
+    @property
+    def tilewidth(self) -> int:
+        """The number of columns of a tile, 0 for strips."""
+        return self._chunks.width if self.is_tiled else 0
+
+    @property
+    def tilelength(self) -> int:
+        """The number of rows of a tile, 0 for strips."""
+        return self._chunks.height if self.is_tiled else 0
+
+    @property
+    def tile(self) -> tuple[int, int] | None:
+        """The number of rows and of columns of a tile, None for strips."""
+        return (self.tilelength, self.tilewidth) if self.is_tiled else None
+
+    @property
+    def rowsperstrip(self) -> int:
+        """The number of rows of a strip, 0 for tiles."""
+        return 0 if self.is_tiled else self._chunks.height
+
+    @property
+    def chunks(self) -> tuple[int, ...]:
+        """The shape of a strip or a tile."""
+        sides = self._chunks.height, self._chunks.width
+        chunky = self.planarconfig == PLANARCONFIG.CONTIG and self.samplesperpixel > 1
+        return (*sides, self.samplesperpixel) if chunky else sides
+
+    @property
+    def chunk_count(self) -> int:
+        """How many strips or tiles the page has, in all planes."""
+        if self._facts.count_status:
+            raise TiffError(self._facts.count_status, self._named)
+        return self._facts.count
+
+    def _told_text(self, number: int) -> str:
+        """Returns the text of a tag as the library has it: the last one of several; or none."""
+        try:
+            return self.tags.text(number)
+        except TiffError:
+            return ""
+
+    @property
+    def description(self) -> str:
+        """The text of the tag ImageDescription, or an empty one."""
+        return str(self.tags.valueof(DESCRIPTION, ""))
+
+    @property
+    def software(self) -> str:
+        """The text of the tag Software, or an empty one."""
+        return str(self.tags.valueof(SOFTWARE, ""))
+
+    @property
+    def resolution(self) -> tuple[float, float]:
+        """The number of pixels in a unit along a row and along a column, 1 without the tags."""
+        return self._pixels_in_unit(282), self._pixels_in_unit(283)
+
+    def _pixels_in_unit(self, number: int) -> float:
+        """Returns a fraction of a tag as a number; without the tag 1, over 0 its first part."""
+        values = self.tags.valueof(number, (1, 1))
+        if not isinstance(values, tuple) or len(values) != 2:
+            return 1.0
+        above, below = values
+        return float(above / below if below else above)
+
+    @property
+    def resolutionunit(self) -> int:
+        """The unit of the resolution, by the tag ResolutionUnit."""
+        return member(RESUNIT, self._first(296, 2))
+
+    @cached_property
+    def colormap(self) -> NDArray[numpy.uint16] | None:
+        """The colors of a palette page, three rows: red, green, blue; None without the tag."""
+        colors: NDArray[numpy.uint16] | None = self.tags.valueof(320)
+        return colors
+
+    @cached_property
+    def dtype(self) -> numpy.dtype[Any]:
+        """The number type of the array that `asarray` returns.
+
+        One bit is a bool; samples of other depths have the next number type that holds them.
+        Complex whole numbers have the fields `real` and `imag`. A type that numpy lacks raises
+        `UnsupportedError`, `UNSUPPORTED_SAMPLE_FORMAT`.
+        """
+        from ._samples import number_type
+
+        found = number_type(self.sampleformat, self.bitspersample)
+        if found is None:
+            what = f"samples of SampleFormat {self.sampleformat:d} with {self.bitspersample} bits"
+            raise self._refuse(what, Status.UNSUPPORTED_SAMPLE_FORMAT)
+        return found
+
+    @property
+    def _has_samples(self) -> bool:
+        """Whether the array has a dimension for the samples of a pixel."""
+        return self.photometric == PHOTOMETRIC.RGB or self.samplesperpixel > 1
+
+    @property
+    def axes(self) -> str:
+        """A letter for each dimension of the array: Y rows, X columns, S samples."""
+        if not self._has_samples:
+            return "YX"
+        return "YXS" if self.planarconfig == PLANARCONFIG.CONTIG else "SYX"
+
+    def _shape_of(self, samples: int, rows: int, columns: int) -> tuple[int, ...]:
+        """Returns the shape of an array of so many samples a pixel, rows and columns."""
+        sides = {"Y": rows, "X": columns, "S": samples}
+        return tuple(sides[axis] for axis in self.axes)
+
+    @property
+    def shape(self) -> tuple[int, ...]:
+        """The shape of the array that `asarray` returns."""
+        return self._shape_of(self.samplesperpixel, self.imagelength, self.imagewidth)
+
+    def shape_of(self, shown: bool) -> tuple[int, ...]:
+        """Returns the shape of the array that `asarray` returns, with `shown` or without."""
+        samples = self._color.samples if shown else self.samplesperpixel
+        return self._shape_of(samples, self.imagelength, self.imagewidth)
+
+    @property
+    def ndim(self) -> int:
+        """How many dimensions the array has that `asarray` returns."""
+        return len(self.axes)
+
+    @property
+    def size(self) -> int:
+        """How many numbers the array has that `asarray` returns."""
+        return self.imagelength * self.imagewidth * self.samplesperpixel
+
+    @property
+    def nbytes(self) -> int:
+        """How many bytes the array has that `asarray` returns. A file may claim any number."""
+        return self.size * self.dtype.itemsize
+
+    @cached_property
+    def dataoffsets(self) -> tuple[int, ...]:
+        """Where the strips or tiles begin in the file."""
+        return self.tags.told(OFFSETS[self.is_tiled])

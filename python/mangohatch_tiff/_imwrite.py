@@ -1,0 +1,171 @@
+"""Writes arrays as files; the parameters are tifffile's."""
+from __future__ import annotations
+
+import os
+from typing import TYPE_CHECKING, Any, BinaryIO, Union
+
+from ._library import UnsupportedError
+
+if TYPE_CHECKING:
+    import datetime as dates
+    import io
+    from collections.abc import Sequence
+
+    from numpy.typing import ArrayLike
+
+    from ._enums import COMPRESSION, EXTRASAMPLE, PHOTOMETRIC, PLANARCONFIG, PREDICTOR, RESUNIT
+    from ._new_pages import NewTag
+    from ._new_tags import ExtraTag, Fractional
+
+    Target = Union[str, os.PathLike[str], BinaryIO]
+
+NAME = "mangohatch_tiff"
+# tifffile's other parameters, each with the value that asks for nothing.
+OTHERS: dict[str, tuple[object, ...]] = {
+    "shape": (None,),
+    "dtype": (None,),
+    "byteorder": (None, "<", "="),
+    "imagej": (False,),
+    "ome": (None, False),
+    "shaped": (None, False),
+    "append": (False,),
+    "volumetric": (False,),
+    "bitspersample": (None,),
+    "compressionargs": (None, {}),
+    "subsampling": (None, (1, 1)),
+    "jpegtables": (None,),
+    "colormap": (None,),
+    "contiguous": (False,),
+    "truncate": (False,),
+    "align": (None,),
+    "maxworkers": (None,),
+    "returnoffset": (False,),
+}
+
+
+def judge_others(others: dict[str, Any]) -> None:
+    """Refuses tifffile's parameters that nothing is done with, and names that it hasn't either."""
+    for name, value in others.items():
+        if name not in OTHERS:
+            raise TypeError(f"imwrite() got an unexpected keyword argument {name!r}")
+        plain = value is None or isinstance(value, (bool, str, tuple, dict))
+        if not plain or value not in OTHERS[name]:
+            raise UnsupportedError(f"imwrite: the parameter {name}")
+
+
+def tags_of(
+    extratags: Sequence[ExtraTag] | None, subfiletype: int | None, first: bool
+) -> list[NewTag]:
+    """Returns the caller's own tags: those of the first page alone, or those of each page."""
+    from ._new_pages import NewTag
+    from ._new_tags import LONG, SUBFILE_TYPE, extra_tag
+
+    tags = [extra_tag(tag) for tag in extratags or () if any(tag[4:]) == first]
+    if subfiletype is not None and not first:
+        tags.append(NewTag(SUBFILE_TYPE, LONG, int(subfiletype).to_bytes(4, "little")))
+    return tags
+
+
+def texts_of(
+    shape: tuple[int, ...],
+    description: str | bytes | None,
+    metadata: dict[str, Any] | None,
+    software: str | bytes | bool | None,
+    datetime: str | bool | dates.datetime | None,
+) -> list[NewTag]:
+    """Returns the texts of the first page: its description, the program and the date."""
+    from ._new_tags import DATE_TIME, DESCRIPTION, SOFTWARE, date_of, shape_text, text_tag
+
+    if description is not None and metadata is not None:
+        raise UnsupportedError("imwrite: both description and metadata")
+    if metadata is not None:
+        description = shape_text(shape, metadata)
+    texts = [] if description is None else [text_tag(DESCRIPTION, description)]
+    if software:
+        texts.append(text_tag(SOFTWARE, NAME if software is True else software))
+    if datetime:
+        texts.append(text_tag(DATE_TIME, date_of(datetime)))
+    return texts
+
+
+def deliver(file: Target | None, data: memoryview) -> bytes | None:
+    """Writes the bytes of a file at a path or into an open file, or returns them."""
+    if file is None:
+        return bytes(data)
+    if isinstance(file, (str, os.PathLike)):
+        with open(file, "wb", buffering=0) as made:
+            write_all(made, data)
+    else:
+        write_all(file, data)
+    return None
+
+
+def write_all(file: BinaryIO | io.RawIOBase, data: memoryview) -> None:
+    """Writes bytes into an open file, which may take a part at a time."""
+    while data:
+        written = file.write(data)
+        data = data[len(data) if written is None else written :]
+
+
+def imwrite(
+    file: Target | None,
+    data: ArrayLike,
+    *,
+    bigtiff: bool | None = None,
+    photometric: PHOTOMETRIC | int | str | None = None,
+    planarconfig: PLANARCONFIG | int | str | None = None,
+    extrasamples: Sequence[EXTRASAMPLE | int | str] | None = None,
+    tile: Sequence[int] | None = None,
+    rowsperstrip: int | None = None,
+    compression: COMPRESSION | int | str | None = None,
+    predictor: PREDICTOR | int | str | bool | None = None,
+    description: str | bytes | None = None,
+    datetime: str | bool | dates.datetime | None = None,
+    resolution: Sequence[Fractional] | None = None,
+    resolutionunit: RESUNIT | int | str | None = None,
+    subfiletype: int | None = None,
+    software: str | bytes | bool | None = None,
+    metadata: dict[str, Any] | None = None,
+    extratags: Sequence[ExtraTag] | None = None,
+    **others: Any,
+) -> bytes | None:
+    """Writes an array as a file at a path or into an open file, or returns the bytes for None.
+
+    The parameters are tifffile's, and what is written is read back as what was given:
+
+    `data` has two to four dimensions: rows and columns, pages before them, and the samples of a
+    pixel behind them, or before them with planarconfig "separate". Three or four samples of 8 or 16
+    bits at the end are RGB; other arrays with a side of 3 or 4 there need a `photometric`:
+    "minisblack", "rgb", or "separated" (CMYK). Numbers are of 8, 16, 32 or 64 bits, unsigned; of 32
+    or 64 bits, floating-point; and for gray signed.
+    `bigtiff` is decided by the size if it is None. `tile` is rows and columns, each a multiple of
+    16. `compression` is None or "packbits". `predictor` stores differences of whole numbers, which
+    many readers undo for LZW and Deflate alone.
+    `description`, `software`, `datetime` and `metadata` go to the first page. `metadata`, a
+    dictionary, makes the description that keeps the shape of the array, with the dictionary's
+    facts; by default there is none. `resolution` is the pixels in a unit along a row and a column,
+    numbers or fractions, in inches or in `resolutionunit`. `extratags` are tuples: a tag's number,
+    the type and the count of its values, the values, and whether the first page alone gets it.
+
+    Errors: what tifffile writes and this package doesn't, as `UnsupportedError`, which names it;
+    values that fit no file, ValueError; and `TiffError` for what the library refuses.
+    """
+    import numpy
+
+    from ._new_tags import resolution_of
+    from ._write import Samples, Settings, Stored, file_of
+
+    judge_others(others)
+    array = numpy.asarray(data)
+    first = texts_of(array.shape, description, metadata, software, datetime)
+    samples = Samples(photometric, planarconfig, extrasamples)
+    stored = Stored(tile, rowsperstrip, compression, predictor)
+    settings = Settings(
+        samples,
+        stored,
+        tags=tuple(tags_of(extratags, subfiletype, first=False)),
+        first_tags=(*first, *tags_of(extratags, subfiletype, first=True)),
+        resolution=resolution_of(resolution, resolutionunit),
+        has_shape=metadata is not None,
+    )
+    return deliver(file, file_of(array, bigtiff, settings))

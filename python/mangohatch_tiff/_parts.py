@@ -1,0 +1,301 @@
+"""Reads a window of a page into an array: the chunks that it needs, by several threads at once.
+
+It needs numpy.
+"""
+from __future__ import annotations
+
+import os
+import threading
+from collections import deque
+from collections.abc import Callable, Iterator
+from concurrent.futures import Future, ThreadPoolExecutor
+from dataclasses import dataclass, field
+from typing import TYPE_CHECKING, Any, TypeVar
+
+import numpy
+
+from . import _library
+from ._samples import Form
+
+if TYPE_CHECKING:
+    from _typeshed import ReadableBuffer
+    from numpy.typing import NDArray
+
+# A thread reads about as many bytes by one call, and a smaller image is read by one thread.
+STRETCH = 1 << 20
+# A tile of as many bytes is put into its place alone.
+LARGE_TILE = 1 << 15
+
+Item = TypeVar("Item")
+
+
+@dataclass(frozen=True)
+class Grid:
+    """The chunks of a page: the sides of the image and of a chunk, and the number of planes."""
+
+    width: int
+    height: int
+    chunk_width: int
+    chunk_height: int
+    planes: int
+
+    @property
+    def across(self) -> int:
+        """How many chunks lie side by side."""
+        return -(-self.width // self.chunk_width)
+
+    @property
+    def down(self) -> int:
+        """How many chunks lie one below the other in a plane."""
+        return -(-self.height // self.chunk_height)
+
+    def number(self, plane: int, line: int, column: int) -> int:
+        """Returns the number of a chunk, by its plane and its place there."""
+        return (plane * self.down + line) * self.across + column
+
+    def place(self, chunk: int) -> tuple[int, int, int]:
+        """Returns the plane of a chunk, and the row and the column at which it begins."""
+        line, column = divmod(chunk, self.across)
+        plane, line = divmod(line, self.down)
+        return plane, line * self.chunk_height, column * self.chunk_width
+
+    def rows_from(self, row: int) -> int:
+        """Returns how many rows of the image the chunks have that begin at a row."""
+        return min(self.chunk_height, self.height - row)
+
+    def columns_from(self, column: int) -> int:
+        """Returns how many columns of the image the chunks have that begin at a column."""
+        return min(self.chunk_width, self.width - column)
+
+
+@dataclass(frozen=True)
+class Run:
+    """Chunks that one call reads: `count` chunks from the number `first` on."""
+
+    first: int
+    count: int
+
+
+@dataclass(frozen=True)
+class Window:
+    """Rows and columns of an image, from the first ones to those behind the last ones."""
+
+    top: int
+    bottom: int
+    left: int
+    right: int
+
+
+class Scratch(threading.local):
+    """Memory of each thread, for the bytes of one run of chunks after another."""
+
+    held: NDArray[numpy.uint8] | None = None
+
+    def room(self, size: int) -> NDArray[numpy.uint8]:
+        """Returns so many bytes, which the next call returns again."""
+        if self.held is None or len(self.held) < size:
+            self.held = numpy.empty(size, numpy.uint8)
+        return self.held[:size]
+
+
+@dataclass(frozen=True)
+class Source:
+    """A page whose samples are read: its file, its number for the calls, its chunks and its form.
+
+    `at_once` tells whether one call reads all planes.
+    """
+
+    file: ReadableBuffer
+    at: int
+    grid: Grid
+    form: Form
+    at_once: bool
+    scratch: Scratch = field(default_factory=Scratch)
+
+    def read(self, call: Any, room: NDArray[Any], *place: int) -> None:
+        """Reads samples into an array by a call."""
+        _library.read_samples(call, self.file, (self.at, *place), room)
+
+    def read_chunks(self, run: Run, room: NDArray[Any]) -> None:
+        """Reads a run of chunks into an array, one behind the other."""
+        if not self.form.alone:
+            self.read(_library.READ_CHUNKS, room, run.first, run.count)
+            return
+        data, start = room.reshape(-1).view(numpy.uint8), 0
+        for chunk in range(run.first, run.first + run.count):
+            _, row, column = self.grid.place(chunk)
+            width = self.grid.columns_from(column)
+            size = self.grid.rows_from(row) * self.form.row_bytes(width)
+            self.read(_library.READ_CHUNK, data[start : start + size], chunk)
+            start += size
+
+    def read_whole(self, array: NDArray[Any]) -> None:
+        """Reads the image into an array of planes, rows, columns and samples, by one call."""
+        grid, form = self.grid, self.form
+        if form.is_direct:
+            self.read(_library.READ_IMAGE, array)
+            if form.turned:
+                numpy.bitwise_not(array, out=array)
+            return
+        raw = numpy.empty((grid.planes * grid.height, form.row_bytes(grid.width)), numpy.uint8)
+        self.read(_library.READ_IMAGE, raw)
+        array[...] = form.natural(raw, grid.width).reshape(array.shape)
+
+    def runs(self, window: Window) -> Iterator[Run]:
+        """Yields the runs of chunks that a window needs; each lies in a line of a plane."""
+        grid = self.grid
+        size = self.form.row_bytes(grid.chunk_width) * grid.chunk_height
+        most = max(1, STRETCH // max(1, size))
+        lines = range(window.top // grid.chunk_height, -(-window.bottom // grid.chunk_height))
+        for plane in range(grid.planes):
+            if grid.across == 1:
+                first = grid.number(plane, lines.start, 0)
+                yield from stretches(first, first + len(lines), most)
+                continue
+            left = window.left // grid.chunk_width
+            right = -(-window.right // grid.chunk_width)
+            for line in lines:
+                first = grid.number(plane, line, 0)
+                yield from stretches(first + left, first + right, most)
+
+    def read_run(self, run: Run, window: Window, array: NDArray[Any]) -> None:
+        """Reads a run of chunks and puts what the window has of them into its array."""
+        if self.grid.across == 1:
+            self._read_strips(run, window, array)
+        else:
+            self._read_tiles(run, window, array)
+
+    def _read_strips(self, run: Run, window: Window, array: NDArray[Any]) -> None:
+        """Reads chunks that lie one below the other, straight into the array if they fit there."""
+        grid, form = self.grid, self.form
+        plane, row, _ = grid.place(run.first)
+        behind = min(row + run.count * grid.chunk_height, grid.height)
+        top, bottom = max(row, window.top), min(behind, window.bottom)
+        target = array[plane, top - window.top : bottom - window.top]
+        whole = (top, bottom, window.left, window.right) == (row, behind, 0, grid.width)
+        if whole and form.is_direct and target.flags.c_contiguous:
+            self.read_chunks(run, target)
+            if form.turned:
+                numpy.bitwise_not(target, out=target)
+            return
+        raw = self.scratch.room((behind - row) * form.row_bytes(grid.width))
+        self.read_chunks(run, raw)
+        raw = raw.reshape(behind - row, -1)
+        numbers = form.natural(raw, grid.width)
+        target[...] = numbers[top - row : bottom - row, window.left : window.right]
+
+    def _read_tiles(self, run: Run, window: Window, array: NDArray[Any]) -> None:
+        """Reads chunks that lie side by side, and puts them into their places."""
+        plane, row, column = self.grid.place(run.first)
+        behind = row + self.grid.rows_from(row)
+        top, bottom = max(row, window.top), min(behind, window.bottom)
+        target = array[plane, top - window.top : bottom - window.top]
+        for block in self._blocks(run):
+            left, right = max(column, window.left), min(column + block.shape[1], window.right)
+            target[:, left - window.left : right - window.left] = block[
+                top - row : bottom - row, left - column : right - column
+            ]
+            column += block.shape[1]
+
+    def _blocks(self, run: Run) -> Iterator[NDArray[Any]]:
+        """Reads chunks that lie side by side, and yields blocks of them from the left.
+
+        Large ones are blocks of their own; small whole ones are one block, and a cut one another.
+        """
+        grid, form = self.grid, self.form
+        _, row, column = grid.place(run.first)
+        rows, width = grid.rows_from(row), grid.chunk_width
+        cut = min(run.count * width, grid.width - column) % width
+        whole = run.count - (cut > 0)
+        room, rest = whole * rows * form.row_bytes(width), rows * form.row_bytes(cut)
+        raw = self.scratch.room(room + rest)
+        self.read_chunks(run, raw)
+        if whole:
+            numbers = form.natural(raw[:room].reshape(whole * rows, -1), width)
+            tiles = numbers.reshape(whole, rows, width, form.samples)
+            if tiles[0].nbytes >= LARGE_TILE:
+                yield from tiles
+            else:
+                side_by_side = tiles.transpose(1, 0, 2, 3)
+                yield side_by_side.reshape(rows, whole * width, form.samples)
+        if cut:
+            yield form.natural(raw[room:].reshape(rows, -1), cut)
+
+    def chunks(self, run: Run) -> Iterator[tuple[tuple[int, int, int], NDArray[Any]]]:
+        """Reads a run of chunks, and yields the place and the samples of each."""
+        grid, form = self.grid, self.form
+        places = [grid.place(chunk) for chunk in range(run.first, run.first + run.count)]
+        sides = [(grid.rows_from(row), grid.columns_from(column)) for _, row, column in places]
+        raw = numpy.empty(sum(rows * form.row_bytes(wide) for rows, wide in sides), numpy.uint8)
+        self.read_chunks(run, raw)
+        start = 0
+        for place, (rows, wide) in zip(places, sides):
+            size = form.row_bytes(wide)
+            yield place, form.natural(raw[start : start + rows * size].reshape(rows, size), wide)
+            start += rows * size
+
+
+def stretches(first: int, behind: int, most: int) -> Iterator[Run]:
+    """Yields runs of at most so many chunks, from a first one to the one behind the last."""
+    for start in range(first, behind, most):
+        yield Run(start, min(most, behind - start))
+
+
+def threads(workers: int | None) -> int:
+    """Returns how many threads read: as many as asked for, or as there are processors."""
+    if workers is None:
+        return len(os.sched_getaffinity(0))
+    if workers < 1:
+        raise ValueError(f"workers={workers}: at least one thread reads")
+    return workers
+
+
+def each(call: Callable[[Item], None], items: list[Item], workers: int) -> None:
+    """Calls a function for each item, by several threads; raises the first error in their order."""
+    if min(workers, len(items)) < 2:
+        for item in items:
+            call(item)
+        return
+    with ThreadPoolExecutor(min(workers, len(items))) as pool:
+        for _ in pool.map(call, items):
+            pass
+
+
+def read_window(
+    source: Source, window: Window, array: NDArray[Any], workers: int | None
+) -> None:
+    """Reads a window of a page into an array of planes, rows, columns and samples."""
+    grid = source.grid
+    whole = window == Window(0, grid.height, 0, grid.width)
+    wanted = threads(workers)
+    count = wanted if array.nbytes >= STRETCH else 1
+    if whole and source.at_once and array.flags.c_contiguous and count == 1:
+        source.read_whole(array)
+        return
+    runs = list(source.runs(window))
+    each(lambda run: source.read_run(run, window, array), runs, count)
+
+
+def segments_of(
+    source: Source, workers: int | None
+) -> Iterator[tuple[tuple[int, int, int], NDArray[Any]]]:
+    """Reads all chunks of a page in their order, and yields the place and the samples of each.
+
+    Threads read ahead, each a run of chunks, and at most two runs for each of them are held.
+    """
+    grid, wanted = source.grid, threads(workers)
+    count = grid.planes * grid.down * grid.across
+    size = source.form.row_bytes(grid.chunk_width) * grid.chunk_height
+    runs = stretches(0, count, max(1, STRETCH // max(1, size)))
+    if wanted == 1 or count * size < STRETCH:
+        for run in runs:
+            yield from source.chunks(run)
+        return
+    with ThreadPoolExecutor(wanted) as pool:
+        ahead: deque[Future[list[tuple[tuple[int, int, int], NDArray[Any]]]]] = deque()
+        for run in runs:
+            ahead.append(pool.submit(lambda run=run: list(source.chunks(run))))
+            if len(ahead) == 2 * wanted:
+                yield from ahead.popleft().result()
+        for future in ahead:
+            yield from future.result()

@@ -1,0 +1,102 @@
+"""The package as a whole: its names, its version, its types, its wheel."""
+from __future__ import annotations
+
+import os
+import re
+import shutil
+import subprocess
+import sys
+from pathlib import Path
+
+import pytest
+import tifffile
+
+import mangohatch_tiff as mt
+
+FOLDER = Path(__file__).resolve().parents[1]
+EXAMPLES = FOLDER.parent / "examples" / "python"
+
+
+def test_version() -> None:
+    assert f'version = "{mt.__version__}"\n' in (FOLDER / "pyproject.toml").read_text()
+    assert mt.__version__.split(".")[0] == str(mt.library_version())
+
+
+def public(kind: object) -> set[str]:
+    """Returns the public names of a class."""
+    return {name for name in dir(kind) if not name.startswith("_")}
+
+
+def test_names_are_in_the_table() -> None:
+    """Each name that tifffile has too, and each of our own, is told in the README."""
+    told = (FOLDER / "README.md").read_text()
+    names = set(mt.__all__)
+    for kind in (mt.TiffFile, mt.TiffPage, mt.Tag, mt.Tags):
+        names |= public(kind)
+    lacking = {name for name in names if not re.search(rf"\b{name}\b", told)}
+    assert not lacking
+
+
+def test_what_tifffile_has_too() -> None:
+    """The names of tifffile that are here; a new one has to be compared with it first."""
+    shared = {name for name in mt.__all__ if hasattr(tifffile, name)}
+    assert shared == {
+        "COMPRESSION", "DATATYPE", "EXTRASAMPLE", "FILLORDER", "PHOTOMETRIC", "PLANARCONFIG",
+        "PREDICTOR", "RESUNIT", "SAMPLEFORMAT", "TiffFile", "TiffPage", "imread", "imwrite",
+    }
+    assert public(mt.TiffFile) & public(tifffile.TiffFile) == {"asarray", "close", "is_bigtiff"}
+
+
+def test_reprs() -> None:
+    file = mt.imwrite(None, [[1, 2, 3]])
+    tif = mt.TiffFile(file)
+    assert repr(tif) == "<TiffFile <class 'bytes'>: 1 pages>"
+    assert re.fullmatch(r"<TiffPage 0 @\d+ \(1, 3\) int64>", repr(tif.pages[0]))
+
+
+@pytest.mark.skipif(not shutil.which("mypy"), reason="mypy is missing")
+def test_types() -> None:
+    """The package and the examples over it are taken by mypy's strict mode."""
+    examples = [str(path) for path in sorted(EXAMPLES.glob("*.py")) if path.name != "tiff.py"]
+    command = ["mypy", "--strict", "--ignore-missing-imports", "--allow-untyped-decorators"]
+    for files in (["mangohatch_tiff"], *([example] for example in examples)):
+        made = subprocess.run(
+            [*command, "--allow-untyped-calls", *files],
+            cwd=FOLDER, env={**os.environ, "MYPYPATH": "."}, capture_output=True, text=True,
+        )
+        assert made.returncode == 0, made.stdout
+
+
+@pytest.mark.parametrize("isolation", [[], ["--no-build-isolation"]])
+def test_install(isolation: list[str], tmp_path: Path) -> None:
+    """pip builds and installs the package in a fresh environment, without a network."""
+    folder = tmp_path / "environment"
+    subprocess.run([sys.executable, "-m", "venv", folder], check=True)
+    python = folder / "bin" / "python"
+    command = [python, "-m", "pip", "install", "--no-index", *isolation, FOLDER]
+    made = subprocess.run(command, capture_output=True, text=True)
+    assert made.returncode == 0, made.stdout + made.stderr
+    told = subprocess.run(
+        [python, "-c", "import mangohatch_tiff as m; print(m.__version__, m.library_version())"],
+        cwd=tmp_path, capture_output=True, text=True, check=True,
+    )
+    assert told.stdout.split() == [mt.__version__, str(mt.library_version())]
+
+
+def test_numpy_is_for_arrays_alone(tmp_path: Path) -> None:
+    """Pages, their facts and their tags are read without numpy."""
+    path = tmp_path / "page.tif"
+    mt.imwrite(path, [[1, 2, 3]], description="a line")
+    program = f"""
+import sys
+sys.modules["numpy"] = None
+from mangohatch_tiff import TiffFile, write_jobs
+with TiffFile({str(path)!r}) as tif:
+    page = tif.pages[0]
+    print(page.shape, page.axes, page.description, page.compression.name, len(page.tags))
+"""
+    environment = {**os.environ, "PYTHONPATH": str(FOLDER)}
+    told = subprocess.run(
+        [sys.executable, "-c", program], env=environment, capture_output=True, text=True, check=True
+    )
+    assert told.stdout.startswith("(1, 3) YX a line NONE ")

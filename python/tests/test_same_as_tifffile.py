@@ -1,0 +1,142 @@
+"""Random files of tifffile are read as tifffile reads them, or are refused."""
+from __future__ import annotations
+
+import io
+import random
+import warnings
+from collections import Counter
+from collections.abc import Callable
+from typing import Any
+
+import numpy
+import pytest
+import tifffile
+from conftest import samples
+
+import mangohatch_tiff as mt
+
+COUNT = 300
+TYPES = ["u1", "u2", "u4", "u8", "i1", "i2", "i4", "i8", "f2", "f4", "f8", "c8", "c16", "?"]
+PHOTOMETRICS = [None, "minisblack", "miniswhite", "rgb", "separated", "palette"]
+METADATA = [None, {}, {"axes": "auto"}]
+REFUSALS = (ValueError, TypeError, RuntimeError, KeyError, IndexError)
+REFUSALS += (tifffile.TiffFileError, tifffile.OmeXmlError)
+# Facts of a page that are compared.
+FACTS = ["shape", "dtype", "axes", "ndim", "size", "nbytes", "photometric", "planarconfig"]
+FACTS += ["samplesperpixel", "bitspersample", "sampleformat", "extrasamples", "compression"]
+FACTS += ["predictor", "fillorder", "is_tiled", "tile", "rowsperstrip", "chunks"]
+FACTS += ["imagewidth", "imagelength", "imagedepth", "offset", "index", "resolution", "is_shaped"]
+
+
+def settings_of(chance: random.Random) -> tuple[tuple[int, ...], str, dict]:
+    """Returns a random shape, number type and settings of a file."""
+    sides = chance.choices([1, 1, 2, 3, 4], k=chance.randint(0, 3))
+    shape = (*sides, chance.randint(1, 40), chance.randint(1, 40))
+    if chance.random() < 0.3:
+        shape = (*shape, chance.choice([1, 2, 3, 4, 5]))
+    dtype = chance.choice(TYPES)
+    options = {
+        "photometric": chance.choice(PHOTOMETRICS),
+        "planarconfig": chance.choice([None, None, "contig", "separate"]),
+        "metadata": chance.choice(METADATA),
+        "bigtiff": chance.random() < 0.2,
+        "byteorder": chance.choice("<>"),
+        "imagej": chance.random() < 0.1,
+        "ome": chance.random() < 0.05,
+        "volumetric": chance.random() < 0.05,
+    }
+    if chance.random() < 0.4:
+        options["tile"] = chance.choice([(16, 16), (32, 16), (16, 48)])
+    elif chance.random() < 0.5:
+        options["rowsperstrip"] = chance.randint(1, 50)
+    if options["photometric"] == "palette":
+        numbers = 1 << (8 * min(2, numpy.dtype(dtype).itemsize))
+        options["colormap"] = samples((3, numbers), "u2")
+    if options["metadata"]:
+        options["metadata"] = {"axes": "QTZCYX"[-len(shape) :]}
+    return shape, dtype, options
+
+
+def file_of(chance: random.Random) -> bytes | None:
+    """Returns a random file, or None if tifffile refuses the settings."""
+    shape, dtype, options = settings_of(chance)
+    image = samples(shape, "u1" if dtype == "?" else dtype)
+    if dtype == "?":
+        image = image > 99
+    image = image.astype(image.dtype.newbyteorder(options["byteorder"]))
+    made = io.BytesIO()
+    try:
+        with warnings.catch_warnings():
+            warnings.simplefilter("ignore")
+            tifffile.imwrite(made, image, **options)
+    except REFUSALS:
+        return None
+    return made.getvalue()
+
+
+def read(call: Callable[[], object]) -> Any:
+    """Returns what is read, or the error by which it is refused."""
+    try:
+        return call()
+    except mt.TiffError as fault:
+        return fault
+
+
+def assert_same_array(
+    ours: numpy.ndarray | mt.TiffError, theirs: Callable[[], numpy.ndarray]
+) -> None:
+    """Compares two arrays and their types. Some of what tifffile writes it can't read itself."""
+    if isinstance(ours, mt.TiffError):
+        return
+    try:
+        expected = theirs()
+    except (ValueError, TypeError, tifffile.TiffFileError):
+        return
+    assert (ours.shape, ours.dtype) == (expected.shape, expected.dtype.newbyteorder("="))
+    numpy.testing.assert_array_equal(ours, expected)
+
+
+@pytest.mark.parametrize("first", range(0, COUNT, 50))
+def test_random_files(first: int) -> None:
+    counted: Counter = Counter()
+    for seed in range(first, first + 50):
+        file = file_of(random.Random(seed))
+        if file is None:
+            continue
+        opened = read(lambda file=file: mt.TiffFile(file))
+        if isinstance(opened, mt.TiffError):
+            # Of bool samples in planes, tifffile writes more strips than it counts.
+            assert opened.status is mt.Status.INCONSISTENT_SIZES_ENCOUNTERED
+            counted["refused"] += 1
+            continue
+        with tifffile.TiffFile(io.BytesIO(file)) as theirs, opened as ours:
+            array = read(ours.asarray)
+            counted[type(array).__name__] += 1
+            assert_same_array(array, theirs.asarray)
+            assert len(ours.pages) == len(theirs.pages)
+            for page, other in zip(ours.pages, theirs.pages):
+                assert_same_page(page, other.aspage(), seed)
+    assert counted["ndarray"] > 10 and len(counted) > 1
+
+
+def assert_same_page(page: mt.TiffPage, other: tifffile.TiffPage, seed: int) -> None:
+    """Compares a page and its facts with those that tifffile tells."""
+    if page.status is not mt.Status.DONE:
+        return
+    for name in FACTS:
+        assert getattr(page, name) == getattr(other, name) or name in unlike(page), (seed, name)
+    array = read(page.asarray)
+    assert_same_array(array, other.asarray)
+    if not isinstance(array, mt.TiffError):
+        assert page.dataoffsets == other.dataoffsets
+        chance = random.Random(seed)
+        top, left = chance.randrange(page.imagelength), chance.randrange(page.imagewidth)
+        part = page.read(slice(top, top + 9), slice(left, left + 11))
+        sides = {"Y": slice(top, top + 9), "X": slice(left, left + 11)}
+        at = tuple(sides.get(axis, slice(None)) for axis in page.axes)
+        numpy.testing.assert_array_equal(part, array[at])
+
+
+def unlike(page: mt.TiffPage) -> set[str]:
+    """Returns the facts that tifffile tells in another way of an image of several layers."""
+    return {"shape", "axes", "ndim", "size", "nbytes", "chunks"} if page.imagedepth > 1 else set()
