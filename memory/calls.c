@@ -47,6 +47,7 @@ struct answer {
     struct tiff_pages_end pages_end;
     struct tiff_listed_page pages[LISTED];
     struct tiff_tag_entry entries[LISTED];
+    struct tiff_listed_directory directories[LISTED];
     uint64_t numbers[LISTED];
     double floats[LISTED];
     uint8_t bytes[ROOM];
@@ -82,6 +83,10 @@ static tiff_status page_samples(const struct input *on, struct answer *to) {
 static tiff_status page_chunks(const struct input *on, struct answer *to) { return tiff_page_chunks(on->file, on->len, on->page, &to->chunks); }
 
 static tiff_status list_pages(const struct input *on, struct answer *to) { return tiff_list_pages(on->file, on->len, to->pages, LISTED, &to->number); }
+
+static tiff_status list_directories(const struct input *on, struct answer *to) {
+    return tiff_list_directories(on->file, on->len, to->directories, LISTED, &to->number);
+}
 
 static tiff_status chunk_bytes(const struct input *on, struct answer *to) {
     return tiff_read_chunk_bytes(on->file, on->len, on->page, 0, to->bytes, ROOM);
@@ -187,6 +192,7 @@ static const struct call readers[] = {
     {"tiff_page_samples", ALL, page_samples},
     {"tiff_page_chunks", ALL, page_chunks},
     {"tiff_list_pages", BUT_COUNT, list_pages},
+    {"tiff_list_directories", BUT_COUNT, list_directories},
     {"tiff_read_chunk_bytes", BUT_BYTES, chunk_bytes},
     {"tiff_read_chunks", BUT_BYTES, two_chunks},
     {"tiff_page_sides (of an offset)", ALL, sides_at},

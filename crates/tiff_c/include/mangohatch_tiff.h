@@ -14,7 +14,7 @@ DESCRIPTION
 
     PAGE is the number of a page, counted from 0 along the file's chain of directories; or
     TIFF_AT(OFFSET), the directory at that offset of the file. That directory need not be in the
-    chain: it may be one of tiff_list_pages, a SubIFD or a preview. A call with a number walks
+    chain: it may be one of tiff_list_directories, as a SubIFD or a preview. A call with a number walks
     along the chain up to that page. A call with an offset doesn't: to visit all pages by the
     offsets that tiff_list_pages returns takes time that grows with the number of pages.
 
@@ -33,8 +33,8 @@ DESCRIPTION
 
     A call that returns TIFF_DONE has written its result. A call that returns any other status
     leaves a struct or a number as it was; what it leaves in a buffer of bytes is not specified.
-    tiff_list_pages, tiff_list_tags, tiff_tag_numbers, tiff_tag_floats, tiff_tag_text,
-    tiff_write_image, tiff_write_jobs and tiff_write_pages specify more.
+    tiff_list_pages, tiff_list_directories, tiff_list_tags, tiff_tag_numbers, tiff_tag_floats,
+    tiff_tag_text, tiff_write_image, tiff_write_jobs and tiff_write_pages specify more.
 
     A file may claim any size: call tiff_page_layout and judge its result before you allocate for
     an image. The calls that read pixels have no limit for the size of a chunk in the file: they
@@ -262,6 +262,45 @@ struct tiff_listed_page {
    and PAGES stays; it then returns the error of the header, that of a first directory that can't
    be read, or TIFF_OUT_OF_MEMORY. */
 tiff_status tiff_list_pages(const uint8_t *file, size_t len, struct tiff_listed_page *pages, size_t room, size_t *count);
+
+/* A place where a directory is named: by a link of the chain, or by a value of a tag. OFFSET is
+   that of the directory, for TIFF_AT(OFFSET). DEPTH is 0 in the chain, and TAG and PARENT are then
+   0; else TAG is the number of the tag, PARENT the offset of the directory with that tag, and DEPTH
+   one more than there. FOUND is what is found at OFFSET. Of a directory, FIELDS is how many tags it
+   has, and PAGE its page as tiff_list_pages lists it; a directory without an image, as that of Exif,
+   is refused as a page, which PAGE.STATUS then says. STATUS is the error by which the directory or
+   the values of TAG can't be read, else 0; for values, OFFSET is PARENT. Where FOUND isn't
+   TIFF_DIRECTORY, FIELDS and all members of PAGE are 0. */
+enum {
+    TIFF_DIRECTORY = 0,
+    TIFF_DIRECTORY_ERROR = 1,    /* the directory can't be read */
+    TIFF_VALUES_ERROR = 2,       /* the values of TAG can't be read as numbers */
+    TIFF_DIRECTORY_MET = 3,      /* the list has the directory at another place */
+    TIFF_DIRECTORY_TOO_DEEP = 4, /* DEPTH is 9, and the directory isn't read */
+};
+struct tiff_listed_directory {
+    uint64_t offset;
+    uint64_t parent;
+    uint64_t fields;
+    uint32_t depth;
+    uint32_t tag;
+    uint32_t found;
+    tiff_status status;
+    struct tiff_listed_page page;
+};
+
+/* Lists the directories of a file into DIRECTORIES, as many as ROOM allows: those of its chain, and
+   from each those that its tags name by their values. These tags are the ones of type IFD (13) or
+   IFD8 (18), and of any type SubIFDs (330) and the pointers to the directories of Exif (34665), GPS
+   (34853) and interoperability (40965). Behind a directory come those that it names, in the order
+   of the tags' numbers and of a tag's values, each with all below it, and then the next one of the
+   chain. A directory is listed once, nearest to the chain and then first in this order; elsewhere
+   it is TIFF_DIRECTORY_MET. The deepest that is read has DEPTH 8. The elements of DIRECTORIES
+   behind the list stay. *COUNT is how long the list is, even if ROOM is less; with a ROOM of 0 the
+   call just counts. It returns TIFF_DONE if the chain ends by a link of 0, else the error by which
+   the chain ends. If it lists nothing, *COUNT is 0 and DIRECTORIES stays; it then returns the error
+   of the header, that of a first directory that can't be read, or TIFF_OUT_OF_MEMORY. */
+tiff_status tiff_list_directories(const uint8_t *file, size_t len, struct tiff_listed_directory *directories, size_t room, size_t *count);
 
 /* Reads the chunk with the number CHUNK, counted from 0, into BUFFER: as it is in the image, cut at
    its edges, and in one plane. The other bytes of BUFFER stay. Errors, in this order: the first

@@ -6,6 +6,7 @@
 
 ghost use Rattle.std.specs.Prelude.{◌≡◌, ◌⊎◌};
 ghost use Rattle.tiff_statuses.specs.Calls as calls;
+ghost use Rattle.tiff_statuses.specs.Directories.{TreeTells, tree_of};
 ghost use Rattle.tiff_statuses.specs.Entries.{list_tags};
 ghost use Rattle.tiff_statuses.specs.Jobs.{JobsTell};
 ghost use Rattle.tiff_statuses.specs.List.{ListTells, list_of};
@@ -18,6 +19,7 @@ ghost use Rattle.tiff_statuses.specs.Writer.{IsShown};
 use std::alloc::Global;
 use tiff_statuses::VERSION;
 use tiff_statuses::calls::{Chunks, Color, FieldSize, Layout, PageSamples, Sides};
+use tiff_statuses::directories::ListedDirectory;
 use tiff_statuses::entries::TagEntry;
 use tiff_statuses::jobs::JobsEnd;
 use tiff_statuses::list::ListedPage;
@@ -325,6 +327,23 @@ pub extern "C" fn tiff_list_pages(
     ensures { ListTells (list_of file.now) result pages.old pages.new count.new }
 {
     tiff_statuses::list_pages(alloc, file, pages, count)
+}
+
+/// Puts the directories of a file into `directories`, those of its chain and those that tags name,
+/// in the order of their tree, as many as fit, and how many there are into `count`, even if not all
+/// fit. Returns 0, or the number of the error by which the chain ends. If the file's header is
+/// refused, or memory is out, it returns that error. `count` is then 0, and `directories` is as it
+/// was.
+#[unsafe(no_mangle)]
+pub extern "C" fn tiff_list_directories(
+    alloc: Global,
+    file: &[u8],
+    directories: &mut [ListedDirectory],
+    count: &mut usize,
+) -> u32
+    ensures { TreeTells (tree_of file.now) result directories.old directories.new count.new }
+{
+    tiff_statuses::list_directories(alloc, file, directories, count)
 }
 
 /// Writes a file of one image into `buffer`, and puts how many bytes the file has into `len`.

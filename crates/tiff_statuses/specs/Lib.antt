@@ -10,3 +10,4 @@ pub mod Unkept
 pub mod Zeros
 pub mod Entries
 pub mod Pages
+pub mod Directories

@@ -24,6 +24,21 @@ abbrev pub count_told : Result ℕ TiffError → ℕ
 count_told (Ok count) = count
 count_told (Err e) = 0
 
+-- zeros where there is no page
+abbrev pub no_page : ListedPage
+no_page = record {
+  offset = 0;
+  status = 0;
+  width = 0;
+  height = 0;
+  method = 0;
+  color_status = 0;
+  color = record { kind = 0; bits = 0; samples = 0 };
+  chunk_kind = 0;
+  count_status = 0;
+  count = 0;
+}
+
 -- a page by its numbers: its facts, or the number of its error and zeros
 abbrev pub page_told : ℕ → Result PageFacts TiffError → ListedPage
 page_told offset (Ok facts) = record {
@@ -38,18 +53,7 @@ page_told offset (Ok facts) = record {
   count_status = status facts.chunks;
   count = count_told facts.chunks;
 }
-page_told offset (Err e) = record {
-  offset = offset;
-  status = fault_number e;
-  width = 0;
-  height = 0;
-  method = 0;
-  color_status = 0;
-  color = record { kind = 0; bits = 0; samples = 0 };
-  chunk_kind = 0;
-  count_status = 0;
-  count = 0;
-}
+page_told offset (Err e) = record no_page { offset = offset; status = fault_number e }
 
 abbrev pub item_told : PageItem → ListedPage
 item_told item = page_told item.place.0 item.page
@@ -69,24 +73,25 @@ abbrev pub end_status : Option TiffError → ℕ
 end_status None = 0
 end_status (Some e) = fault_number e
 
--- No page is listed, for this error, or since memory is out.
-pub record ListsNone (e : TiffError) (result : ℕ) (old new : List ListedPage) (count : ℕ) : Type 0
-  where
-    pub status : (result ≡ fault_number e) ⊎ (result ≡ fault_number OutOfMemory)
-    pub none : count ≡ 0
-    pub stays : new ≡ old
+-- Nothing is listed, for this error, or since memory is out.
+pub record ListsNone {A : Type 0} (e : TiffError) (result : ℕ) (old new : List A) (count : ℕ)
+    : Type 0 where
+  pub status : (result ≡ fault_number e) ⊎ (result ≡ fault_number OutOfMemory)
+  pub none : count ≡ 0
+  pub stays : new ≡ old
 
--- As many of these pages as fit are listed, with how many there are; the status is that of the
+-- As many of these items as fit are listed, with how many there are; the status is that of the
 -- chain's end.
-pub record ListsAll (pages : Pages) (result : ℕ) (old new : List ListedPage) (count : ℕ) : Type 0
-  where
-    pub status : result ≡ end_status pages.end
-    pub all : count ≡ length pages.items
-    pub listed : new ≡ filled (map item_told pages.items) old
+pub record ListsAll {A : Type 0} (items : List A) (end : Option TiffError) (result : ℕ)
+    (old new : List A) (count : ℕ) : Type 0 where
+  pub status : result ≡ end_status end
+  pub all : count ≡ length items
+  pub listed : new ≡ filled items old
 
 -- what the call returns and leaves: all pages, or none since memory is out; or none for the error
 -- of the file
 abbrev pub ListTells : Result Pages TiffError → ℕ → List ListedPage → List ListedPage → ℕ → Type 0
 ListTells (Ok pages) result old new count =
-    ListsAll pages result old new count ⊎ ListsNone OutOfMemory result old new count
+    ListsAll (map item_told pages.items) pages.end result old new count
+    ⊎ ListsNone OutOfMemory result old new count
 ListTells (Err e) result old new count = ListsNone e result old new count

@@ -10,6 +10,7 @@
 
 ghost use Rattle.std.specs.Prelude.{◌≡◌, ◌⊎◌};
 ghost use Rattle.tiff_statuses.specs.Calls as calls;
+ghost use Rattle.tiff_statuses.specs.Directories.{TreeTells, tree_of};
 ghost use Rattle.tiff_statuses.specs.Entries.{list_tags};
 ghost use Rattle.tiff_statuses.specs.Jobs.{JobsTell};
 ghost use Rattle.tiff_statuses.specs.List.{ListTells, list_of};
@@ -23,6 +24,7 @@ use std::alloc::Global;
 pub use tiff_lists::VERSION;
 
 pub mod calls;
+pub mod directories;
 pub mod entries;
 mod frame;
 pub mod jobs;
@@ -34,6 +36,7 @@ pub mod values;
 pub mod writer;
 
 use crate::calls::{Chunks, Color, FieldSize, Layout, PageSamples, Sides};
+use crate::directories::{ListedDirectory, list_tree};
 use crate::entries::TagEntry;
 use crate::jobs::{JobsEnd, run_version, tell};
 use crate::list::{ListedPage, list_into};
@@ -313,6 +316,22 @@ pub fn list_pages(alloc: Global, file: &[u8], pages: &mut [ListedPage], count: &
     ensures { ListTells (list_of file.now) result pages.old pages.new count.new }
 {
     list_into(alloc, file, pages, count)
+}
+
+/// Puts the directories of a file into `directories`, those of its chain and those that tags name,
+/// in the order of their tree, as many as fit, and how many there are into `count`, even if not all
+/// fit. Returns 0, or the number of the error by which the chain ends. If the file's header is
+/// refused, or memory is out, it returns that error. `count` is then 0, and `directories` is as it
+/// was.
+pub fn list_directories(
+    alloc: Global,
+    file: &[u8],
+    directories: &mut [ListedDirectory],
+    count: &mut usize,
+) -> u32
+    ensures { TreeTells (tree_of file.now) result directories.old directories.new count.new }
+{
+    list_tree(alloc, file, directories, count)
 }
 
 /// Writes a file of one image into `buffer`, and puts how many bytes the file has into `len`.

@@ -39,6 +39,20 @@ const NO_COLOR: Color = Color {
     samples: 0,
 };
 
+/// What C gets where there is no page.
+pub const NO_PAGE: ListedPage = ListedPage {
+    offset: 0,
+    status: 0,
+    width: 0,
+    height: 0,
+    method: 0,
+    color_status: 0,
+    color: NO_COLOR,
+    chunk_kind: 0,
+    count_status: 0,
+    count: 0,
+};
+
 // A color by its numbers for C; all 0 for an error.
 fn color_told(color: &TiffResult<ColorType>) -> Color
     ensures { result ≡ list.color_told color.now }
@@ -80,26 +94,26 @@ fn facts_told(offset: u64, facts: &PageFacts) -> ListedPage
     }
 }
 
-// A page, as C gets it: its facts, or the number of its error and zeros.
-fn item_told(item: &PageItem) -> ListedPage
-    ensures { result ≡ list.item_told item.now }
+/// The page of the directory at an offset, as C gets it: its facts, or the number of its error and
+/// zeros.
+pub fn page_told(offset: u64, page: &TiffResult<PageFacts>) -> ListedPage
+    ensures { result ≡ list.page_told offset page.now }
 {
-    let offset = item.place.0;
-    match &item.page {
+    match page {
         Ok(facts) => facts_told(offset, facts),
         Err(fault) => ListedPage {
             offset,
             status: fault_number(fault),
-            width: 0,
-            height: 0,
-            method: 0,
-            color_status: 0,
-            color: NO_COLOR,
-            chunk_kind: 0,
-            count_status: 0,
-            count: 0,
+            ..NO_PAGE
         },
     }
+}
+
+// A page of the chain, as C gets it.
+fn item_told(item: &PageItem) -> ListedPage
+    ensures { result ≡ list.item_told item.now }
+{
+    page_told(item.place.0, &item.page)
 }
 
 // Puts as many pages into a slice as fit; the elements behind them stay.
@@ -124,8 +138,8 @@ fn list_pages(alloc: Global, file: &[u8]) -> TiffResult<PageList>
     listed
 }
 
-// The number of the error by which a chain ends, or 0.
-fn end_status(end: &Option<TiffError>) -> u32
+/// The number of the error by which a chain ends, or 0.
+pub fn end_status(end: &Option<TiffError>) -> u32
     ensures { result ≡ list.end_status end.now }
 {
     match end {

@@ -11,7 +11,7 @@ mod tags;
 mod written;
 
 use altered::{print_claim, print_refused, print_retyped};
-use file::{print_file, print_list, print_text};
+use file::{print_file, print_list, print_text, print_tree};
 use jobs::print_all_jobs;
 use page::{print_chunks, print_parts, print_pixels, print_samples, print_sides};
 use pages::print_all_pages;
@@ -48,7 +48,9 @@ fn print_files(rt: &HostRuntime, file: &[u8]) -> io::Result<()> {
     print_file(rt, file)?;
     print_file(rt, cut)?;
     print_list(rt, file)?;
-    print_list(rt, cut)
+    print_list(rt, cut)?;
+    print_tree(rt, file)?;
+    print_tree(rt, cut)
 }
 
 /// Prints each call with its status and with what it put.

@@ -2,6 +2,7 @@
 
 use std::io;
 use tiff_statuses::calls::Color;
+use tiff_statuses::directories::ListedDirectory;
 use tiff_statuses::list::ListedPage;
 
 /// Prints the byte order of a file and the number of its pages.
@@ -14,27 +15,48 @@ pub fn print_file(rt: &HostRuntime, file: &[u8]) -> io::Result<()> {
     println!(rt; "page_count: {status}, {pages}")
 }
 
+const NO_PAGE: ListedPage = ListedPage {
+    offset: 0,
+    status: 0,
+    width: 0,
+    height: 0,
+    method: 0,
+    color_status: 0,
+    color: Color {
+        kind: 0,
+        bits: 0,
+        samples: 0,
+    },
+    chunk_kind: 0,
+    count_status: 0,
+    count: 0,
+};
+
+const NO_DIRECTORY: ListedDirectory = ListedDirectory {
+    offset: 0,
+    parent: 0,
+    fields: 0,
+    depth: 0,
+    tag: 0,
+    found: 0,
+    status: 0,
+    page: NO_PAGE,
+};
+
 /// Prints the list of a file's pages, with room for one.
 pub fn print_list(rt: &HostRuntime, file: &[u8]) -> io::Result<()> {
-    let mut pages = [ListedPage {
-        offset: 0,
-        status: 0,
-        width: 0,
-        height: 0,
-        method: 0,
-        color_status: 0,
-        color: Color {
-            kind: 0,
-            bits: 0,
-            samples: 0,
-        },
-        chunk_kind: 0,
-        count_status: 0,
-        count: 0,
-    }];
+    let mut pages = [NO_PAGE];
     let mut count = 0;
     let status = tiff_statuses::list_pages(rt.alloc(), file, &mut pages, &mut count);
     println!(rt; "list_pages: {status}, {count}, {:?}", pages[0])
+}
+
+/// Prints the list of a file's directories, with room for one.
+pub fn print_tree(rt: &HostRuntime, file: &[u8]) -> io::Result<()> {
+    let mut directories = [NO_DIRECTORY];
+    let mut count = 0;
+    let status = tiff_statuses::list_directories(rt.alloc(), file, &mut directories, &mut count);
+    println!(rt; "list_directories: {status}, {count}, {:?}", directories[0])
 }
 
 /// Prints the text of a status, as far as there is room for it.
