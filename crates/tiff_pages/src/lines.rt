@@ -1,10 +1,11 @@
 //! The pages of a file as lines of text.
 
-ghost use Rattle.std.specs.Prelude.{◌≡◌, MatchResult};
+ghost use Rattle.std.specs.Prelude.{◌≡◌, MatchResult, true};
 ghost use Rattle.tiff_pages.specs.Check.{are_well};
 
 use crate::check::{FileCheck, ImageSum, PageCheck, check_pages};
 use crate::pages::{PageFacts, PageItem, PageList, pages};
+use crate::tree::{DirectoryItem, DirectoryList, Found, NamedBy};
 use std::alloc::{AllocError, Global};
 use std::fmt::Write;
 use tiff_base::color::{ChunkType, ColorType};
@@ -75,15 +76,20 @@ fn push_facts(text: &mut String, facts: &PageFacts) -> Result<(), AllocError> {
     push_count(text, &facts.chunks)
 }
 
+// Appends the facts of a page, or the text of its error.
+fn push_page(text: &mut String, page: &TiffResult<PageFacts>) -> Result<(), AllocError> {
+    match page {
+        Ok(facts) => push_facts(text, facts),
+        Err(fault) => write!(text, "error: {fault}"),
+    }
+}
+
 // Appends the line of a page: its number from 0, the offset of its directory, and its facts, or the
 // text of its error.
 fn push_item(text: &mut String, number: usize, item: &PageItem) -> Result<(), AllocError> {
     let place = item.place.0;
     write!(text, "{number} {place} ")?;
-    match &item.page {
-        Ok(facts) => push_facts(text, facts)?,
-        Err(fault) => write!(text, "error: {fault}")?,
-    }
+    push_page(text, &item.page)?;
     text.push_str("\n")
 }
 
@@ -155,4 +161,74 @@ pub fn lines_of_checks(alloc: Global, checked: FileCheck) -> TiffResult<Lines>
 /// [`check_pages`].
 pub fn check_lines<R: Source>(alloc: Global, decoder: &mut Decoder<R>) -> TiffResult<Lines> {
     lines_of_checks(alloc, check_pages(alloc, decoder)?)
+}
+
+// Appends two spaces for each level of a depth.
+fn push_indent(text: &mut String, depth: u32) -> Result<(), AllocError> {
+    for _ in 0..depth {
+        text.push_str("  ")?;
+    }
+    Ok(())
+}
+
+// Appends the number of the tag that names a directory, or a dash in the chain.
+fn push_tag(text: &mut String, by: Option<NamedBy>) -> Result<(), AllocError> {
+    match by {
+        Some(named) => {
+            let tag = named.tag.to_u16();
+            write!(text, "{tag}")
+        }
+        None => text.push_str("-"),
+    }
+}
+
+// Appends what is found where a directory is named: of a directory its number of fields, and the
+// facts of its page or the text of its error.
+fn push_found(text: &mut String, found: &Found) -> Result<(), AllocError> {
+    match found {
+        Found::Directory(facts) => {
+            let fields = facts.fields;
+            write!(text, "{fields} ")?;
+            push_page(text, &facts.page)
+        }
+        Found::DirectoryError(fault) => write!(text, "error: {fault}"),
+        Found::ValuesError(fault) => write!(text, "values error: {fault}"),
+        Found::Met => text.push_str("met"),
+        Found::TooDeep => text.push_str("too deep"),
+    }
+}
+
+// Appends the line of a place where a directory is named, indented by its depth: its offset, the
+// tag that names it, and what is found there.
+fn push_directory(text: &mut String, item: &DirectoryItem) -> Result<(), AllocError> {
+    push_indent(text, item.depth)?;
+    let place = item.place.0;
+    write!(text, "{place} ")?;
+    push_tag(text, item.by)?;
+    text.push_str(" ")?;
+    push_found(text, &item.found)?;
+    text.push_str("\n")
+}
+
+// The lines of a tree of directories, one for each item.
+fn directory_text(alloc: Global, items: &[DirectoryItem]) -> Result<String, AllocError> {
+    let mut text = String::new(alloc);
+    for item in items {
+        push_directory(&mut text, item)?;
+    }
+    Ok(text)
+}
+
+/// A line for each item of a tree of directories, in the order of the tree, and the error by which
+/// the chain ends. The lines are well. The only error is `OutOfMemory`.
+pub fn lines_of_directories(alloc: Global, listed: DirectoryList) -> TiffResult<Lines>
+    ensures { MatchResult result (λ lines. (lines.well ≡ true) × (lines.end ≡ listed.end))
+        (λ e. e ≡ TiffError.OutOfMemory) }
+{
+    let text = directory_text(alloc, &listed.directories)?;
+    Ok(Lines {
+        text,
+        end: listed.end,
+        well: true,
+    })
 }

@@ -1,5 +1,6 @@
 pub mod AtPage
 pub mod Check
+pub mod Directories
 pub mod Listing
 pub mod Replied
 pub mod Png

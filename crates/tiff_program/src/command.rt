@@ -39,6 +39,10 @@ pub enum Command<'a> {
     List {
         input: &'a str,
     },
+    /// To print a line for each directory that the chain and the tags reach.
+    Directories {
+        input: &'a str,
+    },
     /// To read each page whole, and print a line for it; no buffer is larger than the limit, if
     /// there is one.
     Check {
@@ -261,6 +265,9 @@ fn parse_plain<'a>(name: &str, words: &'a [String]) -> Option<Command<'a>>
             page: page.as_str().parse::<u32>().ok()?,
         }),
         ("list", [input]) => Some(Command::List {
+            input: input.as_str(),
+        }),
+        ("directories", [input]) => Some(Command::Directories {
             input: input.as_str(),
         }),
         ("help" | "--help", []) => Some(Command::Help),

@@ -16,6 +16,8 @@ pub const HELP: &str = "tiffpage: TIFF and BigTIFF pages
   view IN PAGE OUT       writes a page as a PNG picture, but not in the place of IN
   tags IN PAGE           prints a line for each entry of a page: tag, type, count, bytes
   list IN                prints a line for each page: number, offset, sides, color, method, kind and number of chunks
+  directories IN         prints a line for each directory that the chain and the tags reach, indented by its depth:
+                         offset, tag, number of fields, page
   check IN [--limit BYTES]
                          reads each page whole, and prints a line for each: number, offset, ok, bytes, Adler-32
   calls IN < LIST        makes the calls of a decoder that LIST has, and prints the reply to each

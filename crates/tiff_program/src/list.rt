@@ -2,14 +2,17 @@
 
 ghost use Rattle.tiff.specs.Answers.{AnswersBut};
 ghost use Rattle.tiff_pages.specs.Check.{checks_in};
+ghost use Rattle.tiff_pages.specs.Tree.{directories_in};
 ghost use Rattle.tiff_program.specs.Check.{checks_under, told_under};
+ghost use Rattle.tiff_program.specs.Directories.{told_of_directories, tree_of_file};
 
 use std::alloc::Global;
 use tiff::TiffResult;
 use tiff::decoder::{Decoder, Limits};
 use tiff::io::MemorySource;
 use tiff_pages::check::{FileCheck, check_pages};
-use tiff_pages::lines::{Lines, lines_of_checks, list_lines};
+use tiff_pages::lines::{Lines, lines_of_checks, lines_of_directories, list_lines};
+use tiff_pages::tree::{DirectoryList, directories};
 
 /// Lists the pages of a file, as [`list_lines`] does; or returns the error of the file's header, or
 /// of its first page.
@@ -35,4 +38,22 @@ pub fn file_check(alloc: Global, file: Vec<u8>, limits: Limits) -> TiffResult<Li
         (told_under limits file.items) }
 {
     lines_of_checks(alloc, check_file(alloc, file, limits)?)
+}
+
+/// Lists the directories of a file, as [`directories`] does; or returns the error of the file's
+/// header. A first directory that is refused is listed as others are.
+pub fn list_tree(alloc: Global, file: Vec<u8>) -> TiffResult<DirectoryList>
+    ensures { AnswersBut (Unit {0}) (Unit {0}) directories_in result (tree_of_file file.items) }
+{
+    let mut decoder = Decoder::open(alloc, MemorySource::new(file))?;
+    directories(&mut decoder)
+}
+
+/// Lists the directories of a file, and returns a line for each, in the order of their tree; or
+/// returns the error of the file's header.
+pub fn file_directories(alloc: Global, file: Vec<u8>) -> TiffResult<Lines>
+    ensures { AnswersBut (Unit {0}) (Unit {0}) (λ lines. (lines.well, lines.end)) result
+        (told_of_directories file.items) }
+{
+    lines_of_directories(alloc, list_tree(alloc, file)?)
 }

@@ -8,7 +8,7 @@ use crate::command::{Command, parse};
 use crate::files::Files;
 use crate::help::{HELP, version_line};
 use crate::jobs::{Written, write_by};
-use crate::list::{file_check, file_list};
+use crate::list::{file_check, file_directories, file_list};
 use crate::listing::page_tags;
 use crate::samples::{page_planes, page_samples};
 use crate::view::page_picture;
@@ -287,6 +287,16 @@ fn list_pages<'a, F: Files>(
     Ok(file_list(alloc, file)?)
 }
 
+// The directories of a file that the chain and the tags reach, one line for each.
+fn list_directories<'a, F: Files>(
+    alloc: Global,
+    input: &'a str,
+    files: &mut F,
+) -> Result<Lines, Failure<'a>> {
+    let file = read(files, input)?;
+    Ok(file_directories(alloc, file)?)
+}
+
 // The pages of a file, each read whole, one line for each.
 fn check_pages<'a, F: Files>(
     alloc: Global,
@@ -339,6 +349,7 @@ fn execute<'a, F: Files>(
         } => write_picture(alloc, input, page, output, files),
         Command::Tags { input, page } => Ok(told(list_page(alloc, input, page, files)?)),
         Command::List { input } => list_pages(alloc, input, files),
+        Command::Directories { input } => list_directories(alloc, input, files),
         Command::Check { input, limit } => check_pages(alloc, input, limit, files),
         Command::Calls { input } => Ok(told(call_replies(alloc, input, files)?)),
         Command::Jobs {
@@ -427,7 +438,8 @@ fn print_aside<E: Write>(alloc: Global, lines: Lines, err: &mut E) -> u8
 /// Errors are found in this order: of the command line; of reading the input; of a picture that
 /// would replace it; of reading standard input; of its lines; of the decoder or the encoder; of
 /// writing the output. After an error nothing is printed on `out`, with two exceptions. If the chain
-/// of a file whose pages are listed or checked ends by an error, the lines of the pages are printed.
+/// of a file whose pages or directories are listed, or whose pages are checked, ends by an error,
+/// the lines of these are printed.
 /// The replies to all jobs are printed, also if a job is refused; the file of the jobs is made if
 /// none is refused, or if the words have `--keep-going`. If that file is `-`, standard output, the
 /// replies are printed on `err`.
