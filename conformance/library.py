@@ -44,6 +44,14 @@ def same_reply(call, ours, theirs):
     return theirs == ours
 
 
+def check_of(data):
+    """Returns what `check` prints of a file whose first page may be refused: it is opened by its header."""
+    try:
+        return words.check_words(*road.opened_by_header(data))
+    except road.Refused as fault:
+        return "", f"error: {words.text(fault)}\n", 1
+
+
 def differences(path, whole):
     """Returns each difference of the two roads on a file: what was asked, what the second road says, and what the library does.
 
@@ -53,9 +61,11 @@ def differences(path, whole):
     try:
         found = road.opened(data)
     except road.Refused as fault:
-        asked = [("calls", "", run("calls", path, asked="dimensions\n"))] + ([(word, "", run(word, path)) for word in ("list", "check")] if whole else [])
-        ours = ("", f"error: {words.text(fault)}\n", 1)
-        return [(word, ours, theirs) for word, _, theirs in asked if theirs != ours]
+        refused = ("", f"error: {words.text(fault)}\n", 1)
+        asked = [("calls", refused, run("calls", path, asked="dimensions\n"))]
+        if whole:
+            asked += [("list", refused, run("list", path)), ("check", check_of(data), run("check", path))]
+        return [one for one in asked if one[1] != one[2]]
     differ = differences_of_calls(path, found)
     if whole:
         asked = [("list", words.list_words(*found), run("list", path)), ("check", words.check_words(*found), run("check", path))]

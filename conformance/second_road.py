@@ -703,10 +703,15 @@ def pages_of(file):
     return items, end
 
 
+def opened_by_header(data):
+    """Returns a file with its pages and the end of its chain, whatever its first page is; or raises the error of its header."""
+    file = open_header(data)
+    return file, *pages_of(file)
+
+
 def opened(data):
     """Returns a file with its pages and the end of its chain; or raises the error of its header, of its first directory, or of its first page."""
-    file = open_header(data)
-    items, end = pages_of(file)
+    file, items, end = opened_by_header(data)
     if not items:
         raise end
     if items[0].fault:
