@@ -23,38 +23,32 @@ impl<'a, W, K: TiffKind> DirectoryEncoder<'a, W, K> {
     }
 
     /// Sets a tag. Errors: a text that isn't ASCII or has a zero within, `InvalidTag`; values of a
-    /// type of one's own that has other bytes than its type and count say, `MismatchedEntryLength`;
-    /// more values than a file of this kind counts, `IntSizeError`.
+    /// type of one's own that have other bytes than their type and count say,
+    /// `MismatchedEntryLength`; more values than a file of this kind counts, `IntSizeError`.
     pub fn write_tag<T: TiffValue>(&mut self, tag: Tag, value: T) -> TiffResult<()> {
-        let count = value.count();
-        let data = value.data();
-        let bytes = T::FIELD_TYPE.value_bytes(count as u64)?;
-        if bytes != data.len() as u64 {
-            return Err(match T::FIELD_TYPE {
-                Type::ASCII => TiffFormatError::InvalidTag.into(),
-                ty => mismatched(ty, &data),
-            });
-        }
-        self.push(tag, T::FIELD_TYPE, count, data.into_owned())
+        self.write_tag_buf(tag, &ValueBuffer::from_value(&value))
     }
 
     /// Sets a tag to the values of a buffer. Errors: values that aren't in the byte order of this
-    /// machine, `ByteOrderMismatch`; more values than a file of this kind counts, `IntSizeError`.
+    /// machine, `ByteOrderMismatch`; those of [`write_tag`](DirectoryEncoder::write_tag).
     pub fn write_tag_buf(&mut self, tag: Tag, value: &ValueBuffer) -> TiffResult<()> {
         if value.byte_order() != ByteOrder::native() {
             return Err(UsageError::ByteOrderMismatch.into());
         }
-        let count = usize::try_from(value.count())?;
-        self.push(tag, value.data_type(), count, value.as_bytes().to_vec())
-    }
-
-    fn push(&mut self, tag: Tag, ty: Type, count: usize, mut values: Vec<u8>) -> TiffResult<()> {
-        K::convert_offset(count as u64)?;
+        let (ty, found) = (value.data_type(), value.as_bytes().len());
+        if ty.value_bytes(value.count())? != found as u64 {
+            return Err(match ty {
+                Type::ASCII => TiffFormatError::InvalidTag.into(),
+                ty => UsageError::MismatchedEntryLength { ty, found }.into(),
+            });
+        }
+        K::convert_offset(value.count())?;
+        let mut values = value.as_bytes().to_vec();
         ByteOrder::native().convert(ty, &mut values, ByteOrder::LittleEndian);
         self.tags.push(NewTag {
             number: tag.to_u16(),
             ty: ty.to_u16(),
-            count,
+            count: value.count() as usize,
             values,
         });
         Ok(())
@@ -75,9 +69,4 @@ impl<'a, W, K: TiffKind> DirectoryEncoder<'a, W, K> {
     pub(super) fn lose(&mut self) {
         self.encoder.has_lost_image = true;
     }
-}
-
-fn mismatched(ty: Type, data: &[u8]) -> crate::TiffError {
-    let found = data.len();
-    UsageError::MismatchedEntryLength { ty, found }.into()
 }

@@ -1,10 +1,10 @@
-//! What the tests share: the C library's calls that write files.
+//! What the tests share: the C library's calls that write files, and random numbers.
 
 #![allow(unsafe_code, dead_code)]
 
 use std::io::Cursor;
 
-use tiff::decoder::Decoder;
+use tiff::decoder::{Decoder, DecodingResult};
 use tiff::TiffResult;
 
 #[repr(C)]
@@ -122,6 +122,54 @@ pub fn open(file: &[u8]) -> TiffResult<Reader> {
 /// Opens the file of a list of jobs.
 pub fn open_jobs(jobs: &str) -> Reader {
     open(&write_jobs(CLASSIC, jobs)).unwrap()
+}
+
+/// Random numbers, the same in each run.
+pub struct Random(pub u64);
+
+impl Random {
+    /// Returns the next number.
+    pub fn next(&mut self) -> u64 {
+        self.0 ^= self.0 << 13;
+        self.0 ^= self.0 >> 7;
+        self.0 ^= self.0 << 17;
+        self.0
+    }
+
+    /// Returns bytes with runs and without, so that PackBits has both.
+    pub fn bytes(&mut self, len: usize) -> Vec<u8> {
+        let mut bytes = Vec::with_capacity(len);
+        while bytes.len() < len {
+            let number = self.next();
+            let run = match number % 3 {
+                0 => 1 + number as usize / 3 % 200,
+                _ => 1,
+            };
+            bytes.resize((bytes.len() + run).min(len), (number >> 32) as u8);
+        }
+        bytes
+    }
+
+    /// Returns a number below another.
+    pub fn below(&mut self, end: u64) -> u64 {
+        self.next() % end
+    }
+}
+
+/// Returns the bytes of samples, each with its lowest byte first.
+pub fn bytes_of(samples: &mut DecodingResult, bits: u8) -> Vec<u8> {
+    little(samples.as_buffer(0).as_bytes(), bits)
+}
+
+/// Turns numbers of this machine into ones with their lowest byte first.
+pub fn little(bytes: &[u8], bits: u8) -> Vec<u8> {
+    let mut bytes = bytes.to_vec();
+    if cfg!(target_endian = "big") {
+        for number in bytes.chunks_exact_mut(usize::from(bits) / 8) {
+            number.reverse();
+        }
+    }
+    bytes
 }
 
 /// A file that a test makes byte by byte: of any byte order and kind, with any entries.
