@@ -95,7 +95,7 @@ fn set_any<K: TiffKind, C: colortype::ColorType>(
     tags: &mut Vec<(Tag, ValueBuffer)>,
     random: &mut Random,
 ) {
-    let count = random.below(7) as usize;
+    let count = random.below(7);
     let number = random.next();
     let (n, d) = (number as u32, (number >> 32) as u32);
     let signed = |n: u32| n as i32;
@@ -180,7 +180,7 @@ where
         count = 3;
     }
     if random.below(2) == 0 {
-        let rows = 1 + random.below(sides.1.into()) as u32;
+        let rows = 1 + random.below(sides.1 as usize) as u32;
         image.rows_per_strip(rows).unwrap();
     }
     let row = u64::from(sides.0) * count as u64;

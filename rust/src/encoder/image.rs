@@ -117,9 +117,8 @@ impl<'a, W: 'a + Write + Seek, T: ColorType, K: TiffKind> ImageEncoder<'a, W, T,
     }
 
     /// Writes the next strip: its samples row by row from the top, those of a pixel side by side.
-    /// Any other number of samples than [`next_strip_sample_count`]
-    /// (ImageEncoder::next_strip_sample_count) returns, and any strip behind the last one, is an
-    /// `IoError` of the kind [`InvalidData`](io::ErrorKind::InvalidData).
+    /// Other than [`next_strip_sample_count`](Self::next_strip_sample_count) samples, and any strip
+    /// behind the last one, are an `IoError` of the kind [`InvalidData`](io::ErrorKind::InvalidData).
     pub fn write_strip(&mut self, value: &[T::Inner]) -> TiffResult<()>
     where
         [T::Inner]: TiffValue,

@@ -18,6 +18,17 @@ pub struct Image {
     pub predictor: u16,
 }
 
+/// An entry of a directory, as the C library lists it.
+#[repr(C)]
+#[derive(Clone, Copy, Default)]
+pub struct TagEntry {
+    pub count: u64,
+    pub offset: u64,
+    pub number: u16,
+    pub kind: u16,
+    pub in_place: u32,
+}
+
 #[repr(C)]
 #[derive(Default, Debug)]
 struct JobsEnd {
@@ -50,6 +61,14 @@ extern "C" {
         size: usize,
         len: *mut usize,
         end: *mut JobsEnd,
+    ) -> u32;
+    fn tiff_list_tags(
+        file: *const u8,
+        len: usize,
+        page: usize,
+        entries: *mut TagEntry,
+        room: usize,
+        count: *mut usize,
     ) -> u32;
     fn tiff_version() -> u32;
 }
@@ -105,6 +124,31 @@ pub fn write_jobs(version: u16, jobs: &str) -> Vec<u8> {
     try_jobs(version, jobs).unwrap_or_else(|status| panic!("status {status} of the jobs\n{jobs}"))
 }
 
+/// Returns the entries of the directory at an offset.
+pub fn list_tags(file: &[u8], offset: u64) -> Result<Vec<TagEntry>, u32> {
+    let page = offset as usize | 1 << 63;
+    let mut entries = Vec::new();
+    for _ in 0..2 {
+        let mut count = 0;
+        // SAFETY: slices and a reference, of the lengths that are passed.
+        let status = unsafe {
+            tiff_list_tags(
+                file.as_ptr(),
+                file.len(),
+                page,
+                entries.as_mut_ptr(),
+                entries.len(),
+                &mut count,
+            )
+        };
+        if status != DONE {
+            return Err(status);
+        }
+        entries.resize(count, TagEntry::default());
+    }
+    Ok(entries)
+}
+
 /// Returns the version of the C library.
 pub fn version() -> u32 {
     // SAFETY: the call takes nothing.
@@ -151,8 +195,8 @@ impl Random {
     }
 
     /// Returns a number below another.
-    pub fn below(&mut self, end: u64) -> u64 {
-        self.next() % end
+    pub fn below(&mut self, end: usize) -> usize {
+        (self.next() >> 20) as usize % end
     }
 }
 
