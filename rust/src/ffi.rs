@@ -126,6 +126,8 @@ pub(crate) struct NewPage {
     pub(crate) width: u32,
     pub(crate) height: u32,
     pub(crate) rows_per_strip: u32,
+    /// Whether the caller said how many rows a strip has.
+    pub(crate) has_own_strips: bool,
     pub(crate) method: u16,
     pub(crate) predictor: u16,
     pub(crate) extra_samples: Vec<u16>,
@@ -136,6 +138,17 @@ pub(crate) struct NewPage {
 /// The declarations of the header.
 mod c {
     use super::{Chunks, Field, Layout, ListedPage};
+
+    /// `struct tiff_image`.
+    #[repr(C)]
+    pub(super) struct Image {
+        pub(super) color: u32,
+        pub(super) width: u32,
+        pub(super) height: u32,
+        pub(super) version: u16,
+        pub(super) method: u16,
+        pub(super) predictor: u16,
+    }
 
     /// `struct tiff_fraction`.
     #[derive(Clone, Copy)]
@@ -270,6 +283,14 @@ mod c {
             text: *mut u8,
             size: usize,
             len_of_text: *mut usize,
+        ) -> u32;
+        pub(super) fn tiff_write_image(
+            image: *const Image,
+            samples: *const u8,
+            samples_len: usize,
+            buffer: *mut u8,
+            size: usize,
+            len: *mut usize,
         ) -> u32;
         pub(super) fn tiff_write_pages(
             version: u16,
@@ -528,6 +549,11 @@ impl NewPage {
         }
     }
 
+    /// Tells whether the page has nothing but its samples.
+    fn is_plain(&self) -> bool {
+        !self.has_own_strips && self.extra_samples.is_empty() && self.tags.is_empty()
+    }
+
     /// Returns how many bytes the page most likely has in a file, or a few more: PackBits adds one
     /// to 128 bytes at most, and one to each row; a strip has an offset and a count, and a tag a
     /// field and its values.
@@ -539,33 +565,54 @@ impl NewPage {
     }
 }
 
-/// Writes a file of pages into a buffer. Returns how many bytes the file has, and the error.
-///
-/// # Safety
-///
-/// The pointers of the pages have to point to as many numbers as the lengths beside them say, and
-/// these have to stay as they are during the call.
-unsafe fn pages_into(version: u16, pages: &[c::NewPage], buffer: &mut [u8]) -> (usize, u32) {
+/// Returns the file that a call writes into a buffer: one of the expected length, or else of the
+/// length that the call tells.
+fn written(expected: usize, call: impl Fn(&mut [u8], &mut usize) -> u32) -> Result<Vec<u8>, Fault> {
+    let mut file = vec![0; expected];
     let mut len = 0;
-    let mut end = c::PagesEnd::default();
-    // SAFETY: slices and references, as the head of this file says, and what the caller promises;
-    // the structs are the header's.
-    let status = unsafe {
-        c::tiff_write_pages(
-            version,
-            pages.as_ptr(),
-            pages.len(),
-            buffer.as_mut_ptr(),
-            buffer.len(),
-            &mut len,
-            &mut end,
-        )
+    let mut status = call(&mut file, &mut len);
+    if status == BUFFER_TOO_SHORT {
+        file.resize(len, 0);
+        status = call(&mut file, &mut len);
+    }
+    file.truncate(len);
+    answer(status, file)
+}
+
+/// Returns a file of one image, with a version in its header. The image has no tags of its own and
+/// no extra samples, and the library says how many rows its strips have.
+fn write_image(version: u16, page: &NewPage) -> Result<Vec<u8>, Fault> {
+    let image = c::Image {
+        color: page.color,
+        width: page.width,
+        height: page.height,
+        version,
+        method: page.method,
+        predictor: page.predictor,
     };
-    (len, status)
+    written(page.expected_len(), |buffer, len| {
+        // SAFETY: slices and references, as the head of this file says; `Image` is the header's.
+        unsafe {
+            c::tiff_write_image(
+                &image,
+                page.samples.as_ptr(),
+                page.samples.len(),
+                buffer.as_mut_ptr(),
+                buffer.len(),
+                len,
+            )
+        }
+    })
 }
 
 /// Returns a file of pages, with a version in its header.
 pub(crate) fn write_pages(version: u16, pages: &[NewPage]) -> Result<Vec<u8>, Fault> {
+    // The library writes the same file by both calls, and an image by itself in less memory.
+    if let [page] = pages {
+        if page.is_plain() {
+            return write_image(version, page);
+        }
+    }
     let tags: Vec<Vec<c::NewTag>> = pages
         .iter()
         .map(|page| page.tags.iter().map(NewTag::to_c).collect())
@@ -576,17 +623,23 @@ pub(crate) fn write_pages(version: u16, pages: &[NewPage]) -> Result<Vec<u8>, Fa
         .map(|(page, tags)| page.to_c(tags))
         .collect();
     let expected = pages.iter().map(NewPage::expected_len).sum::<usize>() + 16;
-    let mut file = vec![0; expected];
-    // SAFETY: the pointers come from slices of `pages` and `tags`, with their lengths, which are
-    // borrowed until this function ends.
-    let (mut len, mut status) = unsafe { pages_into(version, &c_pages, &mut file) };
-    if status == BUFFER_TOO_SHORT {
-        file.resize(len, 0);
-        // SAFETY: as above.
-        (len, status) = unsafe { pages_into(version, &c_pages, &mut file) };
-    }
-    file.truncate(len);
-    answer(status, file)
+    written(expected, |buffer, len| {
+        let mut end = c::PagesEnd::default();
+        // SAFETY: slices and references, as the head of this file says; the structs are the
+        // header's. Their pointers are those of slices of `pages` and `tags`, with their lengths,
+        // which are borrowed here until the call ends.
+        unsafe {
+            c::tiff_write_pages(
+                version,
+                c_pages.as_ptr(),
+                c_pages.len(),
+                buffer.as_mut_ptr(),
+                buffer.len(),
+                len,
+                &mut end,
+            )
+        }
+    })
 }
 
 /// Returns the library's text of an error.
@@ -635,6 +688,7 @@ mod tests {
         assert_eq!((size_of::<Layout>(), size_of::<Color>()), (16, 12));
         assert_eq!((size_of::<Chunks>(), size_of::<Field>()), (16, 16));
         assert_eq!((size_of::<ListedPage>(), align_of::<ListedPage>()), (56, 8));
+        assert_eq!((size_of::<c::Image>(), align_of::<c::Image>()), (20, 4));
         assert_eq!((size_of::<c::NewTag>(), size_of::<c::PagesEnd>()), (32, 16));
         assert_eq!((size_of::<c::NewPage>(), align_of::<c::NewPage>()), (96, 8));
     }

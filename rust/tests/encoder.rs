@@ -175,7 +175,7 @@ fn numbers_with_a_sign_are_written() {
         tags.write_tag(own(65020), -1i32).unwrap();
         tags.write_tag(own(65022), [-1i32, 2]).unwrap();
         tags.write_tag(own(65030), -1i64).unwrap();
-        tags.write_tag(own(65032), &[-1i64, 2]).unwrap();
+        tags.write_tag(own(65032), &[-1i64, 2][..]).unwrap();
         tags.write_tag(own(65040), hundredths(-1)).unwrap();
         tags.write_tag(own(65041), &[hundredths(-1), hundredths(2)][..])
             .unwrap();
@@ -711,6 +711,30 @@ fn files_are_those_of_the_other_calls() {
     });
     let jobs = "image GrayI16 3 3\nrows_per_strip 2\nwrite_tag 270 text a text\nwrite_tag 33550 f64 1.5*3\nwrite_data 1 -2 3 -4 5 -6 7 -8 9\n";
     assert_eq!(file, write_jobs(CLASSIC, jobs));
+}
+
+#[test]
+fn an_image_by_itself_is_the_page_with_the_same_settings() {
+    let samples = gradient();
+    for (method, rows) in [
+        (Compression::Uncompressed, 3334),
+        (Compression::Packbits, 1),
+    ] {
+        let file = |rows: Option<u32>| {
+            let mut file = Cursor::new(Vec::new());
+            let mut encoder = TiffEncoder::new(&mut file)
+                .unwrap()
+                .with_compression(method);
+            let mut image = encoder.new_image::<RGB8>(100, 100).unwrap();
+            if let Some(rows) = rows {
+                image.rows_per_strip(rows).unwrap();
+            }
+            image.write_data(&samples).unwrap();
+            encoder.finish().unwrap();
+            file.into_inner()
+        };
+        assert_eq!(file(None), file(Some(rows)));
+    }
 }
 
 /// `equivalence_of_tag_readers`, with a buffer of values.

@@ -81,7 +81,7 @@ fn set<W, K, C, T>(
 {
     let tag = Tag::Unknown(65000 + tags.len() as u16);
     let buffer = ValueBuffer::from_value(&value);
-    if tags.len() % 2 == 0 {
+    if tags.len().is_multiple_of(2) {
         image.encoder().write_tag(tag, value).unwrap();
     } else {
         image.encoder().write_tag_buf(tag, &buffer).unwrap();

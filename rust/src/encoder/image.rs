@@ -218,6 +218,7 @@ impl<'a, W: 'a + Write + Seek, T: ColorType, K: TiffKind> ImageEncoder<'a, W, T,
             return Err(invalid_input("a strip of no rows"));
         }
         self.page.rows_per_strip = value;
+        self.page.has_own_strips = true;
         self.encoder.forget(Tag::RowsPerStrip);
         Ok(())
     }
