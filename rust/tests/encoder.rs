@@ -2,6 +2,7 @@
 
 mod common;
 
+use std::borrow::Cow;
 use std::io::{self, Cursor, Seek, SeekFrom, Write};
 
 use common::{open, try_jobs, write_image, write_jobs, Image, Reader, BIG, CLASSIC};
@@ -13,7 +14,7 @@ use tiff::encoder::colortype::{
 use tiff::encoder::compression::{CompressionAlgorithm, Compressor, Packbits, Uncompressed};
 use tiff::encoder::{
     Compression, Ifd, Ifd8, Predictor, Rational, SRational, TiffEncoder, TiffKind, TiffKindBig,
-    TiffKindStandard,
+    TiffKindStandard, TiffValue,
 };
 use tiff::tags::{
     ByteOrder, CompressionMethod, ExtraSamples, PhotometricInterpretation, ResolutionUnit,
@@ -493,6 +494,22 @@ fn the_last_value_of_a_tag_counts() {
     assert_eq!(samples, [1, 2, 3, 4, 5, 6, 7, 8]);
 }
 
+/// A value of one's own, with fewer bytes than it says.
+struct Cut;
+
+impl TiffValue for Cut {
+    const BYTE_LEN: u8 = 2;
+    const FIELD_TYPE: Type = Type::SHORT;
+
+    fn count(&self) -> usize {
+        2
+    }
+
+    fn data(&self) -> Cow<'_, [u8]> {
+        Cow::Borrowed(&[1, 2, 3])
+    }
+}
+
 #[test]
 fn values_of_tags_are_refused() {
     let mut file = Cursor::new(Vec::new());
@@ -510,6 +527,13 @@ fn values_of_tags_are_refused() {
             ));
         }
     }
+    assert!(matches!(
+        tags.write_tag(own(65002), Cut),
+        Err(TiffError::UsageError(UsageError::MismatchedEntryLength {
+            ty: Type::SHORT,
+            found: 3
+        }))
+    ));
     let mut value = ValueBuffer::from_value(&[1u16, 2]);
     tags.write_tag_buf(own(65000), &value).unwrap();
     value.set_byte_order(match ByteOrder::native() {

@@ -26,7 +26,8 @@ impl<'a, W, K: TiffKind> DirectoryEncoder<'a, W, K> {
     /// type of one's own that have other bytes than their type and count say,
     /// `MismatchedEntryLength`; more values than a file of this kind counts, `IntSizeError`.
     pub fn write_tag<T: TiffValue>(&mut self, tag: Tag, value: T) -> TiffResult<()> {
-        self.write_tag_buf(tag, &ValueBuffer::from_value(&value))
+        let values = value.data().into_owned();
+        self.push(tag, T::FIELD_TYPE, value.count() as u64, values)
     }
 
     /// Sets a tag to the values of a buffer. Errors: values that aren't in the byte order of this
@@ -35,20 +36,25 @@ impl<'a, W, K: TiffKind> DirectoryEncoder<'a, W, K> {
         if value.byte_order() != ByteOrder::native() {
             return Err(UsageError::ByteOrderMismatch.into());
         }
-        let (ty, found) = (value.data_type(), value.as_bytes().len());
-        if ty.value_bytes(value.count())? != found as u64 {
+        let values = value.as_bytes().to_vec();
+        self.push(tag, value.data_type(), value.count(), values)
+    }
+
+    /// Sets a tag to values, whose bytes are in the byte order of this machine.
+    fn push(&mut self, tag: Tag, ty: Type, count: u64, mut values: Vec<u8>) -> TiffResult<()> {
+        let found = values.len();
+        if ty.value_bytes(count)? != found as u64 {
             return Err(match ty {
                 Type::ASCII => TiffFormatError::InvalidTag.into(),
                 ty => UsageError::MismatchedEntryLength { ty, found }.into(),
             });
         }
-        K::convert_offset(value.count())?;
-        let mut values = value.as_bytes().to_vec();
+        K::convert_offset(count)?;
         ByteOrder::native().convert(ty, &mut values, ByteOrder::LittleEndian);
         self.tags.push(NewTag {
             number: tag.to_u16(),
             ty: ty.to_u16(),
-            count: value.count() as usize,
+            count: count as usize,
             values,
         });
         Ok(())
