@@ -8,6 +8,7 @@ use std::str::Utf8Error;
 use std::string::FromUtf8Error;
 
 use crate::decoder::ChunkType;
+use crate::ffi::{self, Fault};
 use crate::tags::{
     CompressionMethod, PhotometricInterpretation, PlanarConfiguration, SampleFormat, Tag, Type,
 };
@@ -357,6 +358,22 @@ impl From<TryFromIntError> for TiffError {
     fn from(_: TryFromIntError) -> TiffError {
         TiffError::IntSizeError
     }
+}
+
+/// Returns the error of a number of the header, if it names nothing of a page. One that no call of
+/// this crate should return has the library's text.
+pub(crate) fn plain_error(fault: Fault) -> TiffError {
+    let kind = match fault.number() {
+        1 => return TiffError::LimitsExceeded,
+        2 => return TiffError::IntSizeError,
+        3 => io::ErrorKind::OutOfMemory,
+        10 => io::ErrorKind::UnexpectedEof,
+        11 => io::ErrorKind::InvalidData,
+        12 => io::ErrorKind::InvalidInput,
+        13 => io::ErrorKind::WriteZero,
+        _ => return io::Error::other(ffi::fault_text(fault)).into(),
+    };
+    io::Error::from(kind).into()
 }
 
 /// What a call of this crate returns.

@@ -1,4 +1,4 @@
-//! The calls of the C library, of version 3, over slices. All `unsafe` of this crate is here.
+//! The calls of the C library, of version 4, over slices. All `unsafe` of this crate is here.
 //!
 //! What the header asks of each call that gets pointers is that none is null, that the memory that
 //! the call reads stays as it is meanwhile, and that the memory that it writes lies apart from that.
@@ -108,9 +108,96 @@ pub(crate) struct Field {
     pub(crate) count: u64,
 }
 
+/// A tag of a page that is written: its number, its type, how many values it has, and their bytes,
+/// of each number the lowest byte first.
+#[derive(Clone, Debug)]
+pub(crate) struct NewTag {
+    pub(crate) number: u16,
+    pub(crate) ty: u16,
+    pub(crate) count: usize,
+    pub(crate) values: Vec<u8>,
+}
+
+/// A page that is written, in strips, the samples of a pixel side by side. Each number has its
+/// lowest byte first.
+#[derive(Clone, Debug, Default)]
+pub(crate) struct NewPage {
+    pub(crate) color: u32,
+    pub(crate) width: u32,
+    pub(crate) height: u32,
+    pub(crate) rows_per_strip: u32,
+    /// Whether the caller said how many rows a strip has.
+    pub(crate) has_own_strips: bool,
+    pub(crate) method: u16,
+    pub(crate) predictor: u16,
+    pub(crate) extra_samples: Vec<u16>,
+    pub(crate) tags: Vec<NewTag>,
+    pub(crate) samples: Vec<u8>,
+}
+
 /// The declarations of the header.
 mod c {
     use super::{Chunks, Field, Layout, ListedPage};
+
+    /// `struct tiff_image`.
+    #[repr(C)]
+    pub(super) struct Image {
+        pub(super) color: u32,
+        pub(super) width: u32,
+        pub(super) height: u32,
+        pub(super) version: u16,
+        pub(super) method: u16,
+        pub(super) predictor: u16,
+    }
+
+    /// `struct tiff_fraction`.
+    #[derive(Clone, Copy)]
+    #[repr(C)]
+    pub(super) struct Fraction {
+        pub(super) n: u32,
+        pub(super) d: u32,
+    }
+
+    /// `struct tiff_new_tag`.
+    #[repr(C)]
+    pub(super) struct NewTag {
+        pub(super) number: u16,
+        pub(super) ty: u16,
+        pub(super) count: usize,
+        pub(super) values: *const u8,
+        pub(super) values_len: usize,
+    }
+
+    /// `struct tiff_new_page`.
+    #[repr(C)]
+    pub(super) struct NewPage {
+        pub(super) color: u32,
+        pub(super) width: u32,
+        pub(super) height: u32,
+        pub(super) rows_per_strip: u32,
+        pub(super) tile_width: u32,
+        pub(super) tile_length: u32,
+        pub(super) method: u16,
+        pub(super) predictor: u16,
+        pub(super) planar: u16,
+        pub(super) resolution_unit: u16,
+        pub(super) x_resolution: Fraction,
+        pub(super) y_resolution: Fraction,
+        pub(super) extra_samples: *const u16,
+        pub(super) extra_samples_len: usize,
+        pub(super) tags: *const NewTag,
+        pub(super) tags_len: usize,
+        pub(super) samples: *const u8,
+        pub(super) samples_len: usize,
+    }
+
+    /// `struct tiff_pages_end`.
+    #[derive(Default)]
+    #[repr(C)]
+    pub(super) struct PagesEnd {
+        pub(super) page: usize,
+        pub(super) field: u32,
+    }
 
     extern "C" {
         pub(super) fn tiff_list_pages(
@@ -196,6 +283,23 @@ mod c {
             text: *mut u8,
             size: usize,
             len_of_text: *mut usize,
+        ) -> u32;
+        pub(super) fn tiff_write_image(
+            image: *const Image,
+            samples: *const u8,
+            samples_len: usize,
+            buffer: *mut u8,
+            size: usize,
+            len: *mut usize,
+        ) -> u32;
+        pub(super) fn tiff_write_pages(
+            version: u16,
+            pages: *const NewPage,
+            count: usize,
+            buffer: *mut u8,
+            size: usize,
+            len: *mut usize,
+            end: *mut PagesEnd,
         ) -> u32;
         pub(super) fn tiff_fault_text(status: u32, buffer: *mut u8, size: usize) -> usize;
     }
@@ -399,6 +503,145 @@ pub(crate) fn tag_text(place: Place<'_>, tag: u16, count: usize) -> Result<Vec<u
     answer(status, text)
 }
 
+/// `TIFF_INSUFFICIENT_OUTPUT_BUFFER_SIZE` of the header.
+const BUFFER_TOO_SHORT: u32 = 67;
+
+/// `TIFF_CHUNKY` of the header.
+const CHUNKY: u16 = 1;
+
+impl NewTag {
+    /// Returns the tag as the header has it, with a pointer to its values.
+    fn to_c(&self) -> c::NewTag {
+        c::NewTag {
+            number: self.number,
+            ty: self.ty,
+            count: self.count,
+            values: self.values.as_ptr(),
+            values_len: self.values.len(),
+        }
+    }
+}
+
+impl NewPage {
+    /// Returns the page as the header has it, with pointers to its lists and to these tags. The
+    /// resolutions of a page are among its tags, so it names no unit.
+    fn to_c(&self, tags: &[c::NewTag]) -> c::NewPage {
+        let none = c::Fraction { n: 0, d: 1 };
+        c::NewPage {
+            color: self.color,
+            width: self.width,
+            height: self.height,
+            rows_per_strip: self.rows_per_strip,
+            tile_width: 0,
+            tile_length: 0,
+            method: self.method,
+            predictor: self.predictor,
+            planar: CHUNKY,
+            resolution_unit: 0,
+            x_resolution: none,
+            y_resolution: none,
+            extra_samples: self.extra_samples.as_ptr(),
+            extra_samples_len: self.extra_samples.len(),
+            tags: tags.as_ptr(),
+            tags_len: tags.len(),
+            samples: self.samples.as_ptr(),
+            samples_len: self.samples.len(),
+        }
+    }
+
+    /// Tells whether the page has nothing but its samples.
+    fn is_plain(&self) -> bool {
+        !self.has_own_strips && self.extra_samples.is_empty() && self.tags.is_empty()
+    }
+
+    /// Returns how many bytes the page most likely has in a file, or a few more: PackBits adds one
+    /// to 128 bytes at most, and one to each row; a strip has an offset and a count, and a tag a
+    /// field and its values.
+    fn expected_len(&self) -> usize {
+        let strips = self.height.div_ceil(self.rows_per_strip.max(1)) as usize;
+        let tags: usize = self.tags.iter().map(|tag| 32 + tag.values.len()).sum();
+        let samples = self.samples.len();
+        1024 + samples + samples / 64 + self.height as usize + 24 * strips + tags
+    }
+}
+
+/// Returns the file that a call writes into a buffer: one of the expected length, or else of the
+/// length that the call tells.
+fn written(expected: usize, call: impl Fn(&mut [u8], &mut usize) -> u32) -> Result<Vec<u8>, Fault> {
+    let mut file = vec![0; expected];
+    let mut len = 0;
+    let mut status = call(&mut file, &mut len);
+    if status == BUFFER_TOO_SHORT {
+        file.resize(len, 0);
+        status = call(&mut file, &mut len);
+    }
+    file.truncate(len);
+    answer(status, file)
+}
+
+/// Returns a file of one image, with a version in its header. The image has no tags of its own and
+/// no extra samples, and the library says how many rows its strips have.
+fn write_image(version: u16, page: &NewPage) -> Result<Vec<u8>, Fault> {
+    let image = c::Image {
+        color: page.color,
+        width: page.width,
+        height: page.height,
+        version,
+        method: page.method,
+        predictor: page.predictor,
+    };
+    written(page.expected_len(), |buffer, len| {
+        // SAFETY: slices and references, as the head of this file says; `Image` is the header's.
+        unsafe {
+            c::tiff_write_image(
+                &image,
+                page.samples.as_ptr(),
+                page.samples.len(),
+                buffer.as_mut_ptr(),
+                buffer.len(),
+                len,
+            )
+        }
+    })
+}
+
+/// Returns a file of pages, with a version in its header.
+pub(crate) fn write_pages(version: u16, pages: &[NewPage]) -> Result<Vec<u8>, Fault> {
+    // The library writes the same file by both calls, and an image by itself in less memory.
+    if let [page] = pages {
+        if page.is_plain() {
+            return write_image(version, page);
+        }
+    }
+    let tags: Vec<Vec<c::NewTag>> = pages
+        .iter()
+        .map(|page| page.tags.iter().map(NewTag::to_c).collect())
+        .collect();
+    let c_pages: Vec<c::NewPage> = pages
+        .iter()
+        .zip(&tags)
+        .map(|(page, tags)| page.to_c(tags))
+        .collect();
+    let expected = pages.iter().map(NewPage::expected_len).sum::<usize>() + 16;
+    written(expected, |buffer, len| {
+        let mut end = c::PagesEnd::default();
+        // SAFETY: slices and references, as the head of this file says; the structs are the
+        // header's. Their pointers are those of slices of `pages` and `tags`, with their lengths,
+        // which are borrowed here until the call ends.
+        unsafe {
+            c::tiff_write_pages(
+                version,
+                c_pages.as_ptr(),
+                c_pages.len(),
+                buffer.as_mut_ptr(),
+                buffer.len(),
+                len,
+                &mut end,
+            )
+        }
+    })
+}
+
 /// Returns the library's text of an error.
 pub(crate) fn fault_text(fault: Fault) -> String {
     let mut text = [0; 128];
@@ -445,6 +688,9 @@ mod tests {
         assert_eq!((size_of::<Layout>(), size_of::<Color>()), (16, 12));
         assert_eq!((size_of::<Chunks>(), size_of::<Field>()), (16, 16));
         assert_eq!((size_of::<ListedPage>(), align_of::<ListedPage>()), (56, 8));
+        assert_eq!((size_of::<c::Image>(), align_of::<c::Image>()), (20, 4));
+        assert_eq!((size_of::<c::NewTag>(), size_of::<c::PagesEnd>()), (32, 16));
+        assert_eq!((size_of::<c::NewPage>(), align_of::<c::NewPage>()), (96, 8));
     }
 
     #[test]

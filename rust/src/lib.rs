@@ -1,7 +1,7 @@
-//! Reads TIFF and BigTIFF files by the names of the crate `tiff` 0.11.3. What a file holds is
-//! decided by a C library, whose code is proved; this crate declares its calls and gives their
+//! Reads and writes TIFF and BigTIFF files by the names of the crate `tiff` 0.11.3. What a file holds
+//! is decided by a C library, whose code is proved; this crate declares its calls and gives their
 //! results the crate's types. README.md has the table of the crate's names that it doesn't have,
-//! and of what it does itself.
+//! and of what it does itself. [`encoder`] has an example of writing; this one reads:
 //!
 //! ```no_run
 //! use std::fs::File;
@@ -26,6 +26,7 @@ compile_error!("the C library is for machines with addresses of 64 bits");
 
 pub mod decoder;
 mod directory;
+pub mod encoder;
 mod error;
 #[allow(unsafe_code)]
 mod ffi;

@@ -2,6 +2,7 @@
 
 use std::fmt;
 
+use crate::encoder::TiffValue;
 use crate::{TiffError, TiffResult};
 
 /// Declares an enum of named numbers of 16 bits, with `from_u16` and `to_u16`. Behind `else` is the
@@ -399,6 +400,16 @@ impl ValueBuffer {
             bytes: Vec::new(),
             ty,
             count: 0,
+            byte_order: ByteOrder::native(),
+        }
+    }
+
+    /// Returns a buffer of values, in the byte order of this machine.
+    pub fn from_value<T: TiffValue>(value: &T) -> Self {
+        ValueBuffer {
+            bytes: value.data().into_owned(),
+            ty: T::FIELD_TYPE,
+            count: value.count() as u64,
             byte_order: ByteOrder::native(),
         }
     }

@@ -2,7 +2,10 @@
 
 mod common;
 
-use common::{open, write_image, write_jobs, Image, Reader, BIG, CLASSIC, PACKBITS, UNCOMPRESSED};
+use common::{
+    bytes_of, little, open, write_image, write_jobs, Image, Random, Reader, BIG, CLASSIC, PACKBITS,
+    UNCOMPRESSED,
+};
 use tiff::decoder::DecodingResult;
 use tiff::ColorType;
 
@@ -50,32 +53,6 @@ const COLORS: [(&str, ColorType, Kind); 30] = [
     ("CMYKA8", ColorType::CMYKA(8), Unsigned),
 ];
 
-/// Random numbers, the same in each run.
-struct Random(u64);
-
-impl Random {
-    fn next(&mut self) -> u64 {
-        self.0 ^= self.0 << 13;
-        self.0 ^= self.0 >> 7;
-        self.0 ^= self.0 << 17;
-        self.0
-    }
-
-    /// Returns bytes with runs and without, so that PackBits has both.
-    fn bytes(&mut self, len: usize) -> Vec<u8> {
-        let mut bytes = Vec::with_capacity(len);
-        while bytes.len() < len {
-            let number = self.next();
-            let run = match number % 3 {
-                0 => 1 + number as usize / 3 % 200,
-                _ => 1,
-            };
-            bytes.resize((bytes.len() + run).min(len), (number >> 32) as u8);
-        }
-        bytes
-    }
-}
-
 /// Returns the name of the number type of samples.
 fn type_of(samples: &DecodingResult) -> &'static str {
     match samples {
@@ -91,22 +68,6 @@ fn type_of(samples: &DecodingResult) -> &'static str {
         DecodingResult::I32(_) => "I32",
         DecodingResult::I64(_) => "I64",
     }
-}
-
-/// Returns the bytes of samples, each with its lowest byte first.
-fn bytes_of(samples: &mut DecodingResult, bits: u8) -> Vec<u8> {
-    little(samples.as_buffer(0).as_bytes(), bits)
-}
-
-/// Turns numbers of this machine into ones with their lowest byte first.
-fn little(bytes: &[u8], bits: u8) -> Vec<u8> {
-    let mut bytes = bytes.to_vec();
-    if cfg!(target_endian = "big") {
-        for number in bytes.chunks_exact_mut(usize::from(bits) / 8) {
-            number.reverse();
-        }
-    }
-    bytes
 }
 
 /// Reads an image by all calls that read one.

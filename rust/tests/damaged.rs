@@ -5,21 +5,9 @@ mod common;
 use std::fs;
 use std::path::Path;
 
-use common::{open, Reader, FORGES};
+use common::{list_tags, open, Random, Reader, FORGES};
 use tiff::decoder::{ChunkType, DecodingResult, Limits, TiffCodingUnit};
 use tiff::tags::{Type, ValueBuffer};
-
-/// Random numbers, the same in each run.
-struct Random(u64);
-
-impl Random {
-    fn below(&mut self, end: usize) -> usize {
-        self.0 ^= self.0 << 13;
-        self.0 ^= self.0 >> 7;
-        self.0 ^= self.0 << 17;
-        (self.0 >> 20) as usize % end
-    }
-}
 
 /// Reads the tags of a directory, in each way.
 fn read_tags(decoder: &mut Reader) {
@@ -41,6 +29,26 @@ fn read_tags(decoder: &mut Reader) {
         }
     }
     assert_eq!(ifd.tag_iter().count(), tags.len());
+}
+
+/// Compares the entries of a page's directory with those that the C library lists.
+fn compare_entries(file: &[u8], decoder: &mut Reader) {
+    let Some(pointer) = decoder.ifd_pointer() else {
+        return;
+    };
+    let directory = decoder.read_directory(pointer);
+    let listed = list_tags(file, pointer.0);
+    assert_eq!(directory.is_ok(), listed.is_ok());
+    let (Ok(directory), Ok(listed)) = (directory, listed) else {
+        return;
+    };
+    let entries = directory.iter().map(|(tag, entry)| {
+        let kind = entry.field_type().to_u16();
+        (tag.to_u16(), kind, entry.count())
+    });
+    assert!(entries.eq(listed
+        .iter()
+        .map(|entry| (entry.number, entry.kind, entry.count))));
 }
 
 /// Reads the chunks of a page, and returns whether it has few enough to be read.
@@ -112,6 +120,7 @@ fn read(file: &[u8]) -> bool {
     decoder = decoder.with_limits(limits);
     for _ in 0..10 {
         let _ = (decoder.dimensions().unwrap(), decoder.colortype());
+        compare_entries(file, &mut decoder);
         read_tags(&mut decoder);
         read_image(&mut decoder);
         read_chunks(&mut decoder);

@@ -1,18 +1,25 @@
-//! The names of the reading side of the crate `tiff` 0.11.3, each with its signature there: that
+//! The names of the crate `tiff` 0.11.3 that this crate has, each with its signature there: that
 //! this file compiles is the test.
 
 #![allow(clippy::type_complexity)]
 
+use std::borrow::Cow;
 use std::fmt::Debug;
 use std::fs::File;
 use std::hash::Hash;
-use std::io::{self, BufReader};
+use std::io::{self, BufReader, BufWriter, Cursor, Seek, Write};
 use std::num::NonZeroUsize;
 
 use tiff::decoder::ifd::{Entry, Value};
 use tiff::decoder::{
     BufferLayoutPreference, ChunkType, Decoder, DecodingBuffer, DecodingResult, DecodingSampleType,
     IfdDecoder, Limits, TiffCodingUnit,
+};
+use tiff::encoder::colortype::{self, ColorType as Color};
+use tiff::encoder::compression::{self, CompressionAlgorithm, Compressor, Packbits, Uncompressed};
+use tiff::encoder::{
+    Compression, DirectoryEncoder, Ifd, Ifd8, ImageEncoder, Rational, SRational, TiffEncoder,
+    TiffKind, TiffKindBig, TiffKindStandard, TiffValue,
 };
 use tiff::tags::{
     ByteOrder, CompressionMethod, ExtraSamples, IfdPointer, PhotometricInterpretation,
@@ -137,6 +144,7 @@ fn the_tags_of_a_directory_have_the_calls_of_the_crate() {
         fn(&Entry) -> Type: Entry::field_type;
         fn(&Entry) -> u64: Entry::count;
         fn(Type) -> ValueBuffer: ValueBuffer::empty;
+        fn(&[u16; 3]) -> ValueBuffer: ValueBuffer::from_value;
         fn(&ValueBuffer) -> ByteOrder: ValueBuffer::byte_order;
         fn(&ValueBuffer) -> Type: ValueBuffer::data_type;
         fn(&ValueBuffer) -> u64: ValueBuffer::count;
@@ -208,6 +216,89 @@ fn values_and_buffers_have_the_calls_of_the_crate() {
     };
 }
 
+type W = BufWriter<File>;
+
+#[test]
+fn the_encoder_has_the_calls_of_the_crate() {
+    type E = TiffEncoder<W>;
+    type B = TiffEncoder<W, TiffKindBig>;
+    type Image<'a> = ImageEncoder<'a, W, colortype::RGB16, TiffKindStandard>;
+    type I = Image<'static>;
+    type T = DirectoryEncoder<'static, W, TiffKindStandard>;
+    calls! {
+        fn(W) -> TiffResult<E>: E::new, E::new_generic;
+        fn(W) -> TiffResult<B>: B::new_big, B::new_generic;
+        fn(E, tiff::encoder::Predictor) -> E: E::with_predictor;
+        fn(E, Compression) -> E: E::with_compression;
+        for<'a> fn(&'a mut E, u32, u32) -> TiffResult<Image<'a>>: E::new_image::<colortype::RGB16>;
+        fn(&mut B, u32, u32, &[f32]) -> TiffResult<()>: B::write_image::<colortype::CMYK32Float>;
+        fn(&mut I, &[ExtraSamples]) -> Result<(), TiffError>: I::extra_samples;
+        fn(&I) -> u64: I::next_strip_sample_count;
+        fn(&mut I, &[u16]) -> TiffResult<()>: I::write_strip;
+        fn(I, &[u16]) -> TiffResult<()>: I::write_data;
+        fn(&mut I, ResolutionUnit, Rational) -> (): I::resolution;
+        fn(&mut I, ResolutionUnit) -> (): I::resolution_unit;
+        fn(&mut I, Rational) -> (): I::x_resolution, I::y_resolution;
+        fn(&mut I, u32) -> TiffResult<()>: I::rows_per_strip;
+        for<'b> fn(&'b mut I) -> &'b mut T: I::encoder;
+        fn(I) -> TiffResult<()>: I::finish;
+        fn(&mut T, Tag, &'static str) -> TiffResult<()>: T::write_tag;
+        fn(&mut T, Tag, [Rational; 3]) -> TiffResult<()>: T::write_tag;
+        fn(&mut T, Tag, &ValueBuffer) -> TiffResult<()>: T::write_tag_buf;
+        fn(&mut Packbits, &mut Vec<u8>, &[u8]) -> Result<u64, io::Error>: Packbits::write_to;
+        fn(&Uncompressed) -> Compressor: compression::Compression::get_algorithm;
+        fn(&[u8], &mut Vec<u8>) -> (): colortype::YCbCr8::horizontal_predict;
+        fn(u64) -> TiffResult<u32>: TiffKindStandard::convert_offset;
+        for<'a> fn(&'a [u64]) -> &'a [u64]: TiffKindBig::convert_slice;
+        fn(&f64) -> usize: f64::count, f64::bytes;
+        for<'a> fn(&'a [Ifd8]) -> Cow<'a, [u8]>: <[Ifd8]>::data;
+    }
+    // As programs have them: without bounds of the encoder's own.
+    struct Holder<X, K: TiffKind> {
+        _encoder: TiffEncoder<X, K>,
+    }
+    fn write<X: Write + Seek, K: TiffKind, C: Color>(
+        encoder: &mut TiffEncoder<X, K>,
+        samples: &[C::Inner],
+    ) -> TiffResult<()>
+    where
+        [C::Inner]: TiffValue,
+    {
+        let mut image: ImageEncoder<X, C, K> = encoder.new_image(1, 1)?;
+        image.encoder().write_tag(Tag::ExifVersion, &b"0232"[..])?;
+        image.write_data(samples)
+    }
+    let _: fn(&mut TiffEncoder<Cursor<Vec<u8>>, TiffKindBig>, &[u8]) -> TiffResult<()> =
+        write::<_, _, colortype::Gray8>;
+    let _: fn(Holder<W, TiffKindBig>) = drop;
+}
+
+#[test]
+fn values_of_tags_have_the_types_of_the_crate() {
+    fn value<T: TiffValue + ?Sized>(ty: Type, len: u8) {
+        assert_eq!((T::FIELD_TYPE, T::BYTE_LEN), (ty, len));
+    }
+    macro_rules! values {
+        ($($type:ty: $ty:ident $len:literal;)*) => {
+            $(value::<$type>(Type::$ty, $len);)*
+        };
+    }
+    values! {
+        u8: BYTE 1; [u8]: BYTE 1; i8: SBYTE 1; [i8]: SBYTE 1;
+        u16: SHORT 2; [u16]: SHORT 2; i16: SSHORT 2; [i16]: SSHORT 2;
+        u32: LONG 4; [u32]: LONG 4; i32: SLONG 4; [i32]: SLONG 4;
+        u64: LONG8 8; [u64]: LONG8 8; i64: SLONG8 8; [i64]: SLONG8 8;
+        f32: FLOAT 4; [f32]: FLOAT 4; f64: DOUBLE 8; [f64]: DOUBLE 8;
+        Ifd: IFD 4; [Ifd]: IFD 4; Ifd8: IFD8 8; [Ifd8]: IFD8 8;
+        Rational: RATIONAL 8; [Rational]: RATIONAL 8;
+        SRational: SRATIONAL 8; [SRational]: SRATIONAL 8;
+        str: ASCII 1; &str: ASCII 1; &&[u16]: SHORT 2; [u32; 4]: LONG 4;
+        CompressionMethod: SHORT 2; PhotometricInterpretation: SHORT 2;
+        PlanarConfiguration: SHORT 2; Predictor: SHORT 2; ResolutionUnit: SHORT 2;
+        [SampleFormat]: SHORT 2; [ExtraSamples]: SHORT 2;
+    }
+}
+
 fn plain<T: Copy + Clone + PartialEq + Eq + Debug + Hash>() {}
 
 fn cloned<T: Clone + Debug>() {}
@@ -246,4 +337,7 @@ fn types_have_the_traits_of_the_crate() {
     threaded::<D>();
     threaded::<DecodingResult>();
     threaded::<Directory>();
+    threaded::<TiffEncoder<W>>();
+    cloned::<Rational>();
+    cloned::<Compression>();
 }

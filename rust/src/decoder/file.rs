@@ -6,6 +6,7 @@ use std::fmt;
 use std::io;
 
 use super::ifd::{Entry, Value};
+use crate::error::plain_error;
 use crate::ffi::{self, Fault, Place};
 use crate::tags::{
     ByteOrder, CompressionMethod, IfdPointer, PhotometricInterpretation, PlanarConfiguration,
@@ -327,19 +328,11 @@ impl Told<'_> {
 
     /// Returns the error of a number of the header.
     fn error(&self, fault: Fault) -> TiffError {
-        let kind = match fault.number() {
-            1 => return TiffError::LimitsExceeded,
-            2 => return TiffError::IntSizeError,
-            20..=35 => return self.format_error(fault),
-            40..=55 => return self.unsupported_error(fault),
-            3 => io::ErrorKind::OutOfMemory,
-            10 => io::ErrorKind::UnexpectedEof,
-            11 => io::ErrorKind::InvalidData,
-            12 => io::ErrorKind::InvalidInput,
-            13 => io::ErrorKind::WriteZero,
-            _ => return unnamed(fault),
-        };
-        io::Error::from(kind).into()
+        match fault.number() {
+            20..=35 => self.format_error(fault),
+            40..=55 => self.unsupported_error(fault),
+            _ => plain_error(fault),
+        }
     }
 
     fn format_error(&self, fault: Fault) -> TiffError {
@@ -361,7 +354,7 @@ impl Told<'_> {
             33 => CycleInOffsets,
             34 => SamplesPerPixelIsZero,
             35 => CompressedDataCorrupt(ffi::fault_text(fault)),
-            _ => return unnamed(fault),
+            _ => return plain_error(fault),
         };
         error.into()
     }
@@ -389,13 +382,8 @@ impl Told<'_> {
             53 => UnsupportedInterpretation(self.interpretation()),
             54 => ChromaSubsampling,
             55 => MisalignedTileBoundaries,
-            _ => return unnamed(fault),
+            _ => return plain_error(fault),
         };
         error.into()
     }
-}
-
-/// The error of a number that no call of this crate should return, with the library's text.
-fn unnamed(fault: Fault) -> TiffError {
-    io::Error::other(ffi::fault_text(fault)).into()
 }

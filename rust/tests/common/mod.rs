@@ -1,10 +1,10 @@
-//! What the tests share: the C library's calls that write files.
+//! What the tests share: the C library's calls that write files, and random numbers.
 
 #![allow(unsafe_code, dead_code)]
 
 use std::io::Cursor;
 
-use tiff::decoder::Decoder;
+use tiff::decoder::{Decoder, DecodingResult};
 use tiff::TiffResult;
 
 #[repr(C)]
@@ -16,6 +16,17 @@ pub struct Image {
     pub version: u16,
     pub method: u16,
     pub predictor: u16,
+}
+
+/// An entry of a directory, as the C library lists it.
+#[repr(C)]
+#[derive(Clone, Copy, Default)]
+pub struct TagEntry {
+    pub count: u64,
+    pub offset: u64,
+    pub number: u16,
+    pub kind: u16,
+    pub in_place: u32,
 }
 
 #[repr(C)]
@@ -50,6 +61,14 @@ extern "C" {
         size: usize,
         len: *mut usize,
         end: *mut JobsEnd,
+    ) -> u32;
+    fn tiff_list_tags(
+        file: *const u8,
+        len: usize,
+        page: usize,
+        entries: *mut TagEntry,
+        room: usize,
+        count: *mut usize,
     ) -> u32;
     fn tiff_version() -> u32;
 }
@@ -105,6 +124,31 @@ pub fn write_jobs(version: u16, jobs: &str) -> Vec<u8> {
     try_jobs(version, jobs).unwrap_or_else(|status| panic!("status {status} of the jobs\n{jobs}"))
 }
 
+/// Returns the entries of the directory at an offset.
+pub fn list_tags(file: &[u8], offset: u64) -> Result<Vec<TagEntry>, u32> {
+    let page = offset as usize | 1 << 63;
+    let mut entries = Vec::new();
+    for _ in 0..2 {
+        let mut count = 0;
+        // SAFETY: slices and a reference, of the lengths that are passed.
+        let status = unsafe {
+            tiff_list_tags(
+                file.as_ptr(),
+                file.len(),
+                page,
+                entries.as_mut_ptr(),
+                entries.len(),
+                &mut count,
+            )
+        };
+        if status != DONE {
+            return Err(status);
+        }
+        entries.resize(count, TagEntry::default());
+    }
+    Ok(entries)
+}
+
 /// Returns the version of the C library.
 pub fn version() -> u32 {
     // SAFETY: the call takes nothing.
@@ -122,6 +166,54 @@ pub fn open(file: &[u8]) -> TiffResult<Reader> {
 /// Opens the file of a list of jobs.
 pub fn open_jobs(jobs: &str) -> Reader {
     open(&write_jobs(CLASSIC, jobs)).unwrap()
+}
+
+/// Random numbers, the same in each run.
+pub struct Random(pub u64);
+
+impl Random {
+    /// Returns the next number.
+    pub fn next(&mut self) -> u64 {
+        self.0 ^= self.0 << 13;
+        self.0 ^= self.0 >> 7;
+        self.0 ^= self.0 << 17;
+        self.0
+    }
+
+    /// Returns bytes with runs and without, so that PackBits has both.
+    pub fn bytes(&mut self, len: usize) -> Vec<u8> {
+        let mut bytes = Vec::with_capacity(len);
+        while bytes.len() < len {
+            let number = self.next();
+            let run = match number % 3 {
+                0 => 1 + number as usize / 3 % 200,
+                _ => 1,
+            };
+            bytes.resize((bytes.len() + run).min(len), (number >> 32) as u8);
+        }
+        bytes
+    }
+
+    /// Returns a number below another.
+    pub fn below(&mut self, end: usize) -> usize {
+        (self.next() >> 20) as usize % end
+    }
+}
+
+/// Returns the bytes of samples, each with its lowest byte first.
+pub fn bytes_of(samples: &mut DecodingResult, bits: u8) -> Vec<u8> {
+    little(samples.as_buffer(0).as_bytes(), bits)
+}
+
+/// Turns numbers of this machine into ones with their lowest byte first.
+pub fn little(bytes: &[u8], bits: u8) -> Vec<u8> {
+    let mut bytes = bytes.to_vec();
+    if cfg!(target_endian = "big") {
+        for number in bytes.chunks_exact_mut(usize::from(bits) / 8) {
+            number.reverse();
+        }
+    }
+    bytes
 }
 
 /// A file that a test makes byte by byte: of any byte order and kind, with any entries.
