@@ -577,17 +577,18 @@ struct tiff_new_tag {
    ROWS_PER_STRIP rows; or, where that is 0 too, in strips as tiff_write_image writes them. PLANAR is
    TIFF_CHUNKY or TIFF_PLANAR: whether a file stores the samples of a pixel side by side, or those
    of each place in a pixel apart from the others. RESOLUTION_UNIT is the unit of both resolutions;
-   without one, the page has none, and the call ignores the resolutions. EXTRA_SAMPLES are the
-   values of the tag ExtraSamples, one for each sample that a pixel has besides those of its color: 0
-   for any, 1 for alpha that is multiplied in, 2 for other alpha. TAGS are the caller's own. One of
-   them replaces what the call set before it under the same number; BitsPerSample, SampleFormat and
-   the places of strips or tiles are set behind them. SAMPLES are the samples row by row from the
-   top, those of a pixel side by side, also of a planar page, each with its lowest byte first. */
+   with TIFF_NO_RESOLUTION the call ignores them, and the file has those of tiff_write_image, 1 and
+   1 without a unit. EXTRA_SAMPLES are the values of the tag ExtraSamples, one for each sample that
+   a pixel has besides those of its color: 0 for any, 1 for alpha that is multiplied in, 2 for other
+   alpha. TAGS are the caller's own. One of them replaces what the call set before it under the same
+   number; BitsPerSample, SampleFormat and the places of strips or tiles are set behind them.
+   SAMPLES are the samples row by row from the top, those of a pixel side by side, also of a planar
+   page, each with its lowest byte first. */
 enum {
     TIFF_CHUNKY = 1,
     TIFF_PLANAR = 2,
     /* the units of resolutions */
-    TIFF_NO_RESOLUTION = 0, /* no resolutions */
+    TIFF_NO_RESOLUTION = 0, /* none is given */
     TIFF_NO_UNIT = 1,
     TIFF_INCH = 2,
     TIFF_CENTIMETER = 3,
