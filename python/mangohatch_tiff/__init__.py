@@ -21,7 +21,16 @@ from ._enums import (
 from ._file import TiffFile, imread
 from ._imwrite import imwrite
 from ._jobs import write_jobs
-from ._library import ColorKind, JobsError, Status, TiffError, UnsupportedError, library_version
+from ._library import (
+    ColorKind,
+    JobsError,
+    PageField,
+    PagesError,
+    Status,
+    TiffError,
+    UnsupportedError,
+    library_version,
+)
 from ._page import TiffPage
 from ._tags import Tag, Tags
 from ._version import package_version
@@ -38,6 +47,8 @@ __all__ = [
     "PHOTOMETRIC",
     "PLANARCONFIG",
     "PREDICTOR",
+    "PageField",
+    "PagesError",
     "RESUNIT",
     "SAMPLEFORMAT",
     "Status",
