@@ -23,6 +23,7 @@ from ._imwrite import imwrite
 from ._jobs import write_jobs
 from ._library import (
     ColorKind,
+    Found,
     JobsError,
     PageField,
     PagesError,
@@ -33,6 +34,7 @@ from ._library import (
 )
 from ._page import TiffPage
 from ._tags import Tag, Tags
+from ._tree import Directory
 from ._version import package_version
 
 __version__ = package_version()
@@ -41,8 +43,10 @@ __all__ = [
     "COMPRESSION",
     "ColorKind",
     "DATATYPE",
+    "Directory",
     "EXTRASAMPLE",
     "FILLORDER",
+    "Found",
     "JobsError",
     "PHOTOMETRIC",
     "PLANARCONFIG",
