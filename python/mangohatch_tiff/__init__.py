@@ -21,9 +21,20 @@ from ._enums import (
 from ._file import TiffFile, imread
 from ._imwrite import imwrite
 from ._jobs import write_jobs
-from ._library import ColorKind, JobsError, Status, TiffError, UnsupportedError, library_version
+from ._library import (
+    ColorKind,
+    Found,
+    JobsError,
+    PageField,
+    PagesError,
+    Status,
+    TiffError,
+    UnsupportedError,
+    library_version,
+)
 from ._page import TiffPage
 from ._tags import Tag, Tags
+from ._tree import Directory
 from ._version import package_version
 
 __version__ = package_version()
@@ -32,12 +43,16 @@ __all__ = [
     "COMPRESSION",
     "ColorKind",
     "DATATYPE",
+    "Directory",
     "EXTRASAMPLE",
     "FILLORDER",
+    "Found",
     "JobsError",
     "PHOTOMETRIC",
     "PLANARCONFIG",
     "PREDICTOR",
+    "PageField",
+    "PagesError",
     "RESUNIT",
     "SAMPLEFORMAT",
     "Status",

@@ -1,7 +1,4 @@
-"""Which tags a directory has.
-
-The library has a call for each tag, and none that lists them, so their numbers are read here.
-"""
+"""What no call of the library tells: the version of a file, and which tags are there twice."""
 from __future__ import annotations
 
 import struct
@@ -22,7 +19,7 @@ def is_big(file: ReadableBuffer, order: str) -> bool:
 
 
 def codes(file: ReadableBuffer, offset: int, order: str) -> tuple[int, ...]:
-    """Returns the numbers of the tags of the directory at an offset, in the order of the file."""
+    """Returns the number of each entry of the directory at an offset, in the order of the file."""
     form, size = FORMS[is_big(file, order)]
     first = offset + struct.calcsize("=" + form)
     with memoryview(file) as view, view.cast("B") as data:

@@ -5,6 +5,7 @@ import mmap
 import operator
 import os
 from collections.abc import Iterable, Iterator
+from functools import cached_property
 from types import TracebackType
 from typing import TYPE_CHECKING, Any, BinaryIO, Union, overload
 
@@ -12,6 +13,7 @@ from . import _directory, _library
 from ._library import Status
 from ._page import TiffPage
 from ._tags import Tags
+from ._tree import Directory, directories_of
 
 if TYPE_CHECKING:
     from _typeshed import ReadableBuffer
@@ -28,8 +30,9 @@ class TiffFile:
     before `close`. An open file is read from its current position on, as tifffile does; one that
     can't be mapped is read whole.
 
-    `pages` are the file's pages, `byteorder` is `<` or `>`, and `end` is `Status.DONE`, or the
-    error by which the chain of pages ends. A file without a page raises the error.
+    `pages` are the pages of the file's chain, also those that are refused, each with its `status`;
+    `byteorder` is `<` or `>`, and `end` is `Status.DONE`, or the error by which the chain ends. A
+    file whose header or whose first directory can't be read raises the error.
     """
 
     def __init__(self, source: Source) -> None:
@@ -120,6 +123,17 @@ class TiffFile:
     def is_bigtiff(self) -> bool:
         """Whether the file is a BigTIFF file."""
         return _directory.is_big(self._file, self.byteorder)
+
+    @cached_property
+    def directories(self) -> list[Directory]:
+        """All places where directories of the file are named, as a tree.
+
+        These are the directories of the chain, and behind each those that its tags name, each with
+        all below it: by SubIFDs (330), the pointers to Exif (34665), GPS (34853) and
+        interoperability (40965), and all tags of the types IFD and IFD8. A directory that is named
+        at several places is read at one of them, the nearest to the chain.
+        """
+        return directories_of(self._file, self.byteorder, self.pages)
 
     def page_at(self, offset: int) -> TiffPage:
         """Returns the page whose directory lies at an offset of the file, in the chain or not.

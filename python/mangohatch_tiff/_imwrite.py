@@ -62,7 +62,7 @@ def tags_of(
 
     tags = [extra_tag(tag) for tag in extratags or () if any(tag[4:]) == first]
     if subfiletype is not None and not first:
-        tags.append(NewTag(SUBFILE_TYPE, LONG, int(subfiletype).to_bytes(4, "little")))
+        tags.append(NewTag(SUBFILE_TYPE, LONG, 1, int(subfiletype).to_bytes(4, "little")))
     return tags
 
 
@@ -148,7 +148,8 @@ def imwrite(
     the type and the count of its values, the values, and whether the first page alone gets it.
 
     Errors: what tifffile writes and this package doesn't, as `UnsupportedError`, which names it;
-    values that fit no file, ValueError; and `TiffError` for what the library refuses.
+    values that fit no file, ValueError; and what the library refuses as `PagesError`, with the
+    `page` and the `field`. Nothing is written then.
     """
     import numpy
 

@@ -23,10 +23,10 @@ def _write_into(size: int, version: int, text: bytes) -> tuple[int, memoryview, 
     return status, memoryview(buffer)[: length.value], length.value, end
 
 
-def file_of_jobs(jobs: str, big: bool, room: int = FIRST_ROOM) -> memoryview:
-    """Returns the bytes of the file that a list of jobs leaves, of `room` bytes at first."""
+def file_of_jobs(jobs: str, big: bool) -> memoryview:
+    """Returns the bytes of the file that a list of jobs leaves."""
     version, text = BIG if big else CLASSIC, jobs.encode()
-    status, file, length, end = _write_into(room, version, text)
+    status, file, length, end = _write_into(FIRST_ROOM, version, text)
     if status == Status.INSUFFICIENT_OUTPUT_BUFFER_SIZE and not end.job:
         status, file, length, end = _write_into(length, version, text)
     if status:

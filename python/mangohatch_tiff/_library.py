@@ -8,6 +8,7 @@ from ctypes import (
     POINTER,
     Structure,
     byref,
+    c_char_p,
     c_double,
     c_int,
     c_size_t,
@@ -112,10 +113,37 @@ class ColorKind(IntEnum):
     MULTIBAND = 9
 
 
+class Found(IntEnum):
+    """What is found at a place where a directory is named."""
+
+    DIRECTORY = 0
+    DIRECTORY_ERROR = 1
+    VALUES_ERROR = 2
+    DIRECTORY_MET = 3
+    DIRECTORY_TOO_DEEP = 4
+
+
+class PageField(IntEnum):
+    """The part of a page that is written; `NONE` is the page as a whole."""
+
+    NONE = 0
+    COLOR = 1
+    METHOD = 2
+    PREDICTOR = 3
+    PLANAR = 4
+    RESOLUTION = 5
+    EXTRA_SAMPLES = 6
+    TAGS = 7
+    SAMPLES = 8
+    LAYOUT = 9
+
+
 COMPRESSION, UNCOMPRESSED = 259, 1
+CHUNKY, PLANAR = 1, 2
 TILES = 1
 BIG_ENDIAN = 1
-# How many bytes a page of a few tags has, and the room for pages in the first list.
+# How many bytes a page of a few tags has, and the most room for pages or directories in the first
+# list.
 SHORT_PAGE = 64
 FIRST_ROOM = 1 << 14
 # The room for the values of a tag in the first call.
@@ -199,6 +227,30 @@ class ListedPage(Structure):
     ]
 
 
+class ListedDirectory(Structure):
+    """A place where a directory is named, in the list of a file's directories."""
+
+    offset: int
+    parent: int
+    fields: int
+    depth: int
+    tag: int
+    found: int
+    status: int
+    page: ListedPage
+
+    _fields_ = [
+        ("offset", c_uint64),
+        ("parent", c_uint64),
+        ("fields", c_uint64),
+        ("depth", c_uint32),
+        ("tag", c_uint32),
+        ("found", c_uint32),
+        ("status", c_uint32),
+        ("page", ListedPage),
+    ]
+
+
 class Sides(Structure):
     """The width and the height of a page."""
 
@@ -215,6 +267,24 @@ class Field(Structure):
     count: int
 
     _fields_ = [("kind", c_uint32), ("count", c_uint64)]
+
+
+class TagEntry(Structure):
+    """An entry of a directory: its tag, the type and the count of its values, and their place."""
+
+    count: int
+    offset: int
+    number: int
+    type: int
+    in_place: int
+
+    _fields_ = [
+        ("count", c_uint64),
+        ("offset", c_uint64),
+        ("number", c_uint16),
+        ("type", c_uint16),
+        ("in_place", c_uint32),
+    ]
 
 
 class Image(Structure):
@@ -237,6 +307,61 @@ class JobsEnd(Structure):
     job: int
 
     _fields_ = [("line", c_size_t), ("job", c_size_t)]
+
+
+class TagToWrite(Structure):
+    """A tag of a page that is written: its number, the type, the count and the bytes of its values.
+
+    The struct keeps the bytes, so no other object has to.
+    """
+
+    _fields_ = [
+        ("number", c_uint16),
+        ("type", c_uint16),
+        ("count", c_size_t),
+        ("values", c_char_p),
+        ("values_len", c_size_t),
+    ]
+
+
+class Fraction(Structure):
+    """A fraction of a resolution."""
+
+    _fields_ = [("n", c_uint32), ("d", c_uint32)]
+
+
+class PageToWrite(Structure):
+    """A page that is written. The struct keeps its tags, but not the bytes of its samples."""
+
+    _fields_ = [
+        ("color", c_uint32),
+        ("width", c_uint32),
+        ("height", c_uint32),
+        ("rows_per_strip", c_uint32),
+        ("tile_width", c_uint32),
+        ("tile_length", c_uint32),
+        ("method", c_uint16),
+        ("predictor", c_uint16),
+        ("planar", c_uint16),
+        ("resolution_unit", c_uint16),
+        ("x_resolution", Fraction),
+        ("y_resolution", Fraction),
+        ("extra_samples", POINTER(c_uint16)),
+        ("extra_samples_len", c_size_t),
+        ("tags", POINTER(TagToWrite)),
+        ("tags_len", c_size_t),
+        ("samples", c_void_p),
+        ("samples_len", c_size_t),
+    ]
+
+
+class PagesEnd(Structure):
+    """Where pages were refused: the number of the page, from 1, and its field; 0 is none."""
+
+    page: int
+    field: int
+
+    _fields_ = [("page", c_size_t), ("field", c_uint32)]
 
 
 class _Number(Structure):
@@ -294,6 +419,9 @@ BYTE_ORDER = _declare("tiff_byte_order", *_BYTES, POINTER(c_uint32))
 LIST_PAGES = _declare(
     "tiff_list_pages", *_BYTES, POINTER(ListedPage), c_size_t, POINTER(c_size_t)
 )
+LIST_DIRECTORIES = _declare(
+    "tiff_list_directories", *_BYTES, POINTER(ListedDirectory), c_size_t, POINTER(c_size_t)
+)
 PAGE_SIDES = _declare("tiff_page_sides", *_PAGE, POINTER(Sides))
 PAGE_COLOR = _declare("tiff_page_color", *_PAGE, POINTER(Color))
 PAGE_SAMPLES = _declare("tiff_page_samples", *_PAGE, POINTER(Samples))
@@ -313,11 +441,23 @@ TAG_FLOATS = _declare(
     "tiff_tag_floats", *_PAGE, c_uint16, POINTER(c_double), c_size_t, POINTER(c_size_t)
 )
 TAG_TEXT = _declare("tiff_tag_text", *_PAGE, c_uint16, *_BYTES, POINTER(c_size_t))
+LIST_TAGS = _declare(
+    "tiff_list_tags", *_PAGE, POINTER(TagEntry), c_size_t, POINTER(c_size_t)
+)
 WRITE_IMAGE = _declare(
     "tiff_write_image", POINTER(Image), *_BYTES, *_BYTES, POINTER(c_size_t)
 )
 WRITE_JOBS = _declare(
     "tiff_write_jobs", c_uint16, *_BYTES, *_BYTES, POINTER(c_size_t), POINTER(JobsEnd)
+)
+WRITE_PAGES = _declare(
+    "tiff_write_pages",
+    c_uint16,
+    POINTER(PageToWrite),
+    c_size_t,
+    *_BYTES,
+    POINTER(c_size_t),
+    POINTER(PagesEnd),
 )
 FAULT_TEXT = _declare("tiff_fault_text", c_uint32, *_BYTES, answer=c_size_t)
 
@@ -401,6 +541,24 @@ class JobsError(TiffError):
         return f"job {self.job}: {super()._cause()}" if self.job else super()._cause()
 
 
+class PagesError(TiffError):
+    """A page that isn't written: the `page`, counted from 0, and the `field` that is refused.
+
+    `page` is None for an error of the file as a whole.
+    """
+
+    def __init__(self, status: int, page: int | None, field: int) -> None:
+        super().__init__(status, page)
+        self.field = PageField(field)
+
+    def __reduce__(self) -> tuple[Any, ...]:
+        return type(self), (self.status, self.page, self.field)
+
+    def _cause(self) -> str:
+        field = "" if self.field is PageField.NONE else f"{self.field.name.lower()}: "
+        return field + super()._cause()
+
+
 def check(status: int) -> None:
     """Raises the error of a status, unless the status is `DONE`."""
     if status:
@@ -464,21 +622,36 @@ def offset_of(page: int) -> int:
     return page & ~(1 << 63)
 
 
-def list_pages(file: ReadableBuffer) -> tuple[list[ListedPage], Status]:
-    """Returns the pages of a file, and the status with which their chain ends.
+def _listed(
+    call: Any, kind: type[Answer], file: ReadableBuffer
+) -> tuple[list[Answer], Status]:
+    """Returns what a call lists of a file, and the status with which the chain of pages ends.
 
-    One call is enough if it has room for all pages. Else a second call has the room that it needs.
+    One call is enough if it has room for all. Else a second call has the room that it needs.
     """
     count = c_size_t()
     with locked(file) as (address, length):
         room = min(length // SHORT_PAGE + 1, FIRST_ROOM)
-        listed = (ListedPage * room)()
-        end = LIST_PAGES(address, length, listed, room, byref(count))
+        listed = (kind * room)()
+        end = call(address, length, listed, room, byref(count))
         if count.value > room:
             room = count.value
-            listed = (ListedPage * room)()
-            end = LIST_PAGES(address, length, listed, room, byref(count))
-    return list((ListedPage * min(count.value, room)).from_buffer_copy(listed)), Status(end)
+            listed = (kind * room)()
+            end = call(address, length, listed, room, byref(count))
+    return list((kind * min(count.value, room)).from_buffer_copy(listed)), Status(end)
+
+
+def list_pages(file: ReadableBuffer) -> tuple[list[ListedPage], Status]:
+    """Returns the pages of a file, and the status with which their chain ends."""
+    return _listed(LIST_PAGES, ListedPage, file)
+
+
+def list_directories(file: ReadableBuffer) -> list[ListedDirectory]:
+    """Returns the places of a file where directories are named; without one, raises the error."""
+    listed, end = _listed(LIST_DIRECTORIES, ListedDirectory, file)
+    if not listed:
+        check(end)
+    return listed
 
 
 def _told(call: Any, kind: type[Answer], file: ReadableBuffer, *place: int) -> tuple[Answer, int]:
@@ -510,7 +683,7 @@ def page_at(file: ReadableBuffer, offset: int) -> ListedPage:
 
 
 def _values(call: Any, kind: Any, file: ReadableBuffer, *place: int) -> Any:
-    """Returns the values of a tag of a page. For many, a second call has the room for them."""
+    """Returns the values of a tag, or the tags of a page. For many, a second call has the room."""
     count = c_size_t()
     room = FEW
     with locked(file) as (address, length):
@@ -521,6 +694,11 @@ def _values(call: Any, kind: Any, file: ReadableBuffer, *place: int) -> Any:
             values = (kind * room)()
             check(call(address, length, *place, values, room, byref(count)))
     return values[: min(count.value, room)]
+
+
+def list_tags(file: ReadableBuffer, page: int) -> list[TagEntry]:
+    """Returns the entries of a directory, by the number of their tags."""
+    return list(_values(LIST_TAGS, TagEntry, file, page))
 
 
 def tag_numbers(file: ReadableBuffer, page: int, number: int) -> tuple[int, ...]:

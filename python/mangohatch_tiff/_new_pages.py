@@ -1,20 +1,19 @@
 """Pages as the library writes them, with their tags. It needs numpy.
 
-`_write_pages` is the one place that calls the library to write: by tiff_write_image where that is
-enough, and by a list of jobs for everything else.
+`_write_pages` is the one place that writes arrays: by tiff_write_image where that is enough, since
+it allocates less, and by tiff_write_pages for everything else.
 """
 from __future__ import annotations
 
-from collections.abc import Iterator
-from ctypes import byref, c_size_t
+from ctypes import byref, c_size_t, c_uint16
 from dataclasses import dataclass
-from typing import TYPE_CHECKING, Any
+from typing import TYPE_CHECKING, Any, NamedTuple
 
 import numpy
 
 from . import _library
-from ._jobs import BIG, CLASSIC, file_of_jobs
-from ._library import Image, JobsError, Status, TiffError
+from ._jobs import BIG, CLASSIC
+from ._library import Fraction, Image, PagesEnd, PagesError, PageToWrite, Status, TagToWrite
 
 if TYPE_CHECKING:
     from numpy.typing import NDArray
@@ -33,19 +32,24 @@ COLORS = {
     color: number
     for number, color in enumerate((name, kind) for name, kinds in KINDS.items() for kind in kinds)
 }
-METHODS = {1: "uncompressed", 32773: "packbits"}
-# How many jobs a page is: the compression, the predictor and the image.
-JOBS_OF_PAGE = 3
-# Room for what a file has besides its samples, in most cases.
+# The resolution of a page that has none: no unit, and fractions that count for nothing.
+NO_RESOLUTION = (0, (0, 1), (0, 1))
+# How many bytes a page has besides its samples, its own tags and the places of its chunks, in most
+# cases; and how many the place and the length of a chunk have.
 AROUND_SAMPLES = 4096
+PLACE = 16
 
 
 @dataclass(frozen=True)
 class NewTag:
-    """A tag of a page: its number, the type of its values, and their bytes, the lowest first."""
+    """A tag of a page: its number, the type of its values, their count, and their bytes.
+
+    Of each number the lowest byte comes first.
+    """
 
     code: int
     kind: int
+    count: int
     data: bytes
 
 
@@ -87,89 +91,107 @@ class NewPage:
         return not (chosen or self.tags or self.resolution)
 
 
-def words_of(samples: NDArray[Any]) -> str:
-    """Returns samples as words of a list of jobs: numbers, floating-point ones by their bits."""
-    if samples.dtype.kind != "f":
-        return " ".join(map(str, samples.ravel().tolist()))
-    return " ".join(map(hex, samples.view(f"<u{samples.dtype.itemsize}").ravel().tolist()))
+def room_of(page: NewPage) -> int:
+    """Returns room for a page in a file, in most cases enough: for whole chunks, not packed."""
+    (height, width, count), layout = page.samples.shape, page.layout
+    rows, columns = layout.tile or (layout.rowsperstrip or height or 1, width or 1)
+    down, across = -(-height // rows), -(-width // columns)
+    stored = down * rows * across * columns * count * page.samples.itemsize
+    places = PLACE * down * across * (count if layout.planar else 1)
+    return stored + stored // 64 + places + AROUND_SAMPLES + sum(len(tag.data) for tag in page.tags)
 
 
-def name_of(color: tuple[str, str]) -> str:
-    """Returns the name of a color type in a list of jobs, as Gray16, GrayI8 or RGB32Float."""
-    kind, number = color
-    sign, ending = {"u": ("", ""), "i": ("I", ""), "f": ("", "Float")}[number[0]]
-    return f"{kind}{sign}{8 * int(number[1])}{ending}"
+def tag_to_write(tag: NewTag) -> TagToWrite:
+    """Returns a tag as the library takes it."""
+    return TagToWrite(
+        number=tag.code,
+        type=tag.kind,
+        count=tag.count,
+        values=tag.data,
+        values_len=len(tag.data),
+    )
 
 
-def lines_of(page: NewPage) -> Iterator[str]:
-    """Yields the lines of a list of jobs that write a page."""
+def page_to_write(page: NewPage) -> PageToWrite:
+    """Returns a page as the library takes it; its samples stay in the array of the page."""
     layout, (height, width) = page.layout, page.samples.shape[:2]
-    yield f"compression {METHODS[layout.method]}"
-    yield f"predictor {layout.predictor}"
-    yield f"image {name_of(page.color)} {width} {height}"
-    if layout.extra:
-        yield "extra_samples " + " ".join(map(str, layout.extra))
-    if layout.tile:
-        yield f"tiles {layout.tile[1]} {layout.tile[0]}"
-    if layout.rowsperstrip:
-        yield f"rows_per_strip {layout.rowsperstrip}"
-    if layout.planar:
-        yield "planar"
-    if page.resolution:
-        unit, across, down = page.resolution
-        yield f"resolution_unit {unit}"
-        yield f"x_resolution {across[0]}/{across[1]}"
-        yield f"y_resolution {down[0]}/{down[1]}"
-    for tag in page.tags:
-        yield f"write_tag_buf {tag.code} {tag.kind} little {tag.data.hex() or '-'}"
-    yield "write_data " + words_of(page.samples)
-
-
-def file_by_jobs(pages: list[NewPage], big: bool) -> memoryview:
-    """Returns the bytes of a file of pages, which a list of jobs writes."""
-    room = sum(
-        page.samples.nbytes + AROUND_SAMPLES + sum(len(tag.data) for tag in page.tags)
-        for page in pages
+    tile_length, tile_width = layout.tile or (0, 0)
+    unit, across, down = page.resolution or NO_RESOLUTION
+    return PageToWrite(
+        color=COLORS[page.color],
+        width=width,
+        height=height,
+        rows_per_strip=layout.rowsperstrip or 0,
+        tile_width=tile_width,
+        tile_length=tile_length,
+        method=layout.method,
+        predictor=layout.predictor,
+        planar=_library.PLANAR if layout.planar else _library.CHUNKY,
+        resolution_unit=unit,
+        x_resolution=Fraction(*across),
+        y_resolution=Fraction(*down),
+        extra_samples=(c_uint16 * len(layout.extra))(*layout.extra),
+        extra_samples_len=len(layout.extra),
+        tags=(TagToWrite * len(page.tags))(*map(tag_to_write, page.tags)),
+        tags_len=len(page.tags),
+        samples=page.samples.ctypes.data,
+        samples_len=page.samples.nbytes,
     )
-    lines = (line for page in pages for line in lines_of(page))
-    try:
-        return file_of_jobs("\n".join(lines), big, room)
-    except JobsError as fault:
-        page = (fault.job - 1) // JOBS_OF_PAGE if fault.job else None
-        raise TiffError(fault.status, page) from fault
 
 
-def write_image_into(
-    size: int, image: Image, samples: NDArray[Any]
-) -> tuple[int, NDArray[numpy.uint8], int]:
-    """Writes a file into a new buffer. Returns the status, the buffer and the file's length."""
-    file, length = numpy.empty(size, numpy.uint8), c_size_t()
-    status = _library.WRITE_IMAGE(
-        byref(image), samples.ctypes.data, samples.nbytes, file.ctypes.data, size, byref(length)
-    )
-    return status, file, length.value
+class Written(NamedTuple):
+    """What a call returns that writes a file: where the file is, and where pages were refused."""
+
+    status: int
+    file: NDArray[numpy.uint8]
+    length: int
+    end: PagesEnd
 
 
-def file_of_image(page: NewPage, big: bool) -> memoryview:
-    """Returns the bytes of a file of one plain page."""
+def write_image_into(size: int, page: NewPage, version: int) -> Written:
+    """Writes a file of one plain page into a new buffer."""
     samples, (height, width) = page.samples, page.samples.shape[:2]
+    file, length = numpy.empty(size, numpy.uint8), c_size_t()
     image = Image(
         color=COLORS[page.color],
         width=width,
         height=height,
-        version=BIG if big else CLASSIC,
+        version=version,
         method=page.layout.method,
         predictor=page.layout.predictor,
     )
-    status, file, length = write_image_into(samples.nbytes + AROUND_SAMPLES, image, samples)
-    if status == Status.INSUFFICIENT_OUTPUT_BUFFER_SIZE:
-        status, file, length = write_image_into(length, image, samples)
-    _library.check(status)
-    return file[:length].data
+    status = _library.WRITE_IMAGE(
+        byref(image), samples.ctypes.data, samples.nbytes, file.ctypes.data, size, byref(length)
+    )
+    return Written(status, file, length.value, PagesEnd(page=1))
+
+
+def write_pages_into(size: int, pages: list[NewPage], version: int) -> Written:
+    """Writes a file of pages into a new buffer."""
+    given = (PageToWrite * len(pages))(*map(page_to_write, pages))
+    file, length, end = numpy.empty(size, numpy.uint8), c_size_t(), PagesEnd()
+    status = _library.WRITE_PAGES(
+        version, given, len(pages), file.ctypes.data, size, byref(length), byref(end)
+    )
+    return Written(status, file, length.value, end)
 
 
 def _write_pages(pages: list[NewPage], big: bool) -> memoryview:
-    """Returns the bytes of a file of pages."""
-    if len(pages) == 1 and pages[0].is_plain:
-        return file_of_image(pages[0], big)
-    return file_by_jobs(pages, big)
+    """Returns the bytes of a file of pages. One that is longer than its room takes two calls.
+
+    A page that is refused raises `PagesError`.
+    """
+    version, room = BIG if big else CLASSIC, sum(map(room_of, pages))
+
+    def write(size: int) -> Written:
+        if len(pages) == 1 and pages[0].is_plain:
+            return write_image_into(size, pages[0], version)
+        return write_pages_into(size, pages, version)
+
+    made = write(room)
+    if made.status == Status.INSUFFICIENT_OUTPUT_BUFFER_SIZE:
+        made = write(made.length)
+    if made.status:
+        page = made.end.page - 1 if made.end.page else None
+        raise PagesError(made.status, page, made.end.field)
+    return made.file[: made.length].data

@@ -10,7 +10,7 @@ from typing import Any, Union
 
 from ._enums import DATATYPE, RESUNIT, chosen
 from ._new_pages import NewTag
-from ._tags import FORMATS
+from ._tags import FORMATS, value_size
 
 ASCII, LONG = 2, 4
 SUBFILE_TYPE, DESCRIPTION, SOFTWARE, DATE_TIME = 254, 270, 305, 306
@@ -35,7 +35,8 @@ def text_tag(code: int, text: str | bytes) -> NewTag:
         data = text if isinstance(text, bytes) else text.encode("ascii")
     except UnicodeEncodeError:
         raise ValueError(f"tag {code}: a text is ASCII; other text is given as bytes") from None
-    return NewTag(code, ASCII, data.rstrip(b"\0") + b"\0")
+    data = data.rstrip(b"\0") + b"\0"
+    return NewTag(code, ASCII, len(data), data)
 
 
 def date_of(given: str | bool | dates.datetime) -> str:
@@ -77,10 +78,10 @@ def extra_tag(given: ExtraTag) -> NewTag:
         form = (FORMATS[kind] if kind != 7 else "B")[0]
         numbers = numbers_of(value, kind)
         data = struct.pack(f"<{len(numbers)}{form}", *numbers)
-    size = struct.calcsize("=" + FORMATS[kind])
-    if len(data) != size * (int(count) or len(data) // size):
-        raise ValueError(f"extratags: the tag {code} has {len(data) // size} values, not {count}")
-    return NewTag(code, kind, data)
+    held, rest = divmod(len(data), value_size(kind))
+    if rest or int(count) not in (0, held):
+        raise ValueError(f"extratags: the tag {code} has {held} values, not {count}")
+    return NewTag(code, kind, held, data)
 
 
 def fraction_of(given: Fractional) -> tuple[int, int]:

@@ -11,7 +11,7 @@ from typing import TYPE_CHECKING, Any, Union
 
 from . import _directory, _library
 from ._enums import DATATYPE, ENUMS, member
-from ._library import Field, Status, TiffError, UnsupportedError
+from ._library import Field, Status, TagEntry, TiffError, UnsupportedError
 
 if TYPE_CHECKING:
     from _typeshed import ReadableBuffer
@@ -217,9 +217,17 @@ class Tags:
         return "<Tags " + ", ".join(NAMES.get(code, str(code)) for code in self.keys()) + ">"
 
     @cached_property
-    def _codes(self) -> tuple[int, ...]:
-        """The numbers of the tags of the directory, in the order of the file."""
-        return _directory.codes(self._file, _library.offset_of(self._page), self._order)
+    def _entries(self) -> list[TagEntry]:
+        """The entries of the directory, by the numbers of their tags."""
+        with _library.named(self._index):
+            return _library.list_tags(self._file, self._page)
+
+    @cached_property
+    def _twice(self) -> set[int]:
+        """The numbers of the tags that the directory has twice."""
+        offset = _library.offset_of(self._page)
+        codes = Counter(_directory.codes(self._file, offset, self._order))
+        return {code for code, count in codes.items() if count > 1}
 
     def _field(self, key: object) -> Field | None:
         """Returns the type and the count of a tag, or None if the page doesn't have the tag."""
@@ -237,7 +245,7 @@ class Tags:
     def _judge(self, code: int) -> None:
         """Refuses a tag whose value here would be another than tifffile's."""
         cause = None
-        if Counter(self._codes)[code] > 1:
+        if code in self._twice:
             cause = f"the directory has the tag {code} twice, of which the library reads the last"
         elif code in MEANT:
             cause = f"what the bytes of the tag {code} mean isn't decoded"
@@ -289,20 +297,23 @@ class Tags:
         return iter(self.values())
 
     def __len__(self) -> int:
-        return len(self._codes)
+        return len(self._entries)
 
     def keys(self) -> list[int]:
-        """Returns the numbers of the tags, in the order of the file."""
-        return list(dict.fromkeys(self._codes))
+        """Returns the numbers of the tags, in ascending order.
+
+        A tag that the directory has twice is there once, and one of an unknown type isn't.
+        """
+        return [entry.number for entry in self._entries]
 
     def values(self) -> list[Tag]:
-        """Returns the tags in the order of the file, without those of a type that is none."""
+        """Returns the tags, in the order of `keys`."""
         return [tag for _, tag in self.items()]
 
     def items(self) -> list[tuple[int, Tag]]:
-        """Returns the tags in the order of the file, each with its number."""
-        tags = ((code, self.get(code)) for code in self._codes)
-        return [(code, tag) for code, tag in tags if tag is not None]
+        """Returns the tags, each with its number, in the order of `keys`."""
+        fields = ((entry.number, Field(entry.type, entry.count)) for entry in self._entries)
+        return [(code, Tag(self, code, field)) for code, field in fields]
 
     def _number(self, key: int | str) -> int:
         """Returns the number of a tag; raises KeyError if it is no tag."""

@@ -179,9 +179,6 @@ def color_type_of(
 ) -> tuple[tuple[str, str], tuple[int, ...]]:
     """Returns the color type of pixels of so many samples, and the kinds of the extra ones."""
     extra = extra_of(count, color, given)
-    if color == "RGB" and len(extra) == 1 and given.extrasamples is None:
-        # The library's own RGBA, which has no tag ExtraSamples, is written much faster.
-        color, extra = "RGBA", ()
     if (color, number) not in COLORS:
         what = f"{color} samples of type {numpy.dtype(number)}"
         raise UnsupportedError(what, Status.UNSUPPORTED_COLOR_TYPE)

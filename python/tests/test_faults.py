@@ -115,6 +115,29 @@ def test_a_refused_page_stays_in_the_list() -> None:
     assert status_of(tif[1].asarray) is Status.INVALID_DIMENSIONS
 
 
+def test_a_first_page_that_is_refused() -> None:
+    """The other pages are read, and the tags of the first one."""
+    file = bytearray(two_pages())
+    width = tifffile.TiffFile(io.BytesIO(bytes(file))).pages[0].tags["ImageWidth"]
+    file[width.offset + 8 : width.offset + 12] = bytes(4)
+    tif = mt.TiffFile(file)
+    assert [page.status for page in tif] == [Status.INVALID_DIMENSIONS, Status.DONE]
+    assert tif.end is Status.DONE
+    numpy.testing.assert_array_equal(tif[1].asarray(), samples((3, 4), "u1"))
+    numpy.testing.assert_array_equal(mt.imread(file, key=1), samples((3, 4), "u1"))
+    assert tif[0].tags.numbers("ImageWidth") == (0,)
+    for call in (tif.asarray, tif[0].asarray):
+        with pytest.raises(mt.TiffError) as fault:
+            call()
+        assert (fault.value.status, fault.value.page) == (Status.INVALID_DIMENSIONS, 0)
+
+
+def test_a_single_page_that_is_refused() -> None:
+    tif = mt.TiffFile(gray_file(t256=(3, 0)))
+    assert [page.status for page in tif] == [Status.INVALID_DIMENSIONS]
+    assert tif.byteorder == "<" and not tif.is_bigtiff
+
+
 def ended_by(link: int) -> bytearray:
     """Returns a file of two pages of which the second is linked to an offset."""
     file = bytearray(two_pages())
@@ -161,6 +184,8 @@ FAULTS = [
     mt.JobsError(Status.INVALID_INPUT, 3, 0),
     mt.JobsError(Status.INVALID_DIMENSIONS, 0, 2),
     mt.UnsupportedError("a palette", Status.INVALID_DATA, 3),
+    mt.PagesError(Status.MISMATCHED_ENTRY_LENGTH, 1, mt.PageField.TAGS),
+    mt.PagesError(Status.SIGNATURE_INVALID, None, mt.PageField.NONE),
 ]
 
 

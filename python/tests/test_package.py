@@ -1,6 +1,8 @@
 """The package as a whole: its names, its version, its types, its wheel."""
 from __future__ import annotations
 
+import ctypes
+import dataclasses
 import os
 import re
 import shutil
@@ -12,9 +14,11 @@ import pytest
 import tifffile
 
 import mangohatch_tiff as mt
+from mangohatch_tiff import _library
 
 FOLDER = Path(__file__).resolve().parents[1]
 EXAMPLES = FOLDER.parent / "examples" / "python"
+HEADER = FOLDER.parent / "crates" / "tiff_c" / "include" / "mangohatch_tiff.h"
 
 
 def test_version() -> None:
@@ -31,8 +35,9 @@ def test_names_are_in_the_table() -> None:
     """Each name that tifffile has too, and each of our own, is told in the README."""
     told = (FOLDER / "README.md").read_text()
     names = set(mt.__all__)
-    for kind in (mt.TiffFile, mt.TiffPage, mt.Tag, mt.Tags):
+    for kind in (mt.TiffFile, mt.TiffPage, mt.Tag, mt.Tags, mt.Directory):
         names |= public(kind)
+    names |= {field.name for field in dataclasses.fields(mt.Directory)} | set(mt.Found.__members__)
     lacking = {name for name in names if not re.search(rf"\b{name}\b", told)}
     assert not lacking
 
@@ -52,6 +57,48 @@ def test_reprs() -> None:
     tif = mt.TiffFile(file)
     assert repr(tif) == "<TiffFile <class 'bytes'>: 1 pages>"
     assert re.fullmatch(r"<TiffPage 0 @\d+ \(1, 3\) int64>", repr(tif.pages[0]))
+
+
+STRUCTS = {
+    "tiff_sides": "Sides",
+    "tiff_color": "Color",
+    "tiff_samples": "Samples",
+    "tiff_chunks": "Chunks",
+    "tiff_listed_page": "ListedPage",
+    "tiff_listed_directory": "ListedDirectory",
+    "tiff_field": "Field",
+    "tiff_tag_entry": "TagEntry",
+    "tiff_image": "Image",
+    "tiff_jobs_end": "JobsEnd",
+    "tiff_fraction": "Fraction",
+    "tiff_new_tag": "TagToWrite",
+    "tiff_new_page": "PageToWrite",
+    "tiff_pages_end": "PagesEnd",
+}
+ENUMERATIONS = {"TIFF_": ("Status", "Found", "ColorKind"), "TIFF_FIELD_": ("PageField",)}
+
+
+@pytest.mark.skipif(not shutil.which("cc"), reason="cc is missing")
+def test_declarations_are_those_of_the_header(tmp_path: Path) -> None:
+    """The structs have the members of the header's at the same places, and enums its numbers."""
+    facts = {}
+    for name, ours in STRUCTS.items():
+        struct = getattr(_library, ours)
+        facts[f"sizeof(struct {name})"] = ctypes.sizeof(struct)
+        for field, _ in struct._fields_:
+            place = getattr(struct, field)
+            facts[f"offsetof(struct {name}, {field})"] = place.offset
+            facts[f"sizeof(((struct {name} *)0)->{field})"] = place.size
+    for prefix, kinds in ENUMERATIONS.items():
+        for kind in kinds:
+            facts |= {prefix + item.name: item.value for item in getattr(_library, kind)}
+    lines = [f'_Static_assert({fact} == {value}, "{fact}");' for fact, value in facts.items()]
+    program = tmp_path / "declarations.c"
+    program.write_text("\n".join(["#include <mangohatch_tiff.h>", *lines, ""]))
+    made = subprocess.run(
+        ["cc", "-fsyntax-only", f"-I{HEADER.parent}", program], capture_output=True, text=True
+    )
+    assert made.returncode == 0, made.stderr
 
 
 @pytest.mark.skipif(not shutil.which("mypy"), reason="mypy is missing")

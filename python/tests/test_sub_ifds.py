@@ -38,6 +38,15 @@ def test_no_page() -> None:
         assert caught.value.status is Status.UNEXPECTED_EOF
 
 
+def test_tags_where_no_directory_is() -> None:
+    file = gray_file()
+    tags = TiffFile(file).tags_at(len(file))
+    for call in (len, list, repr):
+        with pytest.raises(TiffError) as caught:
+            call(tags)
+        assert caught.value.status is Status.UNEXPECTED_EOF
+
+
 def test_tags_of_no_page() -> None:
     """The tags of a directory are read, whether it is a page or not."""
     first = gray_file()
@@ -50,3 +59,4 @@ def test_tags_of_no_page() -> None:
     tags = file.tags_at(len(first))
     assert tags[262].value == 32803 and tags.numbers("ImageWidth") == (4,)
     assert 65099 not in tags
+    assert tags.keys() == [256, 257, 258, 259, 262, 273, 277, 278, 279] and len(tags) == 9

@@ -169,6 +169,44 @@ def test_a_tag_that_is_there_twice() -> None:
     assert page.is_shaped
 
 
+def test_a_tag_that_is_there_twice_is_listed_once() -> None:
+    made = io.BytesIO()
+    tifffile.imwrite(made, samples((3, 4), "u1"), description="of the user")
+    tags = mt.TiffFile(made.getvalue()).pages[0].tags
+    assert tags.keys().count(270) == 1
+    (tag,) = (tag for tag in tags if tag.code == 270)
+    assert tags.data(270).rstrip(b"\0") == b'{"shape": [3, 4]}'
+    assert tag.count == tags[270].count
+    assert len(tags) == len(tags.keys()) == len(list(tags))
+
+
+def test_all_tags_of_a_page() -> None:
+    """Tags are listed by their numbers, those without a name too, but none of an unknown type."""
+    file = gray_file(t65000=(3, 7), t65001=(99, 1), t65002=(4, 8))
+    # The entries of 65000 and 65002 change their places.
+    first, last = (file.index(tag.to_bytes(2, "little")) for tag in (65000, 65002))
+    turned = bytearray(file)
+    turned[first : first + 12], turned[last : last + 12] = (
+        file[last : last + 12], file[first : first + 12]
+    )
+    for given in (file, turned):
+        tags = mt.TiffFile(given).pages[0].tags
+        assert tags.keys() == [256, 257, 258, 259, 262, 273, 277, 278, 279, 65000, 65002]
+        assert [tag.code for tag in tags] == [code for code, _ in tags.items()] == tags.keys()
+        assert len(tags) == 11
+        assert [tag.value for tag in tags][-2:] == [7, 8]
+        assert [tag.name for tag in tags][-3:] == ["StripByteCounts", "65000", "65002"]
+        assert 65001 not in tags
+
+
+@pytest.mark.parametrize("order", "<>")
+def test_many_tags(order: str) -> None:
+    fields = {f"t{code}": (3, code % 1000) for code in range(60000, 60400)}
+    tags = mt.TiffFile(gray_file(order=order, **fields)).pages[0].tags
+    assert len(tags) == 409
+    assert {tag.code: tag.value for tag in tags}[60399] == 399
+
+
 def test_tags_that_tifffile_decodes_further() -> None:
     tags = mt.TiffFile(gray_file(t34665=(4, 8))).pages[0].tags
     with pytest.raises(mt.UnsupportedError, match="34665"):

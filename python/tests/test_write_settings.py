@@ -82,6 +82,22 @@ def test_extra_samples(options: dict, extra: tuple) -> None:
     assert page.extrasamples == tuple(wanted[kind] for kind in extra)
 
 
+@pytest.mark.parametrize("dtype", ["u1", "u2", "f4"])
+@pytest.mark.parametrize("planarconfig", ["contig", "separate"])
+@pytest.mark.parametrize("options", [{}, {"tile": (16, 16)}])
+def test_a_fourth_sample_of_rgb(dtype: str, planarconfig: str, options: dict) -> None:
+    """It is alpha, and the tag ExtraSamples says so, as in tifffile's files."""
+    image = samples((4, 20, 30) if planarconfig == "separate" else (20, 30, 4), dtype)
+    options = {"photometric": "rgb", "planarconfig": planarconfig, "metadata": None, **options}
+    made = io.BytesIO()
+    tifffile.imwrite(made, image, **options)
+    theirs = tifffile.TiffFile(io.BytesIO(made.getvalue())).pages[0]
+    page = assert_same(image, **options)
+    assert page.extrasamples == theirs.extrasamples == (2,)
+    ours = mt.TiffFile(mt.imwrite(None, image, **options)).pages[0]
+    assert ours.extrasamples == (2,) and ours.shape == image.shape
+
+
 @pytest.mark.parametrize("count", [2, 3, 5])
 @pytest.mark.parametrize("planarconfig", ["contig", "separate"])
 def test_several_samples_of_gray(count: int, planarconfig: str) -> None:

@@ -1,0 +1,141 @@
+"""Pages as they are passed to the library: the same files as those of jobs, and refused pages."""
+from __future__ import annotations
+
+from dataclasses import replace
+from pathlib import Path
+
+import numpy
+import pytest
+from conftest import samples
+
+import mangohatch_tiff as mt
+from mangohatch_tiff import PageField, Status, _new_pages
+from mangohatch_tiff._new_pages import Layout, NewPage, NewTag
+
+METHODS = {1: "uncompressed", 32773: "packbits"}
+
+
+def page_of(dtype: str, count: int = 1, color: str = "Gray", **layout: object) -> NewPage:
+    """Returns a page of 37 rows, 53 columns and so many samples."""
+    image = numpy.ascontiguousarray(samples((37, 53, count), dtype), f"<{dtype}")
+    return NewPage((color, dtype), image, Layout(**layout))
+
+
+def words_of(page: NewPage) -> str:
+    """Returns the samples of a page as words of jobs, floating-point ones by their bits."""
+    image = page.samples
+    if image.dtype.kind != "f":
+        return " ".join(map(str, image.ravel().tolist()))
+    return " ".join(map(hex, image.view(f"<u{image.dtype.itemsize}").ravel().tolist()))
+
+
+def jobs_of(page: NewPage) -> list[str]:
+    """Returns the jobs that write a page, as the header tells them at tiff_write_pages."""
+    layout, (kind, number) = page.layout, page.color
+    sign, ending = {"u": ("", ""), "i": ("I", ""), "f": ("", "Float")}[number[0]]
+    jobs = [f"predictor {layout.predictor}", f"compression {METHODS[layout.method]}"]
+    jobs.append(f"image {kind}{sign}{8 * int(number[1])}{ending} 53 37")
+    if layout.extra:
+        jobs.append("extra_samples " + " ".join(map(str, layout.extra)))
+    if layout.tile:
+        jobs.append(f"tiles {layout.tile[1]} {layout.tile[0]}")
+    if layout.rowsperstrip:
+        jobs.append(f"rows_per_strip {layout.rowsperstrip}")
+    if layout.planar:
+        jobs.append("planar")
+    if page.resolution:
+        unit, (a, b), (c, d) = page.resolution
+        jobs.append(f"resolution {unit} {a}/{b} {c}/{d}")
+    for tag in page.tags:
+        jobs.append(f"write_tag_buf {tag.code} {tag.kind} little {tag.data.hex() or '-'}")
+    return [*jobs, "write_data " + words_of(page)]
+
+
+TAGS = (
+    NewTag(270, 2, 7, b"a scan\0"),
+    NewTag(33550, 12, 3, numpy.array([0.5, 0.25, 0], "<f8").tobytes()),
+    NewTag(65000, 3, 2, b"\1\2\3\4"),
+    NewTag(65001, 7, 3, b"\0a\0"),
+    NewTag(65002, 5, 1, b"\1\0\0\0\3\0\0\0"),
+)
+PAGES = {
+    "one tag": replace(page_of("u1"), tags=TAGS[2:3]),
+    "tags": replace(page_of("i2"), tags=TAGS),
+    "a resolution": replace(page_of("f4"), resolution=(2, (300, 1), (301, 2))),
+    "strips": page_of("u4", rowsperstrip=5),
+    "tiles": page_of("u8", tile=(16, 32)),
+    "packed tiles": page_of("i1", tile=(16, 32), method=32773),
+    "differences": page_of("u2", 3, "RGB", predictor=2, rowsperstrip=7, method=32773),
+    "planes": page_of("u2", 3, "RGB", planar=True),
+    "planes in tiles": page_of("f8", 3, "RGB", planar=True, tile=(16, 16)),
+    "extra samples": page_of("u1", 5, "RGB", extra=(2, 0)),
+    "gray samples": page_of("u1", 3, extra=(0, 0), planar=True),
+    "CMYK": replace(page_of("u1", 4, "CMYK", rowsperstrip=9), tags=TAGS),
+}
+
+
+def assert_same(pages: list[NewPage], big: bool) -> None:
+    """Compares the file of pages with that of their jobs."""
+    jobs = "\n".join(job for page in pages for job in jobs_of(page))
+    assert bytes(_new_pages._write_pages(pages, big)) == mt.write_jobs(None, jobs, big=big)
+
+
+@pytest.mark.parametrize("name", PAGES)
+@pytest.mark.parametrize("big", [False, True])
+def test_the_file_is_that_of_jobs(name: str, big: bool) -> None:
+    assert_same([PAGES[name]], big)
+
+
+@pytest.mark.parametrize("big", [False, True])
+def test_all_pages_in_one_file(big: bool) -> None:
+    assert_same(list(PAGES.values()), big)
+
+
+def test_many_pages() -> None:
+    stack = samples((1000, 5, 7), "u2")
+    stack[:, 0, 0] = numpy.arange(1000)
+    file = mt.imwrite(None, stack, photometric="minisblack", resolution=(300, 300))
+    tif = mt.TiffFile(file)
+    assert len(tif) == 1000
+    numpy.testing.assert_array_equal(tif.asarray(), stack)
+    assert tif[999].resolution == (300, 300)
+
+
+GOOD = page_of("u1", rowsperstrip=5)
+EMPTY = replace(GOOD, samples=numpy.zeros((0, 53, 1), "u1"))
+REFUSED = [
+    (replace(GOOD, layout=Layout(method=5)), "METHOD", "UNSUPPORTED_COMPRESSION_METHOD"),
+    (replace(GOOD, layout=Layout(predictor=9)), "PREDICTOR", "UNKNOWN_PREDICTOR"),
+    (replace(GOOD, resolution=(9, (1, 1), (1, 1))), "RESOLUTION", "INVALID_INPUT"),
+    (replace(GOOD, layout=Layout(extra=(9,))), "EXTRA_SAMPLES", "INVALID_INPUT"),
+    (replace(GOOD, tags=(NewTag(65000, 99, 1, b"a"),)), "TAGS", "UNSUPPORTED_DATA_TYPE"),
+    (replace(GOOD, tags=(NewTag(65000, 3, 1, b"a"),)), "TAGS", "MISMATCHED_ENTRY_LENGTH"),
+    (replace(GOOD, color=("Gray", "u2")), "SAMPLES", "MISMATCHED_ENTRY_LENGTH"),
+    (replace(GOOD, layout=Layout(tile=(10, 16))), "LAYOUT", "INVALID_INPUT"),
+    (replace(GOOD, layout=Layout(tile=(16, 16), rowsperstrip=5)), "LAYOUT", "INVALID_INPUT"),
+    (EMPTY, "NONE", "INVALID_DIMENSIONS"),
+    (replace(GOOD, layout=Layout(extra=(0,))), "NONE", "INVALID_DATA"),
+    (page_of("f4", predictor=2), "NONE", "PREDICTOR_INCOMPATIBLE"),
+]
+
+
+@pytest.mark.parametrize(("page", "field", "status"), REFUSED)
+@pytest.mark.parametrize("before", [0, 2])
+def test_refused(page: NewPage, field: str, status: str, before: int) -> None:
+    """The error names the page and the field, also behind pages that are good."""
+    with pytest.raises(mt.PagesError) as fault:
+        _new_pages._write_pages([*[GOOD] * before, page, GOOD], False)
+    assert (fault.value.page, fault.value.field) == (before, PageField[field])
+    assert fault.value.status is Status[status]
+    assert str(fault.value).startswith(f"page {before}: ")
+    assert (f"{field.lower()}: " in str(fault.value)) == (field != "NONE")
+
+
+def test_nothing_is_written(tmp_path: Path) -> None:
+    path = tmp_path / "page.tif"
+    for options in ({}, {"description": "no rows"}):
+        with pytest.raises(mt.PagesError) as fault:
+            mt.imwrite(path, numpy.zeros((0, 5), "u1"), **options)
+        assert (fault.value.page, fault.value.field) == (0, PageField.NONE)
+        assert fault.value.status is Status.INVALID_DIMENSIONS
+        assert not path.exists()
