@@ -311,7 +311,8 @@ tiff_status tiff_read_chunk_bytes(const uint8_t *file, size_t len, size_t page, 
 /* Reads COUNT chunks from the number FIRST on into BUFFER, one behind the other, each as
    tiff_read_chunk_bytes reads it. The bytes of BUFFER behind them stay. The call opens the file
    once. Errors: FIRST + COUNT of 2^32 or more, TIFF_INVALID_CHUNK_INDEX; then, chunk by chunk,
-   those of tiff_read_chunk_bytes, for the bytes of BUFFER that are left. */
+   samples without a number type, as complex ones, TIFF_UNSUPPORTED_SAMPLE_FORMAT, and those of
+   tiff_read_chunk_bytes, for the bytes of BUFFER that are left. */
 tiff_status tiff_read_chunks(const uint8_t *file, size_t len, size_t page, uint32_t first, uint32_t count, uint8_t *buffer, size_t size);
 
 /* Reads the coding unit with the number UNIT, counted from 0: a chunk of the first plane and the
