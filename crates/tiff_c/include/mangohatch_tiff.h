@@ -297,7 +297,8 @@ struct tiff_listed_directory {
    chain. A directory is listed once, nearest to the chain and then first in this order; elsewhere
    it is TIFF_DIRECTORY_MET. The deepest that is read has DEPTH 8. The elements of DIRECTORIES
    behind the list stay. *COUNT is how long the list is, even if ROOM is less; with a ROOM of 0 the
-   call just counts. It returns TIFF_DONE if the chain ends by a link of 0, else the error by which
+   call just counts. It allocates for the whole list in each case. The fields of a forged directory
+   can share the same values, and the list is then as long as their product. It returns TIFF_DONE if the chain ends by a link of 0, else the error by which
    the chain ends. If it lists nothing, *COUNT is 0 and DIRECTORIES stays; it then returns the error
    of the header, that of a first directory that can't be read, or TIFF_OUT_OF_MEMORY. */
 tiff_status tiff_list_directories(const uint8_t *file, size_t len, struct tiff_listed_directory *directories, size_t room, size_t *count);
