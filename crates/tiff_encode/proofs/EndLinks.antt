@@ -77,7 +77,7 @@ bind_links : {A : Type 0} (call : WriteCall A) (rest : A → WriteCall Offsets) 
 bind_links call rest file m a l = joined_links rest file m (call file).answer (call file).ops (call file).next a l
 
 -- the last link of the chain is that of a chained directory, or it stays the same
-chain_among : (chained : Bool) (file : FileState) (offsets : Offsets) (P : ℕ → Type 0) → P offsets.link → P file.chain
+pub chain_among : (chained : Bool) (file : FileState) (offsets : Offsets) (P : ℕ → Type 0) → P offsets.link → P file.chain
     → P (chain_after file chained offsets).chain
 chain_among true file offsets P own kept = own
 chain_among false file offsets P own kept = kept

@@ -41,7 +41,7 @@ put_over file q over more xs fit short =
     ∙ ap (λ n. (T ++ ((xs ++ left) ++ drop (q + n) file)) ++ more) (sym size)
 
 -- a file continues itself
-begun : (kind : FileKind) (q : ℕ) (file : List ℕ) → q + offset_len kind ≤ length file → Continues kind q file file
+pub begun : (kind : FileKind) (q : ℕ) (file : List ℕ) → q + offset_len kind ≤ length file → Continues kind q file file
 begun kind q file room =
     let k : ℕ = offset_len kind in
     let over : List ℕ = take k (drop q file) in

@@ -36,6 +36,7 @@ pub mod Data
 pub mod EndLinks
 pub mod Running
 pub mod Samples
+pub mod JobSamples
 pub mod Stepped
 pub mod Appending
 pub mod GoingOn

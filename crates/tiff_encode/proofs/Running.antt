@@ -5,3 +5,4 @@ pub mod Kept
 pub mod KeptImages
 pub mod Steps
 pub mod All
+pub mod Behind

@@ -248,9 +248,9 @@ ImageStepped old i istep.NextStripSampleCount r new t =
 ImageStepped old i istep.NextChunkSampleCount r new t =
     (r ≡ Ok (reply.Number (next_chunk_sample_count i.image))) × ((new ≡ old) × Stays i t)
 ImageStepped old i (istep.WriteStrip samples) r new t =
-    StripStepIfFound i (cut_to i.image.size samples.items) r old new t
+    StripStepIfFound i (cut_to i.image.size samples) r old new t
 ImageStepped old i (istep.WriteChunk samples) r new t =
-    ChunkStepIfFound i (cut_to i.image.size samples.items) r old new t
+    ChunkStepIfFound i (cut_to i.image.size samples) r old new t
 ImageStepped old i (istep.Resolution u value) r new t = (t.samples ≡ i.samples)
     × Resolves i.image u (value.n, value.d) r old new t.image
 ImageStepped old i (istep.ResolutionUnit u) r new t =
@@ -344,7 +344,7 @@ WritesDataIfFound i samples r old new offset =
 abbrev pub ImageEnds : FileAndModel → OpenImage → ImageEnd → Result EndReply TiffError
     → FileAndModel → Option Offsets → Type 0
 ImageEnds old i (iend.WriteData samples) r new offset =
-    WritesDataIfFound i (cut_to i.size samples.items) r old new offset
+    WritesDataIfFound i (cut_to i.size samples) r old new offset
 ImageEnds old i iend.Finish r new offset =
     FinishesSilently (calls.finish_image i old.file) r old new offset
 ImageEnds old i iend.Discard r new offset =
@@ -467,7 +467,7 @@ are_apart _ _ = true
 -- `write_data` writes those that are left
 abbrev pub ended_samples : Drawn → ImageEnd → Option (List (List ℕ))
 ended_samples i (iend.WriteData samples) =
-    Some (i.samples ++ parts_left i.image (cut_to i.image.size samples.items))
+    Some (i.samples ++ parts_left i.image (cut_to i.image.size samples))
 ended_samples i _ = if is_left i.image then None else Some i.samples
 
 -- the images that an end adds: the image, if it is finished with all its chunks and the steps

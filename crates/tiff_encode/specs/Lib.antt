@@ -19,6 +19,7 @@ pub mod Held
 pub mod Open
 pub mod Storing
 pub mod JobValues
+pub mod JobSamples
 pub mod Jobs
 pub mod RunLaws
 pub mod CallLaws
@@ -38,3 +39,4 @@ pub mod AppendLaws
 pub mod Appending
 pub mod LongerChain
 pub mod FormerPages
+pub mod JobsBehind

@@ -3,6 +3,7 @@ use Rattle.std.specs.Prelude.{◌≡◌, ℕ, ◌+◌, ◌-◌, ◌≤◌, Bool,
 use Rattle.std.specs.declared.vec.Vec.{Vec}
 use Rattle.std.specs.declared.alloc.Global.{Global}
 use Rattle.tiff_base.specs.declared.error.TiffError.{TiffError}
+use Rattle.tiff_base.specs.declared.error.TiffError.TheVariants.{OutOfMemory}
 use Rattle.tiff_encode.specs.declared.encoder.script.DirectoryJob.{DirectoryJob}
 use Rattle.tiff_encode.specs.declared.encoder.script.ImageJob.{ImageJob}
 use Rattle.tiff_encode.specs.declared.encoder.script.Job.{Job}
@@ -122,6 +123,13 @@ JobsMove jobs earlier all old new =
     × ((known : Bool) (run : Run) → run.standing.file ≡ old → run.offsets ≡ [] → IsSound known run
     → (after : Run) × ((after.standing.file ≡ new) × (JobsRun run jobs replies after
     × (IsSound known after × (after.offsets ≡ offsets_answered replies))))))
+
+-- `run_jobs_in`: jobs are run one after another; or there is no memory for their replies, and no
+-- job is run.
+abbrev pub RunsJobsIn : List Job → List JobReply → List JobReply → FileState → FileState
+    → Result (Unit {0}) TiffError → Type 0
+RunsJobsIn jobs earlier all old new (Ok x) = JobsMove jobs earlier all old new
+RunsJobsIn jobs earlier all old new (Err e) = (e ≡ OutOfMemory) × ((all ≡ earlier) × (new ≡ old))
 
 -- an empty list with room for `count` items
 abbrev pub IsEmptyWithRoom : {A : Type 0} → ℕ → Vec A Global → Type 0

@@ -2,6 +2,7 @@
 
 mod directory;
 mod image;
+mod job_samples;
 mod jobs;
 mod kind;
 pub mod laws;

@@ -6,7 +6,7 @@ use crate::words::{ParseError, first_word, pair_of, read};
 use std::alloc::{AllocError, Global};
 use std::mem;
 use tiff_encode::encoder::script::{
-    DirectoryEnd, DirectoryJob, DirectoryStep, ImageEnd, ImageJob, ImageStep, Job,
+    DirectoryEnd, DirectoryJob, DirectoryStep, ImageEnd, ImageJob, ImageStep, Job, JobSamples,
 };
 use tiff_value::encoder::colortype::ColorTypeName;
 
@@ -33,10 +33,10 @@ struct BegunImage {
 #[derive(Drop)]
 struct JobList {
     alloc: Global,
-    jobs: Vec<Job>,
+    jobs: Vec<Job<'static>>,
     begun: Option<Begun>,
     directory_steps: Vec<DirectoryStep>,
-    image_steps: Vec<ImageStep>,
+    image_steps: Vec<ImageStep<'static>>,
 }
 
 // The beginning of a directory, whose parent may stand behind its name.
@@ -62,7 +62,7 @@ fn image_begun(words: &str) -> Result<Begun, ParseError> {
 }
 
 // How samples are written after a step of an image.
-fn samples_after(samples: SampleWords, step: &ImageStep) -> SampleWords {
+fn samples_after(samples: SampleWords, step: &ImageStep<'_>) -> SampleWords {
     match step {
         ImageStep::Tiles(width, height) => samples.with_tiles(*width, *height),
         ImageStep::ExtraSamples(extra) => samples.with_extra_samples(extra.len()),
@@ -156,7 +156,7 @@ impl JobList {
     }
 
     // Ends an image, and puts its job behind the others.
-    fn end_image(&mut self, image: BegunImage, end: ImageEnd) -> Result<(), ParseError> {
+    fn end_image(&mut self, image: BegunImage, end: ImageEnd<'static>) -> Result<(), ParseError> {
         self.begun = None;
         let job = ImageJob {
             color: image.color,
@@ -169,7 +169,11 @@ impl JobList {
     }
 
     // Puts a step of an image behind the others.
-    fn add_image_step(&mut self, image: BegunImage, step: ImageStep) -> Result<(), ParseError> {
+    fn add_image_step(
+        &mut self,
+        image: BegunImage,
+        step: ImageStep<'static>,
+    ) -> Result<(), ParseError> {
         self.begun = Some(Begun::Image(BegunImage {
             samples: samples_after(image.samples, &step),
             ..image
@@ -186,14 +190,18 @@ impl JobList {
     }
 
     // The end of an image that a line stands for, if it is one.
-    fn image_end(&self, samples: SampleWords, line: &str) -> Result<Option<ImageEnd>, ParseError> {
+    fn image_end(
+        &self,
+        samples: SampleWords,
+        line: &str,
+    ) -> Result<Option<ImageEnd<'static>>, ParseError> {
         let (name, words) = first_word(line);
         match (name, words) {
             ("finish", "") => Ok(Some(ImageEnd::Finish)),
             ("discard", "") => Ok(Some(ImageEnd::Discard)),
             ("write_data", _) => {
-                let samples = samples.samples_of(self.alloc, words)?;
-                Ok(Some(ImageEnd::WriteData(samples)))
+                let numbers = samples.samples_of(self.alloc, words)?;
+                Ok(Some(ImageEnd::WriteData(JobSamples::from_numbers(numbers))))
             }
             _ => Ok(None),
         }
@@ -235,7 +243,7 @@ impl JobList {
     }
 
     // All jobs, if none is left open.
-    fn all(self) -> Option<Vec<Job>> {
+    fn all(self) -> Option<Vec<Job<'static>>> {
         match self.begun {
             None => Some(self.jobs),
             Some(_) => None,
@@ -246,7 +254,7 @@ impl JobList {
 /// The jobs that the lines of a text list; or the number, from 1, of the first line that is no job
 /// and no step of one. A text that ends inside of a job is refused at the number of the line behind
 /// its last one. Empty lines and lines that begin with `#` are ignored.
-pub fn jobs_of(alloc: Global, text: &str) -> Result<Result<Vec<Job>, usize>, AllocError> {
+pub fn jobs_of(alloc: Global, text: &str) -> Result<Result<Vec<Job<'static>>, usize>, AllocError> {
     let mut list = JobList::new(alloc);
     let mut number = 1usize;
     for line in text.lines() {

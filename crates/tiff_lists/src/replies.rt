@@ -116,7 +116,7 @@ pub fn lines_of_calls<R: Source>(
 pub fn run_told<W: Sink, K: TiffKind>(
     alloc: Global,
     sink: W,
-    jobs: &[Job],
+    jobs: &[Job<'_>],
 ) -> TiffResult<(W, String)>
     ensures { LinesOfJobs W.told W.failures W.fault K.kind jobs.now sink result }
 {

@@ -4,7 +4,7 @@ use crate::samples::SampleWords;
 use crate::values::{buffer_of, directory_of, tagged, typed_bytes, value_of};
 use crate::words::{ParseError, first_word, list_of, pair_of, read};
 use std::alloc::Global;
-use tiff_encode::encoder::script::{DirectoryStep, ImageStep};
+use tiff_encode::encoder::script::{DirectoryStep, ImageStep, JobSamples};
 
 /// The step of a directory that a name and the words behind it stand for. Words that aren't so:
 /// `Form`.
@@ -36,7 +36,7 @@ pub fn directory_step_of(
 }
 
 // The step of an image, of those that allocate nothing.
-fn setting_step(name: &str, words: &str) -> Result<ImageStep, ParseError> {
+fn setting_step(name: &str, words: &str) -> Result<ImageStep<'static>, ParseError> {
     match name {
         "tiles" => {
             let (width, height) = pair_of(words)?;
@@ -55,7 +55,7 @@ fn setting_step(name: &str, words: &str) -> Result<ImageStep, ParseError> {
 }
 
 // The step of an image that is a name alone.
-fn plain_step(name: &str) -> Option<ImageStep> {
+fn plain_step(name: &str) -> Option<ImageStep<'static>> {
     match name {
         "planar" => Some(ImageStep::Planar),
         "next_strip_sample_count" => Some(ImageStep::NextStripSampleCount),
@@ -65,7 +65,7 @@ fn plain_step(name: &str) -> Option<ImageStep> {
 }
 
 // The step of an image that is a step of its directory.
-fn inner_step(alloc: Global, name: &str, words: &str) -> Result<ImageStep, ParseError> {
+fn inner_step(alloc: Global, name: &str, words: &str) -> Result<ImageStep<'static>, ParseError> {
     let name = match name {
         "append_data" => "write_data",
         _ => name,
@@ -80,10 +80,16 @@ pub fn image_step_of(
     samples: SampleWords,
     name: &str,
     words: &str,
-) -> Result<ImageStep, ParseError> {
+) -> Result<ImageStep<'static>, ParseError> {
     match name {
-        "write_strip" => Ok(ImageStep::WriteStrip(samples.samples_of(alloc, words)?)),
-        "write_chunk" => Ok(ImageStep::WriteChunk(samples.samples_of(alloc, words)?)),
+        "write_strip" => {
+            let numbers = samples.samples_of(alloc, words)?;
+            Ok(ImageStep::WriteStrip(JobSamples::from_numbers(numbers)))
+        }
+        "write_chunk" => {
+            let numbers = samples.samples_of(alloc, words)?;
+            Ok(ImageStep::WriteChunk(JobSamples::from_numbers(numbers)))
+        }
         "extra_samples" => Ok(ImageStep::ExtraSamples(list_of(alloc, words)?)),
         "tiles" | "rows_per_strip" => setting_step(name, words),
         "resolution" | "resolution_unit" => setting_step(name, words),

@@ -60,7 +60,7 @@ fn told(alloc: Global, replies: Vec<JobReply>) -> TiffResult<Lines>
 
 // Runs jobs over an empty sink.
 #[tactic(auto, using(tiff_base::proofs::MemoryFaults::header_refused))]
-fn run_kind<K: TiffKind>(alloc: Global, keep_going: bool, jobs: &[Job]) -> TiffResult<Written>
+fn run_kind<K: TiffKind>(alloc: Global, keep_going: bool, jobs: &[Job<'_>]) -> TiffResult<Written>
     ensures { MatchResult result
         (λ written.
         Wrote K.kind keep_going jobs.now (option_map (λ file. file.items) written.file)
@@ -83,7 +83,7 @@ pub fn write_by(
     alloc: Global,
     kind: FileKind,
     keep_going: bool,
-    jobs: &[Job],
+    jobs: &[Job<'_>],
 ) -> TiffResult<Written>
     ensures { MatchResult result
         (λ written.

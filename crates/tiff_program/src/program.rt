@@ -125,7 +125,10 @@ fn listed_calls<'a, F: Files>(alloc: Global, files: &mut F) -> Result<Vec<Call>,
 }
 
 // The jobs that standard input lists.
-fn listed_jobs<'a, F: Files>(alloc: Global, files: &mut F) -> Result<Vec<Job>, Failure<'a>> {
+fn listed_jobs<'a, F: Files>(
+    alloc: Global,
+    files: &mut F,
+) -> Result<Vec<Job<'static>>, Failure<'a>> {
     let text = read_input(files)?;
     match jobs_of(alloc, text.as_str()) {
         Ok(jobs) => jobs.map_err(|number| Failure::NoJob(number)),
@@ -162,7 +165,7 @@ fn write_kept<'a, F: Files>(
 }
 
 // Whether a job makes an image or a directory.
-fn is_page(job: &Job) -> bool {
+fn is_page(job: &Job<'_>) -> bool {
     match job {
         Job::Image(_) | Job::Directory(_) => true,
         _ => false,

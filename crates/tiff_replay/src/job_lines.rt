@@ -11,7 +11,7 @@ const NO_PARENT: &str =
     "refused: usage error: the parent's link lies outside what was written (UsageError(ParentNotWritten))";
 
 /// The number of steps of a job.
-pub fn step_count(job: &Job) -> usize {
+pub fn step_count(job: &Job<'_>) -> usize {
     match job {
         Job::Predictor(_) | Job::Compression(_) => 0,
         Job::Directory(job) => job.steps.len(),
@@ -20,7 +20,7 @@ pub fn step_count(job: &Job) -> usize {
 }
 
 /// The number of lines of a job: one for a setting, else its head, its steps and its end.
-pub fn line_count(job: &Job) -> usize {
+pub fn line_count(job: &Job<'_>) -> usize {
     match job {
         Job::Predictor(_) | Job::Compression(_) => 1,
         _ => step_count(job).saturating_add(2),
@@ -47,7 +47,7 @@ pub fn failed() -> &'static str {
 
 /// The reply to a job that begins after a failed write. `is_finished` says whether the directory of
 /// the job's parent is finished before the failure.
-pub fn begun_too_late(job: &Job, is_finished: bool) -> &'static str {
+pub fn begun_too_late(job: &Job<'_>, is_finished: bool) -> &'static str {
     match job {
         Job::Predictor(_) | Job::Compression(_) => "nothing",
         Job::Image(_) => FAILED,
@@ -59,7 +59,7 @@ pub fn begun_too_late(job: &Job, is_finished: bool) -> &'static str {
 }
 
 /// The job whose directory links to the directory of this job.
-pub fn parent_of(job: &Job) -> Option<usize> {
+pub fn parent_of(job: &Job<'_>) -> Option<usize> {
     match job {
         Job::Directory(job) => job.parent,
         _ => None,

@@ -38,7 +38,7 @@ fn run_kind(
     alloc: Global,
     big: bool,
     sink: ScriptedSink,
-    jobs: &[Job],
+    jobs: &[Job<'_>],
 ) -> TiffResult<(ScriptedSink, String)> {
     if big {
         run_told::<ScriptedSink, TiffKindBig>(alloc, sink, jobs)
@@ -52,7 +52,7 @@ fn run_kind(
 pub fn run_over(
     alloc: Global,
     big: bool,
-    jobs: &[Job],
+    jobs: &[Job<'_>],
     manner: Manner,
     kept: Kept,
 ) -> Result<JobRun, AllocError> {
@@ -89,7 +89,7 @@ pub fn run_text(
 pub struct JobList<'a> {
     pub alloc: Global,
     pub big: bool,
-    pub jobs: &'a [Job],
+    pub jobs: &'a [Job<'a>],
     pub told: &'a [String],
     pub answered: &'a [String],
 }

@@ -166,7 +166,7 @@ pub fn tried(
     alloc: Global,
     big: bool,
     text: &str,
-    jobs: &[Job],
+    jobs: &[Job<'_>],
     sums: &mut Sums,
 ) -> Result<String, AllocError> {
     let good = run_over(alloc, big, jobs, Manner::plain(Appetite::All), Kept::File)?;

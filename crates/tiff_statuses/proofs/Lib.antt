@@ -1,8 +1,6 @@
 pub mod Slices
 pub mod Counting
 pub mod StatusTells
-pub mod Octets
-pub mod PieceNumbers
 pub mod Writing
 pub mod Delivered
 pub mod Listed

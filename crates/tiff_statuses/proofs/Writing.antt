@@ -1,9 +1,8 @@
 -- A file that an encoder wrote into memory shows its image.
-use Rattle.std.proofs.Common.{◌≡◌, ℕ, zero, suc, ◌%◌, ◌<◌, ◌⊎◌, inl, inr, true, false, List, [], length, arith, None, Some, Result, Ok, Err, refl, sym, ap, subst, ◌∙◌, lit<}
+use Rattle.std.proofs.Common.{◌≡◌, ℕ, ◌%◌, ◌<◌, ◌⊎◌, inl, inr, Bool, true, false, List, [], length, get_or, Fits, w8, arith, None, Some, Result, Ok, Err, refl, sym, ap, subst, ◌∙◌, lit<}
 use Rattle.tiff_base.specs.declared.error.TiffError.{TiffError}
-use Rattle.std.proofs.lemmas.Bool.Decides.{nat_tests}
 use Rattle.std.specs.Prelude.{◌==◌, if◌then◌else◌}
-use Rattle.tiff_base.specs.declared.error.TiffError.TheVariants.{UsageError}
+use Rattle.tiff_base.specs.declared.error.TiffError.TheVariants.{OutOfMemory, UsageError}
 use Rattle.tiff_base.specs.declared.error.UsageError.TheVariants.{MismatchedEntryLength}
 use Rattle.tiff_base.specs.declared.tags.«Type».{«Type»}
 use Rattle.tiff_base.specs.declared.io.SinkFault.TheVariants as sink
@@ -11,7 +10,12 @@ use Rattle.tiff_base.specs.declared.tags.FileKind.{FileKind}
 use Rattle.tiff_base.specs.declared.tags.FileKind.TheVariants.{Classic, Big}
 use Rattle.tiff_value.specs.ColorType.{ColorTypeRecord}
 use Rattle.tiff_value.specs.ColorTypes.{color_type, inner_size, inner_type}
+use Rattle.tiff_base.specs.Types.{type_size}
 use Rattle.tiff_page.specs.Pixels.{numbers_in}
+use Rattle.tiff_encode.specs.JobSamples.{samples_of_type}
+use Rattle.tiff_encode.specs.JobValues.{cut_to}
+use Rattle.tiff_encode.proofs.JobSamples.{whole_cut}
+use Rattle.tiff_encode.proofs.Slices.{ok_inj}
 use Rattle.tiff_encode.specs.FileBytes.{header_bytes}
 use Rattle.tiff_encode.specs.Model.{Model, IsLink, Stands, header_model}
 use Rattle.tiff_encode.specs.Machine.{FileState, begun_file}
@@ -110,11 +114,16 @@ module _ (s : Settings) (width height failures : ℕ) (samples : List ℕ) (old 
 tested : (n : ℕ) → n ≡ 0 → (n == 0) ≡ true
 tested n h = rw h refl
 
-untested : (n : ℕ) → (n ≡ 0 → ⊥) → (n == 0) ≡ false
-untested zero h = absurd (h refl)
-untested (suc n) h = grind (arith, nat_tests)
+-- Samples that a test lets through, or refuses.
+let_through : (b : Bool) (xs lent : List ℕ) (e : TiffError) → Ok lent ≡ (if b then Ok xs else Err e) → lent ≡ xs
+let_through true xs lent e h = ok_inj lent xs h
+let_through false xs lent e h = absurd cc
 
 module _ (s : Settings) (width height : ℕ) (bytes : List ℕ) where
+  typed_so : (type : «Type») (told : Result (List ℕ) TiffError) → type ≡ inner_type s.color → told ≡ samples_of_type type bytes → samples_from_bytes s.color bytes ≡ told
+  typed_so type told typed is = sym (is ∙ ap (λ t. samples_of_type t bytes) typed)
+
+  -- Bytes that are whole samples are written.
   pub whole_by : (answer : Result (List ℕ) TiffError) → length bytes % inner_size s.color ≡ 0
       → WritesImageFile s width height (numbers_in (inner_size s.color) bytes) answer → WritesBytes s width height (samples_from_bytes s.color bytes) answer
   whole_by answer none w =
@@ -122,17 +131,26 @@ module _ (s : Settings) (width height : ℕ) (bytes : List ℕ) where
       (sym (tested (length bytes % inner_size s.color) none)) w
 
   -- Samples that were made of bytes are written.
-  pub whole_written : (size : ℕ) (samples : List ℕ) (answer : Result (List ℕ) TiffError) → size ≡ inner_size s.color → length bytes % size ≡ 0
-      → samples ≡ numbers_in size bytes → WritesImageFile s width height samples answer → WritesBytes s width height (samples_from_bytes s.color bytes) answer
-  whole_written size samples answer is none are w =
-      whole_by answer (subst (λ n. length bytes % n ≡ 0) is none)
-      (subst (λ (xs : List ℕ). WritesImageFile s width height xs answer) (are ∙ ap (λ n. numbers_in n bytes) is) w)
+  pub lent_written : (samples : List ℕ) (answer : Result (List ℕ) TiffError) → samples_from_bytes s.color bytes ≡ Ok samples
+      → WritesImageFile s width height samples answer → WritesBytes s width height (samples_from_bytes s.color bytes) answer
+  lent_written samples answer is w = subst (λ told. WritesBytes s width height told answer) (sym is) w
+
+  -- Lent samples stay as they are cut to the width of their type.
+  pub lent_made : (type : «Type») (lent numbers : List ℕ) → type ≡ inner_type s.color → Ok lent ≡ samples_of_type type bytes
+      → ((i : ℕ) → Fits w8 (get_or bytes i 0)) → numbers ≡ cut_to (type_size type) lent → samples_from_bytes s.color bytes ≡ Ok numbers
+  lent_made type lent numbers typed is fit cut =
+      let size : ℕ = type_size type in
+      let same : lent ≡ numbers_in size bytes = let_through (length bytes % size == 0) (numbers_in size bytes) lent (UsageError (MismatchedEntryLength type (length bytes))) is in
+      let whole : cut_to size lent ≡ lent = ap (cut_to size) same ∙ whole_cut type bytes fit ∙ sym same in
+      typed_so type (Ok lent) typed is ∙ ap (λ (xs : List ℕ). Ok xs) (sym (cut ∙ whole))
+
+  -- There is no memory for the samples.
+  pub lent_wanting : (type : «Type») (lent : List ℕ) (e : TiffError) → type ≡ inner_type s.color → Ok lent ≡ samples_of_type type bytes → e ≡ OutOfMemory
+      → WritesBytes s width height (samples_from_bytes s.color bytes) (Err e)
+  lent_wanting type lent e typed is wanting = lent_written lent (Err e) (typed_so type (Ok lent) typed is)
+      (inl (ap (λ (x : TiffError). let r : Result (List ℕ) TiffError = Err x in r) wanting))
 
   -- Bytes that are no whole number of samples are refused.
-  pub part_refused : (size : ℕ) (type : «Type») → size ≡ inner_size s.color → type ≡ inner_type s.color → (length bytes % size ≡ 0 → ⊥)
-      → WritesBytes s width height (samples_from_bytes s.color bytes) (Err (UsageError (MismatchedEntryLength type (length bytes))))
-  part_refused size type is typed some =
-      subst (λ b. WritesBytes s width height (if b then Ok (numbers_in (inner_size s.color) bytes) else Err (UsageError (MismatchedEntryLength (inner_type s.color) (length bytes))))
-      (Err (UsageError (MismatchedEntryLength type (length bytes)))))
-      (sym (untested (length bytes % inner_size s.color) (subst (λ n. length bytes % n ≡ 0 → ⊥) is some)))
-      (ap (λ t. Err (UsageError (MismatchedEntryLength t (length bytes)))) typed)
+  pub lent_refused : (type : «Type») (e : TiffError) → type ≡ inner_type s.color → Err e ≡ samples_of_type type bytes
+      → WritesBytes s width height (samples_from_bytes s.color bytes) (Err e)
+  lent_refused type e typed is = subst (λ told. WritesBytes s width height told (Err e)) (sym (typed_so type (Err e) typed is)) refl

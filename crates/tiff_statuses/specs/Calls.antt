@@ -8,6 +8,7 @@ use Rattle.tiff_base.specs.declared.error.TiffError.{TiffError}
 use Rattle.tiff_base.specs.Answers.{◌>>=◌}
 use Rattle.tiff_base.specs.Color.{bit_depth, num_samples}
 use Rattle.tiff_base.specs.Field.{Field}
+use Rattle.tiff_base.specs.Header.{header_at}
 use Rattle.tiff_decode.specs.Machine.{Decoding, Outcome}
 use Rattle.tiff_decode.specs.Opened.{moved, opened_of}
 use Rattle.tiff_decode.specs.Outcome as outcome
@@ -262,8 +263,8 @@ abbrev pub order_number : ByteOrder → ℕ
 order_number LittleEndian = 0
 order_number BigEndian = 1
 
--- the byte order of a file
+-- the byte order in the header of a file
 abbrev pub file_byte_order : List ℕ → Result ℕ TiffError
 file_byte_order file = do
-  d ← opened_of file 0
-  Ok (order_number d.order)
+  header ← header_at file
+  Ok (order_number header.order)

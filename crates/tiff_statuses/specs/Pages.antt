@@ -91,7 +91,7 @@ image_view image (iend.WriteData samples) = writes_image (record {
   width = image.width;
   height = image.height;
   steps = map step_view image.steps.items;
-  samples = samples.items;
+  samples = samples;
 })
 image_view image _ = other_job
 

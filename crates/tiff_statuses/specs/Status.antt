@@ -97,6 +97,12 @@ abbrev pub StatusTells : {X : Type 0} → Result X TiffError → ℕ → X → T
 StatusTells (Ok x) status left = ((status ≡ 0) × (left ≡ x)) ⊎ (status ≡ fault_number OutOfMemory)
 StatusTells (Err e) status left = (status ≡ fault_number e) ⊎ (status ≡ fault_number OutOfMemory)
 
+-- The status of a call that takes no memory is that of its result; the call puts its value into a
+-- variable of the caller's, which stays where the status isn't 0.
+abbrev pub StatusIs : {X : Type 0} → Result X TiffError → ℕ → X → X → Type 0
+StatusIs (Ok x) status old new = (status ≡ 0) × (new ≡ x)
+StatusIs (Err e) status old new = (status ≡ fault_number e) × (new ≡ old)
+
 -- The status of a call is that of its result, or memory is out; the call puts its value into a
 -- variable of the caller's, which stays where the status isn't 0.
 abbrev pub StatusPuts : {X : Type 0} → Result X TiffError → ℕ → X → X → Type 0

@@ -1,10 +1,10 @@
 -- What the library writes for an image that C passes: a file, or the first error.
-use Rattle.std.specs.Prelude.{◌≡◌, ◌⊎◌, ℕ, ◌<◌, ◌≤◌, ◌*◌, ◌%◌, ◌^◌, ◌==◌, ◌++◌, List, [], length, take, drop, slice_get, if◌then◌else◌, false, Option, None, Some, Result, Ok, Err, IfOk}
+use Rattle.std.specs.Prelude.{◌≡◌, ◌⊎◌, ℕ, ◌<◌, ◌≤◌, ◌*◌, ◌^◌, ◌==◌, ◌++◌, List, [], length, take, drop, slice_get, if◌then◌else◌, false, Option, None, Some, Result, Ok, Err, IfOk}
 use Rattle.tiff_base.specs.declared.error.TiffError.{TiffError}
 use Rattle.tiff_base.specs.declared.error.TiffError.TheVariants.{FormatError, UnsupportedError, IoError, UsageError, OutOfMemory}
 use Rattle.tiff_base.specs.declared.error.TiffFormatError.TheVariants.{TiffSignatureInvalid, UnknownPredictor}
 use Rattle.tiff_base.specs.declared.error.TiffUnsupportedError.TheVariants.{UnsupportedCompressionMethod}
-use Rattle.tiff_base.specs.declared.error.UsageError.TheVariants.{InsufficientOutputBufferSize, MismatchedEntryLength}
+use Rattle.tiff_base.specs.declared.error.UsageError.TheVariants.{InsufficientOutputBufferSize}
 use Rattle.tiff_base.specs.declared.io.IoKind.TheVariants.{InvalidInput}
 use Rattle.tiff_base.specs.declared.io.SinkFault.TheVariants as sink
 use Rattle.tiff_base.specs.declared.tags.FileKind.{FileKind}
@@ -16,7 +16,6 @@ use Rattle.tiff_base.specs.Tags.{method_of, predictor_of}
 use Rattle.tiff_value.specs.declared.encoder.colortype.ColorTypeName.{ColorTypeName}
 use Rattle.tiff_value.specs.ColorTypes.{color_type, color_types, inner_size, inner_type}
 use Rattle.tiff_ifd.specs.TagLookup.{ok_or_fault}
-use Rattle.tiff_page.specs.Pixels.{numbers_in}
 use Rattle.tiff_encode.specs.declared.encoder.settings.Compression.{Compression}
 use Rattle.tiff_encode.specs.declared.encoder.settings.Compression.TheVariants.{Uncompressed, Packbits}
 use Rattle.tiff_encode.specs.Machine as machine
@@ -24,6 +23,7 @@ use Rattle.tiff_encode.specs.Machine.{FileState, begun_file}
 use Rattle.tiff_encode.specs.Calls.{image_in, new_directory}
 use Rattle.tiff_encode.specs.Shows.{Image, ShowsFirst}
 use Rattle.tiff_encode.specs.ImageData.{WritesImage, image_of_samples}
+use Rattle.tiff_encode.specs.JobSamples.{samples_of_type}
 use Rattle.tiff_statuses.specs.declared.writer.NewImage.{NewImage}
 use Rattle.tiff_statuses.specs.declared.writer.Settings.{Settings}
 use Rattle.tiff_decode.specs.NextState.{view_of_result}
@@ -63,9 +63,7 @@ settings_of image = do
 -- the samples that bytes are, the lowest byte of each first; an error where a part of one is left
 -- over
 abbrev pub samples_from_bytes : ColorTypeName → List ℕ → Result (List ℕ) TiffError
-samples_from_bytes color bytes =
-    if length bytes % inner_size color == 0 then Ok (numbers_in (inner_size color) bytes)
-    else Err (UsageError (MismatchedEntryLength (inner_type color) (length bytes)))
+samples_from_bytes color bytes = samples_of_type (inner_type color) bytes
 
 -- ---- what is written
 

@@ -21,6 +21,7 @@ use tiff_base::tags::{ByteOrder, IfdPointer, Tag};
 use tiff_decode::decoder::Decoder;
 use tiff_decode::ifd_decoder::IfdDecoder;
 use tiff_decode::open::opens_first;
+use tiff_ifd::header::read_header;
 use tiff_ifd::limits::Limits;
 use tiff_laws::pages::{walk_ends, walk_goes_on, walk_opens};
 use tiff_page::layout::{BufferLayoutPreference, TiffCodingUnit};
@@ -739,9 +740,11 @@ fn order_number(order: ByteOrder) -> u32
 }
 
 /// The byte order of a file, by its number for C: 0 for little-endian, 1 for big-endian. The error
-/// is that of the file.
-pub fn byte_order(alloc: Global, file: &[u8]) -> TiffResult<u32>
-    ensures { AnswersWithoutSource (λ n. n) result (calls.file_byte_order file.now) }
+/// is that of the header.
+pub fn byte_order(file: &[u8]) -> TiffResult<u32>
+    ensures { Gives (λ n. n) result (calls.file_byte_order file.now) }
 {
-    Ok(order_number(open(alloc, file)?.byte_order()))
+    let mut source = SliceSource::new(file);
+    let header = read_header(&mut source)?;
+    Ok(order_number(header.order))
 }

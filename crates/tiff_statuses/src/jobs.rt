@@ -109,7 +109,7 @@ fn let_go<T: Drop>(_value: T) {}
 
 // Runs jobs over an empty sink, for a file of the kind `K`.
 #[tactic(auto, using(tiff_base::proofs::MemoryFaults::header_refused))]
-fn run_kind<K: TiffKind>(alloc: Global, jobs: &[Job]) -> TiffResult<Ran>
+fn run_kind<K: TiffKind>(alloc: Global, jobs: &[Job<'_>]) -> TiffResult<Ran>
     ensures { MatchResult result (λ ran. RanJobs K.kind jobs.now ran.file.items ran.refused
         ran.step) (λ e. e ≡ TiffError.OutOfMemory) }
 {
@@ -128,7 +128,7 @@ fn run_kind<K: TiffKind>(alloc: Global, jobs: &[Job]) -> TiffResult<Ran>
 
 /// Runs jobs over an empty sink, for a file of a kind that is given as a value. Its only error is
 /// `OutOfMemory`.
-pub fn run(alloc: Global, kind: FileKind, jobs: &[Job]) -> TiffResult<Ran>
+pub fn run(alloc: Global, kind: FileKind, jobs: &[Job<'_>]) -> TiffResult<Ran>
     ensures { MatchResult result (λ ran. RanJobs kind jobs.now ran.file.items ran.refused
         ran.step) (λ e. e ≡ TiffError.OutOfMemory) }
 {
@@ -140,7 +140,7 @@ pub fn run(alloc: Global, kind: FileKind, jobs: &[Job]) -> TiffResult<Ran>
 
 // The jobs that a text lists; or the number of its first line that is no job, and 0 where the text
 // isn't UTF-8.
-fn listed(alloc: Global, text: &[u8]) -> TiffResult<Result<Vec<Job>, usize>>
+fn listed(alloc: Global, text: &[u8]) -> TiffResult<Result<Vec<Job<'static>>, usize>>
     ensures { IfErr result (λ e. e ≡ TiffError.OutOfMemory) }
 {
     match str::from_utf8(text) {

@@ -3,9 +3,9 @@
 //!
 //! Each call but `version` and `fault_text` returns a status: 0 if it is done, else the number of
 //! its error, as `tiff_status` in `include/mangohatch_tiff.h` of `tiff_c` lists them; any of them
-//! may return the number of `OutOfMemory`. `page` is the number of a page in the file's chain, from
-//! 0; or, from 2^63 on, 2^63 plus the offset of a directory. The calls that read a tag don't ask
-//! whether the directory at an offset is a page.
+//! but `byte_order` may return the number of `OutOfMemory`. `page` is the number of a page in the
+//! file's chain, from 0; or, from 2^63 on, 2^63 plus the offset of a directory. The calls that read
+//! a tag don't ask whether the directory at an offset is a page.
 #![tactic(auto)]
 
 ghost use Rattle.std.specs.Prelude.{◌≡◌, ◌⊎◌};
@@ -15,7 +15,7 @@ ghost use Rattle.tiff_statuses.specs.Entries.{list_tags};
 ghost use Rattle.tiff_statuses.specs.Jobs.{JobsTell};
 ghost use Rattle.tiff_statuses.specs.List.{ListTells, list_of};
 ghost use Rattle.tiff_statuses.specs.Pages.{PagesTell};
-ghost use Rattle.tiff_statuses.specs.Status.{StatusPuts, StatusTells};
+ghost use Rattle.tiff_statuses.specs.Status.{StatusIs, StatusPuts, StatusTells};
 ghost use Rattle.tiff_statuses.specs.Values as values;
 ghost use Rattle.tiff_statuses.specs.Writer as writer;
 ghost use Rattle.tiff_statuses.specs.Writer.{IsShown};
@@ -30,7 +30,6 @@ mod frame;
 pub mod jobs;
 pub mod list;
 pub mod pages;
-mod samples;
 mod status;
 pub mod values;
 pub mod writer;
@@ -290,12 +289,11 @@ pub fn list_tags(
 }
 
 /// Puts the byte order of a file into `order`: 0 for little-endian, 1 for big-endian. Returns 0, or
-/// the number of the error that refuses the file. An error leaves `order` as it was.
-#[tactic(auto, using(crate::proofs::StatusTells::puts_told))]
-pub fn byte_order(alloc: Global, file: &[u8], order: &mut u32) -> u32
-    ensures { StatusPuts (calls.file_byte_order file.now) result order.old order.new }
+/// the number of the error of the header. An error leaves `order` as it was. It takes no memory.
+pub fn byte_order(file: &[u8], order: &mut u32) -> u32
+    ensures { StatusIs (calls.file_byte_order file.now) result order.old order.new }
 {
-    given(calls::byte_order(alloc, file), order)
+    given(calls::byte_order(file), order)
 }
 
 /// Puts how many pages a file has, along its chain of directories, into `pages`. Returns 0, or the
@@ -390,7 +388,8 @@ pub fn write_jobs(
 /// `UnsupportedDataType` for its type and `MismatchedEntryLength` for bytes that are not as many
 /// values as it says; samples with a part of one left over, `MismatchedEntryLength`. An error leaves
 /// `buffer` as it was, and `len` too, unless only the buffer is too short. The call allocates the
-/// file, eight bytes for each sample of all pages, and the bytes of the tags.
+/// file, the bytes of the tags, and the samples of one page at a time if they have more than one
+/// byte or a sign.
 #[tactic(auto, using(crate::proofs::Delivered::told_pages, crate::proofs::Delivered::kept_pages))]
 pub fn write_pages(
     alloc: Global,

@@ -1,14 +1,11 @@
 //! A file of several pages, whose parameters, tags and samples C passes.
 
 ghost use Rattle.std.specs.Prelude.{◌≡◌, ◌++◌, map, slice_get, MatchResult};
-ghost use Rattle.tiff_base.specs.Types.{type_size};
-ghost use Rattle.tiff_value.specs.ColorTypes.{inner_size, inner_type};
 ghost use Rattle.tiff_statuses.specs.Pages as spec;
 ghost use Rattle.tiff_statuses.specs.Pages.{AnswersPages, AnswersVersion, IsOut, IsOutAt, Makes, TellsPages, appended, each, job_view, jobs_of_pages, settings_steps, step_view};
 ghost use Rattle.tiff_statuses.specs.Writer as writer;
 
 use crate::jobs::{JobsEnd, Ran, run, tell_ran};
-use crate::samples::numbers_of;
 use crate::status::fault_number;
 use crate::writer::{color_named, kind_of, packing_named, predictor_named};
 use std::alloc::Global;
@@ -18,7 +15,9 @@ use tiff_base::tags::{
     ByteOrder, ExtraSamples, FileKind, PlanarConfiguration, Predictor, ResolutionUnit, Tag, Type,
 };
 use tiff_encode::encoder::Compression;
-use tiff_encode::encoder::script::{DirectoryStep, ImageEnd, ImageJob, ImageStep, Job, JobBuffer};
+use tiff_encode::encoder::script::{
+    DirectoryStep, ImageEnd, ImageJob, ImageStep, Job, JobBuffer, JobSamples,
+};
 use tiff_value::encoder::color_visitor::{ColorVisitor, by_name};
 use tiff_value::encoder::colortype::{ColorTypeName, NamedColorType};
 use tiff_value::encoder::tiff_value::{Rational, TiffValue};
@@ -205,7 +204,7 @@ fn bytes_of(alloc: Global, bytes: &[u8]) -> TiffResult<Vec<u8>>
 }
 
 // The call that sets a tag of the caller's own.
-fn tag_step(alloc: Global, tag: &NewTag<'_>) -> TiffResult<ImageStep>
+fn tag_step<'a>(alloc: Global, tag: &NewTag<'_>) -> TiffResult<ImageStep<'a>>
     ensures { Makes IsOut step_view result (spec.tag_step tag.now) }
 {
     let Some(data_type) = Type::from_u16(tag.value_type) else {
@@ -229,7 +228,7 @@ fn tag_step(alloc: Global, tag: &NewTag<'_>) -> TiffResult<ImageStep>
 }
 
 // Puts the call that sets each tag behind the others.
-fn add_tags(alloc: Global, tags: &[NewTag<'_>], steps: &mut Vec<ImageStep>) -> TiffResult<()>
+fn add_tags(alloc: Global, tags: &[NewTag<'_>], steps: &mut Vec<ImageStep<'_>>) -> TiffResult<()>
     ensures { Makes IsOut (λ _. map step_view steps.new.items) result
         (appended (map step_view steps.old.items) (each spec.tag_step tags.now)) }
 {
@@ -244,7 +243,7 @@ fn add_tags(alloc: Global, tags: &[NewTag<'_>], steps: &mut Vec<ImageStep>) -> T
 fn add_layout(
     page: &NewPage<'_>,
     planar: PlanarConfiguration,
-    steps: &mut Vec<ImageStep>,
+    steps: &mut Vec<ImageStep<'_>>,
 ) -> TiffResult<()>
     ensures { MatchResult result (λ _. map step_view steps.new.items ≡ map step_view steps.old.items
         ++ spec.layout_steps page.now planar) IsOut }
@@ -276,7 +275,7 @@ fn rational(fraction: Fraction) -> Rational
 fn add_resolution(
     page: &NewPage<'_>,
     unit: Option<ResolutionUnit>,
-    steps: &mut Vec<ImageStep>,
+    steps: &mut Vec<ImageStep<'_>>,
 ) -> TiffResult<()>
     ensures { MatchResult result (λ _. map step_view steps.new.items ≡ map step_view steps.old.items
         ++ spec.resolution_steps page.now unit) IsOut }
@@ -291,12 +290,12 @@ fn add_resolution(
 }
 
 // The calls before the tags of the caller's own.
-fn settings_of(
+fn settings_of<'a>(
     alloc: Global,
     page: &NewPage<'_>,
     names: &PageNames,
     extra: Vec<ExtraSamples>,
-) -> TiffResult<Vec<ImageStep>>
+) -> TiffResult<Vec<ImageStep<'a>>>
     ensures { MatchResult result (λ v. map step_view v.items
         ≡ settings_steps page.now names.now extra.items) IsOut }
 {
@@ -311,47 +310,39 @@ fn settings_of(
 
 // ---- samples
 
-// Gives the type of the samples of a color type, and how many bytes each has.
-struct SampleSize;
+// Gives the type of the samples of a color type.
+struct SampleType;
 
-impl ColorVisitor<(), (), (Type, u8)> for SampleSize {
+impl ColorVisitor<(), (), Type> for SampleType {
     ghost use Rattle.std.specs.Prelude.{◌≡◌};
-    ghost use Rattle.tiff_value.specs.ColorTypes.{inner_size, inner_type};
+    ghost use Rattle.tiff_value.specs.ColorTypes.{inner_type};
 
     ghost takes = { λ _ _ _. Unit };
 
-    ghost visits = { λ name _ _ answer _. answer ≡ (inner_type name, inner_size name) };
+    ghost visits = { λ name _ _ answer _. answer ≡ inner_type name };
 
-    fn visit<C: NamedColorType>(_none: &mut (), _input: ()) -> (Type, u8) {
-        C::Inner::type_and_len()
+    fn visit<C: NamedColorType>(_none: &mut (), _input: ()) -> Type {
+        let (ty, _len) = C::Inner::type_and_len();
+        ty
     }
 }
 
-// The samples that bytes are, `N` bytes each.
-fn samples_of(alloc: Global, color: ColorTypeName, bytes: &[u8]) -> TiffResult<Vec<u64>>
-    ensures { Makes IsOut (λ v. v.items) result (writer.samples_from_bytes color bytes.now) }
+// The samples that bytes are, which are lent.
+fn samples_of<'a>(color: ColorTypeName, bytes: &'a [u8]) -> TiffResult<JobSamples<'a>>
+    ensures { result ≡ writer.samples_from_bytes color bytes.now }
 {
-    let (ty, size) = by_name::<(), (), (Type, u8), SampleSize>(color, &mut (), ());
-    let found = bytes.len();
-    if found % usize::from(size) != 0 {
-        return Err(UsageError::MismatchedEntryLength { ty, found }.into());
-    }
-    let samples = match size {
-        1 => numbers_of::<u8, 1>(alloc, bytes),
-        2 => numbers_of::<u16, 2>(alloc, bytes),
-        4 => numbers_of::<u32, 4>(alloc, bytes),
-        _ => numbers_of::<u64, 8>(alloc, bytes),
-    };
-    match samples {
-        Ok(samples) => Ok(samples),
-        Err(_) => Err(TiffError::OutOfMemory),
-    }
+    let ty = by_name::<(), (), Type, SampleType>(color, &mut (), ());
+    JobSamples::from_bytes(ty, bytes)
 }
 
 // ---- jobs
 
 // The image of a page.
-fn image_of(alloc: Global, page: &NewPage<'_>, names: &PageNames) -> Result<ImageJob, Refusal>
+fn image_of<'a>(
+    alloc: Global,
+    page: &NewPage<'a>,
+    names: &PageNames,
+) -> Result<ImageJob<'a>, Refusal>
     ensures { Makes IsOutAt (λ image. spec.image_view image image.end) result
         (spec.page_image page.now names.now) }
 {
@@ -361,10 +352,7 @@ fn image_of(alloc: Global, page: &NewPage<'_>, names: &PageNames) -> Result<Imag
     )?;
     let mut steps = in_field(PageField::Whole, settings_of(alloc, page, names, extra))?;
     in_field(PageField::Tags, add_tags(alloc, page.tags, &mut steps))?;
-    let samples = in_field(
-        PageField::Samples,
-        samples_of(alloc, names.color, page.samples),
-    )?;
+    let samples = in_field(PageField::Samples, samples_of(names.color, page.samples))?;
     Ok(ImageJob {
         color: names.color,
         width: page.width,
@@ -375,9 +363,9 @@ fn image_of(alloc: Global, page: &NewPage<'_>, names: &PageNames) -> Result<Imag
 }
 
 // Puts the settings and the image of a page behind the other jobs.
-fn add_jobs(names: &PageNames, image: ImageJob, jobs: &mut Vec<Job>) -> TiffResult<()>
+fn add_jobs<'a>(names: &PageNames, image: ImageJob<'a>, jobs: &mut Vec<Job<'a>>) -> TiffResult<()>
     ensures { MatchResult result (λ _. map job_view jobs.new.items ≡ map job_view jobs.old.items
-        ++ spec.jobs_named names.now (spec.image_view image image.end)) IsOut }
+        ++ spec.jobs_named names.now (spec.image_view image.entry image.entry.end)) IsOut }
 {
     jobs.push(Job::Predictor(names.predictor))?;
     jobs.push(Job::Compression(names.compression))?;
@@ -386,7 +374,7 @@ fn add_jobs(names: &PageNames, image: ImageJob, jobs: &mut Vec<Job>) -> TiffResu
 }
 
 // Puts the jobs of a page behind the others.
-fn add_page(alloc: Global, page: &NewPage<'_>, jobs: &mut Vec<Job>) -> Result<(), Refusal>
+fn add_page<'a>(alloc: Global, page: &NewPage<'a>, jobs: &mut Vec<Job<'a>>) -> Result<(), Refusal>
     ensures { Makes IsOutAt (λ _. map job_view jobs.new.items) result
         (appended (map job_view jobs.old.items) (spec.page_jobs page.now)) }
 {
@@ -396,7 +384,7 @@ fn add_page(alloc: Global, page: &NewPage<'_>, jobs: &mut Vec<Job>) -> Result<()
 }
 
 // The jobs of pages; or the number of the first page that is refused, from 1, and its refusal.
-fn jobs_of(alloc: Global, pages: &[NewPage<'_>]) -> Result<Vec<Job>, (usize, Refusal)>
+fn jobs_of<'a>(alloc: Global, pages: &[NewPage<'a>]) -> Result<Vec<Job<'a>>, (usize, Refusal)>
     ensures { Makes (λ e. IsOutAt e.1) (λ v. map job_view v.items) result (jobs_of_pages pages.now) }
 {
     let mut jobs = Vec::new(alloc);
@@ -411,7 +399,7 @@ fn jobs_of(alloc: Global, pages: &[NewPage<'_>]) -> Result<Vec<Job>, (usize, Ref
 // ---- what was refused
 
 // The field that a call of an image is made for.
-fn step_field(step: &ImageStep) -> PageField
+fn step_field(step: &ImageStep<'_>) -> PageField
     ensures { result ≡ spec.step_field (step_view step.now) }
 {
     match step {
@@ -427,7 +415,7 @@ fn step_field(step: &ImageStep) -> PageField
 }
 
 // The field of a step of a job, both counted from 0.
-fn field_in(jobs: &[Job], job: usize, step: usize) -> PageField
+fn field_in(jobs: &[Job<'_>], job: usize, step: usize) -> PageField
     ensures { result ≡ spec.field_in (slice_get jobs.now job) step }
 {
     let Some(Job::Image(image)) = jobs.get(job) else {
@@ -440,7 +428,7 @@ fn field_in(jobs: &[Job], job: usize, step: usize) -> PageField
 }
 
 // The field of the step that was refused.
-fn refused_field(jobs: &[Job], ran: &Ran) -> PageField
+fn refused_field(jobs: &[Job<'_>], ran: &Ran) -> PageField
     ensures { result ≡ spec.refused_field jobs.now ran.now.refused ran.now.step }
 {
     match (ran.refused, ran.step) {

@@ -1,11 +1,10 @@
 //! A file of one image, whose parameters and samples C passes.
 
-ghost use Rattle.std.specs.Prelude.{◌≡◌, ◌*◌, ◌%◌, ◌^◌, ◌<◌, length, map, slice_get, MatchResult, MatchOption, IfOk, IfSome, Ok, OnOk, replicate, true};
+ghost use Rattle.std.specs.Prelude.{◌≡◌, ◌*◌, ◌^◌, ◌<◌, length, map, slice_get, MatchResult, MatchOption, IfOk, IfSome, Ok, OnOk, replicate, true};
 ghost use Rattle.tiff_base.specs.declared.tags.CompressionMethod.TheVariants as method;
 ghost use Rattle.tiff_base.specs.Types.{type_size};
 ghost use Rattle.tiff_value.specs.ColorType.{sample_number};
 ghost use Rattle.tiff_value.specs.ColorTypes.{color_types};
-ghost use Rattle.tiff_page.specs.Pixels.{numbers_in};
 ghost use Rattle.tiff_decode.specs.NextState.{view_of_result};
 ghost use Rattle.tiff_statuses.specs.Writer as writer;
 ghost use Rattle.tiff_statuses.specs.Frame.{file_of};
@@ -13,12 +12,12 @@ ghost use Rattle.tiff_statuses.specs.Writer.{AreKept, Delivers, IsBegun, Puts, W
 ghost use Rattle.tiff_statuses.specs.Zeros.{HasZeros, IsNewImage, WritesZeros};
 
 use crate::frame::{FrameSink, NewFile, front_len};
-use crate::samples::{Number, samples_of};
 use crate::status::{Status, fault_number};
 use std::alloc::{AllocError, Global};
 use tiff_base::error::{TiffError, TiffFormatError, TiffResult, TiffUnsupportedError, UsageError};
 use tiff_base::io::{IoKind, MemorySink};
 use tiff_base::tags::{CompressionMethod, FileKind, Predictor};
+use tiff_encode::encoder::script::JobSamples;
 use tiff_encode::encoder::{
     Compression, ImageEncoder, TiffEncoder, TiffKind, TiffKindBig, TiffKindStandard,
 };
@@ -298,7 +297,7 @@ fn write_around<'a, K: TiffKind, C: NamedColorType>(
 }
 
 // A file of one image of the color type `C`, written from samples, which were made of these bytes.
-#[tactic(auto, using(crate::proofs::Writing::whole_written))]
+#[tactic(auto, using(crate::proofs::Writing::lent_written))]
 fn write_samples<'a, K: TiffKind, C: NamedColorType>(
     alloc: Global,
     settings: &Settings,
@@ -308,9 +307,8 @@ fn write_samples<'a, K: TiffKind, C: NamedColorType>(
 ) -> TiffResult<NewFile<'a>>
     requires kind { settings.now.kind ≡ K.kind }
     requires named { settings.now.color ≡ C.name }
-    requires whole { length bytes.now % type_size C.Inner.value_type ≡ 0 }
-    requires made { map (sample_number (type_size C.Inner.value_type) C.Inner.bits) samples.now
-        ≡ numbers_in (type_size C.Inner.value_type) bytes.now }
+    requires made { writer.samples_from_bytes settings.now.color bytes.now
+        ≡ Ok (map (sample_number (type_size C.Inner.value_type) C.Inner.bits) samples.now) }
     ensures { WritesBytes settings.now image.now.width image.now.height
         (writer.samples_from_bytes settings.now.color bytes.now)
         (view_of_result file_of result) }
@@ -319,64 +317,8 @@ fn write_samples<'a, K: TiffKind, C: NamedColorType>(
     Ok(NewFile::Whole(file))
 }
 
-// A file of one image of the color type `C`, written from samples of 8 bits.
-fn write_octets<'a, K: TiffKind, C: NamedColorType>(
-    alloc: Global,
-    settings: &Settings,
-    image: &NewImage,
-    samples: &[C::Inner],
-    bytes: &'a [u8],
-) -> TiffResult<NewFile<'a>>
-    requires kind { settings.now.kind ≡ K.kind }
-    requires named { settings.now.color ≡ C.name }
-    requires whole { length bytes.now % type_size C.Inner.value_type ≡ 0 }
-    requires made { map (sample_number (type_size C.Inner.value_type) C.Inner.bits) samples.now
-        ≡ numbers_in (type_size C.Inner.value_type) bytes.now }
-    ensures { WritesBytes settings.now image.now.width image.now.height
-        (writer.samples_from_bytes settings.now.color bytes.now)
-        (view_of_result file_of result) }
-{
-    if let Some(file) = write_around::<K, C>(alloc, settings, image, bytes) {
-        return Ok(file);
-    }
-    write_samples::<K, C>(alloc, settings, image, samples, bytes)
-}
-
-// A file of one image of the color type `C`, written from little-endian samples of `N` bytes each.
-#[tactic(auto, using(crate::proofs::Writing::part_refused))]
-fn write_pieces<'a, K: TiffKind, C: NamedColorType, U: Number<N>, const N: usize>(
-    alloc: Global,
-    settings: &Settings,
-    image: &NewImage,
-    bytes: &'a [u8],
-) -> TiffResult<NewFile<'a>>
-    requires kind { settings.now.kind ≡ K.kind }
-    requires named { settings.now.color ≡ C.name }
-    requires some { 0 < N }
-    requires size { type_size C.Inner.value_type ≡ N }
-    ensures { WritesBytes settings.now image.now.width image.now.height
-        (writer.samples_from_bytes settings.now.color bytes.now)
-        (view_of_result file_of result) }
-{
-    if let Some(file) = write_around::<K, C>(alloc, settings, image, bytes) {
-        return Ok(file);
-    }
-    let (ty, _len) = C::Inner::type_and_len();
-    if bytes.len() % N != 0 {
-        return Err(TiffError::UsageError(UsageError::MismatchedEntryLength {
-            ty,
-            found: bytes.len(),
-        }));
-    }
-    let samples = match samples_of::<C::Inner, U, N>(alloc, bytes) {
-        Ok(samples) => samples,
-        Err(_) => return Err(TiffError::OutOfMemory),
-    };
-    write_samples::<K, C>(alloc, settings, image, &samples, bytes)
-}
-
 // A file of one image of the color type `C`, written from little-endian samples.
-#[tactic(auto, using(crate::proofs::Octets::octets_are, crate::proofs::Octets::octets_whole, crate::proofs::Octets::eight_left))]
+#[tactic(auto, using(crate::proofs::Writing::lent_made, crate::proofs::Writing::lent_wanting, crate::proofs::Writing::lent_refused))]
 fn write_color<'a, K: TiffKind, C: NamedColorType>(
     alloc: Global,
     settings: &Settings,
@@ -389,16 +331,19 @@ fn write_color<'a, K: TiffKind, C: NamedColorType>(
         (writer.samples_from_bytes settings.now.color bytes.now)
         (view_of_result file_of result) }
 {
-    if let Some(samples) = C::Inner::from_bytes(bytes) {
-        return write_octets::<K, C>(alloc, settings, image, samples, bytes);
+    if let Some(file) = write_around::<K, C>(alloc, settings, image, bytes) {
+        return Ok(file);
     }
-    let (_ty, size) = C::Inner::type_and_len();
-    match size {
-        1 => write_pieces::<K, C, u8, 1>(alloc, settings, image, bytes),
-        2 => write_pieces::<K, C, u16, 2>(alloc, settings, image, bytes),
-        4 => write_pieces::<K, C, u32, 4>(alloc, settings, image, bytes),
-        _ => write_pieces::<K, C, u64, 8>(alloc, settings, image, bytes),
-    }
+    let (ty, _len) = C::Inner::type_and_len();
+    let lent = match JobSamples::from_bytes(ty, bytes) {
+        Ok(lent) => lent,
+        Err(fault) => return Err(fault),
+    };
+    let samples = match lent.cut::<C::Inner>(alloc) {
+        Ok(samples) => samples,
+        Err(fault) => return Err(fault),
+    };
+    write_samples::<K, C>(alloc, settings, image, samples.as_slice(), bytes)
 }
 
 // An image, how it is written, and its samples as bytes.

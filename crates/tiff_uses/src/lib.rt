@@ -222,7 +222,11 @@ pub fn page_by_calls<R: Source>(
 /// that is refused. The only error is `OutOfMemory`, for the replies or the header: then no reply is
 /// appended.
 #[tactic(auto, using(tiff_base::proofs::MemoryFaults::header_refused))]
-pub fn file_by_jobs(alloc: Global, jobs: &[Job], replies: &mut Vec<JobReply>) -> TiffResult<Vec<u8>>
+pub fn file_by_jobs(
+    alloc: Global,
+    jobs: &[Job<'_>],
+    replies: &mut Vec<JobReply>,
+) -> TiffResult<Vec<u8>>
     ensures { MatchResult result
         (λ file. IsFileOf jobs.now replies.old.items replies.new.items file.items)
         (λ e. (e ≡ TiffError.OutOfMemory) × (replies.new.items ≡ replies.old.items)) }

@@ -8,7 +8,9 @@ use tiff_base::error::TiffResult;
 use tiff_base::io::{MemorySink, MemorySource};
 use tiff_base::tags::Predictor;
 use tiff_decode::decoder::Decoder;
-use tiff_encode::encoder::script::{ImageEnd, ImageJob, ImageStep, Job, JobReply, run_jobs};
+use tiff_encode::encoder::script::{
+    ImageEnd, ImageJob, ImageStep, Job, JobReply, JobSamples, run_jobs,
+};
 use tiff_encode::encoder::{Compression, TiffKind, TiffKindBig, TiffKindStandard};
 use tiff_value::encoder::colortype::ColorTypeName;
 
@@ -118,7 +120,7 @@ fn put<T: Drop>(items: &mut Vec<T>, item: T) -> TiffResult<()> {
 fn let_go<T: Drop>(_value: T) {}
 
 // Adds the steps that cut an image in a form.
-fn add_steps(steps: &mut Vec<ImageStep>, form: Form) -> TiffResult<()> {
+fn add_steps(steps: &mut Vec<ImageStep<'_>>, form: Form) -> TiffResult<()> {
     match form {
         Form::Strips => Ok(()),
         Form::ShortStrips => put(steps, ImageStep::RowsPerStrip(2)),
@@ -141,11 +143,11 @@ fn samples_made(alloc: Global, count: u64) -> TiffResult<Vec<u64>> {
 }
 
 // Adds the job that writes an image by these steps.
-fn add_image(
-    jobs: &mut Vec<Job>,
+fn add_image<'a>(
+    jobs: &mut Vec<Job<'a>>,
     color: Color,
     shape: Shape,
-    steps: Vec<ImageStep>,
+    steps: Vec<ImageStep<'a>>,
     samples: Vec<u64>,
 ) -> TiffResult<()> {
     let image = ImageJob {
@@ -153,13 +155,13 @@ fn add_image(
         width: shape.width,
         height: shape.height,
         steps,
-        end: ImageEnd::WriteData(samples),
+        end: ImageEnd::WriteData(JobSamples::from_numbers(samples)),
     };
     put(jobs, Job::Image(image))
 }
 
 // Adds the jobs that set the method and the predictor, and write an image.
-fn add_jobs(alloc: Global, jobs: &mut Vec<Job>, color: Color, shape: Shape) -> TiffResult<()> {
+fn add_jobs(alloc: Global, jobs: &mut Vec<Job<'_>>, color: Color, shape: Shape) -> TiffResult<()> {
     put(jobs, Job::Compression(shape.compression))?;
     put(jobs, Job::Predictor(shape.predictor))?;
     let samples = samples_made(alloc, shape.pixels().saturating_mul(color.1))?;
@@ -182,7 +184,7 @@ fn are_done(replies: &[JobReply]) -> bool {
 }
 
 // Whether no job is refused, and the file that the jobs write.
-fn written<K: TiffKind>(alloc: Global, jobs: &[Job]) -> TiffResult<(bool, Vec<u8>)> {
+fn written<K: TiffKind>(alloc: Global, jobs: &[Job<'_>]) -> TiffResult<(bool, Vec<u8>)> {
     let mut replies = Vec::new(alloc);
     let sink = run_jobs::<MemorySink, K>(alloc, empty_sink(alloc), jobs, &mut replies);
     let done = are_done(&replies);
@@ -204,7 +206,7 @@ fn compared(
 }
 
 // The color of the page that jobs write, and whether its samples are the wanted ones.
-fn read_back<K: TiffKind>(alloc: Global, jobs: &[Job], wanted: &[u8]) -> TiffResult<String> {
+fn read_back<K: TiffKind>(alloc: Global, jobs: &[Job<'_>], wanted: &[u8]) -> TiffResult<String> {
     let (done, file) = written::<K>(alloc, jobs)?;
     if !done {
         return Ok(String::from_str(alloc, "refused")?);

@@ -96,7 +96,7 @@ started_sound kind told failures first is leaves =
     }
 
 -- a run whose model describes the file shows the images that it holds
-run_shows : (run : Run) → IsSound true run → RunShows run
+pub run_shows : (run : Run) → IsSound true run → RunShows run
 run_shows run s f i =
     let h : IsHeld run.standing f = s.images f i in
     let kind : FileKind = run.standing.file.kind in

@@ -1,5 +1,5 @@
 -- No step of a directory or an image moves the last link of the chain or changes the parent.
-use Rattle.std.proofs.Common.{◌≡◌, ℕ, List, [], ◌∷◌, take, Option, Result, Ok, Err, refl, ap, sym, ◌∙◌, inl, inr}
+use Rattle.std.proofs.Common.{◌≡◌, ℕ, List, [], ◌∷◌, ◌++◌, append-nil, append_assoc, take, Option, Result, Ok, Err, refl, ap, sym, ◌∙◌, inl, inr, subst}
 use Rattle.tiff_base.specs.declared.error.TiffError.{TiffError}
 use Rattle.tiff_base.specs.declared.tags.Tag.{Tag}
 use Rattle.tiff_value.specs.Buffer.{BufferRecord}
@@ -7,31 +7,50 @@ use Rattle.tiff_encode.specs.declared.encoder.script.DirectoryStep.{DirectorySte
 use Rattle.tiff_encode.specs.declared.encoder.script.DirectoryStep.TheVariants as step
 use Rattle.tiff_encode.specs.declared.encoder.script.StepReply.{StepReply}
 use Rattle.tiff_encode.specs.declared.encoder.script.StepReply.TheVariants as reply
+use Rattle.tiff_encode.specs.Laws.{AreAppending}
 use Rattle.tiff_encode.specs.Machine.{FileState, OpenDirectory, WriteOutcome, WriteCall, gives}
+use Rattle.tiff_encode.specs.WriteOps.{all_appended}
 use Rattle.tiff_encode.specs.Calls.{with_field, write_entry, write_entry_buf, write_entry_bytes, write_tag, write_tag_buf, write_data, write_data_buf, extend_from}
 use Rattle.tiff_encode.specs.JobValues.{value_data, buffer_in}
 use Rattle.tiff_encode.specs.Jobs.{FileAndModel, IsDone, Refuses, Changes, Replies, ExtendStep, DirectoryStepped, AllStepped}
 use Rattle.tiff_encode.proofs.Slices.{ok_inj}
-use Rattle.tiff_encode.proofs.Joining.{IsAdding, Adds, adding, entry_adds, entry_buf_adds, entry_bytes_adds, tag_adds, tag_buf_adds, data_adds, data_buf_adds}
+use Rattle.tiff_encode.proofs.Joining.{IsAdding, Adds, adding, ends_torn, entry_adds, entry_buf_adds, entry_bytes_adds, tag_adds, tag_buf_adds, data_adds, data_buf_adds}
 use Rattle.tiff_encode.proofs.Data.Calls.{bind_answered}
 use Rattle.tiff_encode.proofs.Data.Chunks.{tag_placed}
 
 -- ---- files
 
--- the kind of a file and the offset of the chain's last link stay the same
+-- the kind of a file and the offset of the chain's last link stay the same, and bytes are appended at most
 pub record IsSame (old new : FileState) : Type 0 where
   pub kind : new.kind ≡ old.kind
   pub chain : new.chain ≡ old.chain
+  pub more : List ℕ
+  pub bytes : new.bytes ≡ old.bytes ++ more
 
 pub same_by : (old new : FileState) → new ≡ old → IsSame old new
-same_by old new h = record { kind = ap (λ f. f.kind) h; chain = ap (λ f. f.chain) h }
+same_by old new h = record {
+  kind = ap (λ f. f.kind) h;
+  chain = ap (λ f. f.chain) h;
+  more = [];
+  bytes = ap (λ f. f.bytes) h ∙ sym (append-nil old.bytes);
+}
 
 pub same_on : (old mid new : FileState) → IsSame old mid → IsSame mid new → IsSame old new
-same_on old mid new a b = record { kind = b.kind ∙ a.kind; chain = b.chain ∙ a.chain }
+same_on old mid new a b = record {
+  kind = b.kind ∙ a.kind;
+  chain = b.chain ∙ a.chain;
+  more = a.more ++ b.more;
+  bytes = b.bytes ∙ ap (λ xs. xs ++ b.more) a.bytes ∙ append_assoc old.bytes a.more b.more;
+}
 
 module _ {A : Type 0} (told : WriteOutcome A) (old new : FileAndModel) (a : IsAdding told old.file) where
   told_same : new.file ≡ told.next → IsSame old.file new.file
-  told_same h = record { kind = ap (λ f. f.kind) (h ∙ a.next); chain = ap (λ f. f.chain) (h ∙ a.next) }
+  told_same h = record {
+    kind = ap (λ f. f.kind) (h ∙ a.next);
+    chain = ap (λ f. f.chain) (h ∙ a.next);
+    more = all_appended old.file.kind told.ops;
+    bytes = ap (λ f. f.bytes) (h ∙ a.next);
+  }
 
   -- a call that only appends keeps the kind and the chain if it succeeds
   pub done_same : (r : Result A TiffError) → IsDone told r old new → IsSame old.file new.file
@@ -42,10 +61,20 @@ module _ {A : Type 0} (told : WriteOutcome A) (old new : FileAndModel) (a : IsAd
   refused_same e h = elim h as (λ _. IsSame old.file new.file) [
     | inl r ↦ told_same r.1.state
     | inr h ↦ elim h [
-      | inl t ↦ record { kind = ap (λ f. f.kind) t.torn.state; chain = ap (λ f. f.chain) t.torn.state }
+      | inl t ↦ absurd (ends_torn t.torn.before t.torn.offset t.torn.target (subst (λ ops. AreAppending ops) t.torn.last a.appending))
       | inr h ↦ elim h [
-        | inl c ↦ record { kind = ap (λ f. f.kind) c.1.state; chain = ap (λ f. f.chain) c.1.state }
-        | inr c ↦ record { kind = ap (λ f. f.kind) c.1.state; chain = ap (λ f. f.chain) c.1.state }
+        | inl c ↦ record {
+          kind = ap (λ f. f.kind) c.1.state;
+          chain = ap (λ f. f.chain) c.1.state;
+          more = take c.1.count (all_appended old.file.kind told.ops);
+          bytes = ap (λ f. f.bytes) c.1.state;
+        }
+        | inr c ↦ record {
+          kind = ap (λ f. f.kind) c.1.state;
+          chain = ap (λ f. f.chain) c.1.state;
+          more = take c.1.count (all_appended old.file.kind told.ops);
+          bytes = ap (λ f. f.bytes) c.1.state;
+        }
       ]
     ]
   ]

@@ -119,10 +119,10 @@ image_step_kept old i istep.Planar r new j h = setting_kept Planes i.image r old
 image_step_kept old i istep.NextStripSampleCount r new j h = nothing_kept drawn_parent old i new j h.1.0 h.1.1
 image_step_kept old i istep.NextChunkSampleCount r new j h = nothing_kept drawn_parent old i new j h.1.0 h.1.1
 image_step_kept old i (istep.WriteStrip samples) r new j h =
-    let cut : List ℕ = cut_to i.image.size samples.items in
+    let cut : List ℕ = cut_to i.image.size samples in
     found_kept write_strip strips_store (write_strip_cause old.file i.image (length cut) 0) i cut r old new j h
 image_step_kept old i (istep.WriteChunk samples) r new j h =
-    let cut : List ℕ = cut_to i.image.size samples.items in
+    let cut : List ℕ = cut_to i.image.size samples in
     found_kept write_chunk chunks_store (write_chunk_cause old.file i.image (length cut) 0) i cut r old new j h
 image_step_kept old i (istep.Resolution u value) r new j h = resolves_kept i.image u (value.n, value.d) r old new j.image h.1
 image_step_kept old i (istep.ResolutionUnit u) r new j h = setting_kept (Measure u) i.image r old new j.image h.1

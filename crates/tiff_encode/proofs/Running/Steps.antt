@@ -1,5 +1,5 @@
 -- The properties of a run of jobs hold after one more job.
-use Rattle.std.proofs.Common.{◌≡◌, ℕ, ◌^◌, ◌<◌, Bool, true, false, ◌⊎◌, List, [], ◌∷◌, ◌++◌, Option, Some, None, Result, Ok, Err, Vec, refl, ap, sym, ◌∙◌, inl, inr, subst}
+use Rattle.std.proofs.Common.{◌≡◌, ℕ, ◌^◌, ◌<◌, Bool, true, false, ◌⊎◌, List, [], ◌∷◌, ◌++◌, Option, Some, None, Result, Ok, Err, Vec, refl, ap, sym, ◌∙◌, inl, inr, subst, append-nil}
 use Rattle.std.specs.Prelude.{zero, suc, slice_get, length, if◌then◌else◌, OnErr}
 use Rattle.std.specs.declared.alloc.Global.{Global}
 use Rattle.tiff_base.specs.declared.error.TiffError.{TiffError}
@@ -151,13 +151,13 @@ module _ (known : Bool) (s : FileAndModel) (left new : FileState) (is_left : lef
 -- ---- one more job
 
 module _ {A : Type 0} where
-  in_last : (x : A) (xs : List A) (y : A) → In x (xs ++ y ∷ []) → In x xs ⊎ (x ≡ y)
+  pub in_last : (x : A) (xs : List A) (y : A) → In x (xs ++ y ∷ []) → In x xs ⊎ (x ≡ y)
   in_last x [] y (inl q) = inr q
   in_last x [] y (inr n) = absurd n
   in_last x (z ∷ xs) y (inl q) = inl (inl q)
   in_last x (z ∷ xs) y (inr i) = elim (in_last x xs y i) as (λ _. In x (z ∷ xs) ⊎ (x ≡ y)) [ inl j ↦ inl (inr j) | inr q ↦ inr q ]
 
-  in_both : (x : A) (xs ys : List A) → In x (xs ++ ys) → In x xs ⊎ In x ys
+  pub in_both : (x : A) (xs ys : List A) → In x (xs ++ ys) → In x xs ⊎ In x ys
   in_both x [] ys i = inr i
   in_both x (z ∷ xs) ys (inl q) = inl (inl q)
   in_both x (z ∷ xs) ys (inr i) = elim (in_both x xs ys i) as (λ _. In x (z ∷ xs) ⊎ In x ys) [ inl j ↦ inl (inr j) | inr q ↦ inr q ]
@@ -209,7 +209,7 @@ run_on Ran r known run new t images f h s a = (run_after_job run t r.last images
 
 -- ---- jobs that fail at once
 
-no_offsets : (r : Result EndReply TiffError) (e : TiffError) (o : Offsets) → r ≡ Err e → offsets_in r ≡ Some o → ⊥
+pub no_offsets : (r : Result EndReply TiffError) (e : TiffError) (o : Offsets) → r ≡ Err e → offsets_in r ≡ Some o → ⊥
 no_offsets (Err f) e o h q = cc
 no_offsets (Ok last.Nothing) e o h q = cc
 no_offsets (Ok (last.Offsets pointer link)) e o h q = cc
@@ -303,12 +303,12 @@ opened_parent cause d e file h =
     ap (λ x. x.parent) (sym (ok_inj d e (ap (λ told. told.answer) (sym c.1) ∙ h)))
 
 -- the parent of a chained directory is the last link of the chain
-chained_parent : (file : FileState) (d : OpenDirectory) → (image_directory file).answer ≡ Ok d → d.parent ≡ Some file.chain
+pub chained_parent : (file : FileState) (d : OpenDirectory) → (image_directory file).answer ≡ Ok d → d.parent ≡ Some file.chain
 unfolding image_directory
 chained_parent file d h = opened_parent (begin_cause file) (new_directory (Some file.chain) true) d file h
 
 -- an extra directory has no parent
-extra_parent : (file : FileState) (d : OpenDirectory) → (extra_directory file).answer ≡ Ok d → d.parent ≡ None
+pub extra_parent : (file : FileState) (d : OpenDirectory) → (extra_directory file).answer ≡ Ok d → d.parent ≡ None
 unfolding extra_directory
 extra_parent file d h = opened_parent (begin_cause file) (new_directory None false) d file h
 
@@ -329,7 +329,7 @@ parented_so None d = refl
 parented_so (Some offsets) d = refl
 
 -- the offsets that an end returns are those of its directory
-answered_offset : (s : FileAndModel) (d : OpenDirectory) (e : DirectoryEnd) (r : Result EndReply TiffError) (t : FileAndModel) (offset : Option Offsets)
+pub answered_offset : (s : FileAndModel) (d : OpenDirectory) (e : DirectoryEnd) (r : Result EndReply TiffError) (t : FileAndModel) (offset : Option Offsets)
     (o : Offsets) → DirectoryEnds s d e r t offset → offsets_in r ≡ Some o → offset ≡ Some o
 answered_offset s d end.Finish (Ok (last.Offsets pointer link)) t offset o h q = h.1 ∙ q
 answered_offset s d end.Finish (Ok last.Nothing) t offset o h q = absurd h
@@ -403,10 +403,10 @@ silent_by None i samples r s t offset h = elim h as (λ _. offsets_in r ≡ None
   | inr w ↦ silent_within i samples r s t w.0
 ]
 
-silent_end : (s : FileAndModel) (i : OpenImage) (e : ImageEnd) (r : Result EndReply TiffError) (t : FileAndModel) (offset : Option Offsets)
+pub silent_end : (s : FileAndModel) (i : OpenImage) (e : ImageEnd) (r : Result EndReply TiffError) (t : FileAndModel) (offset : Option Offsets)
     → ImageEnds s i e r t offset → offsets_in r ≡ None
 silent_end s i (iend.WriteData samples) r t offset h =
-    let cut : List ℕ = cut_to i.size samples.items in
+    let cut : List ℕ = cut_to i.size samples in
     elim h as (λ _. offsets_in r ≡ None) [
       | inl w ↦ silent_by (write_image_data_cause s.file i (length cut)) i cut r s t offset w
       | inr w ↦ ap offsets_in w.0
@@ -415,7 +415,7 @@ silent_end s i iend.Finish r t offset h = silent (calls.finish_image i s.file) r
 silent_end s i iend.Discard r t offset h = silent (calls.finish_image i s.file) r s t offset h
 
 -- the parent of a new image is the last link of the chain
-new_parent : (color : ColorTypeRecord) (size width height : ℕ) (file : FileState) (i : OpenImage)
+pub new_parent : (color : ColorTypeRecord) (size width height : ℕ) (file : FileState) (i : OpenImage)
     → (calls.new_image color size width height file).answer ≡ Ok i → i.directory.parent ≡ Some file.chain
 new_parent color size width height file i h =
     let n = new_is color size width height file i h in ap (λ x. x.directory.parent) (sym n.1.0) ∙ n.1.1.parent
@@ -548,12 +548,12 @@ set_moves set j earlier r old new keeps is h none ok =
 pub predictor_moves : (p : Predictor) (earlier : List JobReply) (r : JobReply) (old new : FileState) → new ≡ calls.with_predictor p old
     → r.steps.items ≡ [] → r.last ≡ Ok last.Nothing → JobMoves (job.Predictor p) earlier r old new
 predictor_moves p earlier r old new =
-    set_moves (calls.with_predictor p) (job.Predictor p) earlier r old new (λ file. (record { kind = refl; chain = refl }, refl)) (λ run after x. x)
+    set_moves (calls.with_predictor p) (job.Predictor p) earlier r old new (λ file. (record { kind = refl; chain = refl; more = []; bytes = sym (append-nil file.bytes) }, refl)) (λ run after x. x)
 
 pub compression_moves : (c : Compression) (earlier : List JobReply) (r : JobReply) (old new : FileState)
     → new ≡ calls.with_compression c old → r.steps.items ≡ [] → r.last ≡ Ok last.Nothing → JobMoves (job.Compression c) earlier r old new
 compression_moves c earlier r old new =
-    set_moves (calls.with_compression c) (job.Compression c) earlier r old new (λ file. (record { kind = refl; chain = refl }, refl)) (λ run after x. x)
+    set_moves (calls.with_compression c) (job.Compression c) earlier r old new (λ file. (record { kind = refl; chain = refl; more = []; bytes = sym (append-nil file.bytes) }, refl)) (λ run after x. x)
 
 pub image_moves : (j : ImageJob) (earlier : List JobReply) (r : JobReply) (old new : FileState) → new.kind ≡ old.kind
     → ImageRunsOn j r old new → JobMoves (job.Image j) earlier r old new
@@ -573,7 +573,7 @@ parent_in offsets n (Some (Some p)) o g h =
 parent_in offsets n (Some None) o g h = absurd cc
 parent_in offsets n None o g h = absurd cc
 
-named_in : (offsets : List (Option Offsets)) (parent : Option ℕ) (o : Offsets) → named_parent offsets parent ≡ Ok (Some o)
+pub named_in : (offsets : List (Option Offsets)) (parent : Option ℕ) (o : Offsets) → named_parent offsets parent ≡ Ok (Some o)
     → In (Some o) offsets
 named_in offsets None o h = absurd (none_some (ok_inj None (Some o) h))
 named_in offsets (Some n) o h = parent_in offsets n (slice_get offsets n) o refl h

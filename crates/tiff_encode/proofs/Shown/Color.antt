@@ -35,7 +35,7 @@ pub record IsOf (c : ColorTypeRecord) (size : ℕ) : Type 0 where
   pub is_size : IsSize size
 
 -- a number of each field type has a number of bytes that a sample may have
-size_of_type : (type : «Type») → IsSize (type_size type)
+pub size_of_type : (type : «Type») → IsSize (type_size type)
 size_of_type field.BYTE = grind arith
 size_of_type type = grind arith
 

@@ -183,7 +183,7 @@ fn run_directory<W: Sink, K: TiffKind>(
 fn run_image_steps<W: Sink, K: TiffKind, C: ColorType>(
     encoder: &mut TiffEncoder<W, K>,
     state: ImageState<C>,
-    job: &ImageJob,
+    job: &ImageJob<'_>,
     mut steps: Vec<TiffResult<StepReply>>,
 ) -> JobReply
     requires { IsEmptyWithRoom (length job.now.steps.items) steps }
@@ -198,7 +198,7 @@ fn run_image_steps<W: Sink, K: TiffKind, C: ColorType>(
 // Runs a job that writes an image. `C` is the color type that the job names.
 fn run_image<W: Sink, K: TiffKind, C: NamedColorType>(
     encoder: &mut TiffEncoder<W, K>,
-    job: &ImageJob,
+    job: &ImageJob<'_>,
     steps: Vec<TiffResult<StepReply>>,
 ) -> JobReply
     requires named { job.now.color ≡ C.name }
@@ -223,7 +223,7 @@ fn run_image<W: Sink, K: TiffKind, C: NamedColorType>(
 
 // A job that writes an image, and room for the replies of its steps.
 struct ImageRun<'a> {
-    job: &'a ImageJob,
+    job: &'a ImageJob<'a>,
     steps: Vec<TiffResult<StepReply>>,
 }
 
@@ -249,7 +249,7 @@ impl<'a, W: Sink, K: TiffKind> ColorVisitor<TiffEncoder<W, K>, ImageRun<'a>, Job
 // Runs a job that writes an image of the color type that it names.
 fn run_named<W: Sink, K: TiffKind>(
     encoder: &mut TiffEncoder<W, K>,
-    job: &ImageJob,
+    job: &ImageJob<'_>,
     steps: Vec<TiffResult<StepReply>>,
 ) -> JobReply
     requires { IsEmptyWithRoom (length job.now.steps.items) steps }
@@ -263,7 +263,7 @@ fn run_named<W: Sink, K: TiffKind>(
 // Runs a job of any kind.
 fn run_by_kind<W: Sink, K: TiffKind>(
     encoder: &mut TiffEncoder<W, K>,
-    job: &Job,
+    job: &Job<'_>,
     earlier: &[JobReply],
     steps: Vec<TiffResult<StepReply>>,
 ) -> JobReply
@@ -303,7 +303,7 @@ fn run_by_kind<W: Sink, K: TiffKind>(
 /// its steps.
 pub(crate) fn run_job<W: Sink, K: TiffKind>(
     encoder: &mut TiffEncoder<W, K>,
-    job: &Job,
+    job: &Job<'_>,
     earlier: &[JobReply],
     steps: Vec<TiffResult<StepReply>>,
 ) -> JobReply

@@ -9,6 +9,7 @@ pub mod reading;
 ghost use Rattle.tiff_encode.specs.Appending.{FormerBytesStay};
 ghost use Rattle.tiff_encode.specs.AppendLaws.{DirectoryCallsAppend, ImageCallsAppend, EndsLinkParent};
 ghost use Rattle.tiff_encode.specs.FormerPages.{FormerPagesStay, FormerSamplesStay};
+ghost use Rattle.tiff_encode.specs.JobsBehind.{JobsGoOn};
 ghost use Rattle.tiff_encode.specs.Held.{ChunksShow, ImagesShow, PageTold};
 ghost use Rattle.tiff_encode.specs.Laws.{HeaderStands, KeptByAppending, KeptByPatching, KeptByTearing, GrownByRegion, GrownByInline, GrownByPlaced, GrownByListing, FinishStep, OpsStand, OpsGrow, OpsBegun, OpsTorn, OpsJoin, OpsAppend, FirstTold, ModelsAgree};
 ghost use Rattle.tiff_encode.specs.LongerChain.{ChainGoesOn, LastLinkEnds, PagesGoOn};
@@ -199,4 +200,10 @@ pub fn last_link_ends()
 /// States that the samples of a file that an encoder goes on behind are shown as before.
 pub fn former_samples_stay()
     ensures { FormerSamplesStay }
+{}
+
+/// States that jobs that are run behind a file leave its bytes, except those of its last link, and
+/// all that they wrote.
+pub fn jobs_go_on()
+    ensures { JobsGoOn }
 {}

@@ -1,11 +1,12 @@
 //! Lists of calls of the encoder, and the replies to them.
 
-ghost use Rattle.std.specs.Prelude.{◌≡◌, ◌+◌, ◌++◌, ◌∷◌, [], ◌<◌, ◌≤◌, length, vec_capacity, vec_len, MatchResult};
+ghost use Rattle.std.specs.Prelude.{◌≡◌, ◌+◌, ◌++◌, ◌∷◌, [], ◌<◌, ◌≤◌, length, vec_capacity, vec_len, IfOk, MatchResult};
 ghost use Rattle.tiff_base.specs.declared.error.TiffError.TheVariants.{OutOfMemory};
 ghost use Rattle.tiff_encode.specs.Jobs.{RunsJobs};
-ghost use Rattle.tiff_encode.specs.Running.{AreRooms, JobsMove, step_count};
+ghost use Rattle.tiff_encode.specs.Running.{AreRooms, JobsMove, RunsJobsIn, step_count};
 
 use crate::encoder::TiffEncoder;
+pub use crate::encoder::job_samples::{CutSamples, JobSamples};
 use crate::encoder::jobs::directory_steps::put;
 use crate::encoder::jobs::run_job;
 use crate::encoder::kind::TiffKind;
@@ -72,7 +73,7 @@ pub enum DirectoryStep {
 /// A call of an open image. Each number of a list of samples is cut to the lowest bits, as many as
 /// a sample of the color type has.
 #[derive(Drop)]
-pub enum ImageStep {
+pub enum ImageStep<'a> {
     /// A call of the image's directory.
     Directory(DirectoryStep),
     ExtraSamples(Vec<ExtraSamples>),
@@ -80,8 +81,8 @@ pub enum ImageStep {
     Planar,
     NextStripSampleCount,
     NextChunkSampleCount,
-    WriteStrip(Vec<u64>),
-    WriteChunk(Vec<u64>),
+    WriteStrip(JobSamples<'a>),
+    WriteChunk(JobSamples<'a>),
     Resolution(ResolutionUnit, Rational),
     ResolutionUnit(ResolutionUnit),
     XResolution(Rational),
@@ -98,8 +99,8 @@ pub enum DirectoryEnd {
 
 /// How an image ends: by `write_data`, `finish` or `discard`.
 #[derive(Drop)]
-pub enum ImageEnd {
-    WriteData(Vec<u64>),
+pub enum ImageEnd<'a> {
+    WriteData(JobSamples<'a>),
     Finish,
     Discard,
 }
@@ -116,21 +117,21 @@ pub struct DirectoryJob {
 
 /// A job that writes an image, with its color type and its size in pixels.
 #[derive(Drop)]
-pub struct ImageJob {
+pub struct ImageJob<'a> {
     pub color: ColorTypeName,
     pub width: u32,
     pub height: u32,
-    pub steps: Vec<ImageStep>,
-    pub end: ImageEnd,
+    pub steps: Vec<ImageStep<'a>>,
+    pub end: ImageEnd<'a>,
 }
 
 /// A job: a directory, an image, or a setting for the images after it.
 #[derive(Drop)]
-pub enum Job {
+pub enum Job<'a> {
     Predictor(Predictor),
     Compression(Compression),
     Directory(DirectoryJob),
-    Image(ImageJob),
+    Image(ImageJob<'a>),
 }
 
 /// The reply to a step. A number is an offset in bytes or a number of samples.
@@ -157,7 +158,7 @@ pub struct JobReply {
 }
 
 // Returns the number of steps of a job.
-fn step_count(job: &Job) -> usize
+fn step_count(job: &Job<'_>) -> usize
     ensures { result ≡ step_count job.now }
 {
     match job {
@@ -170,7 +171,7 @@ fn step_count(job: &Job) -> usize
 
 // Returns for each job an empty list with room for the replies to its steps. The list of the last
 // job is the first.
-fn rooms<T: Drop>(alloc: Global, jobs: &[Job]) -> TiffResult<Vec<Vec<T>>>
+fn rooms<T: Drop>(alloc: Global, jobs: &[Job<'_>]) -> TiffResult<Vec<Vec<T>>>
     ensures count { MatchResult result (λ v. vec_len v ≡ length jobs.now) (λ e. e ≡ OutOfMemory) }
     ensures rooms { MatchResult result (λ v. AreRooms jobs.now v.items) (λ e. e ≡ OutOfMemory) }
 {
@@ -199,10 +200,28 @@ fn take_last<T: Drop>(items: &mut Vec<T>) -> T
 // drop takes long to prove.
 fn let_go<T: Drop>(_value: T) {}
 
+// Makes room for the replies to jobs. Returns for each job an empty list with room for the replies
+// to its steps.
+fn make_rooms<T: Drop>(
+    alloc: Global,
+    jobs: &[Job<'_>],
+    replies: &mut Vec<JobReply>,
+) -> TiffResult<Vec<Vec<T>>>
+    ensures same { replies.new.items ≡ replies.old.items }
+    ensures room { IfOk result (λ _. vec_len replies.new + length jobs.now ≤ vec_capacity replies.new) }
+    ensures count { MatchResult result (λ v. vec_len v ≡ length jobs.now) (λ e. e ≡ OutOfMemory) }
+    ensures rooms { MatchResult result (λ v. AreRooms jobs.now v.items) (λ e. e ≡ OutOfMemory) }
+{
+    match replies.try_reserve(jobs.len()) {
+        Ok(()) => return rooms(alloc, jobs),
+        Err(_) => return Err(TiffError::OutOfMemory),
+    }
+}
+
 // Runs jobs one after another. `replies` has room for their replies.
 fn run_all<W: Sink, K: TiffKind>(
     encoder: &mut TiffEncoder<W, K>,
-    jobs: &[Job],
+    jobs: &[Job<'_>],
     rooms: &mut Vec<Vec<TiffResult<StepReply>>>,
     replies: &mut Vec<JobReply>,
 )
@@ -223,7 +242,7 @@ fn run_all<W: Sink, K: TiffKind>(
 fn run_new<W: Sink, K: TiffKind>(
     alloc: Global,
     sink: W,
-    jobs: &[Job],
+    jobs: &[Job<'_>],
     rooms: &mut Vec<Vec<TiffResult<StepReply>>>,
     replies: &mut Vec<JobReply>,
 ) -> TiffResult<W>
@@ -246,18 +265,32 @@ fn run_new<W: Sink, K: TiffKind>(
 pub fn run_jobs<W: Sink, K: TiffKind>(
     alloc: Global,
     sink: W,
-    jobs: &[Job],
+    jobs: &[Job<'_>],
     replies: &mut Vec<JobReply>,
 ) -> TiffResult<W>
     ensures { RunsJobs W.told W.failures W.fault K.kind jobs.now sink replies.old.items
         replies.new.items result }
 {
-    match replies.try_reserve(jobs.len()) {
-        Ok(()) => {}
-        Err(_) => return Err(TiffError::OutOfMemory),
-    }
-    let mut rooms = rooms(alloc, jobs)?;
+    let mut rooms = make_rooms(alloc, jobs, replies)?;
     let answer = run_new::<W, K>(alloc, sink, jobs, &mut rooms, replies);
     let_go(rooms);
     answer
+}
+
+/// Runs jobs one after another with an encoder, which can go on behind a file
+/// (`TiffEncoder::append_to`). A parent is a job of this call. The call appends the reply to each
+/// job to `replies`, also if the job fails. It allocates the room for all replies before it uses
+/// the sink. The only error is `OutOfMemory` if that allocation fails: then no job was run, and
+/// `replies` has the same items as before. This project adds this function.
+pub fn run_jobs_in<W: Sink, K: TiffKind>(
+    encoder: &mut TiffEncoder<W, K>,
+    jobs: &[Job<'_>],
+    replies: &mut Vec<JobReply>,
+) -> TiffResult<()>
+    ensures { RunsJobsIn jobs.now replies.old.items replies.new.items encoder.old encoder.new result }
+{
+    let mut rooms = make_rooms(encoder.alloc(), jobs, replies)?;
+    run_all(encoder, jobs, &mut rooms, replies);
+    let_go(rooms);
+    Ok(())
 }

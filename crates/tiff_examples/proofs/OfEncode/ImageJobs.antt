@@ -1,6 +1,5 @@
 -- The worked examples of `Encode.ImageJobs` hold.
 use Rattle.std.specs.Prelude.{refl, get_or}
-use Rattle.std.specs.Global.{Vec}
 use Rattle.std.proofs.Common.{true, ◌≡◌, ℕ, ◌⊎◌, List, [], ◌∷◌, ◌++◌, Some, Result, Ok, Err, ap, sym, ◌∙◌, subst, inl, inr, lit<, lit≤}
 use Rattle.tiff_base.specs.declared.error.TiffError.{TiffError}
 use Rattle.tiff_base.specs.declared.error.TiffError.TheVariants.{FormatError, IoError}
@@ -148,7 +147,7 @@ begins_by c w h p q r =
     let P : ColorTypeName → ℕ → ℕ → Type 0 = λ x y z. IsDone (new_image (color_type x) (inner_size x) y z (new_file Classic)) (Ok new_pixel) first after_begin in
     subst (λ x. P x w h) (sym p) (subst (λ y. P name.Gray8 y h) (sym q) (subst (λ z. P name.Gray8 1 z) (sym r) page_begins))
 
-images_by : (ss : List ImageStep) (rs : List (Result StepReply TiffError)) (e : ImageEnd) (samples : Vec ℕ) → ss ≡ istep.WriteStrip samples ∷ [] → rs ≡ Ok reply.Nothing ∷ [] → e ≡ iend.Finish
+images_by : (ss : List ImageStep) (rs : List (Result StepReply TiffError)) (e : ImageEnd) (samples : List ℕ) → ss ≡ istep.WriteStrip samples ∷ [] → rs ≡ Ok reply.Nothing ∷ [] → e ≡ iend.Finish
     → jobs.job_images ss rs e drawn_strip (Some page_offset) ≡ page_run.images
 images_by ss rs e samples p q r =
     ap (λ x. jobs.job_images x rs e drawn_strip (Some page_offset)) p
@@ -178,14 +177,14 @@ no_steps ss rs p q =
     let P : List ImageStep → List (Result StepReply TiffError) → Type 0 = λ x y. jobs.AllStepped jobs.ImageStepped after_begin drawn_new x y after_begin drawn_new in
     subst (λ x. P x rs) (sym p) (subst (λ y. P [] y) (sym q) (refl, refl))
 
-data_ends : (e : ImageEnd) (r : Result EndReply TiffError) (samples : Vec ℕ) → samples.items ≡ 7 ∷ 8 ∷ [] → e ≡ iend.WriteData samples → r ≡ Ok last.Nothing
+data_ends : (e : ImageEnd) (r : Result EndReply TiffError) (samples : List ℕ) → samples ≡ 7 ∷ 8 ∷ [] → e ≡ iend.WriteData samples → r ≡ Ok last.Nothing
     → jobs.ImageEnds after_begin new_pixel e r s.after_data (Some page_offset)
 data_ends e r samples u p q =
     subst (λ x. jobs.ImageEnds after_begin new_pixel x r s.after_data (Some page_offset)) (sym p)
-    (subst (λ y. jobs.WritesDataIfFound new_pixel (cut_to 1 samples.items) y after_begin s.after_data (Some page_offset)) (sym q)
+    (subst (λ y. jobs.WritesDataIfFound new_pixel (cut_to 1 samples) y after_begin s.after_data (Some page_offset)) (sym q)
     (subst (λ xs. jobs.WritesDataIfFound new_pixel (cut_to 1 xs) (Ok last.Nothing) after_begin s.after_data (Some page_offset)) (sym u) (inl data_stands)))
 
-data_images : (ss : List ImageStep) (rs : List (Result StepReply TiffError)) (e : ImageEnd) (samples : Vec ℕ) → ss ≡ [] → samples.items ≡ 7 ∷ 8 ∷ [] → e ≡ iend.WriteData samples
+data_images : (ss : List ImageStep) (rs : List (Result StepReply TiffError)) (e : ImageEnd) (samples : List ℕ) → ss ≡ [] → samples ≡ 7 ∷ 8 ∷ [] → e ≡ iend.WriteData samples
     → jobs.job_images ss rs e drawn_new (Some page_offset) ≡ s.data_images
 unfolding tiff_on_literals
 data_images ss rs e samples p u q =
@@ -194,8 +193,8 @@ data_images ss rs e samples p u q =
     ∙ ap (λ xs. jobs.images_at (Some page_offset) (Some (parts_left new_pixel (cut_to 1 xs))) new_pixel) u)
 
 -- the job runs in each run with the state of a new run
-pub data_ran : (old : Run) (j : ImageJob) (r : JobReply) (samples : Vec ℕ) → j.color ≡ name.Gray8 → j.width ≡ 1 → j.height ≡ 1
-    → j.steps.items ≡ [] → samples.items ≡ 7 ∷ 8 ∷ [] → j.end ≡ iend.WriteData samples
+pub data_ran : (old : Run) (j : ImageJob) (r : JobReply) (samples : List ℕ) → j.color ≡ name.Gray8 → j.width ≡ 1 → j.height ≡ 1
+    → j.steps.items ≡ [] → samples ≡ 7 ∷ 8 ∷ [] → j.end ≡ iend.WriteData samples
     → r.steps.items ≡ [] → r.last ≡ Ok last.Nothing
     → let begun : Run = record old { standing = first } in
     jobs.ImageRan begun j r (jobs.run_after_job begun s.after_data (Ok last.Nothing) s.data_images)

@@ -1,6 +1,5 @@
 -- Worked examples of image jobs and their parts.
 use Rattle.std.specs.Prelude.{◌≡◌, ℕ, true, List, [], ◌∷◌, ◌++◌, Option, Some, None, Ok, Err}
-use Rattle.std.specs.Global.{Vec}
 use Rattle.tiff_base.specs.declared.error.TiffError.TheVariants.{FormatError, IoError, IntSizeError, OutOfMemory}
 use Rattle.tiff_base.specs.declared.error.TiffFormatError.TheVariants.{InvalidDimensions}
 use Rattle.tiff_base.specs.declared.io.IoKind.TheVariants.{InvalidData, Device}
@@ -240,9 +239,9 @@ page_run =
     (record { offset = 25; image = jobs.image_with pixel_in_file ((7 ∷ []) ∷ []) } ∷ [])
 
 abbrev pub strip_job : Type 0
-strip_job = (j : ImageJob) (r : JobReply) (samples : Vec ℕ) → j.color ≡ name.Gray8 → j.width ≡ 1
+strip_job = (j : ImageJob) (r : JobReply) (samples : List ℕ) → j.color ≡ name.Gray8 → j.width ≡ 1
     → j.height ≡ 1
-    → j.steps.items ≡ istep.WriteStrip samples ∷ [] → samples.items ≡ 7 ∷ [] → j.end ≡ iend.Finish
+    → j.steps.items ≡ istep.WriteStrip samples ∷ [] → samples ≡ 7 ∷ [] → j.end ≡ iend.Finish
     → r.steps.items ≡ Ok reply.Nothing ∷ [] → r.last ≡ Ok last.Nothing
     → jobs.JobRan run_begun (job.Image j) r page_run
 
@@ -258,8 +257,8 @@ abbrev pub data_run : Run
 data_run = jobs.run_after_job run_begun after_data (Ok last.Nothing) data_images
 
 abbrev pub data_job : Type 0
-data_job = (j : ImageJob) (r : JobReply) (samples : Vec ℕ) → j.color ≡ name.Gray8 → j.width ≡ 1
+data_job = (j : ImageJob) (r : JobReply) (samples : List ℕ) → j.color ≡ name.Gray8 → j.width ≡ 1
     → j.height ≡ 1
-    → j.steps.items ≡ [] → samples.items ≡ 7 ∷ 8 ∷ [] → j.end ≡ iend.WriteData samples
+    → j.steps.items ≡ [] → samples ≡ 7 ∷ 8 ∷ [] → j.end ≡ iend.WriteData samples
     → r.steps.items ≡ [] → r.last ≡ Ok last.Nothing
     → jobs.JobRan run_begun (job.Image j) r data_run

@@ -1,6 +1,5 @@
 -- Worked examples of lists of jobs, and of what is handed back after them.
 use Rattle.std.specs.Prelude.{◌≡◌, ℕ, false, List, [], ◌∷◌, ◌++◌, take, Option, Some, None, Ok, Err}
-use Rattle.std.specs.Global.{Vec}
 use Rattle.tiff_base.specs.declared.error.TiffError.{TiffError}
 use Rattle.tiff_base.specs.declared.error.TiffError.TheVariants.{IoError, IntSizeError, OutOfMemory}
 use Rattle.tiff_base.specs.declared.io.IoKind.TheVariants.{Device}
@@ -28,7 +27,7 @@ use Rattle.tiff_examples.specs.Encode.Calls.{header}
 -- outside the chain
 pub record AreThree (jobs : List Job) : Type 0 where
   pub image : ImageJob
-  pub samples : Vec ℕ
+  pub samples : List ℕ
   pub directory : DirectoryJob
   pub are : jobs ≡ job.Predictor predictor.None ∷ job.Image image ∷ job.Directory directory ∷ []
   pub color : image.color ≡ name.Gray8
@@ -36,7 +35,7 @@ pub record AreThree (jobs : List Job) : Type 0 where
   pub height : image.height ≡ 1
   pub steps : image.steps.items ≡ []
   pub ending : image.end ≡ iend.WriteData samples
-  pub given : samples.items ≡ 7 ∷ 8 ∷ []
+  pub given : samples ≡ 7 ∷ 8 ∷ []
   pub chained : directory.chained ≡ false
   pub parent : directory.parent ≡ None
   pub no_steps : directory.steps.items ≡ []

@@ -5,13 +5,14 @@ use Rattle.std.specs.Ordering.{nat_cmp}
 use Rattle.std.specs.Global.{Vec}
 use Rattle.tiff_base.specs.declared.error.TiffError.{TiffError}
 use Rattle.tiff_base.specs.declared.error.TiffError.TheVariants.{IoError, IntSizeError, UsageError, OutOfMemory}
-use Rattle.tiff_base.specs.declared.error.UsageError.TheVariants.{ParentNotWritten, WriterFailed}
+use Rattle.tiff_base.specs.declared.error.UsageError.TheVariants.{MismatchedEntryLength, ParentNotWritten, WriterFailed}
 use Rattle.tiff_base.specs.declared.io.IoKind.TheVariants.{Device, InvalidInput}
 use Rattle.tiff_base.specs.declared.io.SinkFault.{SinkFault}
 use Rattle.tiff_base.specs.declared.io.SinkFault.TheVariants as fault
 use Rattle.tiff_base.specs.declared.tags.FileKind.TheVariants.{Classic, Big}
 use Rattle.tiff_base.specs.declared.tags.SampleFormat.TheVariants.{Uint}
 use Rattle.tiff_base.specs.declared.tags.Tag.TheVariants as tag
+use Rattle.tiff_base.specs.declared.tags.«Type».TheVariants as type
 use Rattle.tiff_encode.specs.declared.encoder.settings.Compression.TheVariants.{Packbits}
 use Rattle.tiff_encode.specs.declared.encoder.script.JobValue.{JobValue}
 use Rattle.tiff_encode.specs.declared.encoder.script.JobValue.TheVariants as value
@@ -38,6 +39,7 @@ use Rattle.tiff_encode.specs.Ends.{EndsAsDefined, IsCutOff, IsTornOff, IsShortOf
 use Rattle.tiff_encode.specs.Extending.{Extends}
 use Rattle.tiff_value.specs.Data.{u16s, data_of}
 use Rattle.tiff_encode.specs.JobValues.{value_data, buffer_in, cut_to}
+use Rattle.tiff_encode.specs.JobSamples.{samples_of_type}
 use Rattle.tiff_encode.specs.Jobs as jobs
 use Rattle.tiff_encode.specs.Jobs.{FileAndModel, Drawn, Run}
 use Rattle.tiff_examples.specs.OneValue.{long_field}
@@ -399,8 +401,16 @@ abbrev pub samples_missing : Type 0
 samples_missing = jobs.ended_samples drawn iend.Discard ≡ None
 
 abbrev pub samples_given : Type 0
-samples_given = (samples : Vec ℕ) → samples.items ≡ 263 ∷ 8 ∷ []
+samples_given = (samples : List ℕ) → samples ≡ 263 ∷ 8 ∷ []
     → jobs.ended_samples drawn (iend.WriteData samples) ≡ Some ((7 ∷ []) ∷ [])
+
+-- lent bytes are the numbers 263 and 8, the lowest byte of each first; a part of one is refused
+abbrev pub samples_lent : Type 0
+samples_lent = samples_of_type type.SHORT (7 ∷ 1 ∷ 8 ∷ 0 ∷ []) ≡ Ok (263 ∷ 8 ∷ [])
+
+abbrev pub samples_left_over : Type 0
+samples_left_over = samples_of_type type.SHORT (7 ∷ 1 ∷ 8 ∷ [])
+    ≡ Err (UsageError (MismatchedEntryLength type.SHORT 3))
 
 abbrev pub image_seven : Type 0
 image_seven = (jobs.image_with written_pixel ((7 ∷ []) ∷ [])).sample_at 0 0 0 ≡ 7

@@ -32,7 +32,8 @@ pub fn jobs()
 
 /// Images of jobs, and runs.
 pub fn images()
-    ensures { s.samples_all × s.samples_missing × s.samples_given × s.image_seven × s.image_format ×
+    ensures { s.samples_all × s.samples_missing × s.samples_given × s.samples_lent ×
+        s.samples_left_over × s.image_seven × s.image_format ×
         s.width_tag × s.artist_tag × s.apart_step × s.page_step × s.refused_step × s.extended_step ×
         s.shown_images × s.shown_image × s.no_jobs × s.reply_missing × s.run_stands × s.run_shows }
 {}

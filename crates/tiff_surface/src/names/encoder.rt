@@ -1,6 +1,6 @@
 //! The calls of `tiff::encoder`: encoders, directories and kinds of files.
 
-use tiff::encoder::script::run_jobs;
+use tiff::encoder::script::{run_jobs, run_jobs_in};
 use tiff::encoder::{
     DirectoryEncoder, DirectoryOffset, TiffEncoder, TiffKind, TiffKindBig, TiffKindStandard,
 };
@@ -18,6 +18,7 @@ fn name_encoders<W: Sink, K: TiffKind>() {
     let _call = TiffEncoder::<W, K>::image_directory;
     let _call = TiffEncoder::<W, K>::extra_directory;
     let _call = run_jobs::<W, K>;
+    let _call = run_jobs_in::<W, K>;
 }
 
 // Directories.

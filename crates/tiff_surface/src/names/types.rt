@@ -42,7 +42,7 @@ pub mod decoder {
 pub mod encoder {
     pub use tiff::encoder::script::{
         DirectoryEnd, DirectoryJob, DirectoryStep, EndReply, ImageEnd, ImageJob, ImageStep, Job,
-        JobBuffer, JobReply, JobValue, StepReply,
+        JobBuffer, JobReply, JobSamples, JobValue, StepReply,
     };
     pub use tiff::encoder::writer::TiffWriter;
     pub use tiff::encoder::{

@@ -12,9 +12,8 @@ ghost use Rattle.tiff_encode.specs.Stepping.{EndMoves, ImageHeld};
 use crate::encoder::directory::encoder::DirectoryEncoder;
 use crate::encoder::directory::state::DirectoryState;
 use crate::encoder::image::state::ImageState;
-use crate::encoder::jobs::values::cut_samples;
 use crate::encoder::kind::TiffKind;
-use crate::encoder::script::{DirectoryEnd, EndReply, ImageEnd};
+use crate::encoder::script::{DirectoryEnd, EndReply, ImageEnd, JobSamples};
 use tiff_base::error::TiffResult;
 use tiff_base::io::Sink;
 use tiff_value::encoder::colortype::ColorType;
@@ -90,7 +89,7 @@ impl<'a, W: Sink, K: TiffKind, C: ColorType> DirectoryEncoder<'a, W, K, ImageSta
 
     // `write_data` of samples, each of which is the lowest bits of a number. It returns
     // `OutOfMemory` if there is no memory for the samples.
-    fn write_numbers(self, numbers: &[u64]) -> TiffResult<EndReply>
+    fn write_numbers(self, numbers: &JobSamples<'_>) -> TiffResult<EndReply>
         ensures { EndMoves
             (λ s t offset.
             WritesDataIfFound self.entry.state (cut_to self.entry.state.size numbers.now) result
@@ -99,14 +98,14 @@ impl<'a, W: Sink, K: TiffKind, C: ColorType> DirectoryEncoder<'a, W, K, ImageSta
             (DataHeld self.entry.state (cut_to self.entry.state.size numbers.now)) }
     {
         self.state.is_of_type();
-        let samples = match cut_samples::<C::Inner>(self.encoder.alloc(), numbers) {
+        let samples = match numbers.cut::<C::Inner>(self.encoder.alloc()) {
             Ok(samples) => samples,
             Err(fault) => {
                 self.abandon();
                 return Err(fault);
             }
         };
-        self.write_samples(&samples)
+        self.write_samples(samples.as_slice())
     }
 
     // `finish`
@@ -133,7 +132,7 @@ impl<'a, W: Sink, K: TiffKind, C: ColorType> DirectoryEncoder<'a, W, K, ImageSta
     }
 
     /// Ends the image of a job. If there is no memory for its samples, the image has no directory.
-    pub(crate) fn end_image(self, end: &ImageEnd) -> TiffResult<EndReply>
+    pub(crate) fn end_image(self, end: &ImageEnd<'_>) -> TiffResult<EndReply>
         ensures { EndMoves (λ s t offset. ImageEnds s self.entry.state end.now result t offset)
             self.entry.state.directory.parent
             self.entry.encoder.now self.exit.0.now (ImageHeld self.entry.state end.now) }

@@ -1,15 +1,14 @@
 //! Runs the steps of a job in an image.
 
-ghost use Rattle.std.specs.Prelude.{◌≡◌, ◌-◌, ◌^◌, ◌<◌, [], ◌≤◌, length, vec_capacity};
+ghost use Rattle.std.specs.Prelude.{◌≡◌, [], ◌≤◌, length, vec_capacity};
 ghost use Rattle.tiff_encode.specs.ImageStepping.{ChunkDraws, ResolutionDraws, StripDraws, reply_to};
 ghost use Rattle.tiff_encode.specs.Stepping.{StepDraws, StepsDraw};
 
 use crate::encoder::directory::encoder::DirectoryEncoder;
 use crate::encoder::image::state::ImageState;
 use crate::encoder::jobs::directory_steps::put;
-use crate::encoder::jobs::values::cut_samples;
 use crate::encoder::kind::TiffKind;
-use crate::encoder::script::{ImageStep, StepReply};
+use crate::encoder::script::{ImageStep, JobSamples, StepReply};
 use tiff_base::error::TiffResult;
 use tiff_base::io::Sink;
 use tiff_base::tags::ResolutionUnit;
@@ -36,31 +35,31 @@ fn copied(value: &Rational) -> Rational
 
 impl<'a, W: Sink, K: TiffKind, C: ColorType> DirectoryEncoder<'a, W, K, ImageState<C>> {
     // `write_strip` of samples, each of which is the lowest bits of a number.
-    fn strip_step(&mut self, numbers: &[u64]) -> TiffResult<StepReply>
-        requires few { length numbers.now < 2 ^ 64 - 1 }
+    fn strip_step(&mut self, numbers: &JobSamples<'_>) -> TiffResult<StepReply>
         ensures same_reference { self.new.encoder.ghost_name ≡ self.old.encoder.ghost_name }
         ensures draws { StripDraws self.old.state numbers.now result self.old.encoder.now self.new.encoder.now
             self.new.state }
     {
         self.state.is_of_type();
-        let samples = cut_samples::<C::Inner>(self.encoder.alloc(), numbers)?;
+        numbers.are_few();
+        let samples = numbers.cut::<C::Inner>(self.encoder.alloc())?;
         self.encoder.is_short();
-        let answer = self.write_strip(&samples);
+        let answer = self.write_strip(samples.as_slice());
         self.encoder.is_short();
         replied(answer)
     }
 
     // `write_chunk` of samples, each of which is the lowest bits of a number.
-    fn chunk_step(&mut self, numbers: &[u64]) -> TiffResult<StepReply>
-        requires few { length numbers.now < 2 ^ 64 - 1 }
+    fn chunk_step(&mut self, numbers: &JobSamples<'_>) -> TiffResult<StepReply>
         ensures same_reference { self.new.encoder.ghost_name ≡ self.old.encoder.ghost_name }
         ensures draws { ChunkDraws self.old.state numbers.now result self.old.encoder.now self.new.encoder.now
             self.new.state }
     {
         self.state.is_of_type();
-        let samples = cut_samples::<C::Inner>(self.encoder.alloc(), numbers)?;
+        numbers.are_few();
+        let samples = numbers.cut::<C::Inner>(self.encoder.alloc())?;
         self.encoder.is_short();
-        let answer = self.write_chunk(&samples);
+        let answer = self.write_chunk(samples.as_slice());
         self.encoder.is_short();
         replied(answer)
     }
@@ -79,7 +78,7 @@ impl<'a, W: Sink, K: TiffKind, C: ColorType> DirectoryEncoder<'a, W, K, ImageSta
     }
 
     // Runs one step of an image.
-    fn image_step(&mut self, step: &ImageStep) -> TiffResult<StepReply>
+    fn image_step(&mut self, step: &ImageStep<'_>) -> TiffResult<StepReply>
         ensures same_reference { self.new.encoder.ghost_name ≡ self.old.encoder.ghost_name }
         ensures draws { StepDraws self.old.state step.now result self.old.encoder.now self.new.encoder.now
             self.new.state }
@@ -108,7 +107,7 @@ impl<'a, W: Sink, K: TiffKind, C: ColorType> DirectoryEncoder<'a, W, K, ImageSta
     /// Runs steps one after another, and appends their replies to a list that has room for them.
     pub(crate) fn image_steps(
         &mut self,
-        steps: &[ImageStep],
+        steps: &[ImageStep<'_>],
         replies: &mut Vec<TiffResult<StepReply>>,
     )
         requires room { length steps.now ≤ vec_capacity replies.old }

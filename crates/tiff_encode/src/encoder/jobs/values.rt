@@ -1,11 +1,8 @@
 //! Writes the values of jobs.
 
-ghost use Rattle.std.specs.Prelude.{◌≡◌, map, MatchResult};
-ghost use Rattle.tiff_base.specs.Types.{type_size};
-ghost use Rattle.tiff_value.specs.ColorType.{sample_number};
 ghost use Rattle.tiff_encode.specs.Calls as calls;
 ghost use Rattle.tiff_encode.specs.Ends.{Ends};
-ghost use Rattle.tiff_encode.specs.JobValues.{buffer_in, cut_to, value_data};
+ghost use Rattle.tiff_encode.specs.JobValues.{buffer_in, value_data};
 ghost use Rattle.tiff_encode.specs.Leaves.{Leaves};
 ghost use Rattle.tiff_encode.specs.Model.{Model, Stands};
 
@@ -14,24 +11,9 @@ use crate::encoder::kind::TiffKind;
 use crate::encoder::script::{JobBuffer, JobValue};
 use std::alloc::Global;
 use tiff_base::directory::Entry;
-use tiff_base::error::{TiffError, TiffResult};
+use tiff_base::error::TiffResult;
 use tiff_base::io::Sink;
-use tiff_value::encoder::differences::Sample;
 use tiff_value::encoder::tiff_value::{Slice, Text, TiffScalar, TiffValue};
-
-/// Returns samples, each of which is the lowest bits of a number. The only error is `OutOfMemory`.
-pub(crate) fn cut_samples<S: Sample>(alloc: Global, numbers: &[u64]) -> TiffResult<Vec<S>>
-    ensures { MatchResult result
-        (λ v. map (sample_number (type_size S.value_type) S.bits) v.items
-        ≡ cut_to (type_size S.value_type) numbers.now)
-        (λ e. e ≡ TiffError.OutOfMemory) }
-{
-    let mut samples = Vec::with_capacity(alloc, numbers.len())?;
-    for number in numbers {
-        samples.push_reserved(S::cut(*number));
-    }
-    Ok(samples)
-}
 
 // Passes a value of any type to a state, which returns an `A`.
 trait ValueVisitor<E, A> {

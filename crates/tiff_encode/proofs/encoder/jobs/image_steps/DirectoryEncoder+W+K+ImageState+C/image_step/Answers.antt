@@ -6,7 +6,7 @@ use Rattle.tiff_encode.specs.declared.encoder.script.ImageStep.TheVariants as is
 use Rattle.tiff_encode.specs.declared.encoder.script.StepReply.{StepReply}
 use Rattle.tiff_encode.specs.declared.encoder.script.StepReply.TheVariants as reply
 use Rattle.tiff_encode.specs.Machine.{FileState, OpenImage}
-use Rattle.tiff_encode.specs.ImageStepping.{ChunkDraws, ResolutionDraws, StripDraws, reply_to}
+use Rattle.tiff_encode.specs.ImageStepping.{ResolutionDraws, reply_to}
 use Rattle.tiff_encode.specs.Jobs.{ImageStepped}
 use Rattle.tiff_encode.specs.Stepping.{StepDraws}
 use Rattle.tiff_encode.proofs.Image.Steps.{CallDraws, asked, setting_draws}
@@ -64,25 +64,11 @@ returns-in-NextChunkSampleCount-clause-draws g c =
     (asked c.args.self.now.state (λ s before t after. ImageStepped s before istep.NextChunkSampleCount r t after) true c.args.self.now.encoder.now
     (λ s before. (ap (λ n. Ok (reply.Number n)) c.next_chunk_sample_count.ensures, (refl, refl))))
 
-pub strip_step-requires : goal.strip_step-requires
-strip_step-requires g c = record { few = omega (arith, c.deref-in-WriteStrip.type_inv.1) }
-
 pub returns-in-WriteStrip-clause-draws : goal.returns-in-WriteStrip-clause-draws
-returns-in-WriteStrip-clause-draws g c =
-    let old = c.args.self.now in
-    let new = c.strip_step.new.self in
-    so c.in-WriteStrip.is refl
-    (subst (λ xs. StripDraws old.state xs c.strip_step.result old.encoder.now new.encoder.now new.state) c.deref-in-WriteStrip.ensures.value c.strip_step.ensures.draws)
-
-pub chunk_step-requires : goal.chunk_step-requires
-chunk_step-requires g c = record { few = omega (arith, c.deref-in-WriteChunk.type_inv.1) }
+returns-in-WriteStrip-clause-draws g c = so c.in-WriteStrip.is refl c.strip_step.ensures.draws
 
 pub returns-in-WriteChunk-clause-draws : goal.returns-in-WriteChunk-clause-draws
-returns-in-WriteChunk-clause-draws g c =
-    let old = c.args.self.now in
-    let new = c.chunk_step.new.self in
-    so c.in-WriteChunk.is refl
-    (subst (λ xs. ChunkDraws old.state xs c.chunk_step.result old.encoder.now new.encoder.now new.state) c.deref-in-WriteChunk.ensures.value c.chunk_step.ensures.draws)
+returns-in-WriteChunk-clause-draws g c = so c.in-WriteChunk.is refl c.chunk_step.ensures.draws
 
 pub returns-in-Resolution-clause-draws : goal.returns-in-Resolution-clause-draws
 returns-in-Resolution-clause-draws g c =

@@ -3,7 +3,7 @@ use Rattle.std.specs.Vec.{vec_len, vec_capacity}
 use Rattle.tiff_base.specs.Types.{type_size}
 use Rattle.tiff_value.specs.ColorType.{sample_number}
 use Rattle.tiff_encode.specs.JobValues.{cut_to}
-use Rattle.tiff_encode.proofs.encoder.jobs.values.cut_samples.Given as goal
+use Rattle.tiff_encode.proofs.encoder.job_samples.cut_numbers.Given as goal
 
 -- the first numbers are cut, and there is room for the others
 abbrev pub invariant-loop-number : goal.invariant-loop-number

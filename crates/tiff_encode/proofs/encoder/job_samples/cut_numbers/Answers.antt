@@ -2,7 +2,7 @@ use Rattle.std.proofs.Common.{arith}
 use Rattle.tiff_base.specs.Types.{type_size}
 use Rattle.tiff_value.specs.ColorType.{sample_number}
 use Rattle.tiff_encode.proofs.Data.Cutting.{one_cut, all_cut}
-use Rattle.tiff_encode.proofs.encoder.jobs.values.cut_samples.Goals as goal
+use Rattle.tiff_encode.proofs.encoder.job_samples.cut_numbers.Goals as goal
 
 pub push_reserved-requires : goal.push_reserved-requires
 push_reserved-requires g c = omega (arith, c.loop-number.invariant.room, c.loop-number-test.true)
