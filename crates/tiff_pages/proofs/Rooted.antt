@@ -8,7 +8,7 @@ use Rattle.tiff_pages.specs.declared.pages.PageList.{PageList}
 use Rattle.tiff_pages.specs.declared.tree.DirectoryItem.{DirectoryItem}
 use Rattle.tiff_pages.specs.Listed.{ListingRecord}
 use Rattle.tiff_pages.specs.Pages.{Pages, item_at, pages_in, pages_of}
-use Rattle.tiff_pages.specs.Tree.{Directories, Shows, below, chain_item, chain_list, deepest, directories_of, level, page_item}
+use Rattle.tiff_pages.specs.Tree.{Directories, Shows, below, chain_item, chain_list, deepest, directories_of, level, most_values, page_item}
 use Rattle.tiff_pages.proofs.Shown.{level_same}
 
 -- The decoder went along the chain of its file, under the same limits.
@@ -44,12 +44,12 @@ pages_are old listed h = cc
 
 -- The items of the pages are those of the chain.
 chain_listed : (old mid : Decoding) (listed : PageList) (l : ListingRecord) → WentAlong old mid → listing (pages_of old) ≡ listing (pages_in listed)
-    → l.items ≡ map (page_item mid) listed.pages.items → l.met ≡ map (λ page. page.place.0) listed.pages.items → l ≡ chain_list old
-chain_listed old mid listed l w p i m =
+    → l.items ≡ map (page_item mid) listed.pages.items → l.met ≡ map (λ page. page.place.0) listed.pages.items → l.left ≡ most_values → l ≡ chain_list old
+chain_listed old mid listed l w p i m f =
     let all : listed.pages.items ≡ map (item_at old) (chain_of old).offsets = ap (λ (x : Pages). x.items) (pages_are old listed p) in
     let items = i ∙ ap (λ (d : Decoding). map (page_item d) listed.pages.items) w.at ∙ ap (map (page_item old)) all ∙ items_listed old (chain_of old).offsets in
     let met = m ∙ ap (map place_of) all ∙ met_listed old (chain_of old).offsets in
-    λ k. record { items = items k; met = met k }
+    λ k. record { items = items k; met = met k; left = f k }
 
 -- ---- the levels
 
@@ -66,10 +66,10 @@ below_same a b h (suc n) l = h n (below b n l) ∙ ap (level a n) (below_same a 
 -- All directories are listed.
 pub all_found : {X : Type 0} (x : X) (old mid last : Decoding) (listed : PageList) (first l : ListingRecord) (items : List DirectoryItem) → WentAlong old mid
     → listing (pages_of old) ≡ listing (pages_in listed)
-    → Shows (Ok x) mid last → first.items ≡ map (page_item mid) listed.pages.items → first.met ≡ map (λ page. page.place.0) listed.pages.items
+    → Shows (Ok x) mid last → first.items ≡ map (page_item mid) listed.pages.items → first.met ≡ map (λ page. page.place.0) listed.pages.items → first.left ≡ most_values
     → l ≡ below last (suc deepest) first → items ≡ l.items → told (directories_of old) ≡ told (record { items = items; end = listed.end })
-all_found x old mid last listed first l items w p s i m h k =
-    let start = chain_listed old mid listed first w p i m in
+all_found x old mid last listed first l items w p s i m f h k =
+    let start = chain_listed old mid listed first w p i m f in
     let levels : (depth : ℕ) (t : ListingRecord) → level last depth t ≡ level old depth t =
     λ depth t. level_same (Ok x) mid last s depth t ∙ along_level old mid w depth t in
     let whole = h ∙ below_same old last levels (suc deepest) first ∙ ap (below old (suc deepest)) start in

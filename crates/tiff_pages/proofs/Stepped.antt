@@ -7,7 +7,7 @@ use Rattle.std.specs.Prelude.{if◌then◌else◌}
 use Rattle.tiff_decode.specs.Machine.{Decoding}
 use Rattle.tiff_pages.specs.declared.tree.DirectoryItem.{DirectoryItem}
 use Rattle.tiff_pages.specs.Listed.{ListingRecord}
-use Rattle.tiff_pages.specs.Tree.{Shows, below, expand, is_open, level, list_named, list_tag, pointer_tags, with_item}
+use Rattle.tiff_pages.specs.Tree.{Shows, below, expand, is_open, level, list_named, list_tag, pointers, with_item}
 use Rattle.tiff_pages.proofs.Shown.{expand_same, level_same, named_same, ok_again, then_shows}
 
 -- Two calls without a result.
@@ -26,12 +26,12 @@ below_more d n l =
 
 -- One more level is listed.
 pub levelled : (start mid : Decoding) (first l given now : ListingRecord) (n : ℕ) (items : List DirectoryItem) → Shows {X = Unit {0}} (Ok tt) start mid → l ≡ below start n first
-    → given.items ≡ [] → given.met ≡ l.met → items ≡ l.items → now ≡ fold (expand mid n) given items → now ≡ below start (n + 1) first
-levelled start mid first l given now n items s b g m i h =
-    let empty : given ≡ record { items = []; met = l.met } = λ k. record { items = g k; met = m k } in
+    → given.items ≡ [] → given.met ≡ l.met → given.left ≡ l.left → items ≡ l.items → now ≡ fold (expand mid n) given items → now ≡ below start (n + 1) first
+levelled start mid first l given now n items s b g m f i h =
+    let empty : given ≡ record l { items = [] } = λ k. record { items = g k; met = m k; left = f k } in
     h
     ∙ ap (λ (t : ListingRecord). fold (expand mid n) t items) empty
-    ∙ ap (λ (xs : List DirectoryItem). fold (expand mid n) (record { items = []; met = l.met }) xs) i
+    ∙ ap (λ (xs : List DirectoryItem). fold (expand mid n) (record l { items = [] }) xs) i
     ∙ level_same (Ok tt) start mid s n l
     ∙ ap (level start n) b
     ∙ sym (below_more start n first)
@@ -40,7 +40,7 @@ levelled start mid first l given now n items s b g m i h =
 pub named_behind : {X : Type 0} (r : Result X TiffError) (old mid : Decoding) (depth : ℕ) (l behind new : ListingRecord) (item : DirectoryItem) (directory : DirectoryRecord)
     (read : Result DirectoryRecord TiffError) → Shows (Ok read) old mid → true ≡ is_open depth item → behind ≡ with_item l item
     → read ≡ directory_at old.kind old.order old.bytes item.place.0 → read ≡ Ok directory
-    → OnOk r (new ≡ fold (list_tag mid directory item.place (depth + 1)) behind (pointer_tags directory.entries)) → OnOk r (new ≡ expand old depth l item)
+    → OnOk r (new ≡ fold (list_tag mid directory item.place (depth + 1)) behind (pointers directory.entries)) → OnOk r (new ≡ expand old depth l item)
 named_behind (Err e) old mid depth l behind new item directory read s o b d k h = tt
 named_behind (Ok x) old mid depth l behind new item directory read s o b d k h =
     let whole : ListingRecord = list_named old item.place (depth + 1) (with_item l item) (directory_at old.kind old.order old.bytes item.place.0) in

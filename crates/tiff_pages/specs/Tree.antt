@@ -1,10 +1,11 @@
 -- The tree of a file's directories: those of the chain, and those that tags name (TIFF 6.0,
 -- Technical Note 1; BigTIFF; Exif 2.3; this project's).
-use Rattle.std.specs.Prelude.{◌≡◌, ℕ, zero, suc, ◌+◌, ◌≤◌, ◌<◌, ◌==◌, List, [], ◌∷◌, ◌++◌, map, Bool, true, false, if◌then◌else◌, nat_eq, nat_lt, Option, None, Some, Result, Ok, Err, IfErr, OnOk}
+use Rattle.std.specs.Prelude.{◌≡◌, ℕ, zero, suc, ◌+◌, ◌-◌, ◌≤◌, ◌<◌, ◌==◌, List, [], ◌∷◌, ◌++◌, length, map, Bool, true, false, if◌then◌else◌, nat_eq, nat_lt, Option, None, Some, Result, Ok, Err, IfErr, OnOk}
 use Rattle.std.specs.List.{filter_map, fold, list_any}
 use Rattle.std.specs.FinMap.{FinMap, entries, len}
 use Rattle.std.specs.Ordering.{nat_cmp}
 use Rattle.tiff_base.specs.declared.error.TiffError.{TiffError}
+use Rattle.tiff_base.specs.declared.error.TiffError.TheVariants.{LimitsExceeded}
 use Rattle.tiff_base.specs.declared.tags.IfdPointer.{IfdPointer}
 use Rattle.tiff_base.specs.declared.tags.Tag.{Tag}
 use Rattle.tiff_base.specs.declared.tags.«Type».{«Type»}
@@ -32,6 +33,11 @@ use Rattle.tiff_pages.specs.Pages.{facts_at, state_along, times_to_end}
 abbrev pub deepest : ℕ
 deepest = 8
 
+-- the most values of tags, of all directories of a file, that a list takes. The fields of a forged
+-- directory can share their values, of which there are then as many as fields times values.
+abbrev pub most_values : ℕ
+most_values = 1048576
+
 -- ---- the tags that name directories
 
 -- the types whose values are offsets of directories (TIFF 6.0 Technical Note 1; BigTIFF)
@@ -49,19 +55,24 @@ abbrev pub names_directories : Tag → «Type» → Bool
 names_directories tag type =
     if is_offset_type type then true else list_any (nat_eq (tag_number tag)) offset_tags
 
--- the tag of a field, if it names directories
-abbrev pub pointer_tag : ℕ × Field → Option Tag
-pointer_tag e =
-    if names_directories (tag_of e.0) e.1.field_type then Some (tag_of e.0) else None
+-- the tag of a field, and how many values it has, if it names directories
+abbrev pub pointer : ℕ × Field → Option (Tag × ℕ)
+pointer e =
+    if names_directories (tag_of e.0) e.1.field_type then Some (tag_of e.0, e.1.count) else None
 
 -- the tags of a directory that name directories, by ascending number
-abbrev pub pointer_tags : FinMap nat_cmp Field → List Tag
-pointer_tags fields = filter_map pointer_tag (entries fields)
+abbrev pub pointers : FinMap nat_cmp Field → List (Tag × ℕ)
+pointers fields = filter_map pointer (entries fields)
 
 -- the numbers of a tag of a directory, under the decoder's limits
 abbrev pub values_of : Decoding → DirectoryRecord → Tag → Result (List ℕ) TiffError
 values_of d directory tag =
     require into_u64_vec (look_in d.kind d.order d.bytes d.state.limits directory.entries) tag
+
+-- the numbers of a tag of a directory, if a list that takes `left` more values takes so many
+abbrev pub values_within : Decoding → DirectoryRecord → ℕ → Tag × ℕ → Result (List ℕ) TiffError
+values_within d directory left pointer =
+    if nat_lt left pointer.1 then Err LimitsExceeded else values_of d directory pointer.0
 
 -- ---- an item
 
@@ -112,25 +123,28 @@ list_offset d by depth l offset = record {
     found = found_named d l.met depth offset;
   } ∷ [];
   met = met_by l.met depth offset;
+  left = l.left;
 }
 
 -- the list with the directories that a tag names by its values, or with the error of the values
 abbrev pub list_values : Decoding → NamedBy → ℕ → ListingRecord → Result (List ℕ) TiffError
     → ListingRecord
-list_values d by depth l (Ok offsets) = fold (list_offset d by depth) l offsets
+list_values d by depth l (Ok offsets) =
+    fold (list_offset d by depth) (record l { left = l.left - length offsets }) offsets
 list_values d by depth l (Err e) =
     with_item l (record { place = by.directory; depth = depth; by = Some by; found = ValuesError e })
 
-abbrev pub list_tag : Decoding → DirectoryRecord → IfdPointer → ℕ → ListingRecord → Tag
+abbrev pub list_tag : Decoding → DirectoryRecord → IfdPointer → ℕ → ListingRecord → Tag × ℕ
     → ListingRecord
-list_tag d directory place depth l tag =
-    list_values d (record { directory = place; tag = tag }) depth l (values_of d directory tag)
+list_tag d directory place depth l pointer =
+    list_values d (record { directory = place; tag = pointer.0 }) depth l
+    (values_within d directory l.left pointer)
 
 -- the list with the directories that the directory at a place names
 abbrev pub list_named : Decoding → IfdPointer → ℕ → ListingRecord → Result DirectoryRecord TiffError
     → ListingRecord
 list_named d place depth l (Ok directory) =
-    fold (list_tag d directory place depth) l (pointer_tags directory.entries)
+    fold (list_tag d directory place depth) l (pointers directory.entries)
 list_named d place depth l (Err e) = l
 
 -- ---- levels
@@ -153,7 +167,7 @@ expand d depth l item =
 
 -- the list with the directories that the directories of this depth name
 abbrev pub level : Decoding → ℕ → ListingRecord → ListingRecord
-level d depth l = fold (expand d depth) (record { items = []; met = l.met }) l.items
+level d depth l = fold (expand d depth) (record l { items = [] }) l.items
 
 -- the list with the directories at most this deep that those in it lead to
 abbrev pub below : Decoding → ℕ → ListingRecord → ListingRecord
@@ -165,6 +179,7 @@ abbrev pub chain_list : Decoding → ListingRecord
 chain_list d = record {
   items = map (chain_item d) (chain_of d).offsets;
   met = (chain_of d).offsets;
+  left = most_values;
 }
 
 -- the directories of a file, and how their chain ends

@@ -4,7 +4,7 @@ ghost use Rattle.std.specs.Prelude.{◌≡◌, ◌≤◌, [], Err, IfOk, MatchRe
 ghost use Rattle.tiff_base.specs.Answers.{Answers};
 ghost use Rattle.tiff_base.specs.Directory.{directory_at};
 ghost use Rattle.tiff_pages.specs.Pages.{facts_at};
-ghost use Rattle.tiff_pages.specs.Tree.{LeavesTree, Shows, below, deepest, directories_in, directories_of, expand, found_in, found_named, is_open, list_offset, list_tag, list_values, met_by, names_directories, page_item, pointer_tags, values_of, with_item};
+ghost use Rattle.tiff_pages.specs.Tree.{LeavesTree, Shows, below, deepest, directories_in, directories_of, expand, found_in, found_named, is_open, list_offset, list_tag, list_values, met_by, most_values, names_directories, page_item, pointers, values_of, values_within, with_item};
 
 use crate::pages::{PageFacts, PageItem, facts_here, file_answer, pages};
 use std::alloc::{AllocError, Global};
@@ -18,6 +18,9 @@ use tiff_ifd::offsets::Offsets;
 
 /// The depth of the deepest directories that are listed. The chain has depth 0.
 pub const DEEPEST: u32 = 8;
+
+/// The most values of tags, of all directories of a file, that a list takes.
+pub const MOST_VALUES: u64 = 1_048_576;
 
 /// What names a directory outside the chain: the offset of a directory, and the tag of it that has
 /// the named directory's offset as a value.
@@ -42,7 +45,8 @@ pub enum Found {
     Directory(DirectoryFacts),
     /// The error by which the directory can't be read.
     DirectoryError(TiffError),
-    /// The error by which the tag's values can't be read as numbers.
+    /// The error by which the tag's values can't be read as numbers; `LimitsExceeded` if there are more
+    /// than the list takes.
     ValuesError(TiffError),
     /// A directory that the list has elsewhere.
     Met,
@@ -69,12 +73,13 @@ pub struct DirectoryList {
     pub end: Option<TiffError>,
 }
 
-// The items so far, and the offsets of the directories among them, in the order in which they were
-// met.
+// The items so far; the offsets of the directories among them, in the order in which they were met;
+// and how many more values of tags the list takes.
 #[derive(Drop)]
 struct Listing {
     items: Vec<DirectoryItem>,
     met: Offsets,
+    left: u64,
 }
 
 impl Model for Listing {
@@ -82,7 +87,7 @@ impl Model for Listing {
 
     ghost Value = { ListingRecord };
 
-    ghost view = { λ l. record { items = l.items.items; met = l.met } };
+    ghost view = { λ l. record { items = l.items.items; met = l.met; left = l.left } };
 }
 
 // Whether the values of a tag with this type are offsets of directories.
@@ -93,17 +98,17 @@ fn names_directories(tag: Tag, field_type: Type) -> bool
         || matches!(tag.to_u16(), 330 | 34665 | 34853 | 40965)
 }
 
-// The tags of a directory whose values are offsets of directories.
-fn pointer_tags(alloc: Global, directory: &Directory) -> Result<Vec<Tag>, AllocError>
-    ensures { IfOk result (λ tags. tags.items ≡ pointer_tags directory.now.entries) }
+// The tags of a directory whose values are offsets of directories, and how many values each has.
+fn pointers(alloc: Global, directory: &Directory) -> Result<Vec<(Tag, u64)>, AllocError>
+    ensures { IfOk result (λ found. found.items ≡ pointers directory.now.entries) }
 {
-    let mut tags = Vec::new(alloc);
+    let mut found = Vec::new(alloc);
     for (tag, entry) in directory.iter() {
         if names_directories(tag, entry.field_type()) {
-            tags.push(tag)?;
+            found.push((tag, entry.count()))?;
         }
     }
-    Ok(tags)
+    Ok(found)
 }
 
 // The facts of the page of the directory at an offset, or its first error.
@@ -147,6 +152,26 @@ fn values_of<R: Source>(
     file_answer(tags.get_tag_u64_vec(tag))
 }
 
+// The numbers of a tag of a directory, if a list that takes `left` more values takes so many, or the
+// error by which they can't be read.
+fn values_within<R: Source>(
+    decoder: &mut Decoder<R>,
+    directory: &Directory,
+    left: u64,
+    pointer: (Tag, u64),
+) -> TiffResult<TiffResult<Vec<u64>>>
+    ensures shows { Shows result decoder.old decoder.new }
+    ensures values { IfOk result (λ read. MatchResult read
+        (λ v. values_within decoder.old directory.now left pointer ≡ Ok v.items)
+        (λ e. values_within decoder.old directory.now left pointer ≡ Err e)) }
+{
+    let (tag, count) = pointer;
+    if left < count {
+        return Ok(Err(TiffError::LimitsExceeded));
+    }
+    values_of(decoder, directory, tag)
+}
+
 // What is found at an offset whose page has these facts or this error.
 fn found_at<R: Source>(
     decoder: &mut Decoder<R>,
@@ -184,11 +209,12 @@ fn page_item<R: Source>(decoder: &mut Decoder<R>, page: PageItem) -> TiffResult<
 impl Listing {
     // A list of nothing.
     fn new(alloc: Global) -> Self
-        ensures { result ≡ record { items = []; met = [] } }
+        ensures { result ≡ record { items = []; met = []; left = most_values } }
     {
         Listing {
             items: Vec::new(alloc),
             met: Offsets::new(alloc),
+            left: MOST_VALUES,
         }
     }
 
@@ -206,6 +232,7 @@ fn list_chain<R: Source>(decoder: &mut Decoder<R>, pages: Vec<PageItem>) -> Tiff
     ensures shows { Shows result decoder.old decoder.new }
     ensures items { IfOk result (λ l. l.items ≡ map (page_item decoder.old) pages.items) }
     ensures met { IfOk result (λ l. l.met ≡ map (λ page. page.place.0) pages.items) }
+    ensures left { IfOk result (λ l. l.left ≡ most_values) }
 {
     let mut listing = Listing::new(decoder.allocator());
     for page in pages {
@@ -277,20 +304,24 @@ fn list_offsets<R: Source>(
     Ok(())
 }
 
-// Lists the directories that a tag of a directory names.
-fn list_tag<R: Source>(
+// Lists the directories that a tag names by these values, or the error by which they can't be read.
+fn list_values<R: Source>(
     decoder: &mut Decoder<R>,
     listing: &mut Listing,
-    directory: &Directory,
     by: NamedBy,
     depth: u32,
+    values: TiffResult<Vec<u64>>,
 ) -> TiffResult<()>
     ensures shows { Shows result decoder.old decoder.new }
-    ensures listing { OnOk result (listing.new
-        ≡ list_values decoder.old by depth listing.old (values_of decoder.old directory.now by.tag)) }
+    ensures listing { OnOk result (MatchResult values
+        (λ v. listing.new ≡ list_values decoder.old by depth listing.old (Ok v.items))
+        (λ e. listing.new ≡ list_values decoder.old by depth listing.old (Err e))) }
 {
-    match values_of(decoder, directory, by.tag)? {
-        Ok(offsets) => list_offsets(decoder, listing, by, depth, &offsets),
+    match values {
+        Ok(offsets) => {
+            listing.left = listing.left.saturating_sub(offsets.len() as u64);
+            list_offsets(decoder, listing, by, depth, &offsets)
+        }
         Err(fault) => {
             listing.push(DirectoryItem {
                 place: by.directory,
@@ -313,15 +344,16 @@ fn list_tags<R: Source>(
 ) -> TiffResult<()>
     ensures shows { Shows result decoder.old decoder.new }
     ensures listing { OnOk result (listing.new ≡ fold (list_tag decoder.old directory.now place depth)
-        listing.old (pointer_tags directory.now.entries)) }
+        listing.old (pointers directory.now.entries)) }
 {
-    let tags = pointer_tags(decoder.allocator(), directory)?;
-    for tag in &tags {
+    let pointers = pointers(decoder.allocator(), directory)?;
+    for pointer in &pointers {
         let by = NamedBy {
             directory: place,
-            tag: *tag,
+            tag: pointer.0,
         };
-        list_tag(decoder, listing, directory, by, depth)?;
+        let values = values_within(decoder, directory, listing.left, *pointer)?;
+        list_values(decoder, listing, by, depth, values)?;
     }
     Ok(())
 }
@@ -401,8 +433,8 @@ fn list_levels<R: Source>(decoder: &mut Decoder<R>, listing: &mut Listing) -> Ti
 /// the chain. A directory is listed once, nearest to the chain and then first in this order; where
 /// it is named elsewhere, the item is `Met`. A directory is `TooDeep` if it would be deeper than
 /// `DEEPEST`. The errors of the file are items: of a directory, of its page, of a tag's values, also
-/// `LimitsExceeded` under the decoder's limits. The list has the error by which the chain ends, if
-/// it ends by one.
+/// `LimitsExceeded` under the decoder's limits, or where a tag has more values than are left of
+/// `MOST_VALUES` for all tags. The list has the error by which the chain ends, if it ends by one.
 ///
 /// The only errors of the list are `OutOfMemory` and an error of the device, `IoError(Device)`.
 /// After the list, the decoder is in the chain where [`pages`] leaves it, and shows the page of any

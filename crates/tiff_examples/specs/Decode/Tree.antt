@@ -1,5 +1,5 @@
 -- Worked examples of the tree of a file's directories: what names one, and what is found there.
-use Rattle.std.specs.Prelude.{◌≡◌, ℕ, List, [], ◌∷◌, Some, true, false, Err}
+use Rattle.std.specs.Prelude.{◌≡◌, ℕ, List, [], ◌∷◌, Some, true, false, Ok, Err}
 use Rattle.std.specs.List.{fold}
 use Rattle.tiff_base.specs.declared.error.TiffError.TheVariants.{IoError, LimitsExceeded}
 use Rattle.tiff_base.specs.declared.io.IoKind.TheVariants.{UnexpectedEof}
@@ -10,8 +10,8 @@ use Rattle.tiff_pages.specs.declared.tree.Found.{Found}
 use Rattle.tiff_pages.specs.declared.tree.Found.TheVariants.{DirectoryError, ValuesError, Met, TooDeep}
 use Rattle.tiff_pages.specs.declared.tree.NamedBy.{NamedBy}
 use Rattle.tiff_pages.specs.Listed.{ListingRecord}
-use Rattle.tiff_pages.specs.Tree.{expand, found_named, list_offset, list_values, names_directories}
-use Rattle.tiff_examples.specs.Decoders.{at, gray_decoder}
+use Rattle.tiff_pages.specs.Tree.{expand, found_named, list_offset, list_values, names_directories, values_within}
+use Rattle.tiff_examples.specs.Decoders.{at, gray_decoder, gray_fields}
 
 -- SubIFDs and the pointers of Exif name directories whatever their type, and any tag of type IFD or
 -- IFD8
@@ -36,7 +36,7 @@ item offset depth found =
 
 -- a list whose only directory is that of the one gray pixel
 abbrev pub met_gray : ListingRecord
-met_gray = record { items = []; met = 25 ∷ [] }
+met_gray = record { items = []; met = 25 ∷ []; left = 4 }
 
 -- three values: an offset past the end, that of the page, and the first one again
 abbrev pub named_twice : Type 0
@@ -46,6 +46,7 @@ named_twice =
       items = item 1000 1 (DirectoryError (IoError UnexpectedEof)) ∷ item 25 1 Met ∷ item 1000 1 Met
           ∷ [];
       met = 25 ∷ 1000 ∷ [];
+      left = 4;
     }
 
 -- values that can't be read
@@ -53,6 +54,16 @@ abbrev pub no_values : Type 0
 no_values =
     list_values gray_decoder by_sub_ifds 1 met_gray (Err LimitsExceeded)
     ≡ record met_gray { items = item 25 1 (ValuesError LimitsExceeded) ∷ [] }
+
+-- values that a list takes are fewer to take; more of them are not read
+abbrev pub values_taken : Type 0
+values_taken =
+    (list_values gray_decoder by_sub_ifds 1 met_gray (Ok (25 ∷ 25 ∷ 25 ∷ []))).left ≡ 1
+
+abbrev pub values_past_the_list : Type 0
+values_past_the_list =
+    values_within gray_decoder gray_fields 4 (tag.SubIfd, 5)
+    ≡ Err LimitsExceeded
 
 -- the deepest directory, one below it, and one below it that was met
 abbrev pub as_deep : Type 0

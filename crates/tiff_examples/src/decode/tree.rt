@@ -10,5 +10,5 @@ pub fn names()
 
 /// What is found where a directory is named.
 pub fn found()
-    ensures { s.named_twice × s.no_values × s.as_deep × s.too_deep × s.deep_but_met × s.met_stays }
+    ensures { s.named_twice × s.no_values × s.values_taken × s.values_past_the_list × s.as_deep × s.too_deep × s.deep_but_met × s.met_stays }
 {}

@@ -10,6 +10,7 @@ loop-depth-preserved g c = record {
       c.loop-depth.invariant.shows c.loop-depth.invariant.listing
       (ap (λ v. v.items) c.replace-items.ensures.after ∙ c.new.ensures.items)
       (ap (λ (l : ListingRecord). l.met) c.listing.view_is)
+      (ap (λ (l : ListingRecord). l.left) c.listing.view_is)
       (ap (λ v. v.items) c.replace-items.ensures.value ∙ ap (λ (l : ListingRecord). l.items) c.listing.view_is)
       c.in_ok-expand_all.ensures.listing;
 }
