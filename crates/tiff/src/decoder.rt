@@ -1,4 +1,5 @@
-//! Files are read.
+//! Reading: `Decoder`, results and buffers of samples, layouts, limits, values of tags, and lists of
+//! calls.
 
 pub use tiff_base::color::ChunkType;
 pub use tiff_decode::buffer::DecodingBuffer;

@@ -1,4 +1,5 @@
-//! Files are written.
+//! Writing: `TiffEncoder`, images and directories, color types, compressors, laws, and lists of
+//! jobs.
 
 pub use tiff_base::tags::Predictor;
 pub use tiff_encode::encoder::{

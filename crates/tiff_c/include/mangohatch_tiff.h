@@ -27,8 +27,8 @@ DESCRIPTION
     returns the error of a header that is refused, and then the error of PAGE: for a number behind
     the end of the chain, the error by which the chain ends, else
     TIFF_IMAGE_FILE_DIRECTORY_NOT_FOUND; for an offset where FILE ends within the directory,
-    TIFF_UNEXPECTED_EOF; else the first error of the page. Any call that reads or writes a file may
-    return TIFF_OUT_OF_MEMORY. The comment of each call names the errors that come behind these. Of
+    TIFF_UNEXPECTED_EOF; else the first error of the page. Any call that reads or writes a file but
+    tiff_byte_order may return TIFF_OUT_OF_MEMORY. The comment of each call names the errors that come behind these. Of
     several errors a call returns the first one.
 
     A call that returns TIFF_DONE has written its result. A call that returns any other status
@@ -297,10 +297,11 @@ struct tiff_listed_directory {
    chain. A directory is listed once, nearest to the chain and then first in this order; elsewhere
    it is TIFF_DIRECTORY_MET. The deepest that is read has DEPTH 8. The elements of DIRECTORIES
    behind the list stay. *COUNT is how long the list is, even if ROOM is less; with a ROOM of 0 the
-   call just counts. It allocates for the whole list in each case. The fields of a forged directory
-   can share the same values, and the list is then as long as their product. It returns TIFF_DONE if the chain ends by a link of 0, else the error by which
-   the chain ends. If it lists nothing, *COUNT is 0 and DIRECTORIES stays; it then returns the error
-   of the header, that of a first directory that can't be read, or TIFF_OUT_OF_MEMORY. */
+   call just counts. It allocates for the whole list in each case. Tags have at most 1,048,576 values
+   in all: one with more than are left is TIFF_VALUES_ERROR with the STATUS TIFF_LIMITS_EXCEEDED. It
+   returns TIFF_DONE if the chain ends by a link of 0, else the error by which the chain ends. If it
+   lists nothing, *COUNT is 0 and DIRECTORIES stays; it then returns the error of the header, that of
+   a first directory that can't be read, or TIFF_OUT_OF_MEMORY. */
 tiff_status tiff_list_directories(const uint8_t *file, size_t len, struct tiff_listed_directory *directories, size_t room, size_t *count);
 
 /* Reads the chunk with the number CHUNK, counted from 0, into BUFFER: as it is in the image, cut at
@@ -393,7 +394,8 @@ struct tiff_tag_entry {
    types are left out. Any status but TIFF_DONE leaves ENTRIES and *COUNT as they were. */
 tiff_status tiff_list_tags(const uint8_t *file, size_t len, size_t page, struct tiff_tag_entry *entries, size_t room, size_t *count);
 
-/* The byte order of a file, which tiff_byte_order puts into *ORDER. */
+/* The byte order of a file, which tiff_byte_order puts into *ORDER. It reads the header alone, and
+   allocates nothing. */
 enum {
     TIFF_LITTLE_ENDIAN = 0, /* II */
     TIFF_BIG_ENDIAN = 1,    /* MM */
@@ -671,7 +673,8 @@ struct tiff_pages_end {
    TIFF_INVALID_INPUT. With the field of what is set: TIFF_INT_SIZE_ERROR. At last a BUFFER that is
    too short, with 0 in both.
 
-   The call allocates the file, eight bytes for each sample of all pages, and the bytes of TAGS. */
+   The call allocates the file, the bytes of TAGS, and the samples of one page at a time if they
+   have more than one byte or a sign. */
 tiff_status tiff_write_pages(uint16_t version, const struct tiff_new_page *pages, size_t count, uint8_t *buffer, size_t size, size_t *len,
                              struct tiff_pages_end *end);
 

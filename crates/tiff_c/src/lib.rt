@@ -1,7 +1,7 @@
 //! A static library for C: the calls of `tiff_statuses` under their names in C.
 //! `include/mangohatch_tiff.h` describes each call. Each call but `tiff_version` and
 //! `tiff_fault_text` returns a status: 0 if it is done, else the number of its error; any of them
-//! may return the number of `OutOfMemory`.
+//! but `tiff_byte_order` may return the number of `OutOfMemory`.
 #![tactic(auto)]
 
 ghost use Rattle.std.specs.Prelude.{◌≡◌, ◌⊎◌};
@@ -11,7 +11,7 @@ ghost use Rattle.tiff_statuses.specs.Entries.{list_tags};
 ghost use Rattle.tiff_statuses.specs.Jobs.{JobsTell};
 ghost use Rattle.tiff_statuses.specs.List.{ListTells, list_of};
 ghost use Rattle.tiff_statuses.specs.Pages.{PagesTell};
-ghost use Rattle.tiff_statuses.specs.Status.{StatusPuts, StatusTells};
+ghost use Rattle.tiff_statuses.specs.Status.{StatusIs, StatusPuts, StatusTells};
 ghost use Rattle.tiff_statuses.specs.Values as values;
 ghost use Rattle.tiff_statuses.specs.Writer as writer;
 ghost use Rattle.tiff_statuses.specs.Writer.{IsShown};
@@ -160,7 +160,7 @@ pub extern "C" fn tiff_read_coding_unit_bytes(
     tiff_statuses::read_coding_unit_bytes(alloc, file, page, unit, buffer)
 }
 
-/// Puts the number of the type of a tag, and how many values it has, into `field`. `number` is the
+/// Puts the number of the type of a tag, and how many values it has, into `field`. `tag` is the
 /// tag's number. Returns 0, or the number of the first error: of the file or the page; no such tag,
 /// `RequiredTagNotFound`. An error leaves `field` as it was.
 #[unsafe(no_mangle)]
@@ -168,33 +168,33 @@ pub extern "C" fn tiff_tag_field(
     alloc: Global,
     file: &[u8],
     page: usize,
-    number: u16,
+    tag: u16,
     field: &mut FieldSize,
 ) -> u32
-    ensures { StatusPuts (calls.tag_field file.now page number) result field.old field.new }
+    ensures { StatusPuts (calls.tag_field file.now page tag) result field.old field.new }
 {
-    tiff_statuses::tag_field(alloc, file, page, number, field)
+    tiff_statuses::tag_field(alloc, file, page, tag, field)
 }
 
-/// Puts the value of a tag, which has to have one, into `value`. `number` is the tag's number.
+/// Puts the value of a tag, which has to have one, into `number`. `tag` is the tag's number.
 /// Returns 0, or the number of the first error: of the file or the page; no such tag,
 /// `RequiredTagNotFound`; of reading the value, also of one that is no number below 2^64. An error
-/// leaves `value` as it was.
+/// leaves `number` as it was.
 #[unsafe(no_mangle)]
 pub extern "C" fn tiff_tag_number(
     alloc: Global,
     file: &[u8],
     page: usize,
-    number: u16,
-    value: &mut u64,
+    tag: u16,
+    number: &mut u64,
 ) -> u32
-    ensures { StatusPuts (calls.tag_number_at file.now page number) result value.old value.new }
+    ensures { StatusPuts (calls.tag_number_at file.now page tag) result number.old number.new }
 {
-    tiff_statuses::tag_number(alloc, file, page, number, value)
+    tiff_statuses::tag_number(alloc, file, page, tag, number)
 }
 
 /// Copies the bytes of the values of a tag into `buffer`, in the file's byte order, from byte `at`
-/// on, as many as fit, and puts how many into `written`. `number` is the tag's number. Returns 0,
+/// on, as many as fit, and puts how many into `written`. `tag` is the tag's number. Returns 0,
 /// or the number of the first error: of the file or the page; no such tag, `RequiredTagNotFound`;
 /// of values of 2^64 bytes or more, `LimitsExceeded`; of an offset of 2^64 or more,
 /// `InconsistentSizesEncountered`; of bytes to copy that lie behind the file's end,
@@ -205,20 +205,20 @@ pub extern "C" fn tiff_tag_bytes(
     alloc: Global,
     file: &[u8],
     page: usize,
-    number: u16,
+    tag: u16,
     at: u64,
     buffer: &mut [u8],
     written: &mut usize,
 ) -> u32
-    ensures answer { StatusTells (calls.tag_bytes file.now page number at buffer.old) result
+    ensures answer { StatusTells (calls.tag_bytes file.now page tag at buffer.old) result
         (written.new, buffer.new) }
     ensures stays { (result ≡ 0) ⊎ (written.new ≡ written.old) }
 {
-    tiff_statuses::tag_bytes(alloc, file, page, number, at, buffer, written)
+    tiff_statuses::tag_bytes(alloc, file, page, tag, at, buffer, written)
 }
 
 /// Puts the values of a tag into `numbers`, from the first one on, as many as fit, and how many
-/// there are into `count`, even if not all fit. `number` is the tag's number. Returns 0, or the
+/// there are into `count`, even if not all fit. `tag` is the tag's number. Returns 0, or the
 /// number of the first error: of the file or the page; no such tag, `RequiredTagNotFound`; of
 /// reading the values, also of values that are no numbers below 2^64. An error leaves `numbers` and
 /// `count` as they were.
@@ -227,18 +227,18 @@ pub extern "C" fn tiff_tag_numbers(
     alloc: Global,
     file: &[u8],
     page: usize,
-    number: u16,
+    tag: u16,
     numbers: &mut [u64],
     count: &mut usize,
 ) -> u32
-    ensures { StatusPuts (values.tag_numbers file.now page number numbers.old) result
+    ensures { StatusPuts (values.tag_numbers file.now page tag numbers.old) result
         (count.old, numbers.old) (count.new, numbers.new) }
 {
-    tiff_statuses::tag_numbers(alloc, file, page, number, numbers, count)
+    tiff_statuses::tag_numbers(alloc, file, page, tag, numbers, count)
 }
 
 /// Puts the bits of a tag's values, floating-point numbers of 8 bytes, into `numbers`, from the
-/// first one on, as many as fit, and how many there are into `count`, even if not all fit. `number`
+/// first one on, as many as fit, and how many there are into `count`, even if not all fit. `tag`
 /// is the tag's number. Returns 0, or the number of the first error: of the file or the page; no
 /// such tag, `RequiredTagNotFound`; of reading the values, also of values of another type. An error
 /// leaves `numbers` and `count` as they were.
@@ -247,34 +247,34 @@ pub extern "C" fn tiff_tag_floats(
     alloc: Global,
     file: &[u8],
     page: usize,
-    number: u16,
+    tag: u16,
     numbers: &mut [u64],
     count: &mut usize,
 ) -> u32
-    ensures { StatusPuts (values.tag_floats file.now page number numbers.old) result
+    ensures { StatusPuts (values.tag_floats file.now page tag numbers.old) result
         (count.old, numbers.old) (count.new, numbers.new) }
 {
-    tiff_statuses::tag_floats(alloc, file, page, number, numbers, count)
+    tiff_statuses::tag_floats(alloc, file, page, tag, numbers, count)
 }
 
 /// Puts the bytes of a tag's text into `text`, from the first one on, as many as fit, and how many
-/// there are into `len`, even if not all fit. `number` is the tag's number. Returns 0, or the
+/// there are into `len_of_text`, even if not all fit. `tag` is the tag's number. Returns 0, or the
 /// number of the first error: of the file or the page; no such tag, `RequiredTagNotFound`; of
-/// reading the text, also of values that are no text. An error leaves `text` and `len` as they
+/// reading the text, also of values that are no text. An error leaves `text` and `len_of_text` as they
 /// were.
 #[unsafe(no_mangle)]
 pub extern "C" fn tiff_tag_text(
     alloc: Global,
     file: &[u8],
     page: usize,
-    number: u16,
+    tag: u16,
     text: &mut [u8],
-    len: &mut usize,
+    len_of_text: &mut usize,
 ) -> u32
-    ensures { StatusPuts (values.tag_text file.now page number text.old) result (len.old, text.old)
-        (len.new, text.new) }
+    ensures { StatusPuts (values.tag_text file.now page tag text.old) result (len_of_text.old, text.old)
+        (len_of_text.new, text.new) }
 {
-    tiff_statuses::tag_text(alloc, file, page, number, text, len)
+    tiff_statuses::tag_text(alloc, file, page, tag, text, len_of_text)
 }
 
 /// Puts the entries of the directory of a page into `entries`, in the order of their tags, as many
@@ -295,12 +295,12 @@ pub extern "C" fn tiff_list_tags(
 }
 
 /// Puts the byte order of a file into `order`: 0 for little-endian, 1 for big-endian. Returns 0, or
-/// the number of the error that refuses the file. An error leaves `order` as it was.
+/// the number of the error of the header. An error leaves `order` as it was. It takes no memory.
 #[unsafe(no_mangle)]
-pub extern "C" fn tiff_byte_order(alloc: Global, file: &[u8], order: &mut u32) -> u32
-    ensures { StatusPuts (calls.file_byte_order file.now) result order.old order.new }
+pub extern "C" fn tiff_byte_order(file: &[u8], order: &mut u32) -> u32
+    ensures { StatusIs (calls.file_byte_order file.now) result order.old order.new }
 {
-    tiff_statuses::byte_order(alloc, file, order)
+    tiff_statuses::byte_order(file, order)
 }
 
 /// Puts how many pages a file has, along its chain of directories, into `pages`. Returns 0, or the
@@ -402,7 +402,8 @@ pub extern "C" fn tiff_write_jobs(
 /// `UnsupportedDataType` for its type and `MismatchedEntryLength` for bytes that are not as many
 /// values as it says; samples with a part of one left over, `MismatchedEntryLength`. An error leaves
 /// `buffer` as it was, and `len` too, unless only the buffer is too short. The call allocates the
-/// file, eight bytes for each sample of all pages, and the bytes of the tags.
+/// file, the bytes of the tags, and the samples of one page at a time if they have more than one
+/// byte or a sign.
 #[unsafe(no_mangle)]
 pub extern "C" fn tiff_write_pages(
     alloc: Global,

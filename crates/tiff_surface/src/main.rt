@@ -1,7 +1,7 @@
 //! Names each public name of `tiff` by its path, makes public calls that no list of calls or of
 //! jobs makes, and the calls for C, and prints each with its result. The program depends on `tiff`
 //! and, for the calls for C, on `tiff_statuses`, so every other name that it uses is reached from
-//! `tiff`.
+//! `tiff`; but `documents` has the lists of pages of `tiff_pages`.
 #![tactic(auto)]
 
 mod borrowed;
@@ -9,6 +9,7 @@ mod color;
 mod colortype;
 mod directories;
 mod directory;
+mod documents;
 mod error;
 mod fields;
 mod ifd;
@@ -44,7 +45,8 @@ fn add_files(report: &mut Report) -> TiffResult<()> {
     io::add_lines(report)?;
     fields::add_lines(report)?;
     directories::add_lines(report)?;
-    borrowed::add_lines(report)
+    borrowed::add_lines(report)?;
+    documents::add_lines(report)
 }
 
 fn main(rt: HostRuntime) -> std::io::Result<()> {

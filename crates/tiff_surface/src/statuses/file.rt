@@ -8,7 +8,7 @@ use tiff_statuses::list::ListedPage;
 /// Prints the byte order of a file and the number of its pages.
 pub fn print_file(rt: &HostRuntime, file: &[u8]) -> io::Result<()> {
     let mut order = 7;
-    let status = tiff_statuses::byte_order(rt.alloc(), file, &mut order);
+    let status = tiff_statuses::byte_order(file, &mut order);
     println!(rt; "byte_order: {status}, {order}")?;
     let mut pages = 7;
     let status = tiff_statuses::page_count(rt.alloc(), file, &mut pages);
