@@ -185,6 +185,19 @@ def packed(data):
     return out + literal(plain)
 
 
+def crosses_rows(data, row_bytes):
+    """Returns whether a block of PackBits data goes on behind the end of a row of so many bytes."""
+    at = shown = 0
+    while at < len(data):
+        head = data[at]
+        count = head + 1 if head < 128 else 257 - head if head > 128 else 0
+        if count and shown // row_bytes != (shown + count - 1) // row_bytes:
+            return True
+        at += 1 + (count if head < 128 else head > 128)
+        shown += count
+    return False
+
+
 def literal(data):
     """Returns a PackBits block of bytes as they are; none of no bytes."""
     return bytes([len(data) - 1]) + data if data else b""
@@ -202,6 +215,8 @@ class Image:
         self.width, self.height = width, height
         self.bits, self.samples, self.meaning, self.format, self.planes = 8, 1, 1, None, 1
         self.method, self.predictor, self.rows, self.tile, self.extra, self.data, self.name = 1, None, None, None, None, None, ""
+        # whether the rows of PackBits data are packed one by one, as TIFF 6.0 section 9 has it
+        self.by_rows = False
         for part, value in parts.items():
             assert hasattr(self, part), part
             setattr(self, part, value)
@@ -218,6 +233,13 @@ class Image:
         """Returns how many bytes a row of a chunk has."""
         return (self.chunk()[0] * self.bits * (1 if self.planes == 2 else self.samples) + 7) // 8
 
+    def stored(self, data):
+        """Returns a chunk of these bytes as it is stored."""
+        if self.method != 32773:
+            return data
+        step = self.row_bytes() if self.by_rows else len(data)
+        return b"".join(packed(data[at:at + step]) for at in range(0, len(data), step))
+
     def chunks(self):
         """Returns the chunks of all planes, of given bytes or of bytes that depend on what the image is."""
         sizes = [rows * self.row_bytes() for rows in self.chunk()[1]] * (self.samples if self.planes == 2 else 1)
@@ -225,7 +247,7 @@ class Image:
         if data is None:
             data = noise(f"{self.name} {self.width} {self.height} {self.bits} {self.samples}", sum(sizes))
         for size in sizes:
-            chunks.append(packed(data[:size]) if self.method == 32773 else data[:size])
+            chunks.append(self.stored(data[:size]))
             data = data[size:]
         return chunks
 

@@ -1,10 +1,11 @@
 """The themes of the suite that are about samples: strips, tiles, planes, depths, colors, packed data, predictors, methods."""
 from files import (BITS, BIG_LE, CLASSIC, COUNTS, EXTRA, FORMAT, FORMS, LONG, LONG8, METHOD, OFFSETS, ROWS, SAMPLES, SHORT, SUBSAMPLING,
-                   TILE_COUNTS, TILE_LENGTH, TILE_OFFSETS, TILE_WIDTH, BYTE, TYPES, Field, Image, build, literal, noise, run)
+                   TILE_COUNTS, TILE_LENGTH, TILE_OFFSETS, TILE_WIDTH, BYTE, TYPES, Field, Image, build, crosses_rows, literal, noise, run)
 from themes_file import BASELINE, BIG, MAY, UNUSUAL, VALID
 
 EXTENSION = "an extension of TIFF 6.0 part 2, which a reader may lack"
 NO_DEPTH = "the standard names no image of this depth, which a reader may lack"
+OVER_ROWS = "each row is packed by itself, and a block that runs over the end of a row is against that; most readers take it"
 MISFIT = "the fields don't fit each other, and the standard doesn't say which of them counts"
 
 
@@ -261,7 +262,6 @@ def packed_blocks():
 
 def packed_rows():
     """Yields images of two rows of 8 samples in blocks that end at the rows, or not."""
-    row = "each row is packed by itself, and a block that runs over the end of a row is against that; most readers take it"
     blocks = {
         "rows": (literal(b"12345678") + literal(b"abcdefgh"), True), "runs": (run(1, 8) + run(2, 8), True), "both": (run(1, 8) + literal(b"12345678"), True),
         "singles": (b"".join(literal(bytes([n])) for n in range(16)), True), "pairs": (b"".join(run(n, 2) for n in range(8)), True), "over-run": (run(1, 16), False),
@@ -269,7 +269,7 @@ def packed_rows():
     }
     for form in CLASSIC:
         for name, (data, well) in blocks.items():
-            yield (f"blocks-{name}-{form.name}", packed_image(form, data), f"two rows of 8 samples in blocks: {name}", "TIFF 6.0 section 9", *(sort_of(form) if well else (MAY, row)))
+            yield (f"blocks-{name}-{form.name}", packed_image(form, data), f"two rows of 8 samples in blocks: {name}", "TIFF 6.0 section 9", *(sort_of(form) if well else (MAY, OVER_ROWS)))
         for name, data in (("literal", literal(b"1234567812345678") + literal(b"more")), ("run", run(1, 16) + run(2, 100)), ("block", literal(b"12345678") + run(7, 20))):
             yield f"more-{name}-{form.name}", packed_image(form, data), f"more bytes than the strip has rows, in a {name}", "TIFF 6.0 section 9", MAY, "a strip unpacks to its rows"
         for name, data in (("empty", b""), ("one", literal(b"1")), ("row", literal(b"12345678")), ("less-one", run(1, 15)), ("nothing", b"\x80" * 16)):
@@ -297,19 +297,43 @@ def packed_counts():
             yield f"file-ends-{cut}-{form.name}", whole[:-cut], f"the file ends {cut} bytes before the packed bytes do", "TIFF 6.0 section 9", MAY, "the strip isn't whole in the file"
 
 
-def packed_kinds():
+def packed_images():
+    """Yields packed images of each depth, in strips and in tiles: the form, a name, the image, and its class if its rows are packed one by one."""
     for form in FORMS:
         for bits in (1, 2, 4, 8, 16, 32, 64):
             for samples, meaning in ((1, 1), (3, 2)):
                 if samples == 1 or bits >= 8:
                     for tile in (None, (16, 16)):
                         image = Image(10, 5, bits=bits, samples=samples, meaning=meaning, method=32773, rows=None if tile else 2, tile=tile)
-                        yield (f"image-{samples}x{bits}-{'tiles' if tile else 'strips'}-{form.name}", build(form, [image.page()]).bytes(), f"{samples} samples of {bits} bits, packed",
-                               "TIFF 6.0 section 9", *sort_of(form, tile is None and bits in (1, 4, 8)))
+                        name = f"{samples}x{bits}-{'tiles' if tile else 'strips'}-{form.name}"
+                        yield form, name, image, sort_of(form, tile is None and bits in (1, 4, 8))
+
+
+def told_of(image, how):
+    """Returns the line why a packed image is there, and the sections that it rests on: a row of a tile is packed as one of a strip."""
+    return f"{image.samples} samples of {image.bits} bits, {how}", "TIFF 6.0 section 9" if image.tile is None else "TIFF 6.0 sections 9 and 15"
+
+
+def over_rows(image):
+    """Returns whether the data of a packed image have a block that goes over the end of a row."""
+    return any(crosses_rows(chunk, image.row_bytes()) for chunk in image.chunks())
+
+
+def packed_together():
+    for form, name, image, sort in packed_images():
+        yield (f"image-{name}", build(form, [image.page()]).bytes(), *told_of(image, "the rows of a chunk packed together"), *((MAY, OVER_ROWS) if over_rows(image) else sort))
+
+
+def packed_one_by_one():
+    for form, name, image, sort in packed_images():
+        # the others have the same bytes both ways
+        if over_rows(image):
+            image.by_rows = True
+            yield f"rows-{name}", build(form, [image.page()]).bytes(), *told_of(image, "each row packed by itself"), *sort
 
 
 def packbits():
-    for part in (packed_blocks, packed_rows, packed_counts, packed_kinds):
+    for part in (packed_blocks, packed_rows, packed_counts, packed_together, packed_one_by_one):
         yield from part()
 
 
