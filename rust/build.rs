@@ -1,4 +1,5 @@
 //! Finds the C library: in the folder that `MANGOHATCH_TIFF_LIB_DIR` names, else by `pkg-config`.
+//! And tells the package whether the compiler shows its messages.
 
 use std::env;
 use std::path::{Path, PathBuf};
@@ -18,6 +19,23 @@ fn main() {
     match env::var_os(FOLDER) {
         Some(folder) => link_in(&PathBuf::from(folder)),
         None => link_by_pkg_config(),
+    }
+    tell_of_diagnostics();
+}
+
+/// Sets `has_diagnostics` for a compiler that has the attributes `diagnostic::..`, with which a
+/// package writes messages of its own: Rust 1.85 has all that this one uses.
+fn tell_of_diagnostics() {
+    let compiler = env::var_os("RUSTC").unwrap_or_else(|| "rustc".into());
+    let output = Command::new(compiler).arg("--version").output();
+    let text = output.map_or_else(|_| Vec::new(), |output| output.stdout);
+    let minor = String::from_utf8_lossy(&text)
+        .split('.')
+        .nth(1)
+        .and_then(|minor| minor.parse().ok());
+    if minor.unwrap_or(0) >= 85 {
+        println!("cargo:rustc-check-cfg=cfg(has_diagnostics)");
+        println!("cargo:rustc-cfg=has_diagnostics");
     }
 }
 

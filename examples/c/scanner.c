@@ -1,4 +1,5 @@
-/* Puts scanned pages, gray PGM images of 8 bits, into one TIFF file: in strips of 64 rows, packed by PackBits, with their resolution and a text each.
+/* Puts scanned pages, gray PGM images of 8 bits, into one TIFF file, packed by PackBits, with their resolution and a text each. A strip has
+   one row, as it has where no rows_per_strip is set: libtiff reads no packed strips of several rows by TIFFReadScanline.
      cc scanner.c -o scanner $(pkg-config --cflags --libs mangohatch_tiff)
      ./scanner 300 page1.pgm page2.pgm > pages.tif */
 #include <stdio.h>
@@ -31,7 +32,6 @@ static int read_page(const char *name, unsigned dpi, struct tiff_new_page *page,
         .color = TIFF_GRAY8,
         .width = width,
         .height = height,
-        .rows_per_strip = 64,
         .method = TIFF_PACKBITS,
         .predictor = TIFF_NO_PREDICTOR,
         .planar = TIFF_CHUNKY,

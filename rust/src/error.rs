@@ -371,7 +371,7 @@ pub(crate) fn plain_error(fault: Fault) -> TiffError {
         11 => io::ErrorKind::InvalidData,
         12 => io::ErrorKind::InvalidInput,
         13 => io::ErrorKind::WriteZero,
-        _ => return io::Error::other(ffi::fault_text(fault)).into(),
+        _ => return io::Error::new(io::ErrorKind::Other, ffi::fault_text(fault)).into(),
     };
     io::Error::from(kind).into()
 }
@@ -553,7 +553,7 @@ mod tests {
     fn other_errors_are_converted() {
         let io = TiffError::from(io::Error::from(io::ErrorKind::UnexpectedEof));
         assert_eq!(io.to_string(), "unexpected end of file");
-        assert!(io.source().is_some_and(|source| source.is::<io::Error>()));
+        assert!(io.source().map_or(false, |source| source.is::<io::Error>()));
         let limits = TiffError::LimitsExceeded;
         assert_eq!(limits.to_string(), "decoder limits exceeded");
         assert!(limits.source().is_none());

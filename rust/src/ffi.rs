@@ -8,7 +8,10 @@
 //! structs below are those of the header, and each pattern of bits is a value of them, so whatever
 //! a call writes into one is a value.
 
+use std::mem::size_of_val;
 use std::num::NonZeroU32;
+
+use crate::div_ceil;
 
 /// What is read: a file of the caller's memory, and the number of a page or the offset of a
 /// directory in it.
@@ -558,7 +561,7 @@ impl NewPage {
     /// to 128 bytes at most, and one to each row; a strip has an offset and a count, and a tag a
     /// field and its values.
     fn expected_len(&self) -> usize {
-        let strips = self.height.div_ceil(self.rows_per_strip.max(1)) as usize;
+        let strips = div_ceil(self.height, self.rows_per_strip.max(1)) as usize;
         let tags: usize = self.tags.iter().map(|tag| 32 + tag.values.len()).sum();
         let samples = self.samples.len();
         1024 + samples + samples / 64 + self.height as usize + 24 * strips + tags
@@ -681,6 +684,8 @@ pub(crate) fn bytes_of_mut<T: Plain>(numbers: &mut [T]) -> &mut [u8] {
 
 #[cfg(test)]
 mod tests {
+    use std::mem::{align_of, size_of};
+
     use super::*;
 
     #[test]

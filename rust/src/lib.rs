@@ -21,8 +21,13 @@
 //! # }
 //! ```
 
+#![deny(unsafe_code)]
+#![warn(missing_docs)]
+
 #[cfg(not(target_pointer_width = "64"))]
 compile_error!("the C library is for machines with addresses of 64 bits");
+
+use std::ops::{Add, Div, Rem};
 
 pub mod decoder;
 mod directory;
@@ -35,6 +40,15 @@ pub mod tags;
 
 pub use self::directory::Directory;
 pub use self::error::{TiffError, TiffFormatError, TiffResult, TiffUnsupportedError, UsageError};
+
+/// Returns a quotient, rounded up. The method of this name is newer than the oldest Rust that builds
+/// this crate.
+fn div_ceil<N>(number: N, by: N) -> N
+where
+    N: Copy + PartialEq + From<bool> + Add<Output = N> + Div<Output = N> + Rem<Output = N>,
+{
+    number / by + N::from(number % by != N::from(false))
+}
 
 /// What the samples of a pixel are. The number is how many bits a sample has.
 #[derive(Copy, PartialEq, Eq, Debug, Clone, Hash)]

@@ -10,7 +10,7 @@ use crate::{TiffError, TiffResult};
 macro_rules! numbers {
     (
         $(#[$about:meta])*
-        $name:ident { $($(#[$doc:meta])* $variant:ident = $number:literal,)* } $(else $unknown:ident)?
+        $name:ident { $($(#[$doc:meta])* $variant:ident = $number:literal,)* }
     ) => {
         $(#[$about])*
         #[derive(Clone, Copy, PartialEq, Eq, Debug, Hash)]
@@ -18,12 +18,38 @@ macro_rules! numbers {
         #[repr(u16)]
         pub enum $name {
             $($(#[$doc])* $variant = $number,)*
-            $(
-                /// Any other number.
-                $unknown(u16),
-            )?
         }
 
+        numbers!(@calls $name { $($variant = $number,)* });
+    };
+    // Beside a variant with a value, others have numbers in the enum itself only since Rust 1.66.
+    (
+        $(#[$about:meta])*
+        $name:ident { $($(#[$doc:meta])* $variant:ident = $number:literal,)* } else $unknown:ident
+    ) => {
+        $(#[$about])*
+        #[derive(Clone, Copy, PartialEq, Eq, Debug, Hash)]
+        #[non_exhaustive]
+        pub enum $name {
+            $($(#[$doc])* $variant,)*
+            /// Any other number.
+            $unknown(u16),
+        }
+
+        numbers!(@calls $name { $($variant = $number,)* } $unknown);
+
+        impl $name {
+            /// Returns the variant of a number: of one without a name, the last variant.
+            #[inline(always)]
+            pub const fn from_u16_exhaustive(val: u16) -> Self {
+                match Self::from_u16(val) {
+                    Some(known) => known,
+                    None => $name::$unknown(val),
+                }
+            }
+        }
+    };
+    (@calls $name:ident { $($variant:ident = $number:literal,)* } $($unknown:ident)?) => {
         impl $name {
             /// Returns the variant that has a name for this number, if there is one.
             #[inline(always)]
@@ -33,17 +59,6 @@ macro_rules! numbers {
                     _ => None,
                 }
             }
-
-            $(
-                /// Returns the variant of a number: of one without a name, the last variant.
-                #[inline(always)]
-                pub const fn from_u16_exhaustive(val: u16) -> Self {
-                    match Self::from_u16(val) {
-                        Some(known) => known,
-                        None => $name::$unknown(val),
-                    }
-                }
-            )?
 
             /// Returns the number.
             #[inline(always)]
@@ -450,7 +465,7 @@ impl ValueBuffer {
     pub(crate) fn assume(&mut self, ty: Type, count: u64, order: ByteOrder, bytes: Vec<u8>) {
         debug_assert!(ty
             .value_bytes(count)
-            .is_ok_and(|len| len == bytes.len() as u64));
+            .map_or(false, |len| len == bytes.len() as u64));
         *self = ValueBuffer {
             bytes,
             ty,

@@ -33,14 +33,16 @@ fn read_tags(decoder: &mut Reader) {
 
 /// Compares the entries of a page's directory with those that the C library lists.
 fn compare_entries(file: &[u8], decoder: &mut Reader) {
-    let Some(pointer) = decoder.ifd_pointer() else {
-        return;
+    let pointer = match decoder.ifd_pointer() {
+        Some(pointer) => pointer,
+        None => return,
     };
     let directory = decoder.read_directory(pointer);
     let listed = list_tags(file, pointer.0);
     assert_eq!(directory.is_ok(), listed.is_ok());
-    let (Ok(directory), Ok(listed)) = (directory, listed) else {
-        return;
+    let (directory, listed) = match (directory, listed) {
+        (Ok(directory), Ok(listed)) => (directory, listed),
+        _ => return,
     };
     let entries = directory.iter().map(|(tag, entry)| {
         let kind = entry.field_type().to_u16();
@@ -62,9 +64,12 @@ fn read_chunks(decoder: &mut Reader) {
         let (columns, rows) = decoder.chunk_data_dimensions(chunk);
         assert!(0 < columns && columns <= width && 0 < rows && rows <= height);
         let read = decoder.read_chunk(chunk);
-        let Ok(layout) = decoder.image_chunk_buffer_layout(chunk) else {
-            assert!(read.is_err());
-            continue;
+        let layout = match decoder.image_chunk_buffer_layout(chunk) {
+            Ok(layout) => layout,
+            Err(_) => {
+                assert!(read.is_err());
+                continue;
+            }
         };
         if layout.len > 1 << 16 {
             continue;
@@ -92,9 +97,12 @@ fn read_chunks(decoder: &mut Reader) {
 /// Reads the image of a page.
 fn read_image(decoder: &mut Reader) {
     let read = decoder.read_image();
-    let Ok(layout) = decoder.image_buffer_layout() else {
-        assert!(read.is_err());
-        return;
+    let layout = match decoder.image_buffer_layout() {
+        Ok(layout) => layout,
+        Err(_) => {
+            assert!(read.is_err());
+            return;
+        }
     };
     if layout.complete_len > 1 << 16 {
         return;
@@ -112,8 +120,9 @@ fn read_image(decoder: &mut Reader) {
 
 /// Makes the calls of a decoder on each page.
 fn read(file: &[u8]) -> bool {
-    let Ok(mut decoder) = open(file) else {
-        return false;
+    let mut decoder = match open(file) {
+        Ok(decoder) => decoder,
+        Err(_) => return false,
     };
     let mut limits = Limits::default();
     limits.decoding_buffer_size = 1 << 20;
@@ -142,7 +151,10 @@ fn files_with_changed_bytes_are_read_or_refused() {
     let mut files: Vec<Vec<u8>> = fs::read_dir(data)
         .unwrap()
         .map(|entry| entry.unwrap().path())
-        .filter(|path| path.extension().is_some_and(|extension| extension == "tif"))
+        .filter(|path| {
+            path.extension()
+                .map_or(false, |extension| extension == "tif")
+        })
         .map(|path| fs::read(path).unwrap())
         .filter(|file| file.len() < 3000)
         .collect();

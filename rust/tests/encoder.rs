@@ -648,12 +648,12 @@ fn a_file_begins_at_the_start_of_its_writer() {
     );
 }
 
-/// A writer that is full.
-struct Full(u64);
+/// A writer that nobody reads any more.
+struct Closed(u64);
 
-impl Write for Full {
+impl Write for Closed {
     fn write(&mut self, _: &[u8]) -> io::Result<usize> {
-        Err(io::ErrorKind::StorageFull.into())
+        Err(io::ErrorKind::BrokenPipe.into())
     }
 
     fn flush(&mut self) -> io::Result<()> {
@@ -661,7 +661,7 @@ impl Write for Full {
     }
 }
 
-impl Seek for Full {
+impl Seek for Closed {
     fn seek(&mut self, _: SeekFrom) -> io::Result<u64> {
         Ok(self.0)
     }
@@ -669,11 +669,11 @@ impl Seek for Full {
 
 #[test]
 fn finish_returns_the_errors() {
-    let mut encoder = TiffEncoder::new(Full(0)).unwrap();
+    let mut encoder = TiffEncoder::new(Closed(0)).unwrap();
     encoder.write_image::<Gray8>(1, 1, &[5]).unwrap();
-    assert_eq!(kind_of(encoder.finish()), io::ErrorKind::StorageFull);
+    assert_eq!(kind_of(encoder.finish()), io::ErrorKind::BrokenPipe);
     // A drop hides it.
-    drop(TiffEncoder::new_big(Full(0)).unwrap());
+    drop(TiffEncoder::new_big(Closed(0)).unwrap());
 
     let mut file = Cursor::new(Vec::new());
     let mut encoder = TiffEncoder::new(&mut file).unwrap();

@@ -310,8 +310,9 @@ fn run(theme: &str) -> Run {
                 if expected == "no such file" {
                     continue;
                 }
-                let Some(file) = file_of(&split[1..], &written) else {
-                    continue;
+                let file = match file_of(&split[1..], &written) {
+                    Some(file) => file,
+                    None => continue,
                 };
                 let opened = open(&file);
                 let reply = match &opened {
@@ -339,8 +340,9 @@ fn run(theme: &str) -> Run {
             call if MOVES.contains(&call) => decoder = None,
             call if call == "asked" || BY_READER.contains(&call) => {}
             call => {
-                let Some(decoder) = &mut decoder else {
-                    continue;
+                let decoder = match &mut decoder {
+                    Some(decoder) => decoder,
+                    None => continue,
                 };
                 if expected == "no such call" {
                     continue;

@@ -4,6 +4,7 @@
 mod common;
 
 use std::io::Cursor;
+use std::mem::size_of;
 
 use common::{bytes_of, little, open, Random, Reader};
 use tiff::encoder::colortype::{self, ColorType as _};
@@ -81,7 +82,7 @@ fn set<W, K, C, T>(
 {
     let tag = Tag::Unknown(65000 + tags.len() as u16);
     let buffer = ValueBuffer::from_value(&value);
-    if tags.len().is_multiple_of(2) {
+    if tags.len() % 2 == 0 {
         image.encoder().write_tag(tag, value).unwrap();
     } else {
         image.encoder().write_tag_buf(tag, &buffer).unwrap();
@@ -221,7 +222,7 @@ fn read_back(decoder: &mut Reader, page: &Page) {
     let mut number = |tag| decoder.get_tag_unsigned::<u32>(tag).unwrap();
     assert_eq!(number(Tag::Compression), page.method.into(), "{what}");
     assert_eq!(number(Tag::Predictor), page.predictor.into(), "{what}");
-    let strips = page.sides.1.div_ceil(page.rows);
+    let strips = (page.sides.1 + page.rows - 1) / page.rows;
     assert_eq!(decoder.strip_count().unwrap(), strips, "{what}");
 
     let bits = 8 * page.size;

@@ -1,12 +1,13 @@
 //! Samples that were read, and how they lie.
 
+use std::mem::size_of;
 use std::num::NonZeroUsize;
 
 use super::Limits;
 use crate::ffi;
 use crate::half::f16;
 use crate::tags::SampleFormat;
-use crate::{TiffError, TiffResult, TiffUnsupportedError};
+use crate::{div_ceil, TiffError, TiffResult, TiffUnsupportedError};
 
 /// Declares the enums that have a variant for each number type of samples.
 macro_rules! number_types {
@@ -36,7 +37,7 @@ macro_rules! number_types {
                 match ty {
                     $(DecodingSampleType::$variant => {
                         let size = size_of::<$number>();
-                        let count = bytes.div_ceil(size);
+                        let count = div_ceil(bytes, size);
                         if count > limits.decoding_buffer_size / size {
                             return Err(TiffError::LimitsExceeded);
                         }

@@ -41,10 +41,8 @@ struct Reader<'a> {
 impl Reader<'_> {
     /// Reads bytes.
     fn bytes<const N: usize>(&mut self) -> TiffResult<[u8; N]> {
-        let Some((bytes, rest)) = self.rest.split_at_checked(N) else {
-            return Err(ends_early());
-        };
-        self.rest = rest;
+        let bytes = self.rest.get(..N).ok_or_else(ends_early)?;
+        self.rest = &self.rest[N..];
         let mut read = [0; N];
         read.copy_from_slice(bytes);
         Ok(read)

@@ -1,6 +1,7 @@
 //! The tags of a directory.
 
 use std::io;
+use std::mem::size_of;
 
 use super::file::{ends_early, File};
 use super::ifd::{Entry, Value};
@@ -120,8 +121,9 @@ impl<'lt> IfdDecoder<'lt> {
 
     /// Returns the value of a tag, if there is the tag.
     fn value(&self, tag: Tag) -> TiffResult<Option<Value>> {
-        let Some(field) = self.field(tag)? else {
-            return Ok(None);
+        let field = match self.field(tag)? {
+            Some(field) => field,
+            None => return Ok(None),
         };
         if field.count == 0 {
             return Ok(Some(Value::List(Vec::new())));
@@ -158,8 +160,9 @@ impl IfdDecoder<'_> {
     /// Puts the values of a tag into a buffer, in the byte order of the file, if there is the tag,
     /// and returns its entry.
     pub fn find_tag_buf(&mut self, tag: Tag, buf: &mut ValueBuffer) -> TiffResult<Option<Entry>> {
-        let Some(field) = self.field(tag)? else {
-            return Ok(None);
+        let field = match self.field(tag)? {
+            Some(field) => field,
+            None => return Ok(None),
         };
         if field.bytes > self.limits.decoding_buffer_size as u64 {
             return Err(TiffError::LimitsExceeded);
@@ -187,10 +190,10 @@ impl IfdDecoder<'_> {
 
     /// Returns the value of a tag as an unsigned number, if there is the tag.
     pub fn find_tag_unsigned<T: TryFrom<u64>>(&mut self, tag: Tag) -> TiffResult<Option<T>> {
-        let Some(value) = self.find_tag(tag)? else {
-            return Ok(None);
-        };
-        number(tag, value.into_u64()?).map(Some)
+        match self.find_tag(tag)? {
+            Some(value) => number(tag, value.into_u64()?).map(Some),
+            None => Ok(None),
+        }
     }
 
     /// Returns the values of a tag as unsigned numbers, if there is the tag.
@@ -198,10 +201,10 @@ impl IfdDecoder<'_> {
         &mut self,
         tag: Tag,
     ) -> TiffResult<Option<Vec<T>>> {
-        let Some(value) = self.find_tag(tag)? else {
-            return Ok(None);
+        let numbers = match self.find_tag(tag)? {
+            Some(value) => value.into_u64_vec()?.into_iter(),
+            None => return Ok(None),
         };
-        let numbers = value.into_u64_vec()?.into_iter();
         numbers
             .map(|value| number(tag, value))
             .collect::<TiffResult<_>>()

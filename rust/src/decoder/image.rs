@@ -8,7 +8,9 @@ use super::ifd_decoder::NO_SUCH_TAG;
 use super::ChunkType;
 use crate::ffi::{self, Color, Fault, Layout, ListedPage, Place};
 use crate::tags::{ByteOrder, IfdPointer, PlanarConfiguration, SampleFormat, Tag};
-use crate::{ColorType, Directory, TiffError, TiffResult, TiffUnsupportedError, UsageError};
+use crate::{
+    div_ceil, ColorType, Directory, TiffError, TiffResult, TiffUnsupportedError, UsageError,
+};
 
 /// `TIFF_INT_SIZE_ERROR` and `TIFF_CHROMA_SUBSAMPLING` of the header.
 const INT_SIZE_ERROR: u32 = 2;
@@ -180,10 +182,10 @@ impl Image {
     /// Returns how a part of one plane lies in a buffer of its number type.
     pub(super) fn part_layout(&self, part: &Part) -> TiffResult<BufferLayoutPreference> {
         let size = self.sample_type()?.byte_len();
-        let bytes = part.len.div_ceil(size).checked_mul(size);
-        let Some(bytes) = bytes.filter(|&bytes| isize::try_from(bytes).is_ok()) else {
-            return Err(TiffError::LimitsExceeded);
-        };
+        let bytes = div_ceil(part.len, size)
+            .checked_mul(size)
+            .filter(|&bytes| isize::try_from(bytes).is_ok())
+            .ok_or(TiffError::LimitsExceeded)?;
         Ok(BufferLayoutPreference {
             plane_stride: NonZeroUsize::new(part.len),
             ..self.preference(part.row, bytes, 1, bytes)
@@ -233,8 +235,8 @@ impl Image {
     fn chunks_across_and_down(&self) -> (u32, u32) {
         let (width, height) = self.chunk_dimensions;
         (
-            self.facts.width.div_ceil(width),
-            self.facts.height.div_ceil(height),
+            div_ceil(self.facts.width, width),
+            div_ceil(self.facts.height, height),
         )
     }
 
@@ -268,7 +270,7 @@ impl Image {
             color.num_samples()
         };
         let bits = u64::from(width) * u64::from(color.bit_depth()) * u64::from(samples);
-        let row = usize::try_from(bits.div_ceil(8))?;
+        let row = usize::try_from(div_ceil(bits, 8))?;
         // The crate `tiff` also has to count the bytes of a chunk that isn't cut.
         let (_, rows) = self.chunk_dimensions;
         match (
@@ -313,7 +315,7 @@ impl Image {
         let is_over = |chunk: u32| {
             stored
                 .get(chunk as usize)
-                .is_some_and(|&bytes| bytes > limit as u64)
+                .map_or(false, |&bytes| bytes > limit as u64)
         };
         if chunks.any(is_over) {
             return Err(TiffError::LimitsExceeded);

@@ -150,11 +150,10 @@ impl<R: Read + Seek> Decoder<R> {
         r.read_to_end(&mut bytes)?;
         let file = File::new(bytes);
         let (pages, end) = ffi::list_pages(file.bytes());
-        let Some(&first) = pages.first() else {
-            return match end {
-                Some(fault) => Err(file.first_fault(fault)),
-                None => not_found(),
-            };
+        let first = match (pages.first(), end) {
+            (Some(&first), _) => first,
+            (None, Some(fault)) => return Err(file.first_fault(fault)),
+            (None, None) => return not_found(),
         };
         let image = load(&file, 0, first)?;
         Ok(Decoder {
@@ -218,8 +217,9 @@ impl<R: Read + Seek> Decoder<R> {
 
     /// Enters the directory that comes next in the chain, and returns its index.
     fn enter_next(&mut self) -> TiffResult<usize> {
-        let Some(index) = self.next.take() else {
-            return not_found();
+        let index = match self.next.take() {
+            Some(index) => index,
+            None => return not_found(),
         };
         if index >= self.pages.len() {
             return match self.end {
@@ -482,9 +482,9 @@ impl<R: Read + Seek> Decoder<R> {
             }
             .into());
         }
-        let Some(len) = output_width.checked_mul(part.height as usize) else {
-            return Err(TiffError::LimitsExceeded);
-        };
+        let len = output_width
+            .checked_mul(part.height as usize)
+            .ok_or(TiffError::LimitsExceeded)?;
         buffer.resize(self.image.sample_type()?, len, &self.limits)?;
         let mut view = buffer.as_buffer(0);
         let bytes = view.as_bytes_mut();

@@ -1,5 +1,7 @@
 //! What the samples of an image are.
 
+use std::mem::size_of;
+
 use super::TiffValue;
 use crate::tags::{PhotometricInterpretation, SampleFormat};
 
@@ -55,9 +57,10 @@ no_differences!(f32 f64);
 
 /// Appends the differences of a row whose pixels have so many samples.
 fn append_differences<T: Difference>(samples: usize, row: &[T], result: &mut Vec<T>) {
-    let Some((first, rest)) = row.split_at_checked(samples) else {
+    if row.len() < samples {
         return;
-    };
+    }
+    let (first, rest) = row.split_at(samples);
     result.extend_from_slice(first);
     let pairs = rest.iter().zip(row);
     result.extend(pairs.map(|(sample, left)| sample.difference(*left)));

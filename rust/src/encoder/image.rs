@@ -8,7 +8,7 @@ use super::colortype::{self, ColorType};
 use super::{Compression, DirectoryEncoder, Predictor, Rational, TiffEncoder, TiffKind, TiffValue};
 use crate::ffi::NewPage;
 use crate::tags::{ByteOrder, ExtraSamples, ResolutionUnit, SampleFormat, Tag};
-use crate::{TiffError, TiffFormatError, TiffResult, TiffUnsupportedError, UsageError};
+use crate::{div_ceil, TiffError, TiffFormatError, TiffResult, TiffUnsupportedError, UsageError};
 
 /// An image that is written: its settings, its tags, and its samples, strip by strip.
 ///
@@ -72,7 +72,7 @@ impl<'a, W: 'a + Write + Seek, T: ColorType, K: TiffKind> ImageEncoder<'a, W, T,
         let row_bytes = row_samples * u64::from(T::Inner::BYTE_LEN);
         let rows_per_strip = match compression {
             Compression::Packbits => 1,
-            Compression::Uncompressed => 1_000_000u64.div_ceil(row_bytes) as u32,
+            Compression::Uncompressed => div_ceil(1_000_000, row_bytes) as u32,
         };
         Ok(ImageEncoder {
             encoder: DirectoryEncoder::new(encoder),
@@ -169,10 +169,11 @@ impl<'a, W: 'a + Write + Seek, T: ColorType, K: TiffKind> ImageEncoder<'a, W, T,
     {
         self.is_ended = true;
         let left = self.samples_left()?;
-        let Some(data) = usize::try_from(left).ok().and_then(|left| data.get(..left)) else {
-            return Err(invalid_data("fewer samples than the image has"));
-        };
-        self.page.samples.reserve_exact(size_of_val(data));
+        let data = usize::try_from(left)
+            .ok()
+            .and_then(|left| data.get(..left))
+            .ok_or_else(|| invalid_data("fewer samples than the image has"))?;
+        self.page.samples.reserve_exact(mem::size_of_val(data));
         self.append(data)?;
         self.add_page();
         Ok(())

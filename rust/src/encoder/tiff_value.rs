@@ -1,15 +1,19 @@
 //! Values of tags, and numbers of samples.
 
 use std::borrow::Cow;
+use std::mem::size_of;
 use std::slice::from_ref;
 
 use crate::ffi;
 use crate::tags::{self, Type};
 
 /// Values of a tag, or samples.
-#[diagnostic::on_unimplemented(
-    message = "`{Self}` is no value of a tag",
-    note = "numbers, slices by reference such as `&vec[..]`, arrays, and `&str` are"
+#[cfg_attr(
+    has_diagnostics,
+    diagnostic::on_unimplemented(
+        message = "`{Self}` is no value of a tag",
+        note = "numbers, slices by reference such as `&vec[..]`, arrays, and `&str` are"
+    )
 )]
 pub trait TiffValue {
     /// How many bytes a value has.
@@ -173,7 +177,7 @@ impl TiffValue for str {
     }
 }
 
-#[diagnostic::do_not_recommend]
+#[cfg_attr(has_diagnostics, diagnostic::do_not_recommend)]
 impl<T: TiffValue + ?Sized> TiffValue for &T {
     const BYTE_LEN: u8 = T::BYTE_LEN;
     const FIELD_TYPE: Type = T::FIELD_TYPE;
