@@ -22,7 +22,7 @@ PROGRAM = next((str(place) for place in PLACES if place.is_file()), "")
 COLORS = "Gray RGB Palette GrayA RGBA CMYK CMYKA YCbCr Lab Multiband".split()
 NAMES = sorted(path.name for path in (ROOT / "crates/tiff_replay/data").glob("*.tif"))
 # Of a file one length in so many is tried, and so many changes of a byte.
-STEP, CHANGES = 11, 30
+STEP, CHANGES = 29, 12
 
 pytestmark = pytest.mark.skipif(not PROGRAM, reason="the program tiffpage isn't built")
 
