@@ -18,3 +18,4 @@ pub mod Ahead
 pub mod Within
 mod Trees
 mod Unsigned
+pub mod OneNumber

@@ -1,12 +1,15 @@
 -- Parts of the bytes of a field.
-use Rattle.std.proofs.Common.{◌≡◌, ℕ, ◌-◌, ◌^◌, ◌<◌, ◌≤◌, ◌++◌, List, [], length, take, Ok, Err, ap, sym, ◌∙◌, arith}
+use Rattle.std.proofs.Common.{◌≡◌, ℕ, ◌+◌, ◌-◌, ◌^◌, ◌<◌, ◌≤◌, ◌++◌, List, [], length, take, Ok, Err, ap, sym, ◌∙◌, arith}
 use Rattle.std.proofs.lemmas.Grind.{common_steps}
 use Rattle.std.proofs.Math.Seq.{take-append_seam}
 use Rattle.std.specs.Prelude.{min}
 use Rattle.tiff_base.proofs.Causes.{cause_along}
+use Rattle.tiff_base.proofs.Told.{part_readable}
+use Rattle.tiff_base.specs.SourceAndSink.{SourceRecord}
+use Rattle.tiff_ifd.specs.Stretches.{FieldPartReadable, FieldReadable}
 use Rattle.tiff_base.specs.Answers.{IsCause}
 use Rattle.tiff_base.specs.Field.{Field}
-use Rattle.tiff_base.specs.FieldBytes.{field_len}
+use Rattle.tiff_base.specs.FieldBytes.{field_len, field_offset}
 use Rattle.tiff_base.specs.declared.error.TiffError.{TiffError}
 use Rattle.tiff_base.specs.declared.error.TiffError.TheVariants.{LimitsExceeded}
 use Rattle.tiff_base.specs.declared.tags.ByteOrder.{ByteOrder}
@@ -39,3 +42,9 @@ module _ (kind : FileKind) (order : ByteOrder) (bytes : List ℕ) (f : Field) (l
   part_read size n m part rest s short before e l h =
       part_is size n s short before e ∙ h
       ∙ ap (λ (xs : List ℕ). Ok xs) (sym (ap (λ (k : ℕ). take k (part ++ rest)) (sym l) ∙ take-append_seam part rest))
+
+-- a part of a readable field is readable
+pub part_of_readable : (s : SourceRecord) (kind : FileKind) (order : ByteOrder) (f : Field) (at n : ℕ) → at + n ≤ field_len f
+    → FieldReadable s kind order f → FieldPartReadable s kind order f at n
+part_of_readable s kind order f at n within r =
+    record { placed = λ p. part_readable s (field_offset kind order f) (field_len f) (field_offset kind order f + at) n (omega arith) (omega (arith, within)) (r.placed p) }

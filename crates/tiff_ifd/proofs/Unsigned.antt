@@ -107,7 +107,7 @@ pub numbers_too_long : (kind : FileKind) (order : ByteOrder) (bytes : List ℕ) 
 unfolding field_value
 numbers_too_long kind order bytes limits e long = grind (arith, common_steps, long)
 
-value_placed : (kind : FileKind) (order : ByteOrder) (bytes : List ℕ) (limits : Limits) (e : Field) → field_len e < 2 ^ 64 → byte_len (offset_width kind) < field_len e
+pub value_placed : (kind : FileKind) (order : ByteOrder) (bytes : List ℕ) (limits : Limits) (e : Field) → field_len e < 2 ^ 64 → byte_len (offset_width kind) < field_len e
     → field_value kind order bytes limits e ≡ placed_value kind order bytes limits e
 unfolding field_value
 value_placed kind order bytes limits e short long = grind (arith, common_steps, short, long)
@@ -126,10 +126,10 @@ numbers_placed kind order bytes limits e failed r short long h =
 pub unit_within : (k n width : ℕ) → k < n → k * width + width ≤ n * width
 unit_within k n width h = let m : (k + 1) * width ≤ n * width = mul-le-mul_right width (omega (arith, h)) in omega (arith, m)
 
-length-items : (read : List ℕ → ℕ) (width n : ℕ) (bs : List ℕ) → length (items read width n bs) ≡ n
+pub length-items : (read : List ℕ → ℕ) (width n : ℕ) (bs : List ℕ) → length (items read width n bs) ≡ n
 length-items read width n bs = length-map-range_with_len _ 0 n
 
-items_at : (read : List ℕ → ℕ) (width n k : ℕ) (bs : List ℕ) → k < n → get_or (items read width n bs) k 0 ≡ read (bytes_at bs (k * width) width)
+pub items_at : (read : List ℕ → ℕ) (width n k : ℕ) (bs : List ℕ) → k < n → get_or (items read width n bs) k 0 ≡ read (bytes_at bs (k * width) width)
 items_at read width n k bs h =
     let e : width * k ≡ k * width = omega arith in
     get_or-map-range_with_len (λ i. read (bytes_at bs (width * i) width)) 0 n k k 0 h (omega arith) ∙ ap (λ (m : ℕ). read (bytes_at bs m width)) e

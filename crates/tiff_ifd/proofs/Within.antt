@@ -1,9 +1,10 @@
 -- Values within all limits, whose bytes are in the source.
-use Rattle.std.proofs.Common.{◌≡◌, ℕ, List, ◌∷◌, Bool, true, false, Option, None, Some, Vec, Result, Ok, Err, refl}
+use Rattle.std.proofs.Common.{◌≡◌, ℕ, List, ◌∷◌, Bool, true, false, Option, None, Some, Vec, Result, Ok, Err, refl, ap, subst}
 use Rattle.std.specs.declared.alloc.Global.{Global}
 use Rattle.std.specs.Prelude.{IsOk, if◌then◌else◌}
 use Rattle.tiff_base.specs.declared.error.TiffError.{TiffError}
-use Rattle.tiff_base.specs.declared.error.TiffError.TheVariants.{FormatError, LimitsExceeded}
+use Rattle.tiff_base.specs.declared.error.TiffError.TheVariants.{FormatError, IoError, LimitsExceeded}
+use Rattle.tiff_base.specs.declared.io.IoKind.TheVariants.{UnexpectedEof}
 use Rattle.tiff_base.specs.declared.error.TiffFormatError.TheVariants.{InvalidTag}
 use Rattle.tiff_base.specs.declared.tags.ByteOrder.{ByteOrder}
 use Rattle.tiff_base.specs.declared.tags.FileKind.{FileKind}
@@ -11,6 +12,7 @@ use Rattle.tiff_base.specs.declared.tags.«Type».{«Type»}
 use Rattle.tiff_base.specs.declared.tags.«Type».TheVariants as t
 use Rattle.tiff_base.specs.Answers.{AnswersBut, IsCause, ◌>>=◌}
 use Rattle.tiff_base.specs.Field.{Field}
+use Rattle.tiff_base.specs.SourceAndSink.{exactly_at}
 use Rattle.tiff_base.specs.Sparing.{IsFoundWithin, IsWithinLimits}
 use Rattle.tiff_base.proofs.Causes.{cause_along}
 use Rattle.tiff_ifd.specs.PlainValue.{PlainValue, PlainValueList, none, more, list, byte, ascii}
@@ -48,6 +50,36 @@ pub read_within : (inline : Bool) (type : «Type») (order : ByteOrder) (count :
     → IsOk found → IsWithinLimits (found >>= λ bytes. value_from inline type order count bytes)
 read_within inline type order count (Ok bytes) h = value_within inline type order count bytes
 read_within inline type order count (Err e) h = absurd (cc)
+
+-- ---- a limit comes first
+
+unlimited_exactly : (b : Bool) (bytes : List ℕ) → (if b then Ok bytes else Err (IoError UnexpectedEof)) ≡ Err LimitsExceeded → ⊥
+unlimited_exactly true bytes h = absurd (cc)
+unlimited_exactly false bytes h = absurd (cc)
+
+-- bytes at an offset are refused by no limit
+pub exactly_unlimited : (bytes : List ℕ) (at len : ℕ) → exactly_at bytes at len ≡ Err LimitsExceeded → ⊥
+exactly_unlimited bytes at len h = unlimited_exactly _ _ h
+
+unlimited_value : (given : Result PlainValue TiffError) → IsWithinLimits given → given ≡ Err LimitsExceeded → ⊥
+unlimited_value (Ok d) w h = absurd (cc)
+unlimited_value (Err e) w h = let P : Result PlainValue TiffError → Type 0 = λ r. IsWithinLimits r in subst P h w
+
+-- a value that is made of bytes is refused by no limit
+pub value_unlimited : (inline : Bool) (type : «Type») (order : ByteOrder) (count : ℕ) (bytes : List ℕ)
+    → value_from inline type order count bytes ≡ Err LimitsExceeded → ⊥
+value_unlimited inline type order count bytes h = unlimited_value _ (value_within inline type order count bytes) h
+
+-- a value whose bytes no limit refuses is refused by no limit
+pub read_unlimited : (inline : Bool) (type : «Type») (order : ByteOrder) (count : ℕ) (found : Result (List ℕ) TiffError)
+    → (found ≡ Err LimitsExceeded → ⊥) → (found >>= λ bytes. value_from inline type order count bytes) ≡ Err LimitsExceeded → ⊥
+read_unlimited inline type order count (Ok bytes) n h = value_unlimited inline type order count bytes h
+read_unlimited inline type order count (Err e) n h = n (ap (λ r. elim r [ Ok d ↦ Err LimitsExceeded | Err e ↦ Err e ]) h)
+
+-- a value that a look-up finds is refused by a limit only if its read is
+pub found_limited : (given : Result PlainValue TiffError) → (given >>= λ d. Ok (Some d)) ≡ Err LimitsExceeded → given ≡ Err LimitsExceeded
+found_limited (Ok d) h = absurd (cc)
+found_limited (Err e) h = ap (λ r. elim r [ Ok d ↦ Err LimitsExceeded | Err e ↦ Err e ]) h
 
 text_string_within : (b : Bool) (text : List ℕ) → IsWithinLimits ((if b then Ok (ascii text) else Err (FormatError InvalidTag)) >>= into_string)
 text_string_within true text = tt

@@ -16,3 +16,4 @@ pub mod Same
 pub mod Stream
 pub mod Unpacking
 pub mod Stretches
+pub mod OneNumber

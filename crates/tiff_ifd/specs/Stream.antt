@@ -1,5 +1,5 @@
 -- A reader of numbers, and the numbers that it reads (TIFF 6.0 section 2).
-use Rattle.std.specs.Prelude.{◌≡◌, ℕ, ◌+◌, ◌≤◌, List, Result, Ok, Err}
+use Rattle.std.specs.Prelude.{◌≡◌, ℕ, ◌+◌, ◌≤◌, Result, Ok, Err}
 use Rattle.std.specs.Int.{Width, byte_len}
 use Rattle.tiff_base.specs.declared.error.TiffError.{TiffError}
 use Rattle.tiff_base.specs.declared.tags.ByteOrder.{ByteOrder}
@@ -7,11 +7,12 @@ use Rattle.tiff_base.specs.declared.tags.Bits32.{Bits32}
 use Rattle.tiff_base.specs.declared.tags.Bits64.{Bits64}
 use Rattle.tiff_base.specs.Answers.{AnswersWithoutMemory, NoneSwallowed, ◌>>=◌}
 use Rattle.tiff_base.specs.Number.{number_at}
+use Rattle.tiff_base.specs.SourceAndSink.{SourceRecord}
 
--- the bytes of the source, the number of failed reads so far, the byte order, and the offset of the
+-- what the source contains, the number of failed reads so far, the byte order, and the offset of the
 -- next number
 pub record Reading : Type 0 where
-  pub bytes : List ℕ
+  pub told : SourceRecord
   pub failures : ℕ
   pub order : ByteOrder
   pub offset : ℕ
@@ -25,7 +26,7 @@ offset_behind (Err e) len offset = offset
 pub record NumberRead {X : Type 0} (w : Width) (as_number : ℕ → X) (result : Result X TiffError)
     (old new : Reading) : Type 0 where
   pub answer : AnswersWithoutMemory (λ x. x) result
-      (number_at old.order w old.bytes old.offset >>= λ n. Ok (as_number n)) old.failures
+      (number_at old.order w old.told.bytes old.offset >>= λ n. Ok (as_number n)) old.failures
       new.failures
   pub stands : new
       ≡ record old {

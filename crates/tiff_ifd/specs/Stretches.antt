@@ -50,6 +50,13 @@ pub record FieldReadable (source : SourceRecord) (kind : FileKind) (order : Byte
   pub placed : byte_len (offset_width kind) < field_len f
       → AreReadable source (field_offset kind order f) (field_len f)
 
+-- The source can read n bytes of a field from the byte `at` on, where its values are outside the
+-- entry.
+pub record FieldPartReadable (source : SourceRecord) (kind : FileKind) (order : ByteOrder)
+    (f : Field) (at n : ℕ) : Type 0 where
+  pub placed : byte_len (offset_width kind) < field_len f
+      → AreReadable source (field_offset kind order f + at) n
+
 -- The source can read the values of a tag, if the directory has the tag.
 pub record TagReadable (source : SourceRecord) (kind : FileKind) (order : ByteOrder)
     (directory : DirectoryRecord) (tag : Tag) : Type 0 where

@@ -10,10 +10,13 @@ use Rattle.tiff_ifd.specs.declared.packbits.Block.{Block}
 use Rattle.tiff_ifd.specs.declared.packbits.Block.TheVariants.{Literal, Run}
 use Rattle.tiff_ifd.specs.declared.packbits.PackBitsCursor.{PackBitsCursor}
 
--- the bytes of the source, the number of failed reads so far, and the unpacked bytes that are left
+-- what the source contains, the number of failed reads so far, the offset and the number of the packed
+-- bytes that are left, and the unpacked bytes that are left
 pub record Unpacking : Type 0 where
-  pub bytes : List ℕ
+  pub told : SourceRecord
   pub failures : ℕ
+  pub at : ℕ
+  pub len : ℕ
   pub rest : Unpacked
 
 -- the bytes that `len` packed bytes at an offset unpack to; the source may end before the last of
@@ -73,8 +76,10 @@ left_at bytes offset =
 abbrev pub unpacking : {S : Type 0} → (S → SourceRecord) → (S → ℕ) → S → PackBitsCursor → Unpacking
 unpacking told_of failures_of source offset =
     record {
-      bytes = (told_of source).bytes;
+      told = told_of source;
       failures = failures_of source;
+      at = offset.at;
+      len = offset.len;
       rest = left_at (told_of source).bytes offset;
     }
 

@@ -1,8 +1,9 @@
-//! The laws of chains and of accepted links. Each law is the contract of a function that does
+//! The laws of chains, of accepted links, and of one number of a field. Each law is the contract of a function that does
 //! nothing.
 
 ghost use Rattle.tiff_ifd.specs.Chain.{IsLinkOfDirectory, IsTheChain, IsOneChain, IsLongestChain, IsChainApart};
 ghost use Rattle.tiff_ifd.specs.Links.{IsAnswered, IsOneAnswer};
+ghost use Rattle.tiff_ifd.specs.OneNumber.{OneOfNumbers};
 
 /// The count and the link of a directory decide its link, and whether the directory is readable.
 pub fn link_of_directory()
@@ -37,4 +38,9 @@ pub fn some_answer()
 /// Each link that is offered has at most one result, and one set of accepted links after it.
 pub fn one_answer()
     ensures { IsOneAnswer }
+{}
+
+/// A number of a field, read alone, is the one that a read of all numbers returns.
+pub fn one_of_numbers()
+    ensures { OneOfNumbers }
 {}

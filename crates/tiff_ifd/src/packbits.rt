@@ -331,8 +331,8 @@ impl PackBitsCursor {
     }
 }
 
-/// Unpacks PackBits data of a source (TIFF 6.0 section 9) in pieces of any size. Allocates no
-/// memory.
+/// Unpacks PackBits data of a source (TIFF 6.0 section 9) in pieces of any size. Asks the source for
+/// no other bytes than the packed ones that are left. Allocates no memory.
 #[derive(Debug, Drop)]
 pub struct PackBitsReader<R: Source> {
     source: R,
@@ -352,8 +352,10 @@ impl<R: Source> PackBitsReader<R> {
     /// them.
     pub fn new(source: R, at: u64, length: u64) -> Self
         ensures { result ≡ record {
-          bytes = (R.told source).bytes;
+          told = R.told source;
           failures = R.failures source;
+          at = at;
+          len = length;
           rest = unpacked_at (R.told source).bytes at length;
         } }
     {
@@ -371,10 +373,13 @@ impl<R: Source> PackBitsReader<R> {
     /// returns the same bytes.
     pub fn read(&mut self, buf: &mut [u8]) -> TiffResult<usize>
         ensures empty { length buf.old ≡ 0 → (result ≡ Ok 0) × (self.new ≡ self.old) }
-        ensures bytes { self.new.bytes ≡ self.old.bytes }
+        ensures told { self.new.told ≡ self.old.told }
         ensures failures { self.old.failures ≤ self.new.failures }
         ensures swallowed { NoneSwallowed result self.old.failures self.new.failures }
         ensures piece { PieceReads result self.old self.new buf.old buf.new }
+        ensures asked { AsksOnly (AreReadable self.old.told self.old.at self.old.len) result }
+        ensures start { self.old.at ≤ self.new.at }
+        ensures end { self.new.at + self.new.len ≡ self.old.at + self.old.len }
     {
         self.offset.read(&mut self.source, buf)
     }
@@ -382,10 +387,13 @@ impl<R: Source> PackBitsReader<R> {
     /// Fills the buffer with the next bytes. Returns `IoError(UnexpectedEof)` where fewer bytes are
     /// left, however the packed bytes end. After an error the next read returns the same bytes.
     pub fn read_exact(&mut self, buf: &mut [u8]) -> TiffResult<()>
-        ensures bytes { self.new.bytes ≡ self.old.bytes }
+        ensures told { self.new.told ≡ self.old.told }
         ensures failures { self.old.failures ≤ self.new.failures }
         ensures swallowed { NoneSwallowed result self.old.failures self.new.failures }
         ensures filled { Fills result self.old self.new buf.new }
+        ensures asked { AsksOnly (AreReadable self.old.told self.old.at self.old.len) result }
+        ensures start { self.old.at ≤ self.new.at }
+        ensures end { self.new.at + self.new.len ≡ self.old.at + self.old.len }
     {
         self.offset.read_exact(&mut self.source, buf)
     }

@@ -8,7 +8,7 @@ ghost use Rattle.tiff_base.specs.Sparing.{AnswersSparingly};
 ghost use Rattle.tiff_base.specs.Number.{number};
 ghost use Rattle.tiff_base.specs.Directory.{offset_width};
 ghost use Rattle.tiff_base.specs.FieldBytes.{field_len};
-ghost use Rattle.tiff_ifd.specs.Stretches.{FieldReadable};
+ghost use Rattle.tiff_ifd.specs.Stretches.{FieldPartReadable, FieldReadable};
 ghost use Rattle.tiff_ifd.specs.TagQueries.{buffer_of, part_from, part_of_field};
 
 use crate::field_reader::FieldReader;
@@ -91,7 +91,7 @@ impl FieldReader<'_> {
 
     // Fills the buffer with the bytes of a field from the byte `at` on. Returns the errors of
     // `read_part`, but the buffer ends within the field.
-    fn fill_part<R: Source>(
+    pub(crate) fn fill_part<R: Source>(
         &self,
         source: &mut R,
         entry: &Entry,
@@ -105,7 +105,8 @@ impl FieldReader<'_> {
             (part_from self.now.kind self.now.order (R.told source.old).bytes entry.now
             (length buf.old) at) (R.failures source.old) (R.failures source.new) }
         ensures asked { AsksOnly
-            (FieldReadable (R.told source.old) self.now.kind self.now.order entry.now) result }
+            (FieldPartReadable (R.told source.old) self.now.kind self.now.order entry.now at
+            (length buf.old)) result }
     {
         let len = entry.count() * u64::from(entry.field_type().byte_len());
         let value = entry.value();
@@ -124,6 +125,7 @@ impl FieldReader<'_> {
     /// Returns 0 where `at` is not below the number of bytes of the field. Returns `LimitsExceeded`
     /// for a field of 2^64 bytes or more, `InconsistentSizesEncountered` for an offset of 2^64 or
     /// more, and `IoError(UnexpectedEof)` where it copies bytes past the end of the source.
+    #[tactic(auto, using(crate::proofs::Parts::part_of_readable))]
     pub fn read_part<R: Source>(
         &self,
         source: &mut R,

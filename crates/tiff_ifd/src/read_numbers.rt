@@ -3,7 +3,7 @@
 ghost use Rattle.std.specs.Prelude.{◌≡◌, ◌*◌, ◌<◌, true, None, Ok, length, slice_index, EachIndex, option_map};
 ghost use Rattle.std.specs.FinMap.{get};
 ghost use Rattle.std.specs.Int.{byte_len};
-ghost use Rattle.tiff_base.specs.Answers.{AsksOnly, IsKept};
+ghost use Rattle.tiff_base.specs.Answers.{AnswersWithoutMemory, AsksOnly, IsKept};
 ghost use Rattle.tiff_base.specs.Sparing.{AnswersWithin, GivesSparingly};
 ghost use Rattle.tiff_base.specs.Directory.{offset_width};
 ghost use Rattle.tiff_base.specs.FieldBytes.{field_len};
@@ -13,6 +13,7 @@ ghost use Rattle.tiff_base.specs.Tags.{tag_number};
 ghost use Rattle.tiff_base.specs.Types.{type_size};
 ghost use Rattle.tiff_ifd.specs.Into.{into_u64_vec};
 ghost use Rattle.tiff_ifd.specs.TagLookup.{AnswersFound, find, look_in};
+ghost use Rattle.tiff_ifd.specs.OneNumber.{NumberReadable, is_unsigned, one_number};
 ghost use Rattle.tiff_ifd.specs.Stretches.{FieldReadable, TagReadable};
 ghost use Rattle.tiff_ifd.specs.Unsigned.{IsUnsigned, field_numbers, numbers_from, placed_numbers, unsigned_width};
 
@@ -21,14 +22,15 @@ use crate::read_bytes::{len_of, offset_in, offset_len};
 use crate::read_value::{is_allowed, u16_of, u32_of, u64_of};
 use std::alloc::Global;
 use tiff_base::directory::{Directory, Entry};
-use tiff_base::error::{TiffError, TiffResult};
+use tiff_base::error::{TiffError, TiffFormatError, TiffResult};
 use tiff_base::io::Source;
 use tiff_base::read::read_bytes_at;
 use tiff_base::tags::{ByteOrder, Tag, Type};
 
-// Whether the values of a type are unsigned numbers of two, four or eight bytes.
-fn is_unsigned(field_type: Type) -> bool
-    ensures { result ≡ true → IsUnsigned field_type }
+/// Whether the values of a type are unsigned numbers of two, four or eight bytes.
+pub fn is_unsigned(field_type: Type) -> bool
+    ensures value { result ≡ is_unsigned field_type }
+    ensures unsigned { result ≡ true → IsUnsigned field_type }
 {
     matches!(field_type, Type::SHORT | Type::LONG | Type::LONG8)
 }
@@ -157,6 +159,42 @@ impl FieldReader<'_> {
             return self.read_placed(source, entry, len);
         }
         self.read_value(source, entry)?.into_u64_vec(self.alloc)
+    }
+
+    /// Reads the number with an index of a field of type SHORT, LONG or LONG8, and none of the
+    /// others. Returns `InvalidTypeForTag` for another type, `LimitsExceeded` for a field of 2^64
+    /// bytes or more, `InconsistentSizesEncountered` where `index` is not below the number of
+    /// numbers and for an offset of 2^64 or more, and `IoError(UnexpectedEof)` for a number past
+    /// the end of the source.
+    #[tactic(auto, unfolding(crate::specs::OneNumber::one_number))]
+    pub fn read_number<R: Source>(
+        &self,
+        source: &mut R,
+        entry: &Entry,
+        index: u64,
+    ) -> TiffResult<u64>
+        ensures kept { IsKept R.told R.failures result source.old source.new }
+        ensures answer { AnswersWithoutMemory (λ n. n) result
+            (one_number self.now.kind self.now.order (R.told source.old).bytes entry.now index)
+            (R.failures source.old) (R.failures source.new) }
+        ensures asked { AsksOnly
+            (NumberReadable (R.told source.old) self.now.kind self.now.order entry.now index)
+            result }
+    {
+        let field_type = entry.field_type();
+        if !is_unsigned(field_type) {
+            return Err(TiffFormatError::InvalidTypeForTag.into());
+        }
+        if len_of(entry).is_none() {
+            return Err(TiffError::LimitsExceeded);
+        }
+        if entry.count() <= index {
+            return Err(TiffFormatError::InconsistentSizesEncountered.into());
+        }
+        let size = usize::from(field_type.byte_len());
+        let mut bytes = [0u8; 8];
+        self.fill_part(source, entry, index * size as u64, &mut bytes[..size])?;
+        Ok(unsigned_of(field_type, self.order, &bytes[..size]))
     }
 
     /// Reads the numbers of a tag. Returns `None` if the directory does not have the tag.

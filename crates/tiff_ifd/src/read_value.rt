@@ -305,7 +305,7 @@ pub(crate) fn is_allowed(limits: &Limits, field_type: Type, count: u64) -> bool
 impl FieldReader<'_> {
     // Reads the value of a field whose values are outside the entry. Returns the errors of
     // `read_value`.
-    #[tactic(auto, using(crate::proofs::Within::value_within, crate::proofs::Within::read_within), unfolding(tiff_base::specs::FieldBytes::field_bytes))]
+    #[tactic(auto, using(crate::proofs::Within::value_within, crate::proofs::Within::read_within, crate::proofs::Within::exactly_unlimited, crate::proofs::Within::read_unlimited), unfolding(tiff_base::specs::FieldBytes::field_bytes))]
     fn read_placed_value<R: Source>(
         &self,
         source: &mut R,
@@ -322,6 +322,9 @@ impl FieldReader<'_> {
             (R.failures source.old) (R.failures source.new) }
         ensures asked { AsksOnly
             (FieldReadable (R.told source.old) self.now.kind self.now.order entry.now) result }
+        ensures limit { value.placed_value self.now.kind self.now.order (R.told source.old).bytes
+            self.now.limits.now entry.now ≡ Err tiff.LimitsExceeded
+            → result ≡ Err tiff.LimitsExceeded }
     {
         let (field_type, count) = (entry.field_type(), entry.count());
         if !is_allowed(self.limits, field_type, count) {
@@ -339,11 +342,11 @@ impl FieldReader<'_> {
     }
 
     /// Reads the value of a field. Returns `LimitsExceeded` for 2^64 bytes or more, and for values
-    /// outside the entry that are more than the limits allow. Returns `IoError(UnexpectedEof)` for
-    /// bytes past the end of the source. Returns `InvalidTag` for a text in the entry that does not
+    /// outside the entry that are more than the limits allow, before it reads. Returns
+    /// `IoError(UnexpectedEof)` for bytes past the end of the source. Returns `InvalidTag` for a text in the entry that does not
     /// end there, and for bytes that are no text. Allocates memory only for values within the
     /// limits and within the source, and for a value in the entry only where it is valid.
-    #[tactic(auto, unfolding(crate::specs::FieldValue::field_value))]
+    #[tactic(auto, using(crate::proofs::Within::value_unlimited), unfolding(crate::specs::FieldValue::field_value))]
     pub fn read_value<R: Source>(&self, source: &mut R, entry: &Entry) -> TiffResult<Value>
         ensures kept { IsKept R.told R.failures result source.old source.new }
         ensures answer { let given
@@ -354,6 +357,11 @@ impl FieldReader<'_> {
             (R.failures source.old < R.failures source.new) plain_value result given }
         ensures asked { AsksOnly
             (FieldReadable (R.told source.old) self.now.kind self.now.order entry.now) result }
+
+        // A limit is checked before a byte is read.
+        ensures limit { value.field_value self.now.kind self.now.order (R.told source.old).bytes
+            self.now.limits.now entry.now ≡ Err tiff.LimitsExceeded
+            → result ≡ Err tiff.LimitsExceeded }
     {
         let count = entry.count();
         if count == 0 {
@@ -375,7 +383,7 @@ impl FieldReader<'_> {
     }
 
     /// Reads the value of a tag. Returns `None` if the directory does not have the tag.
-    #[tactic(auto, using(crate::proofs::Within::found_wanted), unfolding(crate::specs::TagLookup::look_in))]
+    #[tactic(auto, using(crate::proofs::Within::found_wanted, crate::proofs::Within::found_limited), unfolding(crate::specs::TagLookup::look_in))]
     pub fn find_value<R: Source>(
         &self,
         source: &mut R,
@@ -395,6 +403,11 @@ impl FieldReader<'_> {
         ensures asked { AsksOnly
             (TagReadable (R.told source.old) self.now.kind self.now.order directory.now tag)
             result }
+
+        // A limit is checked before a byte is read.
+        ensures limit { (look_in self.now.kind self.now.order (R.told source.old).bytes
+            self.now.limits.now directory.now.entries).value tag ≡ Err tiff.LimitsExceeded
+            → result ≡ Err tiff.LimitsExceeded }
     {
         match directory.get(tag) {
             None => Ok(None),
