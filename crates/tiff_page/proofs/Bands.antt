@@ -28,9 +28,11 @@ use Rattle.tiff_page.specs.OutputRow.{StoresAllShown, handed_number, handed_byte
 use Rattle.tiff_page.specs.RowReads.{TakesRow}
 use Rattle.tiff_page.specs.ChunkData.{IsTooShort}
 use Rattle.tiff_page.specs.AdjacentRows.{LieTogether}
-use Rattle.tiff_page.proofs.ChunkRows.{row_handed, bits_are, number_in_row, none_dropped}
+use Rattle.tiff_page.proofs.ChunkRows.{row_handed, bits_are, number_in_row, none_dropped, need_within, needed_more}
 use Rattle.tiff_page.proofs.Rects.{writes_more, writes_as}
 use Rattle.tiff_page.proofs.Rows.{each_same}
+use Rattle.tiff_page.specs.ChunkBands.{rows_short}
+use Rattle.tiff_page.proofs.PositionLaws.{product_some}
 
 -- ---- the output of one row of several
 
@@ -40,11 +42,10 @@ number_moved : (order : ByteOrder) (size len q n k : ℕ) (many one : List ℕ) 
     → row_number order size many (q * n + k) ≡ row_number order size one k
 number_moved order size len q n k many one e l same =
     let a : (k + 1) * size ≤ n * size = mul-le-mul_right size (omega (arith, l)) in
-    let d : q * len ≡ q * (n * size) = ap (λ z. q * z) e in
     ap (number order (width_of size))
     (each_same size (λ j. slice_index many ((q * n + k) * size + j)) (λ j. slice_index one (k * size + j))
     (λ j jl.
-    let x : (q * n + k) * size + j ≡ q * len + (k * size + j) = omega (arith, d) in
+    let x : (q * n + k) * size + j ≡ q * len + (k * size + j) = omega (arith, ap (λ z. q * z) e) in
     ap (λ z. slice_index many z) x ∙ same (k * size + j) (omega (arith, jl, a, e))))
 
 number_alone : (order : ByteOrder) (p : PageRecord) (many one : List ℕ) (pr : Predictor) (c d : ℕ) → pr ≡ predictor.None
@@ -84,23 +85,17 @@ module _ (order : ByteOrder) (p : PageRecord) (color : ColorType) (w q b : ℕ) 
         let sz : 0 < size = omega (arith, big) in
         let f : t ≡ s = omega (arith, all, stored.stores) in
         let nl : n < w * s = div_below b size (w * s) sz (omega (arith, bl, len_is)) in
-        let k : n / s * t + n % s + 1 ≤ w * t = number_in_row n s t w stored.shows stored.stores nl in
-        let e : len ≡ w * t * size = len_is ∙ ap (λ z. w * z * size) (sym f) in
         let x : (q * w + n / s) * t + n % s ≡ q * (w * t) + (n / s * t + n % s) = omega arith in
-        ap (row_number order size many) x ∙ number_moved order size len q (w * t) (n / s * t + n % s) many one e (omega (arith, k)) same
+        ap (row_number order size many) x ∙ number_moved order size len q (w * t) (n / s * t + n % s) many one (len_is ∙ ap (λ z. w * z * size) (sym f)) (omega (arith, number_in_row n s t w stored.shows stored.stores nl)) same
 
     whole_moved : handed_number order p many color ((q * len + b) / size) / 256 ^ ((q * len + b) % size) % 256
         ≡ handed_number order p one color n / 256 ^ (b % size) % 256
     whole_moved =
         let sz : 0 < size = omega (arith, big) in
-        let x : (q * len + b) / size ≡ q * (w * s) + n = ap (λ z. (z + b) / size) before ∙ mul-add-div_right sz (q * (w * s)) b in
-        let m : (q * len + b) % size ≡ b % size = ap (λ z. (z + b) % size) before ∙ mul-add-mod_self_right (q * (w * s)) size b in
         let y : q * (w * s) ≡ q * w * s = omega arith in
-        let c : (q * (w * s) + n) / s ≡ q * w + n / s = ap (λ z. (z + n) / s) y ∙ mul-add-div_right stored.shows (q * w) n in
-        let d : (q * (w * s) + n) % s ≡ n % s = ap (λ z. (z + n) % s) y ∙ mul-add-mod_self_right (q * w) s n in
         let shows : ℕ → ℕ = λ v. shown_number p.interpretation (2 ^ p.depth) v / 256 ^ (b % size) % 256 in
-        (λ z. handed_number order p many color (x z) / 256 ^ m z % 256)
-        ∙ (λ z. shows (number_of_row order p many (c z * t + d z)))
+        (λ z. handed_number order p many color ((ap (λ z. (z + b) / size) before ∙ mul-add-div_right sz (q * (w * s)) b) z) / 256 ^ (ap (λ z. (z + b) % size) before ∙ mul-add-mod_self_right (q * (w * s)) size b) z % 256)
+        ∙ (λ z. shows (number_of_row order p many ((ap (λ z. (z + n) / s) y ∙ mul-add-div_right stored.shows (q * w) n) z * t + (ap (λ z. (z + n) % s) y ∙ mul-add-mod_self_right (q * w) s n) z)))
         ∙ ap shows (number_alone order p many one p.predictor ((q * w + n / s) * t + n % s) (n / s * t + n % s) alone number_here)
 
   pub handed_moved : handed_byte order p many color (q * len + b) ≡ handed_byte order p one color b
@@ -110,10 +105,9 @@ module _ (order : ByteOrder) (p : PageRecord) (color : ColorType) (w q b : ℕ) 
       let e : nat_lt p.depth 8 ≡ true = lt-ltb p.depth 8 l in
       rw e (ap (shown_number p.interpretation 256) (same b bl)))
       (λ (g : 8 ≤ p.depth).
-      let e : nat_lt p.depth 8 ≡ false = le-ltb p.depth 8 g in
       ⊎_elim
       (λ (l : p.depth < 8). Prim.absurd (omega (arith, l, g)))
-      (λ (whole : p.depth ≡ p.depth / 8 * 8). rw e (whole_moved g whole))
+      (λ (whole : p.depth ≡ p.depth / 8 * 8). rw (le-ltb p.depth 8 g) (whole_moved g whole))
       stored.depth)
       (cases_lt p.depth 8)
 
@@ -139,10 +133,9 @@ band_of_numbers p color w q n stored e =
 -- the rows lie in the buffer
 pub rows_below : (top h stride size row n : ℕ) → 0 < stride → (top + h) * stride ≤ size → row + n ≤ h → (top + row + n ≤ size) × ((top + row) * stride + n * stride ≤ size)
 rows_below top h stride size row n s l r =
-    let e : top + h ≤ (top + h) * stride = le-mul_of_pos_right (top + h) s in
     let m : (top + (row + n)) * stride ≤ (top + h) * stride = mul-le-mul_right stride (omega (arith, r)) in
     let a : (top + (row + n)) * stride ≡ (top + row) * stride + n * stride = omega arith in
-    (omega (arith, e, l, r), omega (arith, m, a, l))
+    (omega (arith, le-mul_of_pos_right (top + h) s, l, r), omega (arith, m, a, l))
 
 -- more rows are written
 pub band_put : (value : ℕ → ℕ → ℕ) (stride top row n left len at : ℕ) (out old mid new : List ℕ) → 0 < stride → left ≡ 0 → stride ≡ len
@@ -163,16 +156,14 @@ band_put value stride top row n left len at out old mid new s l e f c v w put =
     (λ i q.
     let t = there i q.0 in
     let a : i / stride < top + row + n = div_below i stride (top + row + n) s (omega (arith, q.1, end)) in
-    let m : i % stride < stride = mod_below i stride s in
-    record { below = omega (arith, t.0); above = omega (arith, a); right = omega (arith, l); within = omega (arith, m, e, l) })
+    record { below = omega (arith, t.0); above = omega (arith, a); right = omega (arith, l); within = omega (arith, mod_below i stride s, e, l) })
     (λ i p. ⊎_elim
     (λ (b : i / stride < top + row). inl (record { below = p.below; above = b; right = p.right; within = p.within }))
     (λ (b : top + row ≤ i / stride).
     let d : i / stride * stride + i % stride ≡ i = div-add-mod' i stride in
-    let m : i % stride < stride = mod_below i stride s in
     let x : (top + row) * stride ≤ i / stride * stride = mul-le-mul_right stride b in
     let y : (i / stride + 1) * stride ≤ (top + row + n) * stride = mul-le-mul_right stride (omega (arith, p.above)) in
-    inr (omega (arith, d, x, f), omega (arith, d, m, y, end)))
+    inr (omega (arith, d, x, f), omega (arith, d, mod_below i stride s, y, end)))
     (cases_lt (i / stride) (top + row)))
     w
     (writes_as Q (λ i. slice_index out (i - at)) (in_rect value stride top left) mid new
@@ -217,17 +208,13 @@ module _ (file : List ℕ) (order : ByteOrder) (p : PageRecord) (color : ColorTy
       let e : stride ≡ len = together.in_buffer in
       let ql : q < n = div_below i stride n s (omega (arith, il, c)) in
       let bl : b < len = omega (arith, mod_below i stride s, e) in
-      let u : q * stride ≡ q * len = ap (λ z. q * z) e in
-      let v : q * len + b ≡ i = omega (arith, div-add-mod' i stride, u) in
-      let from : ahead ≡ drop (row * len) bytes = d ∙ ap (λ z. drop (row * z) bytes) e in
-      let count : needed_of_row p color (length out) ≡ length out = needed_here (length out) in
+      let v : q * len + b ≡ i = omega (arith, div-add-mod' i stride, ap (λ z. q * z) e) in
       let top : (q + 1) * len ≤ n * len = mul-le-mul_right len (omega (arith, ql)) in
-      let size : length out ≡ n * len = c ∙ ap (λ z. n * z) e in
       t.handed i il
-      ∙ (λ z. handed_byte order p (take (count z) (from z)) color (sym v z))
+      ∙ (λ z. handed_byte order p (take ((needed_here (length out)) z) ((d ∙ ap (λ z. drop (row * z) bytes) e) z)) color (sym v z))
       ∙ handed_moved order p color (rect p k).width q b (take (length out) (drop (row * len) bytes)) (take len (drop ((row + q) * len) bytes)) stored
       (none_dropped (is_byte_plane p.predictor) (samples_in_chunk p.planar color) (stored_samples p) together.shown) together.alone bl
-      (λ m ml. one_row row q m (length out) ml (omega (arith, ml, top, size)))
+      (λ m ml. one_row row q m (length out) ml (omega (arith, ml, top, (c ∙ ap (λ z. n * z) e))))
       ∙ (λ z. handed_byte order p (take (sym (needed_here len) z) (drop ((row + q) * sym together.in_data z) bytes)) color b)
       ∙ sym (row_handed file order p color k (row + q) b sides stored listed (omega (arith, ql, rl)) bl)
 
@@ -236,35 +223,29 @@ module _ (file : List ℕ) (order : ByteOrder) (p : PageRecord) (color : ColorTy
       → TakesRow order p color ahead rest out → (row + n) * stride ≤ length bytes
   band_held row n ahead rest out s some c d t =
       let a : length out ≤ length ahead = subst (λ (m : ℕ). m ≤ length ahead) (needed_here (length out)) t.enough in
-      let f : length ahead ≡ length bytes - row * stride = ap (λ (z : List ℕ). length z) d ∙ length-drop (row * stride) bytes in
-      let x : 1 * stride ≤ n * stride = mul-le-mul_right stride some in
       let y : (row + n) * stride ≡ row * stride + n * stride = omega arith in
-      omega (arith, a, f, c, s, x, y)
+      omega (arith, a, (ap (λ (z : List ℕ). length z) d ∙ length-drop (row * stride) bytes), c, s, mul-le-mul_right stride some, y)
 
   -- where the next row is
   pub next_band : (row n : ℕ) (ahead rest out : List ℕ) → length out ≡ n * stride → ahead ≡ drop (row * stride) bytes
       → TakesRow order p color ahead rest out → rest ≡ drop ((row + n) * stride) bytes
   next_band row n ahead rest out c d t =
-      let e : needed_of_row p color (length out) ≡ n * stride = needed_here (length out) ∙ c in
       t.behind
-      ∙ (λ z. drop (e z) (d z))
+      ∙ (λ z. drop ((needed_here (length out) ∙ c) z) (d z))
       ∙ drop-drop (n * stride) (row * stride) bytes
       ∙ ap (λ (m : ℕ). drop m bytes) (omega arith)
 
   rows_needed : 0 < h → (h - 1) * stored_row_bytes p + needed_of_row p color (row_bytes p color (rect p k).width) ≡ h * stride
   rows_needed some =
-      let a : stored_row_bytes p ≡ stride = together.in_data ∙ sym together.in_buffer in
-      let b : needed_of_row p color (row_bytes p color (rect p k).width) ≡ stride = needed_here (row_bytes p color (rect p k).width) ∙ sym together.in_buffer in
       let c : h - 1 + 1 ≡ h = omega (arith, some) in
       let d : (h - 1) * stride + stride ≡ (h - 1 + 1) * stride = omega arith in
-      (λ z. (h - 1) * a z + b z) ∙ d ∙ ap (λ m. m * stride) c
+      (λ z. (h - 1) * (together.in_data ∙ sym together.in_buffer) z + (needed_here (row_bytes p color (rect p k).width) ∙ sym together.in_buffer) z) ∙ d ∙ ap (λ m. m * stride) c
 
   -- several rows are within the bytes that are needed of the chunk
   pub band_within : (row n : ℕ) → 0 < h → row + n ≤ h → row * stride + n * stride ≤ needed_bytes p color k
   band_within row n some rl =
-      let x : (row + n) * stride ≤ h * stride = mul-le-mul_right stride rl in
       let y : (row + n) * stride ≡ row * stride + n * stride = omega arith in
-      omega (arith, x, y, rows_needed some)
+      omega (arith, mul-le-mul_right stride rl, y, rows_needed some)
 
   -- too few bytes for rows are too few for the chunk
   pub short_band : (failed failed' : Type 0) (row n m : ℕ) (ahead : List ℕ) (e : TiffError) → (failed → failed') → 0 < h → row + n ≤ h → m ≡ n * stride
@@ -277,7 +258,76 @@ module _ (file : List ℕ) (order : ByteOrder) (p : PageRecord) (color : ColorTy
       let g : length ahead ≡ length bytes - row * stride = ap (λ (z : List ℕ). length z) d ∙ length-drop (row * stride) bytes in
       let y : (row + n) * stride ≡ row * stride + n * stride = omega arith in
       let x : (row + n) * stride ≤ h * stride = mul-le-mul_right stride rl in
-      let u = rows_needed some in
-      let s : is_short file order p color k ≡ true = lt-ltb (length bytes) ((h - 1) * stored_row_bytes p + needed_of_row p color (row_bytes p color (rect p k).width)) (omega (arith, l, g, c, y, x, u)) in
+      let s : is_short file order p color k ≡ true = lt-ltb (length bytes) ((h - 1) * stored_row_bytes p + needed_of_row p color (row_bytes p color (rect p k).width)) (omega (arith, l, g, c, y, x, rows_needed some)) in
       rw (s, t.fault) refl)
       q
+
+-- ---- the rows of a chunk are read one after another
+
+-- a row lies in the buffer
+pub row_below : (top h stride len row : ℕ) → 0 < stride → (top + h) * stride ≤ len → row < h → top + row < len
+row_below top h stride len row s l r =
+    omega (arith, le-mul_of_pos_right (top + h) s, l, r)
+
+pub width_within : (p : PageRecord) (k : ℕ) → (rect p k).width ≤ p.chunk_width
+unfolding rect
+width_within p k = omega arith
+
+-- a row has at least one byte
+pub row_some : (p : PageRecord) (color : ColorType) (w : ℕ) → 0 < w → 0 < p.depth → 0 < samples_in_chunk p.planar color → 0 < row_bytes p color w
+unfolding row_bits
+row_some p color w a b s = product_some w p.depth (samples_in_chunk p.planar color) a b s
+
+module _ (file : List ℕ) (order : ByteOrder) (p : PageRecord) (color : ColorType) (k : ℕ) (sides : HasSides p) (stored : StoresAllShown p color) (listed : k < all_chunks p) where
+  abbrev pub its_rows : ℕ
+  its_rows = (rect p k).height
+
+  abbrev pub its_len : ℕ
+  its_len = row_bytes p color (rect p k).width
+
+  abbrev pub need : ℕ
+  need = needed_of_row p color its_len
+
+  abbrev pub its_data : List ℕ
+  its_data = chunk_data file order p k
+
+  -- the bytes of a row that was read are those of the chunk's row
+  pub row_bytes_are : (r : ℕ) (left rest out : List ℕ) → r < its_rows → length out ≡ its_len → left ≡ drop (r * stored_row_bytes p) its_data → TakesRow order p color left rest out
+      → (b : ℕ) → b < its_len → slice_index out b ≡ chunk_byte file order p color k r b
+  row_bytes_are r left rest out rl e d t b bl =
+      t.handed b (omega (arith, bl, e))
+      ∙ (λ z. handed_byte order p (take (needed_of_row p color (e z)) (d z)) color b)
+      ∙ sym (row_handed file order p color k r b sides stored listed rl bl)
+
+  -- the data contain the rows so far
+  pub row_held : (r : ℕ) (left rest out : List ℕ) → 0 < its_len → r < its_rows → length out ≡ its_len → left ≡ drop (r * stored_row_bytes p) its_data → TakesRow order p color left rest out
+      → r * stored_row_bytes p + need ≤ length its_data
+  row_held r left rest out some rl e d t =
+      let a : need ≤ length left = subst (λ (n : ℕ). needed_of_row p color n ≤ length left) e t.enough in
+      omega (arith, a, (ap (λ (z : List ℕ). length z) d ∙ length-drop (r * stored_row_bytes p) its_data), needed_more file order p color k r 0 sides stored listed rl some, some)
+
+  -- where the next row is
+  pub next_row : (r gap : ℕ) (left rest next out : List ℕ) → 0 < its_len → r + 1 < its_rows → length out ≡ its_len → left ≡ drop (r * stored_row_bytes p) its_data → TakesRow order p color left rest out
+      → gap ≡ stored_row_bytes p - need → next ≡ drop gap rest → next ≡ drop ((r + 1) * stored_row_bytes p) its_data
+  next_row r gap left rest next out some rl e d t g n =
+      let w : need ≤ stored_row_bytes p = need_within file order p color k r 0 sides stored listed (omega (arith, rl)) some in
+      let a : rest ≡ drop need left = subst (λ (m : ℕ). rest ≡ drop (needed_of_row p color m) left) e t.behind in
+      (n ∙ ap (drop gap) (a ∙ ap (drop need) d))
+      ∙ ap (drop gap) (drop-drop need (r * stored_row_bytes p) its_data)
+      ∙ drop-drop gap (r * stored_row_bytes p + need) its_data
+      ∙ ap (λ (m : ℕ). drop m its_data) (omega (arith, g, w))
+
+  -- too few bytes for a row are too few for the rows up to a later one
+  pub short_row : (r to : ℕ) (left : List ℕ) → r < to → left ≡ drop (r * stored_row_bytes p) its_data → length left < need → rows_short file order p color k to ≡ true
+  short_row r to left rl d l =
+      let m : r * stored_row_bytes p ≤ (to - 1) * stored_row_bytes p = mul-le-mul_right (stored_row_bytes p) (omega (arith, rl)) in
+      lt-ltb (length its_data) ((to - 1) * stored_row_bytes p + need) (omega (arith, (ap (λ (z : List ℕ). length z) d ∙ length-drop (r * stored_row_bytes p) its_data), m, l))
+
+  pub too_short : (failed failed' : Type 0) (r to n : ℕ) (left : List ℕ) (e : TiffError) → (failed → failed') → r < to → n ≡ its_len → left ≡ drop (r * stored_row_bytes p) its_data
+      → IsCause (Unit {0}) failed e (IsTooShort left (needed_of_row p color n) e)
+      → IsCause (Unit {0}) failed' e (fail_if (rows_short file order p color k to) (IoError UnexpectedEof) ≡ Err e)
+  too_short failed failed' r to n left e f rl q d c =
+      cause_along e (λ w. w) f
+      (λ t.
+      rw ((short_row r to left rl d (subst (λ (m : ℕ). length left < needed_of_row p color m) q t.short)), t.fault) refl)
+      c

@@ -13,7 +13,7 @@ use Rattle.tiff_base.specs.Answers.{IsCause}
 use Rattle.tiff_base.proofs.Causes.{cause_along}
 use Rattle.tiff_ifd.specs.declared.limits.Limits.{Limits}
 use Rattle.tiff_page.specs.Page.{PageRecord}
-use Rattle.tiff_page.specs.Counts.{parts}
+use Rattle.tiff_page.specs.Counts.{parts, all_chunks, planes_of}
 use Rattle.tiff_page.specs.Rect.{rect, across, chunks_of_plane}
 use Rattle.tiff_page.specs.Layout.{LayoutRecord, layout_of, row_bytes}
 use Rattle.tiff_page.specs.Laws.{HasSides, HasWholeRows}
@@ -24,15 +24,13 @@ use Rattle.tiff_page.specs.BufferPositions.{Writes, IsIn, in_rect, chunk_byte, c
 use Rattle.tiff_page.specs.NumberBytes.{IsPut}
 use Rattle.tiff_page.specs.ChunkBands.{AreBanded, AreImageRows, PutsImageRows, WritesRows, WritesImageRows, rows_short}
 use Rattle.tiff_page.proofs.Covering.{left_is, width_is, row_is, len_in, covers, byte_is, chunk_bytes_some}
-use Rattle.tiff_page.specs.Counts.{all_chunks, planes_of}
 use Rattle.tiff_page.specs.Methods.{method_fault}
 use Rattle.tiff_page.specs.ReadablePage.{IsRead}
 use Rattle.tiff_page.proofs.Filling.{first_at, columns_in, is_formed, is_whole}
 use Rattle.tiff_page.proofs.Filling as filling
-use Rattle.tiff_page.proofs.RowReads.{method_passed}
-use Rattle.tiff_page.proofs.PositionLaws.{chunks_within, cases_fault, all_ok, ok_all, first_of}
+use Rattle.tiff_page.proofs.Planes.{method_passed}
+use Rattle.tiff_page.proofs.PositionLaws.{chunks_within, cases_fault, all_ok, ok_all, first_of, parts_within, parts_cover, parts_some, planes_some}
 use Rattle.tiff_page.proofs.Rects.{writes_as, writes_more, writes_same}
-use Rattle.tiff_page.proofs.Sizes.{parts_within, parts_cover, parts_some, planes_some}
 
 -- ---- rows of a rectangle
 
@@ -90,8 +88,7 @@ module _ (p : PageRecord) (color : ColorType) (stride first column : ℕ) (sides
   pub last_in : first + a ≤ chunks_of_plane p
   last_in =
       let d : (first / a + 1) * a ≤ parts p.height p.chunk_height * a = mul-le-mul_right a (omega (arith, down)) in
-      let e : parts p.height p.chunk_height * a ≡ chunks_of_plane p = mul_comm (parts p.height p.chunk_height) a in
-      omega (arith, d, e, first_is)
+      omega (arith, d, mul_comm (parts p.height p.chunk_height) a, first_is)
 
   pub in_plane : j < chunks_of_plane p
   in_plane = omega (arith, last_in, inside)
@@ -106,51 +103,37 @@ module _ (p : PageRecord) (color : ColorType) (stride first column : ℕ) (sides
   pub same_top : (rect p j).y ≡ (rect p first).y
   unfolding rect
   same_top =
-      let u : j % chunks_of_plane p ≡ j = mod-eq_of_lt in_plane in
-      let v : first % chunks_of_plane p ≡ first = mod-eq_of_lt chunk in
-      (λ t. u t / a * p.chunk_height) ∙ ap (λ m. m * p.chunk_height) line_of ∙ (λ t. sym v t / a * p.chunk_height)
+      (λ t. (mod-eq_of_lt in_plane) t / a * p.chunk_height) ∙ ap (λ m. m * p.chunk_height) line_of ∙ (λ t. sym (mod-eq_of_lt chunk) t / a * p.chunk_height)
 
   pub same_rows : (rect p j).height ≡ (rect p first).height
   unfolding rect
   same_rows =
-      let u : j % chunks_of_plane p ≡ j = mod-eq_of_lt in_plane in
-      let v : first % chunks_of_plane p ≡ first = mod-eq_of_lt chunk in
-      (λ t. min p.chunk_height (p.height - u t / a * p.chunk_height)) ∙ ap (λ m. min p.chunk_height (p.height - m * p.chunk_height)) line_of
-      ∙ (λ t. min p.chunk_height (p.height - sym v t / a * p.chunk_height))
+      (λ t. min p.chunk_height (p.height - (mod-eq_of_lt in_plane) t / a * p.chunk_height)) ∙ ap (λ m. min p.chunk_height (p.height - m * p.chunk_height)) line_of
+      ∙ (λ t. min p.chunk_height (p.height - sym (mod-eq_of_lt chunk) t / a * p.chunk_height))
 
   -- where the bytes of one of them are
   pub begins : left_of p color stride 0 j ≡ edge p color column
   begins =
-      let l : left_of p color stride 0 j ≡ j % a * c = left_is p color stride 0 j sides whole fits in_plane in
-      let r : row_bytes p color p.width ≡ j % a * c + row_bytes p color (p.width - j % a * p.chunk_width) = row_is p color stride 0 j sides whole fits in_plane in
-      let e : j % a * c ≡ column * c = ap (λ m. m * c) column_of in
-      omega (arith, l, r, e)
+      omega (arith, left_is p color stride 0 j sides whole fits in_plane, row_is p color stride 0 j sides whole fits in_plane, ap (λ m. m * c) column_of)
 
   pub ends : left_of p color stride 0 j + row_bytes p color (rect p (0 * chunks_of_plane p + j)).width ≡ edge p color (column + 1)
   ends =
       let l : left_of p color stride 0 j ≡ j % a * c = left_is p color stride 0 j sides whole fits in_plane in
       let r : row_bytes p color p.width ≡ j % a * c + row_bytes p color (p.width - j % a * p.chunk_width) = row_is p color stride 0 j sides whole fits in_plane in
-      let e : j % a * c ≡ column * c = ap (λ m. m * c) column_of in
       let f : j % a * p.chunk_width ≡ column * p.chunk_width = ap (λ m. m * p.chunk_width) column_of in
       let w : (rect p (0 * chunks_of_plane p + j)).width ≡ min p.chunk_width (p.width - j % a * p.chunk_width) = width_is p color stride 0 j sides whole fits in_plane in
       let n : (column + 1) * c ≡ column * c + c = omega arith in
       ⊎_elim
       (λ (more : column + 1 < a).
-      let b : (column + 1) * p.chunk_width < p.width = parts_within p.width p.chunk_width (column + 1) sides.chunk_wide more in
       let m : (column + 1) * p.chunk_width ≡ column * p.chunk_width + p.chunk_width = omega arith in
-      let x : (rect p (0 * chunks_of_plane p + j)).width ≡ p.chunk_width = omega (arith, w, f, b, m) in
+      let x : (rect p (0 * chunks_of_plane p + j)).width ≡ p.chunk_width = omega (arith, w, f, parts_within p.width p.chunk_width (column + 1) sides.chunk_wide more, m) in
       let y : row_bytes p color (rect p (0 * chunks_of_plane p + j)).width ≡ c = ap (row_bytes p color) x in
-      let z : row_bytes p color (rect p (0 * chunks_of_plane p + j)).width ≤ row_bytes p color (p.width - j % a * p.chunk_width) = len_in p color stride 0 j sides whole fits in_plane in
-      omega (arith, l, e, y, z, n, r))
+      omega (arith, l, ap (λ m. m * c) column_of, y, len_in p color stride 0 j sides whole fits in_plane, n, r))
       (λ (last : a ≤ column + 1).
-      let b : p.width ≤ a * p.chunk_width = parts_cover p.width p.chunk_width sides.chunk_wide in
       let q : a ≡ column + 1 = omega (arith, last, inside) in
       let m : a * p.chunk_width ≡ column * p.chunk_width + p.chunk_width = ap (λ k. k * p.chunk_width) q ∙ omega arith in
-      let x : (rect p (0 * chunks_of_plane p + j)).width ≡ p.width - j % a * p.chunk_width = omega (arith, w, f, b, m) in
-      let y : row_bytes p color (rect p (0 * chunks_of_plane p + j)).width ≡ row_bytes p color (p.width - j % a * p.chunk_width) = ap (row_bytes p color) x in
-      let v : row_bytes p color p.width ≤ a * c = covers p color stride 0 j sides whole fits in_plane in
-      let k : a * c ≡ (column + 1) * c = ap (λ m. m * c) q in
-      omega (arith, l, y, r, v, k))
+      let x : (rect p (0 * chunks_of_plane p + j)).width ≡ p.width - j % a * p.chunk_width = omega (arith, w, f, parts_cover p.width p.chunk_width sides.chunk_wide, m) in
+      omega (arith, l, ap (row_bytes p color) x, r, covers p color stride 0 j sides whole fits in_plane, ap (λ m. m * c) q))
       (cases_lt (column + 1) a)
 
   -- the rows of one of them are written beside those of the chunks before it, from the image's row
@@ -165,7 +148,6 @@ module _ (p : PageRecord) (color : ColorType) (stride first column : ℕ) (sides
       let top : top_of p color stride 0 j ≡ (rect p first).y = let y : (rect p k).y ≡ (rect p j).y = ap (λ m. (rect p m).y) z in omega (arith, y, same_top) in
       let high : (rect p k).height ≡ (rect p first).height = ap (λ m. (rect p m).height) z ∙ same_rows in
       let b = begins in
-      let e = ends in
       let left : ℕ = left_of p color stride 0 j in
       let len : ℕ = row_bytes p color (rect p k).width in
       let start : ℕ = (rect p first).y + from in
@@ -185,7 +167,7 @@ module _ (p : PageRecord) (color : ColorType) (stride first column : ℕ) (sides
       sym (ap (λ x. chunk_byte file order p color k x ((row * stride + byte) % stride - left)) r ∙ ap (λ x. chunk_byte file order p color k (from + (i / stride - at)) x) n)
       ∙ byte_is p color stride 0 j sides whole fits in_plane file order (row * stride + byte)
       (record { below = omega (arith, d, top); above = omega (arith, d, top, q.below, q.above, within, high, some); right = omega (arith, m, q.right); within = omega (arith, m, q.within) })) v in
-      more_columns value stride at (to - from) (edge p color column) len (edge p color (column + 1)) old mid new (omega (arith, b, e)) before
+      more_columns value stride at (to - from) (edge p color column) len (edge p color (column + 1)) old mid new (omega (arith, b, ends)) before
       (subst (λ (m : ℕ). Writes (IsIn stride at (to - from) m len) value mid new) b s)
 
 -- all columns
@@ -230,8 +212,7 @@ module _ (p : PageRecord) (color : ColorType) (stride j : ℕ) (sides : HasSides
 
   pub column_in : (i : ℕ) → i % stride < row_bytes p color p.width → i % stride / wide < many
   column_in i b =
-      let v : row_bytes p color p.width ≤ many * wide = covers p color stride 0 j sides whole fits chunk in
-      div_below (i % stride) wide many (chunk_bytes_some p color stride 0 j sides whole fits chunk (omega (arith, b))) (omega (arith, b, v))
+      div_below (i % stride) wide many (chunk_bytes_some p color stride 0 j sides whole fits chunk (omega (arith, b))) (omega (arith, b, covers p color stride 0 j sides whole fits chunk))
 
   -- many row of the first plane
   pub in_first : (i : ℕ) → i / stride < p.height → (plane_of p color stride i ≡ 0) × (i / stride % p.height ≡ i / stride)
@@ -239,50 +220,36 @@ module _ (p : PageRecord) (color : ColorType) (stride j : ℕ) (sides : HasSides
 
   pub row_of_first : (i : ℕ) → plane_of p color stride i < 1 → i / stride < p.height
   row_of_first i l =
-      let e : i / stride / p.height * p.height + i / stride % p.height ≡ i / stride = div-add-mod' (i / stride) p.height in
       let z : i / stride / p.height * p.height ≡ 0 * p.height = ap (λ m. m * p.height) (omega (arith, l)) in
-      let m : i / stride % p.height < p.height = mod_below (i / stride) p.height sides.high in
-      omega (arith, e, z, m)
+      omega (arith, div-add-mod' (i / stride) p.height, z, mod_below (i / stride) p.height sides.high)
 
   -- positions in these rows are those of chunks below the next row of chunks
   pub of_rows : (i : ℕ) → IsIn stride y (y + h - y) 0 (row_bytes p color p.width) i → IsBefore p color stride 1 (j + many) 0 i
   of_rows i q =
       let u = y_is in
       let v = h_is in
-      let e = j_is in
       let f = in_first i (omega (arith, q.above, u, v)) in
       let b : i / stride / p.chunk_height < line + 1 = div_below (i / stride) p.chunk_height (line + 1) sides.chunk_high (let d : (line + 1) * p.chunk_height ≡ line * p.chunk_height + p.chunk_height = omega arith in omega (arith, q.above, u, v, d)) in
       let x : i % stride / wide < many = column_in i (omega (arith, q.within)) in
-      let k : i / stride % p.height / p.chunk_height ≡ i / stride / p.chunk_height = ap (λ m. m / p.chunk_height) f.1 in
-      let g : i / stride % p.height / p.chunk_height * many ≤ line * many = mul-le-mul_right many (omega (arith, b, k)) in
-      record { byte = omega (arith, q.within); of_plane = omega (arith, f.0); of_chunk = inl (omega (arith, g, x, e)) }
+      let g : i / stride % p.height / p.chunk_height * many ≤ line * many = mul-le-mul_right many (omega (arith, b, ap (λ m. m / p.chunk_height) f.1)) in
+      record { byte = omega (arith, q.within); of_plane = omega (arith, f.0); of_chunk = inl (omega (arith, g, x, j_is)) }
 
   pub below_rows : (i : ℕ) → IsBefore p color stride 1 (j + many) 0 i → i / stride < y → chunk_of p color stride i < j
   below_rows i q l =
-      let u = y_is in
-      let e = j_is in
-      let f = in_first i (row_of_first i q.of_plane) in
-      let b : i / stride % p.height / p.chunk_height < line = div_below (i / stride % p.height) p.chunk_height line sides.chunk_high (omega (arith, l, u, f.1)) in
-      let x : i % stride / wide < many = column_in i q.byte in
+      let b : i / stride % p.height / p.chunk_height < line = div_below (i / stride % p.height) p.chunk_height line sides.chunk_high (omega (arith, l, y_is, (in_first i (row_of_first i q.of_plane)).1)) in
       let g : (i / stride % p.height / p.chunk_height + 1) * many ≤ line * many = mul-le-mul_right many (omega (arith, b)) in
       let d : (i / stride % p.height / p.chunk_height + 1) * many ≡ i / stride % p.height / p.chunk_height * many + many = omega arith in
-      omega (arith, g, d, x, e)
+      omega (arith, g, d, column_in i q.byte, j_is)
 
   pub in_rows : (i : ℕ) → IsBefore p color stride 1 (j + many) 0 i → y ≤ i / stride → IsIn stride y (y + h - y) 0 (row_bytes p color p.width) i
   in_rows i q l =
-      let u = y_is in
-      let v = h_is in
-      let e = j_is in
       let r = row_of_first i q.of_plane in
-      let f = in_first i r in
-      let x : i % stride / wide < many = column_in i q.byte in
       let d : (line + 1) * many ≡ line * many + many = omega arith in
-      let o : chunk_of p color stride i < (line + 1) * many = ⊎_elim (λ (z : chunk_of p color stride i < j + many). omega (arith, z, d, e)) (λ z. Prim.absurd (omega (arith, z.1))) q.of_chunk in
-      let b : i / stride % p.height / p.chunk_height < line + 1 = below_product (i / stride % p.height / p.chunk_height) (i % stride / wide) many (line + 1) 0 x o in
-      let t : i / stride % p.height / p.chunk_height * p.chunk_height + i / stride % p.height % p.chunk_height ≡ i / stride % p.height = div-add-mod' (i / stride % p.height) p.chunk_height in
+      let o : chunk_of p color stride i < (line + 1) * many = ⊎_elim (λ (z : chunk_of p color stride i < j + many). omega (arith, z, d, j_is)) (λ z. Prim.absurd (omega (arith, z.1))) q.of_chunk in
+      let b : i / stride % p.height / p.chunk_height < line + 1 = below_product (i / stride % p.height / p.chunk_height) (i % stride / wide) many (line + 1) 0 (column_in i q.byte) o in
       let m : i / stride % p.height % p.chunk_height < p.chunk_height = mod_below (i / stride % p.height) p.chunk_height sides.chunk_high in
       let g : i / stride % p.height / p.chunk_height * p.chunk_height ≤ line * p.chunk_height = mul-le-mul_right p.chunk_height (omega (arith, b)) in
-      record { below = l; above = omega (arith, t, m, g, f.1, r, u, v); right = omega arith; within = omega (arith, q.byte) }
+      record { below = l; above = omega (arith, div-add-mod' (i / stride % p.height) p.chunk_height, m, g, (in_first i r).1, r, y_is, h_is); right = omega arith; within = omega (arith, q.byte) }
 
   pub across_written : (file : List ℕ) (order : ByteOrder) (before mid new : List ℕ)
       → Writes (IsBefore p color stride 1 j 0) (image_byte p color stride file order) before mid
@@ -332,9 +299,8 @@ pub short_later : (file : List ℕ) (order : ByteOrder) (p : PageRecord) (color 
 short_later file order p color i m n l s =
     let size : ℕ = length (chunk_data file order p i) in
     let need : ℕ = needed_of_row p color (row_bytes p color (rect p i).width) in
-    let a : size < (m - 1) * stored_row_bytes p + need = ltb-true size ((m - 1) * stored_row_bytes p + need) s in
     let b : (m - 1) * stored_row_bytes p ≤ (n - 1) * stored_row_bytes p = mul-le-mul_right (stored_row_bytes p) (omega (arith, l)) in
-    lt-ltb size ((n - 1) * stored_row_bytes p + need) (omega (arith, a, b))
+    lt-ltb size ((n - 1) * stored_row_bytes p + need) (omega (arith, ltb-true size ((m - 1) * stored_row_bytes p + need) s, b))
 
 module _ (file : List ℕ) (order : ByteOrder) (p : PageRecord) (color : ColorType) (first n : ℕ) (high : (column : ℕ) → column < across p → (rect p (first + column)).height ≡ (rect p first).height) (within : n ≤ (rect p first).height) where
   abbrev pub short_to : ℕ → Bool
@@ -349,8 +315,7 @@ module _ (file : List ℕ) (order : ByteOrder) (p : PageRecord) (color : ColorTy
   short_rows e h =
       let f = first_of (λ column. fail_if (short_to column) (IoError UnexpectedEof)) (across p) e h in
       let s = eof_is (short_to f.0) e f.1.1.found in
-      let g = high f.0 f.1.0 in
-      let l : n ≤ (rect p (first + f.0)).height = omega (arith, g, within) in
+      let l : n ≤ (rect p (first + f.0)).height = omega (arith, high f.0 f.1.0, within) in
       one_short short_of (across p) f.0 f.1.0 (short_later file order p color (first + f.0) n (rect p (first + f.0)).height l s.0) ∙ ap (λ (z : TiffError). Err z) s.1
 
   -- the data are enough for all rows
@@ -359,8 +324,7 @@ module _ (file : List ℕ) (order : ByteOrder) (p : PageRecord) (color : ColorTy
   rows_enough e h =
       ok_all (λ column. fail_if (short_of column) (IoError UnexpectedEof)) (across p)
       (λ column l.
-      let q : n ≡ (rect p (first + column)).height = e ∙ sym (high column l) in
-      subst (λ (m : ℕ). fail_if (rows_short file order p color (first + column) m) (IoError UnexpectedEof) ≡ Ok tt) q (all_ok (λ k. fail_if (short_to k) (IoError UnexpectedEof)) (across p) h column l))
+      subst (λ (m : ℕ). fail_if (rows_short file order p color (first + column) m) (IoError UnexpectedEof) ≡ Ok tt) (e ∙ sym (high column l)) (all_ok (λ k. fail_if (short_to k) (IoError UnexpectedEof)) (across p) h column l))
 
 module _ (file : List ℕ) (order : ByteOrder) (p : PageRecord) (limits : Limits) (color : ColorType) (planes j : ℕ) (banded : AreBanded p limits color planes j) where
   -- the first error of a chunk in all planes
@@ -423,11 +387,8 @@ rows_of_chunk p k = omega arith
 pub rows_end : (file : List ℕ) (order : ByteOrder) (p : PageRecord) (limits : Limits) (l : LayoutRecord) (sides : HasSides p) (samples : 0 < p.samples) (deep : 0 < p.depth) (laid : layout_of p p.width p.height ≡ Ok l)
     (first to : ℕ) → to ≤ (rect p first).height → ((rect p first).y + to) * l.row_bytes ≤ l.plane_stride
 rows_end file order p limits l sides samples deep laid first to b =
-    let w = (chunks_within p first sides).rows in
-    let k : ((rect p first).y + to) * l.row_bytes ≤ p.height * l.row_bytes = mul-le-mul_right l.row_bytes (omega (arith, w, b)) in
-    let e : l.plane_stride ≡ l.row_bytes * p.height = filling.plane_is file order p limits l sides samples deep laid in
-    let c : p.height * l.row_bytes ≡ l.row_bytes * p.height = mul_comm p.height l.row_bytes in
-    omega (arith, k, e, c)
+    let k : ((rect p first).y + to) * l.row_bytes ≤ p.height * l.row_bytes = mul-le-mul_right l.row_bytes (omega (arith, (chunks_within p first sides).rows, b)) in
+    omega (arith, k, filling.plane_is file order p limits l sides samples deep laid, mul_comm p.height l.row_bytes)
 
 module _ (file : List ℕ) (order : ByteOrder) (p : PageRecord) (limits : Limits) (l : LayoutRecord) (sides : HasSides p) (samples : 0 < p.samples) (deep : 0 < p.depth) (laid : layout_of p p.width p.height ≡ Ok l)
     (first column planes : ℕ) (banded : AreBanded p limits l.color planes first) (chunk : first < chunks_of_plane p) (inside : column < across p) where
@@ -454,20 +415,15 @@ module _ (file : List ℕ) (order : ByteOrder) (p : PageRecord) (limits : Limits
 
   pub its_place : (n : ℕ) → n ≡ all_chunks p → first + column < n
   its_place n e =
-      let i = its_index in
-      let k : chunks_of_plane p ≤ chunks_of_plane p * planes_of p.planar p.samples = le-mul_of_pos_right (chunks_of_plane p) (planes_some p.planar p.samples samples) in
-      omega (arith, e, i, k)
+      omega (arith, e, its_index, le-mul_of_pos_right (chunks_of_plane p) (planes_some p.planar p.samples samples))
 
   pub its_height : (rect p (first + column)).height ≡ (rect p first).height
   its_height = same_rows p l.color l.row_bytes first column sides its_rows its_room chunk banded.leftmost inside
 
   pub its_start : (from to : ℕ) → from < to → to ≤ (rect p first).height → from * stored_row_bytes p < 2 ^ 64
   its_start from to a b =
-      let h = rows_of_chunk p first in
-      let k : from * stored_row_bytes p ≤ p.chunk_height * stored_row_bytes p = mul-le-mul_right (stored_row_bytes p) (omega (arith, a, b, h)) in
-      let e : p.chunk_height * stored_row_bytes p ≡ stored_row_bytes p * p.chunk_height = mul_comm p.chunk_height (stored_row_bytes p) in
-      let f = banded.few in
-      omega (arith, k, e, f)
+      let k : from * stored_row_bytes p ≤ p.chunk_height * stored_row_bytes p = mul-le-mul_right (stored_row_bytes p) (omega (arith, a, b, rows_of_chunk p first)) in
+      omega (arith, k, mul_comm p.chunk_height (stored_row_bytes p), banded.few)
 
   pub its_columns : left_of p l.color l.row_bytes 0 (first + column) + row_bytes p l.color (rect p (first + column)).width ≤ l.row_bytes
   its_columns = columns_in file order p limits l sides samples deep laid 1 (first + column) its_index 0 (first + column) (omega arith) its_form
@@ -493,9 +449,8 @@ pub rows_filled : (value : ℕ → ℕ) (stride n : ℕ) (old new : List ℕ) �
     → (i : ℕ) → i < length new → slice_index new i ≡ value i
 rows_filled value stride n old new some len w i l =
     let b : i < n * stride = omega (arith, l, len, w.0) in
-    let q : i / stride < n = div_below i stride n some b in
     let m : i % stride < stride = mod_below i stride some in
-    ⊎_elim (λ p. p.1) (λ p. Prim.absurd (p.0 (record { below = omega arith; above = omega (arith, q); right = omega arith; within = omega (arith, m) }))) (w.1 i (omega (arith, l, w.0)))
+    ⊎_elim (λ p. p.1) (λ p. Prim.absurd (p.0 (record { below = omega arith; above = omega (arith, div_below i stride n some b); right = omega arith; within = omega (arith, m) }))) (w.1 i (omega (arith, l, w.0)))
 
 -- rows of an image that fill a buffer
 pub rows_alone : (file : List ℕ) (order : ByteOrder) (p : PageRecord) (color : ColorType) (stride start n : ℕ) (old new : List ℕ) → 0 < stride → stride ≡ row_bytes p color p.width → length old ≡ n * stride
@@ -505,19 +460,17 @@ rows_alone file order p color stride start n old new some row len w i l =
     let whole : Writes (IsIn stride 0 n 0 stride) value old new = subst (λ (m : ℕ). Writes (IsIn stride 0 n 0 m) value old new) (sym row) w in
     let q : i / stride - 0 ≡ i / stride = omega arith in
     let b : i % stride - 0 ≡ i % stride = omega arith in
-    let e : i / stride * stride + i % stride ≡ i = div-add-mod' i stride in
     let s : (start + i / stride) * stride + i % stride ≡ start * stride + (i / stride * stride + i % stride) = omega arith in
     rows_filled value stride n old new some len whole i l
     ∙ ap (λ (m : ℕ). image_byte p color stride file order ((start + m) * stride + (i % stride - 0))) q
     ∙ ap (λ (m : ℕ). image_byte p color stride file order ((start + i / stride) * stride + m)) b
-    ∙ ap (image_byte p color stride file order) (s ∙ ap (λ (m : ℕ). start * stride + m) e)
+    ∙ ap (image_byte p color stride file order) (s ∙ ap (λ (m : ℕ). start * stride + m) (div-add-mod' i stride))
 
 -- rows of an image at their own place in a buffer
 pub rows_in_place : (file : List ℕ) (order : ByteOrder) (p : PageRecord) (color : ColorType) (stride start end : ℕ) (old new : List ℕ) → 0 < stride
     → PutsImageRows file order p color stride start (end - start) start old new → WritesImageRows file order p color stride start end old new
 rows_in_place file order p color stride start end old new some w =
-    let value : ℕ → ℕ = in_rect (λ r b. image_byte p color stride file order ((start + r) * stride + b)) stride start 0 in
-    writes_as (IsIn stride start (end - start) 0 (row_bytes p color p.width)) value (image_byte p color stride file order) old new
+    writes_as (IsIn stride start (end - start) 0 (row_bytes p color p.width)) (in_rect (λ r b. image_byte p color stride file order ((start + r) * stride + b)) stride start 0) (image_byte p color stride file order) old new
     (λ i q.
     let r : start + (i / stride - start) ≡ i / stride = omega (arith, q.below) in
     let b : i % stride - 0 ≡ i % stride = omega arith in
@@ -542,12 +495,10 @@ rows_placed stride top n i some a b =
 pub rows_bytes : (stride top n i : ℕ) → 0 < stride → IsIn stride top n 0 stride i → (top * stride ≤ i) × (i < top * stride + n * stride)
 rows_bytes stride top n i some q =
     let e : i / stride * stride + i % stride ≡ i = div-add-mod' i stride in
-    let m : i % stride < stride = mod_below i stride some in
     let s : (top + n) * stride ≡ top * stride + n * stride = omega arith in
     let d : (i / stride + 1) * stride ≡ i / stride * stride + stride = omega arith in
-    let k : top * stride ≤ i / stride * stride = mul-le-mul_right stride q.below in
     let h : (i / stride + 1) * stride ≤ (top + n) * stride = mul-le-mul_right stride (omega (arith, q.above)) in
-    (omega (arith, k, e), omega (arith, h, d, e, m, s))
+    (omega (arith, mul-le-mul_right stride q.below, e), omega (arith, h, d, e, mod_below i stride some, s))
 
 -- rows that are put at their place are written there
 pub rows_put : (value : ℕ → ℕ) (stride top n : ℕ) (rows old new : List ℕ) → 0 < stride → length rows ≡ n * stride → ((i : ℕ) → i < length rows → slice_index rows i ≡ value (top * stride + i))

@@ -4,7 +4,7 @@ use Rattle.std.specs.Prelude.{nat_lt, slice_index, unwrap_or}
 use Rattle.std.proofs.lemmas.Bool.{cases_Bool, cases_lt, lt-ltb, le-ltb}
 use Rattle.std.proofs.lemmas.List.{ext_get_or}
 use Rattle.std.proofs.lemmas.Nat.{div-mul-add, mod-mul-add, mod_below, div_below, div-add-mod', same_from_place}
-use Rattle.std.proofs.Math.Nat.{mul_assoc, mul_comm, div-div-eq-div-mul}
+use Rattle.std.proofs.Math.Nat.{mul_assoc, mul_comm, div-div-eq-div-mul, div-eq_of_lt}
 use Rattle.std.proofs.Math.Arith.{mod-mul}
 use Rattle.tiff_base.specs.declared.color.ColorType.{ColorType}
 use Rattle.tiff_base.specs.declared.tags.ByteOrder.{ByteOrder}
@@ -12,15 +12,14 @@ use Rattle.tiff_page.specs.Page.{PageRecord}
 use Rattle.tiff_page.specs.Counts.{parts}
 use Rattle.tiff_page.specs.Rect.{rect, across, chunks_of_plane}
 use Rattle.tiff_page.specs.Layout.{row_bits, row_bytes, samples_in_chunk}
-use Rattle.tiff_page.specs.Pixels.{Region, byte_at, region_byte, image_region}
+use Rattle.tiff_page.specs.Pixels.{Region, byte_at, region_byte, image_region, chunk_region}
 use Rattle.tiff_page.specs.PixelCalls.{bytes_with_region}
 use Rattle.tiff_page.specs.Laws.{HasSides, HasWholeRows}
-use Rattle.tiff_page.specs.BufferPositions.{Writes, in_rect, chunk_byte, plane_of, chunk_of, top_of, left_of, IsInChunk, IsOfChunk, IsBefore, image_byte}
+use Rattle.tiff_page.specs.BufferPositions.{Writes, in_rect, chunk_byte, plane_of, chunk_of, top_of, left_of, IsInChunk, IsOfChunk, IsBefore, image_byte, IsIn, IsInUnit, unit_byte}
 use Rattle.tiff_page.specs.PositionLaws as law
-use Rattle.tiff_page.proofs.Sizes.{parts_cover, parts_some, parts_within, plane_some}
-use Rattle.tiff_page.proofs.Chunks.{fewer_bytes, start_is, none_before, image_of_chunks}
+use Rattle.tiff_page.proofs.PositionLaws.{parts_cover, parts_some, parts_within, plane_some, one_below, part_below, placed_each, chunks_within}
+use Rattle.tiff_page.proofs.ChunkRows.{fewer_bytes, start_is, none_before, image_of_chunks, unit_of_chunks}
 use Rattle.tiff_page.proofs.Rects.{writes_more, writes_same, writes_as, writes_none}
-use Rattle.tiff_page.proofs.PositionLaws.{one_below, part_below, placed_each}
 
 -- a row in columns of chunks and the rest
 pub row_parts : (cx cw w d s : ℕ) → cx * cw ≤ w → (cx ≡ 0) ⊎ (cw * d * s ≡ cw * d * s / 8 * 8)
@@ -37,11 +36,8 @@ row_parts cx cw w d s l h =
     omega (arith, a, b, f, g))
     (λ (q : cw * d * s ≡ cw * d * s / 8 * 8).
     let m : ℕ = cw * d * s / 8 in
-    let a : cx * (cw * d * s) ≡ cx * (m * 8) = ap (λ z. cx * z) q in
-    let b : cx * (m * 8) ≡ cx * m * 8 = sym (mul_assoc cx m 8) in
     let c : (cw * d * s + 7) / 8 ≡ m = omega (arith, q) in
-    let k : cx * ((cw * d * s + 7) / 8) ≡ cx * m = ap (λ z. cx * z) c in
-    omega (arith, a, b, f, g, k))
+    omega (arith, ap (λ z. cx * z) q, sym (mul_assoc cx m 8), f, g, ap (λ z. cx * z) c))
     h
 
 -- the columns of chunks cover a row
@@ -64,11 +60,8 @@ row_covered a cw w d s l h =
     (λ (q : cw * d * s ≡ cw * d * s / 8 * 8).
     let m : ℕ = cw * d * s / 8 in
     let e : a * cw * d * s ≡ a * (cw * d * s) = omega arith in
-    let b : a * (cw * d * s) ≡ a * (m * 8) = ap (λ z. a * z) q in
-    let c : a * (m * 8) ≡ a * m * 8 = sym (mul_assoc a m 8) in
     let k : (cw * d * s + 7) / 8 ≡ m = omega (arith, q) in
-    let g : a * ((cw * d * s + 7) / 8) ≡ a * m = ap (λ z. a * z) k in
-    omega (arith, e, b, c, f, g))
+    omega (arith, e, ap (λ z. a * z) q, sym (mul_assoc a m 8), f, ap (λ z. a * z) k))
     h
 
 -- fewer bytes than two rows have, with the shorter row as the limit
@@ -166,26 +159,20 @@ module _ (p : PageRecord) (color : ColorType) (stride plane j : ℕ) (sides : Ha
 
   pub belongs : (i : ℕ) → IsInChunk p color stride plane j i → IsOfChunk p color stride plane j i
   belongs i q =
-      let e = left_is in
-      let r = row_is in
-      let m = len_in in
-      let n = len_below in
-      let y = y_is in
       let h = height_is in
       let row : ℕ = i / stride - top_of p color stride plane j in
       let b : ℕ = i % stride - left_of p color stride plane j in
       let rl : row < (rect p k).height = omega (arith, q.below, q.above) in
       let bl : b < row_bytes p color (rect p k).width = omega (arith, q.right, q.within) in
-      let yi : i / stride ≡ plane * p.height + (cy * p.chunk_height + row) = omega (arith, q.below, y) in
+      let yi : i / stride ≡ plane * p.height + (cy * p.chunk_height + row) = omega (arith, q.below, y_is) in
       let yl : cy * p.chunk_height + row < p.height = omega (arith, rl, h, line_in) in
-      let xi : i % stride ≡ cx * c + b = omega (arith, q.right, e) in
-      let u : i / stride / p.height ≡ plane = ap (λ z. z / p.height) yi ∙ div-mul-add plane p.height (cy * p.chunk_height + row) yl in
+      let xi : i % stride ≡ cx * c + b = omega (arith, q.right, left_is) in
       let v : i / stride % p.height ≡ cy * p.chunk_height + row = ap (λ z. z % p.height) yi ∙ mod-mul-add plane p.height (cy * p.chunk_height + row) yl in
       let w : i / stride % p.height / p.chunk_height ≡ cy = ap (λ z. z / p.chunk_height) v ∙ div-mul-add cy p.chunk_height row (omega (arith, rl, h)) in
-      let x : i % stride / c ≡ cx = ap (λ z. z / c) xi ∙ div-mul-add cx c b (omega (arith, bl, n)) in
+      let x : i % stride / c ≡ cx = ap (λ z. z / c) xi ∙ div-mul-add cx c b (omega (arith, bl, len_below)) in
       record {
-        byte = omega (arith, xi, bl, r, m);
-        of_plane = u;
+        byte = omega (arith, xi, bl, row_is, len_in);
+        of_plane = (ap (λ z. z / p.height) yi ∙ div-mul-add plane p.height (cy * p.chunk_height + row) yl);
         of_chunk = ap (λ z. z * a + i % stride / c) w ∙ ap (λ z. cy * a + z) x ∙ div-add-mod' j a;
       }
 
@@ -195,8 +182,7 @@ module _ (p : PageRecord) (color : ColorType) (stride plane j : ℕ) (sides : Ha
 
   pub chunk_bytes_some : 0 < row_bytes p color p.width → 0 < c
   chunk_bytes_some h =
-      let l = covers in
-      ⊎_elim (λ (g : 0 < c). g) (λ (z : c ≤ 0). let e : c ≡ 0 = omega (arith, z) in let f : a * c ≡ a * 0 = ap (λ n. a * n) e in Prim.absurd (omega (arith, l, h, f))) (cases_lt 0 c)
+      ⊎_elim (λ (g : 0 < c). g) (λ (z : c ≤ 0). let e : c ≡ 0 = omega (arith, z) in let f : a * c ≡ a * 0 = ap (λ n. a * n) e in Prim.absurd (omega (arith, covers, h, f))) (cases_lt 0 c)
 
   pub part_below_min : (b : ℕ) → b < c → b < row_bytes p color (p.width - cx * p.chunk_width) → b < row_bytes p color (rect p k).width
   unfolding row_bits
@@ -205,29 +191,19 @@ module _ (p : PageRecord) (color : ColorType) (stride plane j : ℕ) (sides : Ha
   pub is_of : (i : ℕ) → IsOfChunk p color stride plane j i → IsInChunk p color stride plane j i
   is_of i q =
       let e = left_is in
-      let r = row_is in
       let y = y_is in
-      let h = height_is in
       let cs : 0 < c = chunk_bytes_some (omega (arith, q.byte)) in
-      let l = covers in
-      let xl : i % stride / c < a = div_below (i % stride) c a cs (omega (arith, q.byte, l)) in
-      let o : cy * a + cx ≡ j = div-add-mod' j a in
-      let s = same_from_place (i / stride % p.height / p.chunk_height) (i % stride / c) cy cx a xl (mod_below j a across_some) (q.of_chunk ∙ sym o) in
+      let xl : i % stride / c < a = div_below (i % stride) c a cs (omega (arith, q.byte, covers)) in
+      let s = same_from_place (i / stride % p.height / p.chunk_height) (i % stride / c) cy cx a xl (mod_below j a across_some) (q.of_chunk ∙ sym (div-add-mod' j a)) in
       let row : ℕ = i / stride % p.height % p.chunk_height in
       let b : ℕ = i % stride % c in
-      let v : i / stride % p.height / p.chunk_height * p.chunk_height + row ≡ i / stride % p.height = div-add-mod' (i / stride % p.height) p.chunk_height in
-      let v2 : cy * p.chunk_height + row ≡ i / stride % p.height = ap (λ z. z * p.chunk_height + row) (sym s.0) ∙ v in
-      let w : i / stride / p.height * p.height + i / stride % p.height ≡ i / stride = div-add-mod' (i / stride) p.height in
-      let w2 : plane * p.height + i / stride % p.height ≡ i / stride = ap (λ z. z * p.height + i / stride % p.height) (sym q.of_plane) ∙ w in
-      let x : i % stride / c * c + b ≡ i % stride = div-add-mod' (i % stride) c in
-      let x2 : cx * c + b ≡ i % stride = ap (λ z. z * c + b) (sym s.1) ∙ x in
-      let rl : row < p.chunk_height = mod_below (i / stride % p.height) p.chunk_height sides.chunk_high in
-      let hl : i / stride % p.height < p.height = mod_below (i / stride) p.height sides.high in
-      let bl : b < c = mod_below (i % stride) c cs in
-      let bw : b < row_bytes p color (rect p k).width = part_below_min b bl (omega (arith, x2, q.byte, r)) in
+      let v2 : cy * p.chunk_height + row ≡ i / stride % p.height = ap (λ z. z * p.chunk_height + row) (sym s.0) ∙ (div-add-mod' (i / stride % p.height) p.chunk_height) in
+      let w2 : plane * p.height + i / stride % p.height ≡ i / stride = ap (λ z. z * p.height + i / stride % p.height) (sym q.of_plane) ∙ (div-add-mod' (i / stride) p.height) in
+      let x2 : cx * c + b ≡ i % stride = ap (λ z. z * c + b) (sym s.1) ∙ (div-add-mod' (i % stride) c) in
+      let bw : b < row_bytes p color (rect p k).width = part_below_min b (mod_below (i % stride) c cs) (omega (arith, x2, q.byte, row_is)) in
       record {
         below = omega (arith, w2, v2, y);
-        above = omega (arith, w2, v2, y, h, rl, hl);
+        above = omega (arith, w2, v2, y, height_is, mod_below (i / stride % p.height) p.chunk_height sides.chunk_high, mod_below (i / stride) p.height sides.high);
         right = omega (arith, x2, e);
         within = omega (arith, x2, e, bw);
       }
@@ -238,19 +214,16 @@ module _ (p : PageRecord) (color : ColorType) (stride plane j : ℕ) (sides : Ha
         ≡ image_byte p color stride file order i
     byte_is i q =
         let y = y_is in
-        let h = height_is in
         let row : ℕ = i / stride - top_of p color stride plane j in
         let b : ℕ = i % stride - left_of p color stride plane j in
         let rl : row < (rect p k).height = omega (arith, q.below, q.above) in
         let bl : b < row_bytes p color (rect p k).width = omega (arith, q.right, q.within) in
         let yi : i / stride ≡ plane * p.height + (cy * p.chunk_height + row) = omega (arith, q.below, y) in
-        let yl : cy * p.chunk_height + row < p.height = omega (arith, rl, h, line_in) in
-        let v : i / stride % p.height ≡ cy * p.chunk_height + row = ap (λ z. z % p.height) yi ∙ mod-mul-add plane p.height (cy * p.chunk_height + row) yl in
-        let v2 : (rect p k).y + row ≡ i / stride % p.height = omega (arith, v, y) in
-        let u : (rect p k).plane ≡ plane_of p color stride i = plane_is ∙ sym (belongs i q).of_plane in
+        let yl : cy * p.chunk_height + row < p.height = omega (arith, rl, height_is, line_in) in
+        let v2 : (rect p k).y + row ≡ i / stride % p.height = omega (arith, (ap (λ z. z % p.height) yi ∙ mod-mul-add plane p.height (cy * p.chunk_height + row) yl), y) in
         let x : row_bits p color (rect p k).x / 8 + b ≡ i % stride = omega (arith, q.right) in
         sym (image_of_chunks file order p color k row b sides whole rl bl)
-        ∙ (λ t. region_byte file order p color (image_region p) (u t) (v2 t) (x t))
+        ∙ (λ t. region_byte file order p color (image_region p) ((plane_is ∙ sym (belongs i q).of_plane) t) (v2 t) (x t))
 
     pub chunk_at_position : (old new : List ℕ)
         → Writes (IsInChunk p color stride plane j) (in_rect (chunk_byte file order p color k) stride (top_of p color stride plane j) (left_of p color stride plane j)) old new
@@ -309,8 +282,7 @@ none_written p color stride n value old =
 module _ (file : List ℕ) (order : ByteOrder) (p : PageRecord) (color : ColorType) (stride n : ℕ) (sides : HasSides p) (whole : HasWholeRows p color) (fits : row_bytes p color p.width ≤ stride) where
   pub row_of_position : 0 < stride → (i : ℕ) → i % (stride * p.height) / stride ≡ i / stride % p.height
   row_of_position s i =
-      let e : i % (p.height * stride) ≡ i / stride % p.height * stride + i % stride = mod-mul i sides.high s in
-      ap (λ z. i % z / stride) (mul_comm stride p.height) ∙ ap (λ z. z / stride) e ∙ div-mul-add (i / stride % p.height) stride (i % stride) (mod_below i stride s)
+      ap (λ z. i % z / stride) (mul_comm stride p.height) ∙ ap (λ z. z / stride) (mod-mul i sides.high s) ∙ div-mul-add (i / stride % p.height) stride (i % stride) (mod_below i stride s)
 
   pub plane_of_position : (i : ℕ) → i / (stride * p.height) ≡ plane_of p color stride i
   plane_of_position i = sym (div-div-eq-div-mul i stride p.height)
@@ -322,32 +294,28 @@ module _ (file : List ℕ) (order : ByteOrder) (p : PageRecord) (color : ColorTy
       let s : 0 < stride = omega (arith, b, fits) in
       let u = plane_of_position i in
       let t : nat_lt (i / (stride * p.height)) n ≡ true = lt-ltb (i / (stride * p.height)) n (omega (arith, a, u)) in
-      let v : nat_lt (i % stride) (row_bytes p color p.width) ≡ true = lt-ltb (i % stride) (row_bytes p color p.width) b in
       let w : 0 + i / (stride * p.height) ≡ plane_of p color stride i = omega (arith, u) in
-      rw (t, v) (λ z. Some (region_byte file order p color (image_region p) (w z) (row_of_position s i z) (i % stride)))
+      rw (t, lt-ltb (i % stride) (row_bytes p color p.width) b) (λ z. Some (region_byte file order p color (image_region p) (w z) (row_of_position s i z) (i % stride)))
 
   pub plane_gap : (i : ℕ) → n ≤ plane_of p color stride i → byte_at file order p color (image_region p) stride n i ≡ None
   unfolding byte_at
   plane_gap i a =
-      let u = plane_of_position i in
-      let t : nat_lt (i / (stride * p.height)) n ≡ false = le-ltb (i / (stride * p.height)) n (omega (arith, a, u)) in
+      let t : nat_lt (i / (stride * p.height)) n ≡ false = le-ltb (i / (stride * p.height)) n (omega (arith, a, plane_of_position i)) in
       rw t refl
 
   pub row_gap : (i : ℕ) → row_bytes p color p.width ≤ i % stride → byte_at file order p color (image_region p) stride n i ≡ None
   unfolding byte_at
   row_gap i b =
-      let v : nat_lt (i % stride) (row_bytes p color p.width) ≡ false = le-ltb (i % stride) (row_bytes p color p.width) b in
       ⊎_elim
-      (λ (t : nat_lt (i / (stride * p.height)) n ≡ true). rw (t, v) refl)
+      (λ (t : nat_lt (i / (stride * p.height)) n ≡ true). rw (t, le-ltb (i % stride) (row_bytes p color p.width) b) refl)
       (λ (t : nat_lt (i / (stride * p.height)) n ≡ false). rw t refl)
       (cases_Bool (nat_lt (i / (stride * p.height)) n))
 
   pub chunk_below : (i : ℕ) → i % stride < row_bytes p color p.width → chunk_of p color stride i < chunks_of_plane p
   chunk_below i b =
       let o : 0 < chunks_of_plane p = plane_some p.width p.height p.chunk_width p.chunk_height sides.wide sides.high sides.chunk_wide sides.chunk_high in
-      let l : row_bytes p color p.width ≤ across p * row_bytes p color p.chunk_width = covers p color stride 0 0 sides whole fits o in
       one_below (i % stride / row_bytes p color p.chunk_width) (i / stride % p.height / p.chunk_height) (across p) (parts p.height p.chunk_height)
-      (div_below (i % stride) (row_bytes p color p.chunk_width) (across p) (chunk_bytes_some p color stride 0 0 sides whole fits o (omega (arith, b))) (omega (arith, b, l)))
+      (div_below (i % stride) (row_bytes p color p.chunk_width) (across p) (chunk_bytes_some p color stride 0 0 sides whole fits o (omega (arith, b))) (omega (arith, b, covers p color stride 0 0 sides whole fits o)))
       (part_below (i / stride % p.height) p.height p.chunk_height sides.chunk_high (mod_below (i / stride) p.height sides.high))
 
   pub is_before : (i : ℕ) → plane_of p color stride i < n → i % stride < row_bytes p color p.width → IsBefore p color stride n (chunks_of_plane p) 0 i
@@ -381,3 +349,130 @@ is_placed file order p color region stride n old new e h =
 pub image_written : law.ImageWritten
 image_written file order p color stride n old new sides whole fits w =
     is_placed file order p color (image_region p) stride n old new w.0 (byte_there file order p color stride n sides whole fits old new w)
+
+-- ---- a chunk in a buffer, and the chunks of further planes after it
+
+module _ (file : List ℕ) (order : ByteOrder) (p : PageRecord) (color : ColorType) (stride k : ℕ) (sides : HasSides p) where
+  abbrev pub h : ℕ
+  h = (rect p k).height
+
+  abbrev pub len : ℕ
+  len = row_bytes p color (rect p k).width
+
+  pub rows_some : 0 < h
+  rows_some = (chunks_within p k sides).some_row
+
+  module _ (plane : ℕ) (which : (plane ≡ 0) ⊎ (k < chunks_of_plane p)) where
+    abbrev pub At : ℕ → Type 0
+    At i = IsIn stride (plane * h) h 0 len i
+
+    pub plane_at : (i : ℕ) → At i → (i / stride / h ≡ plane) × (i / stride % h ≡ i / stride - plane * h)
+    plane_at i q =
+        let e : i / stride ≡ plane * h + (i / stride - plane * h) = omega (arith, q.below) in
+        let l : i / stride - plane * h < h = omega (arith, q.below, q.above) in
+        (ap (λ z. z / h) e ∙ div-mul-add plane h (i / stride - plane * h) l, ap (λ z. z % h) e ∙ mod-mul-add plane h (i / stride - plane * h) l)
+
+    pub at_plane : (i : ℕ) → i % stride < len → i / stride / h ≡ plane → At i
+    at_plane i l e =
+        let d : i / stride / h * h + i / stride % h ≡ i / stride = div-add-mod' (i / stride) h in
+        let f : i / stride / h * h ≡ plane * h = ap (λ z. z * h) e in
+        record { below = omega (arith, d, f); above = omega (arith, d, f, mod_below (i / stride) h rows_some); right = omega arith; within = omega (arith, l) }
+
+    -- the byte of a chunk is that of the unit
+    pub of_unit : (row b : ℕ) → chunk_byte file order p color (plane * chunks_of_plane p + k) row b
+        ≡ region_byte file order p color (chunk_region p k) ((rect p k).plane + plane) row b
+    unfolding rect
+    of_unit row b =
+        ⊎_elim
+        (λ (z : plane ≡ 0).
+        let e : plane * chunks_of_plane p ≡ 0 * chunks_of_plane p = ap (λ m. m * chunks_of_plane p) z in
+        let f : plane * chunks_of_plane p + k ≡ k = omega (arith, e) in
+        let g : k / chunks_of_plane p ≡ k / chunks_of_plane p + plane = omega (arith, z) in
+        (λ t. region_byte file order p color (chunk_region p (f t)) (f t / chunks_of_plane p) row b)
+        ∙ (λ t. region_byte file order p color (chunk_region p k) (g t) row b))
+        (λ (l : k < chunks_of_plane p).
+        let g : plane ≡ k / chunks_of_plane p + plane = omega (arith, div-eq_of_lt l) in
+        (λ t. region_byte file order p color (chunk_region p (plane * chunks_of_plane p + k)) ((div-mul-add plane (chunks_of_plane p) k l) t) row b)
+        ∙ sym (unit_of_chunks file order p color k plane row b l)
+        ∙ (λ t. region_byte file order p color (chunk_region p k) (g t) row b))
+        which
+
+    pub unit_byte_is : (i : ℕ) → At i
+        → in_rect (chunk_byte file order p color (plane * chunks_of_plane p + k)) stride (plane * h) 0 i ≡ unit_byte file order p color stride k i
+    unit_byte_is i q =
+        let u = plane_at i q in
+        let x : i % stride - 0 ≡ i % stride = omega arith in
+        of_unit (i / stride - plane * h) (i % stride - 0)
+        ∙ (λ t. region_byte file order p color (chunk_region p k) ((rect p k).plane + sym u.0 t) (sym u.1 t) (x t))
+
+    pub plane_more : (old mid new : List ℕ)
+        → Writes (IsInUnit p color stride k plane) (unit_byte file order p color stride k) old mid
+        → Writes At (in_rect (chunk_byte file order p color (plane * chunks_of_plane p + k)) stride (plane * h) 0) mid new
+        → Writes (IsInUnit p color stride k (plane + 1)) (unit_byte file order p color stride k) old new
+    plane_more old mid new a b =
+        writes_more (IsInUnit p color stride k plane) At (IsInUnit p color stride k (plane + 1)) (unit_byte file order p color stride k) old mid new
+        (λ i q. record { byte = q.byte; of_plane = omega (arith, q.of_plane) })
+        (λ i q. let u = plane_at i q in record { byte = omega (arith, q.within); of_plane = omega (arith, u.0) })
+        (λ i q. ⊎_elim
+        (λ (l : i / stride / h < plane). inl (record { byte = q.byte; of_plane = l }))
+        (λ (l : plane ≤ i / stride / h). inr (at_plane i q.byte (omega (arith, l, q.of_plane))))
+        (cases_lt (i / stride / h) plane))
+        a
+        (writes_as At (in_rect (chunk_byte file order p color (plane * chunks_of_plane p + k)) stride (plane * h) 0) (unit_byte file order p color stride k) mid new unit_byte_is b)
+
+  module _ (n : ℕ) (fits : len ≤ stride) where
+    pub unit_row_of : 0 < stride → (i : ℕ) → i % (stride * h) / stride ≡ i / stride % h
+    unit_row_of s i =
+        ap (λ z. i % z / stride) (mul_comm stride h) ∙ ap (λ z. z / stride) (mod-mul i rows_some s) ∙ div-mul-add (i / stride % h) stride (i % stride) (mod_below i stride s)
+
+    pub unit_plane_of : (i : ℕ) → i / (stride * h) ≡ i / stride / h
+    unit_plane_of i = sym (div-div-eq-div-mul i stride h)
+
+    pub unit_shown : (i : ℕ) → i / stride / h < n → i % stride < len
+        → byte_at file order p color (chunk_region p k) stride n i ≡ Some (unit_byte file order p color stride k i)
+    unfolding byte_at
+    unit_shown i a b =
+        let s : 0 < stride = omega (arith, b, fits) in
+        let u = unit_plane_of i in
+        let t : nat_lt (i / (stride * h)) n ≡ true = lt-ltb (i / (stride * h)) n (omega (arith, a, u)) in
+        rw (t, lt-ltb (i % stride) len b) (λ z. Some (region_byte file order p color (chunk_region p k) ((rect p k).plane + u z) (unit_row_of s i z) (i % stride)))
+
+    pub unit_plane_gap : (i : ℕ) → n ≤ i / stride / h → byte_at file order p color (chunk_region p k) stride n i ≡ None
+    unfolding byte_at
+    unit_plane_gap i a =
+        let t : nat_lt (i / (stride * h)) n ≡ false = le-ltb (i / (stride * h)) n (omega (arith, a, unit_plane_of i)) in
+        rw t refl
+
+    pub unit_row_gap : (i : ℕ) → len ≤ i % stride → byte_at file order p color (chunk_region p k) stride n i ≡ None
+    unfolding byte_at
+    unit_row_gap i b =
+        ⊎_elim
+        (λ (t : nat_lt (i / (stride * h)) n ≡ true). rw (t, le-ltb (i % stride) len b) refl)
+        (λ (t : nat_lt (i / (stride * h)) n ≡ false). rw t refl)
+        (cases_Bool (nat_lt (i / (stride * h)) n))
+
+    pub unit_byte_there : (old new : List ℕ) → Writes (IsInUnit p color stride k n) (unit_byte file order p color stride k) old new
+        → (i : ℕ) → i < length old
+        → slice_index new i ≡ unwrap_or (byte_at file order p color (chunk_region p k) stride n i) (slice_index old i)
+    unit_byte_there old new w i l =
+        ⊎_elim
+        (λ q. q.1 ∙ sym (ap (λ z. unwrap_or z (slice_index old i)) (unit_shown i q.0.of_plane q.0.byte)))
+        (λ q. ⊎_elim
+        (λ (a : i / stride / h < n).
+        ⊎_elim
+        (λ (b : i % stride < len). Prim.absurd (q.0 (record { byte = b; of_plane = a })))
+        (λ (b : len ≤ i % stride). q.1 ∙ sym (ap (λ z. unwrap_or z (slice_index old i)) (unit_row_gap i b)))
+        (cases_lt (i % stride) len))
+        (λ (a : n ≤ i / stride / h). q.1 ∙ sym (ap (λ z. unwrap_or z (slice_index old i)) (unit_plane_gap i a)))
+        (cases_lt (i / stride / h) n))
+        (w.1 i l)
+
+pub unit_plane_written : law.UnitPlaneWritten
+unit_plane_written file order p color stride k plane old mid new sides which a b = plane_more file order p color stride k sides plane which old mid new a b
+
+pub no_plane_written : law.NoPlaneWritten
+no_plane_written p color stride k value old = writes_none (IsInUnit p color stride k 0) value old (λ i q. Prim.absurd (omega (arith, q.of_plane)))
+
+pub unit_written : law.UnitWritten
+unit_written file order p color stride k n old new sides fits w =
+    is_placed file order p color (chunk_region p k) stride n old new w.0 (unit_byte_there file order p color stride k sides n fits old new w)

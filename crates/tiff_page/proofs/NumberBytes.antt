@@ -1,7 +1,7 @@
 -- Rows of bytes that are written into lists of numbers.
 use borrow.Rule.Slice.PartMut.{mid_of, put_mid}
-use Rattle.std.proofs.Common.{◌≡◌, ℕ, zero, suc, ◌+◌, ◌-◌, ◌*◌, ◌/◌, ◌%◌, ◌^◌, ◌<◌, ◌≤◌, min, true, false, inl, inr, ⊎_elim, List, [], ◌∷◌, ◌++◌, append_assoc, length, map, take, drop, get_or, refl, ap, sym, subst, ◌∙◌, arith}
-use Rattle.std.specs.Prelude.{◌==◌, slice_index, replicate, Result, Ok, Err, OnOk}
+use Rattle.std.proofs.Common.{◌≡◌, ℕ, zero, suc, ◌+◌, ◌-◌, ◌*◌, ◌/◌, ◌%◌, ◌^◌, ◌<◌, ◌≤◌, min, true, false, inl, inr, ⊎_elim, List, [], ◌∷◌, ◌++◌, append_assoc, length, map, take, drop, get_or, refl, ap, sym, subst, ◌∙◌, arith, Result, Ok, Err}
+use Rattle.std.specs.Prelude.{◌==◌, slice_index, replicate, OnOk}
 use Rattle.std.specs.Int.{div_ceil, w8, w16, w32, w64, to_le_bytes}
 use Rattle.std.specs.Simd.{first_chunks}
 use Rattle.std.proofs.lemmas.Bool.{cases_Bool, cases_eq, cases_lt, eqb-true}
@@ -16,13 +16,18 @@ use Rattle.tiff_base.specs.declared.tags.ByteOrder.TheVariants.{LittleEndian, Bi
 use Rattle.tiff_base.specs.Number.{number}
 use Rattle.tiff_base.specs.SourceAndSink.{AreOctets}
 use Rattle.tiff_page.specs.NumberBytes.{byte_of, all_bytes, bytes_in, IsPut, whole_enough}
-use Rattle.tiff_page.specs.Pixels.{tabulate, width_of, numbers_in, row_number}
+use Rattle.tiff_page.specs.Pixels.{tabulate, width_of, numbers_in, row_number, needed_of_row}
 use Rattle.tiff_page.specs.BufferPositions.{Writes, filled_to}
 use Rattle.tiff_page.specs.Row.{IsSize}
-use Rattle.tiff_page.proofs.Filled.{zero_in}
-use Rattle.tiff_page.proofs.Rects.{copied, writes_more, writes_as, writes_none}
-use Rattle.tiff_page.proofs.RowLaws.{power_pos, bytes_of_numbers}
-use Rattle.tiff_page.proofs.Rows.{each_same, each_at, digits, by_size, little_digits, number_lt, number_within}
+use Rattle.tiff_page.proofs.Rects.{zero_in, all_written, copied, writes_more, writes_as, writes_none, holds_put_mid, length_held}
+use Rattle.tiff_page.proofs.Rows.{some_size, power_pos, bytes_of_numbers, each_same, each_at, digits, by_size, little_digits, number_lt, number_within}
+use Rattle.tiff_base.specs.Answers.{IsCause}
+use Rattle.tiff_base.specs.declared.color.ColorType.{ColorType}
+use Rattle.tiff_base.specs.declared.error.TiffError.{TiffError}
+use Rattle.tiff_page.specs.declared.chunk_data.ChunkCursor.{ChunkCursor}
+use Rattle.tiff_page.specs.Page.{PageRecord}
+use Rattle.tiff_page.specs.RowReads.{RowRead, TakesRow, PutsRow, RowPut}
+use Rattle.tiff_page.specs.ChunkData.{bytes_left, IsTooShort}
 
 -- ---- the bytes of a number
 
@@ -30,10 +35,8 @@ low_digits : (n k : ℕ) → digits (λ j. n / 256 ^ j % 256) k + 256 ^ k * (n /
 low_digits n zero = omega (arith, div-one n)
 low_digits n (suc k) =
     let q : ℕ = n / 256 ^ k in
-    let e : n / 256 ^ suc k ≡ q / 256 = ap (λ (m : ℕ). n / m) (pow-suc 256 k) ∙ sym (div-div-eq-div-mul n (256 ^ k) 256) in
-    let d : 256 ^ k * (q / 256 * 256 + q % 256) ≡ 256 ^ k * q = ap (λ (m : ℕ). 256 ^ k * m) (div-add-mod' q 256) in
-    let p : 256 ^ suc k * (n / 256 ^ suc k) ≡ 256 ^ k * 256 * (q / 256) = (λ i. pow-suc 256 k i * e i) in
-    omega (arith, low_digits n k, d, p)
+    let p : 256 ^ suc k * (n / 256 ^ suc k) ≡ 256 ^ k * 256 * (q / 256) = (λ i. pow-suc 256 k i * (ap (λ (m : ℕ). n / m) (pow-suc 256 k) ∙ sym (div-div-eq-div-mul n (256 ^ k) 256)) i) in
+    omega (arith, low_digits n k, ap (λ (m : ℕ). 256 ^ k * m) (div-add-mod' q 256), p)
 
 -- a number is the sum of its bytes
 pub of_bytes : (size n : ℕ) → IsSize size → digits (byte_of size n) size ≡ n
@@ -44,8 +47,7 @@ byte_is : (size n j : ℕ) → n < 256 ^ size → byte_of size n j ≡ n / 256 ^
 byte_is size n j h =
     ⊎_elim
     (λ (t : (j + 1 == size) ≡ true).
-    let e : j + 1 ≡ size = eqb-true (j + 1) size t in
-    let p : 256 ^ size ≡ 256 * 256 ^ j = ap (λ (m : ℕ). 256 ^ m) (sym e) ∙ (let s : j + 1 ≡ suc j = omega arith in ap (λ (m : ℕ). 256 ^ m) s) ∙ pow-suc 256 j ∙ mul_comm (256 ^ j) 256 in
+    let p : 256 ^ size ≡ 256 * 256 ^ j = ap (λ (m : ℕ). 256 ^ m) (sym (eqb-true (j + 1) size t)) ∙ (let s : j + 1 ≡ suc j = omega arith in ap (λ (m : ℕ). 256 ^ m) s) ∙ pow-suc 256 j ∙ mul_comm (256 ^ j) 256 in
     let b : n / 256 ^ j < 256 = div_below n (256 ^ j) 256 (power_pos j) (omega (arith, h, p)) in
     rw t (sym (mod-eq_of_lt b)))
     (λ (f : (j + 1 == size) ≡ false). rw f refl)
@@ -80,9 +82,6 @@ length_bytes size ns = length-map-range_with_len (λ i. byte_of size (get_or ns 
 pub byte_at : (size : ℕ) (ns : List ℕ) (i : ℕ) → i < length ns * size → get_or (bytes_in size ns) i 0 ≡ byte_of size (get_or ns (i / size) 0) (i % size)
 unfolding bytes_in
 byte_at size ns i h = get_or-map-range_with_len (λ i. byte_of size (get_or ns (i / size) 0) (i % size)) 0 (length ns * size) i i 0 h (omega arith)
-
-pub some_size : (size : ℕ) → IsSize size → 0 < size
-some_size size z = by_size (λ n. 0 < n) size (omega arith) (omega arith) (omega arith) (omega arith) z
 
 -- byte j of number k
 byte_in : (size : ℕ) (ns : List ℕ) (k j : ℕ) → k < length ns → j < size → get_or (bytes_in size ns) (k * size + j) 0 ≡ byte_of size (get_or ns k 0) j
@@ -181,10 +180,8 @@ of_whole n size h = omega (arith, h, div-add-mod' n size)
 pub numbers_fit : {X : Type 0} (bits : X → ℕ) (size at len : ℕ) (xs : List X) → 0 < size → at % size ≡ 0 → len % size ≡ 0 → at + len ≤ length (bytes_in size (map bits xs))
     → at / size + len / size ≤ length xs
 numbers_fit bits size at len xs s a l h =
-    let e : length (bytes_in size (map bits xs)) ≡ length xs * size = length_bytes size (map bits xs) ∙ ap (λ (m : ℕ). m * size) (length-map xs bits) in
-    let b : (at / size + len / size) * size ≤ length xs * size = omega (arith, h, e, of_whole at size a, of_whole len size l) in
-    let c : at / size + len / size ≤ length xs * size / size = le-div (at / size + len / size) (length xs * size) size s b in
-    omega (arith, c, mul-div_cancel (length xs) s)
+    let b : (at / size + len / size) * size ≤ length xs * size = omega (arith, h, (length_bytes size (map bits xs) ∙ ap (λ (m : ℕ). m * size) (length-map xs bits)), of_whole at size a, of_whole len size l) in
+    omega (arith, le-div (at / size + len / size) (length xs * size) size s b, mul-div_cancel (length xs) s)
 
 piece_at : (size count : ℕ) (bytes : List ℕ) (n : ℕ) (d : List ℕ) → n < count → get_or (first_chunks size count bytes) n d ≡ take size (drop (n * size) bytes)
 piece_at size zero bytes n d h = absurd (omega arith)
@@ -235,8 +232,7 @@ row_put size first count row old new z o l h e =
     let more : List ℕ = tabulate count (row_number LittleEndian size row) in
     let rest : List ℕ = drop (first + count) old in
     let end : (first + count) * size ≡ first * size + length row = add-mul first count size ∙ ap (λ (n : ℕ). first * size + n) (sym l) in
-    let within : (first + count) * size ≤ length old * size = mul-le-mul_right size h in
-    copied (bytes_in size old) row (bytes_in size new) (first * size) (omega (arith, within, end, length_bytes size old))
+    copied (bytes_in size old) row (bytes_in size new) (first * size) (omega (arith, mul-le-mul_right size h, end, length_bytes size old))
     (ap (bytes_in size) e ∙ bytes_append size (take first old) (more ++ rest) s
     ∙ (λ t. (bytes_split size first old s (omega (arith, h))).0 t ++ bytes_append size more rest s t)
     ∙ (λ t. take (first * size) (bytes_in size old) ++ (row_is size count row z o l t ++ ((bytes_split size (first + count) old s h).1 ∙ ap (λ (n : ℕ). drop n (bytes_in size old)) end) t)))
@@ -249,7 +245,6 @@ pub row_put_whole : {X : Type 0} (bits : X → ℕ) (size at : ℕ) (row : List 
 row_put_whole {X = X} bits size at row old mid z o a l h w =
     let first : ℕ = at / size in
     let count : ℕ = length row / size in
-    let numbers : List ℕ = tabulate count (row_number LittleEndian size row) in
     let rest : length (drop first old) ≡ length old - first = length-drop first old in
     let all : mid_of first (length old - first) old ≡ drop first old = take_all (length old - first) (drop first old) (omega (arith, rest)) in
     let none : put_mid first (length old - first) old mid ≡ take first old ++ mid =
@@ -258,7 +253,7 @@ row_put_whole {X = X} bits size at row old mid z o a l h w =
     ap (λ (xs : List X). drop count (map bits xs)) all ∙ ap (drop count) (sym (drop-map bits first old)) ∙ drop-drop count first (map bits old) in
     subst (λ (n : ℕ). IsPut n row (bytes_in size (map bits old)) (bytes_in size (map bits (put_mid first (length old - first) old mid)))) (sym (of_whole at size a))
     (row_put size first count row (map bits old) (map bits (put_mid first (length old - first) old mid)) z o (of_whole (length row) size l) (omega (arith, h, length-map old bits))
-    (ap (map bits) none ∙ map-append bits (take first old) mid ∙ (λ t. sym (take-map bits first old) t ++ (w ∙ ap (λ (xs : List ℕ). numbers ++ xs) behind) t)))
+    (ap (map bits) none ∙ map-append bits (take first old) mid ∙ (λ t. sym (take-map bits first old) t ++ (w ∙ ap (λ (xs : List ℕ). (tabulate count (row_number LittleEndian size row)) ++ xs) behind) t)))
 
 -- ---- single bytes are written
 
@@ -369,8 +364,7 @@ less-times m n size =
     ap (λ (k : ℕ). k * size) a ∙ z ∙ sym c)
     (λ (l : n ≤ m).
     let a : m ≡ n + (m - n) = omega (arith, l) in
-    let b : m * size ≡ n * size + (m - n) * size = ap (λ (k : ℕ). k * size) a ∙ add-mul n (m - n) size in
-    omega (arith, b))
+    omega (arith, (ap (λ (k : ℕ). k * size) a ∙ add-mul n (m - n) size)))
     (cases_lt m n)
 
 -- a list that grew by zeros, seen as bytes
@@ -448,9 +442,8 @@ piece_behind at more row piece old mid new is e f =
 -- a row that follows a list's bytes is written at their end
 row_behind : (at : ℕ) (row old new : List ℕ) → length old ≡ at → new ≡ old ++ row → IsPut at row (old ++ replicate (length row) 0) new
 row_behind at row old new l e =
-    let now : length new ≡ at + length row = ap (λ (xs : List ℕ). length xs) e ∙ length-append old row ∙ ap (λ (m : ℕ). m + length row) l in
     let was : length (old ++ replicate (length row) 0) ≡ at + length row = length-append old (replicate (length row) 0) ∙ (λ t. l t + length-replicate {A = ℕ} (length row) 0 t) in (
-      now ∙ sym was,
+      (ap (λ (xs : List ℕ). length xs) e ∙ length-append old row ∙ ap (λ (m : ℕ). m + length row) l) ∙ sym was,
       λ i h.
           ⊎_elim
           (λ (a : i < at).
@@ -494,9 +487,8 @@ ends_back bits size at xs s e =
 module _ {T : Type 0} (bits : T → ℕ) (size at count : ℕ) (row : List ℕ) (old grown now : List T) (z : IsSize size) (enough : count ≡ div_ceil (at + length row) size) (grew : map bits grown ≡ map bits old ++ replicate (count - length old) 0) (is : now ≡ grown) where
   grown_is : bytes_in size (map bits now) ≡ filled_to (div_ceil (at + length row) size * size) (bytes_in size (map bits old))
   grown_is =
-      let e : count - length old ≡ count - length (map bits old) = ap (λ (k : ℕ). count - k) (sym (length-map old bits)) in
       ap (λ (xs : List T). bytes_in size (map bits xs)) is
-      ∙ zero_bytes_behind size (map bits old) (map bits grown) count z (grew ∙ ap (λ (k : ℕ). map bits old ++ replicate k 0) e)
+      ∙ zero_bytes_behind size (map bits old) (map bits grown) count z (grew ∙ ap (λ (k : ℕ). map bits old ++ replicate k 0) (ap (λ (k : ℕ). count - k) (sym (length-map old bits))))
       ∙ ap (λ (k : ℕ). filled_to (k * size) (bytes_in size (map bits old))) enough
 
   pub row_has_room : at + length row ≤ length (bytes_in size (map bits now))
@@ -557,3 +549,49 @@ numbers_are bytes =
     get_or-map-range_with_len (λ n. number LittleEndian w8 (slice_index bytes (n * 1 + 0) ∷ [])) 0 (div_ceil (length bytes) 1) i i 0 l (omega arith)
     ∙ number_one LittleEndian (slice_index bytes (i * 1 + 0))
     ∙ ap (slice_index bytes) at)
+
+-- ---- a row that was read is written into a list
+
+-- a row that was read straight to its position
+pub put_in_place : (file : List ℕ) (order : ByteOrder) (p : PageRecord) (color : ColorType) (from to : ChunkCursor) (failed : Type 0) (at len : ℕ) (old row : List ℕ) (r : Result (Unit {0}) TiffError)
+    → length row ≡ len → at + len ≤ length old → RowRead file order p color from to failed row r
+    → RowPut file order p color from to failed at len old (put_mid at (at + len - at) old row) r
+put_in_place file order p color from to failed at len old row (Ok done) e fits h = record {
+  row = row;
+  all = e;
+  takes = h;
+  put = copied old row (put_mid at (at + len - at) old row) at (subst (λ (n : ℕ). at + n ≤ length old) (sym e) fits) (holds_put_mid old row at len e);
+}
+put_in_place file order p color from to failed at len old row (Err f) e fits h =
+    subst (λ (n : ℕ). IsCause (Unit {0}) failed f (IsTooShort (bytes_left file from) (needed_of_row p color n) f)) e h
+
+-- a row that was read straight to its position in a list
+pub put_in_list : (file : List ℕ) (order : ByteOrder) (p : PageRecord) (color : ColorType) (from to : ChunkCursor) (failed : Type 0) (at len n : ℕ) (list mid row : List ℕ) (r : Result (Unit {0}) TiffError)
+    → length row ≡ len → at + len ≤ length list → mid ≡ list → length mid ≡ n → RowRead file order p color from to failed row r
+    → RowPut file order p color from to failed at len list (take n (put_mid at (at + len - at) mid row ++ drop (length (put_mid at (at + len - at) mid row)) list)) r
+put_in_list file order p color from to failed at len n list mid row r e fits same long h =
+    let out : List ℕ = put_mid at (at + len - at) mid row in
+    let there : at + len ≤ length mid = subst (λ (xs : List ℕ). at + len ≤ length xs) (sym same) fits in
+    let all : length out ≡ n = length_held mid row out at (subst (λ (m : ℕ). at + m ≤ length mid) (sym e) there) (holds_put_mid mid row at len e) ∙ long in
+    subst (λ (xs : List ℕ). RowPut file order p color from to failed at len list xs r) (all_written out list n all)
+    (subst (λ (xs : List ℕ). RowPut file order p color from to failed at len xs out r) same (put_in_place file order p color from to failed at len mid row r e there h))
+
+-- a row that is written from a scratch buffer
+pub put_from_room : (order : ByteOrder) (p : PageRecord) (color : ColorType) (left rest : List ℕ) (at len : ℕ) (row old new : List ℕ)
+    → length row ≡ len → TakesRow order p color left rest row → IsPut at row old new → PutsRow order p color left rest at len old new
+put_from_room order p color left rest at len row old new e takes put = record { row = row; all = e; takes = takes; put = put }
+
+-- a scratch buffer whose bytes were all written
+pub all_of_room : (row out bytes : List ℕ) (n : ℕ) → length out ≡ n → row ≡ take n (out ++ drop (length out) bytes) → row ≡ out
+all_of_room row out bytes n e is = is ∙ ap (λ (m : ℕ). take m (out ++ drop (length out) bytes)) (sym e) ∙ take-append_seam out (drop (length out) bytes)
+
+-- a row that is written from a scratch buffer into a list of bytes, which grows for it
+pub put_into_bytes : (order : ByteOrder) (p : PageRecord) (color : ColorType) (left rest : List ℕ) (at len : ℕ) (row out old new : List ℕ)
+    → row ≡ out → length out ≡ len → TakesRow order p color left rest out
+    → IsPut at row (filled_to (div_ceil (at + length row) 1 * 1) (bytes_in 1 (map (λ (x : ℕ). x) old))) (bytes_in 1 (map (λ (x : ℕ). x) new))
+    → PutsRow order p color left rest at len (filled_to (at + len) old) new
+put_into_bytes order p color left rest at len row out old new same e takes put =
+    let all : length row ≡ len = ap (λ (xs : List ℕ). length xs) same ∙ e in
+    put_from_room order p color left rest at len row (filled_to (at + len) old) new all
+    (subst (TakesRow order p color left rest) (sym same) takes)
+    (subst (λ (n : ℕ). IsPut at row (filled_to (at + n) old) new) all (plain_put at row old new put))

@@ -19,8 +19,7 @@ use Rattle.tiff_page.specs.Pixels.{stored_samples, stored_row_bytes, is_byte_pla
 use Rattle.tiff_page.specs.Row.{IsSize, RowReplaced, TurnsNumbers}
 use Rattle.tiff_page.specs.OutputRow.{HoldsNumbersOf, handed_byte, needs_swap}
 use Rattle.tiff_page.specs.ReadablePage.{IsRead}
-use Rattle.tiff_page.proofs.Rows.{put_below, put_there, by_size, digits, little_digits, some_size, sums_same, stayed, bytes_stayed}
-use Rattle.tiff_page.proofs.RowLaws.{bytes_of_numbers, complemented, digit}
+use Rattle.tiff_page.proofs.Rows.{put_below, put_there, by_size, digits, little_digits, some_size, sums_same, stayed, bytes_stayed, bytes_of_numbers, complemented, digit}
 
 -- ---- bytes of a number
 
@@ -33,22 +32,12 @@ module _ (size : ℕ) (z : IsSize size) (row : List ℕ) (octets : (i : ℕ) →
   byte_turned =
       let f : ℕ → ℕ = λ i. get_or row (k * size + i) 0 in
       let g : ℕ → ℕ = λ i. 255 - f i in
-      let c : digits g size + digits f size + 1 ≡ 256 ^ size = complemented g f size (λ i h. refl) (λ i. octets (k * size + i)) in
-      let d : v ≡ digits f size = sym e ∙ little_digits size f z in
-      let n : 256 ^ size - 1 - v ≡ digits g size = omega (arith, c, d) in
+      let n : 256 ^ size - 1 - v ≡ digits g size = omega (arith, complemented g f size (λ i h. refl) (λ i. octets (k * size + i)), (sym e ∙ little_digits size f z)) in
       ap (λ (m : ℕ). m / 256 ^ j % 256) n ∙ digit g size j (λ i. omega arith) l
 
   byte_shown : (i : PhotometricInterpretation) → shown_number i (256 ^ size) v / 256 ^ j % 256 ≡ shown_number i 256 (get_or row (k * size + j) 0)
   byte_shown meaning.WhiteIsZero = byte_turned
-  byte_shown meaning.BlackIsZero = byte_stands
-  byte_shown meaning.RGB = byte_stands
-  byte_shown meaning.RGBPalette = byte_stands
-  byte_shown meaning.TransparencyMask = byte_stands
-  byte_shown meaning.CMYK = byte_stands
-  byte_shown meaning.YCbCr = byte_stands
-  byte_shown meaning.CIELab = byte_stands
-  byte_shown meaning.IccLab = byte_stands
-  byte_shown meaning.ItuLab = byte_stands
+  byte_shown _ = byte_stands
 
 -- ---- depths of whole bytes
 
@@ -97,8 +86,7 @@ undone_numbers order p stored held new f l b c =
 pub holds_same : (order : ByteOrder) (p : PageRecord) (row : List ℕ) → needs_swap order p.depth ≡ false → HoldsNumbersOf order p row row
 holds_same LittleEndian p row t = record { same_length = refl; numbers = λ d. stayed (p.depth / 8) row; packed = λ d. refl }
 holds_same BigEndian p row t =
-    let l : p.depth ≤ 8 = ltb-false 8 p.depth t in
-    record { same_length = refl; numbers = λ d. bytes_stayed BigEndian (p.depth / 8) row (omega (arith, d, l)); packed = λ d. refl }
+    record { same_length = refl; numbers = λ d. bytes_stayed BigEndian (p.depth / 8) row (omega (arith, d, ltb-false 8 p.depth t)); packed = λ d. refl }
 
 -- the little-endian numbers of a row
 pub holds_turned : (order : ByteOrder) (p : PageRecord) (row out : List ℕ) → needs_swap order p.depth ≡ true → length out ≡ length row
@@ -132,12 +120,9 @@ handed_at order p c old mid b k r d became octets at within =
     let s : ℕ = samples_in_chunk p.planar c in
     let n : ℕ = in_row p (b / size / s) (b / size % s) in
     let z : IsSize size = (whole p c r d).0 in
-    let l : b % size < size = mod_below b size (some_size size z) in
-    let e : row_number LittleEndian size mid k ≡ number_of_row order p old n = became.numbers k within ∙ ap (number_of_row order p old) (sym at) in
-    let f : nat_lt p.depth 8 ≡ false = le-ltb p.depth 8 d in
-    sym (rw f
+    sym (rw (le-ltb p.depth 8 d)
     (ap (λ (x : ℕ). shown_number p.interpretation x (number_of_row order p old n) / 256 ^ (b % size) % 256) (depth_limit p z (whole p c r d).1)
-    ∙ byte_shown size z mid octets k (b % size) (number_of_row order p old n) l e p.interpretation))
+    ∙ byte_shown size z mid octets k (b % size) (number_of_row order p old n) (mod_below b size (some_size size z)) (became.numbers k within ∙ ap (number_of_row order p old) (sym at)) p.interpretation))
 
 handed_packed : (order : ByteOrder) (p : PageRecord) (c : ColorType) (old : List ℕ) (b : ℕ) → p.depth < 8
     → shown_number p.interpretation 256 (get_or old b 0) ≡ handed_byte order p old c b
@@ -158,22 +143,18 @@ pub row_handed : (order : ByteOrder) (p : PageRecord) (c : ColorType) (old mid :
     → (p.depth < 8) ⊎ (length old / (p.depth / 8) * (p.depth / 8) ≡ length old) → b < length old
     → shown_number p.interpretation 256 (get_or mid b 0) ≡ handed_byte order p old c b
 row_handed order p c old mid b r w numbers same within_mid rows l =
-    let octets : (i : ℕ) → get_or mid i 0 < 256 = each_octet mid within_mid in
     ⊎_elim
     (λ (d : p.depth < 8). ap (λ (xs : List ℕ). shown_number p.interpretation 256 (get_or xs b 0)) (same d) ∙ handed_packed order p c old b d)
     (λ (d : 8 ≤ p.depth).
     let size : ℕ = p.depth / 8 in
     let s : ℕ = samples_in_chunk p.planar c in
-    let u : 0 < size = some_size size (whole p c r d).0 in
     let a : stored_samples p ≡ s = omega (arith, r.stored.stores, ltb-false s (stored_samples p) (in_place p c w).1) in
     let k : ℕ = b / size in
-    let at : k / s * stored_samples p + k % s ≡ k = ap (λ (x : ℕ). k / s * x + k % s) a ∙ div-add-mod' k s in
-    let there : k * size + b % size ≡ b = div-add-mod' b size in
     let even : length old / size * size ≡ length old = ⊎_elim (λ (q : p.depth < 8). Prim.absurd (omega (arith, q, d))) (λ q. q) rows in
-    let few : k < length old / size = div_below b size (length old / size) u (omega (arith, l, even, mul_comm size (length old / size))) in
+    let few : k < length old / size = div_below b size (length old / size) (some_size size (whole p c r d).0) (omega (arith, l, even, mul_comm size (length old / size))) in
     let within : (k + 1) * size ≤ length old / size * size = mul-le-mul_right size (omega (arith, few)) in
-    ap (λ (x : ℕ). shown_number p.interpretation 256 (get_or mid x 0)) (sym there)
-    ∙ handed_at order p c old mid b k r d (numbers d) octets at (omega (arith, within, even)))
+    ap (λ (x : ℕ). shown_number p.interpretation 256 (get_or mid x 0)) (sym (div-add-mod' b size))
+    ∙ handed_at order p c old mid b k r d (numbers d) (each_octet mid within_mid) (ap (λ (x : ℕ). k / s * x + k % s) a ∙ div-add-mod' k s) (omega (arith, within, even)))
     (cases_lt p.depth 8)
 
 -- ---- whole rows
@@ -194,14 +175,12 @@ kept_more row cur part column whole kept width n m en em w c long lens p before 
     let j : ℕ = i - column * kept in
     let b : j < kept = omega (arith, a, h) in
     let e : column * kept + j ≡ i = omega (arith, a) in
-    let q : i / kept ≡ column = ap (λ (x : ℕ). x / kept) (sym e) ∙ div-mul-add column kept j b in
-    let r : i % kept ≡ j = ap (λ (x : ℕ). x % kept) (sym e) ∙ mod-mul-add column kept j b in
     ap (λ (x : ℕ). get_or (put_mid (column * kept) n cur part) x 0) (sym e)
     ∙ sym (get_or-drop (column * kept) (put_mid (column * kept) n cur part) j 0)
     ∙ sym (get_or-take n (drop (column * kept) (put_mid (column * kept) n cur part)) j 0 (omega (arith, b, en)))
     ∙ ap (λ (xs : List ℕ). get_or xs j 0) (put_there cur part (column * kept) n there size ∙ p)
     ∙ get_or-take m (drop (column * whole) row) j 0 (omega (arith, b, em)) ∙ get_or-drop (column * whole) row j 0
-    ∙ sym (λ t. get_or row (q t * whole + r t) 0))
+    ∙ sym (λ t. get_or row ((ap (λ (x : ℕ). x / kept) (sym e) ∙ div-mul-add column kept j b) t * whole + (ap (λ (x : ℕ). x % kept) (sym e) ∙ mod-mul-add column kept j b) t) 0))
     (cases_lt i (column * kept))
 
 -- the numbers of byte planes
@@ -218,8 +197,7 @@ joined_numbers order p old new e l b =
 sample_bytes : (n d s : ℕ) → d ≡ d / 8 * 8 → (n * d * s + 7) / 8 ≡ n * s * (d / 8)
 sample_bytes n d s e =
     let k : n * (d / 8 * 8) * s ≡ n * s * (d / 8) * 8 = omega arith in
-    let g : n * d * s ≡ n * s * (d / 8) * 8 = ap (λ (x : ℕ). n * x * s) e ∙ k in
-    omega (arith, g)
+    omega (arith, (ap (λ (x : ℕ). n * x * s) e ∙ k))
 
 pub stored_bytes : (p : PageRecord) → p.depth ≡ p.depth / 8 * 8 → stored_row_bytes p ≡ p.chunk_width * stored_samples p * (p.depth / 8)
 stored_bytes p e = sample_bytes p.chunk_width p.depth (stored_samples p) e
@@ -247,18 +225,16 @@ pub whole_deep : (p : PageRecord) (c : ColorType) → IsRead p c → needs_whole
 whole_deep p c r h =
     ⊎_elim
     (λ (l : p.depth < 8).
-    let e : p.predictor ≡ predictor.None = r.unpredicted l in
     let f : nat_lt (samples_in_chunk p.planar c) (stored_samples p) ≡ false = le-ltb (samples_in_chunk p.planar c) (stored_samples p) (omega (arith, r.all l)) in
-    let k : false ≡ true = rw (e, f) at h in cc)
+    let k : false ≡ true = rw ((r.unpredicted l), f) at h in cc)
     (λ (d : 8 ≤ p.depth). d) (cases_lt p.depth 8)
 
 pub stored_fill : (p : PageRecord) (c : ColorType) (width whole_pixel n : ℕ) → IsRead p c → needs_whole_rows p c ≡ true → width ≤ p.chunk_width → n ≡ stored_row_bytes p
     → whole_pixel ≡ stored_samples p * (p.depth / 8) → width * whole_pixel ≤ n
 stored_fill p c width whole_pixel n r w few e ew =
-    let f : width * whole_pixel ≤ p.chunk_width * whole_pixel = mul-le-mul_right whole_pixel few in
     let g : p.chunk_width * whole_pixel ≡ p.chunk_width * stored_samples p * (p.depth / 8) =
     ap (λ (x : ℕ). p.chunk_width * x) ew ∙ sym (mul_assoc p.chunk_width (stored_samples p) (p.depth / 8)) in
-    omega (arith, f, g, e, stored_bytes p (whole p c r (whole_deep p c r w)).1)
+    omega (arith, mul-le-mul_right whole_pixel few, g, e, stored_bytes p (whole p c r (whole_deep p c r w)).1)
 
 -- a row of which pixels are kept
 pub whole_handed : (order : ByteOrder) (p : PageRecord) (c : ColorType) (old mid : List ℕ) (width kept whole_pixel b x : ℕ) → IsRead p c → needs_whole_rows p c ≡ true
@@ -271,15 +247,13 @@ whole_handed order p c old mid width kept whole_pixel b x r w few long ek ew bec
     let size : ℕ = p.depth / 8 in
     let s : ℕ = samples_in_chunk p.planar c in
     let n : ℕ = b / size in
-    let u : 0 < size = some_size size (whole p c r d).0 in
     let k : ℕ = n / s * stored_samples p + n % s in
     let e : n / s * kept + (n % s * size + b % size) ≡ b =
     ap (λ (y : ℕ). n / s * y + (n % s * size + b % size)) ek
     ∙ (let f : n / s * (s * size) + (n % s * size + b % size) ≡ (n / s * s + n % s) * size + b % size = omega arith in f)
     ∙ ap (λ (y : ℕ). y * size + b % size) (div-add-mod' n s) ∙ div-add-mod' b size in
     let o : (n % s + 1) * size ≤ s * size = mul-le-mul_right size (omega (arith, mod_below n s r.stored.shows)) in
-    let m : n % s * size + b % size < kept = omega (arith, o, mod_below b size u, ek) in
-    let q : b / kept ≡ n / s = ap (λ (y : ℕ). y / kept) (sym e) ∙ div-mul-add (n / s) kept (n % s * size + b % size) m in
+    let m : n % s * size + b % size < kept = omega (arith, o, mod_below b size (some_size size (whole p c r d).0), ek) in
     let t : b % kept ≡ n % s * size + b % size = ap (λ (y : ℕ). y % kept) (sym e) ∙ mod-mul-add (n / s) kept (n % s * size + b % size) m in
     let at : n / s * (stored_samples p * size) + (n % s * size + b % size) ≡ k * size + b % size = omega arith in
     let column : n / s < width = ⊎_elim (λ a. a)
@@ -289,5 +263,5 @@ whole_handed order p c old mid width kept whole_pixel b x r w few long ek ew bec
     mul-le-mul_right size (omega (arith, g, mod_below n s r.stored.shows, r.stored.stores)) in
     let within : (k + 1) * size ≤ length old = omega (arith, v, long, stored_bytes p (whole p c r d).1) in
     ap (shown_number p.interpretation 256)
-    (ex ∙ (λ i. get_or mid (q i * ew i + t i) 0) ∙ ap (λ (y : ℕ). get_or mid y 0) at)
+    (ex ∙ (λ i. get_or mid ((ap (λ (y : ℕ). y / kept) (sym e) ∙ div-mul-add (n / s) kept (n % s * size + b % size) m) i * ew i + t i) 0) ∙ ap (λ (y : ℕ). get_or mid y 0) at)
     ∙ handed_at order p c old mid b k r d became (each_octet mid within_mid) refl within

@@ -1,5 +1,5 @@
 -- Numbers of a row, and their sums.
-use Rattle.std.proofs.Common.{◌≡◌, inl, inr, ℕ, zero, suc, ◌+◌, ◌-◌, ◌*◌, ◌/◌, ◌%◌, ◌^◌, ◌<◌, ◌≤◌, List, ◌∷◌, ◌++◌, length, take, drop, get_or, map, refl, ap, sym, ◌∙◌, subst, arith, ⊎_elim, add-one}
+use Rattle.std.proofs.Common.{◌≡◌, inl, inr, ℕ, zero, suc, ◌+◌, ◌-◌, ◌*◌, ◌/◌, ◌%◌, ◌^◌, ◌<◌, ◌≤◌, List, ◌∷◌, ◌++◌, length, take, drop, get_or, map, refl, ap, sym, ◌∙◌, subst, arith, ⊎_elim, add-one, ◌⊎◌, replicate, Fits, w8}
 use Rattle.std.proofs.lemmas.Bool.{cases_lt}
 use Rattle.std.proofs.lemmas.List.Sums.{sum_by_push, sum_by-cons}
 use Rattle.std.proofs.lemmas.List.{ext_get_or, get_or_past, get_or-take, get_or-drop, length-take-le, length-drop, length-append, take_at, drop_at, get_or-set_same, get_or-set_other}
@@ -7,8 +7,8 @@ use Rattle.std.proofs.lemmas.Slice.{take-put_mid_below, drop-put_mid}
 use Rattle.std.proofs.Math.ListN.{set}
 use borrow.Rule.Slice.PartMut.{put_mid, post_of}
 use Rattle.std.proofs.lemmas.List.FromFn.{length-map-range_with_len, get_or-map-range_with_len}
-use Rattle.std.proofs.lemmas.Nat.{mod-mul-add, div-mul-add, div-add-mod', mod_below, le-div, from_le_bytes-to_le_bytes_2, from_le_bytes-to_le_bytes_4, from_le_bytes-to_le_bytes_8}
-use Rattle.std.proofs.Math.Nat.{div-mul-le_self, mul-le-mul_right, mul-le-mul_left, pow-suc, mod-add-mod, mod-eq_of_lt, div-eq_of_lt, mul_comm}
+use Rattle.std.proofs.lemmas.Nat.{mod-mul-add, div-mul-add, div-add-mod', mod_below, le-div, from_le_bytes-to_le_bytes_2, from_le_bytes-to_le_bytes_4, from_le_bytes-to_le_bytes_8, pow-add}
+use Rattle.std.proofs.Math.Nat.{div-mul-le_self, mul-le-mul_right, mul-le-mul_left, pow-suc, mod-add-mod, mod-eq_of_lt, div-eq_of_lt, mul_comm, add-mul-div_left, add-mul-mod_self_left}
 use Rattle.std.specs.Prelude.{sum_by}
 use Rattle.std.specs.List.{range_with_len}
 use Rattle.std.specs.Int.{Width, w16, w32, w64, from_le_bytes, to_le_bytes}
@@ -18,7 +18,9 @@ use Rattle.tiff_base.specs.declared.tags.ByteOrder.TheVariants.{LittleEndian, Bi
 use Rattle.tiff_base.specs.Number.{number}
 use Rattle.tiff_base.specs.SourceAndSink.{bytes_at}
 use Rattle.tiff_page.specs.Pixels.{tabulate, width_of, row_number, summed_number, summed_byte, joined_number}
-use Rattle.tiff_page.specs.Row.{IsSize, RowReplaced, AddsNumber, TurnsNumber, TurnsNumbers}
+use Rattle.tiff_page.specs.Row.{IsSize, RowReplaced, AddsNumber, TurnsNumber, TurnsNumbers, ComplementsInvert, BytesOfNumbers}
+use Rattle.std.proofs.lemmas.Simd.{put_chunk_whole, length-put_chunk, length-zip2, get_or-zip2, length-replicate, get_or-replicate}
+use lib.Lanes.{zip2, put_chunk}
 
 -- ---- bytes of a number
 
@@ -177,10 +179,8 @@ strided f s k = sum_by (λ c. f (c * s + k % s)) (range_with_len 0 (k / s + 1))
 
 strided_first : (f : ℕ → ℕ) (s k : ℕ) → k < s → strided f s k ≡ f k
 strided_first f s k h =
-    let d : k / s ≡ 0 = div-eq_of_lt h in
-    let m : k % s ≡ k = mod-eq_of_lt h in
     let z : 0 * s + k ≡ k = omega arith in
-    rw (d, m, z) (omega arith)
+    rw ((div-eq_of_lt h), mod-eq_of_lt h, z) (omega arith)
 
 next_column : (k s : ℕ) → 0 < s → s ≤ k → (k / s ≡ (k - s) / s + 1) × (k % s ≡ (k - s) % s)
 next_column k s p h =
@@ -223,8 +223,7 @@ pub rest_more : (size s : ℕ) (old mid new : List ℕ) (k : ℕ) → AddsNumber
     → ((j : ℕ) → k ≤ j → row_number LittleEndian size mid j ≡ row_number LittleEndian size old j)
     → (j : ℕ) → k + 1 ≤ j → row_number LittleEndian size new j ≡ row_number LittleEndian size old j
 rest_more size s old mid new k a rest j l =
-    let m : (k + 1) * size ≤ j * size = mul-le-mul_right size l in
-    number_same LittleEndian size new mid j (λ i u v. a.above i (omega (arith, m, u))) ∙ rest j (omega (arith, l))
+    number_same LittleEndian size new mid j (λ i u v. a.above i (omega (arith, mul-le-mul_right size l, u))) ∙ rest j (omega (arith, l))
 
 pub behind_more : (size s count : ℕ) (old mid new : List ℕ) (k : ℕ) → AddsNumber size mid (k - s) k new → k < count → ((i : ℕ) → count * size ≤ i → get_or mid i 0 ≡ get_or old i 0)
     → (i : ℕ) → count * size ≤ i → get_or new i 0 ≡ get_or old i 0
@@ -270,7 +269,6 @@ back f s r (suc c) =
 
 pub summed_is : (s : ℕ) (old : List ℕ) (k : ℕ) → summed_number LittleEndian 1 s old k ≡ summed_byte s old k
 summed_is s old k =
-    let e : k / s * s + k % s ≡ k = div-add-mod' k s in
     let bytes : sum_by (λ c. row_number LittleEndian 1 old (c * s + k % s)) (range_with_len 0 (k / s + 1)) ≡ sum_by (λ c. get_or old (c * s + k % s) 0) (range_with_len 0 (k / s + 1)) =
     sum_same (k / s + 1) 0 (λ c. row_number LittleEndian 1 old (c * s + k % s)) (λ c. get_or old (c * s + k % s) 0) (λ c h l. one_number old (c * s + k % s)) in
     ap (λ (m : ℕ). m % 256)
@@ -278,7 +276,7 @@ summed_is s old k =
     ∙ ap (λ (n : ℕ). sum_by (λ c. get_or old (c * s + k % s) 0) (range_with_len 0 n)) (add-one (k / s))
     ∙ sym (back (λ m. get_or old m 0) s (k % s) (k / s))
     ∙ ap (λ (n : ℕ). sum_by (λ c. get_or old (k / s * s + k % s - c * s) 0) (range_with_len 0 n)) (sym (add-one (k / s)))
-    ∙ ap (λ (m : ℕ). sum_by (λ c. get_or old (m - c * s) 0) (range_with_len 0 (k / s + 1))) e)
+    ∙ ap (λ (m : ℕ). sum_by (λ c. get_or old (m - c * s) 0) (range_with_len 0 (k / s + 1))) (div-add-mod' k s))
 
 -- ---- rows of the same numbers
 
@@ -286,12 +284,11 @@ pub sums_same : (order other : ByteOrder) (size s : ℕ) (new old : List ℕ) (k
     → ((j : ℕ) → (j + 1) * size ≤ n → row_number order size new j ≡ row_number other size old j) → (k + 1) * size ≤ n
     → summed_number order size s new k ≡ summed_number other size s old k
 sums_same order other size s new old k n e h =
-    let w : k / s * s + k % s ≡ k = div-add-mod' k s in
     ap (λ (m : ℕ). m % 256 ^ size)
     (sum_same (k / s + 1) 0 (λ c. row_number order size new (c * s + k % s)) (λ c. row_number other size old (c * s + k % s))
     (λ c u l.
     let m : c * s ≤ k / s * s = mul-le-mul_right s (omega (arith, l)) in
-    let o : (c * s + k % s + 1) * size ≤ (k + 1) * size = mul-le-mul_right size (omega (arith, m, w)) in
+    let o : (c * s + k % s + 1) * size ≤ (k + 1) * size = mul-le-mul_right size (omega (arith, m, div-add-mod' k s)) in
     e (c * s + k % s) (omega (arith, o, h))))
 
 pub joins_same : (size s count : ℕ) (new old : List ℕ) (k n : ℕ) → ((i : ℕ) → i < n → get_or new i 0 ≡ get_or old i 0) → k < count → size * count ≤ n
@@ -341,11 +338,10 @@ pub joined : (size s : ℕ) (old mid planes new : List ℕ) → IsSize size → 
     → RowReplaced size (joined_number size s (length old / size) old) old new
 joined size s old mid planes new z whole l m sums e each =
     let count = length old / size in
-    let p : 0 < size = some_size size z in
     let counts : length planes / size ≡ count = ap (λ (n : ℕ). n / size) (ap length e ∙ l) in
     let at_number : (k : ℕ) → (k + 1) * size ≤ length old → (j : ℕ) → j < size → get_or new (k * size + j) 0 ≡ summed_byte s old ((size - 1 - j) * count + k) =
     λ k h j b.
-    let c : k < count = number_before k size (length old) p h in
+    let c : k < count = number_before k size (length old) (some_size size z) h in
     let v : (size - 1 - j) * count + k < length old = plane_within size count j k (length old) b c (planes_fit size (length old)) in
     each k (omega (arith, c, counts)) j b
     ∙ (λ i. get_or (e i) ((size - 1 - j) * counts i + k) 0)
@@ -420,3 +416,174 @@ turned_more size row mid new k a done j l =
 -- a row of numbers of one byte is the same in either order
 pub bytes_turned : (size : ℕ) (row : List ℕ) → size ≡ 1 → TurnsNumbers size row row
 bytes_turned size row e = subst (λ (n : ℕ). TurnsNumbers n row row) (sym e) (λ k h. one_byte BigEndian row k)
+
+-- ---- the pixels of a row of bytes, summed one by one
+
+-- one more byte of a pixel is summed
+pub byte_done : (old_last old_pixel last pixel : List ℕ) (j : ℕ) → j < length pixel
+    → ((i : ℕ) → i < j → get_or pixel i 0 ≡ (get_or old_last i 0 + get_or old_pixel i 0) % 256)
+    → ((i : ℕ) → j ≤ i → get_or pixel i 0 ≡ get_or old_pixel i 0) → ((i : ℕ) → j ≤ i → get_or last i 0 ≡ get_or old_last i 0)
+    → (i : ℕ) → i < j + 1 → get_or (set pixel j ((get_or last j 0 + get_or pixel j 0) % 256)) i 0 ≡ (get_or old_last i 0 + get_or old_pixel i 0) % 256
+byte_done old_last old_pixel last pixel j l done rest kept i h =
+    let v = (get_or last j 0 + get_or pixel j 0) % 256 in
+    ⊎_elim
+    (λ q. get_or-set_other pixel j i v 0 (λ d. omega (arith, q, d)) ∙ done i q)
+    (λ q. (let e : j ≡ i = omega (arith, q, h) in
+    subst (λ (m : ℕ). get_or (set pixel j v) m 0 ≡ (get_or old_last m 0 + get_or old_pixel m 0) % 256) e
+    (get_or-set_same pixel j v 0 l ∙ ap (λ (m : ℕ). (m + get_or pixel j 0) % 256) (kept j (omega arith))
+    ∙ ap (λ (m : ℕ). (get_or old_last j 0 + m) % 256) (rest j (omega arith)))))
+    (cases_lt i j)
+
+pub byte_held : (last pixel : List ℕ) (j v : ℕ) → j < length last → j < length pixel → ((i : ℕ) → i < j → get_or last i 0 ≡ get_or pixel i 0)
+    → (i : ℕ) → i < j + 1 → get_or (set last j v) i 0 ≡ get_or (set pixel j v) i 0
+byte_held last pixel j v l m held i h =
+    ⊎_elim
+    (λ q. get_or-set_other last j i v 0 (λ d. omega (arith, q, d)) ∙ held i q ∙ sym (get_or-set_other pixel j i v 0 (λ d. omega (arith, q, d))))
+    (λ q. (let e : j ≡ i = omega (arith, q, h) in
+    subst (λ (n : ℕ). get_or (set last j v) n 0 ≡ get_or (set pixel j v) n 0) e (get_or-set_same last j v 0 l ∙ sym (get_or-set_same pixel j v 0 m))))
+    (cases_lt i j)
+
+pub byte_kept : (old xs : List ℕ) (j v : ℕ) → ((i : ℕ) → j ≤ i → get_or xs i 0 ≡ get_or old i 0) → (i : ℕ) → j + 1 ≤ i → get_or (set xs j v) i 0 ≡ get_or old i 0
+byte_kept old xs j v kept i h = get_or-set_other xs j i v 0 (λ d. omega (arith, h, d)) ∙ kept i (omega (arith, h))
+
+-- these bytes, plus those of a pixel, are its sums
+abbrev pub CarriesTo : ℕ → List ℕ → List ℕ → ℕ → Type 0
+CarriesTo s old last k = (j : ℕ) → j < s → (get_or last j 0 + get_or old (k * s + j) 0) % 256 ≡ summed_number LittleEndian 1 s old (k * s + j)
+
+pub carries_first : (s : ℕ) (old last : List ℕ) → ((i : ℕ) → get_or old i 0 < 256) → ((j : ℕ) → j < s → get_or last j 0 ≡ 0) → CarriesTo s old last 0
+carries_first s old last b z j h =
+    let e : 0 * s + j ≡ j = omega arith in
+    let w : (0 + get_or old j 0) % 256 ≡ get_or old j 0 = omega (arith, b j) in
+    subst (λ (i : ℕ). (get_or last j 0 + get_or old i 0) % 256 ≡ summed_number LittleEndian 1 s old i) (sym e)
+    (ap (λ (m : ℕ). (m + get_or old j 0) % 256) (z j h) ∙ w ∙ sym (one_number old j) ∙ first_summed 1 s old j (inl refl) b h)
+
+pub carries_next : (s : ℕ) (old last : List ℕ) (k : ℕ) → 0 < s → ((j : ℕ) → j < s → get_or last j 0 ≡ summed_number LittleEndian 1 s old (k * s + j)) → CarriesTo s old last (k + 1)
+carries_next s old last k p e j h =
+    let i = (k + 1) * s + j in
+    let d : k * s + j ≡ i - s = omega arith in
+    ap (λ (m : ℕ). (m + get_or old i 0) % 256) (e j h ∙ ap (summed_number LittleEndian 1 s old) d)
+    ∙ ap (λ (m : ℕ). (summed_number LittleEndian 1 s old (i - s) + m) % 256) (sym (one_number old i))
+    ∙ sym (next_summed 1 s old i p (omega arith))
+
+at_pixel : (s k n : ℕ) (old row part last : List ℕ) → n ≡ s → length part ≡ s → (k + 1) * s ≤ length row
+    → ((j : ℕ) → j < length part → get_or part j 0 ≡ (get_or last j 0 + get_or (take n (drop (k * s) row)) j 0) % 256)
+    → CarriesTo s old last k → ((i : ℕ) → k * s ≤ i → get_or row i 0 ≡ get_or old i 0)
+    → (j : ℕ) → j < s → get_or (put_mid (k * s) n row part) (k * s + j) 0 ≡ summed_number LittleEndian 1 s old (k * s + j)
+at_pixel s k n old row part last e l w sums carries rest j h =
+    put_at row part (k * s) n j (omega (arith, w, e)) (omega (arith, l, e)) (omega (arith, h, e))
+    ∙ sums j (omega (arith, h, l))
+    ∙ ap (λ (m : ℕ). (get_or last j 0 + m) % 256)
+    (get_or-take n (drop (k * s) row) j 0 (omega (arith, h, e)) ∙ get_or-drop (k * s) row j 0 ∙ rest (k * s + j) (omega arith))
+    ∙ carries j h
+
+-- one more pixel is summed
+pub pixel_done : (s k n : ℕ) (old row part last : List ℕ) → n ≡ s → length part ≡ s → (k + 1) * s ≤ length row
+    → ((j : ℕ) → j < length part → get_or part j 0 ≡ (get_or last j 0 + get_or (take n (drop (k * s) row)) j 0) % 256)
+    → CarriesTo s old last k
+    → ((i : ℕ) → i < k * s → get_or row i 0 ≡ summed_number LittleEndian 1 s old i) → ((i : ℕ) → k * s ≤ i → get_or row i 0 ≡ get_or old i 0)
+    → (i : ℕ) → i < (k + 1) * s → get_or (put_mid (k * s) n row part) i 0 ≡ summed_number LittleEndian 1 s old i
+pixel_done s k n old row part last e l w sums carries done rest i h =
+    ⊎_elim
+    (λ q. put_below row part (k * s) n i (omega (arith, w)) q ∙ done i q)
+    (λ q. (let d : k * s + (i - k * s) ≡ i = omega (arith, q) in
+    subst (λ (m : ℕ). get_or (put_mid (k * s) n row part) m 0 ≡ summed_number LittleEndian 1 s old m) d
+    (at_pixel s k n old row part last e l w sums carries rest (i - k * s) (omega (arith, q, h)))))
+    (cases_lt i (k * s))
+
+pub pixel_rest : (s k n : ℕ) (old row part : List ℕ) → n ≡ s → length part ≡ s → (k + 1) * s ≤ length row
+    → ((i : ℕ) → k * s ≤ i → get_or row i 0 ≡ get_or old i 0)
+    → (i : ℕ) → (k + 1) * s ≤ i → get_or (put_mid (k * s) n row part) i 0 ≡ get_or old i 0
+pixel_rest s k n old row part e l w rest i h =
+    put_above row part (k * s) n i (omega (arith, w, e)) (omega (arith, l, e)) (omega (arith, h, e)) ∙ rest i (omega (arith, h))
+
+-- the sums of a pixel are the sums for the next one
+pub pixel_carries : (s k n : ℕ) (old row part last next : List ℕ) → n ≡ s → length part ≡ s → (k + 1) * s ≤ length row → 0 < s
+    → ((j : ℕ) → j < length part → get_or part j 0 ≡ (get_or last j 0 + get_or (take n (drop (k * s) row)) j 0) % 256)
+    → ((j : ℕ) → j < length part → get_or next j 0 ≡ get_or part j 0)
+    → CarriesTo s old last k → ((i : ℕ) → k * s ≤ i → get_or row i 0 ≡ get_or old i 0)
+    → CarriesTo s old next (k + 1)
+pixel_carries s k n old row part last next e l w p sums held carries rest =
+    carries_next s old next k p (λ j h.
+    held j (omega (arith, h, l))
+    ∙ sym (put_at row part (k * s) n j (omega (arith, w, e)) (omega (arith, l, e)) (omega (arith, h, e)))
+    ∙ at_pixel s k n old row part last e l w sums carries rest j h)
+
+-- all pixels are summed
+pub all_summed : (s : ℕ) (old new : List ℕ) → length old / s * s ≡ length old
+    → ((i : ℕ) → i < length old / s * s → get_or new i 0 ≡ summed_number LittleEndian 1 s old i)
+    → ((i : ℕ) → length old / s * s ≤ i → get_or new i 0 ≡ get_or old i 0)
+    → RowReplaced 1 (summed_number LittleEndian 1 s old) old new
+all_summed s old new whole done rest = record {
+  numbers = λ k h. one_number new k ∙ done k (omega (arith, h, whole));
+  behind = λ i h. rest i (omega (arith, h, whole));
+}
+
+-- ---- the bytes of the numbers of a row
+
+-- complements, digit by digit
+pub complemented : (f g : ℕ → ℕ) (n : ℕ) → ((j : ℕ) → j < n → f j ≡ 255 - g j) → ((j : ℕ) → g j < 256) → digits f n + digits g n + 1 ≡ 256 ^ n
+complemented f g zero e b = omega arith
+complemented f g (suc n) e b =
+    let d : 256 ^ n * (f n + g n) ≡ 256 ^ n * 255 = (let q : f n + g n ≡ 255 = omega (arith, e n (omega arith), b n) in ap (λ (m : ℕ). 256 ^ n * m) q) in
+    omega (arith, d, complemented f g n (λ j h. e j (omega (arith, h))) b, pow-suc 256 n)
+
+pub complements_invert : ComplementsInvert
+complements_invert size old new k z b e w =
+    let f : ℕ → ℕ = λ j. get_or new (k * size + j) 0 in
+    let g : ℕ → ℕ = λ j. get_or old (k * size + j) 0 in
+    let c : digits f size + digits g size + 1 ≡ 256 ^ size = complemented f g size (λ j h. e (k * size + j) (omega (arith, h, w))) (λ j. b (k * size + j)) in
+    little_digits size f z ∙ omega (arith, c) ∙ sym (ap (λ (m : ℕ). 256 ^ size - 1 - m) (little_digits size g z))
+
+pub power_pos : (n : ℕ) → 0 < 256 ^ n
+power_pos zero = omega arith
+power_pos (suc n) = omega (arith, power_pos n, pow-suc 256 n)
+
+digit_by : (f : ℕ → ℕ) (n j : ℕ) → ((i : ℕ) → f i < 256) → (j < n) ⊎ (n ≤ j) → j < suc n → (j < n → digits f n / 256 ^ j % 256 ≡ f j) → digits f (suc n) / 256 ^ j % 256 ≡ f j
+digit_by f n j b (inl l) h e =
+    let m : n ≡ j + (1 + (n - j - 1)) = omega (arith, l) in
+    let q : digits f (suc n) ≡ digits f n + 256 ^ j * (256 * (256 ^ (n - j - 1) * f n)) =
+    ap (λ (k : ℕ). digits f n + k * f n) (ap (λ (k : ℕ). 256 ^ k) m ∙ pow-add 256 j (1 + (n - j - 1)) ∙ ap (λ (k : ℕ). 256 ^ j * k) (pow-add 256 1 (n - j - 1))) ∙ omega arith in
+    ap (λ (k : ℕ). k / 256 ^ j % 256) q
+    ∙ ap (λ (k : ℕ). k % 256) (add-mul-div_left (digits f n) (256 * (256 ^ (n - j - 1) * f n)) (power_pos j))
+    ∙ add-mul-mod_self_left (digits f n / 256 ^ j) 256 (256 ^ (n - j - 1) * f n) ∙ e l
+digit_by f n j b (inr g) h e =
+    let m : j ≡ n = omega (arith, g, h) in
+    let q : digits f (suc n) ≡ f n * 256 ^ n + digits f n = omega arith in
+    ap (λ (k : ℕ). digits f (suc n) / 256 ^ k % 256) m
+    ∙ ap (λ (k : ℕ). k / 256 ^ n % 256) q
+    ∙ ap (λ (k : ℕ). k % 256) (div-mul-add (f n) (256 ^ n) (digits f n) (digits_lt f n b))
+    ∙ mod-eq_of_lt (b n) ∙ ap f (sym m)
+
+pub digit : (f : ℕ → ℕ) (n j : ℕ) → ((i : ℕ) → f i < 256) → j < n → digits f n / 256 ^ j % 256 ≡ f j
+digit f zero j b h = absurd (omega (arith, h))
+digit f (suc n) j b h = digit_by f n j b (cases_lt j n) h (digit f n j b)
+
+pub bytes_of_numbers : BytesOfNumbers
+bytes_of_numbers size row k j z b h =
+    let f : ℕ → ℕ = λ i. get_or row (k * size + i) 0 in
+    sym (ap (λ (m : ℕ). m / 256 ^ j % 256) (little_digits size f z) ∙ digit f size j (λ i. b (k * size + i)) h)
+
+-- ---- complements of bytes
+
+-- The bytes of a row below a position are complemented, and the others are unchanged.
+pub record Upto (n : ℕ) (old new : List ℕ) : Type 0 where
+  pub long : length new ≡ length old
+  pub done : (i : ℕ) → i < n → i < length old → get_or new i 0 ≡ 255 - get_or old i 0
+  pub rest : (i : ℕ) → n ≤ i → i < length old → get_or new i 0 ≡ get_or old i 0
+
+-- each lane of 255, less the byte
+pub complements : (xs : List ℕ) → length xs ≡ 16 → ((k : ℕ) → Fits w8 (get_or xs k 0)) → let v = zip2 (λ a b. (a + (2 ^ 8 - b)) % 2 ^ 8) (replicate 16 255) (take 16 xs) in
+    (i : ℕ) → i < length (put_chunk 0 xs v) → get_or (put_chunk 0 xs v) i 0 ≡ 255 - get_or xs i 0
+complements xs long fits i h =
+    let f : ℕ → ℕ → ℕ = λ a b. (a + (2 ^ 8 - b)) % 2 ^ 8 in
+    let t : length (take 16 xs) ≡ 16 = length-take-le 16 xs (omega (arith, long)) in
+    let most : ℕ = 255 in
+    let all : List ℕ = replicate 16 most in
+    let r : length all ≡ 16 = length-replicate 16 most in
+    let v : List ℕ = zip2 f all (take 16 xs) in
+    let lv : length v ≡ 16 = length-zip2 f all (take 16 xs) (omega (arith, r, t)) ∙ r in
+    let low : i < 16 = omega (arith, h, length-put_chunk 0 xs v, long) in
+    ap (λ (l : List ℕ). get_or l i 0) (put_chunk_whole xs v (long ∙ sym lv))
+    ∙ get_or-zip2 f all (take 16 xs) i 0 0 0 (omega (arith, low, r)) (omega (arith, low, t))
+    ∙ (λ j. f (get_or-replicate 16 i most 0 low j) (get_or-take 16 xs i 0 low j))
+    ∙ omega (arith, (fits i).fits)

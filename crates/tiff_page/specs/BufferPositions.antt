@@ -1,5 +1,5 @@
 -- Which positions of a buffer are written: rows a stride apart, in planes one after another.
-use Rattle.std.specs.Prelude.{◌≡◌, ℕ, ◌+◌, ◌-◌, ◌*◌, ◌/◌, ◌%◌, ◌<◌, ◌≤◌, ◌⊎◌, ◌++◌, List, length, replicate, slice_index}
+use Rattle.std.specs.Prelude.{◌≡◌, ℕ, zero, suc, ◌+◌, ◌-◌, ◌*◌, ◌/◌, ◌%◌, ◌<◌, ◌≤◌, ◌⊎◌, ◌++◌, List, length, replicate, slice_index}
 use Rattle.tiff_base.specs.declared.color.ColorType.{ColorType}
 use Rattle.tiff_base.specs.declared.tags.ByteOrder.{ByteOrder}
 use Rattle.tiff_page.specs.Page.{PageRecord}
@@ -94,26 +94,36 @@ module _ (p : PageRecord) (color : ColorType) (stride : ℕ) where
       region_byte file order p color (image_region p) (plane_of i) (i / stride % p.height)
       (i % stride)
 
--- A buffer contains these chunks of the image: of each of n planes the chunks below the j-th, and
--- the j-th chunk of the planes below `plane`. The buffer is otherwise unchanged.
-abbrev pub WritesBefore : List ℕ → ByteOrder → PageRecord → ColorType → ℕ → ℕ → ℕ → ℕ → List ℕ
-    → List ℕ → Type 0
-WritesBefore file order p color stride n j plane before new =
-    Writes (IsBefore p color stride n j plane) (image_byte p color stride file order) before new
+-- The chunk of a plane has room where it goes: its columns in a row, which has some bytes, and its
+-- rows above those of the next plane.
+pub record HasRoom (p : PageRecord) (color : ColorType) (stride rows top left k : ℕ) : Type 0 where
+  pub some : 0 < stride
+  pub columns : left + row_bytes p color (rect p k).width ≤ stride
+  pub above : top + (rect p k).height ≤ rows
 
--- the j-th chunk of each of n planes is written, after the chunks below it
-abbrev pub WritesNext : List ℕ → ByteOrder → PageRecord → ColorType → ℕ → ℕ → ℕ → List ℕ → List ℕ
-    → Type 0
-WritesNext file order p color stride n j old new =
-    (before : List ℕ) → WritesBefore file order p color stride n j 0 before old
-    → WritesBefore file order p color stride n j n before new
+-- a buffer is written twice
+pub record WritesTwice (first second : List ℕ → Type 0) : Type 0 where
+  pub mid : List ℕ
+  pub before : first mid
+  pub after : second mid
+
+-- The j-th chunk of each of n planes is written, that of each plane `rows` rows below that of the
+-- plane before it.
+abbrev pub WritesPlanes : List ℕ → ByteOrder → PageRecord → ColorType → ℕ → ℕ → ℕ → ℕ → ℕ → ℕ
+    → List ℕ → List ℕ → Type 0
+WritesPlanes file order p color j stride rows top left zero old new = new ≡ old
+WritesPlanes file order p color j stride rows top left (suc n) old new =
+    WritesTwice (WritesPlanes file order p color j stride rows top left n old)
+    (λ mid. WritesChunk file order p color (n * chunks_of_plane p + j) stride (n * rows + top) left
+    mid new)
 
 -- a list grows to hold the j-th chunk of each of n planes, which end at byte `end`
-abbrev pub GrowsByNext : List ℕ → ByteOrder → PageRecord → ColorType → ℕ → ℕ → ℕ → ℕ → List ℕ
-    → List ℕ → Type 0
-GrowsByNext file order p color stride n j end old new =
+abbrev pub GrowsByPlanes : List ℕ → ByteOrder → PageRecord → ColorType → ℕ → ℕ → ℕ → ℕ → ℕ → ℕ → ℕ
+    → List ℕ → List ℕ → Type 0
+GrowsByPlanes file order p color j stride rows top left n end old new =
     (total : ℕ) → end ≤ total
-    → WritesNext file order p color stride n j (filled_to total old) (filled_to total new)
+    → WritesPlanes file order p color j stride rows top left n (filled_to total old)
+    (filled_to total new)
 
 -- a position of a chunk in a buffer or of the chunks of further planes after it: n planes of `rows`
 -- rows of `len` bytes

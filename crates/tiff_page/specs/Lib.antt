@@ -1,3 +1,4 @@
+pub mod Lists
 pub mod Counts
 pub mod Page
 pub mod Checks
@@ -25,3 +26,4 @@ pub mod NumberBytes
 pub mod Samples
 pub mod Reach
 pub mod EarlyLaws
+pub mod ChunkAlone

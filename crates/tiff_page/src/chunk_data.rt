@@ -1,22 +1,37 @@
-//! Reads the data of a chunk from its start.
+//! The methods of compression that are read, and how the data of a chunk are read from its start.
 
 ghost use Rattle.std.specs.Prelude.{◌≡◌, ◌+◌, ◌<◌, ◌≤◌, ℕ, List, if◌then◌else◌, length, drop, [], Ok, IfOk, IfErr, OnOk, OnErr};
-ghost use Rattle.tiff_base.specs.Answers.{AsksOnly, IsCause, IsKept};
+ghost use Rattle.tiff_base.specs.Answers.{AsksOnly, Gives, IsCause, IsKept};
 ghost use Rattle.tiff_base.specs.SourceAndSink.{AreReadable, SourceRecord};
 ghost use Rattle.tiff_ifd.specs.Unpacking.{PackedReadable, IsLastPart, left_at};
-ghost use Rattle.tiff_page.specs.Methods.{method_fault};
-ghost use Rattle.tiff_page.specs.Methods.{data_by_method};
+ghost use Rattle.tiff_page.specs.Methods.{data_by_method, is_packed, method_fault};
 ghost use Rattle.tiff_page.specs.ChunkData.{bytes_left, Takes, Passes};
-ghost use Rattle.tiff_page.specs.Methods.{is_packed};
 ghost use Rattle.tiff_page.specs.Reach.{StoredReadable, Moves};
 ghost use Rattle.tiff_base.specs.declared.tags.ByteOrder.{ByteOrder};
 ghost use Rattle.tiff_page.specs.Page.{PageRecord};
 
-use tiff_base::error::{TiffError, TiffResult};
+use tiff_base::error::{TiffError, TiffResult, TiffUnsupportedError};
 use tiff_base::io::{IoKind, Source};
 use tiff_base::read::read_exact_at;
 use tiff_base::tags::CompressionMethod;
 use tiff_ifd::packbits::PackBitsCursor;
+
+/// Returns the `UnsupportedError` of a method that isn't read.
+pub(crate) fn method_fault(method: CompressionMethod) -> TiffResult<()>
+    ensures { Gives (λ _. tt) result (method_fault method) }
+{
+    match method {
+        CompressionMethod::None | CompressionMethod::PackBits => Ok(()),
+        method => Err(TiffUnsupportedError::UnsupportedCompressionMethod(method).into()),
+    }
+}
+
+/// Whether the counted bytes of a chunk alone are read, and are decompressed.
+pub(crate) fn is_packed(method: CompressionMethod) -> bool
+    ensures { result ≡ is_packed method }
+{
+    matches!(method, CompressionMethod::PackBits)
+}
 
 /// A position in the data of a chunk: at an offset in the file, in PackBits data, or after the last
 /// byte of these.
@@ -59,7 +74,7 @@ fn pass_packed<R: Source>(source: &mut R, position: &mut PackBitsCursor, n: u64)
 impl ChunkCursor {
     /// Returns a cursor at the start of the data of `count` bytes at offset `at`, which are
     /// uncompressed or compressed by PackBits.
-    #[tactic(auto, using(crate::proofs::Data::unpacked_out))]
+    #[tactic(auto, using(crate::proofs::ChunkRows::unpacked_out))]
     pub fn new(method: CompressionMethod, at: u64, count: u64) -> Self
         requires { method_fault method ≡ Ok tt }
         ensures rest { (file : List ℕ) → bytes_left file result ≡ data_by_method file method at
@@ -136,7 +151,7 @@ impl ChunkCursor {
     }
 
     /// Skips `n` bytes, or all that are left if there are fewer.
-    #[tactic(auto, using(crate::proofs::Data::passed_end))]
+    #[tactic(auto, using(crate::proofs::ChunkRows::passed_end))]
     #[inline(always)]
     pub fn pass<R: Source>(&mut self, source: &mut R, n: u64) -> TiffResult<()>
         ensures kept { IsKept R.told R.failures result source.old source.new }

@@ -114,8 +114,8 @@ impl ChunkReader<'_> {
         let chunk = self.index as usize;
         ChunkCursor::new(
             page.method,
-            page.offsets.as_slice()[chunk],
-            page.byte_counts.as_slice()[chunk],
+            page.offsets.get(chunk),
+            page.byte_counts.get(chunk),
         )
     }
 
@@ -202,67 +202,8 @@ impl ChunkReader<'_> {
             && matches!(page.predictor, Predictor::None)
     }
 
-    // Reads all rows of the chunk, which lie together, many at a time. The sink gets zeros where it
-    // has too few bytes.
-    fn adjacent_rows<R: Source, W: RowSink>(
-        &self,
-        source: &mut R,
-        destination: Destination,
-        sink: &mut W,
-    ) -> TiffResult<()>
-        requires read { IsRead (view.page self.now.format.page.now) self.now.format.color }
-        requires formed { method_fault self.now.format.page.now.method ≡ Ok tt }
-        requires listed { self.now.index < length self.now.format.page.now.offsets }
-        requires some { 0 < destination.stride }
-        requires together { LieTogether (view.page self.now.format.page.now) self.now.format.color
-            (row_bytes (view.page self.now.format.page.now) self.now.format.color
-            (rect (view.page self.now.format.page.now) self.now.index).width)
-            destination.left destination.stride }
-        requires room { (destination.top + (rect (view.page self.now.format.page.now)
-            self.now.index).height)
-            * destination.stride ≤ W.room sink.old }
-        requires few { (destination.top + (rect (view.page self.now.format.page.now)
-            self.now.index).height)
-            * destination.stride < 2 ^ 64 }
-        ensures later { W.goes_on sink.old sink.new }
-        ensures kept { IsKept R.told R.failures result source.old source.new }
-        ensures ok { OnOk result
-            (GrowsByChunk (R.told source.old).bytes self.now.format.order
-            (view.page self.now.format.page.now)
-            self.now.format.color
-            self.now.index destination.stride destination.top destination.left
-            (W.whole ((destination.top + (rect (view.page self.now.format.page.now)
-            self.now.index).height) * destination.stride))
-            (W.bytes sink.old) (W.bytes sink.new)) }
-        ensures answer { Answers (λ _. tt) result (fail_if
-            (is_short (R.told source.old).bytes self.now.format.order
-            (view.page self.now.format.page.now)
-            self.now.format.color self.now.index)
-            (tiff.IoError io.UnexpectedEof)) (R.failures source.old) (R.failures source.new) }
-        ensures asked { AsksOnly
-            (ChunkReadable (R.told source.old) (view.page self.now.format.page.now)
-            self.now.format.color
-            self.now.index) result }
-    {
-        let format = self.format;
-        let rows = self.height as usize;
-        let mut cursor = self.front();
-        let swapped = needs_swap(format.order, format.page);
-        let long = if swapped { SHORT_ROWS } else { W::LONG_ROWS };
-        let most = rows_at_once(&cursor, destination.stride, long);
-        let mut row = 0;
-        while row < rows {
-            let more = most.min(rows - row);
-            let at = (destination.top + row) * destination.stride;
-            let len = more * destination.stride;
-            let next = RowSlot { format, len, at };
-            sink.rows(source, &mut cursor, &next)?;
-            row += more;
-        }
-        Ok(())
-    }
-
-    /// Reads all rows of the chunk into a sink, which gets zeros where it has too few bytes.
+    /// Reads all rows of the chunk into a sink, which gets zeros where it has too few bytes: many at
+    /// a time if they lie together, else one by one.
     pub(crate) fn rows<R: Source, W: RowSink>(
         &self,
         source: &mut R,
@@ -302,10 +243,24 @@ impl ChunkReader<'_> {
             self.now.format.color
             self.now.index) result }
     {
-        if self.is_contiguous(destination) {
-            return self.adjacent_rows(source, destination, sink);
-        }
+        let format = self.format;
         let rows = self.height as usize;
+        if self.is_contiguous(destination) {
+            let mut cursor = self.front();
+            let swapped = needs_swap(format.order, format.page);
+            let long = if swapped { SHORT_ROWS } else { W::LONG_ROWS };
+            let most = rows_at_once(&cursor, destination.stride, long);
+            let mut row = 0;
+            while row < rows {
+                let more = most.min(rows - row);
+                let at = (destination.top + row) * destination.stride;
+                let len = more * destination.stride;
+                let next = RowSlot { format, len, at };
+                sink.rows(source, &mut cursor, &next)?;
+                row += more;
+            }
+            return Ok(());
+        }
         sink.zeros_to((destination.top + rows) * destination.stride)?;
         let all = ChunkBand {
             destination,

@@ -1,6 +1,8 @@
 //! Laws of the specifications. Each law is the contract of a function with an empty body.
+#![tactic(auto, using(crate::proofs::Rows::bytes_of_numbers, crate::proofs::ChunkAlone::chunk_alone, crate::proofs::PositionLaws::chunks_within, crate::proofs::Rows::complements_invert, crate::proofs::Requests::early_is_answered, crate::proofs::ChunkRows::image_of_chunks, crate::proofs::PositionLaws::no_fault, crate::proofs::Planes::some_bytes, crate::proofs::ChunkRows::unit_of_chunks))]
 
 ghost use Rattle.tiff_page.specs.Checks.{PageHasPassed};
+ghost use Rattle.tiff_page.specs.ChunkAlone.{ChunkAlone};
 ghost use Rattle.tiff_page.specs.EarlyLaws.{EarlyIsAnswered};
 ghost use Rattle.tiff_page.specs.Laws.{OneChunk, ChunksWithin, FirstFault, NoFault, PlacedEach, SomeBytes, ImageOfChunks, WholeRows, UnitOfChunks};
 ghost use Rattle.tiff_page.specs.Row.{ComplementsInvert, BytesOfNumbers};
@@ -70,4 +72,10 @@ pub fn early_is_answered()
 /// A page that the tags define passed each of its checks.
 pub fn page_has_passed()
     ensures { PageHasPassed }
+{}
+
+/// Of the lists of a page, a read of one chunk depends on the chunk's own offset and byte count, on
+/// how many chunks there are, and on what the color needs of the extra samples.
+pub fn chunk_alone()
+    ensures { ChunkAlone }
 {}

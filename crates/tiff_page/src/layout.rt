@@ -13,6 +13,7 @@ ghost use Rattle.tiff_page.specs.Buffers.{type_known};
 ghost use Rattle.tiff_base.specs.Sparing.{IsListFault};
 ghost use Rattle.tiff_page.specs.EarlyFaults.{WantsWhere};
 
+use crate::lists::ExtraSampleList;
 use crate::page::Page;
 use std::alloc::Global;
 use tiff_base::color::ColorType;
@@ -80,7 +81,7 @@ pub(crate) fn chunks_across(page: &Page) -> u64
 }
 
 /// Returns the number of chunks of a plane.
-#[tactic(auto, using(crate::proofs::Sizes::plane_some, crate::proofs::Sizes::plane_few))]
+#[tactic(auto, using(crate::proofs::PositionLaws::plane_some, crate::proofs::PositionLaws::plane_few))]
 pub fn chunks_of_plane(page: &Page) -> u32
     ensures count { result ≡ rects.chunks_of_plane (view.page page.now) }
     ensures some { 0 < result }
@@ -91,7 +92,7 @@ pub fn chunks_of_plane(page: &Page) -> u32
 }
 
 /// Returns the rectangle of a chunk, clipped to the image.
-#[tactic(auto, using(crate::proofs::Sizes::parts_some, crate::proofs::Sizes::column_fits, crate::proofs::Sizes::row_fits, crate::proofs::Sizes::column_in, crate::proofs::Sizes::row_in), unfolding(crate::specs::Rect::rect))]
+#[tactic(auto, using(crate::proofs::PositionLaws::parts_some, crate::proofs::PositionLaws::column_fits, crate::proofs::PositionLaws::row_fits, crate::proofs::PositionLaws::column_in, crate::proofs::PositionLaws::row_in), unfolding(crate::specs::Rect::rect))]
 pub fn rect(page: &Page, index: u32) -> ChunkRect
     ensures wide { 0 < result.width }
     ensures high { 0 < result.height }
@@ -150,12 +151,12 @@ fn no_color(page: &Page, alloc: Global) -> TiffResult<ColorType>
     ).into())
 }
 
-fn first_is_alpha(extra: &[ExtraSamples]) -> bool
+fn first_is_alpha(extra: &ExtraSampleList) -> bool
     ensures { result ≡ spec.first_is_alpha extra.now }
 {
     matches!(
-        extra,
-        [ExtraSamples::AssociatedAlpha, ..] | [ExtraSamples::UnassociatedAlpha, ..]
+        extra.first(),
+        Some(ExtraSamples::AssociatedAlpha | ExtraSamples::UnassociatedAlpha)
     )
 }
 
@@ -168,8 +169,8 @@ pub fn color_of(page: &Page, alloc: Global) -> TiffResult<ColorType>
     ensures memory { WantsWhere (IsListFault (spec.color_of (view.page page.now))) result }
 {
     let depth = page.depth;
-    let alpha = first_is_alpha(page.extra.as_slice());
-    let photometric = usize::from(page.samples) - page.extra.as_slice().len();
+    let alpha = first_is_alpha(&page.extra);
+    let photometric = usize::from(page.samples) - page.extra.len();
     match page.interpretation {
         PhotometricInterpretation::RGB => match photometric {
             3 => Ok(if alpha {
@@ -319,7 +320,7 @@ pub fn planes(page: &Page, color: ColorType) -> u16
     }
 }
 
-#[tactic(auto, using(crate::proofs::Sizes::bits_few, crate::proofs::Sizes::bits_fit))]
+#[tactic(auto, using(crate::proofs::PositionLaws::bits_few, crate::proofs::PositionLaws::bits_fit))]
 pub(crate) fn bits(width: u32, depth: u8, samples: u16) -> usize
     ensures value { result ≡ width * depth * samples }
     ensures few { result < 2 ^ 56 }

@@ -1,20 +1,30 @@
-//! The rows of a chunk as they are output.
+//! The rows of a chunk as they are output, and how the next of them, or the next bytes of several,
+//! are read.
 
-ghost use Rattle.std.specs.Prelude.{◌≡◌, ◌+◌, ◌*◌, ◌/◌, ◌%◌, ◌^◌, ◌<◌, ◌≤◌, ◌⊎◌, ◌||◌, ℕ, List, true, false, length, slice_index, EachIndex};
+ghost use Rattle.std.specs.Prelude.{◌≡◌, ◌+◌, ◌*◌, ◌/◌, ◌%◌, ◌^◌, ◌<◌, ◌≤◌, ◌⊎◌, ◌||◌, ℕ, List, true, false, length, slice_index, EachIndex, OnOk};
 ghost use Rattle.tiff_base.specs.declared.tags.ByteOrder.{ByteOrder};
 ghost use Rattle.tiff_base.specs.declared.tags.ByteOrder.TheVariants.{LittleEndian};
 ghost use Rattle.tiff_page.specs.Layout as layouts;
 ghost use Rattle.tiff_page.specs.Pixels as pixels;
 ghost use Rattle.tiff_page.specs.Row.{IsSize, RowReplaced};
 ghost use Rattle.tiff_page.specs.OutputRow as spec;
-ghost use Rattle.tiff_page.specs.OutputRow.{HoldsNumbersOf, handed_byte};
+ghost use Rattle.tiff_page.specs.OutputRow.{HoldsNumbersOf, handed_byte, needs_swap};
 ghost use Rattle.tiff_page.specs.ReadablePage.{FormRead, IsRead};
 ghost use Rattle.tiff_page.specs.PageView as view;
+ghost use Rattle.tiff_base.specs.Answers.{AsksOnly, IsKept};
+ghost use Rattle.tiff_page.specs.Layout.{row_bytes};
+ghost use Rattle.tiff_page.specs.Pixels.{needed_of_row, needs_whole_rows, stored_row_bytes};
+ghost use Rattle.tiff_page.specs.RowReads.{RowRead};
+ghost use Rattle.tiff_page.specs.Reach.{StoredReadable, Moves};
 
+use crate::chunk_data::ChunkCursor;
 use crate::layout::{bits, row_bits, samples_in_chunk};
 use crate::page::Page;
 use crate::predictors::{invert, to_little_endian, undo_float_predictor, undo_horizontal};
+use std::alloc::Global;
 use tiff_base::color::ColorType;
+use tiff_base::error::TiffResult;
+use tiff_base::io::Source;
 use tiff_base::tags::{ByteOrder, PhotometricInterpretation, PlanarConfiguration, Predictor};
 
 /// How the rows of a chunk are stored and output: the page and the byte order of its numbers, and
@@ -240,3 +250,154 @@ impl RowFormat<'_> {
 pub fn form_read()
     ensures { FormRead }
 {}
+
+/// Scratch buffers for a whole stored row, and for bytes before their byte planes are joined or
+/// their numbers are byte-swapped.
+#[derive(Drop)]
+pub struct RowScratch {
+    row: Vec<u8>,
+    other: Vec<u8>,
+}
+
+impl RowScratch {
+    /// Returns empty scratch buffers.
+    pub fn new(alloc: Global) -> Self {
+        RowScratch {
+            row: Vec::new(alloc),
+            other: Vec::new(alloc),
+        }
+    }
+}
+
+impl RowFormat<'_> {
+    // Reads the next row into a buffer, if this needs the whole stored row.
+    #[tactic(auto, using(crate::proofs::ChunkRows::whole_taken, crate::proofs::ChunkRows::whole_cause))]
+    #[inline(always)]
+    fn read_whole_row<R: Source>(
+        &self,
+        source: &mut R,
+        cursor: &mut ChunkCursor,
+        room: &mut RowScratch,
+        out: &mut [u8],
+    ) -> TiffResult<()>
+        requires read { IsRead (view.page self.now.page.now) self.now.color }
+        requires whole { needs_whole_rows (view.page self.now.page.now) self.now.color ≡ true }
+        requires width { self.now.width ≤ self.now.page.now.chunk_width }
+        requires out { length out.old
+            ≡ row_bytes (view.page self.now.page.now) self.now.color self.now.width }
+        ensures kept { IsKept R.told R.failures result source.old source.new }
+        ensures row { RowRead (R.told source.old).bytes self.now.order
+            (view.page self.now.page.now) self.now.color cursor.old cursor.new
+            (R.failures source.old < R.failures source.new) out.new result }
+        ensures asked { AsksOnly (StoredReadable (R.told source.old) cursor.old
+            (stored_row_bytes (view.page self.now.page.now))) result }
+        ensures moves { OnOk result
+            (Moves cursor.old (stored_row_bytes (view.page self.now.page.now)) cursor.new) }
+    {
+        let page = self.page;
+        cursor.read_grown(source, &mut room.row, stored_row_bytes(page))?;
+        if matches!(page.predictor, Predictor::FloatingPoint) || needs_swap(self.order, page) {
+            room.other.resize(room.row.len(), 0)?;
+        }
+        self.finish_whole_row(&mut room.row, &mut room.other, out);
+        Ok(())
+    }
+
+    /// Reads the next bytes into a buffer as they are output, if this needs no whole stored rows.
+    /// Numbers that are byte-swapped come by way of a scratch buffer.
+    #[tactic(auto, using(crate::proofs::ChunkRows::row_taken, crate::proofs::ChunkRows::row_cause))]
+    #[inline(always)]
+    pub(crate) fn read_finished<R: Source>(
+        &self,
+        source: &mut R,
+        cursor: &mut ChunkCursor,
+        room: &mut RowScratch,
+        out: &mut [u8],
+    ) -> TiffResult<()>
+        requires read { IsRead (view.page self.now.page.now) self.now.color }
+        requires in_place { needs_whole_rows (view.page self.now.page.now) self.now.color
+            ≡ false }
+        requires whole { (self.now.page.now.depth < 8)
+            ⊎ (length out.old / (self.now.page.now.depth / 8)
+            * (self.now.page.now.depth / 8) ≡ length out.old) }
+        ensures kept { IsKept R.told R.failures result source.old source.new }
+        ensures row { RowRead (R.told source.old).bytes self.now.order
+            (view.page self.now.page.now) self.now.color cursor.old cursor.new
+            (R.failures source.old < R.failures source.new) out.new result }
+        ensures asked { AsksOnly (StoredReadable (R.told source.old) cursor.old (length out.old))
+            result }
+        ensures moves { OnOk result (Moves cursor.old (length out.old) cursor.new) }
+    {
+        if needs_swap(self.order, self.page) {
+            room.other.resize(out.len(), 0)?;
+            cursor.read(source, &mut room.other)?;
+            to_little_endian(&room.other, usize::from(self.page.depth / 8), out);
+            finish_row(self.page, self.color, out);
+            return Ok(());
+        }
+        cursor.read(source, out)?;
+        finish_row(self.page, self.color, out);
+        Ok(())
+    }
+
+    // Reads the next row as `read_row` does, if its stored bytes are changed on their way. It isn't
+    // inlined, so that the loop over rows that are only copied stays small.
+    #[inline(never)]
+    fn read_changed_row<R: Source>(
+        self,
+        source: &mut R,
+        cursor: &mut ChunkCursor,
+        room: &mut RowScratch,
+        out: &mut [u8],
+    ) -> TiffResult<()>
+        requires read { IsRead (view.page self.page.now) self.color }
+        requires width { self.width ≤ self.page.now.chunk_width }
+        requires out { length out.old ≡ row_bytes (view.page self.page.now) self.color self.width }
+        ensures kept { IsKept R.told R.failures result source.old source.new }
+        ensures row { RowRead (R.told source.old).bytes self.entry.order
+            (view.page self.entry.page.now) self.entry.color cursor.old cursor.new
+            (R.failures source.old < R.failures source.new) out.new result }
+        ensures asked { AsksOnly (StoredReadable (R.told source.old) cursor.old
+            (needed_of_row (view.page self.entry.page.now) self.entry.color (length out.old)))
+            result }
+        ensures moves { OnOk result (Moves cursor.old
+            (needed_of_row (view.page self.entry.page.now) self.entry.color (length out.old))
+            cursor.new) }
+    {
+        if needs_whole_rows(self.page, self.color) {
+            return self.read_whole_row(source, cursor, room, out);
+        }
+        self.read_finished(source, cursor, room, out)
+    }
+
+    /// Reads the next row into a buffer as it is output.
+    #[inline(always)]
+    pub(crate) fn read_row<R: Source>(
+        &self,
+        source: &mut R,
+        cursor: &mut ChunkCursor,
+        room: &mut RowScratch,
+        out: &mut [u8],
+    ) -> TiffResult<()>
+        requires read { IsRead (view.page self.now.page.now) self.now.color }
+        requires width { self.now.width ≤ self.now.page.now.chunk_width }
+        requires out { length out.old
+            ≡ row_bytes (view.page self.now.page.now) self.now.color self.now.width }
+        ensures kept { IsKept R.told R.failures result source.old source.new }
+        ensures row { RowRead (R.told source.old).bytes self.now.order
+            (view.page self.now.page.now) self.now.color cursor.old cursor.new
+            (R.failures source.old < R.failures source.new) out.new result }
+        ensures asked { AsksOnly (StoredReadable (R.told source.old) cursor.old
+            (needed_of_row (view.page self.now.page.now) self.now.color (length out.old)))
+            result }
+        ensures moves { OnOk result (Moves cursor.old
+            (needed_of_row (view.page self.now.page.now) self.now.color (length out.old))
+            cursor.new) }
+    {
+        if needs_whole_rows(self.page, self.color) || needs_swap(self.order, self.page) {
+            self.read_changed_row(source, cursor, room, out)?;
+            return Ok(());
+        }
+        self.read_finished(source, cursor, room, out)
+    }
+}

@@ -50,3 +50,12 @@ pub struct Page {
     ghost counted_bytes: { length byte_counts ≡ length offsets },
     ghost few: { length offsets < 2 ^ 32 },
 }
+
+impl Page {
+    /// The number of extra samples, at most that of the samples.
+    pub fn extra_count(&self) -> u16
+        ensures { result ≡ length self.now.extra }
+    {
+        self.extra.len().min(usize::from(self.samples)) as u16
+    }
+}

@@ -27,15 +27,16 @@ ghost use Rattle.tiff_page.specs.PageView as view;
 ghost use Rattle.tiff_page.specs.declared.layout.DecodingSampleType.TheVariants as type;
 
 use crate::buffers::{all_planes, planes_layout, unit_fault};
-use crate::faults::{form_fault, limit_fault};
+use crate::chunk_rows::Destination;
+use crate::faults::{early_fault, form_fault, limit_fault};
 use crate::layout::{
     BufferLayoutPreference, DecodingSampleType, PlaneLayout, checked_byte_count,
     chunk_data_dimensions, planes, sample_type_of, size_of,
 };
 use crate::numbers::Number;
+use crate::output_row::RowScratch;
 use crate::page::Page;
-use crate::page_reader::{ImagePlanes, PageReader, UnitRequest};
-use crate::row_reader::RowScratch;
+use crate::page_reader::{ImagePlanes, PageReader, PlaneChunks};
 use crate::row_sink::{ByteList, ByteSlice, NumberList, RowSink};
 use crate::samples::{ReadRequest, Samples};
 use std::alloc::Global;
@@ -71,7 +72,7 @@ fn stride_fault(stride: usize, row_bytes: usize) -> TiffResult<()>
 }
 
 // Returns how many whole planes a slice of `len` bytes holds.
-#[tactic(auto, using(crate::proofs::PixelSteps::whole_planes, crate::proofs::PixelSteps::one_plane))]
+#[tactic(auto, using(crate::proofs::Planes::whole_planes, crate::proofs::Planes::plane_held))]
 fn planes_used(page: &Page, layout: PlaneLayout, len: usize) -> u16
     requires plane { 0 < layout.plane_stride }
     requires some { 0 < layouts.planes page.now.planar layout.color }
@@ -85,7 +86,7 @@ fn planes_used(page: &Page, layout: PlaneLayout, len: usize) -> u16
 }
 
 // Returns the layout of a chunk as a part of its page.
-#[tactic(auto, using(crate::proofs::PixelSteps::colored, crate::proofs::PixelSteps::columns, crate::proofs::PixelSteps::stride))]
+#[tactic(auto, using(crate::proofs::Planes::colored, crate::proofs::Planes::columns, crate::proofs::Planes::stride))]
 fn chunk_layout(page: &Page, alloc: Global, index: u32) -> TiffResult<PlaneLayout>
     ensures answer { AnswersWithoutSource view.layout result
         (buffers.planes_layout (view.page page.now) (rects.rect (view.page page.now) index).width
@@ -104,7 +105,7 @@ fn chunk_layout(page: &Page, alloc: Global, index: u32) -> TiffResult<PlaneLayou
 }
 
 // Returns how many bytes the rows of a chunk take if they are `stride` bytes apart.
-#[tactic(auto, using(crate::proofs::PixelSteps::height_within, crate::proofs::PixelSteps::rows_fit))]
+#[tactic(auto, using(crate::proofs::Planes::height_within, crate::proofs::Planes::rows_fit))]
 fn rows_len(page: &Page, index: u32, stride: usize) -> usize
     requires wide { stride * page.now.chunk_height < 2 ^ 64 }
     ensures value { result ≡ stride * (rects.rect (view.page page.now) index).height }
@@ -172,12 +173,18 @@ impl PageReader<'_> {
         ensures none { IfOk result (λ v. v.items ≡ []) }
     {
         limit_fault(self.limits, size_of(sample_type), len)?;
-        self.early_fault(source, request.color(), request.first())?;
+        early_fault(
+            self.page,
+            self.limits,
+            source,
+            request.color(),
+            request.first(),
+        )?;
         Ok(Vec::with_capacity(self.alloc, len.div_ceil(N))?)
     }
 
-    // Reads the image or the chunk of a request into a sink, which gets zeros where it has too few
-    // bytes.
+    // Reads the image or the chunks of a request into a sink, which gets zeros where it has too few
+    // bytes. Chunks of several planes go one after another.
     fn requested<R: Source, W: RowSink>(
         &self,
         source: &mut R,
@@ -200,13 +207,20 @@ impl PageReader<'_> {
                 self.image(source, ImagePlanes { layout, planes }, sink)
             }
             ReadRequest::Chunks(color, index, planes, stride) => {
-                let unit = UnitRequest {
+                let (_, rows) = chunk_data_dimensions(self.page, index);
+                let first = Destination {
+                    top: 0,
+                    left: 0,
+                    stride,
+                };
+                let chunks = PlaneChunks {
                     color,
                     index,
                     planes,
-                    stride,
+                    first,
+                    rows,
                 };
-                self.unit(source, unit, sink)
+                self.plane_chunks(source, chunks, sink)
             }
         }
     }
@@ -343,7 +357,7 @@ impl PageReader<'_> {
     }
 
     /// Returns the samples of an image, row by row; of a planar image, those of its first plane.
-    #[tactic(auto, using(crate::proofs::Planes::image_is_first_plane, crate::proofs::Wants::layout_wanted))]
+    #[tactic(auto, using(crate::proofs::Planes::image_is_first_plane, crate::proofs::PassedChecks::layout_wanted))]
     pub fn read_image<R: Source>(&self, source: &mut R) -> TiffResult<Samples>
         ensures kept { IsKept R.told R.failures result source.old source.new }
         ensures memory { WantsAfter
@@ -364,7 +378,7 @@ impl PageReader<'_> {
 
     /// Returns the samples of all planes of an image, with the layout of all planes. If all planes
     /// aren't within `decoding_buffer_size`, returns the samples of the first plane only.
-    #[tactic(auto, using(crate::proofs::Wants::layout_wanted), unfolding(crate::specs::PixelCalls::read_image_to_buffer))]
+    #[tactic(auto, using(crate::proofs::PassedChecks::layout_wanted), unfolding(crate::specs::PixelCalls::read_image_to_buffer))]
     pub fn read_image_to_buffer<R: Source>(
         &self,
         source: &mut R,
@@ -395,7 +409,7 @@ impl PageReader<'_> {
     /// Reads an image into a slice: as many whole planes as the slice holds, one after another. The
     /// bytes after them stay unchanged. Returns `InsufficientOutputBufferSize` if the slice has
     /// fewer bytes than a plane.
-    #[tactic(auto, using(crate::proofs::Wants::may_want, crate::proofs::Wants::layout_wanted), unfolding(crate::specs::PixelCalls::read_image_bytes))]
+    #[tactic(auto, using(crate::proofs::PassedChecks::may_want, crate::proofs::PassedChecks::layout_wanted), unfolding(crate::specs::PixelCalls::read_image_bytes))]
     pub fn read_image_bytes<R: Source>(&self, source: &mut R, buf: &mut [u8]) -> TiffResult<()>
         ensures kept { IsKept R.told R.failures result source.old source.new }
         ensures memory { WantsAfter
@@ -419,7 +433,7 @@ impl PageReader<'_> {
 
     /// Returns the samples of a chunk, in rows of its own width in the image. Returns
     /// `InconsistentSizesEncountered` if the index is past the list of chunks.
-    #[tactic(auto, using(crate::proofs::Wants::layout_wanted), unfolding(crate::specs::PixelCalls::read_chunk))]
+    #[tactic(auto, using(crate::proofs::PassedChecks::layout_wanted), unfolding(crate::specs::PixelCalls::read_chunk))]
     pub fn read_chunk<R: Source>(&self, source: &mut R, index: u32) -> TiffResult<Samples>
         ensures kept { IsKept R.told R.failures result source.old source.new }
         ensures memory { WantsAfter
@@ -441,7 +455,7 @@ impl PageReader<'_> {
     /// Reads a chunk into a slice, in rows of its own width in the image. The bytes after the chunk
     /// stay unchanged. Returns `InsufficientOutputBufferSize` if the slice has fewer bytes than the
     /// chunk, and `InconsistentSizesEncountered` if the index is past the list of chunks.
-    #[tactic(auto, using(crate::proofs::Wants::may_want, crate::proofs::Wants::layout_wanted), unfolding(crate::specs::PixelCalls::read_chunk_bytes))]
+    #[tactic(auto, using(crate::proofs::PassedChecks::may_want, crate::proofs::PassedChecks::layout_wanted), unfolding(crate::specs::PixelCalls::read_chunk_bytes))]
     pub fn read_chunk_bytes<R: Source>(
         &self,
         source: &mut R,
@@ -471,7 +485,7 @@ impl PageReader<'_> {
     /// Returns `InsufficientOutputRowStride` if the stride is below the number of bytes of a row;
     /// `LimitsExceeded` if the stored height of a chunk in such rows has 2^64 bytes or more;
     /// `InconsistentSizesEncountered` if the index is past the list of chunks.
-    #[tactic(auto, using(crate::proofs::Wants::layout_wanted), unfolding(crate::specs::PixelCalls::read_chunk_to_buffer))]
+    #[tactic(auto, using(crate::proofs::PassedChecks::layout_wanted), unfolding(crate::specs::PixelCalls::read_chunk_to_buffer))]
     pub fn read_chunk_to_buffer<R: Source>(
         &self,
         source: &mut R,
@@ -503,7 +517,7 @@ impl PageReader<'_> {
     /// slice holds, one after another. The bytes after them stay unchanged. Returns
     /// `InvalidCodingUnit(unit, chunks)` if the unit isn't below the number of chunks of a plane,
     /// and `InsufficientOutputBufferSize` if the slice has fewer bytes than a chunk.
-    #[tactic(auto, using(crate::proofs::Wants::may_want, crate::proofs::Wants::layout_wanted), unfolding(crate::specs::PixelCalls::read_coding_unit_bytes))]
+    #[tactic(auto, using(crate::proofs::PassedChecks::may_want, crate::proofs::PassedChecks::layout_wanted), unfolding(crate::specs::PixelCalls::read_coding_unit_bytes))]
     pub fn read_coding_unit_bytes<R: Source>(
         &self,
         source: &mut R,

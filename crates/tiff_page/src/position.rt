@@ -1,5 +1,6 @@
 //! Laws of how chunks are placed in a buffer. Each law is the contract of a function with an empty
 //! body.
+#![tactic(auto, using(crate::proofs::Covering::chunks_written, crate::proofs::Covering::image_written, crate::proofs::Covering::no_plane_written, crate::proofs::Covering::none_written, crate::proofs::Covering::planes_written, crate::proofs::ChunkRows::row_handed, crate::proofs::Covering::unit_written))]
 
 ghost use Rattle.tiff_page.specs.OutputRow.{RowHanded};
 ghost use Rattle.tiff_page.specs.PositionLaws.{RowWritten, ChunkWritten, ChunksWritten, PlanesWritten, NoneWritten, ImageWritten, UnitPlaneWritten, NoPlaneWritten, UnitWritten};

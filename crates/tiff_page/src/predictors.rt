@@ -45,34 +45,32 @@ fn turn_u64(row: &[u8], k: usize, out: &mut [u8])
     out[at..at + 8].copy_from_slice(&number.to_le_bytes());
 }
 
-// Each function byte-swaps the big-endian numbers of a row.
-fn turn_u16s(row: &[u8], out: &mut [u8])
-    requires { length out.old ≡ length row.now }
-    ensures { TurnsNumbers 2 row.now out.new }
+// Byte-swaps the big-endian number of `size` bytes, two or more, at one position of a row.
+fn turn_number(row: &[u8], k: usize, size: usize, out: &mut [u8])
+    requires size { IsSize size }
+    requires several { 1 < size }
+    requires row { (k + 1) * size ≤ length row.now }
+    requires out { length out.old ≡ length row.now }
+    ensures { TurnsNumber size row.now k out.old out.new }
 {
-    let count = row.len() / 2;
-    for k in 0..count {
-        turn_u16(row, k, out);
+    match size {
+        2 => turn_u16(row, k, out),
+        4 => turn_u32(row, k, out),
+        _ => turn_u64(row, k, out),
     }
 }
 
-fn turn_u32s(row: &[u8], out: &mut [u8])
-    requires { length out.old ≡ length row.now }
-    ensures { TurnsNumbers 4 row.now out.new }
+// Byte-swaps the big-endian numbers of a row. If `size` is a constant, the loop is compiled for it.
+#[inline(always)]
+fn turn_numbers(row: &[u8], size: usize, out: &mut [u8])
+    requires size { IsSize size }
+    requires several { 1 < size }
+    requires out { length out.old ≡ length row.now }
+    ensures { TurnsNumbers size row.now out.new }
 {
-    let count = row.len() / 4;
+    let count = row.len() / size;
     for k in 0..count {
-        turn_u32(row, k, out);
-    }
-}
-
-fn turn_u64s(row: &[u8], out: &mut [u8])
-    requires { length out.old ≡ length row.now }
-    ensures { TurnsNumbers 8 row.now out.new }
-{
-    let count = row.len() / 8;
-    for k in 0..count {
-        turn_u64(row, k, out);
+        turn_number(row, k, size, out);
     }
 }
 
@@ -84,9 +82,9 @@ pub fn to_little_endian(row: &[u8], size: usize, out: &mut [u8])
     ensures { TurnsNumbers size row.now out.new }
 {
     match size {
-        2 => turn_u16s(row, out),
-        4 => turn_u32s(row, out),
-        8 => turn_u64s(row, out),
+        2 => turn_numbers(row, 2, out),
+        4 => turn_numbers(row, 4, out),
+        8 => turn_numbers(row, 8, out),
         _ => out.copy_from_slice(row),
     }
 }

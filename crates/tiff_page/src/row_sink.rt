@@ -15,8 +15,7 @@ ghost use Rattle.tiff_page.specs.PageView as view;
 
 use crate::chunk_data::ChunkCursor;
 use crate::numbers::{Number, append_row, grow, put_row};
-use crate::output_row::RowFormat;
-use crate::row_reader::RowScratch;
+use crate::output_row::{RowFormat, RowScratch};
 use std::alloc::{AllocError, Global};
 use tiff_base::error::TiffResult;
 use tiff_base::io::Source;
@@ -28,73 +27,6 @@ pub struct RowSlot<'a> {
     pub format: RowFormat<'a>,
     pub len: usize,
     pub at: usize,
-}
-
-impl RowSlot<'_> {
-    // Reads the next row of a chunk to its position in a slice.
-    #[tactic(auto, using(crate::proofs::PositionsPut::put_in_place))]
-    #[inline(always)]
-    fn row<R: Source>(
-        &self,
-        source: &mut R,
-        cursor: &mut ChunkCursor,
-        scratch: &mut RowScratch,
-        out: &mut [u8],
-    ) -> TiffResult<()>
-        requires read { IsRead (view.page self.now.format.page.now) self.now.format.color }
-        requires width { self.now.format.width ≤ self.now.format.page.now.chunk_width }
-        requires len { self.now.len ≡ row_bytes (view.page self.now.format.page.now)
-            self.now.format.color self.now.format.width }
-        requires there { self.now.at + self.now.len ≤ length out.old }
-        ensures kept { IsKept R.told R.failures result source.old source.new }
-        ensures row { RowPut (R.told source.old).bytes self.now.format.order
-            (view.page self.now.format.page.now)
-            self.now.format.color cursor.old cursor.new
-            (R.failures source.old < R.failures source.new) self.now.at self.now.len
-            out.old out.new result }
-        ensures asked { AsksOnly
-            (StoredReadable (R.told source.old) cursor.old
-            (needed_of_row (view.page self.now.format.page.now) self.now.format.color
-            self.now.len)) result }
-        ensures moves { OnOk result (Moves cursor.old
-            (needed_of_row (view.page self.now.format.page.now) self.now.format.color self.now.len)
-            cursor.new) }
-    {
-        let row = &mut out[self.at..self.at + self.len];
-        self.format.read_row(source, cursor, scratch, row)
-    }
-
-    // Reads the next bytes of a chunk, as they are returned, to their position in a slice, if this
-    // needs no whole stored rows.
-    #[tactic(auto, using(crate::proofs::PositionsPut::put_in_place))]
-    #[inline(always)]
-    fn rows<R: Source>(
-        &self,
-        source: &mut R,
-        cursor: &mut ChunkCursor,
-        scratch: &mut RowScratch,
-        out: &mut [u8],
-    ) -> TiffResult<()>
-        requires read { IsRead (view.page self.now.format.page.now) self.now.format.color }
-        requires in_place { needs_whole_rows (view.page self.now.format.page.now)
-            self.now.format.color ≡ false }
-        requires whole { (self.now.format.page.now.depth < 8)
-            ⊎ (self.now.len / (self.now.format.page.now.depth / 8) *
-            (self.now.format.page.now.depth / 8) ≡ self.now.len) }
-        requires there { self.now.at + self.now.len ≤ length out.old }
-        ensures kept { IsKept R.told R.failures result source.old source.new }
-        ensures row { RowPut (R.told source.old).bytes self.now.format.order
-            (view.page self.now.format.page.now)
-            self.now.format.color cursor.old cursor.new
-            (R.failures source.old < R.failures source.new) self.now.at self.now.len
-            out.old out.new result }
-        ensures asked { AsksOnly (StoredReadable (R.told source.old) cursor.old self.now.len)
-            result }
-        ensures moves { OnOk result (Moves cursor.old self.now.len cursor.new) }
-    {
-        let row = &mut out[self.at..self.at + self.len];
-        self.format.read_finished(source, cursor, scratch, row)
-    }
 }
 
 /// Where the rows of chunks go, seen as bytes. A slice has all its bytes, and those where no row
@@ -246,6 +178,7 @@ impl<'a> RowSink for ByteSlice<'a> {
         Ok(())
     }
 
+    #[tactic(auto, using(crate::proofs::NumberBytes::put_in_place))]
     #[inline(always)]
     fn row<R: Source>(
         &mut self,
@@ -253,9 +186,11 @@ impl<'a> RowSink for ByteSlice<'a> {
         cursor: &mut ChunkCursor,
         next: &RowSlot<'_>,
     ) -> TiffResult<()> {
-        next.row(source, cursor, self.scratch, self.out)
+        let row = &mut self.out[next.at..next.at + next.len];
+        next.format.read_row(source, cursor, self.scratch, row)
     }
 
+    #[tactic(auto, using(crate::proofs::NumberBytes::put_in_place))]
     #[inline(always)]
     fn rows<R: Source>(
         &mut self,
@@ -263,7 +198,8 @@ impl<'a> RowSink for ByteSlice<'a> {
         cursor: &mut ChunkCursor,
         next: &RowSlot<'_>,
     ) -> TiffResult<()> {
-        next.rows(source, cursor, self.scratch, self.out)
+        let row = &mut self.out[next.at..next.at + next.len];
+        next.format.read_finished(source, cursor, self.scratch, row)
     }
 
     fn place(&mut self, at: usize, row: &[u8]) -> Result<(), AllocError> {
@@ -304,40 +240,6 @@ impl ByteList {
         }
     }
 
-    // Reads the next bytes of a chunk, as they are output, into a scratch buffer, and writes them
-    // to their position.
-    #[inline(always)]
-    fn copied_rows<R: Source>(
-        &mut self,
-        source: &mut R,
-        cursor: &mut ChunkCursor,
-        next: &RowSlot<'_>,
-    ) -> TiffResult<()>
-        requires read { IsRead (view.page next.now.format.page.now) next.now.format.color }
-        requires in_place { needs_whole_rows (view.page next.now.format.page.now)
-            next.now.format.color ≡ false }
-        requires whole { (next.now.format.page.now.depth < 8)
-            ⊎ (next.now.len / (next.now.format.page.now.depth / 8) *
-            (next.now.format.page.now.depth / 8) ≡ next.now.len) }
-        requires fits { next.now.at + next.now.len < 2 ^ 64 }
-        ensures kept { IsKept R.told R.failures result source.old source.new }
-        ensures row { RowPut (R.told source.old).bytes next.now.format.order
-            (view.page next.now.format.page.now)
-            next.now.format.color cursor.old cursor.new
-            (R.failures source.old < R.failures source.new) next.now.at next.now.len
-            (filled_to (next.now.at + next.now.len) self.old.bytes.items)
-            self.new.bytes.items result }
-        ensures asked { AsksOnly (StoredReadable (R.told source.old) cursor.old next.now.len)
-            result }
-        ensures moves { OnOk result (Moves cursor.old next.now.len cursor.new) }
-    {
-        self.row.resize(next.len, 0)?;
-        next.format
-            .read_finished(source, cursor, &mut self.scratch, &mut self.row)?;
-        append_row::<u8, 1>(&mut self.bytes, next.at, &self.row)?;
-        Ok(())
-    }
-
     /// Returns the list.
     pub fn into_bytes(self) -> Vec<u8>
         ensures { result ≡ self.bytes }
@@ -373,7 +275,8 @@ impl RowSink for ByteList {
         cursor: &mut ChunkCursor,
         next: &RowSlot<'_>,
     ) -> TiffResult<()> {
-        next.row(source, cursor, &mut self.scratch, &mut self.bytes)
+        let row = &mut self.bytes[next.at..next.at + next.len];
+        next.format.read_row(source, cursor, &mut self.scratch, row)
     }
 
     #[inline(always)]
@@ -385,10 +288,16 @@ impl RowSink for ByteList {
     ) -> TiffResult<()> {
         let end = next.at + next.len;
         if self.bytes.len() < end && next.len <= LONGEST_COPIED {
-            return self.copied_rows(source, cursor, next);
+            self.row.resize(next.len, 0)?;
+            next.format
+                .read_finished(source, cursor, &mut self.scratch, &mut self.row)?;
+            append_row::<u8, 1>(&mut self.bytes, next.at, &self.row)?;
+            return Ok(());
         }
         self.zeros_to(end)?;
-        next.rows(source, cursor, &mut self.scratch, &mut self.bytes)
+        let row = &mut self.bytes[next.at..next.at + next.len];
+        next.format
+            .read_finished(source, cursor, &mut self.scratch, row)
     }
 
     fn place(&mut self, at: usize, row: &[u8]) -> Result<(), AllocError> {
@@ -450,12 +359,12 @@ impl<T: Number<N>, const N: usize> RowSink for NumberList<T, N> {
 
     const GROWS: bool = true;
 
-    #[tactic(auto, using(crate::proofs::NumberBytes::some_size))]
+    #[tactic(auto, using(crate::proofs::Rows::some_size))]
     fn zeros_to(&mut self, len: usize) -> Result<(), AllocError> {
         grow(&mut self.numbers, len.div_ceil(N))
     }
 
-    #[tactic(auto, using(crate::proofs::PositionsPut::put_from_room, crate::proofs::NumberBytes::some_size))]
+    #[tactic(auto, using(crate::proofs::NumberBytes::put_from_room, crate::proofs::Rows::some_size))]
     #[inline(always)]
     fn row<R: Source>(
         &mut self,
@@ -470,7 +379,7 @@ impl<T: Number<N>, const N: usize> RowSink for NumberList<T, N> {
         Ok(())
     }
 
-    #[tactic(auto, using(crate::proofs::NumberBytes::some_size))]
+    #[tactic(auto, using(crate::proofs::Rows::some_size))]
     #[inline(always)]
     fn rows<R: Source>(
         &mut self,
@@ -485,7 +394,7 @@ impl<T: Number<N>, const N: usize> RowSink for NumberList<T, N> {
         Ok(())
     }
 
-    #[tactic(auto, using(crate::proofs::NumberBytes::some_size))]
+    #[tactic(auto, using(crate::proofs::Rows::some_size))]
     fn place(&mut self, at: usize, row: &[u8]) -> Result<(), AllocError> {
         append_row(&mut self.numbers, at, row)
     }

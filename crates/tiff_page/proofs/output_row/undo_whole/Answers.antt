@@ -10,15 +10,13 @@ use Rattle.tiff_page.proofs.output_row.undo_whole.Goals as goal
 
 pub returns-in-FloatingPoint-clause-numbers : goal.returns-in-FloatingPoint-clause-numbers
 returns-in-FloatingPoint-clause-numbers c =
-    let e : c.from.result ≡ c.args.page.now.depth / 8 = c.from.ensures in
-    let s : c.from-in-FloatingPoint.result ≡ stored_samples (view.page c.args.page.now) = c.from-in-FloatingPoint.ensures ∙ c.stored_samples-stored.ensures.count in
     let b : RowReplaced (c.args.page.now.depth / 8) (joined_number (c.args.page.now.depth / 8) c.from-in-FloatingPoint.result (length c.args.row.now / (c.args.page.now.depth / 8)) c.args.row.now)
     c.args.row.now c.undo_float_predictor.new.row =
-    subst (λ (n : ℕ). RowReplaced n (joined_number n c.from-in-FloatingPoint.result (length c.args.row.now / n) c.args.row.now) c.args.row.now c.undo_float_predictor.new.row) e c.undo_float_predictor.ensures in
+    subst (λ (n : ℕ). RowReplaced n (joined_number n c.from-in-FloatingPoint.result (length c.args.row.now / n) c.args.row.now) c.args.row.now c.undo_float_predictor.new.row) (c.from.ensures) c.undo_float_predictor.ensures in
     joined_numbers c.args.order (view.page c.args.page.now) c.args.row.now c.undo_float_predictor.new.row c.in-FloatingPoint.is
     (stored_count (view.page c.args.page.now) (length c.args.row.now) c.requires.size c.requires.deep c.requires.row)
     (subst (λ (n : ℕ). RowReplaced (c.args.page.now.depth / 8) (joined_number (c.args.page.now.depth / 8) n (length c.args.row.now / (c.args.page.now.depth / 8)) c.args.row.now)
-    c.args.row.now c.undo_float_predictor.new.row) s b)
+    c.args.row.now c.undo_float_predictor.new.row) (c.from-in-FloatingPoint.ensures ∙ c.stored_samples-stored.ensures.count) b)
 
 pub undo_float_predictor-requires : goal.undo_float_predictor-requires
 undo_float_predictor-requires c =
@@ -47,6 +45,5 @@ undo_differences-requires c = record {
 
 pub returns-in_default-clause-numbers : goal.returns-in_default-clause-numbers
 returns-in_default-clause-numbers c =
-    let s : 0 < c.args.page.now.depth / 8 = some_size (c.args.page.now.depth / 8) c.requires.size in
     undone_numbers c.args.order (view.page c.args.page.now) c.args.row.now c.turn_whole.new.row c.undo_differences.new.row
-    (no_byte_plane c.args.page.now.predictor c.in_default.not-FloatingPoint) (omega arith) c.turn_whole.ensures (c.undo_differences.ensures.numbers (omega (arith, s)))
+    (no_byte_plane c.args.page.now.predictor c.in_default.not-FloatingPoint) (omega arith) c.turn_whole.ensures (c.undo_differences.ensures.numbers (omega (arith, some_size (c.args.page.now.depth / 8) c.requires.size)))

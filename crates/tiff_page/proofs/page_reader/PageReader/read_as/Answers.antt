@@ -4,9 +4,8 @@ use Rattle.tiff_base.proofs.Told.{same_bytes}
 use Rattle.tiff_page.specs.NumberBytes.{bytes_in, no_bytes}
 use Rattle.tiff_page.specs.Samples.{color_in, first_in}
 use Rattle.tiff_page.specs.PageView as view
-use Rattle.tiff_page.proofs.Requests.{filling_cause, zeros_filled}
-use Rattle.tiff_page.proofs.Reach.{first_readable, portion_filled}
-use Rattle.tiff_page.proofs.Sides.{sides_of}
+use Rattle.tiff_page.proofs.Requests.{filling_cause, zeros_filled, first_readable, portion_filled}
+use Rattle.tiff_page.proofs.PositionLaws.{sides_of}
 use Rattle.tiff_page.proofs.page_reader.PageReader.read_as.Goals as goal
 
 pub returns-clause-answer : goal.returns-clause-answer
@@ -31,9 +30,8 @@ returns-in_err-numbers-clause-asked g c =
 
 pub returns-in_err-all_requested-clause-asked : goal.returns-in_err-all_requested-clause-asked
 returns-in_err-all_requested-clause-asked g c =
-    let p = c.args.self.now.page.now in
     let answered = err_from_is_err_and c.from_residual-in_err-all_requested.result c.from_residual-in_err-all_requested.ensures.1 in
-    rw (answered.1, answered.2) (portion_filled c.args.self.now.order (view.page p) c.args.request _ (g.R.Source.told c.args.source.now) (g.R.Source.told c.allocate_output.new.source) c.in_ok-numbers.ensures.kept.told c.in_err-all_requested.ensures.asked)
+    rw (answered.1, answered.2) (portion_filled c.args.self.now.order (view.page c.args.self.now.page.now) c.args.request _ (g.R.Source.told c.args.source.now) (g.R.Source.told c.allocate_output.new.source) c.in_ok-numbers.ensures.kept.told c.in_err-all_requested.ensures.asked)
 
 pub all_requested-requires-clause-none : goal.all_requested-requires-clause-none
 all_requested-requires-clause-none g c =

@@ -2,9 +2,8 @@ use Rattle.std.proofs.Common.{ℕ, ap}
 use Rattle.std.proofs.lemmas.Result.{err_from_is_err_and}
 use Rattle.tiff_page.specs.PageView as view
 use Rattle.tiff_page.specs.Buffers.{planes_layout}
-use Rattle.tiff_page.specs.PixelCalls.{image_part}
-use Rattle.tiff_page.specs.PixelCalls.{planes_within}
-use Rattle.tiff_page.proofs.Reach.{laid_error}
+use Rattle.tiff_page.specs.PixelCalls.{image_part, planes_within}
+use Rattle.tiff_page.proofs.Requests.{laid_error}
 use Rattle.tiff_page.proofs.page_reader.PageReader.read_image_to_buffer.Goals as goal
 
 pub returns-in_err-samples-clause-asked : goal.returns-in_err-samples-clause-asked

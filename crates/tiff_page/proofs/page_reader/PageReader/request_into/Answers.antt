@@ -2,7 +2,7 @@ use Rattle.std.proofs.Common.{rules, arith, ap, List, ℕ, length, subst, sym, �
 use Rattle.tiff_base.specs.Answers.{Answers}
 use Rattle.tiff_page.specs.BufferPositions.{filled_to}
 use Rattle.tiff_page.specs.Samples.{request_bytes}
-use Rattle.tiff_page.proofs.Filled.{filled_full}
+use Rattle.tiff_page.proofs.Rects.{filled_full}
 use Rattle.tiff_page.proofs.page_reader.PageReader.request_into.Goals as goal
 
 pub returns-clause-answer : goal.returns-clause-answer
@@ -13,7 +13,6 @@ returns-clause-answer g c =
     let total = length c.args.buf.now in
     let new = c.requested.new.sink.out.now in
     let len : total ≡ length new = ap (λ (xs : List ℕ). length xs) (sym c.new-sink.ensures.bytes) ∙ c.requested.ensures.later.1 in
-    let old_full = ap (filled_to total) c.new-sink.ensures.bytes ∙ filled_full total c.args.buf.now (omega arith) in
     let given = subst (λ (xs : List ℕ). Answers (λ _. xs) c.requested.result (fill c.args.buf.now) was now) (filled_full total new (omega (arith, len)))
-    (subst (λ (xs : List ℕ). Answers (λ _. filled_to total new) c.requested.result (fill xs) was now) old_full (c.requested.ensures.answer total c.requires.room)) in
+    (subst (λ (xs : List ℕ). Answers (λ _. filled_to total new) c.requested.result (fill xs) was now) (ap (filled_to total) c.new-sink.ensures.bytes ∙ filled_full total c.args.buf.now (omega arith)) (c.requested.ensures.answer total c.requires.room)) in
     subst (λ (xs : List ℕ). Answers (λ _. xs) c.requested.result (fill c.args.buf.now) was now) {x = new} (search rules) given

@@ -11,7 +11,7 @@ use Rattle.tiff_page.specs.Rect.{rect, across}
 use Rattle.tiff_page.specs.PageView as view
 use Rattle.tiff_page.proofs.ChunkBands as bands
 use Rattle.tiff_page.proofs.Filling.{stride_some}
-use Rattle.tiff_page.proofs.Sides.{sides_of}
+use Rattle.tiff_page.proofs.PositionLaws.{sides_of}
 use Rattle.tiff_page.proofs.page_reader.PageReader.tile_row.Goals as goal
 
 pub rows_of_piece-most-requires : goal.rows_of_piece-most-requires
@@ -24,38 +24,33 @@ overflow_add-rows g c =
     let p = c.args.self.now.page.now in
     let l = c.args.next.part.layout in
     let file = (g.R.Source.told c.args.source.now).bytes in
-    let y = ap (λ r. r.y) c.rect-place.ensures.position in
     let h = ap (λ r. r.height) c.rect-place.ensures.position in
     let end = (rect (view.page p) c.args.next.chunk).y + c.loop-from.from in
     let fits : end * l.row_bytes ≤ l.plane_stride = bands.rows_end file c.args.self.now.order (view.page p) c.args.self.now.limits.now (view.layout l) (sides_of p) p.sampled p.deep c.requires.laid c.args.next.chunk c.loop-from.from (omega (arith, h, c.loop-from.invariant.below)) in
     let k : end ≤ end * l.row_bytes = le-mul_of_pos_right end (stride_some file c.args.self.now.order (view.page p) c.args.self.now.limits.now (view.layout l) (sides_of p) p.sampled p.deep c.requires.laid) in
-    omega (arith, y, fits, k)
+    omega (arith, ap (λ r. r.y) c.rect-place.ensures.position, fits, k)
 
-pub image_rows-requires-clause-tiles : goal.image_rows-requires-clause-tiles
-image_rows-requires-clause-tiles g c =
-    let p = view.page c.args.self.now.page.now in
-    let h = ap (λ r. r.height) c.rect-place.ensures.position in
-    record {
-      laid = c.requires.laid;
-      banded = subst (λ (n : ℕ). AreBanded p c.args.self.now.limits.now c.args.next.part.layout.color n c.args.next.chunk) c.requires.banded.one c.requires.banded;
-      chunk = c.requires.chunk;
-      some_rows = omega (arith, c.rows_of_piece-most.ensures, c.min.ensures, c.loop-from-test.true);
-      within = omega (arith, h, c.min.ensures, c.loop-from-test.true, c.loop-from.invariant.below);
-    }
-
-pub image_rows-requires-clause-top : goal.image_rows-requires-clause-top
-image_rows-requires-clause-top g c = ap (λ r. r.y + c.loop-from.from) c.rect-place.ensures.position
-
-pub image_rows-requires-clause-fits : goal.image_rows-requires-clause-fits
-image_rows-requires-clause-fits g c =
+pub image_rows-requires : goal.image_rows-requires
+image_rows-requires g c =
     let p = c.args.self.now.page.now in
     let l = c.args.next.part.layout in
     let file = (g.R.Source.told c.args.source.now).bytes in
-    let h = ap (λ r. r.height) c.rect-place.ensures.position in
     let from = c.loop-from.from in
     let to = from + c.min.result in
-    let end : (rect (view.page p) c.args.next.chunk).y + to ≡ c.rect-place.result.y + from + (to - from) = let y = ap (λ r. r.y) c.rect-place.ensures.position in omega (arith, y) in
-    subst (λ (m : ℕ). m * l.row_bytes ≤ l.plane_stride) end (bands.rows_end file c.args.self.now.order (view.page p) c.args.self.now.limits.now (view.layout l) (sides_of p) p.sampled p.deep c.requires.laid c.args.next.chunk to (omega (arith, h, c.min.ensures, c.loop-from-test.true, c.loop-from.invariant.below)))
+    let within : to ≤ (rect (view.page p) c.args.next.chunk).height = omega (arith, ap (λ r. r.height) c.rect-place.ensures.position, c.min.ensures, c.loop-from-test.true, c.loop-from.invariant.below) in
+    let end : (rect (view.page p) c.args.next.chunk).y + to ≡ c.rect-place.result.y + from + (to - from) = omega (arith, ap (λ r. r.y) c.rect-place.ensures.position) in
+    record {
+      tiles = record {
+        laid = c.requires.laid;
+        banded = subst (λ (n : ℕ). AreBanded (view.page p) c.args.self.now.limits.now l.color n c.args.next.chunk) c.requires.banded.one c.requires.banded;
+        chunk = c.requires.chunk;
+        some_rows = omega (arith, c.rows_of_piece-most.ensures, c.min.ensures, c.loop-from-test.true);
+        within = within;
+      };
+      top = ap (λ r. r.y + from) c.rect-place.ensures.position;
+      fits = subst (λ (m : ℕ). m * l.row_bytes ≤ l.plane_stride) end (bands.rows_end file c.args.self.now.order (view.page p) c.args.self.now.limits.now (view.layout l) (sides_of p) p.sampled p.deep c.requires.laid c.args.next.chunk to within);
+      room = omega (arith, c.requires.room, g.met.W.RowSink.room_kept c.args.sink.now c.loop-from.sink c.loop-from.invariant.later);
+    }
 
 pub returns-in_err-image_rows-clause-answer : goal.returns-in_err-image_rows-clause-answer
 returns-in_err-image_rows-clause-answer g c =
@@ -66,9 +61,8 @@ returns-in_err-image_rows-clause-answer g c =
     let e = c.in_err-image_rows.field-0.0 in
     let file = (g.R.Source.told c.args.source.now).bytes in
     let to = c.loop-from.from + c.min.result in
-    let h = ap (λ r. r.height) c.rect-place.ensures.position in
     let high = λ (column : ℕ) (il : column < across (view.page p)). bands.its_height file c.args.self.now.order (view.page p) c.args.self.now.limits.now (view.layout l) (sides_of p) p.sampled p.deep c.requires.laid first column c.args.next.part.planes c.requires.banded c.requires.chunk il in
-    let inside : to ≤ (rect (view.page p) first).height = omega (arith, h, c.min.ensures, c.loop-from-test.true, c.loop-from.invariant.below) in
+    let inside : to ≤ (rect (view.page p) first).height = omega (arith, ap (λ r. r.height) c.rect-place.ensures.position, c.min.ensures, c.loop-from-test.true, c.loop-from.invariant.below) in
     let given = subst (λ (bytes : List ℕ). IsCause (Unit {0}) (g.R.Source.failures c.loop-from.source < g.R.Source.failures c.image_rows.new.source) e (rows_fault bytes order (view.page p) l.color first to ≡ Err e)) (same_bytes c.loop-from.invariant.same) c.in_err-image_rows.ensures.answer in
     let answered = err_from_is_err_and c.from_residual.result c.from_residual.ensures.1 in
     rw (answered.1, answered.2) (cause_along e (λ w. w) (λ f. omega (arith, f, c.loop-from.invariant.count)) (λ z. bands.short_rows file order (view.page p) l.color first to high inside e z) given)
@@ -111,16 +105,14 @@ returns-clause-answer g c =
     let l = c.args.next.part.layout in
     let first = c.args.next.chunk in
     let file = (g.R.Source.told c.args.source.now).bytes in
-    let h = ap (λ r. r.height) c.rect-place.ensures.position in
     let high = λ (column : ℕ) (il : column < across (view.page p)). bands.its_height file c.args.self.now.order (view.page p) c.args.self.now.limits.now (view.layout l) (sides_of p) p.sampled p.deep c.requires.laid first column c.args.next.part.planes c.requires.banded c.requires.chunk il in
-    let e : c.loop-from.from ≡ (rect (view.page p) first).height = omega (arith, h, c.loop-from-test.false, c.loop-from.invariant.below) in
+    let e : c.loop-from.from ≡ (rect (view.page p) first).height = omega (arith, ap (λ r. r.height) c.rect-place.ensures.position, c.loop-from-test.false, c.loop-from.invariant.below) in
     bands.rows_enough file c.args.self.now.order (view.page p) l.color first c.loop-from.from high (omega (arith, e)) e (c.loop-from.invariant.none (omega (arith, c.loop-from-test.false, c.rect-place.ensures.high)))
 
 pub returns-clause-ok : goal.returns-clause-ok
 returns-clause-ok g c =
     let p = view.page c.args.self.now.page.now in
     let first = c.args.next.chunk in
-    let h = ap (λ r. r.height) c.rect-place.ensures.position in
-    let e : c.loop-from.from ≡ (rect p first).height = omega (arith, h, c.loop-from-test.false, c.loop-from.invariant.below) in
+    let e : c.loop-from.from ≡ (rect p first).height = omega (arith, ap (λ r. r.height) c.rect-place.ensures.position, c.loop-from-test.false, c.loop-from.invariant.below) in
     λ total l. subst (λ (m : ℕ). WritesImageRows (g.R.Source.told c.args.source.now).bytes c.args.self.now.order p c.args.next.part.layout.color c.args.next.part.layout.row_bytes (rect p first).y ((rect p first).y + m) (filled_to total (g.W.RowSink.bytes c.args.sink.now)) (filled_to total (g.W.RowSink.bytes c.loop-from.sink))) e
     (c.loop-from.invariant.written total l)

@@ -11,7 +11,6 @@ invariant-loop-from g l =
     let bytes = (g.R.Source.told l.fn.source).bytes in
     let p = view.page l.self.page.now in
     let color = l.fn.next.part.layout.color in
-    let stride = l.fn.next.part.layout.row_bytes in
     let y = (rect p l.fn.next.chunk).y in
     record {
       later : g.W.RowSink.goes_on l.fn.sink l.sink;
@@ -19,7 +18,7 @@ invariant-loop-from g l =
       count : g.R.Source.failures l.source ≡ g.R.Source.failures l.fn.source;
       below : l.from ≤ l.height;
       none : 0 < l.from → rows_fault bytes l.self.order p color l.fn.next.chunk l.from ≡ Ok tt;
-      written : (total : ℕ) → g.W.RowSink.whole l.fn.next.part.layout.plane_stride ≤ total → WritesImageRows bytes l.self.order p color stride y (y + l.from) (filled_to total (g.W.RowSink.bytes l.fn.sink)) (filled_to total (g.W.RowSink.bytes l.sink));
+      written : (total : ℕ) → g.W.RowSink.whole l.fn.next.part.layout.plane_stride ≤ total → WritesImageRows bytes l.self.order p color l.fn.next.part.layout.row_bytes y (y + l.from) (filled_to total (g.W.RowSink.bytes l.fn.sink)) (filled_to total (g.W.RowSink.bytes l.sink));
     }
 
 abbrev pub decreases-loop-from : goal.decreases-loop-from

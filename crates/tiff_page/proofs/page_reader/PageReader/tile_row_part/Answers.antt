@@ -14,9 +14,8 @@ use Rattle.tiff_page.specs.PageView as view
 use Rattle.tiff_page.specs.declared.page.Page.{Page}
 use Rattle.tiff_page.proofs.ChunkBands as bands
 use Rattle.tiff_page.proofs.Filling.{one_more, first_at, stride_some}
-use Rattle.tiff_page.proofs.Reach.{part_asked}
-use Rattle.tiff_page.proofs.Sizes.{plane_few}
-use Rattle.tiff_page.proofs.Sides.{sides_of}
+use Rattle.tiff_page.proofs.Requests.{part_asked}
+use Rattle.tiff_page.proofs.PositionLaws.{plane_few, sides_of}
 use Rattle.tiff_page.proofs.page_reader.PageReader.tile_row_part.Goals as goal
 
 -- the chunks of a plane are fewer than 2^32
@@ -27,17 +26,13 @@ pub overflow_cast-index : goal.overflow_cast-index
 overflow_cast-index g c =
     let p = c.args.self.now.page.now in
     let inside : c.loop-column.column < across (view.page p) = omega (arith, c.loop-column-test.true, c.chunks_across-column-end.ensures) in
-    let i = bands.its_index (g.R.Source.told c.args.source.now).bytes c.args.self.now.order (view.page p) c.args.self.now.limits.now (view.layout c.args.part.layout) (sides_of p) p.sampled p.deep c.requires.tiles.laid c.args.part.first c.loop-column.column 1 c.requires.tiles.banded c.requires.tiles.chunk inside in
-    let n = chunks_few p in
-    omega (arith, i, n)
+    omega (arith, bands.its_index (g.R.Source.told c.args.source.now).bytes c.args.self.now.order (view.page p) c.args.self.now.limits.now (view.layout c.args.part.layout) (sides_of p) p.sampled p.deep c.requires.tiles.laid c.args.part.first c.loop-column.column 1 c.requires.tiles.banded c.requires.tiles.chunk inside, chunks_few p)
 
 pub overflow_add-index : goal.overflow_add-index
 overflow_add-index g c =
     let p = c.args.self.now.page.now in
     let inside : c.loop-column.column < across (view.page p) = omega (arith, c.loop-column-test.true, c.chunks_across-column-end.ensures) in
-    let i = bands.its_index (g.R.Source.told c.args.source.now).bytes c.args.self.now.order (view.page p) c.args.self.now.limits.now (view.layout c.args.part.layout) (sides_of p) p.sampled p.deep c.requires.tiles.laid c.args.part.first c.loop-column.column 1 c.requires.tiles.banded c.requires.tiles.chunk inside in
-    let n = chunks_few p in
-    omega (arith, i, n)
+    omega (arith, bands.its_index (g.R.Source.told c.args.source.now).bytes c.args.self.now.order (view.page p) c.args.self.now.limits.now (view.layout c.args.part.layout) (sides_of p) p.sampled p.deep c.requires.tiles.laid c.args.part.first c.loop-column.column 1 c.requires.tiles.banded c.requires.tiles.chunk inside, chunks_few p)
 
 pub image_destination-place-requires : goal.image_destination-place-requires
 image_destination-place-requires g c =
@@ -45,62 +40,26 @@ image_destination-place-requires g c =
     let inside : c.loop-column.column < across (view.page p) = omega (arith, c.loop-column-test.true, c.chunks_across-column-end.ensures) in
     bands.its_index (g.R.Source.told c.args.source.now).bytes c.args.self.now.order (view.page p) c.args.self.now.limits.now (view.layout c.args.part.layout) (sides_of p) p.sampled p.deep c.requires.tiles.laid c.args.part.first c.loop-column.column 1 c.requires.tiles.banded c.requires.tiles.chunk inside
 
-pub separate_rows-requires-clause-read : goal.separate_rows-requires-clause-read
-separate_rows-requires-clause-read g c =
+pub separate_rows-requires : goal.separate_rows-requires
+separate_rows-requires g c =
     let p = c.args.self.now.page.now in
+    let part = c.args.part in
+    let to = c.image_destination-place.ensures in
     let inside : c.loop-column.column < across (view.page p) = omega (arith, c.loop-column-test.true, c.chunks_across-column-end.ensures) in
-    bands.its_read (g.R.Source.told c.args.source.now).bytes c.args.self.now.order (view.page p) c.args.self.now.limits.now (view.layout c.args.part.layout) (sides_of p) p.sampled p.deep c.requires.tiles.laid c.args.part.first c.loop-column.column 1 c.requires.tiles.banded c.requires.tiles.chunk inside
-
-pub separate_rows-requires-clause-formed : goal.separate_rows-requires-clause-formed
-separate_rows-requires-clause-formed g c =
-    let p = c.args.self.now.page.now in
-    let inside : c.loop-column.column < across (view.page p) = omega (arith, c.loop-column-test.true, c.chunks_across-column-end.ensures) in
-    bands.its_method (g.R.Source.told c.args.source.now).bytes c.args.self.now.order (view.page p) c.args.self.now.limits.now (view.layout c.args.part.layout) (sides_of p) p.sampled p.deep c.requires.tiles.laid c.args.part.first c.loop-column.column 1 c.requires.tiles.banded c.requires.tiles.chunk inside
-
-pub separate_rows-requires-clause-listed : goal.separate_rows-requires-clause-listed
-separate_rows-requires-clause-listed g c =
-    let p = c.args.self.now.page.now in
-    let inside : c.loop-column.column < across (view.page p) = omega (arith, c.loop-column-test.true, c.chunks_across-column-end.ensures) in
-    bands.its_place (g.R.Source.told c.args.source.now).bytes c.args.self.now.order (view.page p) c.args.self.now.limits.now (view.layout c.args.part.layout) (sides_of p) p.sampled p.deep c.requires.tiles.laid c.args.part.first c.loop-column.column 1 c.requires.tiles.banded c.requires.tiles.chunk inside (length p.offsets) p.counted
-
-pub separate_rows-requires-clause-within : goal.separate_rows-requires-clause-within
-separate_rows-requires-clause-within g c =
-    let p = c.args.self.now.page.now in
-    let inside : c.loop-column.column < across (view.page p) = omega (arith, c.loop-column-test.true, c.chunks_across-column-end.ensures) in
-    let h = bands.its_height (g.R.Source.told c.args.source.now).bytes c.args.self.now.order (view.page p) c.args.self.now.limits.now (view.layout c.args.part.layout) (sides_of p) p.sampled p.deep c.requires.tiles.laid c.args.part.first c.loop-column.column 1 c.requires.tiles.banded c.requires.tiles.chunk inside in
-    omega (arith, h, c.requires.tiles.within)
-
-pub separate_rows-requires-clause-start : goal.separate_rows-requires-clause-start
-separate_rows-requires-clause-start g c =
-    let p = c.args.self.now.page.now in
-    let inside : c.loop-column.column < across (view.page p) = omega (arith, c.loop-column-test.true, c.chunks_across-column-end.ensures) in
-    bands.its_start (g.R.Source.told c.args.source.now).bytes c.args.self.now.order (view.page p) c.args.self.now.limits.now (view.layout c.args.part.layout) (sides_of p) p.sampled p.deep c.requires.tiles.laid c.args.part.first c.loop-column.column 1 c.requires.tiles.banded c.requires.tiles.chunk inside
-    c.args.part.from c.args.part.to c.requires.tiles.some_rows c.requires.tiles.within
-
-pub separate_rows-requires-clause-some : goal.separate_rows-requires-clause-some
-separate_rows-requires-clause-some g c =
-    let p = c.args.self.now.page.now in
-    let l = stride_some (g.R.Source.told c.args.source.now).bytes c.args.self.now.order (view.page p) c.args.self.now.limits.now (view.layout c.args.part.layout) (sides_of p) p.sampled p.deep c.requires.tiles.laid in
-    omega (arith, l, c.image_destination-place.ensures.stride)
-
-pub separate_rows-requires-clause-columns : goal.separate_rows-requires-clause-columns
-separate_rows-requires-clause-columns g c =
-    let p = c.args.self.now.page.now in
-    let inside : c.loop-column.column < across (view.page p) = omega (arith, c.loop-column-test.true, c.chunks_across-column-end.ensures) in
-    let l = bands.its_columns (g.R.Source.told c.args.source.now).bytes c.args.self.now.order (view.page p) c.args.self.now.limits.now (view.layout c.args.part.layout) (sides_of p) p.sampled p.deep c.requires.tiles.laid c.args.part.first c.loop-column.column 1 c.requires.tiles.banded c.requires.tiles.chunk inside in
-    omega (arith, l, c.image_destination-place.ensures.left, c.image_destination-place.ensures.stride)
-
-pub separate_rows-requires-clause-there : goal.separate_rows-requires-clause-there
-separate_rows-requires-clause-there g c =
-    let end = c.args.part.top + (c.args.part.to - c.args.part.from) in
-    let e : end * c.image_destination-place.result.stride ≡ end * c.args.part.layout.row_bytes = ap (λ (m : ℕ). end * m) c.image_destination-place.ensures.stride in
-    omega (arith, e, c.requires.there, c.loop-column.invariant.written.0)
-
-pub separate_rows-requires-clause-few : goal.separate_rows-requires-clause-few
-separate_rows-requires-clause-few g c =
-    let end = c.args.part.top + (c.args.part.to - c.args.part.from) in
-    let e : end * c.image_destination-place.result.stride ≡ end * c.args.part.layout.row_bytes = ap (λ (m : ℕ). end * m) c.image_destination-place.ensures.stride in
-    omega (arith, e, c.requires.few)
+    let end = part.top + (part.to - part.from) in
+    let e : end * c.image_destination-place.result.stride ≡ end * part.layout.row_bytes = ap (λ (m : ℕ). end * m) to.stride in
+    record {
+      read = bands.its_read (g.R.Source.told c.args.source.now).bytes c.args.self.now.order (view.page p) c.args.self.now.limits.now (view.layout c.args.part.layout) (sides_of p) p.sampled p.deep c.requires.tiles.laid c.args.part.first c.loop-column.column 1 c.requires.tiles.banded c.requires.tiles.chunk inside;
+      formed = bands.its_method (g.R.Source.told c.args.source.now).bytes c.args.self.now.order (view.page p) c.args.self.now.limits.now (view.layout c.args.part.layout) (sides_of p) p.sampled p.deep c.requires.tiles.laid c.args.part.first c.loop-column.column 1 c.requires.tiles.banded c.requires.tiles.chunk inside;
+      listed = bands.its_place (g.R.Source.told c.args.source.now).bytes c.args.self.now.order (view.page p) c.args.self.now.limits.now (view.layout c.args.part.layout) (sides_of p) p.sampled p.deep c.requires.tiles.laid c.args.part.first c.loop-column.column 1 c.requires.tiles.banded c.requires.tiles.chunk inside (length p.offsets) p.counted;
+      some_rows = c.requires.tiles.some_rows;
+      within = omega (arith, bands.its_height (g.R.Source.told c.args.source.now).bytes c.args.self.now.order (view.page p) c.args.self.now.limits.now (view.layout c.args.part.layout) (sides_of p) p.sampled p.deep c.requires.tiles.laid c.args.part.first c.loop-column.column 1 c.requires.tiles.banded c.requires.tiles.chunk inside, c.requires.tiles.within);
+      start = bands.its_start (g.R.Source.told c.args.source.now).bytes c.args.self.now.order (view.page p) c.args.self.now.limits.now (view.layout c.args.part.layout) (sides_of p) p.sampled p.deep c.requires.tiles.laid c.args.part.first c.loop-column.column 1 c.requires.tiles.banded c.requires.tiles.chunk inside part.from part.to c.requires.tiles.some_rows c.requires.tiles.within;
+      some = omega (arith, stride_some (g.R.Source.told c.args.source.now).bytes c.args.self.now.order (view.page p) c.args.self.now.limits.now (view.layout c.args.part.layout) (sides_of p) p.sampled p.deep c.requires.tiles.laid, to.stride);
+      columns = omega (arith, bands.its_columns (g.R.Source.told c.args.source.now).bytes c.args.self.now.order (view.page p) c.args.self.now.limits.now (view.layout c.args.part.layout) (sides_of p) p.sampled p.deep c.requires.tiles.laid c.args.part.first c.loop-column.column 1 c.requires.tiles.banded c.requires.tiles.chunk inside, to.left, to.stride);
+      there = omega (arith, e, c.requires.there, c.loop-column.invariant.written.0);
+      few = omega (arith, e, c.requires.few);
+    }
 
 pub returns-in_err-separate_rows-clause-answer : goal.returns-in_err-separate_rows-clause-answer
 returns-in_err-separate_rows-clause-answer g c =
@@ -108,13 +67,12 @@ returns-in_err-separate_rows-clause-answer g c =
     let order = c.args.self.now.order in
     let part = c.args.part in
     let e = c.in_err-separate_rows.field-0.0 in
-    let file = (g.R.Source.told c.args.source.now).bytes in
     let column = c.loop-column.column in
     let inside : column < across p = omega (arith, c.loop-column-test.true, c.chunks_across-column-end.ensures) in
     let given = subst (λ (bytes : List ℕ). IsCause (Unit {0}) (g.R.Source.failures c.loop-column.source < g.R.Source.failures c.separate_rows.new.source) e (fail_if (rows_short bytes order p part.layout.color (part.first + column) part.to) (IoError UnexpectedEof) ≡ Err e)) (same_bytes c.loop-column.invariant.same) c.in_err-separate_rows.ensures.answer in
     let answered = err_from_is_err_and c.from_residual.result c.from_residual.ensures.1 in
     rw (answered.1, answered.2) (cause_along e (λ w. w) (λ f. omega (arith, f, c.loop-column.invariant.count))
-    (λ h. first_at (λ k. fail_if (rows_short file order p part.layout.color (part.first + k) part.to) (IoError UnexpectedEof)) (across p) column e inside c.loop-column.invariant.none h) given)
+    (λ h. first_at (λ k. fail_if (rows_short ((g.R.Source.told c.args.source.now).bytes) order p part.layout.color (part.first + k) part.to) (IoError UnexpectedEof)) (across p) column e inside c.loop-column.invariant.none h) given)
 
 pub returns-in_err-separate_rows-clause-asked : goal.returns-in_err-separate_rows-clause-asked
 returns-in_err-separate_rows-clause-asked g c =
@@ -140,7 +98,6 @@ loop-column-preserved g c =
     let inside : column < across (view.page p) = omega (arith, c.loop-column-test.true, c.chunks_across-column-end.ensures) in
     let same = same_bytes c.loop-column.invariant.same in
     let top = part.top in
-    let old = g.W.RowSink.bytes c.args.sink.now in
     let mid = g.W.RowSink.bytes c.loop-column.sink in
     let new = g.W.RowSink.bytes c.separate_rows.new.sink in
     let given = subst (λ (bytes : List ℕ). fail_if (rows_short bytes order (view.page p) color i part.to) (IoError UnexpectedEof) ≡ Ok tt) same c.in_ok-separate_rows.ensures.answer in
@@ -153,7 +110,7 @@ loop-column-preserved g c =
       count = omega (arith, c.in_ok-separate_rows.ensures.kept.swallowed, c.loop-column.invariant.count);
       none = one_more (λ k. fail_if (rows_short file order (view.page p) color (part.first + k) part.to) (IoError UnexpectedEof)) column c.loop-column.invariant.none given;
       written = bands.its_beside file order (view.page p) c.args.self.now.limits.now (view.layout part.layout) (sides_of p) p.sampled p.deep c.requires.tiles.laid part.first column 1 c.requires.tiles.banded c.requires.tiles.chunk inside
-          part.from part.to top old mid new c.requires.tiles.some_rows c.requires.tiles.within c.loop-column.invariant.written wrote;
+          part.from part.to top (g.W.RowSink.bytes c.args.sink.now) mid new c.requires.tiles.some_rows c.requires.tiles.within c.loop-column.invariant.written wrote;
     }
 
 pub returns-clause-ok : goal.returns-clause-ok

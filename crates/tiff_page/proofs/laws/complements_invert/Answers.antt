@@ -1,5 +1,0 @@
-use Rattle.tiff_page.proofs.RowLaws.{complements_invert}
-use Rattle.tiff_page.proofs.laws.complements_invert.Goals as goal
-
-pub returns : goal.returns
-returns c = complements_invert
