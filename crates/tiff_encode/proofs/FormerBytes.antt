@@ -11,7 +11,7 @@ use Rattle.tiff_encode.specs.Appending.{Continues, LinksFrom, FormerBytesStay}
 use Rattle.tiff_encode.proofs.Slices.{length_put, length-le}
 
 -- bytes that are written behind the first bytes leave these
-put_past : (front more : List ℕ) (k : ℕ) (xs : List ℕ) → put (front ++ more) (length front + k) xs ≡ front ++ put more k xs
+pub put_past : (front more : List ℕ) (k : ℕ) (xs : List ℕ) → put (front ++ more) (length front + k) xs ≡ front ++ put more k xs
 put_past front more k xs =
     let sum : length front + k + length xs ≡ length front + (k + length xs) = omega arith in
     let t : take (length front + k) (front ++ more) ≡ front ++ take k more = take-append-add front more k in
@@ -20,7 +20,7 @@ put_past front more k xs =
     (λ i. t i ++ (xs ++ d i)) ∙ append_assoc front (take k more) (xs ++ drop (k + length xs) more)
 
 -- bytes that are written at the place of others, and are no more, take the place of the first of these
-put_over : (file : List ℕ) (q : ℕ) (over more xs : List ℕ) → q + length over ≤ length file → length xs ≤ length over
+pub put_over : (file : List ℕ) (q : ℕ) (over more xs : List ℕ) → q + length over ≤ length file → length xs ≤ length over
     → put (put file q over ++ more) q xs ≡ put file q (xs ++ drop (length xs) over) ++ more
 put_over file q over more xs fit short =
     let T : List ℕ = take q file in

@@ -1,5 +1,5 @@
 -- The changes of a call are a function of the file that it finds.
-use Rattle.std.proofs.Common.{◌≡◌, ℕ, ◌^◌, ◌<◌, Bool, true, false, cond, List, Option, Some, None, Result, Ok, Err, refl, ap, sym, ◌∙◌, subst, arith}
+use Rattle.std.proofs.Common.{◌≡◌, ℕ, ◌*◌, ◌^◌, ◌<◌, Bool, true, false, cond, List, Option, Some, None, Result, Ok, Err, refl, ap, sym, ◌∙◌, subst, arith}
 use Rattle.std.proofs.lemmas.Bool.{ne_eqb, lt-leb}
 use Rattle.std.specs.Prelude.{◌||◌, ◌==◌, nat_le}
 use Rattle.std.specs.FinMap.{len}
@@ -7,16 +7,16 @@ use Rattle.tiff_base.specs.declared.error.TiffError.{TiffError}
 use Rattle.tiff_base.specs.declared.error.TiffError.TheVariants.{IntSizeError, UsageError}
 use Rattle.tiff_base.specs.declared.error.UsageError.TheVariants.{ZeroIfdPointer}
 use Rattle.tiff_base.specs.declared.io.SinkFault.{SinkFault}
-use Rattle.tiff_base.specs.declared.tags.CompressionMethod.{CompressionMethod}
 use Rattle.tiff_base.specs.declared.tags.FileKind.{FileKind}
 use Rattle.tiff_base.specs.Directory.{link_offset}
 use Rattle.tiff_base.specs.Field.{Field}
+use Rattle.tiff_encode.specs.declared.encoder.settings.Compression.{Compression}
 use Rattle.tiff_encode.specs.Machine.{FileState, OpenDirectory, OpenImage, WriteCall, by_cause}
+use Rattle.tiff_encode.specs.Chunks.{image_page, row_samples}
 use Rattle.tiff_encode.specs.Causes.{is_past, end_of, unless_ended, finish_cause, offset_cause}
 use Rattle.tiff_encode.specs.Calls.{Offsets, offsets_of, result_by, finish, new_offset}
-use Rattle.tiff_encode.specs.Stored.{unpacked_chunk}
+use Rattle.tiff_encode.specs.Stored.{IsCompressed, unpacked_chunk}
 use Rattle.tiff_encode.specs.RunLaws.{IsOneStep, OneStep, OneStored, OffsetsAgree}
-use Rattle.tiff_value.specs.Packed.{IsStored}
 use Rattle.tiff_encode.proofs.Slices.{ok_inj}
 
 one_of : (A : Type 0) → IsOneStep A
@@ -30,9 +30,9 @@ one_step = (one_of Field, (one_of ℕ, (one_of OpenDirectory, (one_of OpenImage,
 
 pub one_stored : OneStored
 one_stored i samples stored other p a b =
-    let P : CompressionMethod → List ℕ → Type 0 = λ m xs. IsStored m xs (unpacked_chunk i samples) in
-    let x : stored ≡ unpacked_chunk i samples = subst (λ m. P m stored) p a in
-    let y : other ≡ unpacked_chunk i samples = subst (λ m. P m other) p b in
+    let P : Compression → List ℕ → Type 0 = λ c xs. IsCompressed c (row_samples (image_page i) * i.size) xs (unpacked_chunk i samples) in
+    let x : stored ≡ unpacked_chunk i samples = subst (λ c. P c stored) p a in
+    let y : other ≡ unpacked_chunk i samples = subst (λ c. P c other) p b in
     x ∙ sym y
 
 -- an error is no success, and an error that refuses a call differs from no error

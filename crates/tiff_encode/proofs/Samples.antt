@@ -1,11 +1,11 @@
 -- The numbers of samples, and their compression method.
-use Rattle.std.proofs.Common.{◌≡◌, ℕ, zero, suc, ◌^◌, ◌<◌, ◌⊎◌, List, [], ◌∷◌, map, inl, inr, arith, lit<}
+use Rattle.std.proofs.Common.{◌≡◌, ℕ, zero, suc, ◌^◌, ◌<◌, ◌⊎◌, List, [], ◌∷◌, map, refl, inl, inr, arith, lit<}
 use Rattle.std.proofs.Math.Nat.{mod-lt}
 use Rattle.tiff_base.specs.declared.tags.CompressionMethod.TheVariants as method
 use Rattle.tiff_value.specs.ColorType.{sample_number}
 use Rattle.tiff_encode.specs.declared.encoder.settings.Compression.{Compression}
-use Rattle.tiff_encode.specs.declared.encoder.settings.Compression.TheVariants.{Uncompressed, Packbits}
-use Rattle.tiff_encode.specs.Machine.{FileState, compression_method}
+use Rattle.tiff_encode.specs.declared.encoder.settings.Compression.TheVariants.{Uncompressed, Packbits, PackbitsRows}
+use Rattle.tiff_encode.specs.Machine.{compression_method}
 use Rattle.tiff_encode.specs.ImageData.{AreNumbers}
 
 -- a number of bytes has at least one value
@@ -20,7 +20,7 @@ are_numbers size bits (x ∷ xs) zero = mod-lt (bits x) (some_bytes size)
 are_numbers size bits (x ∷ xs) (suc n) = are_numbers size bits xs n
 
 -- images have one of two compression methods
-pub some_method : (file : FileState) (c : Compression) → file.method ≡ compression_method c
-    → (file.method ≡ method.None) ⊎ (file.method ≡ method.PackBits)
-some_method file Uncompressed h = inl h
-some_method file Packbits h = inr h
+pub some_method : (c : Compression) → (compression_method c ≡ method.None) ⊎ (compression_method c ≡ method.PackBits)
+some_method Uncompressed = inl refl
+some_method Packbits = inr refl
+some_method PackbitsRows = inr refl

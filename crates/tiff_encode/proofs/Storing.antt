@@ -1,29 +1,35 @@
 -- How a call writes a chunk.
-use Rattle.std.proofs.Common.{◌≡◌, ℕ, ◌-◌, ◌*◌, ◌%◌, ◌^◌, ◌<◌, min, Bool, true, false, cond, List, length, get_or, Option, Some, None, Result, Ok, Err, refl, ap, sym, ◌∙◌, subst, inl, inr, arith, append-nil}
+use Rattle.std.proofs.Common.{◌≡◌, ℕ, ◌≢◌, ◌-◌, ◌*◌, ◌/◌, ◌%◌, ◌^◌, ◌<◌, ◌≤◌, min, Bool, true, false, cond, List, length, get_or, Option, Some, None, Result, Ok, Err, refl, ap, sym, ◌∙◌, subst, inl, inr, arith, append-nil, lit<, lit≤}
 use Rattle.std.proofs.lemmas.Bool.{eqb-true}
+use Rattle.std.proofs.lemmas.Nat.Gcd.{dvd_of_mod-eq-zero}
 use Rattle.std.proofs.lemmas.List.FromFn.{fill_by_all, length-map-range_with_len}
-use Rattle.std.proofs.Math.Nat.{mul-mod_left, zero-mod}
+use Rattle.std.proofs.Math.Nat.{div-mul_cancel, le-mul_of_pos_right, mul-le-mul_left, mul-mod_left, mul_assoc, zero-mod}
 use Rattle.std.specs.List.{flat_map}
-use Rattle.std.specs.Prelude.{◌⊎◌, ◌==◌, ◌||◌, not, IfSome}
+use Rattle.std.specs.Prelude.{◌⊎◌, ◌==◌, ◌||◌, not, IfSome, MatchResult}
 use Rattle.tiff_base.specs.declared.error.TiffError.{TiffError}
 use Rattle.tiff_base.specs.declared.error.TiffError.TheVariants.{IoError, IntSizeError, OutOfMemory}
 use Rattle.tiff_base.specs.declared.io.IoKind.TheVariants.{InvalidData}
 use Rattle.tiff_base.specs.declared.io.SinkFault.{SinkFault}
 use Rattle.tiff_base.specs.declared.tags.CompressionMethod.TheVariants as method
 use Rattle.tiff_base.specs.declared.tags.Predictor.TheVariants as predictor
+use Rattle.tiff_base.specs.declared.tags.«Type».{«Type»}
+use Rattle.tiff_base.specs.declared.tags.«Type».TheVariants.{BYTE, ASCII, SHORT, LONG, RATIONAL, SBYTE, UNDEFINED, SSHORT, SLONG, SRATIONAL, FLOAT, DOUBLE, IFD, LONG8, SLONG8, IFD8}
+use Rattle.tiff_base.specs.Types.{type_size}
 use Rattle.tiff_base.specs.Number.{le}
 use Rattle.tiff_page.specs.Pixels.{stored_samples}
 use Rattle.tiff_base.specs.declared.tags.Predictor.{Predictor}
+use Rattle.tiff_value.specs.Packed.{ArePackedRows, IsPacked}
 use Rattle.tiff_value.specs.Differences.{stored_difference, differences}
-use Rattle.tiff_value.specs.Packed.{IsStored}
-use Rattle.tiff_encode.specs.Machine.{FileState, OpenImage, WriteOutcome, WriteCall, by_cause}
+use Rattle.tiff_encode.specs.declared.encoder.settings.Compression.{Compression}
+use Rattle.tiff_encode.specs.declared.encoder.settings.Compression.TheVariants.{Uncompressed, Packbits, PackbitsRows}
+use Rattle.tiff_encode.specs.Machine.{FileState, OpenImage, WriteOutcome, WriteCall, by_cause, compression_method}
 use Rattle.tiff_encode.specs.Chunks.{image_page, row_samples, chunk_rows, is_left, next_chunk_sample_count}
 use Rattle.tiff_encode.specs.Causes.{is_past, is_past_chunks, unless_ended, end_of, write_chunk_cause}
 use Rattle.tiff_encode.specs.Calls.{with_chunk, appends_chunk, write_chunk}
 use Rattle.tiff_encode.specs.Encoder.{AppendIsStopped, AppendIsCut}
 use Rattle.tiff_encode.specs.Ends.{EndsAsDefined, IsCutOff}
 use Rattle.tiff_encode.specs.FileWrites.{file_with_bytes}
-use Rattle.tiff_encode.specs.Stored.{unpacked_chunk}
+use Rattle.tiff_encode.specs.Stored.{IsChunkStored, IsCompressed, unpacked_chunk}
 use Rattle.tiff_encode.specs.Storing.{AppendsChunk, StoresChunk, WritesStoredChunk}
 use Rattle.tiff_encode.proofs.Calling.{none_some, cut_off}
 use Rattle.tiff_encode.proofs.Shown.Bytes.{length_written}
@@ -135,22 +141,23 @@ module _ (i : OpenImage) (ns : List ℕ) (size : ℕ) (sized : i.size ≡ size) 
       λ j. flat_map (le (sym sized j)) (differences (sym is j) (256 ^ sym sized j) (wide j) (deep j) ns)
 
 -- uncompressed bytes are stored as they are
-pub plain_stored : (i : OpenImage) (bytes : List ℕ) → i.method ≡ method.None → IsStored i.method bytes bytes
-plain_stored i bytes packed = subst (λ m. IsStored m bytes bytes) (sym packed) refl
+module _ (i : OpenImage) (samples : List ℕ) (packed : i.compression ≡ Uncompressed) where
+  pub plain_stored : (xs : List ℕ) → xs ≡ unpacked_chunk i samples → IsChunkStored i xs samples
+  plain_stored xs h = subst (λ c. IsCompressed c (row_samples (image_page i) * i.size) xs (unpacked_chunk i samples)) (sym packed) h
 
 -- ---- samples that are stored
 
 module _ (old : FileState) (i : OpenImage) (samples : List ℕ) (new : FileState) (next : OpenImage) where
   -- a chunk of samples is stored as bytes that encode them
   pub chunk_stored : (count : ℕ) (stored : List ℕ) (r : Result (Unit {0}) TiffError) → count ≡ length samples
-      → IsStored i.method stored (unpacked_chunk i samples) → AppendsChunk (write_chunk i count stored old) i r old new next
+      → IsChunkStored i stored samples → AppendsChunk (write_chunk i count stored old) i r old new next
       → StoresChunk write_chunk i samples r old new next
   chunk_stored count stored (Ok x) counted is_stored h =
       (stored, (is_stored, subst (λ t. EndsAsDefined t (Ok next) new) (ap (λ k. write_chunk i k stored old) counted) h))
   chunk_stored count stored (Err e) counted is_stored h =
       let same : write_chunk i count stored old ≡ write_chunk i (length samples) stored old = ap (λ k. write_chunk i k stored old) counted in (
         h.0,
-        elim h.1 as (λ _. ((e ≡ OutOfMemory) × (new ≡ old)) ⊎ ((xs : List ℕ) × (IsStored i.method xs (unpacked_chunk i samples) × (EndsAsDefined (write_chunk i (length samples) xs old) (Err e) new ⊎ IsCutOff (write_chunk i (length samples) xs old).ops e old new)))) [
+        elim h.1 as (λ _. ((e ≡ OutOfMemory) × (new ≡ old)) ⊎ ((xs : List ℕ) × (IsChunkStored i xs samples × (EndsAsDefined (write_chunk i (length samples) xs old) (Err e) new ⊎ IsCutOff (write_chunk i (length samples) xs old).ops e old new)))) [
           | inl t ↦ inr (stored, (is_stored, inl (subst (λ t. EndsAsDefined t (Err e) new) same t)))
           | inr h ↦ elim h [
             | inl c ↦ inr (stored, (is_stored, inr (subst (λ (t : WriteOutcome OpenImage). IsCutOff t.ops e old new) same c)))
@@ -171,10 +178,10 @@ pub left_plain : (m l s : ℕ) (ns : List ℕ) → differences predictor.None m 
 unfolding differences
 left_plain m l s ns = sym (fill_by_all (λ k. get_or ns k 0) ns (length ns) 0 refl (λ k h. refl))
 
-module _ {V : Type 0} (bytes : V → List ℕ) (i : OpenImage) (samples : List ℕ) (size : ℕ) (packed : i.method ≡ method.None)
+module _ {V : Type 0} (bytes : V → List ℕ) (i : OpenImage) (samples : List ℕ) (size : ℕ) (packed : i.compression ≡ Uncompressed)
     (differs : i.predictor ≡ predictor.None) (sized : i.size ≡ size) where
   -- the bytes of the samples are those of the chunk
-  lent : (xs : List ℕ) → xs ≡ flat_map (le size) samples → IsStored i.method xs (unpacked_chunk i samples)
+  lent : (xs : List ℕ) → xs ≡ flat_map (le size) samples → IsChunkStored i xs samples
   unfolding unpacked_chunk
   lent xs h =
       let p = image_page i in
@@ -182,10 +189,75 @@ module _ {V : Type 0} (bytes : V → List ℕ) (i : OpenImage) (samples : List �
       ap (λ q. flat_map (le i.size) (differences q (256 ^ i.size) (row_samples p) (stored_samples p) samples)) differs
       ∙ ap (flat_map (le i.size)) (left_plain (256 ^ i.size) (row_samples p) (stored_samples p) samples)
       ∙ ap (λ n. flat_map (le n) samples) sized in
-      subst (λ m. IsStored m xs (unpacked_chunk i samples)) (sym packed) (h ∙ sym plain)
+      plain_stored i samples packed xs (h ∙ sym plain)
 
   -- borrowed bytes, if there are some, are those of the chunk
   pub lent_some : (o : Option V) → IfSome o (λ b. bytes b ≡ flat_map (le size) samples)
-      → IfSome o (λ b. IsStored i.method (bytes b) (unpacked_chunk i samples))
+      → IfSome o (λ b. IsChunkStored i (bytes b) samples)
   lent_some None h = h
   lent_some (Some b) h = lent (bytes b) h
+
+-- ---- samples that are packed
+
+-- a compression that packs, but not by rows, packs as a whole
+pub packs_whole : (c : Compression) → compression_method c ≡ method.PackBits → c ≢ PackbitsRows → c ≡ Packbits
+packs_whole Uncompressed h n = absurd cc
+packs_whole Packbits h n = refl
+packs_whole PackbitsRows h n = absurd (n refl)
+
+-- the packed bytes of a chunk store its samples
+module _ (i : OpenImage) (samples stored bytes : List ℕ) (r : Result (Unit {0}) TiffError) (same : bytes ≡ unpacked_chunk i samples) where
+  abbrev Packed : (List ℕ → List ℕ → Type 0) → List ℕ → Type 0
+  Packed P xs = MatchResult r (λ _. P xs stored) (λ e. e ≡ OutOfMemory)
+
+  abbrev StoredBy : Compression → Type 0
+  StoredBy c = MatchResult r (λ _. IsCompressed c (row_samples (image_page i) * i.size) stored (unpacked_chunk i samples)) (λ e. e ≡ OutOfMemory)
+
+  pub whole_stored : i.compression ≡ Packbits → Packed IsPacked bytes → StoredBy i.compression
+  whole_stored is h = subst StoredBy (sym is) (subst (λ xs. Packed IsPacked xs) same h)
+
+  pub rows_stored : (row : ℕ) → row ≡ row_samples (image_page i) * i.size → i.compression ≡ PackbitsRows → Packed (ArePackedRows row) bytes
+      → StoredBy i.compression
+  rows_stored row wide is h =
+      subst StoredBy (sym is) (subst (λ n. Packed (ArePackedRows n) (unpacked_chunk i samples)) wide (subst (λ xs. Packed (ArePackedRows row) xs) same h))
+
+-- as many differences as numbers
+pub length_differences : (q : Predictor) (m l s : ℕ) (ns : List ℕ) → length (differences q m l s ns) ≡ length ns
+unfolding differences
+length_differences q m l s ns = length-map-range_with_len (stored_difference q m l s ns) 0 (length ns)
+
+-- the bytes of whole rows are whole rows of bytes
+pub whole_bytes : (size row : ℕ) (numbers : List ℕ) → length numbers % row ≡ 0 → length (flat_map (le size) numbers) % (row * size) ≡ 0
+whole_bytes size row numbers h =
+    let n : ℕ = length numbers / row in
+    let rows : length numbers ≡ n * row = sym (div-mul_cancel row (dvd_of_mod-eq-zero row h)) in
+    let long : length (flat_map (le size) numbers) ≡ n * (row * size) = length_written size numbers ∙ (ap (λ m. m * size) rows ∙ mul_assoc n row size) in
+    ap (λ m. m % (row * size)) long ∙ mul-mod_left n (row * size)
+
+-- a number of each type has one to eight bytes
+size_bounds : (type : «Type») → (0 < type_size type) × (type_size type ≤ 8)
+size_bounds BYTE = (lit< tt, lit≤ tt)
+size_bounds ASCII = (lit< tt, lit≤ tt)
+size_bounds SHORT = (lit< tt, lit≤ tt)
+size_bounds LONG = (lit< tt, lit≤ tt)
+size_bounds RATIONAL = (lit< tt, lit≤ tt)
+size_bounds SBYTE = (lit< tt, lit≤ tt)
+size_bounds UNDEFINED = (lit< tt, lit≤ tt)
+size_bounds SSHORT = (lit< tt, lit≤ tt)
+size_bounds SLONG = (lit< tt, lit≤ tt)
+size_bounds SRATIONAL = (lit< tt, lit≤ tt)
+size_bounds FLOAT = (lit< tt, lit≤ tt)
+size_bounds DOUBLE = (lit< tt, lit≤ tt)
+size_bounds IFD = (lit< tt, lit≤ tt)
+size_bounds LONG8 = (lit< tt, lit≤ tt)
+size_bounds SLONG8 = (lit< tt, lit≤ tt)
+size_bounds IFD8 = (lit< tt, lit≤ tt)
+
+-- a row has some bytes, and few enough
+pub some_bytes : (type : «Type») (row size : ℕ) → size ≡ type_size type → 0 < row → 0 < row * size
+some_bytes type row size e h = let s : 0 < size = omega (arith, e, (size_bounds type).0) in omega (arith, h, le-mul_of_pos_right row s)
+
+pub few_bytes : (type : «Type») (row size : ℕ) → size ≡ type_size type → row < 2 ^ 48 → row * size < 2 ^ 64
+few_bytes type row size e h =
+    let s : size ≤ 8 = omega (arith, e, (size_bounds type).1) in
+    omega (arith, h, mul-le-mul_left row s)

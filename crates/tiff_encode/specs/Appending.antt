@@ -3,11 +3,11 @@ use Rattle.std.specs.Prelude.{◌≡◌, ℕ, ◌+◌, ◌-◌, ◌≤◌, ◌�
 use Rattle.std.specs.FinMap.{len}
 use Rattle.tiff_base.specs.declared.tags.FileKind.{FileKind}
 use Rattle.tiff_base.specs.declared.tags.ByteOrder.TheVariants.{LittleEndian}
-use Rattle.tiff_base.specs.declared.tags.CompressionMethod.TheVariants as method
 use Rattle.tiff_base.specs.declared.tags.Predictor.TheVariants as predictor
 use Rattle.tiff_base.specs.SourceAndSink.{bytes_at, exactly_at, put}
 use Rattle.tiff_base.specs.Number.{number_at}
 use Rattle.tiff_base.specs.Directory.{count_width, offset_width, directory_at}
+use Rattle.tiff_encode.specs.declared.encoder.settings.Compression.TheVariants.{Uncompressed}
 use Rattle.tiff_encode.specs.FileBytes.{offset_len, header_mark}
 use Rattle.tiff_encode.specs.WriteOps.{WriteOp, Appended, Supplied, Listed, Linked, bytes_after}
 use Rattle.tiff_encode.specs.Machine.{FileState}
@@ -22,7 +22,7 @@ continued_file kind told failures link = record {
   fault = None;
   chain = link;
   predictor = predictor.None;
-  method = method.None;
+  compression = Uncompressed;
 }
 
 -- ---- the former file

@@ -5,8 +5,6 @@ use Rattle.std.specs.List.{fold}
 use Rattle.tiff_base.specs.declared.color.ChunkType.{ChunkType}
 use Rattle.tiff_base.specs.declared.color.ChunkType.TheVariants.{Strip, Tile}
 use Rattle.tiff_base.specs.declared.error.TiffError.{TiffError}
-use Rattle.tiff_base.specs.declared.tags.CompressionMethod.{CompressionMethod}
-use Rattle.tiff_base.specs.declared.tags.CompressionMethod.TheVariants as method
 use Rattle.tiff_base.specs.declared.tags.ExtraSamples.{ExtraSamples}
 use Rattle.tiff_base.specs.declared.tags.FileKind.{FileKind}
 use Rattle.tiff_base.specs.declared.tags.PhotometricInterpretation.{PhotometricInterpretation}
@@ -24,6 +22,7 @@ use Rattle.tiff_base.specs.Field.{Field}
 use Rattle.tiff_base.specs.Tags.{tag_number}
 use Rattle.tiff_value.specs.ColorType.{ColorTypeRecord}
 use Rattle.tiff_encode.specs.declared.encoder.settings.Compression.{Compression}
+use Rattle.tiff_encode.specs.declared.encoder.settings.Compression.TheVariants.{Uncompressed}
 use Rattle.tiff_encode.specs.FileBytes.{padding, rows_per_strip}
 use Rattle.tiff_value.specs.Buffer.{BufferRecord}
 use Rattle.tiff_value.specs.Data.{FieldData, Scalars, u16s, u32s, methods, interpretations, planars, predictors, units, formats, extras, rationals, data_of}
@@ -39,7 +38,7 @@ abbrev pub with_predictor : Predictor → FileState → FileState
 with_predictor predictor file = record file { predictor = predictor }
 
 abbrev pub with_compression : Compression → FileState → FileState
-with_compression compression file = record file { method = compression_method compression }
+with_compression compression file = record file { compression = compression }
 
 -- ---- directories
 
@@ -180,9 +179,9 @@ finish d file = by_cause (finish_cause file d) (do
 
 -- the default number of rows of a strip: one row if strips are compressed, otherwise as many rows
 -- as make a million bytes
-abbrev pub default_rows : CompressionMethod → ℕ → ℕ
-default_rows method.PackBits row_bytes = 1
-default_rows _ row_bytes = rows_per_strip row_bytes
+abbrev pub default_rows : Compression → ℕ → ℕ
+default_rows Uncompressed row_bytes = rows_per_strip row_bytes
+default_rows _ row_bytes = 1
 
 -- writes several tags one after another
 abbrev pub write_tags : OpenDirectory → List (Tag × Scalars) → WriteCall OpenDirectory
@@ -211,7 +210,7 @@ abbrev pub meaning_tags : OpenImage → List (Tag × Scalars)
 meaning_tags i =
     (tag.ImageWidth, u32s (i.width ∷ []))
     ∷ (tag.ImageLength, u32s (i.height ∷ []))
-    ∷ (tag.Compression, methods (i.method ∷ []))
+    ∷ (tag.Compression, methods (compression_method i.compression ∷ []))
     ∷ (tag.Predictor, predictors (i.predictor ∷ []))
     ∷ (tag.PhotometricInterpretation, interpretations (i.color.interpretation ∷ []))
     ∷ []
@@ -241,8 +240,8 @@ image_in file d color size width height = record {
   size = size;
   extra = [];
   predictor = file.predictor;
-  method = file.method;
-  form = strips_of width (default_rows file.method (width * (length color.bits * size))) Chunky;
+  compression = file.compression;
+  form = strips_of width (default_rows file.compression (width * (length color.bits * size))) Chunky;
   chunks = [];
 }
 

@@ -12,7 +12,7 @@ use Rattle.tiff_page.specs.Page.{PageRecord}
 use Rattle.tiff_page.specs.Counts.{all_chunks}
 use Rattle.tiff_page.specs.Rect.{rect, chunk_of_pixel}
 use Rattle.tiff_page.specs.Pixels.{tabulate, planar_or, stored_samples}
-use Rattle.tiff_encode.specs.Machine.{ChunkLayout, OpenImage}
+use Rattle.tiff_encode.specs.Machine.{ChunkLayout, OpenImage, compression_method}
 
 -- the number of samples of a pixel, with the extra samples
 abbrev pub all_samples : OpenImage → ℕ
@@ -29,7 +29,7 @@ image_page i = record {
   width = i.width;
   height = i.height;
   interpretation = i.color.interpretation;
-  method = i.method;
+  method = compression_method i.compression;
   samples = all_samples i;
   extra = i.extra;
   format = get_or i.color.formats 0 Void;

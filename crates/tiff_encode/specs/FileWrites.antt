@@ -8,7 +8,7 @@ use Rattle.tiff_base.specs.SourceAndSink.{put}
 use Rattle.tiff_value.specs.Written.{Written}
 use Rattle.tiff_encode.specs.FileBytes.{offset_len}
 use Rattle.tiff_encode.specs.declared.encoder.settings.Compression.{Compression}
-use Rattle.tiff_encode.specs.Machine.{FileState, compression_method}
+use Rattle.tiff_encode.specs.Machine.{FileState}
 use Rattle.tiff_encode.specs.Encoder.{AppendIsStopped, AppendIsCut, IsTorn}
 
 -- the file of an encoder, from its kind, its writer, the offset of the last link of the IFD chain,
@@ -21,7 +21,7 @@ file_of kind w chain predictor compression = record {
   fault = w.fault;
   chain = chain;
   predictor = predictor;
-  method = compression_method compression;
+  compression = compression;
 }
 
 -- The writer is at the end of the file if no write failed, and the last link of the IFD chain is

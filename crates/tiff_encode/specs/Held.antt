@@ -7,7 +7,6 @@ use Rattle.tiff_base.specs.declared.color.ChunkType.{ChunkType}
 use Rattle.tiff_base.specs.declared.color.ChunkType.TheVariants.{Strip, Tile}
 use Rattle.tiff_base.specs.declared.color.ColorType.{ColorType}
 use Rattle.tiff_base.specs.declared.tags.ByteOrder.TheVariants.{LittleEndian}
-use Rattle.tiff_base.specs.declared.tags.CompressionMethod.TheVariants as method
 use Rattle.tiff_base.specs.declared.tags.ExtraSamples.{ExtraSamples}
 use Rattle.tiff_base.specs.declared.tags.FileKind.{FileKind}
 use Rattle.tiff_base.specs.declared.tags.PhotometricInterpretation.{PhotometricInterpretation}
@@ -24,7 +23,6 @@ use Rattle.tiff_base.specs.SourceAndSink.{exactly_at}
 use Rattle.tiff_value.specs.declared.encoder.colortype.ColorTypeName.{ColorTypeName}
 use Rattle.tiff_value.specs.ColorTypes.{color_type, inner_size}
 use Rattle.tiff_value.specs.Data.{Scalars, u16s, u32s, methods, interpretations, planars, predictors, formats, extras, data_of}
-use Rattle.tiff_value.specs.Packed.{IsStored}
 use Rattle.tiff_ifd.specs.Limits.{unlimited}
 use Rattle.tiff_page.specs.Page.{PageRecord}
 use Rattle.tiff_page.specs.Checks.{is_page_tag, tags_of_pixels}
@@ -35,11 +33,11 @@ use Rattle.tiff_encode.specs.FileBytes.{offset_len}
 use Rattle.tiff_encode.specs.Value.{offset_values}
 use Rattle.tiff_encode.specs.Model.{In, FinishedDirectory, Model, Stands}
 use Rattle.tiff_encode.specs.WriteOps.{standing_fields}
-use Rattle.tiff_encode.specs.Machine.{Chunk, OpenImage}
+use Rattle.tiff_encode.specs.Machine.{Chunk, OpenImage, compression_method}
 use Rattle.tiff_encode.specs.Drawn.{IsSide, IsForm}
 use Rattle.tiff_encode.specs.Chunks.{all_samples, image_page, chunk_samples, sample_in}
 use Rattle.tiff_encode.specs.Calls.{extended_by_first}
-use Rattle.tiff_encode.specs.Stored.{unpacked_chunk}
+use Rattle.tiff_encode.specs.Stored.{IsChunkStored}
 use Rattle.tiff_encode.specs.Shows.{Image, Shows, page_at}
 
 -- ---- the values of tags
@@ -105,7 +103,7 @@ abbrev pub lasting_tags : OpenImage → Option Scalars → List (Tag × Option S
 lasting_tags i extra =
     (tag.ImageWidth, Some (u32s (i.width ∷ [])))
     ∷ (tag.ImageLength, Some (u32s (i.height ∷ [])))
-    ∷ (tag.Compression, Some (methods (i.method ∷ [])))
+    ∷ (tag.Compression, Some (methods (compression_method i.compression ∷ [])))
     ∷ (tag.PhotometricInterpretation, Some (interpretations (i.color.interpretation ∷ [])))
     ∷ (tag.PlanarConfiguration, planar_given i.form.planar)
     ∷ (tag.Predictor, Some (predictors (i.predictor ∷ [])))
@@ -169,7 +167,6 @@ pub record IsWholeImage (kind : FileKind) (i : OpenImage) : Type 0 where
   pub wide : IsSide i.width
   pub high : IsSide i.height
   pub few : all_samples i < 2 ^ 16
-  pub packed_by : (i.method ≡ method.None) ⊎ (i.method ≡ method.PackBits)
   pub predicted_by : (i.predictor ≡ predictor.None) ⊎ (i.predictor ≡ predictor.Horizontal)
   pub form : IsForm i.width i.form
   pub chunks : length i.chunks ≡ all_chunks (image_page i)
@@ -194,7 +191,7 @@ pub record AreSupplied (i : OpenImage) (samples : List (List ℕ)) : Type 0 wher
 abbrev pub StandsFor : OpenImage → List (List ℕ) → ℕ → List ℕ → Type 0
 StandsFor i samples k stored =
     (length stored ≡ slice_index (image_page i).byte_counts k)
-    × IsStored i.method stored (unpacked_chunk i (samples_of_chunk samples k))
+    × IsChunkStored i stored (samples_of_chunk samples k)
 
 -- the file has bytes that store the samples of each chunk
 abbrev pub HasChunks : List ℕ → OpenImage → List (List ℕ) → Type 0

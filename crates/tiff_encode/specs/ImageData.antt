@@ -1,7 +1,6 @@
 -- How the samples of an image are written, and what the file contains after it (this project's).
 use Rattle.std.specs.Prelude.{◌≡◌, ℕ, ◌+◌, ◌*◌, ◌^◌, ◌<◌, ◌≤◌, ◌⊎◌, List, [], ◌++◌, length, get_or, slice_index, Option, Some, None, Result, Ok, Err}
 use Rattle.tiff_base.specs.declared.error.TiffError.{TiffError}
-use Rattle.tiff_base.specs.declared.tags.CompressionMethod.TheVariants as method
 use Rattle.tiff_base.specs.declared.tags.FileKind.TheVariants.{Classic}
 use Rattle.tiff_base.specs.declared.tags.Predictor.TheVariants as predictor
 use Rattle.tiff_base.specs.Field.{AreEntries}
@@ -9,6 +8,7 @@ use Rattle.tiff_value.specs.declared.encoder.colortype.ColorTypeName.{ColorTypeN
 use Rattle.tiff_value.specs.declared.encoder.colortype.ColorTypeName.TheVariants.{Gray8}
 use Rattle.tiff_value.specs.ColorType.{ColorTypeRecord}
 use Rattle.tiff_value.specs.ColorTypes.{color_type, inner_size}
+use Rattle.tiff_encode.specs.declared.encoder.settings.Compression.TheVariants.{Uncompressed}
 use Rattle.tiff_encode.specs.Model.{Model, IsLink, Stands, header_link}
 use Rattle.tiff_encode.specs.Machine.{FileState, OpenImage, WriteOutcome, WriteCall}
 use Rattle.tiff_encode.specs.Drawn.{IsDrawn}
@@ -18,8 +18,7 @@ use Rattle.tiff_encode.specs.Calls as calls
 use Rattle.tiff_encode.specs.Calls.{Offsets}
 use Rattle.tiff_encode.specs.Ends.{EndsAsDefined, IsCutOff, IsShortOfMemory, CallFails, EndsSilently}
 use Rattle.tiff_encode.specs.Leaves.{LeavesTorn}
-use Rattle.tiff_value.specs.Packed.{IsStored}
-use Rattle.tiff_encode.specs.Stored.{AreStored, unpacked_chunk}
+use Rattle.tiff_encode.specs.Stored.{AreStored, IsChunkStored}
 use Rattle.tiff_encode.specs.Shows.{Image, Shows, ShowsFirst, ShowsGray}
 use Rattle.tiff_encode.specs.Held.{image_with}
 use Rattle.tiff_encode.specs.Open.{HoldsOpen, IsOpen, model_by}
@@ -104,7 +103,7 @@ abbrev pub LeavesChunk : {A : Type 0} → (OpenImage → ℕ → List ℕ → Wr
     → List ℕ → Result A TiffError
     → FileState → FileState → OpenImage → Model → Type 0
 LeavesChunk call i samples (Ok x) old new next m =
-    (stored : List ℕ) × (IsStored i.method stored (unpacked_chunk i samples)
+    (stored : List ℕ) × (IsChunkStored i stored samples
     × (EndsAsDefined (call i (length samples) stored old) (Ok next) new
     × Stands old.kind new.bytes (model_by old m (call i (length samples) stored old))))
 LeavesChunk call i samples (Err e) old new next m = Stands old.kind new.bytes m
@@ -224,7 +223,7 @@ FirstShown =
 abbrev pub GrayShown : Type 0
 GrayShown = (width height : ℕ) (samples : List ℕ) (old new : FileState) (m : Model)
     → old.kind ≡ Classic → old.chain ≡ header_link Classic → 0 < end_of old
-    → old.method ≡ method.None → old.predictor ≡ predictor.None
+    → old.compression ≡ Uncompressed → old.predictor ≡ predictor.None
     → LeavesImage (color_type Gray8) (inner_size Gray8) width height samples old new m
     → ShowsGray new.bytes width height samples
 
@@ -234,7 +233,7 @@ ImageLeaves =
     (color : ColorTypeRecord) (size width height : ℕ) (samples : List ℕ)
     (r : Result (Unit {0}) TiffError)
     (old new : FileState) (m : Model) → width < 2 ^ 32 → height < 2 ^ 32
-    → (old.method ≡ method.None) ⊎ (old.method ≡ method.PackBits) → AreNumbers size samples
+    → AreNumbers size samples
     → IsShortFile new
     → Stands old.kind old.bytes m → IsLink old.kind m old.chain
     → WritesImage color size width height samples r old new

@@ -41,8 +41,7 @@ use Rattle.tiff_encode.specs.Causes.{resolution_cause, write_chunk_cause, write_
 use Rattle.tiff_encode.specs.Calls as calls
 use Rattle.tiff_encode.specs.Calls.{Offsets}
 use Rattle.tiff_encode.specs.Ends.{EndsAsDefined, IsCutOff, IsTornOff, IsShortOfMemory}
-use Rattle.tiff_encode.specs.Stored.{AreStored, unpacked_chunk}
-use Rattle.tiff_value.specs.Packed.{IsStored}
+use Rattle.tiff_encode.specs.Stored.{AreStored, IsChunkStored}
 pub use Rattle.tiff_page.specs.Checks.{page_tag_numbers, is_page_tag}
 pub use Rattle.tiff_encode.specs.Held.{image_with}
 use Rattle.tiff_encode.specs.JobValues.{value_data, buffer_in, cut_to}
@@ -177,12 +176,12 @@ module _ (call : OpenImage → ℕ → List ℕ → WriteCall OpenImage) where
   abbrev pub StoreStep : OpenImage → List ℕ → Result StepReply TiffError → FileAndModel
       → FileAndModel → OpenImage → Type 0
   StoreStep i samples (Ok reply.Nothing) old new t =
-      (stored : List ℕ) × (IsStored i.method stored (unpacked_chunk i samples)
+      (stored : List ℕ) × (IsChunkStored i stored samples
       × IsDone (call i (length samples) stored old.file) (Ok t) old new)
   StoreStep i samples (Ok _) old new t = ⊥
   StoreStep i samples (Err e) old new t =
       Stays i t × (IsNotCalled e old new
-      ⊎ ((stored : List ℕ) × (IsStored i.method stored (unpacked_chunk i samples)
+      ⊎ ((stored : List ℕ) × (IsChunkStored i stored samples
       × (IsRefused (call i (length samples) stored old.file) e old new
       ⊎ IsCutShort (call i (length samples) stored old.file) e old new))))
 

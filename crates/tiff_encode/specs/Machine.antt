@@ -14,7 +14,7 @@ use Rattle.tiff_base.specs.declared.tags.Predictor.TheVariants as predictor
 use Rattle.tiff_base.specs.Field.{Field}
 use Rattle.tiff_value.specs.ColorType.{ColorTypeRecord}
 use Rattle.tiff_encode.specs.declared.encoder.settings.Compression.{Compression}
-use Rattle.tiff_encode.specs.declared.encoder.settings.Compression.TheVariants.{Uncompressed, Packbits}
+use Rattle.tiff_encode.specs.declared.encoder.settings.Compression.TheVariants.{Uncompressed, Packbits, PackbitsRows}
 pub use Rattle.tiff_encode.specs.declared.encoder.image.state.ChunkLayout.{ChunkLayout}
 pub use Rattle.tiff_encode.specs.declared.encoder.image.state.Chunk.{Chunk}
 use Rattle.tiff_encode.specs.FileBytes.{header_mark, header_bytes}
@@ -24,6 +24,7 @@ use Rattle.tiff_encode.specs.WriteOps.{WriteOp, bytes_after}
 abbrev pub compression_method : Compression → CompressionMethod
 compression_method Uncompressed = method.None
 compression_method Packbits = method.PackBits
+compression_method PackbitsRows = method.PackBits
 
 -- the file of an encoder: its kind, its bytes, the number of failed writes of its sink, the error
 -- of the write that ended all writing, the offset of the last link of the IFD chain, and the
@@ -35,7 +36,7 @@ pub record FileState : Type 0 where
   pub fault : Option SinkFault
   pub chain : ℕ
   pub predictor : Predictor
-  pub method : CompressionMethod
+  pub compression : Compression
 
 -- an open directory: its fields by their tag numbers, the offset of the link that points to it when
 -- it ends, and whether its own link becomes the last link of the IFD chain
@@ -55,7 +56,7 @@ pub record OpenImage : Type 0 where
   pub size : ℕ
   pub extra : List ExtraSamples
   pub predictor : Predictor
-  pub method : CompressionMethod
+  pub compression : Compression
   pub form : ChunkLayout
   pub chunks : List Chunk
 
@@ -68,7 +69,7 @@ begun_file kind told failures = record {
   fault = None;
   chain = length told + length (header_mark kind);
   predictor = predictor.None;
-  method = method.None;
+  compression = Uncompressed;
 }
 
 -- the result of a call, its writes, and the file after it; an error in the result is neither that

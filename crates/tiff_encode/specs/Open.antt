@@ -5,7 +5,6 @@ use Rattle.std.specs.List.{list_any}
 use Rattle.std.specs.FinMap.{FinMap}
 use Rattle.std.specs.Ordering.{nat_cmp}
 use Rattle.tiff_base.specs.declared.error.TiffError.{TiffError}
-use Rattle.tiff_base.specs.declared.tags.CompressionMethod.TheVariants as method
 use Rattle.tiff_base.specs.declared.tags.ExtraSamples.{ExtraSamples}
 use Rattle.tiff_base.specs.declared.tags.FileKind.{FileKind}
 use Rattle.tiff_base.specs.declared.tags.Predictor.TheVariants as predictor
@@ -18,7 +17,6 @@ use Rattle.tiff_value.specs.declared.encoder.colortype.ColorTypeName.{ColorTypeN
 use Rattle.tiff_value.specs.Buffer.{BufferRecord}
 use Rattle.tiff_value.specs.ColorTypes.{color_type, inner_size}
 use Rattle.tiff_value.specs.Data.{FieldData, Scalars, u16s}
-use Rattle.tiff_value.specs.Packed.{IsStored}
 use Rattle.tiff_page.specs.Checks.{is_page_tag}
 use Rattle.tiff_page.specs.Counts.{all_chunks}
 use Rattle.tiff_encode.specs.FileBytes.{offset_len}
@@ -30,7 +28,7 @@ use Rattle.tiff_encode.specs.Chunks.{all_samples, image_page, chunk_samples, is_
 use Rattle.tiff_encode.specs.Causes.{end_of}
 use Rattle.tiff_encode.specs.Calls as calls
 use Rattle.tiff_encode.specs.Calls.{Offsets}
-use Rattle.tiff_encode.specs.Stored.{unpacked_chunk}
+use Rattle.tiff_encode.specs.Stored.{IsChunkStored}
 use Rattle.tiff_encode.specs.Shows.{Shows}
 use Rattle.tiff_encode.specs.Held.{Given, HoldsValues, ExtraGiven, AreGiven, EachGiven, lasting_tags, place_tags, samples_of_chunk, StandsFor, TellsImage, IsWholeImage, AreSupplied, RegionsHaveChunks, image_with}
 
@@ -58,7 +56,6 @@ pub record IsOpen (i : OpenImage) : Type 0 where
   pub wide : IsSide i.width
   pub high : IsSide i.height
   pub few : all_samples i < 2 ^ 16
-  pub packed_by : (i.method ≡ method.None) ⊎ (i.method ≡ method.PackBits)
   pub predicted_by : (i.predictor ≡ predictor.None) ⊎ (i.predictor ≡ predictor.Horizontal)
   pub form : IsForm i.width i.form
 
@@ -113,7 +110,6 @@ abbrev pub BeginsOpen : Type 0
 BeginsOpen =
     (file : FileState) (m : Model) (name : ColorTypeName) (width height : ℕ) (i : OpenImage)
     → width < 2 ^ 32 → height < 2 ^ 32
-    → (file.method ≡ method.None) ⊎ (file.method ≡ method.PackBits)
     → (calls.new_image (color_type name) (inner_size name) width height file).answer ≡ Ok i
     → HoldsOpen file.kind
     (model_by file m (calls.new_image (color_type name) (inner_size name) width height file)) i
@@ -175,7 +171,7 @@ ChunksKeepOpen =
     (numbers stored : List ℕ)
     → HoldsOpen file.kind m i samples → ((n : ℕ) → get_or numbers n 0 < 256 ^ i.size)
     → length numbers < 2 ^ 64 - 1
-    → IsStored i.method stored (unpacked_chunk i numbers) → end_of file < 2 ^ 64
+    → IsChunkStored i stored numbers → end_of file < 2 ^ 64
     → length stored < 2 ^ 64
     → (((calls.write_chunk i (length numbers) stored file).answer ≡ Ok next
     → HoldsOpen file.kind (model_by file m (calls.write_chunk i (length numbers) stored file)) next

@@ -6,13 +6,12 @@ use Rattle.tiff_base.specs.declared.tags.PlanarConfiguration.TheVariants.{Planar
 use Rattle.tiff_page.specs.Page.{PageRecord}
 use Rattle.tiff_page.specs.Pixels.{planar_or, stored_samples}
 use Rattle.tiff_page.specs.Rect.{RectRecord}
-use Rattle.tiff_value.specs.Packed.{IsStored}
 use Rattle.tiff_encode.specs.declared.encoder.image.data.ChunkArea.{ChunkArea}
 use Rattle.tiff_encode.specs.Machine.{FileState, OpenImage}
 use Rattle.tiff_encode.specs.Chunks.{image_page, row_samples, chunk_samples, is_in_order, cut_out}
 use Rattle.tiff_encode.specs.Calls as calls
 use Rattle.tiff_encode.specs.Ends.{EndsAsDefined, IsCutOff}
-use Rattle.tiff_encode.specs.Stored.{unpacked_chunk}
+use Rattle.tiff_encode.specs.Stored.{IsChunkStored}
 
 -- the samples of the next chunk, after k chunks of these samples were written: the next ones in row
 -- order, or those cut out of the image
@@ -33,11 +32,11 @@ abbrev pub WritesPart : {A : Type 0} → OpenImage → List ℕ → Result A Tif
     → FileState → OpenImage → Type 0
 WritesPart i part (Ok x) old new next =
     (stored : List ℕ)
-    × (IsStored i.method stored (unpacked_chunk i part)
+    × (IsChunkStored i stored part
     × EndsAsDefined (calls.write_chunk i (length part) stored old) (Ok next) new)
 WritesPart i part (Err e) old new next =
     ((e ≡ OutOfMemory) × (new ≡ old))
-    ⊎ ((stored : List ℕ) × (IsStored i.method stored (unpacked_chunk i part)
+    ⊎ ((stored : List ℕ) × (IsChunkStored i stored part
     × (EndsAsDefined (calls.write_chunk i (length part) stored old) (Err e) new
     ⊎ IsCutOff (calls.write_chunk i (length part) stored old).ops e old new)))
 

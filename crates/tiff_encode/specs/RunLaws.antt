@@ -2,13 +2,12 @@
 use Rattle.std.specs.Prelude.{◌≡◌, ℕ, ◌^◌, ◌<◌, List, Result, Ok}
 use Rattle.std.specs.FinMap.{len}
 use Rattle.tiff_base.specs.declared.error.TiffError.{TiffError}
-use Rattle.tiff_base.specs.declared.tags.CompressionMethod.TheVariants as method
 use Rattle.tiff_base.specs.Field.{Field}
+use Rattle.tiff_encode.specs.declared.encoder.settings.Compression.TheVariants.{Uncompressed}
 use Rattle.tiff_encode.specs.Machine.{FileState, OpenDirectory, OpenImage, WriteOutcome}
 use Rattle.tiff_encode.specs.Calls.{Offsets, finish, new_offset}
-use Rattle.tiff_encode.specs.Stored.{unpacked_chunk}
+use Rattle.tiff_encode.specs.Stored.{IsChunkStored}
 use Rattle.tiff_encode.specs.Jobs.{FileAndModel, IsDone}
-use Rattle.tiff_value.specs.Packed.{IsStored}
 
 -- a call that doesn't fail has one result, and leaves one file and one model
 abbrev pub IsOneStep : Type 0 → Type 0
@@ -22,9 +21,9 @@ OneStep = IsOneStep Field
 
 -- a chunk that isn't compressed is stored in one way
 abbrev pub OneStored : Type 0
-OneStored = (i : OpenImage) (samples stored other : List ℕ) → i.method ≡ method.None
-    → IsStored i.method stored (unpacked_chunk i samples)
-    → IsStored i.method other (unpacked_chunk i samples) → stored ≡ other
+OneStored = (i : OpenImage) (samples stored other : List ℕ) → i.compression ≡ Uncompressed
+    → IsChunkStored i stored samples
+    → IsChunkStored i other samples → stored ≡ other
 
 -- `DirectoryOffset::new`, of the offset and the number of entries of a finished directory, returns
 -- the offsets that the end of the directory returned

@@ -4,12 +4,11 @@ use Rattle.tiff_base.specs.declared.error.TiffError.{TiffError}
 use Rattle.tiff_base.specs.declared.error.TiffError.TheVariants.{IoError, IntSizeError, OutOfMemory}
 use Rattle.tiff_base.specs.declared.io.IoKind.TheVariants.{InvalidData}
 use Rattle.tiff_base.specs.declared.tags.FileKind.{FileKind}
-use Rattle.tiff_value.specs.Packed.{IsStored}
 use Rattle.tiff_encode.specs.Machine.{FileState, OpenImage, WriteOutcome, WriteCall}
 use Rattle.tiff_encode.specs.Chunks.{is_left, next_chunk_sample_count}
 use Rattle.tiff_encode.specs.Causes.{is_past, is_past_chunks}
 use Rattle.tiff_encode.specs.Ends.{EndsAsDefined, IsCutOff}
-use Rattle.tiff_encode.specs.Stored.{unpacked_chunk}
+use Rattle.tiff_encode.specs.Stored.{IsChunkStored}
 
 -- the error of a chunk that doesn't depend on the compressed bytes, at the end of a file of a
 -- length
@@ -39,11 +38,11 @@ module _ {A : Type 0} (call : OpenImage → ℕ → List ℕ → WriteCall OpenI
       → OpenImage → Type 0
   StoresChunk i samples (Ok x) old new next =
       (stored : List ℕ)
-      × (IsStored i.method stored (unpacked_chunk i samples)
+      × (IsChunkStored i stored samples
       × EndsAsDefined (call i (length samples) stored old) (Ok next) new)
   StoresChunk i samples (Err e) old new next =
       (next ≡ i) × (((e ≡ OutOfMemory) × (new ≡ old))
-      ⊎ ((stored : List ℕ) × (IsStored i.method stored (unpacked_chunk i samples)
+      ⊎ ((stored : List ℕ) × (IsChunkStored i stored samples
       × (EndsAsDefined (call i (length samples) stored old) (Err e) new
       ⊎ IsCutOff (call i (length samples) stored old).ops e old new))))
 

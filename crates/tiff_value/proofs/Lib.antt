@@ -5,6 +5,7 @@ pub mod Bytes
 pub mod ColorTypes
 pub mod Differences
 pub mod Packing
+pub mod PackedRows
 pub mod Predicted
 pub mod Chunk
 pub mod Lowest

@@ -10,7 +10,7 @@ use Rattle.tiff_base.specs.Runs.{Plain, runs}
 use Rattle.tiff_base.specs.Blocks.{Block, Literal, Repeated, Empty, AreBlocks, packed_block, plain_block}
 use Rattle.tiff_base.proofs.Blocks.{one_unpacked}
 use Rattle.tiff_value.specs.Packed.{begins_with_two, holds_three, is_sparing, may_be_written, Packs, IsPacked}
-use Rattle.tiff_value.specs.Packing.{IsRun, IsVaried, IsVariedFront, BeginsWithThree, bound_slack, PacksAtEnd}
+use Rattle.tiff_value.specs.Packing.{IsRun, IsVaried, IsVariedFront, BeginsWithThree, bound_slack, PacksAtEnd, AppendsPacked}
 
 -- ---- a literal that is varied is sparing
 
@@ -46,14 +46,14 @@ sparing_of xs v = rw (begins_varied xs v.first, none_held xs v.no_three) refl
 pub no_two : (bytes : List ℕ) (n : ℕ) → IsRun bytes n → n ≤ 1 → 1 < length bytes → get_or bytes 0 0 ≢ get_or bytes 1 0
 no_two bytes n r a b e = let d : n ≡ 1 = omega (arith, r.some) in subst (λ (m : ℕ). get_or bytes m 0 ≢ get_or bytes 0 0) d (r.longest (omega arith) (omega arith)) (sym e)
 
-packs_nil : Packs [] []
+pub packs_nil : Packs [] []
 packs_nil = record { blocks = []; are_blocks = tt; written = refl; is_list = refl; stands = refl }
 
 are_appended : (p q : List Block) → AreBlocks p → AreBlocks q → AreBlocks (p ++ q)
 are_appended [] q a b = b
 are_appended (block ∷ p) q a b = (a.0, are_appended p q a.1 b)
 
-packs_append : (w v xs ys : List ℕ) → Packs w xs → Packs v ys → Packs (w ++ v) (xs ++ ys)
+pub packs_append : (w v xs ys : List ℕ) → Packs w xs → Packs v ys → Packs (w ++ v) (xs ++ ys)
 packs_append w v xs ys p q = record {
   blocks = p.blocks ++ q.blocks;
   are_blocks = are_appended p.blocks q.blocks p.are_blocks q.are_blocks;
@@ -82,17 +82,21 @@ packs_run n v a b = record {
   stands = sym (append-nil (replicate n v));
 }
 
--- packed bytes unpack to the original bytes
-pub unpacks : (bytes list : List ℕ) → IsPacked bytes list → runs false list ≡ record { out = bytes; end = Plain }
-unpacks bytes list p = one_unpacked list false bytes Plain (record {
-  blocks = p.packs.blocks;
-  are_blocks = p.packs.are_blocks;
+-- blocks unpack to the bytes that they encode
+pub packs_unpack : (bytes list : List ℕ) → Packs list bytes → runs false list ≡ record { out = bytes; end = Plain }
+packs_unpack bytes list p = one_unpacked list false bytes Plain (record {
+  blocks = p.blocks;
+  are_blocks = p.are_blocks;
   rest = Empty;
   is_rest = tt;
-  list = p.packs.is_list ∙ sym (append-nil (flat_map packed_block p.packs.blocks));
-  gives = p.packs.stands ∙ sym (append-nil (flat_map plain_block p.packs.blocks));
+  list = p.is_list ∙ sym (append-nil (flat_map packed_block p.blocks));
+  gives = p.stands ∙ sym (append-nil (flat_map plain_block p.blocks));
   ends = refl;
 })
+
+-- packed bytes unpack to the original bytes
+pub unpacks : (bytes list : List ℕ) → IsPacked bytes list → runs false list ≡ record { out = bytes; end = Plain }
+unpacks bytes list p = packs_unpack bytes list p.packs
 
 -- ---- the slack of blocks
 
@@ -166,8 +170,8 @@ pub record HasPacked (bytes : List ℕ) (n : ℕ) (packed_block : List ℕ) : Ty
   pub packs : Packs packed_block (take n bytes)
   pub short : 128 * length packed_block ≤ 129 * n + bound_slack (drop n bytes)
 
-pub none_packed : (bytes new : List ℕ) → new ≡ [] → HasPacked bytes 0 new
-none_packed bytes new e = subst (λ (xs : List ℕ). HasPacked bytes 0 xs) (sym e) (record { within = omega arith; packs = packs_nil; short = omega arith })
+none_packed : (bytes : List ℕ) → HasPacked bytes 0 []
+none_packed bytes = record { within = omega arith; packs = packs_nil; short = omega arith }
 
 grown : (bytes mid packed_block : List ℕ) (i n : ℕ) → HasPacked bytes i mid → n ≤ length (drop i bytes) → Packs packed_block (take n (drop i bytes))
     → 128 * length packed_block + bound_slack (drop i bytes) ≤ 129 * n + bound_slack (drop n (drop i bytes)) → HasPacked bytes (i + n) (mid ++ packed_block)
@@ -177,12 +181,32 @@ grown bytes mid packed_block i n h w p s = record {
   short = let e : bound_slack (drop n (drop i bytes)) ≡ bound_slack (drop (i + n) bytes) = ap bound_slack (drop-drop n i bytes) in omega (arith, h.short, s, e, length-append mid packed_block);
 }
 
-pub block_next : (bytes mid new : List ℕ) (i n : ℕ) → HasPacked bytes i mid → PacksAtEnd mid (drop i bytes) n new → HasPacked bytes (i + n) new
-block_next bytes mid new i n h p =
-    subst (λ (xs : List ℕ). HasPacked bytes (i + n) xs) (sym p.at_end) (grown bytes mid p.packed i n h p.within p.packs p.short)
+-- `new` is `old` with blocks for the first n bytes at its end, short enough in all
+pub record AppendsBlocks (old bytes : List ℕ) (n : ℕ) (new : List ℕ) : Type 0 where
+  pub packed : List ℕ
+  pub has : HasPacked bytes n packed
+  pub at_end : new ≡ old ++ packed
 
-pub all_packed : (bytes new : List ℕ) (i : ℕ) → HasPacked bytes i new → length bytes ≤ i → IsPacked bytes new
-all_packed bytes new i h l = record {
-  packs = subst (Packs new) (take_all i bytes l) h.packs;
-  bound = omega (arith, h.short, h.within, ap bound_slack (drop_all i bytes l));
+pub no_block : (old bytes : List ℕ) → AppendsBlocks old bytes 0 old
+no_block old bytes = record { packed = []; has = none_packed bytes; at_end = sym (append-nil old) }
+
+pub block_next : (old bytes mid new : List ℕ) (i n : ℕ) → AppendsBlocks old bytes i mid → PacksAtEnd mid (drop i bytes) n new → AppendsBlocks old bytes (i + n) new
+block_next old bytes mid new i n h p = record {
+  packed = h.packed ++ p.packed;
+  has = grown bytes h.packed p.packed i n h.has p.within p.packs p.short;
+  at_end = p.at_end ∙ (ap (λ (xs : List ℕ). xs ++ p.packed) h.at_end ∙ append_assoc old h.packed p.packed);
 }
+
+pub all_packed : (old bytes new : List ℕ) (i : ℕ) → AppendsBlocks old bytes i new → length bytes ≤ i → AppendsPacked old bytes new
+all_packed old bytes new i h l = record {
+  packed = h.packed;
+  is_packed = record {
+    packs = subst (Packs h.packed) (take_all i bytes l) h.has.packs;
+    bound = omega (arith, h.has.short, h.has.within, ap bound_slack (drop_all i bytes l));
+  };
+  at_end = h.at_end;
+}
+
+-- a packed list at the end of an empty one
+pub alone : (old bytes new : List ℕ) → old ≡ [] → AppendsPacked old bytes new → IsPacked bytes new
+alone old bytes new e a = subst (IsPacked bytes) (sym (a.at_end ∙ ap (λ (xs : List ℕ). xs ++ a.packed) e)) a.is_packed

@@ -1,6 +1,6 @@
 -- What a writer may write for bytes, packed by PackBits or as they are (TIFF 6.0 section 9).
-use Rattle.std.specs.Prelude.{◌≡◌, ℕ, ◌+◌, ◌/◌, ◌≤◌, Bool, true, false, not, ◌&&◌, ◌||◌, ◌==◌, List, [], ◌∷◌, length, Option, Some, None}
-use Rattle.std.specs.List.{flat_map, list_all}
+use Rattle.std.specs.Prelude.{◌≡◌, ℕ, ◌+◌, ◌*◌, ◌/◌, ◌<◌, ◌≤◌, Bool, true, false, not, ◌&&◌, ◌||◌, ◌==◌, List, [], ◌∷◌, length, Option, Some, None}
+use Rattle.std.specs.List.{flat_map, list_all, concat, AllZip}
 use Rattle.tiff_base.specs.declared.error.TiffError.{TiffError}
 use Rattle.tiff_base.specs.declared.error.TiffError.TheVariants.{IoError}
 use Rattle.tiff_base.specs.declared.io.IoKind.TheVariants.{WriteZero}
@@ -50,6 +50,16 @@ pub record IsPacked (bytes list : List ℕ) : Type 0 where
   pub packs : Packs list bytes
   pub bound : length list ≤ packed_bound (length bytes)
 
+-- Whole rows of `row` bytes each, packed one by one: "Pack each row separately. Do not compress
+-- across row boundaries." The bytes are the rows, one after another, and the list is the packed list
+-- of each row, one after another.
+pub record ArePackedRows (row : ℕ) (bytes list : List ℕ) : Type 0 where
+  pub rows : List (List ℕ)
+  pub lists : List (List ℕ)
+  pub packed : AllZip (λ one packed. (length one ≡ row) × IsPacked one packed) rows lists
+  pub are_rows : bytes ≡ concat rows
+  pub is_list : list ≡ concat lists
+
 -- The stored form of bytes by a method: the bytes themselves, or a packed list of them. No other
 -- method stores bytes.
 abbrev pub IsStored : CompressionMethod → List ℕ → List ℕ → Type 0
@@ -62,9 +72,20 @@ abbrev pub store_fault : CompressionMethod → List ℕ → Option TiffError
 store_fault method.PackBits [] = Some (IoError WriteZero)
 store_fault method bytes = None
 
--- ---- its law
+-- ---- its laws
 
 -- a packed list unpacks to the bytes that it is packed from, and ends at the end of a block
 abbrev pub PackedUnpacks : Type 0
 PackedUnpacks = (bytes list : List ℕ) → IsPacked bytes list
     → runs false list ≡ record { out = bytes; end = Plain }
+
+-- rows packed one by one unpack to the bytes that they are packed from, and end at the end of a
+-- block
+abbrev pub PackedRowsUnpack : Type 0
+PackedRowsUnpack = (row : ℕ) (bytes list : List ℕ) → ArePackedRows row bytes list
+    → runs false list ≡ record { out = bytes; end = Plain }
+
+-- rows packed one by one are at most as long as each row's largest number of packed bytes, together
+abbrev pub PackedRowsFit : Type 0
+PackedRowsFit = (row : ℕ) (bytes list : List ℕ) → 0 < row → ArePackedRows row bytes list
+    → length list ≤ length bytes / row * packed_bound row

@@ -1,6 +1,6 @@
 -- How the packer packs one block after another: the contracts of its functions.
 use Rattle.std.specs.Prelude.{◌≡◌, ◌≢◌, ℕ, ◌+◌, ◌*◌, ◌<◌, ◌≤◌, ◌⊎◌, ◌==◌, ◌&&◌, if◌then◌else◌, List, [], ◌∷◌, ◌++◌, take, drop, replicate, slice_index, length}
-use Rattle.tiff_value.specs.Packed.{Packs}
+use Rattle.tiff_value.specs.Packed.{Packs, IsPacked}
 
 -- the first n bytes are equal, and n is 128, or the bytes end there, or the next byte is different
 pub record IsRun (bytes : List ℕ) (n : ℕ) : Type 0 where
@@ -44,4 +44,10 @@ pub record PacksAtEnd (old bytes : List ℕ) (n : ℕ) (new : List ℕ) : Type 0
   pub packed : List ℕ
   pub packs : Packs packed (take n bytes)
   pub short : 128 * length packed + bound_slack bytes ≤ 129 * n + bound_slack (drop n bytes)
+  pub at_end : new ≡ old ++ packed
+
+-- `new` is `old` with a packed list of the bytes at its end
+pub record AppendsPacked (old bytes new : List ℕ) : Type 0 where
+  pub packed : List ℕ
+  pub is_packed : IsPacked bytes packed
   pub at_end : new ≡ old ++ packed

@@ -7,7 +7,7 @@ ghost use Rattle.tiff_value.specs.ColorType.{IsColorType, sample_number};
 ghost use Rattle.tiff_value.specs.ColorTypes.{color_type, color_types, inner_type, AreColorTypes};
 ghost use Rattle.tiff_value.specs.Data.{DataIsWhole, TextIsWhole, data_of};
 ghost use Rattle.tiff_value.specs.Differences.{IsUndone};
-ghost use Rattle.tiff_value.specs.Packed.{PackedUnpacks};
+ghost use Rattle.tiff_value.specs.Packed.{PackedRowsFit, PackedRowsUnpack, PackedUnpacks};
 ghost use Rattle.tiff_value.specs.Values.{IsValue};
 
 use crate::encoder::colortype::{ColorType, ColorTypeName, NamedColorType};
@@ -75,4 +75,14 @@ pub fn is_undone()
 /// Bytes packed by PackBits unpack to the original bytes.
 pub fn packed_unpacks()
     ensures { PackedUnpacks }
+{}
+
+/// Rows packed one by one unpack to the original bytes.
+pub fn packed_rows_unpack()
+    ensures { PackedRowsUnpack }
+{}
+
+/// Rows packed one by one are at most one byte longer for each 128 bytes of a row or part of 128.
+pub fn packed_rows_fit()
+    ensures { PackedRowsFit }
 {}

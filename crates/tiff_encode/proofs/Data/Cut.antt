@@ -14,9 +14,8 @@ use Rattle.tiff_page.specs.Laws.{HasSides}
 use Rattle.tiff_page.specs.Page.{PageRecord}
 use Rattle.tiff_page.specs.Pixels.{tabulate, planar_or, stored_samples}
 use Rattle.tiff_page.specs.Rect.{RectRecord, rect, chunks_of_plane}
-use Rattle.tiff_page.proofs.PositionLaws.{chunks_within}
+use Rattle.tiff_page.proofs.PositionLaws.{chunks_within, parts_some}
 use Rattle.tiff_page.proofs.Rows.{each_same}
-use Rattle.tiff_page.proofs.Sizes.{parts_some}
 use Rattle.tiff_encode.specs.Chunks.{chunk_rows, row_samples, chunk_samples, cut_out}
 use Rattle.tiff_encode.specs.Parts.{IsPatch, pixel_sample, row_sample}
 

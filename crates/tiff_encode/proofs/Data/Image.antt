@@ -3,7 +3,6 @@ use Rattle.std.proofs.Common.{◌≡◌, ℕ, ◌*◌, ◌^◌, ◌<◌, ◌≤�
 use Rattle.std.proofs.lemmas.List.{length-append, length-replicate}
 use Rattle.tiff_base.specs.declared.color.ColorType.{ColorType}
 use Rattle.tiff_base.specs.declared.error.TiffError.{TiffError}
-use Rattle.tiff_base.specs.declared.tags.CompressionMethod.TheVariants as method
 use Rattle.tiff_base.specs.declared.tags.FileKind.{FileKind}
 use Rattle.tiff_base.specs.declared.tags.PhotometricInterpretation.{PhotometricInterpretation}
 use Rattle.tiff_base.specs.Color.{num_samples}
@@ -166,7 +165,7 @@ written_longer i samples old new w =
 -- ---- the law
 
 module _ (parts_show : PartsShow) (color : ColorTypeRecord) (size width height : ℕ) (samples : List ℕ) (old new : FileState) (m : Model)
-    (wide : width < 2 ^ 32) (high : height < 2 ^ 32) (packed : (old.method ≡ method.None) ⊎ (old.method ≡ method.PackBits))
+    (wide : width < 2 ^ 32) (high : height < 2 ^ 32)
     (small : AreNumbers size samples) (short : IsShortFile new) (stands : Stands old.kind old.bytes m) (link : IsLink old.kind m old.chain)
     (i : OpenImage) (mid : FileState) (begun : EndsAsDefined (new_image color size width height old) (Ok i) mid) where
   abbrev first_model : Model
@@ -228,7 +227,7 @@ module _ (parts_show : PartsShow) (color : ColorTypeRecord) (size width height :
     image_held name c s =
         let P : ColorTypeRecord → ℕ → Type 0 = λ x n. (new_image x n width height old).answer ≡ Ok i
         → HoldsOpen old.kind (model_by old m (new_image x n width height old)) i [] in
-        let named : P (color_type name) (inner_size name) = begins_open old m name width height i wide high packed in
+        let named : P (color_type name) (inner_size name) = begins_open old m name width height i wide high in
         subst (λ x. P x size) (sym c) (subst (λ n. P (color_type name) n) (sym s) named) begun.answer
 
     -- the page shows the samples
@@ -311,19 +310,19 @@ module _ (parts_show : PartsShow) (color : ColorTypeRecord) (size width height :
 -- what a call that writes a new image leaves, if the parts of the chunks show the samples
 pub new_image_leaves : PartsShow → {A : Type 0} (color : ColorTypeRecord) (size width height : ℕ) (samples : List ℕ) (r : Result A TiffError)
     (old new : FileState) (m : Model) → width < 2 ^ 32 → height < 2 ^ 32
-    → (old.method ≡ method.None) ⊎ (old.method ≡ method.PackBits) → AreNumbers size samples → IsShortFile new
+    → AreNumbers size samples → IsShortFile new
     → Stands old.kind old.bytes m → IsLink old.kind m old.chain
     → WritesImage color size width height samples r old new → LeavesNewImage color size width height samples r old new m
-new_image_leaves show {A = A} color size width height samples (Ok x) old new m wide high packed small short stands link h =
+new_image_leaves show {A = A} color size width height samples (Ok x) old new m wide high small short stands link h =
     elim h as (λ _. LeavesNewImage {A = A} color size width height samples (Ok x) old new m) [
       | inl n ↦ absurd n
-      | inr w ↦ image_written show color size width height samples old new m wide high packed small short stands link w.0 w.1.0 w.1.1.0
+      | inr w ↦ image_written show color size width height samples old new m wide high small short stands link w.0 w.1.0 w.1.1.0
           (data_written A w.0 samples x w.1.0 new w.1.1.1)
     ]
-new_image_leaves show {A = A} color size width height samples (Err e) old new m wide high packed small short stands link h =
+new_image_leaves show {A = A} color size width height samples (Err e) old new m wide high small short stands link h =
     elim h as (λ _. LeavesNewImage {A = A} color size width height samples (Err e) old new m) [
       | inl n ↦ inl (not_begun color size width height old e new n m stands)
-      | inr w ↦ image_stopped show color size width height samples old new m wide high packed small short stands link w.0 w.1.0 w.1.1.0
+      | inr w ↦ image_stopped show color size width height samples old new m wide high small short stands link w.0 w.1.0 w.1.1.0
           A e w.1.1.1
     ]
 

@@ -10,7 +10,6 @@ use Rattle.tiff_base.specs.declared.error.TiffError.TheVariants.{IoError, IntSiz
 use Rattle.tiff_base.specs.declared.io.IoKind.TheVariants.{InvalidData, InvalidInput}
 use Rattle.tiff_base.specs.declared.io.SinkFault.{SinkFault}
 use Rattle.tiff_page.specs.Rect.{rect}
-use Rattle.tiff_value.specs.Packed.{IsStored}
 use Rattle.tiff_encode.specs.Calls.{Offsets, with_chunk, appends_chunk, finish_image, write_chunk, write_chunks, write_image_data}
 use Rattle.tiff_encode.specs.Causes.{unless_ended, image_samples, is_past_chunks, write_chunk_cause, write_image_data_cause}
 use Rattle.tiff_encode.specs.Chunks.{image_page, row_samples, chunk_samples, is_begun, is_in_order, chunks_left, cut_out, part, parts_left}
@@ -20,7 +19,7 @@ use Rattle.tiff_encode.specs.ImageData.{StopsWithin, WritesChunks, WritesDataBy,
 use Rattle.tiff_encode.specs.Machine.{FileState, Chunk, OpenImage, WriteOutcome, WriteCall, gives, answers, by_cause, and_then, ◌>>=◌}
 use Rattle.tiff_encode.specs.Parts.{next_part, WritesPart}
 use Rattle.tiff_encode.specs.FileWrites.{file_with_bytes}
-use Rattle.tiff_encode.specs.Stored.{AreStored, unpacked_chunk}
+use Rattle.tiff_encode.specs.Stored.{AreStored, unpacked_chunk, IsChunkStored}
 use Rattle.tiff_encode.proofs.Calling.{uncaused}
 use Rattle.tiff_encode.proofs.Joining.{IsAdding, appended_len, begun_both, bind_told, bind_ends_adding}
 use Rattle.tiff_encode.proofs.Leaving.{ok_err}
@@ -86,11 +85,11 @@ chunks_joined i (p ∷ ps) (x ∷ xs) samples others s file h =
     ∙ going_further first.answer first.ops first.next (λ next. write_chunks next ps xs) rest
 
 stored_more : (i : OpenImage) (parts stored : List (List ℕ)) (samples : List ℕ) (others : List (List ℕ)) (s : List ℕ)
-    → drop (length stored) parts ≡ samples ∷ others → AreStored i parts stored → IsStored i.method s (unpacked_chunk i samples)
+    → drop (length stored) parts ≡ samples ∷ others → AreStored i parts stored → IsChunkStored i s samples
     → AreStored i parts (stored ++ s ∷ [])
 stored_more i [] [] samples others s h a b = absurd cc
 stored_more i (p ∷ ps) [] samples others s h a b =
-    (subst (λ xs. IsStored i.method s (unpacked_chunk i xs)) (sym (ap (λ xs. get_or xs 0 []) h)) b, tt)
+    (subst (λ xs. IsChunkStored i s xs) (sym (ap (λ xs. get_or xs 0 []) h)) b, tt)
 stored_more i [] (x ∷ xs) samples others s h a b = absurd a
 stored_more i (p ∷ ps) (x ∷ xs) samples others s h a b = (a.0, stored_more i ps xs samples others s h a.1 b)
 
@@ -155,9 +154,9 @@ module _ (i : OpenImage) (samples : List ℕ) where
       ap (λ x. next_part x samples k) same
       ∙ ap (λ c. cond (is_in_order i.form) (take (chunk_samples p c) (drop (k * (p.chunk_height * row_samples p)) samples)) (cut_out p samples c)) counted
 
-  bytes_same : (now : OpenImage) (xs : List ℕ) → now ≡ record i { chunks = now.chunks } → unpacked_chunk now xs ≡ unpacked_chunk i xs
+  stored_same : (now : OpenImage) (xs s : List ℕ) → now ≡ record i { chunks = now.chunks } → IsChunkStored now s xs → IsChunkStored i s xs
   unfolding unpacked_chunk
-  bytes_same now xs same = ap (λ x. unpacked_chunk x xs) same
+  stored_same now xs s same h = subst (λ x. IsChunkStored x s xs) same h
 
   -- at the start, no chunk is written
   pub none_written : (old : FileState) → HasWritten i parts 0 old old i
@@ -181,14 +180,12 @@ module _ (i : OpenImage) (samples : List ℕ) where
     same_part = part_same now k h.same h.chunks
 
     abbrev IsGiven : List ℕ → List ℕ → Type 0
-    IsGiven s xs = IsStored now.method s (unpacked_chunk now xs)
+    IsGiven s xs = IsChunkStored now s xs
 
     more_are : (s : List ℕ) → IsGiven s (next_part now samples k) → AreStored i parts (h.stored ++ s ∷ [])
     more_are s b =
         let at : IsGiven s this = subst (IsGiven s) same_part b in
-        let bytes : IsStored now.method s (unpacked_chunk i this) = subst (λ xs. IsStored now.method s xs) (bytes_same now this h.same) at in
-        stored_more i parts h.stored this (drop (k + 1) parts) s follows h.are
-        (subst (λ method. IsStored method s (unpacked_chunk i this)) (ap (λ x. x.method) h.same) bytes)
+        stored_more i parts h.stored this (drop (k + 1) parts) s follows h.are (stored_same now this s h.same at)
 
     abbrev rest : List ℕ → OpenImage → WriteCall OpenImage
     rest s n = write_chunk n (length this) s

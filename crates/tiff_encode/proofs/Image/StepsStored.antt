@@ -2,7 +2,6 @@
 use Rattle.std.proofs.Common.{◌≡◌, ℕ, ◌-◌, ◌^◌, ◌%◌, ◌<◌, ◌≤◌, ◌⊎◌, Bool, true, false, List, [], ◌∷◌, ◌++◌, length, get_or, Option, Some, None, Result, Ok, Err, refl, ap, sym, ◌∙◌, inl, inr, subst, arith, length-append}
 use Rattle.tiff_base.specs.declared.error.TiffError.{TiffError}
 use Rattle.tiff_base.specs.declared.error.TiffError.TheVariants.{OutOfMemory}
-use Rattle.tiff_value.specs.Packed.{IsStored}
 use Rattle.tiff_encode.specs.declared.encoder.script.StepReply.{StepReply}
 use Rattle.tiff_encode.specs.Model.{Model, Stands, Grows}
 use Rattle.tiff_encode.specs.Machine.{FileState, OpenImage, WriteOutcome, WriteCall, by_cause}
@@ -11,7 +10,7 @@ use Rattle.tiff_encode.specs.Calls.{with_chunk, appends_chunk, write_chunk, writ
 use Rattle.tiff_encode.specs.Ends.{EndsAsDefined, IsCutOff}
 use Rattle.tiff_encode.specs.ImageData.{LeavesChunk}
 use Rattle.tiff_encode.specs.Open.{HoldsOpen, model_by}
-use Rattle.tiff_encode.specs.Stored.{unpacked_chunk}
+use Rattle.tiff_encode.specs.Stored.{IsChunkStored}
 use Rattle.tiff_encode.specs.Storing.{WritesStoredChunk}
 use Rattle.tiff_encode.specs.JobValues.{cut_to}
 use Rattle.tiff_encode.specs.Jobs as jobs
@@ -61,7 +60,7 @@ pub record IsStoring (call : OpenImage → ℕ → List ℕ → WriteCall OpenIm
       → length stored ≤ end_of (call i n stored file).next
   pub keeps : (file : FileState) (m : Model) (i next : OpenImage) (samples : List (List ℕ)) (numbers stored : List ℕ)
       → HoldsOpen file.kind m i samples → ((n : ℕ) → get_or numbers n 0 < 256 ^ i.size) → length numbers < 2 ^ 64 - 1
-      → IsStored i.method stored (unpacked_chunk i numbers) → end_of file < 2 ^ 64 → length stored < 2 ^ 64
+      → IsChunkStored i stored numbers → end_of file < 2 ^ 64 → length stored < 2 ^ 64
       → (call i (length numbers) stored file).answer ≡ Ok next
       → HoldsOpen file.kind (model_by file m (call i (length numbers) stored file)) next (samples ++ numbers ∷ [])
 
@@ -98,7 +97,7 @@ module _ (call : OpenImage → ℕ → List ℕ → WriteCall OpenImage) (c : Is
 
   -- the chunk is stored as the given bytes
   stored_so : (x : Unit {0}) (known : Bool) (s : FileAndModel) (before : List (List ℕ)) (stored : List ℕ) → end_of s.file < 2 ^ 64
-      → IsStored i.method stored (unpacked_chunk i numbers) → EndsAsDefined (call i (length numbers) stored s.file) (Ok j) new
+      → IsChunkStored i stored numbers → EndsAsDefined (call i (length numbers) stored s.file) (Ok j) new
       → (known ≡ true → Stands s.file.kind new.bytes (model_by s.file s.model (call i (length numbers) stored s.file)))
       → Stored None (Ok x) known s before
   stored_so x known s before stored near is told stands =
@@ -139,7 +138,7 @@ module _ (call : OpenImage → ℕ → List ℕ → WriteCall OpenImage) (c : Is
 
   -- the call is refused, or the sink fails
   stopped : (e : TiffError) (known : Bool) (s : FileAndModel) (before : List (List ℕ)) (stored : List ℕ) → j ≡ i
-      → IsStored i.method stored (unpacked_chunk i numbers)
+      → IsChunkStored i stored numbers
       → EndsAsDefined (call i (length numbers) stored s.file) (Err e) new ⊎ IsCutOff (call i (length numbers) stored s.file).ops e s.file new
       → (known ≡ true → Stands s.file.kind new.bytes s.model) → Stored None (Err e) known s before
   stopped e known s before stored o is h stands =

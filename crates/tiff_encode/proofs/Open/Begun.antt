@@ -7,8 +7,6 @@ use Rattle.std.specs.Ordering.{nat_cmp, eq_by_cmp}
 use Rattle.std.specs.Prelude.{◌/◌, ◌%◌, ◌==◌}
 use Rattle.tiff_base.proofs.Common.{neither}
 use Rattle.tiff_base.specs.declared.error.TiffError.{TiffError}
-use Rattle.tiff_base.specs.declared.tags.CompressionMethod.{CompressionMethod}
-use Rattle.tiff_base.specs.declared.tags.CompressionMethod.TheVariants as method
 use Rattle.tiff_base.specs.declared.tags.PhotometricInterpretation.{PhotometricInterpretation}
 use Rattle.tiff_base.specs.declared.tags.PhotometricInterpretation.TheVariants as meaning
 use Rattle.tiff_base.specs.declared.tags.Predictor.{Predictor}
@@ -20,6 +18,8 @@ use Rattle.tiff_value.specs.declared.encoder.colortype.ColorTypeName.{ColorTypeN
 use Rattle.tiff_value.specs.ColorType.{ColorTypeRecord}
 use Rattle.tiff_value.specs.ColorTypes.{color_type, inner_size}
 use Rattle.tiff_value.proofs.ColorTypes.{are_color_types}
+use Rattle.tiff_encode.specs.declared.encoder.settings.Compression.{Compression}
+use Rattle.tiff_encode.specs.declared.encoder.settings.Compression.TheVariants.{Uncompressed, Packbits, PackbitsRows}
 use Rattle.tiff_encode.specs.FileBytes.{rows_per_strip}
 use Rattle.tiff_encode.specs.Model.{Model}
 use Rattle.tiff_encode.specs.Machine.{FileState, OpenDirectory, OpenImage, WriteCall, gives, ◌>>=◌}
@@ -98,9 +98,10 @@ rows_side n =
     let l : q ≤ 1000000 = div-le_self 1000000 n in
     (some_rows n, omega (arith, l, min-le_left 1 (1000000 % n)))
 
-default_side : (m : CompressionMethod) (n : ℕ) → (m ≡ method.None) ⊎ (m ≡ method.PackBits) → IsSide (default_rows m n)
-default_side m n (inl e) = subst (λ k. IsSide (default_rows k n)) (sym e) (rows_side n)
-default_side m n (inr e) = subst (λ k. IsSide (default_rows k n)) (sym e) (lit< tt, lit< tt)
+default_side : (c : Compression) (n : ℕ) → IsSide (default_rows c n)
+default_side Uncompressed n = rows_side n
+default_side Packbits n = (lit< tt, lit< tt)
+default_side PackbitsRows n = (lit< tt, lit< tt)
 
 -- ---- the image
 
@@ -131,11 +132,11 @@ no_chunks file d color size width height m = record {
 
 -- a new image is held if nothing refuses it
 begun_held : (file : FileState) (d : OpenDirectory) (m : Model) (name : ColorTypeName) (width height : ℕ)
-    → width < 2 ^ 32 → height < 2 ^ 32 → (file.method ≡ method.None) ⊎ (file.method ≡ method.PackBits)
+    → width < 2 ^ 32 → height < 2 ^ 32
     → (let i : OpenImage = image_in file d (color_type name) (inner_size name) width height in
     new_image_cause file (color_type name) width height ≡ None → HoldsValues m d.fields (first_given i) → HoldsOpen file.kind m i [])
 unfolding new_image_cause image_cause
-begun_held file d m name width height w h p c o =
+begun_held file d m name width height w h c o =
     let color : ColorTypeRecord = color_type name in
     let size : ℕ = inner_size name in
     let i : OpenImage = image_in file d color size width height in
@@ -154,11 +155,10 @@ begun_held file d m name width height w h p c o =
         wide = wide;
         high = (above height some.1, h);
         few = omega (arith, few);
-        packed_by = p;
         predicted_by = predicted file.predictor color.formats _ sides.1;
         form = record {
           wide = wide;
-          high = default_side file.method (width * (length color.bits * size)) p;
+          high = default_side file.compression (width * (length color.bits * size));
           strips = λ _. refl;
         };
       };
@@ -167,7 +167,7 @@ begun_held file d m name width height w h p c o =
 
 pub begins_open : BeginsOpen
 unfolding new_image
-begins_open file m name width height i w h p a =
+begins_open file m name width height i w h a =
     let color : ColorTypeRecord = color_type name in
     let size : ℕ = inner_size name in
     let image : OpenDirectory → OpenImage = λ d. image_in file d color size width height in
@@ -184,5 +184,5 @@ begins_open file m name width height i w h p a =
     let held = tags_held d (first_tags (image d)) mid n (λ q. None) z (begun_empty file d n x) s in
     let k : Model = model_by mid n (call mid) in
     subst (λ j. HoldsOpen file.kind k j []) (ok_inj (image z) i t)
-    (begun_held file z k name width height w h p c
+    (begun_held file z k name width height w h c
     (λ t q. subst (λ v. HoldsAt k (get z.fields t) v) (all_given (image d) t) (held t q))))))

@@ -6,7 +6,6 @@ use Rattle.std.proofs.lemmas.Bool.{eqb-true, ltb-true, leb-false, cases_lt, fals
 use Rattle.std.proofs.lemmas.List.{length-append, length-map, map-append, get_or_append_left}
 use Rattle.std.specs.Prelude.{not, ◌==◌, slice_index}
 use Rattle.tiff_base.proofs.Common.{neither}
-use Rattle.tiff_value.specs.Packed.{IsStored}
 use Rattle.tiff_page.specs.Counts.{all_chunks}
 use Rattle.tiff_page.specs.Rect.{rect}
 use Rattle.tiff_encode.specs.FileBytes.{offset_len}
@@ -15,7 +14,7 @@ use Rattle.tiff_encode.specs.Machine.{FileState, Chunk, OpenImage}
 use Rattle.tiff_encode.specs.Chunks.{image_page, chunk_samples, is_left, next_chunk_sample_count}
 use Rattle.tiff_encode.specs.Causes.{end_of, is_past, chunk_cause, write_chunk_cause, write_strip_cause}
 use Rattle.tiff_encode.specs.Calls.{with_chunk, appends_chunk, write_chunk, write_strip}
-use Rattle.tiff_encode.specs.Stored.{unpacked_chunk}
+use Rattle.tiff_encode.specs.Stored.{unpacked_chunk, IsChunkStored}
 use Rattle.tiff_encode.specs.Held.{samples_of_chunk}
 use Rattle.tiff_encode.specs.Open.{HoldsChunks, HoldsOpen, model_by, ChunksKeepOpen}
 use Rattle.tiff_encode.proofs.Slices.{ok_inj}
@@ -116,7 +115,7 @@ is_next file i count stored l c =
 abbrev FileAndModel : Model → OpenImage → ℕ → ℕ → List ℕ → Type 0
 FileAndModel m i offset count samples =
     (stored : List ℕ) × (In (record { offset = offset; bytes = stored }) m.regions
-    × ((length stored ≡ count) × IsStored i.method stored (unpacked_chunk i samples)))
+    × ((length stored ≡ count) × IsChunkStored i stored samples))
 
 module _ (file : FileState) (m : Model) (i : OpenImage) (samples : List (List ℕ)) (numbers stored : List ℕ) where
   -- the region, the chunk, the model, the image and the samples after the call
@@ -136,7 +135,7 @@ module _ (file : FileState) (m : Model) (i : OpenImage) (samples : List (List �
   all = samples ++ numbers ∷ []
 
   chunks_more : HoldsChunks file.kind m i samples → IsNext file i (length numbers) (length stored)
-      → ((n : ℕ) → get_or numbers n 0 < 256 ^ i.size) → IsStored i.method stored (unpacked_chunk i numbers)
+      → ((n : ℕ) → get_or numbers n 0 < 256 ^ i.size) → IsChunkStored i stored numbers
       → end_of file < 2 ^ 64 → length stored < 2 ^ 64 → HoldsChunks file.kind later image all
   unfolding rect unpacked_chunk
   chunks_more h c s is near short =
@@ -181,7 +180,7 @@ module _ (file : FileState) (m : Model) (i : OpenImage) (samples : List (List �
   -- the image with the chunk is held
   chunk_kept : HoldsOpen file.kind m i samples → chunk_cause file i (length numbers) (length stored) ≡ None
       → ((n : ℕ) → get_or numbers n 0 < 256 ^ i.size) → IsAsked i (length numbers)
-      → IsStored i.method stored (unpacked_chunk i numbers) → end_of file < 2 ^ 64 → length stored < 2 ^ 64
+      → IsChunkStored i stored numbers → end_of file < 2 ^ 64 → length stored < 2 ^ 64
       → HoldsOpen file.kind later image all
   chunk_kept h c s l is near short = record {
     given = h.given;
@@ -194,7 +193,7 @@ module _ (file : FileState) (m : Model) (i : OpenImage) (samples : List (List �
   -- the image that the call returns is held
   appended_kept : (next : OpenImage) → HoldsOpen file.kind m i samples → chunk_cause file i (length numbers) (length stored) ≡ None
       → ((n : ℕ) → get_or numbers n 0 < 256 ^ i.size) → IsAsked i (length numbers)
-      → IsStored i.method stored (unpacked_chunk i numbers) → end_of file < 2 ^ 64 → length stored < 2 ^ 64
+      → IsChunkStored i stored numbers → end_of file < 2 ^ 64 → length stored < 2 ^ 64
       → (appends_chunk i stored file).answer ≡ Ok next
       → HoldsOpen file.kind (model_by file m (appends_chunk i stored file)) next all
   appended_kept next h c s l is near short a =
@@ -203,7 +202,7 @@ module _ (file : FileState) (m : Model) (i : OpenImage) (samples : List (List �
 -- a chunk with its number of samples keeps the image held
 pub chunk_keeps_open : (file : FileState) (m : Model) (i next : OpenImage) (samples : List (List ℕ)) (numbers stored : List ℕ)
     → HoldsOpen file.kind m i samples → ((n : ℕ) → get_or numbers n 0 < 256 ^ i.size) → IsAsked i (length numbers)
-    → IsStored i.method stored (unpacked_chunk i numbers) → end_of file < 2 ^ 64 → length stored < 2 ^ 64
+    → IsChunkStored i stored numbers → end_of file < 2 ^ 64 → length stored < 2 ^ 64
     → (write_chunk i (length numbers) stored file).answer ≡ Ok next
     → HoldsOpen file.kind (model_by file m (write_chunk i (length numbers) stored file)) next (samples ++ numbers ∷ [])
 unfolding write_chunk write_chunk_cause

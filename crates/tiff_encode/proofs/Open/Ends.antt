@@ -141,7 +141,6 @@ module _ (kind : FileKind) (m : Model) (i : OpenImage) (samples : List (List ℕ
     wide = s.wide;
     high = s.high;
     few = s.few;
-    packed_by = s.packed_by;
     predicted_by = s.predicted_by;
     form = s.form;
     chunks = all_written h l;

@@ -56,7 +56,6 @@ module _ (i : OpenImage) (d : OpenDirectory) (extra : List ExtraSamples) (form :
     wide = s.wide;
     high = s.high;
     few = few;
-    packed_by = s.packed_by;
     predicted_by = s.predicted_by;
     form = f;
   }

@@ -26,11 +26,12 @@ use Rattle.tiff_ifd.specs.TagLookup as look
 use Rattle.tiff_page.specs.Counts.{planes_of, chunk_count}
 use Rattle.tiff_page.specs.Page.{Chunks}
 use Rattle.tiff_page.specs.Checks.{size_in, interpretation_in, method_in, samples_in, extra_in, format_from, format_in, depth_from, depth_in, predictor_in, planar_from, planar_in, subsampling_from, subsampling_in, chunk_type_in, chunks_counted, strips_in, tiles_in, chunks_in}
-use Rattle.tiff_encode.specs.Machine.{OpenImage}
+use Rattle.tiff_encode.specs.Machine.{OpenImage, compression_method}
 use Rattle.tiff_encode.specs.Chunks.{all_samples, image_page}
 use Rattle.tiff_encode.specs.Chunks as encoded
 use Rattle.tiff_encode.specs.Calls.{extended_by_first}
 use Rattle.tiff_encode.specs.Held.{IsWholeImage}
+use Rattle.tiff_encode.proofs.Samples.{some_method}
 use Rattle.tiff_encode.proofs.PageTold.Colors.{AreAlike, bits_repeated, formats_repeated, format_same, depth_same, image_alike, image_samples}
 
 -- ---- the values that a look-up finds
@@ -81,7 +82,7 @@ pub record FindsPage (l : TagLookup) (i : OpenImage) : Type 0 where
   pub wide : find into_u32 l tag.ImageWidth ≡ Ok (Some i.width)
   pub high : find into_u32 l tag.ImageLength ≡ Ok (Some i.height)
   pub bits : find into_u64_vec l tag.BitsPerSample ≡ Ok (Some (extended_by_first i.color.bits (length i.extra)))
-  pub packed_by : find into_u16 l tag.Compression ≡ Ok (Some (method_number i.method))
+  pub packed_by : find into_u16 l tag.Compression ≡ Ok (Some (method_number (compression_method i.compression)))
   pub interpretation : find into_u16 l tag.PhotometricInterpretation ≡ Ok (Some (interpretation_number i.color.interpretation))
   pub samples : find into_u16 l tag.SamplesPerPixel ≡ Ok (Some (all_samples i))
   pub predicted_by : find into_u16 l tag.Predictor ≡ Ok (Some (predictor_number i.predictor))
@@ -184,9 +185,9 @@ module _ (kind : FileKind) (l : TagLookup) (i : OpenImage) (t : FindsPage l i) (
   interpretation_is = rw (t.interpretation, interpretation_back i.color.interpretation) refl
 
   -- the check of the compression method returns the image's
-  pub method_is : method_in l ≡ Ok i.method
+  pub method_is : method_in l ≡ Ok (compression_method i.compression)
   unfolding method_in
-  method_is = rw t.packed_by (ap (λ x. Ok x) (method_back i.method w.packed_by))
+  method_is = rw t.packed_by (ap (λ x. Ok x) (method_back (compression_method i.compression) (some_method i.compression)))
 
   -- the check of the samples returns the number of samples of a pixel
   pub samples_is : samples_in l ≡ Ok (all_samples i)

@@ -39,10 +39,11 @@ use Rattle.tiff_page.proofs.PassedChecks.{page_passed}
 use Rattle.tiff_encode.specs.FileBytes.{offset_len}
 use Rattle.tiff_encode.specs.Value.{offset_values}
 use Rattle.tiff_encode.specs.Model.{In, Model, Stands}
-use Rattle.tiff_encode.specs.Machine.{Chunk, OpenImage}
+use Rattle.tiff_encode.specs.Machine.{Chunk, OpenImage, compression_method}
 use Rattle.tiff_encode.specs.Chunks.{all_samples, image_page}
 use Rattle.tiff_encode.specs.Calls.{extended_by_first}
 use Rattle.tiff_encode.specs.Held.{Given, HoldsValues, chroma_given, planar_given, ExtraGiven, value_in, EachGiven, image_tags, places_in, TellsImage, IsWholeImage, PageTold}
+use Rattle.tiff_encode.proofs.Samples.{some_method}
 use Rattle.tiff_encode.proofs.Slices.{ok_bind}
 use Rattle.tiff_encode.proofs.Given.{is_one_of, given_at}
 use Rattle.tiff_encode.proofs.PageTold.Tags.{some_found, none_found, list_back, each_below, as_numbers, the_look, numbers_found, nothing_found, short_found, long_found, shorts_found, offsets_found}
@@ -258,8 +259,8 @@ module _ (kind : FileKind) (file : List ℕ) (m : Model) (fields : FinMap nat_cm
           wide = long_found kind file m fields given s h tag.ImageWidth i.width refl (told tag.ImageWidth refl) w.wide.1;
           high = long_found kind file m fields given s h tag.ImageLength i.height refl (told tag.ImageLength refl) w.high.1;
           bits = bits_is;
-          packed_by = short tag.Compression (methods (i.method ∷ [])) (method_number i.method) refl (told tag.Compression refl) refl
-              (method_small i.method w.packed_by);
+          packed_by = short tag.Compression (methods (compression_method i.compression ∷ [])) (method_number (compression_method i.compression)) refl (told tag.Compression refl) refl
+              (method_small (compression_method i.compression) (some_method i.compression));
           interpretation = short tag.PhotometricInterpretation (interpretations (i.color.interpretation ∷ []))
               (interpretation_number i.color.interpretation) refl (told tag.PhotometricInterpretation refl) refl
               (interpretation_small i.color.interpretation);

@@ -32,9 +32,8 @@ use Rattle.tiff_page.specs.Buffers.{planes_layout}
 use Rattle.tiff_page.specs.PixelCalls as calls
 use Rattle.tiff_page.specs.PixelCalls.{Part, bytes_with_region, part_fault, fill_buffer, image_part, image_of}
 use Rattle.tiff_page.specs.Image.{Decoded, decoded_samples}
-use Rattle.tiff_page.proofs.Sizes.{planes_some}
+use Rattle.tiff_page.proofs.PositionLaws.{planes_some, no_fault}
 use Rattle.tiff_page.proofs.Rows.{by_size, some_size}
-use Rattle.tiff_page.proofs.PositionLaws.{no_fault}
 use Rattle.tiff_page.proofs.Planes.{layout_gives, color_shows, first_plane_fault}
 use Rattle.tiff_page.proofs.Requests.{placed_in_zeros}
 use Rattle.tiff_page.proofs.Planes as plane

@@ -33,6 +33,7 @@ use Rattle.tiff_encode.specs.Machine.{OpenImage}
 use Rattle.tiff_encode.specs.Chunks.{all_samples, subsampling_of, image_page}
 use Rattle.tiff_encode.specs.Open.{IsOpen}
 use Rattle.tiff_encode.specs.ReadsBack.{IsReadable, WrittenReadsBack, ShownInOrder}
+use Rattle.tiff_encode.proofs.Samples.{some_method}
 use Rattle.tiff_encode.proofs.Shown.Color.{IsOf, of_family, first_of, IsColored, colored}
 use Rattle.tiff_encode.proofs.ReadsBack.Entries.{reads_back}
 
@@ -159,7 +160,7 @@ module _ (i : OpenImage) (w : IsOpen i) (p : PageRecord)
       let way : (p.predictor ≡ predictor.None) ⊎ (p.predictor ≡ predictor.Horizontal) =
       subst (λ (q : Predictor). (q ≡ predictor.None) ⊎ (q ≡ predictor.Horizontal)) (sym (ap (λ (q : PageRecord). q.predictor) same)) w.predicted_by in
       let packed : (p.method ≡ method.None) ⊎ (p.method ≡ method.PackBits) =
-      subst (λ (q : CompressionMethod). (q ≡ method.None) ⊎ (q ≡ method.PackBits)) (sym (ap (λ (q : PageRecord). q.method) same)) w.packed_by in
+      subst (λ (q : CompressionMethod). (q ≡ method.None) ⊎ (q ≡ method.PackBits)) (sym (ap (λ (q : PageRecord). q.method) same)) (some_method i.compression) in
       record {
         plain = taken.0;
         predictor = undone p p.predictor c way (numbered p.format p.depth type_there.0 type_there.1);

@@ -22,7 +22,7 @@ use Rattle.tiff_encode.specs.declared.encoder.script.Job.TheVariants as job
 use Rattle.tiff_encode.specs.declared.encoder.script.JobReply.{JobReply}
 use Rattle.tiff_encode.specs.Appending.{Continues, LinksFrom, continued_file}
 use Rattle.tiff_encode.specs.FileBytes.{offset_len}
-use Rattle.tiff_encode.specs.Model.{In, IsLink}
+use Rattle.tiff_encode.specs.Model.{In, IsLink, Model, header_model}
 use Rattle.tiff_encode.specs.WriteOps.{WriteOp, Appended, Supplied, Listed, Linked, all_appended, bytes_after}
 use Rattle.tiff_encode.specs.Machine.{FileState, OpenDirectory, OpenImage, WriteOutcome, WriteCall, does, by_cause, and_then, ◌>>=◌}
 use Rattle.tiff_encode.specs.Chunks.{parts_left}
@@ -32,6 +32,7 @@ use Rattle.tiff_encode.specs.Calls.{Offsets, offsets_of, links_to, chains, finis
 use Rattle.tiff_encode.specs.JobValues.{cut_to}
 use Rattle.tiff_encode.specs.Jobs.{FileAndModel, Drawn, Run, FinishedImage, IsDone, Refuses, FinishesWith, FinishesSilently, DirectoryEnds, ImageEnds, EndsWithin, JobWritesDataBy, JobIsNotBegun, IsSet, DirectoryRan, DirectoryRanBy, ImageRan, JobRan, JobsRun, run_after_job, with_parent, named_parent, open_directory, offsets_in}
 use Rattle.tiff_encode.specs.JobsBehind.{JobsGoOn, run_behind}
+use Rattle.tiff_encode.specs.Running.{JobsMove}
 use Rattle.tiff_encode.specs.Stepping.{IsSound}
 use Rattle.tiff_encode.proofs.Slices.{ok_inj, some_inj, none_some, length_put, length-le}
 use Rattle.tiff_encode.proofs.FormerBytes.{begun, cut, torn, written}
@@ -385,6 +386,29 @@ module _ (kind : FileKind) (q : ℕ) (former : List ℕ) (room : q + offset_len 
 
 -- ---- the law
 
+-- a run that begins behind a file
+run_begun : (kind : FileKind) (told : List ℕ) (failures q : ℕ) (former : Model) (room : q + offset_len kind ≤ length told)
+    → RunBehind kind q told room (run_behind (continued_file kind told failures q) former)
+run_begun kind told failures q former room = record {
+  file = record { kind_is = refl; bytes = begun kind q told room; chain = inl refl };
+  offsets = λ o i. absurd i;
+}
+
+-- jobs that are run behind any file keep its bytes, except those of the link
+pub jobs_continue : (kind : FileKind) (told : List ℕ) (failures q : ℕ) (jobs : List Job) (earlier all : List JobReply) (new : FileState)
+    → q + offset_len kind ≤ length told → JobsMove jobs earlier all (continued_file kind told failures q) new → Continues kind q told new.bytes
+jobs_continue kind told failures q jobs earlier all new room moves =
+    let run : Run = run_behind (continued_file kind told failures q) (header_model kind) in
+    let sound : IsSound false run = record {
+      stands = λ k. absurd (cc);
+      chain = λ k offset p. absurd (cc);
+      offsets = λ o i. absurd i;
+      images = λ f i. absurd i;
+    } in
+    let x = moves.1.1 false run refl refl sound in
+    let left = jobs_behind kind q told room jobs moves.0 run x.0 (run_begun kind told failures q (header_model kind) room) x.1.1.0 in
+    subst (λ f. Continues kind q told f.bytes) x.1.0 left.file.bytes
+
 pub jobs_go_on : JobsGoOn
 jobs_go_on kind told failures q former jobs earlier all new room goes moves =
     let file : FileState = continued_file kind told failures q in
@@ -396,11 +420,7 @@ jobs_go_on kind told failures q former jobs earlier all new room goes moves =
       images = λ f i. absurd i;
     } in
     let x = moves.1.1 true run refl refl sound in
-    let at : RunBehind kind q told room run = record {
-      file = record { kind_is = refl; bytes = begun kind q told room; chain = inl refl };
-      offsets = λ o i. absurd i;
-    } in
-    let left = jobs_behind kind q told room jobs moves.0 run x.0 at x.1.1.0 in (
+    let left = jobs_behind kind q told room jobs moves.0 run x.0 (run_begun kind told failures q former room) x.1.1.0 in (
       moves.0,
       (
         moves.1.0,

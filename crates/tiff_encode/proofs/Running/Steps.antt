@@ -3,7 +3,6 @@ use Rattle.std.proofs.Common.{◌≡◌, ℕ, ◌^◌, ◌<◌, Bool, true, fals
 use Rattle.std.specs.Prelude.{zero, suc, slice_get, length, if◌then◌else◌, OnErr}
 use Rattle.std.specs.declared.alloc.Global.{Global}
 use Rattle.tiff_base.specs.declared.error.TiffError.{TiffError}
-use Rattle.tiff_base.specs.declared.tags.CompressionMethod.TheVariants as method
 use Rattle.tiff_base.specs.declared.tags.Predictor.{Predictor}
 use Rattle.tiff_value.specs.ColorType.{ColorTypeRecord}
 use Rattle.tiff_value.specs.ColorTypes.{color_type, inner_size}
@@ -439,10 +438,10 @@ image_refused j r e old new known run b refused q s =
 
 -- a job that begins an image and runs to its end
 pub image_runs : (j : ImageJob) (r : JobReply) (old mid left new : FileState) (i : OpenImage) (known : Bool) (run : Run)
-    → j.width < 2 ^ 32 → j.height < 2 ^ 32 → (old.method ≡ method.None) ⊎ (old.method ≡ method.PackBits)
+    → j.width < 2 ^ 32 → j.height < 2 ^ 32
     → Begun (job_image j) old i mid → ImageGoesOn i j r mid left → left ≡ new → new.kind ≡ old.kind → run.standing.file ≡ old → IsSound known run
     → RunOn (λ run after. ImageRan run j r after) r known run new
-image_runs j r old mid left new i known run wide high packed b goes is_left kind q s =
+image_runs j r old mid left new i known run wide high b goes is_left kind q s =
     let color : ColorTypeRecord = color_type j.color in
     let size : ℕ = inner_size j.color in
     let file : FileState = run.standing.file in
@@ -458,10 +457,8 @@ image_runs j r old mid left new i known run wide high packed b goes is_left kind
     (new_parent color size j.width j.height file i done.ended.answer) s.chain in
     let g = goes known first begun.1.0 begun.1.1.1.0 linked in
     let t : FileAndModel = g.after_end in
-    let here : (file.method ≡ method.None) ⊎ (file.method ≡ method.PackBits) =
-    subst (λ f. (f.method ≡ method.None) ⊎ (f.method ≡ method.PackBits)) (sym q) packed in
     let new_directory : HoldsOpen file.kind (model_by file run.standing.model (call file)) i [] =
-    begins_open file run.standing.model j.color j.width j.height i wide high here done.ended.answer in
+    begins_open file run.standing.model j.color j.width j.height i wide high done.ended.answer in
     let holds : HoldsOpen first.file.kind first.model i [] =
     subst (λ kind. HoldsOpen kind first.model i []) (sym same.kind)
     (subst (λ m. HoldsOpen file.kind m i []) (sym done.model) new_directory) in

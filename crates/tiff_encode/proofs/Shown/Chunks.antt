@@ -15,7 +15,7 @@ use Rattle.tiff_page.specs.Rect.{chunk_of_pixel}
 use Rattle.tiff_page.specs.Methods.{data_by_method}
 use Rattle.tiff_page.specs.Pixels.{planar_or, stored_samples, stored_row_bytes, chunk_data, stored_number, needed_bytes, is_short, shown_sample}
 use Rattle.tiff_page.specs.Laws.{HasSides}
-use Rattle.tiff_encode.specs.Machine.{OpenImage}
+use Rattle.tiff_encode.specs.Machine.{OpenImage, compression_method}
 use Rattle.tiff_encode.specs.Chunks.{image_page, chunk_rows, row_samples, sample_in}
 use Rattle.tiff_encode.specs.Stored.{unpacked_chunk}
 use Rattle.tiff_encode.specs.Held.{IsWholeImage, samples_of_chunk, AreSupplied, HasChunks, ChunksShow}
@@ -50,8 +50,8 @@ module _ (kind : FileKind) (file : List ℕ) (i : OpenImage) (samples : List (Li
       let t = there k b in
       let bytes : List ℕ = unpacked_chunk i (samples_of_chunk samples k) in
       let offset : ℕ = slice_index p.offsets k in
-      let P : ℕ → Type 0 = λ n. (rest : List ℕ) × (data_by_method file i.method offset n ≡ bytes ++ rest) in
-      subst P t.1.1.0 (data_begin file LittleEndian p offset t.0 bytes t.1.0 i.method w.packed_by t.1.1.1)
+      let P : ℕ → Type 0 = λ n. (rest : List ℕ) × (data_by_method file (compression_method i.compression) offset n ≡ bytes ++ rest) in
+      subst P t.1.1.0 (data_begin file LittleEndian p offset t.0 bytes t.1.0 i.compression (row_samples p * i.size) t.1.1.1)
 
   -- no chunk has too few data
   not_short : (k : ℕ) → k < all_chunks p → is_short file LittleEndian p tinted.color k ≡ false

@@ -18,15 +18,17 @@ use Rattle.tiff_base.specs.Number.{number, le}
 use Rattle.tiff_base.specs.Runs.{Unpacked, runs}
 use Rattle.tiff_base.specs.SourceAndSink.{exactly_at}
 use Rattle.tiff_value.specs.Differences.{stored_difference, differences}
-use Rattle.tiff_value.specs.Packed.{IsStored}
 use Rattle.tiff_value.proofs.Packing.{unpacks}
+use Rattle.tiff_value.proofs.PackedRows.{rows_unpack}
 use Rattle.tiff_page.specs.Page.{PageRecord}
 use Rattle.tiff_page.specs.Methods.{data_by_method}
 use Rattle.tiff_page.specs.Pixels.{tabulate, width_of, stored_samples, stored_row_bytes, chunk_data, stored_row, number_size, row_number, number_by, stored_number}
 use Rattle.tiff_page.proofs.ChunkRows.{bits_are}
-use Rattle.tiff_encode.specs.Machine.{OpenImage}
+use Rattle.tiff_encode.specs.declared.encoder.settings.Compression.{Compression}
+use Rattle.tiff_encode.specs.declared.encoder.settings.Compression.TheVariants.{Uncompressed, Packbits, PackbitsRows}
+use Rattle.tiff_encode.specs.Machine.{OpenImage, compression_method}
 use Rattle.tiff_encode.specs.Chunks.{image_page, row_samples}
-use Rattle.tiff_encode.specs.Stored.{unpacked_chunk}
+use Rattle.tiff_encode.specs.Stored.{IsCompressed, unpacked_chunk}
 use Rattle.tiff_encode.proofs.Slices.{is_exact}
 use Rattle.tiff_encode.proofs.Shown.Color.{IsSize, IsColored}
 use Rattle.tiff_encode.proofs.Shown.Bytes.{number_found, length_written}
@@ -60,13 +62,10 @@ module _ (file : List ℕ) (order : ByteOrder) (p : PageRecord) (offset : ℕ) (
             ∙ sym (append-nil bytes),
       )
 
-  pub data_begin : (m : CompressionMethod) → (m ≡ method.None) ⊎ (m ≡ method.PackBits) → IsStored m stored bytes → Begins m
-  data_begin m c =
-      let P : CompressionMethod → Type 0 = λ q. IsStored q stored bytes → Begins q in
-      elim c as (λ _. P m) [
-        | inl e ↦ subst P (sym e) as_they_are
-        | inr e ↦ subst P (sym e) (λ s. unpacked _ (unpacks bytes stored s) refl)
-      ]
+  pub data_begin : (c : Compression) (row : ℕ) → IsCompressed c row stored bytes → Begins (compression_method c)
+  data_begin Uncompressed row s = as_they_are s
+  data_begin Packbits row s = unpacked _ (unpacks bytes stored s) refl
+  data_begin PackbitsRows row s = unpacked _ (rows_unpack row bytes stored s) refl
 
 -- the bits of a sample are the bits of its bytes
 bits_of : (size : ℕ) → IsSize size → 2 ^ (8 * size) ≡ 256 ^ size

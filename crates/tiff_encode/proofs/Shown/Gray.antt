@@ -2,7 +2,6 @@
 use Rattle.std.proofs.Common.{◌≡◌, ℕ, suc, ◌%◌, ◌<◌, List, [], ◌∷◌, map, get_or, Fits, w8, Ok, refl, ap, sym, ◌∙◌, subst, arith}
 use Rattle.tiff_base.specs.declared.color.ColorType.{ColorType}
 use Rattle.tiff_base.specs.declared.color.ColorType.TheVariants.{Gray}
-use Rattle.tiff_base.specs.declared.tags.CompressionMethod.TheVariants as method
 use Rattle.tiff_base.specs.declared.tags.FileKind.{FileKind}
 use Rattle.tiff_base.specs.declared.tags.FileKind.TheVariants.{Classic}
 use Rattle.tiff_base.specs.declared.tags.Predictor.TheVariants as predictor
@@ -18,6 +17,7 @@ use Rattle.tiff_value.specs.ColorType.{sample_number}
 use Rattle.tiff_value.specs.ColorTypes.{color_type, inner_size, inner_type}
 use Rattle.tiff_encode.specs.Causes.{end_of}
 use Rattle.tiff_encode.specs.Model.{Model, IsLink, header_link, header_model}
+use Rattle.tiff_encode.specs.declared.encoder.settings.Compression.TheVariants.{Uncompressed}
 use Rattle.tiff_encode.specs.Machine.{FileState, OpenDirectory, OpenImage}
 use Rattle.tiff_encode.specs.Calls.{image_in}
 use Rattle.tiff_encode.specs.Shows.{Shows, ShowsGray, gray_page, gray_image}
@@ -45,7 +45,7 @@ gray_color page width height color p c = ok_inj (Gray 8) color (ap color_of (sym
 
 -- an image of gray samples shows them
 module _ (width height : ℕ) (samples file : List ℕ) (kind : FileKind) (offset : ℕ) (state : FileState) (d : OpenDirectory)
-    (packed : state.method ≡ method.None) (predicted : state.predictor ≡ predictor.None) where
+    (packed : state.compression ≡ Uncompressed) (predicted : state.predictor ≡ predictor.None) where
   abbrev image : OpenImage
   image = image_in state d (color_type Gray8) (inner_size Gray8) width height
 
@@ -91,7 +91,7 @@ octets_alone (x ∷ xs) h =
 
 -- the file shows an image of gray bytes
 pub gray_bytes_shown : (width height : ℕ) (samples : List ℕ) (old new : FileState) (m : Model) → ((i : ℕ) → Fits w8 (get_or samples i 0))
-    → old.kind ≡ Classic → old.chain ≡ header_link Classic → 0 < end_of old → old.method ≡ method.None → old.predictor ≡ predictor.None
+    → old.kind ≡ Classic → old.chain ≡ header_link Classic → 0 < end_of old → old.compression ≡ Uncompressed → old.predictor ≡ predictor.None
     → LeavesImage (record { interpretation = BlackIsZero; bits = 8 ∷ []; formats = Uint ∷ [] }) 1 width height (map (sample_number 1 (λ n. n)) samples) old new m
     → ShowsGray new.bytes width height samples
 unfolding color_type inner_type

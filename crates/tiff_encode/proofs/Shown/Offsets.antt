@@ -15,7 +15,7 @@ use Rattle.tiff_page.specs.Rect.{across, chunks_of_plane, rect, chunk_of_pixel}
 use Rattle.tiff_page.specs.Layout.{row_bits, row_bytes, samples_in_chunk}
 use Rattle.tiff_page.specs.Pixels.{planar_or, stored_samples, stored_row_bytes, needs_whole_rows, needed_of_row, needed_bytes}
 use Rattle.tiff_page.specs.Laws.{HasSides}
-use Rattle.tiff_page.proofs.Chunks.{fewer_bytes}
+use Rattle.tiff_page.proofs.ChunkRows.{fewer_bytes}
 use Rattle.tiff_page.proofs.PositionLaws.{one_below, j_below, row_is, chunks_within}
 use Rattle.tiff_encode.specs.Chunks.{is_tile, chunk_rows, row_samples, chunk_samples}
 

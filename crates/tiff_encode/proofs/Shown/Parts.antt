@@ -8,7 +8,6 @@ use Rattle.std.proofs.lemmas.Nat.{mod_below, div-add-mod', div-mul-add, mod-mul-
 use Rattle.std.proofs.Math.Nat.{mul_assoc, mul-le-mul_right, div-eq_of_lt, mod-eq_of_lt}
 use Rattle.tiff_base.specs.declared.color.ChunkType.{ChunkType}
 use Rattle.tiff_base.specs.declared.color.ChunkType.TheVariants.{Strip, Tile}
-use Rattle.tiff_base.specs.declared.tags.CompressionMethod.TheVariants as method
 use Rattle.tiff_base.specs.declared.tags.Predictor.TheVariants as predictor
 use Rattle.tiff_base.specs.declared.tags.PlanarConfiguration.{PlanarConfiguration}
 use Rattle.tiff_base.specs.declared.tags.PlanarConfiguration.TheVariants.{Chunky, Planar}
@@ -21,7 +20,8 @@ use Rattle.tiff_page.proofs.PositionLaws.{has_pixel, column_is, row_is}
 use Rattle.tiff_value.specs.declared.encoder.colortype.ColorTypeName.TheVariants.{Gray8}
 use Rattle.tiff_value.specs.ColorTypes.{color_type, inner_type, inner_size}
 use Rattle.tiff_encode.specs.FileBytes.{rows_per_strip}
-use Rattle.tiff_encode.specs.Machine.{FileState, OpenDirectory}
+use Rattle.tiff_encode.specs.declared.encoder.settings.Compression.TheVariants.{Uncompressed}
+use Rattle.tiff_encode.specs.Machine.{FileState, OpenDirectory, compression_method}
 use Rattle.tiff_encode.specs.Chunks.{all_samples, image_page, is_tile, is_planar, row_samples, chunk_samples, cut_out, chunks_left, part, parts_left, sample_in}
 use Rattle.tiff_encode.specs.Calls.{default_rows, image_in}
 use Rattle.tiff_encode.specs.Shows.{gray_page}
@@ -201,12 +201,12 @@ parts_show i samples x y sample d none xl yl sl =
 -- ---- a new image of gray samples
 
 -- the page of the new image
-pub gray_page_is : (file : FileState) (d : OpenDirectory) (width height : ℕ) → file.method ≡ method.None → file.predictor ≡ predictor.None
+pub gray_page_is : (file : FileState) (d : OpenDirectory) (width height : ℕ) → file.compression ≡ Uncompressed → file.predictor ≡ predictor.None
     → image_page (image_in file d (color_type Gray8) (inner_size Gray8) width height) ≡ gray_page width height
 unfolding color_type inner_type
 gray_page_is file d width height m q =
     let e : width * 1 ≡ width = omega arith in
-    (λ t. record (gray_page width height) { method = m t; predictor = q t; chunk_height = default_rows (m t) (width * 1) })
+    (λ t. record (gray_page width height) { method = compression_method (m t); predictor = q t; chunk_height = default_rows (m t) (width * 1) })
     ∙ (λ t. record (gray_page width height) { chunk_height = rows_per_strip (e t) })
 
 -- the samples of the image are those of its pixels, row by row

@@ -5,8 +5,7 @@ pub(crate) mod finish;
 pub(crate) mod image_steps;
 pub(crate) mod values;
 
-ghost use Rattle.std.specs.Prelude.{◌≡◌, ◌⊎◌, length, true, false};
-ghost use Rattle.tiff_base.specs.declared.tags.CompressionMethod.TheVariants as method;
+ghost use Rattle.std.specs.Prelude.{◌≡◌, length, true, false};
 ghost use Rattle.tiff_encode.specs.Calls as calls;
 ghost use Rattle.tiff_encode.specs.Jobs.{offsets_in};
 ghost use Rattle.tiff_encode.specs.Running.{DirectoryGoesOn, DirectoryRunsOn, IsEmptyWithRoom, ImageGoesOn, ImageRunsOn, NamesLink, link_in, linked_from, step_count};
@@ -49,16 +48,6 @@ impl<W: Sink, K: TiffKind> TiffEncoder<W, K> {
         ensures { self.new ≡ calls.with_compression compression self.old }
     {
         self.compression = compression;
-    }
-
-    // States that the encoder compresses chunks with PackBits or not at all.
-    fn packs(&self)
-        ensures { (self.now.method ≡ method.None) ⊎ (self.now.method ≡ method.PackBits) }
-    {
-        match self.compression {
-            Compression::Uncompressed => {}
-            Compression::Packbits => {}
-        }
     }
 }
 
@@ -205,7 +194,6 @@ fn run_image<W: Sink, K: TiffKind, C: NamedColorType>(
     requires room { IsEmptyWithRoom (length job.now.steps.items) steps }
     ensures { ImageRunsOn job.now result encoder.old encoder.new }
 {
-    encoder.packs();
     let (width, height) = (job.width, job.height);
     match encoder.new_image::<C>(width, height) {
         Ok(image) => {

@@ -1,15 +1,15 @@
 //! The bytes of a chunk of samples: appended to a list, written without a list, or packed.
 
-ghost use Rattle.std.specs.Prelude.{◌≡◌, ◌<◌, ◌≤◌, ◌%◌, ◌^◌, ◌++◌, false, length, map, MatchResult};
+ghost use Rattle.std.specs.Prelude.{◌≡◌, ◌<◌, ◌≤◌, ◌%◌, ◌^◌, ◌++◌, [], false, length, map, MatchResult};
 ghost use Rattle.std.specs.List.{flat_map};
 ghost use Rattle.tiff_base.specs.Number.{le};
 ghost use Rattle.tiff_base.specs.Types.{type_size};
 ghost use Rattle.tiff_value.specs.ColorType.{sample_number};
 ghost use Rattle.tiff_value.specs.Differences.{differences};
-ghost use Rattle.tiff_value.specs.Packed.{IsPacked};
+ghost use Rattle.tiff_value.specs.Packed.{ArePackedRows, IsPacked};
 ghost use Rattle.tiff_value.specs.Written.{WritesCounted};
 
-use super::compression::push_packed;
+use super::compression::{push_packed, push_packed_rows, reserve_packed};
 use super::differences::Sample;
 use super::writer::TiffWriter;
 use tiff_base::error::{TiffError, TiffResult};
@@ -88,6 +88,14 @@ fn push_rows<T: Sample>(
     Ok(())
 }
 
+// Empties a list, and makes room for `rows` packed rows of `row` bytes each.
+fn clear_for(rows: usize, row: usize, out: &mut Vec<u8>) -> TiffResult<()>
+    ensures { MatchResult result (λ _. out.new.items ≡ []) (λ e. e ≡ TiffError.OutOfMemory) }
+{
+    out.clear();
+    reserve_packed(rows, row, out)
+}
+
 /// Replaces the contents of a list by the bytes packed by PackBits (TIFF 6.0 section 9). It
 /// reserves room for the largest possible number of packed bytes. The list then takes no further
 /// memory for another chunk of as many bytes. The only error is `OutOfMemory`, after which the list
@@ -96,7 +104,17 @@ pub fn pack_chunk(bytes: &[u8], out: &mut Vec<u8>) -> TiffResult<()>
     ensures { MatchResult result (λ _. IsPacked bytes.now out.new.items)
         (λ e. e ≡ TiffError.OutOfMemory) }
 {
-    out.clear();
-    out.reserve(bytes.len().saturating_add(bytes.len().div_ceil(128)))?;
+    clear_for(1, bytes.len(), out)?;
     push_packed(bytes, out)
+}
+
+/// `pack_chunk` of rows of `row` bytes, each packed by itself.
+pub fn pack_chunk_rows(bytes: &[u8], row: usize, out: &mut Vec<u8>) -> TiffResult<()>
+    requires some { 0 < row }
+    requires whole { length bytes.now % row ≡ 0 }
+    ensures { MatchResult result (λ _. ArePackedRows row bytes.now out.new.items)
+        (λ e. e ≡ TiffError.OutOfMemory) }
+{
+    clear_for(bytes.len() / row, row, out)?;
+    push_packed_rows(bytes, row, out)
 }

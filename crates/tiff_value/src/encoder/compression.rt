@@ -7,8 +7,8 @@ ghost use Rattle.tiff_value.specs.Stored.{Stores};
 mod packer;
 
 use crate::encoder::writer::TiffWriter;
-pub use packer::pack_bits;
-pub(crate) use packer::push_packed;
+pub use packer::{pack_bits, pack_rows};
+pub(crate) use packer::{push_packed, push_packed_rows, reserve_packed};
 use std::alloc::Global;
 use tiff_base::error::{TiffError, TiffResult, UsageError};
 use tiff_base::io::{IoKind, Sink};

@@ -88,19 +88,19 @@ fn method(compression: Compression) -> CompressionMethod
 {
     match compression {
         Compression::Uncompressed => CompressionMethod::None,
-        Compression::Packbits => CompressionMethod::PackBits,
+        Compression::Packbits | Compression::PackbitsRows => CompressionMethod::PackBits,
     }
 }
 
 // Returns the number of rows of a strip by default. `row_bytes` is the number of bytes of a row.
 fn rows_of_strip(compression: Compression, row_bytes: u64) -> u32
     requires { 0 < row_bytes }
-    ensures rows { result ≡ default_rows (compression_method compression) row_bytes }
+    ensures rows { result ≡ default_rows compression row_bytes }
     ensures some { 0 < result }
 {
     match compression {
         Compression::Uncompressed => 1_000_000u64.div_ceil(row_bytes) as u32,
-        Compression::Packbits => 1,
+        Compression::Packbits | Compression::PackbitsRows => 1,
     }
 }
 

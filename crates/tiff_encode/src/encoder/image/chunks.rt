@@ -4,14 +4,15 @@ ghost use Rattle.std.specs.Prelude.{◌≡◌, ℕ, ◌-◌, ◌*◌, ◌^◌, �
 ghost use Rattle.tiff_base.specs.Types.{type_size};
 ghost use Rattle.tiff_value.specs.ColorType.{sample_number};
 ghost use Rattle.tiff_base.specs.declared.tags.CompressionMethod.TheVariants as method;
-ghost use Rattle.tiff_value.specs.Packed.{IsPacked, IsStored};
 ghost use Rattle.tiff_encode.specs.Calls as calls;
 ghost use Rattle.tiff_encode.specs.Causes.{end_of, write_chunk_cause, write_strip_cause};
 ghost use Rattle.tiff_page.specs.Pixels.{stored_samples};
 ghost use Rattle.tiff_encode.specs.Chunks.{image_page, next_chunk_sample_count, row_samples};
 ghost use Rattle.tiff_encode.specs.Placing.{Checks};
 ghost use Rattle.tiff_encode.specs.Storing.{chunk_test, AppendsChunk, StoresChunk, WritesStoredChunk};
+ghost use Rattle.tiff_encode.specs.Machine.{compression_method};
 ghost use Rattle.tiff_encode.specs.Stored as stored;
+ghost use Rattle.tiff_encode.specs.Stored.{IsChunkStored};
 
 use crate::encoder::TiffEncoder;
 use crate::encoder::image::chunk_rooms::ChunkRooms;
@@ -50,6 +51,7 @@ impl<C: ColorType> ImageState<C> {
         ensures row { result.0 ≡ row_samples (image_page self.now) }
         ensures stride { result.1 ≡ stored_samples (image_page self.now) }
         ensures order { (0 < result.1) × (result.1 ≤ result.0) }
+        ensures few { result.0 < 2 ^ 48 }
     {
         let stride = self.stored_samples() as usize;
         (self.form.chunk_width as usize * stride, stride)
@@ -58,31 +60,33 @@ impl<C: ColorType> ImageState<C> {
     // Compresses the samples of the next chunk. The only error is `OutOfMemory`, also if the number
     // of bytes exceeds `usize`: no memory holds so many samples.
     fn pack_samples(&self, samples: &[C::Inner], rooms: &mut ChunkRooms) -> TiffResult<()>
-        requires { length samples.now ≡ next_chunk_sample_count self.now }
+        requires next { length samples.now ≡ next_chunk_sample_count self.now }
+        requires packed { compression_method self.now.compression ≡ method.PackBits }
         ensures { MatchResult result
-            (λ _. IsPacked
-            (stored.unpacked_chunk self.now
+            (λ _. IsChunkStored self.now rooms.new.packed.items
             (map (sample_number (type_size C.Inner.value_type) C.Inner.bits) samples.now))
-            rooms.new.packed.items)
             (λ e. e ≡ TiffError.OutOfMemory) }
     {
         byte_count::<C::Inner>(samples.len())?;
         let (row, stride) = self.row_and_stride();
-        rooms.pack(samples, self.predictor, row, stride)
+        match self.compression {
+            Compression::PackbitsRows => rooms.pack_rows(samples, self.predictor, row, stride),
+            _ => rooms.pack(samples, self.predictor, row, stride),
+        }
     }
 
     // Returns the bytes to store for the samples of the next chunk, without a copy. Returns `None`
     // unless the samples have 8 bits and are neither compressed nor stored as differences.
     fn lent_bytes<'a>(&self, samples: &'a [C::Inner]) -> Option<&'a [u8]>
-        ensures { IfSome result (λ b. IsStored self.now.method b.now (stored.unpacked_chunk self.now
-            (map (sample_number (type_size C.Inner.value_type) C.Inner.bits) samples.now))) }
+        ensures { IfSome result (λ b. IsChunkStored self.now b.now
+            (map (sample_number (type_size C.Inner.value_type) C.Inner.bits) samples.now)) }
     {
         match self.compression {
             Compression::Uncompressed => match self.predictor {
                 Predictor::None => C::Inner::as_bytes(samples),
                 _ => None,
             },
-            Compression::Packbits => None,
+            Compression::Packbits | Compression::PackbitsRows => None,
         }
     }
 
@@ -186,7 +190,7 @@ impl<W: Sink, K: TiffKind> TiffEncoder<W, K> {
         rooms: &mut ChunkRooms,
     ) -> TiffResult<()>
         requires next { length samples.now ≡ next_chunk_sample_count image.old }
-        requires packed { image.old.method ≡ method.PackBits }
+        requires packed { compression_method image.old.compression ≡ method.PackBits }
         ensures { StoresChunk calls.write_chunk image.old
             (map (sample_number (type_size C.Inner.value_type) C.Inner.bits)
             samples.now) result self.old self.new image.new }
@@ -203,7 +207,7 @@ impl<W: Sink, K: TiffKind> TiffEncoder<W, K> {
         samples: &[C::Inner],
     ) -> TiffResult<()>
         requires next { length samples.now ≡ next_chunk_sample_count image.old }
-        requires packed { image.old.method ≡ method.PackBits }
+        requires packed { compression_method image.old.compression ≡ method.PackBits }
         ensures { StoresChunk calls.write_chunk image.old
             (map (sample_number (type_size C.Inner.value_type) C.Inner.bits)
             samples.now) result self.old self.new image.new }
@@ -232,7 +236,7 @@ impl<W: Sink, K: TiffKind> TiffEncoder<W, K> {
         }
         match image.compression {
             Compression::Uncompressed => self.append_samples(image, samples),
-            Compression::Packbits => self.put_packed(image, samples),
+            Compression::Packbits | Compression::PackbitsRows => self.put_packed(image, samples),
         }
     }
 

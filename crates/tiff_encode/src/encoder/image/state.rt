@@ -60,7 +60,7 @@ impl<C: ColorType> Model for ImageState<C> {
     ghost use Rattle.std.specs.Prelude.{length};
     ghost use Rattle.tiff_base.specs.Types.{type_size};
     ghost use Rattle.tiff_encode.specs.Drawn.{IsDrawn};
-    ghost use Rattle.tiff_encode.specs.Machine.{OpenImage, compression_method};
+    ghost use Rattle.tiff_encode.specs.Machine.{OpenImage};
 
     ghost Value = { OpenImage };
 
@@ -74,7 +74,7 @@ impl<C: ColorType> Model for ImageState<C> {
       size = type_size C.Inner.value_type;
       extra = i.extra.items;
       predictor = i.predictor;
-      method = compression_method i.compression;
+      compression = i.compression;
       form = i.form;
       chunks = i.chunks.items;
     } };

@@ -1,8 +1,8 @@
 //! PackBits: bytes packed as literals and runs.
 
-ghost use Rattle.std.specs.Prelude.{◌≡◌, ◌≢◌, ◌<◌, [], length, slice_index, MatchResult};
-ghost use Rattle.tiff_value.specs.Packed.{IsPacked};
-ghost use Rattle.tiff_value.specs.Packing.{IsRun, IsVariedFront, PacksAtEnd};
+ghost use Rattle.std.specs.Prelude.{◌≡◌, ◌≢◌, ◌%◌, ◌<◌, [], length, slice_index, MatchResult};
+ghost use Rattle.tiff_value.specs.Packed.{ArePackedRows, IsPacked};
+ghost use Rattle.tiff_value.specs.Packing.{AppendsPacked, IsRun, IsVariedFront, PacksAtEnd};
 
 use std::alloc::Global;
 use tiff_base::error::{TiffError, TiffResult};
@@ -59,16 +59,39 @@ fn pack_block(bytes: &[u8], out: &mut Vec<u8>) -> TiffResult<usize>
     Ok(count)
 }
 
-// Appends all blocks to an empty list.
+// Appends the blocks of all bytes.
 pub(crate) fn push_packed(bytes: &[u8], out: &mut Vec<u8>) -> TiffResult<()>
-    requires { out.old.items ≡ [] }
-    ensures { MatchResult result (λ _. IsPacked bytes.now out.new.items)
+    ensures { MatchResult result (λ _. AppendsPacked out.old.items bytes.now out.new.items)
         (λ e. e ≡ TiffError.OutOfMemory) }
 {
     let mut at = 0;
     while at < bytes.len() {
         at += pack_block(&bytes[at..], out)?;
     }
+    Ok(())
+}
+
+// Appends the blocks of rows of `row` bytes to an empty list. No block has bytes of two rows.
+pub(crate) fn push_packed_rows(bytes: &[u8], row: usize, out: &mut Vec<u8>) -> TiffResult<()>
+    requires some { 0 < row }
+    requires whole { length bytes.now % row ≡ 0 }
+    requires empty { out.old.items ≡ [] }
+    ensures { MatchResult result (λ _. ArePackedRows row bytes.now out.new.items)
+        (λ e. e ≡ TiffError.OutOfMemory) }
+{
+    for one in bytes.chunks_exact(row) {
+        push_packed(one, out)?;
+    }
+    Ok(())
+}
+
+// Makes room for `rows` packed rows of `row` bytes each, as long as they can become.
+pub(crate) fn reserve_packed(rows: usize, row: usize, out: &mut Vec<u8>) -> TiffResult<()>
+    ensures { MatchResult result (λ _. out.new.items ≡ out.old.items)
+        (λ e. e ≡ TiffError.OutOfMemory) }
+{
+    let most = row.saturating_add(row.div_ceil(MOST));
+    out.reserve(rows.saturating_mul(most))?;
     Ok(())
 }
 
@@ -80,5 +103,20 @@ pub fn pack_bits(alloc: Global, bytes: &[u8]) -> TiffResult<Vec<u8>>
 {
     let mut out = Vec::new(alloc);
     push_packed(bytes, &mut out)?;
+    Ok(out)
+}
+
+/// Returns rows of `row` bytes, each packed by PackBits by itself. TIFF 6.0 section 9 asks for this:
+/// "Pack each row separately. Do not compress across row boundaries." The packed bytes have at most
+/// one byte more for each 128 bytes of a row or part of 128. The only error is `OutOfMemory`.
+pub fn pack_rows(alloc: Global, bytes: &[u8], row: usize) -> TiffResult<Vec<u8>>
+    requires some { 0 < row }
+    requires whole { length bytes.now % row ≡ 0 }
+    ensures { MatchResult result (λ packed. ArePackedRows row bytes.now packed.items)
+        (λ e. e ≡ TiffError.OutOfMemory) }
+{
+    let mut out = Vec::new(alloc);
+    reserve_packed(bytes.len() / row, row, &mut out)?;
+    push_packed_rows(bytes, row, &mut out)?;
     Ok(out)
 }

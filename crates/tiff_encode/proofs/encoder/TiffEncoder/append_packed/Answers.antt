@@ -2,8 +2,7 @@ use Rattle.std.proofs.Common.{map, sym, subst}
 use Rattle.std.proofs.lemmas.List.{length-map}
 use Rattle.tiff_base.specs.Types.{type_size}
 use Rattle.tiff_value.specs.ColorType.{sample_number}
-use Rattle.tiff_value.specs.Packed.{IsPacked, IsStored}
-use Rattle.tiff_encode.specs.Stored.{unpacked_chunk}
+use Rattle.tiff_encode.specs.Stored.{IsChunkStored}
 use Rattle.tiff_encode.proofs.Storing.{chunk_stored}
 use Rattle.tiff_encode.proofs.encoder.TiffEncoder.append_packed.Goals as goal
 
@@ -12,7 +11,6 @@ returns g c =
     let number = sample_number (type_size g.C.Inner.TiffValue.value_type) g.C.Inner.Sample.bits in
     let i = c.args.image.now in
     let numbers = map number c.args.samples.now in
-    let packed = subst (λ xs. IsPacked (unpacked_chunk i numbers) xs) (sym c.deref.ensures.value) c.in_ok-pack_samples.ensures in
-    let is_stored = subst (λ m. IsStored m c.deref.result.now (unpacked_chunk i numbers)) (sym c.requires.packed) packed in
+    let is_stored = subst (λ xs. IsChunkStored i xs numbers) (sym c.deref.ensures.value) c.in_ok-pack_samples.ensures in
     chunk_stored c.args.self.now i numbers c.append_chunk.new.self c.append_chunk.new.image _ c.deref.result.now c.append_chunk.result
     (sym (length-map c.args.samples.now number)) is_stored c.append_chunk.ensures

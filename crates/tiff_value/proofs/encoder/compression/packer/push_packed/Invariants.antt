@@ -1,9 +1,9 @@
 use Rattle.std.proofs.Common.{length, ◌-◌}
-use Rattle.tiff_value.proofs.Packing.{HasPacked}
+use Rattle.tiff_value.proofs.Packing.{AppendsBlocks}
 use Rattle.tiff_value.proofs.encoder.compression.packer.push_packed.Given as goal
 
 abbrev pub invariant-loop-at : goal.invariant-loop-at
-invariant-loop-at l = HasPacked l.bytes l.at l.out.items
+invariant-loop-at l = AppendsBlocks l.fn.out.items l.bytes l.at l.out.items
 
 abbrev pub decreases-loop-at : goal.decreases-loop-at
 decreases-loop-at l = length l.bytes - l.at

@@ -1,0 +1,5 @@
+use Rattle.tiff_value.proofs.PackedRows.{rows_fit}
+use Rattle.tiff_value.proofs.laws.packed_rows_fit.Goals as goal
+
+pub returns : goal.returns
+returns c = rows_fit
