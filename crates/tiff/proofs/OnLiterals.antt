@@ -15,6 +15,7 @@ use Rattle.tiff_value.specs.Data.{data_of, text_data}
 use Rattle.tiff_value.specs.Differences.{differences}
 use Rattle.tiff_ifd.specs.Chain.{chain}
 use Rattle.tiff_ifd.specs.FieldValue.{field_value}
+use Rattle.tiff_ifd.specs.OneNumber.{one_number}
 use Rattle.tiff_ifd.specs.TagLookup.{look_in, find, require}
 use Rattle.tiff_ifd.specs.TagQueries.{find_unsigned, find_unsigned_vec, get_unsigned, tag_items, buffer_of, part_of_field}
 use Rattle.tiff_page.specs.Buffers.{planes_layout, image_buffer_layout, image_chunk_buffer_layout, image_coding_unit_layout, resized_samples}
@@ -46,7 +47,7 @@ value_on_literals = tt
 
 unfoldable pub ifd_on_literals : ⊤
 unfolding chain field_value look_in find require find_unsigned find_unsigned_vec get_unsigned tag_items buffer_of
-    part_of_field
+    part_of_field one_number
 ifd_on_literals = tt
 
 unfoldable pub page_on_literals : ⊤

@@ -16,7 +16,7 @@ use Rattle.tiff_base.proofs.Common.{bind_ok}
 use Rattle.tiff_ifd.specs.TagLookup.{ok_or_fault}
 use Rattle.tiff_ifd.specs.IfdChainWalk.{ChainBegins, NextReadable, Walked, WayReadable}
 use Rattle.tiff_page.specs.Reach.{PageReadable}
-use Rattle.tiff_page.proofs.Reach.{asks_more}
+use Rattle.tiff_page.proofs.Requests.{asks_more}
 use Rattle.tiff_decode.specs.Asked.{EntryReadable, NextPageReadable, OpenReadable, SeekReadable}
 use Rattle.tiff_decode.specs.ChainPosition.{IsAt, index_behind}
 use Rattle.tiff_decode.specs.Machine.{Decoding, source_of}

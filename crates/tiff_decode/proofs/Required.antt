@@ -12,7 +12,7 @@ use Rattle.tiff_ifd.specs.PlainValue.{PlainValue}
 use Rattle.tiff_ifd.specs.Fitted.{fitted_numbers}
 use Rattle.tiff_ifd.specs.Into.{into_u64_vec}
 use Rattle.tiff_ifd.specs.TagQueries.{find_unsigned_vec}
-use Rattle.tiff_page.proofs.Found.{number_found, required_found}
+use Rattle.tiff_page.proofs.PassedChecks.{number_found, required_found}
 use Rattle.tiff_decode.specs.Machine.{Decoding}
 use Rattle.tiff_decode.specs.Outcome.{find_tag_unsigned_vec, page_tags, WantsTag}
 use Rattle.tiff_decode.specs.Reader.{FirstUnfit}

@@ -1,6 +1,7 @@
 //! Reads the tags of a decoder's page, and of other directories.
 
-ghost use Rattle.std.specs.Prelude.{◌≡◌, ◌<◌, ◌≤◌, ◌^◌, None, Some, Ok, map, option_map, string_bytes};
+ghost use Rattle.std.specs.Prelude.{◌≡◌, ◌<◌, ◌≤◌, ◌^◌, None, Some, Ok, Err, map, option_map, string_bytes};
+ghost use Rattle.tiff_base.specs.declared.error.TiffError.TheVariants.{LimitsExceeded};
 ghost use Rattle.tiff_base.specs.Answers.{AnswersWithoutMemory, NoneSwallowed};
 ghost use Rattle.tiff_ifd.specs.Fitted.{fitted_numbers};
 ghost use Rattle.tiff_ifd.specs.View.{plain_value};
@@ -121,6 +122,8 @@ impl<R: Source> Decoder<R> {
         ensures none { outcome.find_entry (reader_of self.old (option_map (λ d. d.now) other.entry)) tag
             ≡ None → result ≡ Ok None }
         ensures asked { AsksForTag (reader_of self.old (option_map (λ d. d.now) other.entry)) tag result }
+        ensures limit { (outcome.find_tag (reader_of self.old (option_map (λ d. d.now) other.entry)) tag).answer
+            ≡ Err LimitsExceeded → result ≡ Err LimitsExceeded }
     {
         let tags = &mut self.tags;
         let directory = chosen(&tags.directory, other);
@@ -238,6 +241,10 @@ impl<R: Source> Decoder<R> {
             (outcome.find_tag self.old tag) result self.old self.new }
         ensures none { outcome.find_entry self.old tag ≡ None → result ≡ Ok None }
         ensures asked { AsksForTag self.old tag result }
+
+        // A limit is checked before a byte of the value is read.
+        ensures limit { (outcome.find_tag self.old tag).answer ≡ Err LimitsExceeded
+            → result ≡ Err LimitsExceeded }
     {
         self.value_in(None, tag)
     }
@@ -570,6 +577,10 @@ impl<'a, R: Source> IfdDecoder<'a, R> {
             (outcome.find_tag (reading self.old) tag) result self.old self.new }
         ensures none { outcome.find_entry (reading self.old) tag ≡ None → result ≡ Ok None }
         ensures asked { AsksForTag (reading self.old) tag result }
+
+        // A limit is checked before a byte of the value is read.
+        ensures limit { (outcome.find_tag (reading self.old) tag).answer ≡ Err LimitsExceeded
+            → result ≡ Err LimitsExceeded }
     {
         self.decoder.value_in(self.other, tag)
     }

@@ -19,9 +19,8 @@ use Rattle.tiff_page.specs.Pixels.{needed_bytes, needed_of_row, needs_whole_rows
 use Rattle.tiff_page.specs.Reach.{LaidReadable, PartReadable}
 use Rattle.tiff_page.specs.Rect.{across, chunks_of_plane, rect}
 use Rattle.tiff_page.proofs.Filling.{same_height}
-use Rattle.tiff_page.proofs.Planes.{layout_gives}
-use Rattle.tiff_page.proofs.RowReads.{Stores, color_stores, shown_stored}
-use Rattle.tiff_page.proofs.Sizes.{row_in}
+use Rattle.tiff_page.proofs.Planes.{layout_gives, Stores, color_stores, shown_stored}
+use Rattle.tiff_page.proofs.PositionLaws.{row_in}
 use Rattle.tiff_laws.specs.Costs as spec
 use Rattle.tiff_laws.specs.Costs.{AreAllReadable, most_of_chunk, most_of_image, stretch_bytes}
 use Rattle.tiff_laws.proofs.Laid.{planes_laid}
