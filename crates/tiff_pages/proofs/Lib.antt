@@ -9,3 +9,5 @@ mod Shown
 mod Read
 mod Rooted
 mod Stepped
+pub mod Planned
+pub mod PlanOf

@@ -3,3 +3,4 @@ pub mod Adler
 pub mod Check
 pub mod Listed
 pub mod Tree
+pub mod Plan

@@ -6,4 +6,5 @@ pub mod adler;
 pub mod check;
 pub mod lines;
 pub mod pages;
+pub mod plan;
 pub mod tree;
