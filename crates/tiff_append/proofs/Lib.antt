@@ -1,0 +1,2 @@
+mod LastLink
+mod Behind

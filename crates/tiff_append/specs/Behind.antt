@@ -1,0 +1,39 @@
+-- What an encoder writes behind a file: the bytes behind it, and its last link (this project's).
+use Rattle.std.specs.Prelude.{◌≡◌, ℕ, ◌+◌, ◌≤◌, List, ◌++◌, length}
+use Rattle.tiff_base.specs.declared.tags.FileKind.{FileKind}
+use Rattle.tiff_base.specs.SourceAndSink.{put}
+use Rattle.tiff_encode.specs.declared.encoder.script.Job.{Job}
+use Rattle.tiff_encode.specs.declared.encoder.script.JobReply.{JobReply}
+use Rattle.tiff_encode.specs.Appending.{continued_file}
+use Rattle.tiff_encode.specs.FileBytes.{offset_len}
+use Rattle.tiff_encode.specs.Machine.{FileState}
+use Rattle.tiff_encode.specs.Running.{JobsMove}
+use Rattle.tiff_append.specs.declared.sink.Addition.{Addition}
+use Rattle.tiff_append.specs.declared.sink.BehindSink.{BehindSink}
+
+-- a file with these bytes over its link at q, and more bytes behind it
+abbrev pub added_to : List ℕ → ℕ → List ℕ → List ℕ → List ℕ
+added_to file q link more = put file q link ++ more
+
+-- the bytes of a sink that goes on behind a file
+abbrev pub behind_told : BehindSink → List ℕ
+behind_told s = added_to s.file.now s.at s.link.items s.more.items
+
+-- The bytes of a sink are those of a file of `len` bytes, with a link of `size` bytes at an offset,
+-- and more bytes behind it.
+pub record IsAddedTo (told : List ℕ) (len at size : ℕ) (a : Addition) : Type 0 where
+  pub file : List ℕ
+  pub whole : told ≡ added_to file at a.link.items a.more.items
+  pub len_is : length file ≡ len
+  pub size_is : length a.link.items ≡ size
+
+-- What is written behind a file whose last link is at q, is what `run_jobs_in` leaves of an encoder
+-- that goes on behind it (`append_to`): the file of the encoder is the former one with the new bytes
+-- of that link, and the other bytes behind it. `failures` counts the writes that had failed before.
+pub record RunsBehind (kind : FileKind) (file : List ℕ) (q : ℕ) (jobs : List Job)
+    (earlier all : List JobReply) (link more : List ℕ) : Type 0 where
+  pub failures : ℕ
+  pub last : FileState
+  pub moves : JobsMove jobs earlier all (continued_file kind file failures q) last
+  pub whole : last.bytes ≡ added_to file q link more
+  pub width : length link ≡ offset_len kind

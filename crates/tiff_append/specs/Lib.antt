@@ -1,0 +1,3 @@
+pub mod LastLink
+pub mod Unkept
+pub mod Behind
