@@ -255,7 +255,8 @@ impl FromWord for Compression {
     fn from_word(word: &str) -> Option<Compression> {
         match word {
             "uncompressed" => Some(Compression::Uncompressed),
-            "packbits" => Some(Compression::Packbits),
+            "packbits" => Some(Compression::PackbitsRows),
+            "packbits-chunks" => Some(Compression::Packbits),
             _ => None,
         }
     }

@@ -51,19 +51,23 @@ const FORMS: [Form; 5] = [
     Form::PlanarTiles,
 ];
 
-const METHODS: [Compression; 2] = [Compression::Uncompressed, Compression::Packbits];
+const METHODS: [Compression; 3] = [
+    Compression::Uncompressed,
+    Compression::Packbits,
+    Compression::PackbitsRows,
+];
 
 const SIDES: [(u32, u32); 3] = [(1, 1), (17, 5), (20, 20)];
 
 // How many shapes there are whose samples aren't predicted.
-const PLAIN: usize = 30;
+const PLAIN: usize = 45;
 
-// The shape with this number, of sixty; the second thirty are predicted.
+// The shape with this number, of ninety; the second forty-five are predicted.
 fn shape_of(k: usize) -> Shape {
-    let (width, height) = SIDES[k / 10 % 3];
+    let (width, height) = SIDES[k / 15 % 3];
     Shape {
         form: FORMS[k % 5],
-        compression: METHODS[k / 5 % 2],
+        compression: METHODS[k / 5 % 3],
         predictor: if k < PLAIN {
             Predictor::None
         } else {
