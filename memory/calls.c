@@ -2,9 +2,9 @@
 
      calls FILE ..
 
-   makes those that read on the first three pages of each file, tiff_write_image on images of all colors, methods, predictors and kinds of
-   files, and tiff_write_jobs on two lists of jobs. A refused request has to be answered TIFF_OUT_OF_MEMORY, with nothing written into the answer but as mangohatch_tiff.h says, or, where the call does
-   without it, as at first; no block may be left behind; and the call that is made again has to answer what it answered at first. It prints a
+   makes those that read on the first three pages of each file, tiff_append_pages behind each file, tiff_write_image on images of all colors,
+   methods, predictors and kinds of files, and tiff_write_jobs on two lists of jobs. A refused request has to be answered TIFF_OUT_OF_MEMORY,
+   with nothing written into the answer but as mangohatch_tiff.h says, or, where the call does without it, as at first; no block may be left behind; and the call that is made again has to answer what it answered at first. It prints a
    line for each call; what isn't as it has to be stands on standard error, and the status is 1 then. */
 #include "heap.h"
 #include "mangohatch_tiff.h"
@@ -28,6 +28,7 @@ struct input {
     const uint8_t *file;
     size_t len;
     size_t page;
+    struct tiff_page_plan plan;
     struct tiff_image image;
     size_t size;
 };
@@ -45,6 +46,8 @@ struct answer {
     uint32_t order;
     struct tiff_jobs_end end;
     struct tiff_pages_end pages_end;
+    struct tiff_page_plan plan;
+    struct tiff_appended appended;
     struct tiff_listed_page pages[LISTED];
     struct tiff_tag_entry entries[LISTED];
     struct tiff_listed_directory directories[LISTED];
@@ -55,8 +58,8 @@ struct answer {
 };
 
 /* What a refusal leaves: all as it was; all but the bytes of the buffer; all but a count of 0; all but an end at no line, which may be at a job
-   that found no memory; all but the page and the field for which there was none. */
-enum left { ALL, BUT_BYTES, BUT_COUNT, BUT_END, BUT_PAGE };
+   that found no memory; all but the page and the field for which there was none, alone or with nothing to append. */
+enum left { ALL, BUT_BYTES, BUT_COUNT, BUT_END, BUT_PAGE, BUT_APPENDED };
 
 struct call {
     const char *name;
@@ -90,6 +93,13 @@ static tiff_status list_directories(const struct input *on, struct answer *to) {
 
 static tiff_status chunk_bytes(const struct input *on, struct answer *to) {
     return tiff_read_chunk_bytes(on->file, on->len, on->page, 0, to->bytes, ROOM);
+}
+
+static tiff_status page_plan(const struct input *on, struct answer *to) { return tiff_page_plan(on->file, on->len, on->page, &to->plan); }
+
+/* by the plan that the page has where no request is refused */
+static tiff_status planned_chunk(const struct input *on, struct answer *to) {
+    return tiff_read_planned_chunk(on->file, on->len, &on->plan, 0, to->bytes, ROOM);
 }
 
 static tiff_status two_chunks(const struct input *on, struct answer *to) {
@@ -162,7 +172,7 @@ static tiff_status refused_jobs(const struct input *on, struct answer *to) {
 }
 
 /* two pages of which the second has a tag of one's own and tiles, and two of which the second is refused */
-static tiff_status pages_into(const struct input *on, struct answer *to, uint16_t method) {
+static tiff_status pages_into(const struct input *on, struct answer *to, uint16_t method, _Bool behind) {
     static const uint8_t words[] = "words", samples[] = {1, 2, 3, 4};
     static const uint16_t none[1];
     const struct tiff_new_tag tag = {270, 2, sizeof words, words, sizeof words};
@@ -170,12 +180,15 @@ static tiff_status pages_into(const struct input *on, struct answer *to, uint16_
         {TIFF_GRAY8, 2, 1, 0, 0, 0, TIFF_UNCOMPRESSED, TIFF_NO_PREDICTOR, TIFF_CHUNKY, TIFF_NO_RESOLUTION, {0, 1}, {0, 1}, none, 0, &tag, 0, samples, 2},
         {TIFF_GRAY8, 2, 2, 0, 16, 16, method, TIFF_NO_PREDICTOR, TIFF_CHUNKY, TIFF_INCH, {300, 1}, {300, 1}, none, 0, &tag, 1, samples, 4},
     };
+    if (behind) return tiff_append_pages(on->file, on->len, pages, 2, to->bytes, ROOM, &to->appended);
     return tiff_write_pages(on->image.version, pages, 2, to->bytes, on->size, &to->number, &to->pages_end);
 }
 
-static tiff_status write_pages(const struct input *on, struct answer *to) { return pages_into(on, to, TIFF_PACKBITS); }
+static tiff_status write_pages(const struct input *on, struct answer *to) { return pages_into(on, to, TIFF_PACKBITS, 0); }
 
-static tiff_status refused_pages(const struct input *on, struct answer *to) { return pages_into(on, to, 5); }
+static tiff_status refused_pages(const struct input *on, struct answer *to) { return pages_into(on, to, 5, 0); }
+
+static tiff_status append_pages(const struct input *on, struct answer *to) { return pages_into(on, to, TIFF_PACKBITS, 1); }
 
 static tiff_status fault_text(const struct input *on, struct answer *to) {
     (void)on;
@@ -195,6 +208,9 @@ static const struct call readers[] = {
     {"tiff_list_directories", BUT_COUNT, list_directories},
     {"tiff_read_chunk_bytes", BUT_BYTES, chunk_bytes},
     {"tiff_read_chunks", BUT_BYTES, two_chunks},
+    {"tiff_page_plan", ALL, page_plan},
+    {"tiff_read_planned_chunk", BUT_BYTES, planned_chunk},
+    {"tiff_append_pages", BUT_APPENDED, append_pages},
     {"tiff_page_sides (of an offset)", ALL, sides_at},
     {"tiff_read_coding_unit_bytes", BUT_BYTES, unit_bytes},
     {"tiff_tag_field", ALL, width_field},
@@ -244,6 +260,11 @@ static _Bool stays(enum left left) {
     if (left == BUT_COUNT) want.number = 0;
     if (left == BUT_END) want.end = (struct tiff_jobs_end){0, got.end.job};
     if (left == BUT_PAGE) want.pages_end = got.pages_end;
+    if (left == BUT_APPENDED) {
+        /* of its bytes between the fields nothing is said */
+        want.appended = got.appended;
+        if (got.appended.len || got.appended.link || got.appended.target || got.appended.width) return 0;
+    }
     if (left == BUT_BYTES)
         for (size_t at = 0; at < ROOM; at++) want.bytes[at] = got.bytes[at];
     return memcmp(&want, &got, sizeof got) == 0;
@@ -308,7 +329,11 @@ static struct input read_file(const char *name) {
 static void try_pages(const struct call *call, const char *name) {
     struct input on = read_file(name);
     is_well = is_well && on.name;
-    for (; on.name && on.page < PAGES; on.page++) try_call(call, &on);
+    for (; on.name && on.page < PAGES; on.page++) {
+        on.plan = (struct tiff_page_plan){0};
+        tiff_page_plan(on.file, on.len, on.page, &on.plan);
+        try_call(call, &on);
+    }
     free((void *)on.file);
 }
 

@@ -8,6 +8,7 @@ DESCRIPTION
     A file is FILE, LEN bytes of the caller's memory that hold the whole file. No call copies FILE,
     and no call keeps anything: each call that reads opens the file anew, reads the header and the
     directories up to the page that the caller asks for, and frees all memory that it allocated.
+    tiff_read_planned_chunk alone reads no header and no directory, but what a plan says instead.
     FILE must stay unchanged during a call. Several threads may call at once, also on the same
     FILE: a call writes only into what the caller passes for its results, and no call has a state
     of its own.
@@ -23,7 +24,7 @@ DESCRIPTION
     refuse, as of a color filter array (PhotometricInterpretation 32803), or of Exif. With a
     number, they read the tags of that page, and refuse it as the other calls do.
 
-    Each call that reads opens the file by its header and asks for no other page than PAGE. So it
+    Each other call that reads opens the file by its header and asks for no other page than PAGE. So it
     returns the error of a header that is refused, and then the error of PAGE: for a number behind
     the end of the chain, the error by which the chain ends, else
     TIFF_IMAGE_FILE_DIRECTORY_NOT_FOUND; for an offset where FILE ends within the directory,
@@ -34,7 +35,8 @@ DESCRIPTION
     A call that returns TIFF_DONE has written its result. A call that returns any other status
     leaves a struct or a number as it was; what it leaves in a buffer of bytes is not specified.
     tiff_list_pages, tiff_list_directories, tiff_list_tags, tiff_tag_numbers, tiff_tag_floats,
-    tiff_tag_text, tiff_write_image, tiff_write_jobs and tiff_write_pages specify more.
+    tiff_tag_text, tiff_write_image, tiff_write_jobs, tiff_write_pages and tiff_append_pages specify
+    more.
 
     A file may claim any size: call tiff_page_layout and judge its result before you allocate for
     an image. The calls that read pixels have no limit for the size of a chunk in the file: they
@@ -66,7 +68,7 @@ LINKING
 #ifndef MANGOHATCH_TIFF_H
 #define MANGOHATCH_TIFF_H
 
-#define MANGOHATCH_TIFF_VERSION 4
+#define MANGOHATCH_TIFF_VERSION 5
 
 /* A PAGE that is the directory at an offset of the file. */
 #define TIFF_AT(offset) ((size_t)(offset) | (size_t)1 << 63)
@@ -317,6 +319,58 @@ tiff_status tiff_read_chunk_bytes(const uint8_t *file, size_t len, size_t page, 
    tiff_read_chunk_bytes, for the bytes of BUFFER that are left. */
 tiff_status tiff_read_chunks(const uint8_t *file, size_t len, size_t page, uint32_t first, uint32_t count, uint8_t *buffer, size_t size);
 
+/* The plan of a page: what its tags define, without the lists of its chunks, which may be long.
+   OFFSETS and BYTE_COUNTS say of both lists how many numbers they have, the eight bytes of the
+   value field of their tags, and the numbers of their types. WIDTH and HEIGHT are those of the
+   image, CHUNK_WIDTH and CHUNK_HEIGHT those of a chunk, in pixels. VERSION is that of the file's
+   header, 42 or 43; ORDER is TIFF_LITTLE_ENDIAN or TIFF_BIG_ENDIAN; CHUNK_KIND is TIFF_STRIPS or
+   TIFF_TILES. PHOTOMETRIC, COMPRESSION, SAMPLES, SAMPLE_FORMAT, BITS, PREDICTOR, PLANAR and both
+   SUBSAMPLINGs are the values of their tags, or what a page without the tag has. EXTRA_COUNT is how
+   many extra samples there are, and FIRST_EXTRA the value for the first one, or 0. A plan has no
+   pointer, so a program may copy it and keep it, and pass it on to other threads.
+   tiff_page_plan puts it into *PLAN; a page whose offsets or byte counts aren't of type SHORT, LONG
+   or LONG8, TIFF_INVALID_TYPE_FOR_TAG: read the chunks of such a page by the other calls. */
+struct tiff_page_plan {
+    uint64_t offsets_count;
+    uint64_t byte_counts_count;
+    uint8_t offsets_value[8];
+    uint8_t byte_counts_value[8];
+    uint32_t width;
+    uint32_t height;
+    uint32_t chunk_width;
+    uint32_t chunk_height;
+    uint16_t version;
+    uint16_t order;
+    uint16_t photometric;
+    uint16_t compression;
+    uint16_t samples;
+    uint16_t extra_count;
+    uint16_t first_extra;
+    uint16_t sample_format;
+    uint16_t bits;
+    uint16_t predictor;
+    uint16_t planar;
+    uint16_t chunk_kind;
+    uint16_t subsampling_across;
+    uint16_t subsampling_down;
+    uint16_t offsets_type;
+    uint16_t byte_counts_type;
+};
+tiff_status tiff_page_plan(const uint8_t *file, size_t len, size_t page, struct tiff_page_plan *plan);
+
+/* Reads the chunk with the number CHUNK, counted from 0, into BUFFER, as tiff_read_chunk_bytes reads
+   it of the page that PLAN is of. The call opens no page, and reads of both lists the numbers of
+   this chunk alone: a chunk takes the same time however many the page has. Any *PLAN is safe. Errors
+   of a *PLAN that tiff_page_plan wrote for this FILE: those of tiff_read_chunk_bytes. Of any other,
+   in this order: a VERSION, TIFF_SIGNATURE_INVALID; an ORDER, TIFF_INVALID_INPUT; a PHOTOMETRIC,
+   TIFF_UNKNOWN_INTERPRETATION; a FIRST_EXTRA or more than 255 BITS, TIFF_INVALID_INPUT; a PREDICTOR,
+   TIFF_UNKNOWN_PREDICTOR; a PLANAR, TIFF_UNKNOWN_PLANAR_CONFIGURATION; a CHUNK_KIND,
+   TIFF_INVALID_INPUT; a type of a list, TIFF_INVALID_TYPE_FOR_TAG; sizes that no page has,
+   TIFF_INCONSISTENT_SIZES_ENCOUNTERED; the error of reading the chunk's offset, then its byte count,
+   TIFF_INVALID_TYPE_FOR_TAG, TIFF_LIMITS_EXCEEDED, TIFF_INCONSISTENT_SIZES_ENCOUNTERED or
+   TIFF_UNEXPECTED_EOF; then those of tiff_read_chunk_bytes. */
+tiff_status tiff_read_planned_chunk(const uint8_t *file, size_t len, const struct tiff_page_plan *plan, uint32_t chunk, uint8_t *buffer, size_t size);
+
 /* Reads the coding unit with the number UNIT, counted from 0: a chunk of the first plane and the
    chunks of the other planes that cover the same pixels, one behind the other, as many as fit whole
    into BUFFER. The other bytes of BUFFER stay. Errors, in this order: the first error of the page's
@@ -502,7 +556,8 @@ struct tiff_jobs_end {
    A list of jobs has one of these in each line, with one space between words:
      # ANYTHING             a comment, as is an empty line
      predictor NUMBER       of the images that follow: 1 for none, 2 for differences of neighbours
-     compression METHOD     of the images that follow: uncompressed or packbits
+     compression METHOD     of the images that follow: uncompressed; packbits, each row by itself; or packbits-chunks, across the
+                            rows of a strip or tile, which readers by row can't read
      image COLOR WIDTH HEIGHT
                             begins an image, of a color type as Gray8, RGB16 or Gray32Float
      directory [JOB]        begins a directory in the chain; JOB is the number, from 0, of the job whose directory links to it
@@ -677,6 +732,45 @@ struct tiff_pages_end {
    have more than one byte or a sign. */
 tiff_status tiff_write_pages(uint16_t version, const struct tiff_new_page *pages, size_t count, uint8_t *buffer, size_t size, size_t *len,
                              struct tiff_pages_end *end);
+
+/* What tiff_append_pages found. LEN is how many bytes the file gets at its end. LINK is the offset of
+   the last link of the file's chain of directories, which has WIDTH bytes, 4 in a classic file and
+   8 in BigTIFF, and TARGET the number that it gets, its lowest byte first. END says where the list
+   of pages was refused, as for tiff_write_pages. */
+struct tiff_appended {
+    size_t len;
+    uint64_t link;
+    uint64_t target;
+    uint32_t width;
+    struct tiff_pages_end end;
+};
+
+/* Writes COUNT pages behind FILE, a little-endian TIFF file of LEN bytes, classic or BigTIFF: puts
+   the bytes to append to it into BUFFER, of SIZE bytes, and what they are into *APPENDED. FILE stays
+   as it is, and is not copied. To update a file on a disk, write twice:
+
+       the first APPENDED->len bytes of BUFFER, at the end of the file
+       the APPENDED->width lowest bytes of APPENDED->target, the lowest first, at APPENDED->link
+
+   Between the two, and if the first is torn, the file has its former pages: only the second makes
+   the chain go on behind them. So the first has to be on the disk (fsync) before the second. The
+   pages are jobs as those of tiff_write_pages, and their parameters are the same. The file has a
+   directory, or it has none yet and its header links to 0. The bytes of BUFFER behind those stay.
+
+   A BUFFER that is too short: TIFF_INSUFFICIENT_OUTPUT_BUFFER_SIZE, and *APPENDED is set all the
+   same, so a first call with a SIZE of 0 returns the length. Any status but TIFF_DONE leaves BUFFER
+   as it was. After any status but TIFF_DONE and that of a BUFFER that is too short, *APPENDED has
+   0 in all fields but END.
+
+   Errors: those of a header that is refused; a big-endian FILE, TIFF_BYTE_ORDER_MISMATCH; the error
+   by which the chain of FILE ends, as TIFF_CYCLE_IN_OFFSETS, with 0 in APPENDED->end.page. Then those
+   of tiff_write_pages, in its order, with the page and the field in APPENDED->end.
+
+   The call allocates the bytes to append, 8 bytes for the link, the offsets of the directories of
+   FILE, the bytes of TAGS, and the samples of one page at a time if they have more than one byte or
+   a sign. */
+tiff_status tiff_append_pages(const uint8_t *file, size_t len, const struct tiff_new_page *pages, size_t count, uint8_t *buffer, size_t size,
+                              struct tiff_appended *appended);
 
 /* Returns the version of the calls of this library; MANGOHATCH_TIFF_VERSION is the version of this
    header. */

@@ -96,7 +96,7 @@ some_fault LimitsExceeded = lit< tt
 some_fault IntSizeError = lit< tt
 some_fault OutOfMemory = lit< tt
 
-none : (e : TiffError) (n : ℕ) → n ≡ fault_number e → n ≡ 0 → ⊥
+pub none : (e : TiffError) (n : ℕ) → n ≡ fault_number e → n ≡ 0 → ⊥
 none e n is zero = let h = some_fault e in omega (arith, is, zero, h)
 
 -- ---- a file that was delivered

@@ -7,21 +7,20 @@ use Rattle.std.proofs.lemmas.List.{take_all, length-take}
 use Rattle.std.proofs.lemmas.List.FromFn.{map-range_with_len_more}
 use Rattle.std.specs.Prelude.{◌%◌, ◌^◌, min}
 use Rattle.std.specs.List.{flat_map, range_with_len}
-use Rattle.tiff_base.specs.declared.tags.CompressionMethod.TheVariants as method
 use Rattle.tiff_base.specs.declared.tags.Predictor.TheVariants as predictor
 use Rattle.tiff_base.specs.Number.{le}
 use Rattle.tiff_value.specs.ColorType.{ColorTypeRecord}
 use Rattle.tiff_value.specs.Differences.{differences}
-use Rattle.tiff_value.specs.Packed.{IsStored}
 use Rattle.tiff_page.specs.Page.{PageRecord}
 use Rattle.tiff_page.specs.Counts.{parts}
 use Rattle.tiff_page.specs.Rect.{across, chunks_of_plane}
 use Rattle.tiff_page.specs.Pixels.{tabulate, stored_samples}
+use Rattle.tiff_encode.specs.declared.encoder.settings.Compression.TheVariants.{Uncompressed}
 use Rattle.tiff_encode.specs.Machine.{FileState, OpenDirectory, OpenImage, WriteCall}
 use Rattle.tiff_encode.specs.Causes.{write_chunk_cause, image_samples}
 use Rattle.tiff_encode.specs.Chunks.{all_samples, image_page, chunk_rows, row_samples, chunk_samples, chunks_left, part, parts_left}
 use Rattle.tiff_encode.specs.Calls.{image_in, appends_chunk, write_chunk, write_chunks}
-use Rattle.tiff_encode.specs.Stored.{AreStored, unpacked_chunk}
+use Rattle.tiff_encode.specs.Stored.{AreStored, IsCompressed, unpacked_chunk}
 use Rattle.tiff_encode.proofs.Data.Calls.{bind_answered, cause_answered}
 use Rattle.tiff_encode.proofs.ImageState.{one_part, strip_rows}
 use Rattle.tiff_encode.proofs.Storing.{left_plain}
@@ -64,13 +63,13 @@ unpacked_plain i samples p =
     ap (λ q. flat_map (le i.size) (differences q (256 ^ i.size) (row_samples page) (stored_samples page) samples)) p
     ∙ ap (flat_map (le i.size)) (left_plain (256 ^ i.size) (row_samples page) (stored_samples page) samples)
 
-pub strips_are : (i : OpenImage) (parts stored : List (List ℕ)) → i.method ≡ method.None → i.predictor ≡ predictor.None
+pub strips_are : (i : OpenImage) (parts stored : List (List ℕ)) → i.compression ≡ Uncompressed → i.predictor ≡ predictor.None
     → length stored ≡ length parts → AreStored i parts stored → joined stored ≡ flat_map (le i.size) (joined parts)
 strips_are i [] [] m p n s = refl
 strips_are i [] (bytes ∷ stored) m p n s = absurd (omega (arith, n))
 strips_are i (part ∷ parts) [] m p n s = absurd (omega (arith, n))
 strips_are i (part ∷ parts) (bytes ∷ stored) m p n s =
-    let first : bytes ≡ unpacked_chunk i part = subst (λ k. IsStored k bytes (unpacked_chunk i part)) m s.0 in
+    let first : bytes ≡ unpacked_chunk i part = subst (λ k. IsCompressed k (row_samples (image_page i) * i.size) bytes (unpacked_chunk i part)) m s.0 in
     ap₂ ◌++◌ (first ∙ unpacked_plain i part p) (strips_are i parts stored m p (omega (arith, n)) s.1)
     ∙ sym (flat_map-append (le i.size) part (joined parts))
 

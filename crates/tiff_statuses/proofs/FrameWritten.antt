@@ -8,7 +8,7 @@ use Rattle.std.proofs.lemmas.List.FromFn.{get_or-map-range_with_len, length-map-
 use Rattle.std.specs.Prelude.{◌/◌, ◌%◌, min, slice_index}
 use Rattle.std.specs.Int.{div_ceil}
 use Rattle.std.specs.List.{flat_map}
-use Rattle.tiff_base.specs.declared.tags.CompressionMethod.TheVariants as method
+use Rattle.tiff_encode.specs.declared.encoder.settings.Compression.TheVariants.{Uncompressed}
 use Rattle.tiff_base.specs.declared.tags.ByteOrder.TheVariants.{LittleEndian}
 use Rattle.tiff_base.specs.Number.{le, number}
 use Rattle.tiff_base.specs.SourceAndSink.{AreOctets}
@@ -16,7 +16,7 @@ use Rattle.tiff_value.specs.ColorType.{ColorTypeRecord}
 use Rattle.tiff_value.specs.ColorTypes.{color_type, inner_size}
 use Rattle.tiff_page.specs.Pixels.{tabulate, width_of, row_number, numbers_in}
 use Rattle.tiff_encode.specs.Model.{header_model}
-use Rattle.tiff_encode.specs.Machine.{FileState, OpenImage, compression_method}
+use Rattle.tiff_encode.specs.Machine.{FileState, OpenImage}
 use Rattle.tiff_encode.specs.Causes.{end_of, image_samples}
 use Rattle.tiff_encode.specs.Calls.{image_in}
 use Rattle.tiff_encode.specs.ImageData.{AreNumbers, IsShortFile}
@@ -67,14 +67,14 @@ module _ (s : Settings) (width height failures : ℕ) (samples : List ℕ) (last
   abbrev zeros : List ℕ
   zeros = zeros_of i
 
-  plain : old.method ≡ method.None
-  plain = ap compression_method kept.packs
+  plain : old.compression ≡ Uncompressed
+  plain = kept.packs
 
   new : IsNewImage i
   new = begun_new s.color (color_type s.color) (inner_size s.color) width height old i refl refl wide tall plain few z.begun.answer
 
   open_image : IsOpen i
-  open_image = (begins_open old (header_model s.kind) s.color width height i wide tall (inl plain) z.begun.answer).open_so
+  open_image = (begins_open old (header_model s.kind) s.color width height i wide tall z.begun.answer).open_so
 
   many : length zeros ≡ width * height * length (color_type s.color).bits
   many =
@@ -133,7 +133,7 @@ module _ (s : Settings) (width height failures : ℕ) (samples : List ℕ) (last
       let is_short : IsShortFile given = omega (arith, end, parts, short) in
       let writes = samples_written s width height failures zeros samples same zeros_kept i z.mid last z.begun open_image zeros_written in
       let left =
-      image_leaves_by parts_show (color_type s.color) (inner_size s.color) width height samples (Ok tt) old given (header_model s.kind) wide tall (inl plain) small is_short
+      image_leaves_by parts_show (color_type s.color) (inner_size s.color) width height samples (Ok tt) old given (header_model s.kind) wide tall small is_short
       (header_stands s.kind) (inl (chain_of s.kind)) writes in
       let written : IsWritten s width height samples (Ok (framed frame)) = record {
         failures = failures;

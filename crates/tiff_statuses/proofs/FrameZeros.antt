@@ -1,5 +1,5 @@
 -- Strips of zeros, as many as an image has.
-use Rattle.std.proofs.Common.{◌≡◌, ℕ, zero, suc, ◌+◌, ◌-◌, ◌*◌, ◌<◌, ◌≤◌, Bool, true, false, cond, List, [], ◌∷◌, ◌++◌, length, map, take, drop, Result, Ok, Option, Some, None, refl, ap, sym, ◌∙◌, subst, arith, ⊎_elim, inl, lit<}
+use Rattle.std.proofs.Common.{◌≡◌, ℕ, zero, suc, ◌+◌, ◌-◌, ◌*◌, ◌<◌, ◌≤◌, Bool, true, false, cond, List, [], ◌∷◌, ◌++◌, length, map, take, drop, Result, Ok, Option, Some, None, refl, ap, sym, ◌∙◌, subst, arith, ⊎_elim, lit<}
 use Rattle.std.proofs.Math.Nat.{div-le_of_le-mul, mod-eq_of_lt, zero-mod}
 use Rattle.std.proofs.lemmas.List.{map-append, length-replicate}
 use Rattle.std.proofs.lemmas.Bool.{cases_lt, le-ltb, lt-leb, lt-ltb, ltb-true}
@@ -8,7 +8,7 @@ use Rattle.tiff_base.specs.declared.error.TiffError.{TiffError}
 use Rattle.tiff_base.specs.declared.error.TiffError.TheVariants.{IoError, IntSizeError}
 use Rattle.tiff_base.specs.declared.io.IoKind.TheVariants.{InvalidData, InvalidInput}
 use Rattle.tiff_base.specs.declared.io.SinkFault.{SinkFault}
-use Rattle.tiff_base.specs.declared.tags.CompressionMethod.TheVariants as method
+use Rattle.tiff_encode.specs.declared.encoder.settings.Compression.TheVariants.{Uncompressed}
 use Rattle.tiff_value.specs.declared.encoder.colortype.ColorTypeName.{ColorTypeName}
 use Rattle.tiff_value.specs.ColorType.{ColorTypeRecord}
 use Rattle.tiff_value.specs.ColorTypes.{Family, color_type, count_of, inner_size}
@@ -230,12 +230,12 @@ some_family YCbCr = lit< tt
 
 -- It has no strip yet.
 pub begun_new : (name : ColorTypeName) (color : ColorTypeRecord) (size width height : ℕ) (file : FileState) (i : OpenImage) → color ≡ color_type name → size ≡ inner_size name
-    → width < 2 ^ 32 → height < 2 ^ 32 → file.method ≡ method.None → width * height * length color.bits < 2 ^ 64
+    → width < 2 ^ 32 → height < 2 ^ 32 → file.compression ≡ Uncompressed → width * height * length color.bits < 2 ^ 64
     → (new_image color size width height file).answer ≡ Ok i → IsNewImage i
 begun_new name color size width height file i colored sized w h plain few begun =
     let named : (new_image (color_type name) (inner_size name) width height file).answer ≡ Ok i =
     subst (λ k. (new_image (color_type name) k width height file).answer ≡ Ok i) sized (subst (λ k. (new_image k size width height file).answer ≡ Ok i) colored begun) in
-    let o = (begins_open file (header_model file.kind) name width height i w h (inl plain) named).open_so in
+    let o = (begins_open file (header_model file.kind) name width height i w h named).open_so in
     let n = new_is color size width height file i begun in
     let is : image_in file n.0 color size width height ≡ i = n.1.0 in
     let bits : length color.bits ≡ count_of (of_family name).family =

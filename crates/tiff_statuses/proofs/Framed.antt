@@ -4,26 +4,24 @@ use Rattle.std.proofs.Common.{◌≡◌, ℕ, ◌+◌, ◌*◌, ◌<◌, ◌≤�
 use Rattle.std.proofs.lemmas.List.{take-append-le, drop-append-le, length-take-le, length-drop, length-map}
 use Rattle.std.specs.List.{flat_map}
 use Rattle.tiff_base.specs.declared.error.TiffError.{TiffError}
-use Rattle.tiff_base.specs.declared.tags.CompressionMethod.TheVariants as method
 use Rattle.tiff_base.specs.declared.tags.FileKind.{FileKind}
 use Rattle.tiff_base.specs.declared.tags.FileKind.TheVariants.{Classic, Big}
 use Rattle.tiff_base.specs.declared.tags.Predictor.TheVariants as predictor
 use Rattle.tiff_base.specs.Number.{le}
 use Rattle.tiff_base.specs.SourceAndSink.{put}
-use Rattle.tiff_value.specs.Packed.{IsStored}
 use Rattle.tiff_value.specs.ColorTypes.{color_type, inner_size}
 use Rattle.tiff_encode.specs.declared.encoder.settings.Compression.TheVariants.{Uncompressed}
 use Rattle.tiff_encode.specs.FileBytes.{offset_len, directory_bytes, header_mark}
 use Rattle.tiff_encode.specs.Model.{header_link}
 use Rattle.tiff_encode.specs.WriteOps.{WriteOp, Appended, Supplied, Listed, Linked, bytes_after}
-use Rattle.tiff_encode.specs.Machine.{FileState, OpenDirectory, OpenImage, WriteOutcome, after_ops, by_cause, ◌>>=◌, compression_method}
+use Rattle.tiff_encode.specs.Machine.{FileState, OpenDirectory, OpenImage, WriteOutcome, after_ops, by_cause, ◌>>=◌}
 use Rattle.tiff_encode.specs.Causes.{end_of, image_samples, write_image_data_cause}
-use Rattle.tiff_encode.specs.Chunks.{parts_left}
+use Rattle.tiff_encode.specs.Chunks.{image_page, row_samples, parts_left}
 use Rattle.tiff_encode.specs.Calls.{Offsets, image_in, new_image, finish_image, write_image_data}
 use Rattle.tiff_encode.specs.Ends.{EndsAsDefined}
 use Rattle.tiff_encode.specs.ImageData.{WritesImage, WritesDataBy}
 use Rattle.tiff_encode.specs.Open.{IsOpen}
-use Rattle.tiff_encode.specs.Stored.{AreStored, unpacked_chunk}
+use Rattle.tiff_encode.specs.Stored.{AreStored, IsCompressed, unpacked_chunk}
 use Rattle.tiff_encode.proofs.Slices.{length-le}
 use Rattle.tiff_encode.proofs.Shown.Bytes.{length_written}
 use Rattle.tiff_encode.proofs.Joining.{bind_told}
@@ -105,13 +103,13 @@ link_before Big = lit< tt
 abbrev pub given_for : OpenImage → List ℕ → List (List ℕ)
 given_for i samples = map (unpacked_chunk i) (parts_left i samples)
 
-all_stored : (i : OpenImage) (parts : List (List ℕ)) → i.method ≡ method.None → AreStored i parts (map (unpacked_chunk i) parts)
+all_stored : (i : OpenImage) (parts : List (List ℕ)) → i.compression ≡ Uncompressed → AreStored i parts (map (unpacked_chunk i) parts)
 all_stored i [] m = tt
 all_stored i (part ∷ parts) m =
-    (subst (λ k. IsStored k (unpacked_chunk i part) (unpacked_chunk i part)) (sym m) refl, all_stored i parts m)
+    (subst (λ k. IsCompressed k (row_samples (image_page i) * i.size) (unpacked_chunk i part) (unpacked_chunk i part)) (sym m) refl, all_stored i parts m)
 
 -- strips of as many samples have as many bytes
-stored_sizes : (i : OpenImage) (parts others stored : List (List ℕ)) → i.method ≡ method.None → i.predictor ≡ predictor.None
+stored_sizes : (i : OpenImage) (parts others stored : List (List ℕ)) → i.compression ≡ Uncompressed → i.predictor ≡ predictor.None
     → sizes others ≡ sizes parts → length stored ≡ length parts → AreStored i parts stored → sizes (map (unpacked_chunk i) others) ≡ sizes stored
 stored_sizes i [] [] [] m p s n a = refl
 stored_sizes i [] (o ∷ others) stored m p s n a = absurd cc
@@ -119,7 +117,7 @@ stored_sizes i (part ∷ parts) [] stored m p s n a = absurd cc
 stored_sizes i [] [] (b ∷ stored) m p s n a = absurd (omega (arith, n))
 stored_sizes i (part ∷ parts) (o ∷ others) [] m p s n a = absurd (omega (arith, n))
 stored_sizes i (part ∷ parts) (o ∷ others) (b ∷ stored) m p s n a =
-    let is : b ≡ unpacked_chunk i part = subst (λ k. IsStored k b (unpacked_chunk i part)) m a.0 in
+    let is : b ≡ unpacked_chunk i part = subst (λ k. IsCompressed k (row_samples (image_page i) * i.size) b (unpacked_chunk i part)) m a.0 in
     let first : length o ≡ length part = cc in
     let rest : sizes others ≡ sizes parts = cc in
     let len : (xs : List ℕ) → length (unpacked_chunk i xs) ≡ length xs * i.size =
@@ -156,8 +154,8 @@ module _ (s : Settings) (width height failures : ℕ) (zeros samples : List ℕ)
   is : here ≡ i
   is = (new_is (color_type s.color) (inner_size s.color) width height old i begun.answer).1.0
 
-  plain : i.method ≡ method.None
-  plain = ap (λ j. j.method) (sym is) ∙ ap compression_method kept.packs
+  plain : i.compression ≡ Uncompressed
+  plain = ap (λ j. j.compression) (sym is) ∙ kept.packs
 
   whole : i.predictor ≡ predictor.None
   whole = ap (λ j. j.predictor) (sym is) ∙ kept.differs

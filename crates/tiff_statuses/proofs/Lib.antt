@@ -17,3 +17,5 @@ mod BytesBack
 mod FrameZeros
 mod FrameWritten
 mod PagesMade
+pub mod ToldBehind
+mod Plans

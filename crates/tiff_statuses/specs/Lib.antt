@@ -6,8 +6,9 @@ pub mod List
 pub mod Jobs
 pub mod Values
 pub mod Frame
-pub mod Unkept
 pub mod Zeros
 pub mod Entries
 pub mod Pages
 pub mod Directories
+pub mod Appended
+pub mod Plan

@@ -17,8 +17,7 @@ use Rattle.tiff_value.specs.declared.encoder.colortype.ColorTypeName.{ColorTypeN
 use Rattle.tiff_value.specs.ColorTypes.{color_type, color_types, inner_size, inner_type}
 use Rattle.tiff_ifd.specs.TagLookup.{ok_or_fault}
 use Rattle.tiff_encode.specs.declared.encoder.settings.Compression.{Compression}
-use Rattle.tiff_encode.specs.declared.encoder.settings.Compression.TheVariants.{Uncompressed, Packbits}
-use Rattle.tiff_encode.specs.Machine as machine
+use Rattle.tiff_encode.specs.declared.encoder.settings.Compression.TheVariants.{Uncompressed, PackbitsRows}
 use Rattle.tiff_encode.specs.Machine.{FileState, begun_file}
 use Rattle.tiff_encode.specs.Calls.{image_in, new_directory}
 use Rattle.tiff_encode.specs.Shows.{Image, ShowsFirst}
@@ -35,9 +34,9 @@ use Rattle.tiff_statuses.specs.Status.{fault_number}
 abbrev pub kind_of : ℕ → Option FileKind
 kind_of n = if n == 42 then Some Classic else if n == 43 then Some Big else None
 
--- the compression with this number of a method
+-- the compression with this number of a method: PackBits is row by row (TIFF 6.0 section 9)
 abbrev pub packing_of : ℕ → Option Compression
-packing_of n = if n == 1 then Some Uncompressed else if n == 32773 then Some Packbits else None
+packing_of n = if n == 1 then Some Uncompressed else if n == 32773 then Some PackbitsRows else None
 
 -- the color type, the compression and the predictor of a number, or the error of a number that
 -- names nothing
@@ -73,7 +72,7 @@ abbrev pub file_by : Settings → ℕ → FileState
 file_by s failures =
     record (begun_file s.kind [] failures) {
       predictor = s.predictor;
-      method = machine.compression_method s.compression;
+      compression = s.compression;
     }
 
 -- an encoder is new, over an empty sink, with these settings

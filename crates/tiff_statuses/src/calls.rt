@@ -27,7 +27,7 @@ use tiff_laws::pages::{walk_ends, walk_goes_on, walk_opens};
 use tiff_page::layout::{BufferLayoutPreference, TiffCodingUnit};
 
 // From this number on, the number of a page is this plus the offset of its directory.
-const AT: usize = 1 << 63;
+pub(crate) const AT: usize = 1 << 63;
 
 /// The width and the height of a page, in pixels.
 #[derive(Clone, Copy, Debug, PartialEq, Eq)]
@@ -730,7 +730,7 @@ pub fn tag_bytes(
 }
 
 // The number of a byte order for C.
-fn order_number(order: ByteOrder) -> u32
+pub(crate) fn order_number(order: ByteOrder) -> u32
     ensures { result ≡ calls.order_number order }
 {
     match order {

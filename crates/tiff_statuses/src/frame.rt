@@ -4,78 +4,10 @@ ghost use Rattle.std.specs.Prelude.{◌≡◌, ◌+◌, ◌^◌, ◌≤◌, ◌<
 ghost use Rattle.tiff_statuses.specs.Writer as writer;
 
 use std::alloc::Global;
-use std::marker::Model;
-use std::snapshot::Snapshot;
-use tiff_base::io::{ByteRun, ByteWitness, Sink, SinkFault};
+use tiff_append::sink::{MAX_LEN, grow};
+use tiff_append::unkept::Unkept;
+use tiff_base::io::{ByteRun, Sink, SinkFault};
 use tiff_base::tags::FileKind;
-
-// ---- bytes that contracts see
-
-// The state of unkept bytes: a snapshot of the state before the last byte came, and of that byte.
-// The first state has no earlier state, and its byte does not count. A snapshot has no bytes.
-#[derive(Drop)]
-struct Pushes {
-    last: Option<Snapshot<Pushes>>,
-    byte: Snapshot<u8>,
-}
-
-/// Bytes that only contracts see. Nothing of them is stored.
-#[derive(Drop)]
-pub struct Unkept {
-    pushes: Pushes,
-}
-
-impl Model for Unkept {
-    ghost use Rattle.std.specs.Prelude.{ℕ, List};
-
-    ghost Value = { List ℕ };
-
-    ghost use Rattle.tiff_statuses.specs.Unkept.{pushed};
-
-    ghost view = { λ u. pushed u.pushes };
-}
-
-impl Unkept {
-    /// No bytes.
-    pub fn new() -> Unkept
-        ensures { result ≡ [] }
-    {
-        Unkept {
-            pushes: Pushes {
-                last: None,
-                byte: Snapshot::of(&0),
-            },
-        }
-    }
-
-    // Adds a byte at the end.
-    fn push(&mut self, byte: u8)
-        ensures { self.new ≡ self.old ++ byte ∷ [] }
-    {
-        let last = Snapshot::of(&self.pushes);
-        self.pushes = Pushes {
-            last: Some(last),
-            byte: Snapshot::of(&byte),
-        };
-    }
-
-    /// Adds bytes at the end. The loop does nothing that is left when the program runs.
-    pub fn add(&mut self, bytes: &[u8])
-        ensures { self.new ≡ self.old ++ bytes.now }
-    {
-        for byte in bytes {
-            self.push(*byte);
-        }
-    }
-}
-
-impl ByteWitness for Unkept {
-    ghost seen = { λ u. u };
-
-    fn see(&mut self, byte: u8) {
-        self.push(byte);
-    }
-}
 
 // ---- the sink
 
@@ -101,9 +33,6 @@ pub struct FrameSink {
     ghost behind_last: { count < room → length behind.items ≡ 0 },
 }
 
-// The largest number of bytes that a sink can contain.
-const MAX_LEN: u64 = (1 << 63) - 1;
-
 /// How many bytes are before the first strip of a file of one image: its header, and in a classic
 /// file the two resolutions, which don't fit into their entries.
 pub fn front_len(kind: FileKind) -> usize
@@ -113,17 +42,6 @@ pub fn front_len(kind: FileKind) -> usize
         FileKind::Classic => 24,
         FileKind::Big => 16,
     }
-}
-
-// Appends bytes to a list.
-fn grow(items: &mut Vec<u8>, bytes: &[u8]) -> Result<(), SinkFault>
-    ensures ok { OnOk result (items.new.items ≡ items.old.items ++ bytes.now) }
-    ensures err { OnErr result (items.new.items ≡ items.old.items) }
-{
-    if items.extend_from_slice(bytes).is_err() {
-        return Err(SinkFault::OutOfMemory);
-    }
-    Ok(())
 }
 
 impl FrameSink {

@@ -103,9 +103,25 @@ fn refused_step(replies: &[JobReply], refused: Option<(usize, u32)>) -> Option<u
     first_step(&reply.steps)
 }
 
-// Drops a value. A list of replies is dropped here, since a proof about that is long in a function
-// that isn't generic.
-fn let_go<T: Drop>(_value: T) {}
+/// Drops a value. A list of replies is dropped here, since a proof about that is long in a function
+/// that isn't generic.
+pub fn let_go<T: Drop>(_value: T) {}
+
+/// What jobs left that have these replies.
+pub fn ran_of(file: Vec<u8>, replies: Vec<JobReply>) -> Ran
+    ensures file { result.file.items ≡ file.items }
+    ensures refused { result.refused ≡ first_refused 1 replies.items }
+    ensures step { result.step ≡ refused_step replies.items result.refused }
+{
+    let refused = first_refused(&replies);
+    let step = refused_step(&replies, refused);
+    let_go(replies);
+    Ran {
+        file,
+        refused,
+        step,
+    }
+}
 
 // Runs jobs over an empty sink, for a file of the kind `K`.
 #[tactic(auto, using(tiff_base::proofs::MemoryFaults::header_refused))]
@@ -116,14 +132,7 @@ fn run_kind<K: TiffKind>(alloc: Global, jobs: &[Job<'_>]) -> TiffResult<Ran>
     let mut replies = Vec::new(alloc);
     let sink = MemorySink::new(Vec::new(alloc));
     let sink = run_jobs::<MemorySink, K>(alloc, sink, jobs, &mut replies)?;
-    let refused = first_refused(&replies);
-    let step = refused_step(&replies, refused);
-    let_go(replies);
-    Ok(Ran {
-        file: sink.into_vec(),
-        refused,
-        step,
-    })
+    Ok(ran_of(sink.into_vec(), replies))
 }
 
 /// Runs jobs over an empty sink, for a file of a kind that is given as a value. Its only error is

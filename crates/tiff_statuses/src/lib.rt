@@ -9,12 +9,15 @@
 #![tactic(auto)]
 
 ghost use Rattle.std.specs.Prelude.{◌≡◌, ◌⊎◌};
+ghost use Rattle.tiff_statuses.specs.Appended.{AppendTells};
 ghost use Rattle.tiff_statuses.specs.Calls as calls;
 ghost use Rattle.tiff_statuses.specs.Directories.{TreeTells, tree_of};
 ghost use Rattle.tiff_statuses.specs.Entries.{list_tags};
 ghost use Rattle.tiff_statuses.specs.Jobs.{JobsTell};
 ghost use Rattle.tiff_statuses.specs.List.{ListTells, list_of};
 ghost use Rattle.tiff_statuses.specs.Pages.{PagesTell};
+ghost use Rattle.tiff_statuses.specs.Plan as plans;
+ghost use Rattle.tiff_statuses.specs.Plan.{ReadsPage};
 ghost use Rattle.tiff_statuses.specs.Status.{StatusIs, StatusPuts, StatusTells};
 ghost use Rattle.tiff_statuses.specs.Values as values;
 ghost use Rattle.tiff_statuses.specs.Writer as writer;
@@ -23,6 +26,7 @@ ghost use Rattle.tiff_statuses.specs.Writer.{IsShown};
 use std::alloc::Global;
 pub use tiff_lists::VERSION;
 
+pub mod appended;
 pub mod calls;
 pub mod directories;
 pub mod entries;
@@ -30,16 +34,19 @@ mod frame;
 pub mod jobs;
 pub mod list;
 pub mod pages;
+pub mod plan;
 mod status;
 pub mod values;
 pub mod writer;
 
+use crate::appended::{Appended, run_appended, tell_appended};
 use crate::calls::{Chunks, Color, FieldSize, Layout, PageSamples, Sides};
 use crate::directories::{ListedDirectory, list_tree};
 use crate::entries::TagEntry;
 use crate::jobs::{JobsEnd, run_version, tell};
 use crate::list::{ListedPage, list_into};
 use crate::pages::{NewPage, PagesEnd, run_pages, tell_pages};
+use crate::plan::PlannedPage;
 use crate::status::{done, given, text_of};
 use crate::writer::{NewImage, deliver, write_new};
 
@@ -137,6 +144,41 @@ pub fn read_chunks(
     ensures { StatusTells (calls.read_chunks file.now page first count buffer.old) result buffer.new }
 {
     done(calls::range_bytes(alloc, file, page, first, count, buffer))
+}
+
+/// Puts the plan of a page, what its tags define as numbers, into `plan`. By this plan
+/// `read_planned_chunk` reads each chunk as `read_chunk_bytes` reads it of the page. Returns 0, or
+/// the number of the first error: of the file or the page; of offsets or byte counts of chunks that
+/// aren't of type SHORT, LONG or LONG8, `InvalidTypeForTag`. An error leaves `plan` as it was.
+#[tactic(auto, using(crate::proofs::StatusTells::puts_told, crate::proofs::Plans::given_reads))]
+pub fn page_plan(alloc: Global, file: &[u8], page: usize, plan: &mut PlannedPage) -> u32
+    ensures answer { StatusPuts (plans.page_plan file.now page) result plan.old plan.new }
+    ensures reads { result ≡ 0 → ReadsPage file.now page plan.new }
+{
+    given(plan::page_plan(alloc, file, page), plan)
+}
+
+/// Reads the chunk with the number `chunk`, from 0, into `buffer`, by the plan of its page and under
+/// no limits: it reads the offset and the byte count of this chunk alone, and opens no page. Returns
+/// 0, or the number of the first error: of a number of the plan that names nothing, which is for the
+/// version `TiffSignatureInvalid`, for the byte order, the first extra sample, more than 255 bits or
+/// the kind of chunks `IoError(InvalidInput)`, for the interpretation `UnknownInterpretation`, for
+/// the predictor `UnknownPredictor`, for the planar configuration `UnknownPlanarConfiguration`, and
+/// for a type `InvalidTypeForTag`; of sizes that no page has, `InconsistentSizesEncountered`; of the
+/// chunk's offset and byte count; of the page's color or its layout; of a buffer shorter than the
+/// chunk, `InsufficientOutputBufferSize`; of the chunk. What an error leaves in `buffer` is not
+/// specified.
+#[tactic(auto, using(crate::proofs::StatusTells::tells_left))]
+pub fn read_planned_chunk(
+    alloc: Global,
+    file: &[u8],
+    plan: &PlannedPage,
+    chunk: u32,
+    buffer: &mut [u8],
+) -> u32
+    ensures { StatusTells (plans.read_planned_chunk file.now plan.now chunk buffer.old) result buffer.new }
+{
+    done(plan::planned_chunk(alloc, file, plan, chunk, buffer))
 }
 
 /// Reads the coding unit of a page with the number `unit`, from 0, into `buffer`, under no limits:
@@ -404,6 +446,32 @@ pub fn write_pages(
     ensures stays { (result ≡ 0) ⊎ (buffer.new ≡ buffer.old) }
 {
     tell_pages(run_pages(alloc, version, pages), buffer, len, end)
+}
+
+/// Writes these pages behind a little-endian TIFF file, classic or BigTIFF: puts the bytes to append
+/// to the file into `buffer`, and what they are, and the last link of the file's chain of
+/// directories, into `appended`. The caller's file has the pages once it has these bytes at its end,
+/// and then the `width` bytes of `target`, the lowest first, at the offset `link`; between the two
+/// it has its former pages. Returns 0, or the number of the first error: of the header, but for one
+/// that links to no directory; of a big-endian file, `ByteOrderMismatch`; the one by which the chain
+/// ends, as `CycleInOffsets`; of the pages, as `write_pages` finds them; of a buffer that is too
+/// short, `InsufficientOutputBufferSize`. An error leaves `buffer` as it was. For a buffer that is
+/// too short, `appended` is as without an error; after another error it has 0 everywhere, but for
+/// where the list of pages is refused. The call neither copies nor changes the file. It allocates
+/// the bytes to append, 8 bytes for the link, the bytes of the tags, the offsets of the file's
+/// directories, and the samples of one page at a time if they have more than one byte or a sign.
+#[tactic(auto, using(crate::proofs::ToldBehind::told_appended, crate::proofs::ToldBehind::kept_appended))]
+pub fn append_pages(
+    alloc: Global,
+    file: &[u8],
+    pages: &[NewPage<'_>],
+    buffer: &mut [u8],
+    appended: &mut Appended,
+) -> u32
+    ensures answer { AppendTells file.now pages.now result buffer.old buffer.new appended.new }
+    ensures stays { (result ≡ 0) ⊎ (buffer.new ≡ buffer.old) }
+{
+    tell_appended(run_appended(alloc, file, pages), buffer, appended)
 }
 
 /// Returns the version of these calls, which is `MANGOHATCH_TIFF_VERSION` of the header for C. It

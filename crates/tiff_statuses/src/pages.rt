@@ -94,7 +94,8 @@ pub struct PagesEnd {
     pub field: u32,
 }
 
-const NO_PAGE: PagesEnd = PagesEnd { page: 0, field: 0 };
+/// No page is refused.
+pub const NO_PAGE: PagesEnd = PagesEnd { page: 0, field: 0 };
 
 /// A field that is refused, and its error.
 #[derive(Drop)]
@@ -135,7 +136,8 @@ fn in_field<T>(field: PageField, answer: TiffResult<T>) -> Result<T, Refusal>
 
 // ---- names
 
-fn planar_named(number: u16) -> TiffResult<PlanarConfiguration>
+/// The planar configuration of a number; `UnknownPlanarConfiguration` if it names none.
+pub(crate) fn planar_named(number: u16) -> TiffResult<PlanarConfiguration>
     ensures { result ≡ spec.planar_named number }
 {
     match PlanarConfiguration::from_u16(number) {
@@ -171,7 +173,8 @@ fn names_of(page: &NewPage<'_>) -> Result<PageNames, Refusal>
 
 // ---- steps
 
-fn extra_named(number: u16) -> TiffResult<ExtraSamples>
+/// The meaning of an extra sample of a number; `IoError(InvalidInput)` if it names none.
+pub(crate) fn extra_named(number: u16) -> TiffResult<ExtraSamples>
     ensures { result ≡ spec.extra_named number }
 {
     match ExtraSamples::from_u16(number) {
@@ -383,8 +386,8 @@ fn add_page<'a>(alloc: Global, page: &NewPage<'a>, jobs: &mut Vec<Job<'a>>) -> R
     in_field(PageField::Whole, add_jobs(&names, image, jobs))
 }
 
-// The jobs of pages; or the number of the first page that is refused, from 1, and its refusal.
-fn jobs_of<'a>(alloc: Global, pages: &[NewPage<'a>]) -> Result<Vec<Job<'a>>, (usize, Refusal)>
+/// The jobs of pages; or the number of the first page that is refused, from 1, and its refusal.
+pub fn jobs_of<'a>(alloc: Global, pages: &[NewPage<'a>]) -> Result<Vec<Job<'a>>, (usize, Refusal)>
     ensures { Makes (λ e. IsOutAt e.1) (λ v. map job_view v.items) result (jobs_of_pages pages.now) }
 {
     let mut jobs = Vec::new(alloc);
@@ -427,8 +430,8 @@ fn field_in(jobs: &[Job<'_>], job: usize, step: usize) -> PageField
     }
 }
 
-// The field of the step that was refused.
-fn refused_field(jobs: &[Job<'_>], ran: &Ran) -> PageField
+/// The field of the step that was refused.
+pub fn refused_field(jobs: &[Job<'_>], ran: &Ran) -> PageField
     ensures { result ≡ spec.refused_field jobs.now ran.now.refused ran.now.step }
 {
     match (ran.refused, ran.step) {

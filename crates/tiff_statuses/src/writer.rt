@@ -1,7 +1,7 @@
 //! A file of one image, whose parameters and samples C passes.
 
 ghost use Rattle.std.specs.Prelude.{◌≡◌, ◌*◌, ◌^◌, ◌<◌, length, map, slice_get, MatchResult, MatchOption, IfOk, IfSome, Ok, OnOk, replicate, true};
-ghost use Rattle.tiff_base.specs.declared.tags.CompressionMethod.TheVariants as method;
+ghost use Rattle.tiff_encode.specs.declared.encoder.settings.Compression.TheVariants.{Uncompressed};
 ghost use Rattle.tiff_base.specs.Types.{type_size};
 ghost use Rattle.tiff_value.specs.ColorType.{sample_number};
 ghost use Rattle.tiff_value.specs.ColorTypes.{color_types};
@@ -82,14 +82,14 @@ pub fn color_named(number: u32) -> TiffResult<ColorTypeName>
     }
 }
 
-/// The compression of the number of a method; `UnsupportedCompressionMethod` if this library doesn't
-/// write that method.
+/// The compression of the number of a method, PackBits row by row (TIFF 6.0 section 9);
+/// `UnsupportedCompressionMethod` if this library doesn't write that method.
 pub fn packing_named(method: u16) -> TiffResult<Compression>
     ensures { result ≡ writer.packing_named method }
 {
     match method {
         1 => Ok(Compression::Uncompressed),
-        32773 => Ok(Compression::Packbits),
+        32773 => Ok(Compression::PackbitsRows),
         _ => {
             let method = CompressionMethod::from_u16_exhaustive(method);
             Err(TiffUnsupportedError::UnsupportedCompressionMethod(method).into())
@@ -251,7 +251,7 @@ fn write_zeros<K: TiffKind, C: NamedColorType>(
     width: u32,
     height: u32,
 ) -> TiffResult<()>
-    requires plain { encoder.old.method ≡ method.None }
+    requires plain { encoder.old.compression ≡ Uncompressed }
     requires few { width * height * length C.described.bits < 2 ^ 64 }
     ensures { OnOk result (WritesZeros C.described (type_size C.Inner.value_type) width height
         encoder.old encoder.new) }
