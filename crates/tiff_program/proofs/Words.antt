@@ -1,11 +1,11 @@
 -- Words of a command line.
-use Rattle.std.proofs.Common.{◌≡◌, ℕ, ◌<◌, ◌≤◌, true, List, [], ◌∷◌, length, map, slice_index_or, Option, None, Some, IfNone, ap, refl, sym, subst, ◌∙◌, arith}
+use Rattle.std.proofs.Common.{◌≡◌, ℕ, ◌+◌, ◌*◌, ◌<◌, ◌≤◌, inl, inr, true, List, [], ◌∷◌, length, map, slice_index_or, Option, None, Some, IfNone, ap, refl, sym, subst, ◌∙◌, arith}
 use Rattle.std.proofs.lemmas.Bool.{eqb-true}
 use Rattle.std.specs.Prelude.{◌==◌, String, codes, slice_index, string_bytes}
 use Rattle.std.specs.declared.alloc.Global.{Global}
 use Rattle.tiff_program.specs.declared.command.Command.{Command}
 use Rattle.tiff_program.specs.declared.command.Command.TheVariants as command
-use Rattle.tiff_program.specs.Words.{AskForLimit, AskForPlanesLast, IsAsked, IsCheck, IsExact, IsJobs, IsNumber, IsRaw, IsView}
+use Rattle.tiff_program.specs.Words.{AskForLimit, AskForPlanesLast, IsAppend, IsAsked, IsCalls, IsCheck, IsDirectories, IsGray, IsHelp, IsJobs, IsList, IsNumber, IsRaw, IsTags, IsView}
 
 -- The bytes of the words, if there is one word.
 pub one_word : (words : List (String Global)) (word : String Global) (text : List ℕ) → 1 ≤ length words → length words < 2 → word ≡ slice_index_or words 0 word
@@ -30,6 +30,20 @@ no_limit words name count (Some n) e h a =
     let P : List ℕ → Type 0 = λ text. IsNumber 64 text n in
     h n (subst P same a.2)
 
+-- Words whose third one is no number ask for no gray page.
+no_rows : (output columns rows : List ℕ) (rest : List (List ℕ)) → ((n : ℕ) → ¬ IsNumber 32 rows n) → (c : Command) → ¬ IsGray (output ∷ columns ∷ rows ∷ rest) c
+no_rows output columns rows (input ∷ more) h (command.Gray o w t i) a = h t a.2
+no_rows output columns rows [] h (command.Gray o w t i) a = a
+no_rows output columns rows rest h c a = absurd a
+
+pub no_height : (words after behind rest : List (String Global)) (output columns rows : String Global) → words ≡ output ∷ after → after ≡ columns ∷ behind
+    → behind ≡ rows ∷ rest → ((n : ℕ) → ¬ IsNumber 32 (string_bytes rows) n) → (c : Command) → ¬ IsGray (map string_bytes words) c
+no_height words after behind rest output columns rows at then last h =
+    let all : words ≡ output ∷ columns ∷ rows ∷ rest =
+    at ∙ ap (λ (w : List (String Global)). output ∷ w) (then ∙ ap (λ (w : List (String Global)). columns ∷ w) last) in
+    let P : List (String Global) → Type 0 = λ w. (c : Command) → ¬ IsGray (map string_bytes w) c in
+    subst P (sym all) (no_rows (string_bytes output) (string_bytes columns) (string_bytes rows) (map string_bytes rest) h)
+
 -- no words are left
 pub none_left : (words : List (String Global)) → (length words == 0) ≡ true → words ≡ []
 none_left [] e = refl
@@ -45,41 +59,73 @@ planes_last words after behind more name count planes limit at then last end nam
     at ∙ ap (λ (w : List (String Global)). name ∷ w) (then ∙ ap (λ (w : List (String Global)). count ∷ w) (last ∙ ap (λ (w : List (String Global)). planes ∷ w) end)) in
     subst P (sym all) (named, number, asked, refl)
 
--- If words ask for no command, they ask for no exact one.
-pub none_by : (P Q : Command → Type 0) → ((c : Command) → IsExact c → Q c → P c) → (r : Option Command) → IfNone r ((c : Command) → ¬ P c)
-    → IfNone r ((c : Command) → IsExact c → ¬ Q c)
-none_by P Q f None h = λ c x q. h c (f c x q)
+-- If words ask for no command of a name, they ask for none.
+pub none_by : (P Q : Command → Type 0) → ((c : Command) → Q c → P c) → (r : Option Command) → IfNone r ((c : Command) → ¬ P c)
+    → IfNone r ((c : Command) → ¬ Q c)
+none_by P Q f None h = λ c q. h c (f c q)
 none_by P Q f (Some c) h = h
 
--- The first letter of a name.
-first : (name : List ℕ) (a b : ℕ) (xs ys : List ℕ) → name ≡ a ∷ xs → name ≡ b ∷ ys → a ≡ b
-first name a b xs ys e f = ap (λ (n : List ℕ). slice_index n 0) (sym e ∙ f)
+-- The first three letters of a name, as a number: no two commands have the same.
+abbrev key : List ℕ → ℕ
+key name = slice_index name 0 * 65536 + (slice_index name 1 * 256 + slice_index name 2)
 
 -- A name asks for no command of another name.
-pub raw_alone : (name : List ℕ) (words : List (List ℕ)) → name ≡ codes "raw" → (c : Command) → IsExact c → IsAsked name words c → IsRaw words c
-raw_alone name words e (command.Raw i p o q l) x a = a.1
-raw_alone name words e (command.View i p o) x a = absurd (omega (arith, first name _ _ _ _ e a.0))
-raw_alone name words e (command.Check i l) x a = absurd (omega (arith, first name _ _ _ _ e a.0))
-raw_alone name words e (command.Jobs o k g) x a = absurd (omega (arith, first name _ _ _ _ e a.0))
-raw_alone name words e c x a = absurd x
+pub raw_alone : (words : List (List ℕ)) (c : Command) → IsAsked (codes "raw") words c → IsRaw words c
+raw_alone words (command.Raw i p o q l) h = h.1
+raw_alone words command.Help h = elim h.0 [ inl e ↦ absurd (omega (arith, ap key e)) | inr e ↦ absurd (omega (arith, ap key e)) ]
+raw_alone words c h = absurd (omega (arith, ap key h.0))
 
-pub view_alone : (name : List ℕ) (words : List (List ℕ)) → name ≡ codes "view" → (c : Command) → IsExact c → IsAsked name words c → IsView words c
-view_alone name words e (command.Raw i p o q l) x a = absurd (omega (arith, first name _ _ _ _ e a.0))
-view_alone name words e (command.View i p o) x a = a.1
-view_alone name words e (command.Check i l) x a = absurd (omega (arith, first name _ _ _ _ e a.0))
-view_alone name words e (command.Jobs o k g) x a = absurd (omega (arith, first name _ _ _ _ e a.0))
-view_alone name words e c x a = absurd x
+pub view_alone : (words : List (List ℕ)) (c : Command) → IsAsked (codes "view") words c → IsView words c
+view_alone words (command.View i p o) h = h.1
+view_alone words command.Help h = elim h.0 [ inl e ↦ absurd (omega (arith, ap key e)) | inr e ↦ absurd (omega (arith, ap key e)) ]
+view_alone words c h = absurd (omega (arith, ap key h.0))
 
-pub check_alone : (name : List ℕ) (words : List (List ℕ)) → name ≡ codes "check" → (c : Command) → IsExact c → IsAsked name words c → IsCheck words c
-check_alone name words e (command.Raw i p o q l) x a = absurd (omega (arith, first name _ _ _ _ e a.0))
-check_alone name words e (command.View i p o) x a = absurd (omega (arith, first name _ _ _ _ e a.0))
-check_alone name words e (command.Check i l) x a = a.1
-check_alone name words e (command.Jobs o k g) x a = absurd (omega (arith, first name _ _ _ _ e a.0))
-check_alone name words e c x a = absurd x
+pub check_alone : (words : List (List ℕ)) (c : Command) → IsAsked (codes "check") words c → IsCheck words c
+check_alone words (command.Check i l) h = h.1
+check_alone words command.Help h = elim h.0 [ inl e ↦ absurd (omega (arith, ap key e)) | inr e ↦ absurd (omega (arith, ap key e)) ]
+check_alone words c h = absurd (omega (arith, ap key h.0))
 
-pub jobs_alone : (name : List ℕ) (words : List (List ℕ)) → name ≡ codes "jobs" → (c : Command) → IsExact c → IsAsked name words c → IsJobs words c
-jobs_alone name words e (command.Raw i p o q l) x a = absurd (omega (arith, first name _ _ _ _ e a.0))
-jobs_alone name words e (command.View i p o) x a = absurd (omega (arith, first name _ _ _ _ e a.0))
-jobs_alone name words e (command.Check i l) x a = absurd (omega (arith, first name _ _ _ _ e a.0))
-jobs_alone name words e (command.Jobs o k g) x a = a.1
-jobs_alone name words e c x a = absurd x
+pub jobs_alone : (words : List (List ℕ)) (c : Command) → IsAsked (codes "jobs") words c → IsJobs words c
+jobs_alone words (command.Jobs o k g) h = h.1
+jobs_alone words command.Help h = elim h.0 [ inl e ↦ absurd (omega (arith, ap key e)) | inr e ↦ absurd (omega (arith, ap key e)) ]
+jobs_alone words c h = absurd (omega (arith, ap key h.0))
+
+pub gray_alone : (words : List (List ℕ)) (c : Command) → IsAsked (codes "gray") words c → IsGray words c
+gray_alone words (command.Gray o w t i) h = h.1
+gray_alone words command.Help h = elim h.0 [ inl e ↦ absurd (omega (arith, ap key e)) | inr e ↦ absurd (omega (arith, ap key e)) ]
+gray_alone words c h = absurd (omega (arith, ap key h.0))
+
+pub tags_alone : (words : List (List ℕ)) (c : Command) → IsAsked (codes "tags") words c → IsTags words c
+tags_alone words (command.Tags i p) h = h.1
+tags_alone words command.Help h = elim h.0 [ inl e ↦ absurd (omega (arith, ap key e)) | inr e ↦ absurd (omega (arith, ap key e)) ]
+tags_alone words c h = absurd (omega (arith, ap key h.0))
+
+pub list_alone : (words : List (List ℕ)) (c : Command) → IsAsked (codes "list") words c → IsList words c
+list_alone words (command.List i) h = h.1
+list_alone words command.Help h = elim h.0 [ inl e ↦ absurd (omega (arith, ap key e)) | inr e ↦ absurd (omega (arith, ap key e)) ]
+list_alone words c h = absurd (omega (arith, ap key h.0))
+
+pub directories_alone : (words : List (List ℕ)) (c : Command) → IsAsked (codes "directories") words c → IsDirectories words c
+directories_alone words (command.Directories i) h = h.1
+directories_alone words command.Help h = elim h.0 [ inl e ↦ absurd (omega (arith, ap key e)) | inr e ↦ absurd (omega (arith, ap key e)) ]
+directories_alone words c h = absurd (omega (arith, ap key h.0))
+
+pub calls_alone : (words : List (List ℕ)) (c : Command) → IsAsked (codes "calls") words c → IsCalls words c
+calls_alone words (command.Calls i) h = h.1
+calls_alone words command.Help h = elim h.0 [ inl e ↦ absurd (omega (arith, ap key e)) | inr e ↦ absurd (omega (arith, ap key e)) ]
+calls_alone words c h = absurd (omega (arith, ap key h.0))
+
+pub append_alone : (words : List (List ℕ)) (c : Command) → IsAsked (codes "append") words c → IsAppend words c
+append_alone words (command.Append f) h = h.1
+append_alone words command.Help h = elim h.0 [ inl e ↦ absurd (omega (arith, ap key e)) | inr e ↦ absurd (omega (arith, ap key e)) ]
+append_alone words c h = absurd (omega (arith, ap key h.0))
+
+pub help_alone : (name : List ℕ) (words : List (List ℕ)) → IsHelp name → (c : Command) → IsAsked name words c → words ≡ []
+help_alone name words n command.Help h = h.1
+help_alone name words (inl e) c h = absurd (omega (arith, ap key (sym e ∙ h.0)))
+help_alone name words (inr e) c h = absurd (omega (arith, ap key (sym e ∙ h.0)))
+
+pub version_alone : (words : List (List ℕ)) (c : Command) → IsAsked (codes "--version") words c → words ≡ []
+version_alone words command.Version h = h.1
+version_alone words command.Help h = elim h.0 [ inl e ↦ absurd (omega (arith, ap key e)) | inr e ↦ absurd (omega (arith, ap key e)) ]
+version_alone words c h = absurd (omega (arith, ap key h.0))

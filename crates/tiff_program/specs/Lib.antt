@@ -8,3 +8,4 @@ pub mod Samples
 pub mod View
 pub mod Words
 pub mod Wrote
+pub mod Status

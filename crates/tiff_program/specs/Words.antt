@@ -1,5 +1,5 @@
 -- What the words of a command line ask for.
-use Rattle.std.specs.Prelude.{◌≡◌, ◌⊎◌, ℕ, ◌<◌, ◌^◌, Bool, true, false, List, [], ◌∷◌, Option, None, Some, codes, ⊤}
+use Rattle.std.specs.Prelude.{◌≡◌, ◌≢◌, ◌⊎◌, ℕ, ◌<◌, ◌^◌, Bool, true, false, List, [], ◌∷◌, Option, None, Some, codes}
 use Rattle.std.specs.Str.Parse.{IsNumeral, digits_value, without_leading_plus}
 use Rattle.tiff_base.specs.declared.tags.FileKind.{FileKind}
 use Rattle.tiff_base.specs.declared.tags.FileKind.TheVariants.{Classic, Big}
@@ -92,20 +92,54 @@ abbrev pub IsJobs : List (List ℕ) → Command → Type 0
 IsJobs words (command.Jobs output kind keep_going) = AskForFile words output.now kind keep_going
 IsJobs words _ = ⊥
 
+-- This command is the `list` that these words ask for: the one word is the name of the file.
+abbrev pub IsList : List (List ℕ) → Command → Type 0
+IsList words (command.List input) = words ≡ input.now ∷ []
+IsList words _ = ⊥
+
+-- This command is the `directories` that these words ask for: the one word is the name of the file.
+abbrev pub IsDirectories : List (List ℕ) → Command → Type 0
+IsDirectories words (command.Directories input) = words ≡ input.now ∷ []
+IsDirectories words _ = ⊥
+
+-- This command is the `calls` that these words ask for: the one word is the name of the file.
+abbrev pub IsCalls : List (List ℕ) → Command → Type 0
+IsCalls words (command.Calls input) = words ≡ input.now ∷ []
+IsCalls words _ = ⊥
+
+-- This command is the `append` that these words ask for: the one word is the name of the file, which
+-- is no stream.
+abbrev pub IsAppend : List (List ℕ) → Command → Type 0
+IsAppend words (command.Append file) = (words ≡ file.now ∷ []) × (file.now ≢ codes "-")
+IsAppend words _ = ⊥
+
 -- This name asks for the help.
 abbrev pub IsHelp : List ℕ → Type 0
 IsHelp name = (name ≡ codes "help") ⊎ (name ≡ codes "--help")
 
--- This name, with these words behind it, asks for this command, which takes no options. For the
--- help and the version, no words follow.
-abbrev pub IsPlain : List ℕ → List (List ℕ) → Command → Type 0
-IsPlain name words command.Help = IsHelp name × (words ≡ [])
-IsPlain name words command.Version = (name ≡ codes "--version") × (words ≡ [])
-IsPlain name words (command.Raw input page output planes limit) = ⊥
-IsPlain name words (command.View input page output) = ⊥
-IsPlain name words (command.Check input limit) = ⊥
-IsPlain name words (command.Jobs output kind keep_going) = ⊥
-IsPlain name words _ = ⊤
+-- These words ask for a gray page of an output, with this width and height, and for a file with its
+-- samples.
+abbrev pub AskForGray : List (List ℕ) → List ℕ → ℕ → ℕ → List ℕ → Type 0
+AskForGray (output ∷ columns ∷ rows ∷ input ∷ more) to width height from = (to ≡ output)
+    × IsNumber 32 columns width × IsNumber 32 rows height × (from ≡ input) × (more ≡ [])
+AskForGray _ to width height from = ⊥
+
+-- This command is the `gray` that these words ask for.
+abbrev pub IsGray : List (List ℕ) → Command → Type 0
+IsGray words (command.Gray output width height input) =
+    AskForGray words output.now width height input.now
+IsGray words _ = ⊥
+
+-- These words ask for the entries of the page with this number of a file.
+abbrev pub AskForEntries : List (List ℕ) → List ℕ → ℕ → Type 0
+AskForEntries (input ∷ page ∷ more) from number = (from ≡ input) × IsNumber 32 page number
+    × (more ≡ [])
+AskForEntries _ from number = ⊥
+
+-- This command is the `tags` that these words ask for.
+abbrev pub IsTags : List (List ℕ) → Command → Type 0
+IsTags words (command.Tags input page) = AskForEntries words input.now page
+IsTags words _ = ⊥
 
 -- This name, with these words behind it, asks for this command.
 abbrev pub IsAsked : List ℕ → List (List ℕ) → Command → Type 0
@@ -117,20 +151,25 @@ IsAsked name words (command.Check input limit) = (name ≡ codes "check")
     × IsCheck words (command.Check input limit)
 IsAsked name words (command.Jobs output kind keep_going) = (name ≡ codes "jobs")
     × IsJobs words (command.Jobs output kind keep_going)
-IsAsked name words command = IsPlain name words command
+IsAsked name words (command.Gray output width height input) = (name ≡ codes "gray")
+    × IsGray words (command.Gray output width height input)
+IsAsked name words (command.Tags input page) = (name ≡ codes "tags")
+    × IsTags words (command.Tags input page)
+IsAsked name words (command.List input) = (name ≡ codes "list")
+    × IsList words (command.List input)
+IsAsked name words (command.Directories input) = (name ≡ codes "directories")
+    × IsDirectories words (command.Directories input)
+IsAsked name words (command.Calls input) = (name ≡ codes "calls")
+    × IsCalls words (command.Calls input)
+IsAsked name words (command.Append file) = (name ≡ codes "append")
+    × IsAppend words (command.Append file)
+IsAsked name words command.Help = IsHelp name × (words ≡ [])
+IsAsked name words command.Version = (name ≡ codes "--version") × (words ≡ [])
 
 -- These words ask for this command.
 abbrev pub AskFor : List (List ℕ) → Command → Type 0
 AskFor [] command = ⊥
 AskFor (name ∷ words) command = IsAsked name words command
-
--- For this command, the contracts specify exactly which words ask for it.
-abbrev pub IsExact : Command → Type 0
-IsExact (command.Raw input page output planes limit) = Unit {0}
-IsExact (command.View input page output) = Unit {0}
-IsExact (command.Check input limit) = Unit {0}
-IsExact (command.Jobs output kind keep_going) = Unit {0}
-IsExact command = ⊥
 
 -- the name of the file that a command writes, if it writes one
 abbrev pub output_of : Command → Option (List ℕ)

@@ -1,7 +1,7 @@
 //! The command line.
 
 ghost use Rattle.std.specs.Prelude.{◌≡◌, ◌⊎◌, [], ◌∷◌, IfNone, IfSome, Some, codes, map, option_map, string_bytes};
-ghost use Rattle.tiff_program.specs.Words.{AskFor, AskForJobs, AskForLimit, AskForPlanes, AskForPlanesFirst, AskForPlanesLast, IsAsked, IsCheck, IsExact, IsHelp, IsJobs, IsNumber, IsPlain, IsRaw, IsView, output_of};
+ghost use Rattle.tiff_program.specs.Words.{AskFor, AskForJobs, AskForLimit, AskForPlanes, AskForPlanesFirst, AskForPlanesLast, IsAppend, IsAsked, IsCalls, IsCheck, IsDirectories, IsGray, IsHelp, IsJobs, IsList, IsNumber, IsRaw, IsTags, IsView, output_of};
 
 use tiff::tags::FileKind;
 
@@ -62,6 +62,11 @@ pub enum Command<'a> {
         kind: FileKind,
         keep_going: bool,
     },
+    /// To run the jobs that standard input lists behind a file, print the replies, and add what they
+    /// write to the file, if none of the replies is an error.
+    Append {
+        file: &'a str,
+    },
     /// To print the version.
     Version,
 }
@@ -114,8 +119,8 @@ fn parse_jobs(words: &[String]) -> Option<Command<'_>>
     })
 }
 
-// The number of a page.
-fn page_number(word: &str) -> Option<u32>
+// A number below 2^32.
+fn whole_number(word: &str) -> Option<u32>
     ensures some { IfSome result (IsNumber 32 word.now) }
     ensures none { IfNone result ((number : _) → ¬ IsNumber 32 word.now number) }
 {
@@ -202,7 +207,7 @@ fn parse_raw(words: &[String]) -> Option<Command<'_>>
 {
     let (input, rest) = words.split_first()?;
     let (number, rest) = rest.split_first()?;
-    let page = page_number(number.as_str())?;
+    let page = whole_number(number.as_str())?;
     let (output, options) = rest.split_first()?;
     let (planes, limit) = raw_options(options)?;
     Some(Command::Raw {
@@ -221,7 +226,7 @@ fn parse_view(words: &[String]) -> Option<Command<'_>>
 {
     let (input, rest) = words.split_first()?;
     let (number, rest) = rest.split_first()?;
-    let page = page_number(number.as_str())?;
+    let page = whole_number(number.as_str())?;
     let (output, rest) = rest.split_first()?;
     if !rest.is_empty() {
         return None;
@@ -246,43 +251,112 @@ fn parse_check(words: &[String]) -> Option<Command<'_>>
     })
 }
 
-// The command with this name that takes no options, by the words behind the name.
-fn parse_plain<'a>(name: &str, words: &'a [String]) -> Option<Command<'a>>
-    ensures asked { IfSome result (IsPlain name.now (map string_bytes words.now)) }
-    ensures help { IsHelp name.now → words.now ≡ [] → result ≡ Some Command.Help }
-    ensures version { name.now ≡ codes "--version" → words.now ≡ []
-        → result ≡ Some Command.Version }
+// The command `gray`, by the words behind its name.
+fn parse_gray(words: &[String]) -> Option<Command<'_>>
+    ensures some { IfSome result (IsGray (map string_bytes words.now)) }
+    ensures none { IfNone result ((command : _) → ¬ IsGray (map string_bytes words.now) command) }
 {
-    match (name, words) {
-        ("gray", [output, width, height, input]) => Some(Command::Gray {
-            output: output.as_str(),
-            width: width.as_str().parse::<u32>().ok()?,
-            height: height.as_str().parse::<u32>().ok()?,
-            input: input.as_str(),
-        }),
-        ("tags", [input, page]) => Some(Command::Tags {
-            input: input.as_str(),
-            page: page.as_str().parse::<u32>().ok()?,
-        }),
-        ("list", [input]) => Some(Command::List {
-            input: input.as_str(),
-        }),
-        ("directories", [input]) => Some(Command::Directories {
-            input: input.as_str(),
-        }),
-        ("help" | "--help", []) => Some(Command::Help),
-        ("--version", []) => Some(Command::Version),
-        ("calls", [input]) => Some(Command::Calls {
-            input: input.as_str(),
-        }),
-        _ => None,
+    let (output, rest) = words.split_first()?;
+    let (columns, rest) = rest.split_first()?;
+    let width = whole_number(columns.as_str())?;
+    let (rows, rest) = rest.split_first()?;
+    let height = whole_number(rows.as_str())?;
+    let (input, rest) = rest.split_first()?;
+    if !rest.is_empty() {
+        return None;
     }
+    Some(Command::Gray {
+        output: output.as_str(),
+        width,
+        height,
+        input: input.as_str(),
+    })
+}
+
+// The command `tags`, by the words behind its name.
+fn parse_tags(words: &[String]) -> Option<Command<'_>>
+    ensures some { IfSome result (IsTags (map string_bytes words.now)) }
+    ensures none { IfNone result ((command : _) → ¬ IsTags (map string_bytes words.now) command) }
+{
+    let (input, rest) = words.split_first()?;
+    let (number, rest) = rest.split_first()?;
+    let page = whole_number(number.as_str())?;
+    if !rest.is_empty() {
+        return None;
+    }
+    Some(Command::Tags {
+        input: input.as_str(),
+        page,
+    })
+}
+
+// The one word, if there is one and no other.
+fn only_word(words: &[String]) -> Option<&str>
+    ensures some { IfSome result (λ word. map string_bytes words.now ≡ word.now ∷ []) }
+    ensures none { IfNone result ((word : _) → ¬ (map string_bytes words.now ≡ word ∷ [])) }
+{
+    let (word, rest) = words.split_first()?;
+    if !rest.is_empty() {
+        return None;
+    }
+    Some(word.as_str())
+}
+
+// The command `list`, by the words behind its name.
+fn parse_list(words: &[String]) -> Option<Command<'_>>
+    ensures some { IfSome result (IsList (map string_bytes words.now)) }
+    ensures none { IfNone result ((command : _) → ¬ IsList (map string_bytes words.now) command) }
+{
+    let input = only_word(words)?;
+    Some(Command::List { input })
+}
+
+// The command `directories`, by the words behind its name.
+fn parse_directories(words: &[String]) -> Option<Command<'_>>
+    ensures some { IfSome result (IsDirectories (map string_bytes words.now)) }
+    ensures none { IfNone result ((command : _) → ¬ IsDirectories (map string_bytes words.now) command) }
+{
+    let input = only_word(words)?;
+    Some(Command::Directories { input })
+}
+
+// The command `calls`, by the words behind its name.
+fn parse_calls(words: &[String]) -> Option<Command<'_>>
+    ensures some { IfSome result (IsCalls (map string_bytes words.now)) }
+    ensures none { IfNone result ((command : _) → ¬ IsCalls (map string_bytes words.now) command) }
+{
+    let input = only_word(words)?;
+    Some(Command::Calls { input })
+}
+
+// The command `append`, by the words behind its name. A stream has no end to add to.
+fn parse_append(words: &[String]) -> Option<Command<'_>>
+    ensures some { IfSome result (IsAppend (map string_bytes words.now)) }
+    ensures none { IfNone result ((command : _) → ¬ IsAppend (map string_bytes words.now) command) }
+{
+    let file = only_word(words)?;
+    if file == "-" {
+        return None;
+    }
+    Some(Command::Append { file })
+}
+
+// This command, if no words are behind its name.
+fn alone<'a>(words: &[String], command: Command<'a>) -> Option<Command<'a>>
+    ensures some { IfSome result (λ asked. (asked ≡ command.entry) × (map string_bytes words.now ≡ [])) }
+    ensures none { IfNone result (¬ (map string_bytes words.now ≡ [])) }
+    ensures empty { words.now ≡ [] → result ≡ Some command.entry }
+{
+    if !words.is_empty() {
+        return None;
+    }
+    Some(command)
 }
 
 // The command with this name, by the words behind the name.
 fn parse_named<'a>(name: &str, words: &'a [String]) -> Option<Command<'a>>
     ensures asked { IfSome result (IsAsked name.now (map string_bytes words.now)) }
-    ensures none { IfNone result ((command : _) → IsExact command
+    ensures none { IfNone result ((command : _)
         → ¬ IsAsked name.now (map string_bytes words.now) command) }
     ensures help { IsHelp name.now → words.now ≡ [] → result ≡ Some Command.Help }
     ensures version { name.now ≡ codes "--version" → words.now ≡ []
@@ -293,15 +367,22 @@ fn parse_named<'a>(name: &str, words: &'a [String]) -> Option<Command<'a>>
         "view" => parse_view(words),
         "check" => parse_check(words),
         "jobs" => parse_jobs(words),
-        _ => parse_plain(name, words),
+        "gray" => parse_gray(words),
+        "tags" => parse_tags(words),
+        "list" => parse_list(words),
+        "directories" => parse_directories(words),
+        "calls" => parse_calls(words),
+        "append" => parse_append(words),
+        "help" | "--help" => alone(words, Command::Help),
+        "--version" => alone(words, Command::Version),
+        _ => None,
     }
 }
 
 /// The command that the words of a command line ask for; `None` if they ask for none.
 pub fn parse(words: &[String]) -> Option<Command<'_>>
     ensures asked { IfSome result (AskFor (map string_bytes words.now)) }
-    ensures none { IfNone result ((command : _) → IsExact command
-        → ¬ AskFor (map string_bytes words.now) command) }
+    ensures none { IfNone result ((command : _) → ¬ AskFor (map string_bytes words.now) command) }
     ensures help { (map string_bytes words.now ≡ codes "help" ∷ [])
         ⊎ (map string_bytes words.now ≡ codes "--help" ∷ []) → result ≡ Some Command.Help }
     ensures version { map string_bytes words.now ≡ codes "--version" ∷ []

@@ -24,6 +24,8 @@ pub const HELP: &str = "tiffpage: TIFF and BigTIFF pages
   jobs OUT [big] [--keep-going] < LIST
                          prints the reply to each of the jobs that LIST has, and writes their file, a BigTIFF one with big,
                          where none of them is refused; with --keep-going in each case
+  append FILE < LIST     runs the jobs that LIST has behind FILE, a little-endian TIFF file, prints the reply to each, and adds
+                         what they write to FILE, where none of them is refused: the bytes behind it, and then its last link
   help, --help           prints these lines
   --version              prints the version
 
@@ -33,7 +35,8 @@ gray and raw replace IN where OUT is the same file.
 A list of jobs has one of these in each line, with one space between words:
   # ANYTHING             a comment, as is an empty line
   predictor NUMBER       of the images that follow: 1 for none, 2 for differences of neighbours
-  compression METHOD     of the images that follow: uncompressed or packbits
+  compression METHOD     of the images that follow: uncompressed; packbits, each row by itself; or packbits-chunks, across the
+                         rows of a strip or tile, which readers by row can't read
   image COLOR WIDTH HEIGHT
                          begins an image, of a color type as Gray8, RGB16 or Gray32Float
   directory [JOB]        begins a directory in the chain; JOB is the number, from 0, of the job whose directory links to it

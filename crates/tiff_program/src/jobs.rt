@@ -1,8 +1,9 @@
 //! Lists of jobs, and the files that they write.
 
-ghost use Rattle.std.specs.Prelude.{◌≡◌, None, MatchResult, is_ok, option_map};
+ghost use Rattle.std.specs.Prelude.{◌≡◌, ◌+◌, ◌≤◌, length, None, MatchResult, is_ok, option_map};
 ghost use Rattle.std.specs.List.{list_all};
-ghost use Rattle.tiff_program.specs.Wrote.{Wrote, is_well};
+ghost use Rattle.tiff_encode.specs.FileBytes.{offset_len};
+ghost use Rattle.tiff_program.specs.Wrote.{Wrote, WroteBehind, is_well};
 
 use crate::calls::let_go;
 use std::alloc::Global;
@@ -11,6 +12,9 @@ use tiff::encoder::{TiffKind, TiffKindBig, TiffKindStandard};
 use tiff::io::MemorySink;
 use tiff::tags::FileKind;
 use tiff::{TiffError, TiffResult};
+use tiff_append::last_link::LastLink;
+use tiff_append::run::run_behind;
+use tiff_append::sink::Addition;
 use tiff_lists::replies::lines_of_jobs;
 use tiff_pages::lines::Lines;
 
@@ -94,5 +98,33 @@ pub fn write_by(
     match kind {
         FileKind::Classic => run_kind::<TiffKindStandard>(alloc, keep_going, jobs),
         FileKind::Big => run_kind::<TiffKindBig>(alloc, keep_going, jobs),
+    }
+}
+
+/// Runs jobs one after another behind a file, whose last link `last_link` found, and returns what
+/// they write, if no reply is an error, with a line for each reply, also to a job that is refused.
+/// Its only error is `OutOfMemory`: for the replies, the link or the lines.
+pub fn append_by(
+    alloc: Global,
+    file: &[u8],
+    place: LastLink,
+    jobs: &[Job<'_>],
+) -> TiffResult<(Option<Addition>, Lines)>
+    requires { place.at + offset_len place.kind ≤ length file.now }
+    ensures { MatchResult result
+        (λ r. WroteBehind place.kind file.now place.at jobs.now r.0 r.1.well × (r.1.end ≡ None))
+        (λ e. e ≡ TiffError.OutOfMemory) }
+{
+    let mut replies = Vec::new(alloc);
+    match run_behind(alloc, file, place, jobs, &mut replies) {
+        Ok(addition) => {
+            let lines = told(alloc, replies)?;
+            let written = lines.well.then_some(addition);
+            Ok((written, lines))
+        }
+        Err(fault) => {
+            let_go(replies);
+            Err(fault)
+        }
     }
 }

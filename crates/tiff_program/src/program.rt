@@ -1,13 +1,16 @@
 //! The program: it does what a command line asks for.
 
-ghost use Rattle.std.specs.Prelude.{◌≡◌, ◌≤◌, IfOk, MatchOption, None, Ok, true};
+ghost use Rattle.std.specs.Prelude.{◌≡◌, ◌≤◌, ◌⊎◌, [], IfErr, IfOk, MatchOption, None, Ok, map, string_bytes, true};
+ghost use Rattle.tiff_program.specs.declared.command.Command.{Command};
 ghost use Rattle.tiff_program.specs.AtPage.{limits_for};
+ghost use Rattle.tiff_program.specs.Status.{status_of};
+ghost use Rattle.tiff_program.specs.Words.{AskFor};
 
 use crate::calls::replies_to;
 use crate::command::{Command, parse};
 use crate::files::Files;
 use crate::help::{HELP, version_line};
-use crate::jobs::{Written, write_by};
+use crate::jobs::{Written, append_by, write_by};
 use crate::list::{file_check, file_directories, file_list};
 use crate::listing::page_tags;
 use crate::samples::{page_planes, page_samples};
@@ -20,6 +23,8 @@ use tiff::decoder::Limits;
 use tiff::decoder::script::Call;
 use tiff::encoder::script::Job;
 use tiff::tags::FileKind;
+use tiff_append::last_link::last_link;
+use tiff_append::sink::Addition;
 use tiff_lists::call::calls_of;
 use tiff_lists::jobs::jobs_of;
 use tiff_pages::lines::Lines;
@@ -76,7 +81,7 @@ impl<'a> From<TiffError> for Failure<'a> {
 impl Failure<'_> {
     // The status with which the program ends after a failure.
     fn status(&self) -> u8
-        ensures { result ≤ 2 }
+        ensures { result ≡ status_of self.now }
     {
         match self {
             Failure::NoCall(_) | Failure::NoJob(_) | Failure::NoText(_) | Failure::NoPage => 2,
@@ -186,6 +191,41 @@ fn job_replies<'a, F: Files>(
     }
     let written = write_by(alloc, kind, keep_going, &jobs)?;
     write_kept(output, written, files)
+}
+
+// Adds what jobs wrote behind a file to the file: first the bytes behind it, and then its last link,
+// at an offset.
+fn append<'a, F: Files>(
+    name: &'a str,
+    addition: &Addition,
+    at: u64,
+    files: &mut F,
+) -> Result<(), Failure<'a>> {
+    match files.append(name, &addition.more, at as usize, &addition.link) {
+        Ok(()) => Ok(()),
+        Err(TiffError::OutOfMemory) => Err(Failure::Tiff(TiffError::OutOfMemory)),
+        Err(_) => Err(Failure::Write(name)),
+    }
+}
+
+// Runs the jobs that standard input lists behind a file, adds what they wrote to it, if none of them
+// is refused, and returns a line for each reply.
+fn append_jobs<'a, F: Files>(
+    alloc: Global,
+    name: &'a str,
+    files: &mut F,
+) -> Result<Lines, Failure<'a>> {
+    let file = read(files, name)?;
+    let place = last_link(alloc, &file)?;
+    let jobs = listed_jobs(alloc, files)?;
+    if !jobs.iter().any(is_page) {
+        return Err(Failure::NoPage);
+    }
+    let (written, lines) = append_by(alloc, &file, place, &jobs)?;
+    if let Some(addition) = written {
+        append(name, &addition, place.at, files)?;
+    }
+    Ok(lines)
 }
 
 // Writes bytes into a file, and returns no lines.
@@ -360,6 +400,7 @@ fn execute<'a, F: Files>(
             kind,
             keep_going,
         } => job_replies(alloc, output, (kind, keep_going), files),
+        Command::Append { file } => append_jobs(alloc, file, files),
         Command::Help => told_text(alloc, HELP),
         Command::Version => Ok(told(version_line(alloc)?)),
     }
@@ -429,6 +470,28 @@ fn print_aside<E: Write>(alloc: Global, lines: Lines, err: &mut E) -> u8
     print_end(alloc, end, well, err)
 }
 
+// Prints what a command returned, or the line of its failure. Returns the status.
+fn print_outcome<O: Write, E: Write>(
+    alloc: Global,
+    outcome: Result<Lines, Failure<'_>>,
+    is_aside: bool,
+    out: &mut O,
+    err: &mut E,
+) -> u8
+    ensures ok { IfOk outcome.entry (λ lines. (result ≤ 1)
+        × (result ≡ 0 → (lines.well ≡ true) × (lines.end ≡ None))) }
+    ensures err { IfErr outcome.entry (λ failure. result ≡ status_of failure) }
+{
+    match outcome {
+        Ok(lines) if is_aside => print_aside(alloc, lines, err),
+        Ok(lines) => print_lines(alloc, lines, out, err),
+        Err(failure) => {
+            print_failure(alloc, &failure, err);
+            failure.status()
+        }
+    }
+}
+
 /// Does what the words of a command line ask for, and returns the status.
 ///
 /// 0: all is done. 1: an error, with a line `error: ..` on `err`, also of a write to `out` that
@@ -453,7 +516,9 @@ pub fn run<F: Files, O: Write, E: Write>(
     out: &mut O,
     err: &mut E,
 ) -> u8
-    ensures { result ≤ 2 }
+    ensures status { result ≤ 2 }
+    ensures asked { result ≡ 0 → (words.now ≡ [])
+        ⊎ ((command : Command) × AskFor (map string_bytes words.now) command) }
 {
     if words.is_empty() {
         return u8::from(!print_text(alloc, USAGE, out, err));
@@ -466,12 +531,6 @@ pub fn run<F: Files, O: Write, E: Write>(
         };
     };
     let is_aside = command.output().is_some_and(|name| name == STREAM);
-    match execute(alloc, command, files) {
-        Ok(lines) if is_aside => print_aside(alloc, lines, err),
-        Ok(lines) => print_lines(alloc, lines, out, err),
-        Err(failure) => {
-            print_failure(alloc, &failure, err);
-            failure.status()
-        }
-    }
+    let outcome = execute(alloc, command, files);
+    print_outcome(alloc, outcome, is_aside, out, err)
 }

@@ -1,5 +1,6 @@
 -- An image that was written behind a header, and read back.
-use Rattle.std.proofs.Common.{◌≡◌, ℕ, ◌<◌, List, length, Option, None, Some, Result, Ok, Err, IfOk, refl, ap, sym, ◌∙◌, subst}
+use Rattle.std.proofs.Common.{◌≡◌, ℕ, ◌+◌, ◌*◌, ◌<◌, List, length, Option, None, Some, Result, Ok, Err, IfOk, refl, ap, sym, ◌∙◌, subst, inl, inr}
+use Rattle.std.specs.Prelude.{get_or}
 use Rattle.std.proofs.lemmas.Option.{slice_get_within}
 use Rattle.std.specs.List.{slice_get}
 use Rattle.tiff_base.specs.declared.error.TiffError.{TiffError}
@@ -9,12 +10,16 @@ use Rattle.tiff_base.specs.Answers.{◌>>=◌}
 use Rattle.tiff_base.specs.Directory.{directory_at}
 use Rattle.tiff_base.specs.Field.{DirectoryRecord}
 use Rattle.tiff_base.specs.Header.{Header}
+use Rattle.tiff_base.specs.declared.tags.SampleFormat.TheVariants.{Void}
 use Rattle.tiff_value.specs.declared.encoder.colortype.ColorTypeName.{ColorTypeName}
+use Rattle.tiff_value.specs.declared.encoder.colortype.ColorTypeName.TheVariants.{Gray8}
 use Rattle.tiff_value.specs.ColorType.{ColorTypeRecord}
-use Rattle.tiff_value.specs.ColorTypes.{color_type, inner_size}
+use Rattle.tiff_value.specs.ColorTypes.{color_type, format_of_type, inner_size, inner_type}
 use Rattle.tiff_ifd.specs.declared.limits.Limits.{Limits}
 use Rattle.tiff_ifd.specs.Limits.{unlimited}
+use Rattle.tiff_page.specs.Layout.{sample_type_from, sample_type_of}
 use Rattle.tiff_page.specs.Page.{PageRecord}
+use Rattle.tiff_page.specs.Row.{IsSize}
 use Rattle.tiff_page.specs.Image.{Decoded}
 use Rattle.tiff_page.specs.PixelCalls.{image_of}
 use Rattle.tiff_decode.specs.declared.result.DecodingResult.{DecodingResult}
@@ -23,11 +28,17 @@ use Rattle.tiff_decode.specs.Result.{decoded_as}
 use Rattle.tiff_decode.specs.Outcome.{chain_of, decoder_of, page_in, read_image, seek_to_image, set_limits}
 use Rattle.tiff_laws.specs.Pages.{SameFile, WalkOpens, WalkSeeks}
 use Rattle.tiff_encode.specs.Model.{Model, header_link}
-use Rattle.tiff_encode.specs.Machine.{FileState}
+use Rattle.tiff_encode.specs.Machine.{FileState, OpenImage}
+use Rattle.tiff_encode.specs.Chunks.{all_samples}
+use Rattle.tiff_encode.specs.Shows.{Shows}
 use Rattle.tiff_encode.specs.Causes.{end_of}
-use Rattle.tiff_encode.specs.ImageData.{AreNumbers, FirstShown, LeavesImage}
-use Rattle.tiff_encode.specs.ReadsBack.{WrittenIsRead}
-use Rattle.tiff_uses.specs.ReadBack.{ComesBack, IsFirstImage}
+use Rattle.tiff_encode.specs.ImageData.{AreNumbers, FirstShown, LeavesImage, image_of_samples}
+use Rattle.tiff_encode.specs.ReadsBack.{HasSamplesOf, ReadsShown, WrittenIsRead}
+use Rattle.tiff_encode.proofs.Data.Begun.{new_is}
+use Rattle.tiff_decode.specs.NextState.{view_of_result}
+use Rattle.tiff_uses.specs.GrayFile.{WritesAlone}
+use Rattle.tiff_uses.specs.Pages.{FileAnswers}
+use Rattle.tiff_uses.specs.ReadBack.{AnswersBack, ComesBack, IsFirstImage, first_freely}
 
 same_ok : {A : Type 0} (x y : A) → (let a : Result A TiffError = Ok x in let b : Result A TiffError = Ok y in a ≡ b) → x ≡ y
 same_ok x y e = cc
@@ -75,12 +86,52 @@ pub image_is_first : WalkOpens → WalkSeeks → (file : List ℕ) (opened free 
 image_is_first opens seeks file opened free at new (Ok image) h e s f = first_read opens seeks file opened free at (decoded_as image) h e s f.answer
 image_is_first opens seeks file opened free at new (Err fault) h e s f = tt
 
+-- ---- the type of the samples
+
+first_format : (name : ColorTypeName) → get_or (color_type name).formats 0 Void ≡ format_of_type (inner_type name)
+unfolding color_type inner_type
+first_format Gray8 = refl
+first_format name = refl
+
+first_depth : (name : ColorTypeName) → get_or (color_type name).bits 0 0 ≡ 8 * inner_size name
+unfolding color_type inner_type
+first_depth Gray8 = refl
+first_depth name = refl
+
+some_size : (name : ColorTypeName) → IsSize (inner_size name)
+unfolding inner_type
+some_size Gray8 = inl refl
+some_size name = search (inl, inr)
+
+-- The image has the sample type of the field type of the samples.
+type_is : ReadsShown → (color : ColorTypeRecord) (size width height : ℕ) (samples : List ℕ) (old new : FileState) (m : Model)
+    → (l : LeavesImage color size width height samples old new m) → (name : ColorTypeName) (offset : ℕ) (image : Decoded)
+    → (s : Shows old.kind new.bytes offset (image_of_samples l.image samples)) → color ≡ color_type name → size ≡ inner_size name
+    → AreNumbers size samples → image_of new.bytes LittleEndian s.page unlimited ≡ Ok image
+    → sample_type_from (format_of_type (inner_type name)) (8 * inner_size name) ≡ Ok image.sample_type
+unfolding sample_type_of
+type_is reads color size width height samples old new m l name offset image s c z small read =
+    let i = l.image in
+    let n = new_is color size width height old i l.begun.answer in
+    let tint : i.color ≡ color_type name = sym (ap (λ (j : OpenImage). j.color) n.1.0) ∙ c in
+    let depth : get_or i.color.bits 0 0 ≡ 8 * inner_size name = ap (λ (k : ColorTypeRecord). get_or k.bits 0 0) tint ∙ first_depth name in
+    let format : get_or i.color.formats 0 Void ≡ format_of_type (inner_type name) = ap (λ (k : ColorTypeRecord). get_or k.formats 0 Void) tint ∙ first_format name in
+    let has : HasSamplesOf (image_of_samples i samples) size = record {
+      is_size = subst IsSize (sym z) (some_size name);
+      depth = depth ∙ ap (λ k. 8 * k) (sym z);
+      small = λ x y k. small ((y * i.width + x) * all_samples i + k);
+    } in
+    let page_format : s.page.format ≡ format_of_type (inner_type name) = ap (λ (q : PageRecord). q.format) s.is_image ∙ format in
+    let page_depth : s.page.depth ≡ 8 * inner_size name = ap (λ (q : PageRecord). q.depth) s.is_image ∙ depth in
+    (λ t. sample_type_from (sym page_format t) (sym page_depth t))
+    ∙ (reads old.kind new.bytes offset (image_of_samples i samples) size unlimited image s has read).1
+
 -- The samples of the image are those of the image that was written behind the header.
-comes_back : FirstShown → WrittenIsRead → (color : ColorTypeRecord) (size width height : ℕ) (samples : List ℕ) (old new : FileState) (m : Model)
+comes_back : FirstShown → ReadsShown → WrittenIsRead → (color : ColorTypeRecord) (size width height : ℕ) (samples : List ℕ) (old new : FileState) (m : Model)
     → LeavesImage color size width height samples old new m → (name : ColorTypeName) → color ≡ color_type name → size ≡ inner_size name
     → AreNumbers size samples → old.chain ≡ header_link old.kind → 0 < end_of old → (file : List ℕ) (image : Decoded) → file ≡ new.bytes
-    → IsFirstImage file image → ComesBack width height (length color.bits) samples image
-comes_back shown_first is_read color size width height samples old new m l name c s small chain some file image is_file read whole =
+    → IsFirstImage file image → ComesBack (inner_type name) width height (length color.bits) samples image
+comes_back shown_first shows_read is_read color size width height samples old new m l name c s small chain some file image is_file read =
     let shown = shown_first color size width height samples old new m chain some l name c s in
     let f : IsFirstImage new.bytes image = subst (λ b. IsFirstImage b image) is_file read in
     let first : Header = record { order = LittleEndian; kind = old.kind; first = shown.offset } in
@@ -95,14 +146,31 @@ comes_back shown_first is_read color size width height samples old new m l name 
     subst (λ (h : Header). image_of new.bytes h.order f.page unlimited ≡ Ok image) same f.is_image in
     let image_is : image_of new.bytes LittleEndian shown.shows.page unlimited ≡ Ok image =
     subst (λ (p : PageRecord). image_of new.bytes LittleEndian p unlimited ≡ Ok image) page_is at_first in
-    is_read color size width height samples old new m l name shown.offset unlimited image shown.shows c s small whole image_is
+    record {
+      type = type_is shows_read color size width height samples old new m l name shown.offset image shown.shows c s small image_is;
+      numbers = λ whole. is_read color size width height samples old new m l name shown.offset unlimited image shown.shows c s small whole image_is;
+    }
 
 -- The samples that the call returns are those of the image that was written.
-pub all_come_back : FirstShown → WrittenIsRead → (color : ColorTypeRecord) (size width height : ℕ) (samples : List ℕ) (old new : FileState) (m : Model)
+pub all_come_back : FirstShown → ReadsShown → WrittenIsRead → (color : ColorTypeRecord) (size width height : ℕ) (samples : List ℕ) (old new : FileState) (m : Model)
     → LeavesImage color size width height samples old new m → (name : ColorTypeName) → color ≡ color_type name → size ≡ inner_size name
     → AreNumbers size samples → old.chain ≡ header_link old.kind → 0 < end_of old → (file : List ℕ) (result : Result DecodingResult TiffError)
     → file ≡ new.bytes → IfOk result (λ image. IsFirstImage file (decoded_as image))
-    → IfOk result (λ image. ComesBack width height (length color.bits) samples (decoded_as image))
-all_come_back shown_first is_read color size width height samples old new m l name c s small chain some file (Ok image) is_file read =
-    comes_back shown_first is_read color size width height samples old new m l name c s small chain some file (decoded_as image) is_file read
-all_come_back shown_first is_read color size width height samples old new m l name c s small chain some file (Err fault) is_file read = tt
+    → IfOk result (λ image. ComesBack (inner_type name) width height (length color.bits) samples (decoded_as image))
+all_come_back shown_first shows_read is_read color size width height samples old new m l name c s small chain some file (Ok image) is_file read =
+    comes_back shown_first shows_read is_read color size width height samples old new m l name c s small chain some file (decoded_as image) is_file read
+all_come_back shown_first shows_read is_read color size width height samples old new m l name c s small chain some file (Err fault) is_file read = tt
+
+-- ---- what is answered
+
+-- The image was refused by `write_image`.
+pub written_refused : (color : ColorTypeRecord) (size width height : ℕ) (samples : List ℕ) (e : TiffError) (result : Result DecodingResult TiffError)
+    → result ≡ Err e → WritesAlone color size width height samples (Err e) → AnswersBack color size width height samples (view_of_result decoded_as result)
+written_refused color size width height samples e result is w = inr (inl (e, (ap (view_of_result decoded_as) is, w)))
+
+-- The file was written, and read.
+pub written_read : (color : ColorTypeRecord) (size width height : ℕ) (samples file : List ℕ) (result : Result DecodingResult TiffError)
+    → WritesAlone color size width height samples (Ok file) → FileAnswers decoded_as result (first_freely file)
+    → AnswersBack color size width height samples (view_of_result decoded_as result)
+written_read color size width height samples file (Ok image) w h = inr (inr (file, (w, h)))
+written_read color size width height samples file (Err e) w h = inr (inr (file, (w, h)))

@@ -17,14 +17,14 @@ ghost use Rattle.tiff_uses.specs.GeoKeys.{geo_key, key_value, value_in};
 ghost use Rattle.tiff_uses.specs.Pages as pages;
 ghost use Rattle.tiff_uses.specs.Pages.{FileAnswers, first_image, page_chunk};
 ghost use Rattle.tiff_uses.specs.Listed.{IsPageOf, IsFileOf};
-ghost use Rattle.tiff_uses.specs.ReadBack.{ComesBack, IsFirstImage};
+ghost use Rattle.tiff_uses.specs.ReadBack.{AnswersBack, ComesBack, IsFirstImage, first_freely};
 
 use std::alloc::Global;
 use tiff::decoder::script::{Call, Reply, run_calls};
 use tiff::decoder::{Decoder, DecodingResult, DecodingSampleType, Limits};
 use tiff::encoder::colortype::{Gray8, NamedColorType};
 use tiff::encoder::laws::data::first_shown;
-use tiff::encoder::laws::reading::written_is_read;
+use tiff::encoder::laws::reading::{reads_shown, written_is_read};
 use tiff::encoder::script::{Job, JobReply, run_jobs};
 use tiff::encoder::{TiffEncoder, TiffKindStandard};
 use tiff::io::{MemorySink, MemorySource, Source};
@@ -171,7 +171,8 @@ pub fn clear_from(image: &mut DecodingResult, start: usize)
 
 // The image of a file's first page, read without limits.
 fn first_without_limits(alloc: Global, file: Vec<u8>) -> TiffResult<DecodingResult>
-    ensures { IfOk result (λ image. IsFirstImage file.items (decoded_as image)) }
+    ensures answer { FileAnswers decoded_as result (first_freely file.items) }
+    ensures first { IfOk result (λ image. IsFirstImage file.items (decoded_as image)) }
 {
     walk_opens();
     walk_seeks();
@@ -182,23 +183,31 @@ fn first_without_limits(alloc: Global, file: Vec<u8>) -> TiffResult<DecodingResu
 }
 
 /// Writes an image of a color type into a file in memory, and reads it back without limits; or
-/// returns the first error. If the caller passes as many samples as the image has, the same samples
-/// come back, in their order.
+/// returns the first error: of `write_image`, or of the reader. If the caller passes as many samples
+/// as the image has, the same samples come back, in their order and of their type.
+#[tactic(auto, using(tiff_base::proofs::MemoryFaults::header_refused))]
 pub fn written_and_read<C: NamedColorType>(
     alloc: Global,
     width: u32,
     height: u32,
     samples: &[C::Inner],
 ) -> TiffResult<DecodingResult>
-    ensures { IfOk result (λ image. ComesBack width height (length C.described.bits)
+    ensures answer { AnswersBack C.described (type_size C.Inner.value_type) width height
+        (map (sample_number (type_size C.Inner.value_type) C.Inner.bits) samples.now)
+        (view_of_result decoded_as result) }
+    ensures comes_back { IfOk result (λ image. ComesBack C.Inner.value_type width height
+        (length C.described.bits)
         (map (sample_number (type_size C.Inner.value_type) C.Inner.bits) samples.now)
         (decoded_as image)) }
 {
     first_shown();
+    reads_shown();
     written_is_read();
     let mut encoder = TiffEncoder::new(alloc, MemorySink::new(Vec::new(alloc)))?;
-    encoder.write_image::<C>(width, height, samples)?;
-    first_without_limits(alloc, encoder.into_inner().into_vec())
+    let written = encoder.write_image::<C>(width, height, samples);
+    let bytes = encoder.into_inner().into_vec();
+    written?;
+    first_without_limits(alloc, bytes)
 }
 
 /// Seeks to a page and reads its image, by a list of two calls. Appends the replies, each made where

@@ -2,7 +2,7 @@
 
 use std::fs;
 use std::fs::{File, Metadata, OpenFile, OpenOptions, Permissions};
-use std::io::{self, ErrorKind, Input, Read, Write};
+use std::io::{self, ErrorKind, Input, Read, Seek, SeekFrom, Write};
 use std::os::unix::fs::PermissionsExt;
 use std::rt::Files as Machine;
 use tiff::io::IoKind;
@@ -125,6 +125,25 @@ fn write_whole<R: Machine + AllocGlobal>(rt: &R, name: &str, bytes: &[u8]) -> io
     replace(rt, behind.as_path().to_string_lossy(), bytes)
 }
 
+// Appends bytes to a file, and then overwrites its bytes from an offset on. The former are on the
+// disk before the latter are written: a file that is cut between the two has all bytes that it had.
+fn append_and_link<R: Machine>(
+    rt: &R,
+    name: &str,
+    more: &[u8],
+    at: u64,
+    over: &[u8],
+) -> io::Result<()> {
+    let mut options = OpenOptions::new();
+    let mut file = options.write(true).open(rt, name)?;
+    file.seek(SeekFrom::End(0))?;
+    file.write_all(more)?;
+    file.sync_all()?;
+    file.seek(SeekFrom::Start(at))?;
+    file.write_all(over)?;
+    file.sync_all()
+}
+
 // Whether two names lead to one file.
 fn lead_to_one<R: Machine + AllocGlobal>(rt: &R, one: &str, other: &str) -> io::Result<bool> {
     let one = fs::canonicalize(rt, one)?;
@@ -148,6 +167,11 @@ impl<R: Machine + AllocGlobal + Input, O: Write + Drop> Files for MachineFiles<'
         } else {
             write_whole(self.rt, name, bytes)
         };
+        written.map_err(|e| fault(e.kind()))
+    }
+
+    fn append(&mut self, name: &str, more: &[u8], at: usize, over: &[u8]) -> TiffResult<()> {
+        let written = append_and_link(self.rt, name, more, at as u64, over);
         written.map_err(|e| fault(e.kind()))
     }
 

@@ -4,8 +4,8 @@ use Rattle.tiff_decode.specs.Outcome.{decoder_of, set_limits}
 use Rattle.tiff_uses.proofs.ReadBack.{image_is_first}
 use Rattle.tiff_uses.proofs.first_without_limits.Goals as goal
 
-pub returns : goal.returns
-returns c =
+pub returns-clause-first : goal.returns-clause-first
+returns-clause-first c =
     let opened = c.in_ok-decoder.decoder in
     let IsOpened : List ℕ → Type 0 = λ bytes. decoder_of bytes 0 ≡ Ok (record opened { readable = None; failures = 0 }) in
     let free = c.with_limits-decoder.ensures ∙ ap (λ (l : Limits). record opened { state = (set_limits opened l).next }) c.unlimited.ensures in

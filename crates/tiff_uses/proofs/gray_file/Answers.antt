@@ -36,4 +36,4 @@ returns-clause-shows c =
     let some : 0 < length encoder.bytes = (let e : length encoder.bytes ≡ 8 = ap (λ e. length e.bytes) is ∙ rw empty refl in omega (arith, e)) in
     subst (λ (l : List ℕ). ShowsGray l c.args.width c.args.height c.args.samples.now) (sym file)
     (gray_bytes_shown c.args.width c.args.height c.args.samples.now encoder c.write_image-written.new.self m c.type_inv.samples (ap (λ e. e.kind) is) (header_chain Classic encoder.chain header.link) some
-    (ap (λ e. e.method) is) (ap (λ e. e.predictor) is) image)
+    (ap (λ e. e.compression) is) (ap (λ e. e.predictor) is) image)
