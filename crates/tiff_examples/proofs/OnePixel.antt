@@ -231,7 +231,7 @@ octets (suc k) = lit< tt
 -- the model holds the open image after its resolutions
 pub begin_held : HoldsOpen Classic tasks.after_begin.model new_pixel []
 unfolding color_type inner_type
-begin_held = begins_open (new_file Classic) (header_model Classic) name.Gray8 1 1 new_pixel (lit< tt) (lit< tt) (inl refl) images.gray_begun.0
+begin_held = begins_open (new_file Classic) (header_model Classic) name.Gray8 1 1 new_pixel (lit< tt) (lit< tt) images.gray_begun.0
 
 -- the image after its strip
 strip_is : (write_strip new_pixel 1 (7 ∷ []) tasks.after_begin.file).answer ≡ Ok pixel_in_file

@@ -114,7 +114,7 @@ begins =
     )
 
 pub image_left : s.image_left
-image_left = image_leaves_by parts_show gray 1 1 1 (7 ∷ 8 ∷ []) (Ok tt) (new_file Classic) after_data.file (header_model Classic) (lit< tt) (lit< tt) (inl refl)
+image_left = image_leaves_by parts_show gray 1 1 1 (7 ∷ 8 ∷ []) (Ok tt) (new_file Classic) after_data.file (header_model Classic) (lit< tt) (lit< tt)
     two_numbers data_short (its_header.header_stands Classic) (inl refl) begins
 
 -- if an image is in the file directly after the header, the first page of the file shows it

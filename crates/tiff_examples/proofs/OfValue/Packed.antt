@@ -1,9 +1,9 @@
 -- The worked examples of `Value.Packed` hold.
 use Rattle.std.specs.Prelude.{refl, Bool, true, false}
-use Rattle.std.specs.List.{list_all}
-use Rattle.std.proofs.Common.{◌≡◌, ℕ, ◌+◌, ◌-◌, ◌<◌, ◌&&◌, List, [], ◌∷◌, ◌++◌, arith, ap, drop, flat_map, get_or, length, length-append, subst, sym, take, ◌∙◌}
-use Rattle.std.proofs.lemmas.List.{take_all, take_at}
-use Rattle.tiff_base.specs.Runs.{Unpacked}
+use Rattle.std.specs.List.{list_all, concat, AllZip}
+use Rattle.std.proofs.Common.{◌≡◌, ℕ, ◌+◌, ◌-◌, ◌<◌, ◌&&◌, List, [], ◌∷◌, ◌++◌, arith, ap, ap₂, drop, flat_map, get_or, length, length-append, subst, sym, take, ◌∙◌}
+use Rattle.std.proofs.lemmas.List.{nil_from_length, take_all, take_at}
+use Rattle.tiff_base.specs.Runs.{Unpacked, runs}
 use Rattle.tiff_base.specs.Blocks.{Block, Nothing, Literal, Repeated, AreBlocks, packed_block}
 use Rattle.tiff_value.proofs.Packing.{unpacks}
 use Rattle.tiff_value.specs.Packed.{is_sparing, may_be_written, IsPacked}
@@ -108,6 +108,55 @@ pack_standard = record {
   bound = omega arith;
 }
 
+pub rows_packed : s.rows_packed
+rows_packed =
+    let row : List ℕ = 0x01 ∷ 0x01 ∷ [] in
+    let list : List ℕ = 0xff ∷ 0x01 ∷ [] in
+    let packed : IsPacked row list = record {
+      packs = record { blocks = Repeated 2 0x01 ∷ []; are_blocks = ((omega arith, omega arith), tt); written = refl; is_list = refl; stands = refl };
+      bound = omega arith;
+    } in
+    record { rows = row ∷ row ∷ []; lists = list ∷ list ∷ []; packed = ((refl, packed), ((refl, packed), tt)); are_rows = refl; is_list = refl }
+
+-- a row of two bytes, and its packed list
+abbrev Row : List ℕ → List ℕ → Type 0
+Row one packed = (length one ≡ 2) × IsPacked one packed
+
+-- what a list unpacks to is a row
+row_length : (row list : List ℕ) → Row row list → length (runs false list).out ≡ 2
+row_length row list r = ap (λ (u : Unpacked). length u.out) (unpacks row list r.1) ∙ r.0
+
+-- a list of four bytes 1 in one run isn't that of two rows
+no_across : (rows lists : List (List ℕ)) → AllZip Row rows lists → 0x01 ∷ 0x01 ∷ 0x01 ∷ 0x01 ∷ [] ≡ concat rows → 0xfd ∷ 0x01 ∷ [] ≡ concat lists → ⊥
+unfolding tiff_on_literals
+no_across [] lists a r l = absurd cc
+no_across (row ∷ rows) [] a r l = absurd cc
+no_across (row ∷ rows) ([] ∷ lists) a r l = omega (arith, row_length row [] a.0)
+no_across (row ∷ rows) ((x ∷ []) ∷ lists) a r l =
+    let h : x ≡ 0xfd = ap (λ (bs : List ℕ). get_or bs 0 0) (sym l) in
+    let e : length (runs false (0xfd ∷ [])).out ≡ 2 = subst (λ (k : ℕ). length (runs false (k ∷ [])).out ≡ 2) h (row_length row (x ∷ []) a.0) in
+    omega (arith, e)
+no_across (row ∷ rows) ((x ∷ y ∷ more) ∷ lists) a r l =
+    let h : x ≡ 0xfd = ap (λ (bs : List ℕ). get_or bs 0 0) (sym l) in
+    let v : y ≡ 0x01 = ap (λ (bs : List ℕ). get_or bs 1 0) (sym l) in
+    let n : length more + length (concat lists) ≡ 0 = omega (arith, ap (λ (bs : List ℕ). length bs) l, length-append more (concat lists)) in
+    let none : more ≡ [] = nil_from_length more (omega (arith, n)) in
+    let e : length (runs false (0xfd ∷ 0x01 ∷ [])).out ≡ 2 =
+    subst (λ (bs : List ℕ). length (runs false bs).out ≡ 2) (ap₂ ◌∷◌ h (ap₂ ◌∷◌ v none)) (row_length row (x ∷ y ∷ more) a.0) in
+    omega (arith, e)
+
+pub rows_across : s.rows_across
+rows_across = λ p. no_across p.rows p.lists p.packed p.are_rows p.is_list
+
+-- one byte isn't made of whole rows of two
+no_half : (rows lists : List (List ℕ)) → AllZip Row rows lists → 0x01 ∷ [] ≡ concat rows → ⊥
+no_half [] lists a r = omega (arith, ap (λ (bs : List ℕ). length bs) r)
+no_half (row ∷ rows) [] a r = a
+no_half (row ∷ rows) (list ∷ lists) a r = omega (arith, a.0.0, ap (λ (bs : List ℕ). length bs) r, length-append row (concat rows))
+
+pub row_cut : s.row_cut
+row_cut = λ p. no_half p.rows p.lists p.packed p.are_rows
+
 pub stored_packed : s.stored_packed
 stored_packed = record {
   packs = record { blocks = Repeated 4 0x01 ∷ []; are_blocks = ((omega arith, omega arith), tt); written = refl; is_list = refl; stands = refl };
@@ -126,5 +175,8 @@ pub ruleset worked = (
   literal_cut,
   pack_other,
   pack_standard,
+  rows_packed,
+  rows_across,
+  row_cut,
   stored_packed,
 )

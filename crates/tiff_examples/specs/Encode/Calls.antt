@@ -6,7 +6,6 @@ use Rattle.tiff_base.specs.declared.error.TiffError.TheVariants.{FormatError, Us
 use Rattle.tiff_base.specs.declared.error.TiffFormatError.TheVariants.{InvalidTag}
 use Rattle.tiff_base.specs.declared.error.UsageError.TheVariants.{ByteOrderMismatch, MismatchedEntryLength, ParentNotWritten, WriterFailed, ZeroIfdPointer}
 use Rattle.tiff_base.specs.declared.tags.ByteOrder.TheVariants.{LittleEndian, BigEndian}
-use Rattle.tiff_base.specs.declared.tags.CompressionMethod.TheVariants as method
 use Rattle.tiff_base.specs.declared.tags.FileKind.TheVariants.{Classic, Big}
 use Rattle.tiff_base.specs.declared.tags.Predictor.TheVariants as predictor
 use Rattle.tiff_base.specs.declared.tags.Tag.TheVariants as tag
@@ -76,8 +75,10 @@ set_predictor =
     calls.with_predictor predictor.Horizontal (new_file Classic) ≡ record (new_file Classic)
     { predictor = predictor.Horizontal }
 
-abbrev pub set_method : Type 0
-set_method = (calls.with_compression Packbits (new_file Classic)).method ≡ method.PackBits
+abbrev pub set_compression : Type 0
+set_compression =
+    calls.with_compression Packbits (new_file Classic) ≡ record (new_file Classic)
+    { compression = Packbits }
 
 -- ---- directories
 

@@ -16,7 +16,7 @@ use Rattle.tiff_base.specs.declared.tags.Tag.TheVariants as tag
 use Rattle.tiff_base.specs.Field.{Field}
 use Rattle.tiff_value.specs.ColorType.{ColorTypeRecord}
 use Rattle.tiff_value.specs.Data.{u16s, u32s, methods, predictors, interpretations, units, formats, rationals}
-use Rattle.tiff_encode.specs.declared.encoder.settings.Compression.TheVariants.{Packbits}
+use Rattle.tiff_encode.specs.declared.encoder.settings.Compression.TheVariants.{Packbits, PackbitsRows}
 use Rattle.tiff_encode.specs.FileBytes.{header_bytes}
 use Rattle.tiff_encode.specs.Machine.{FileState, OpenImage}
 use Rattle.tiff_encode.specs.Calls as calls
@@ -67,15 +67,20 @@ no_side =
       next = new_file Classic;
     }
 
--- the rows per strip for rows of 300 bytes, and for packed data
+-- the rows per strip for rows of 300 bytes, and for packed data, across rows or row by row
 abbrev pub rows_300 : Type 0
 rows_300 = (image_in (new_file Classic) (new_directory None true) rgb 1 100 100).form
     ≡ strips_of 100 3334 Chunky
 
 abbrev pub rows_packed : Type 0
 rows_packed =
-    (image_in (record (new_file Classic) { method = method.PackBits }) (new_directory None true) rgb
+    (image_in (record (new_file Classic) { compression = Packbits }) (new_directory None true) rgb
     1 100 100).form ≡ strips_of 100 1 Chunky
+
+abbrev pub rows_alone : Type 0
+rows_alone =
+    (image_in (record (new_file Classic) { compression = PackbitsRows }) (new_directory None true)
+    rgb 1 100 100).form ≡ strips_of 100 1 Chunky
 
 -- the tags of a new image, in this order; YCbCr has a subsampling tag
 abbrev pub tags_gray : Type 0

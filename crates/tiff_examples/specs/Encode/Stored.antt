@@ -5,7 +5,6 @@ use Rattle.std.specs.List.{range_with_len}
 use Rattle.tiff_base.specs.declared.color.ColorType.TheVariants.{Gray}
 use Rattle.tiff_base.specs.declared.error.TiffError.TheVariants.{LimitsExceeded}
 use Rattle.tiff_base.specs.declared.tags.ByteOrder.TheVariants.{LittleEndian}
-use Rattle.tiff_base.specs.declared.tags.CompressionMethod.TheVariants as method
 use Rattle.tiff_base.specs.declared.tags.FileKind.TheVariants.{Classic}
 use Rattle.tiff_base.specs.declared.tags.PhotometricInterpretation.TheVariants.{BlackIsZero}
 use Rattle.tiff_base.specs.declared.tags.PlanarConfiguration.TheVariants.{Chunky, Planar}
@@ -19,6 +18,7 @@ use Rattle.tiff_page.specs.Page.{PageRecord}
 use Rattle.tiff_page.specs.Counts.{all_chunks}
 use Rattle.tiff_page.specs.Layout.{color_of}
 use Rattle.tiff_page.specs.PixelCalls.{image_of}
+use Rattle.tiff_encode.specs.declared.encoder.settings.Compression.TheVariants.{Packbits, PackbitsRows}
 use Rattle.tiff_encode.specs.Machine.{OpenImage}
 use Rattle.tiff_encode.specs.Chunks.{image_page, next_chunk_sample_count, parts_left, sample_in}
 use Rattle.tiff_encode.specs.Calls as calls
@@ -146,7 +146,7 @@ planar_set =
     (new_file Classic))
     (Ok (record (image_in (new_file Classic)
     (with_fields (new_directory None true) ((284, short_field 2) ∷ [])) rgb 1 2 1)
-    { form = strips_of 2 (calls.default_rows (new_file Classic).method 6) Planar }))
+    { form = strips_of 2 (calls.default_rows (new_file Classic).compression 6) Planar }))
     header
 
 -- ---- planes in tiles: RGB of 20 by 20 in tiles of 16 by 16
@@ -189,7 +189,7 @@ gray_16 = record { interpretation = BlackIsZero; bits = 16 ∷ []; formats = Uin
 abbrev pub wide : PageRecord
 wide = image_page
     (record (image_in (new_file Classic) (new_directory None true) gray_16 2 2147483649 1)
-    { method = method.PackBits; form = strips_of 2147483649 4294967295 Chunky })
+    { compression = Packbits; form = strips_of 2147483649 4294967295 Chunky })
 
 abbrev pub wide_color : Type 0
 wide_color = color_of wide ≡ Ok (Gray 16)

@@ -1,5 +1,5 @@
 -- Worked examples of reads of consecutive numbers, and of texts at an offset.
-use Rattle.std.specs.Prelude.{◌≡◌, ℕ, pos, negsuc, [], ◌∷◌, Result, Ok, Err}
+use Rattle.std.specs.Prelude.{◌≡◌, ℕ, pos, negsuc, [], ◌∷◌, Some, Result, Ok, Err}
 use Rattle.std.specs.Int.{w16, w32, w64, cast_signed}
 use Rattle.tiff_base.specs.declared.error.TiffError.{TiffError}
 use Rattle.tiff_base.specs.declared.error.TiffError.TheVariants.{FormatError, IoError, OutOfMemory}
@@ -19,7 +19,10 @@ behind_refused = offset_behind {X = ℕ} (Err (IoError UnexpectedEof)) 2 5 ≡ 5
 -- a reader of nine bytes at an offset
 abbrev pub at : ℕ → Reading
 at offset = record {
-  bytes = 0xff ∷ 0xfe ∷ 0x3f ∷ 0x80 ∷ 0x00 ∷ 0x00 ∷ 0x00 ∷ 0x00 ∷ 0x01 ∷ [];
+  told = record {
+    bytes = 0xff ∷ 0xfe ∷ 0x3f ∷ 0x80 ∷ 0x00 ∷ 0x00 ∷ 0x00 ∷ 0x00 ∷ 0x01 ∷ [];
+    readable = Some ((0, 9) ∷ []);
+  };
   failures = 0;
   order = BigEndian;
   offset = offset;

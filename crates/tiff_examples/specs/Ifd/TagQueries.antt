@@ -13,6 +13,7 @@ use Rattle.tiff_base.specs.Tags.{tag_of}
 use Rattle.tiff_value.specs.Buffer.{empty_buffer}
 use Rattle.tiff_ifd.specs.declared.limits.Limits.{Limits}
 use Rattle.tiff_ifd.specs.Limits.{unlimited}
+use Rattle.tiff_ifd.specs.OneNumber.{one_number}
 use Rattle.tiff_ifd.specs.PlainValue.{none, more, list, short, unsigned, float, ascii}
 use Rattle.tiff_ifd.specs.Into.{into_f32}
 use Rattle.tiff_ifd.specs.TagLookup.{require}
@@ -279,3 +280,42 @@ part_too_many =
     part_of_field Big LittleEndian twice_one
     (of RATIONAL (2 ^ 61) (0xff ∷ 0xff ∷ 0xff ∷ 0xff ∷ 0xff ∷ 0xff ∷ 0xff ∷ 0xff ∷ [])) 0 0
     ≡ Err LimitsExceeded
+
+-- ---- one number
+
+-- a file with the LONGs 1 and 2 at 8
+abbrev pub one_two : List ℕ
+one_two =
+    0x00 ∷ 0x00 ∷ 0x00 ∷ 0x00 ∷ 0x00 ∷ 0x00 ∷ 0x00 ∷ 0x00 ∷ 0x01 ∷ 0x00 ∷ 0x00 ∷ 0x00 ∷ 0x02 ∷ 0x00
+    ∷ 0x00 ∷ 0x00 ∷ []
+
+abbrev pub longs_at_8 : Field
+longs_at_8 = of LONG 2 (0x08 ∷ 0x00 ∷ 0x00 ∷ 0x00 ∷ 0x00 ∷ 0x00 ∷ 0x00 ∷ 0x00 ∷ [])
+
+abbrev pub number_second : Type 0
+number_second = one_number Classic LittleEndian one_two longs_at_8 1 ≡ Ok 2
+
+-- in a file of 12 bytes the first number can be read, and the second can't
+abbrev pub number_of_cut : Type 0
+number_of_cut = one_number Classic LittleEndian (take 12 one_two) longs_at_8 0 ≡ Ok 1
+
+abbrev pub number_cut : Type 0
+number_cut =
+    one_number Classic LittleEndian (take 12 one_two) longs_at_8 1 ≡ Err (IoError UnexpectedEof)
+
+-- the second of two SHORTs in the entry
+abbrev pub number_inline : Type 0
+number_inline =
+    one_number Classic BigEndian []
+    (of SHORT 2 (0x00 ∷ 0x01 ∷ 0x00 ∷ 0x02 ∷ 0x00 ∷ 0x00 ∷ 0x00 ∷ 0x00 ∷ [])) 1 ≡ Ok 2
+
+abbrev pub number_past : Type 0
+number_past =
+    one_number Classic LittleEndian one_two longs_at_8 2
+    ≡ Err (FormatError InconsistentSizesEncountered)
+
+abbrev pub number_of_byte : Type 0
+number_of_byte =
+    one_number Classic LittleEndian one_two
+    (of BYTE 2 (0x01 ∷ 0x02 ∷ 0x00 ∷ 0x00 ∷ 0x00 ∷ 0x00 ∷ 0x00 ∷ 0x00 ∷ [])) 0
+    ≡ Err (FormatError InvalidTypeForTag)

@@ -1,5 +1,5 @@
 -- Worked examples of reads of packed bytes in pieces.
-use Rattle.std.specs.Prelude.{◌≡◌, ℕ, List, [], ◌∷◌, Ok, Err, false}
+use Rattle.std.specs.Prelude.{◌≡◌, ℕ, List, [], ◌∷◌, None, Ok, Err, false}
 use Rattle.tiff_base.specs.declared.error.TiffError.{TiffError}
 use Rattle.tiff_base.specs.declared.error.TiffError.TheVariants.{IoError, OutOfMemory}
 use Rattle.tiff_base.specs.declared.io.IoKind.TheVariants.{Device, UnexpectedEof}
@@ -87,7 +87,13 @@ broken_read = GivesNext (gives [] Broken) (0x09 ∷ []) 0 (0x09 ∷ []) (gives [
 -- ---- errors
 
 abbrev pub left : Unpacked → ℕ → Unpacking
-left rest failures = record { bytes = []; failures = failures; rest = rest }
+left rest failures = record {
+  told = record { bytes = []; readable = None };
+  failures = failures;
+  at = 0;
+  len = 0;
+  rest = rest;
+}
 
 -- a refused read into a buffer of one byte, which then contains any byte
 abbrev pub Refused : Unpacked → Unpacked → ℕ → TiffError → Type 0

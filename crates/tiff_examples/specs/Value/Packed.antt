@@ -11,7 +11,7 @@ use Rattle.tiff_value.specs.declared.encoder.colortype.ColorTypeName.TheVariants
 use Rattle.tiff_value.specs.ColorTypes.{color_type, inner_size, inner_type}
 use Rattle.tiff_value.specs.Differences.{differences, restored_number}
 use Rattle.tiff_value.specs.Predicted.{row_of_type}
-use Rattle.tiff_value.specs.Packed.{is_sparing, packed_bound, IsPacked, IsStored, store_fault}
+use Rattle.tiff_value.specs.Packed.{is_sparing, packed_bound, ArePackedRows, IsPacked, IsStored, store_fault}
 
 -- the samples of color types
 abbrev pub gray8 : Type 0
@@ -208,6 +208,19 @@ pack_standard =
     ∷ 0xaa ∷ 0xaa ∷ 0xaa ∷ 0xaa ∷ 0xaa ∷ 0xaa ∷ 0xaa ∷ 0xaa ∷ 0xaa ∷ [])
     (0xfe ∷ 0xaa ∷ 0x02 ∷ 0x80 ∷ 0x00 ∷ 0x2a ∷ 0xfd ∷ 0xaa ∷ 0x03 ∷ 0x80 ∷ 0x00 ∷ 0x2a ∷ 0x22 ∷ 0xf7
     ∷ 0xaa ∷ [])
+
+-- two rows of two bytes, each packed by itself; and packed across the rows; and a cut row
+abbrev pub rows_packed : Type 0
+rows_packed =
+    ArePackedRows 2 (0x01 ∷ 0x01 ∷ 0x01 ∷ 0x01 ∷ []) (0xff ∷ 0x01 ∷ 0xff ∷ 0x01 ∷ [])
+
+abbrev pub rows_across : Type 0
+rows_across =
+    ArePackedRows 2 (0x01 ∷ 0x01 ∷ 0x01 ∷ 0x01 ∷ []) (0xfd ∷ 0x01 ∷ []) → ⊥
+
+abbrev pub row_cut : Type 0
+row_cut =
+    ArePackedRows 2 (0x01 ∷ []) (0x00 ∷ 0x01 ∷ []) → ⊥
 
 -- the largest number of packed bytes
 abbrev pub bound_0 : Type 0

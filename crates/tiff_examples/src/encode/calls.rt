@@ -12,7 +12,7 @@ pub fn values()
 
 /// Settings, and directories that begin.
 pub fn begins()
-    ensures { s.set_predictor × s.set_method × s.begun_directory × s.padded_directory
+    ensures { s.set_predictor × s.set_compression × s.begun_directory × s.padded_directory
         × s.stopped_directory ×
         s.stopped_extra }
 {}

@@ -5,7 +5,7 @@ ghost use Rattle.tiff_examples.specs.Encode.Chunks as s;
 
 /// New images, and their tags.
 pub fn begins()
-    ensures { s.gray_begun × s.gray_begun_big × s.no_side × s.rows_300 × s.rows_packed × s.tags_gray
+    ensures { s.gray_begun × s.gray_begun_big × s.no_side × s.rows_300 × s.rows_packed × s.rows_alone × s.tags_gray
         ×
         s.tags_ycbcr × s.tags_end × s.tags_extra }
 {}

@@ -28,3 +28,9 @@ pub fn parts()
     ensures { s.part_at_4 × s.part_at_7 × s.part_at_8 × s.part_inline × s.part_of_cut × s.part_cut ×
         s.part_of_none × s.part_past_u64 × s.part_at_last × s.part_end_first × s.part_too_many }
 {}
+
+/// Numbers of a field, read alone.
+pub fn lone_numbers()
+    ensures { s.number_second × s.number_of_cut × s.number_cut × s.number_inline × s.number_past ×
+        s.number_of_byte }
+{}

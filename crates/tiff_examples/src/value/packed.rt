@@ -23,7 +23,8 @@ pub fn packed()
     ensures computed { s.literals_alone × s.bound_0 × s.bound_128 × s.bound_129 }
     ensures by_lemma { s.pack_one × s.pack_pairs × s.pack_literal × s.pack_128 × s.pack_129
         × s.literal_pair ×
-        s.literal_three × s.with_128 × s.literal_cut × s.pack_other × s.pack_standard }
+        s.literal_three × s.with_128 × s.literal_cut × s.pack_other × s.pack_standard ×
+        s.rows_packed × s.rows_across × s.row_cut }
 {}
 
 /// Bytes that are stored with a compression method.
