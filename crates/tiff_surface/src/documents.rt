@@ -84,7 +84,7 @@ fn write_directory<W: Sink>(encoder: &mut TiffEncoder<W>) -> TiffResult<()> {
 // A file of one packed image, by a list of jobs.
 fn packed(alloc: Global, samples: Vec<u64>) -> TiffResult<Vec<u8>> {
     let jobs = [
-        Job::Compression(Compression::Packbits),
+        Job::Compression(Compression::PackbitsRows),
         Job::Image(ImageJob {
             color: ColorTypeName::Gray8,
             width: 2,

@@ -15,6 +15,7 @@ mod fields;
 mod ifd;
 mod io;
 mod kinds;
+mod migrating;
 mod names;
 mod report;
 mod statuses;
@@ -46,7 +47,8 @@ fn add_files(report: &mut Report) -> TiffResult<()> {
     fields::add_lines(report)?;
     directories::add_lines(report)?;
     borrowed::add_lines(report)?;
-    documents::add_lines(report)
+    documents::add_lines(report)?;
+    migrating::add_lines(report)
 }
 
 fn main(rt: HostRuntime) -> std::io::Result<()> {

@@ -3,6 +3,7 @@
 //! it are refused, and put nothing.
 
 mod altered;
+mod appended;
 mod file;
 mod jobs;
 mod page;
@@ -11,9 +12,12 @@ mod tags;
 mod written;
 
 use altered::{print_claim, print_refused, print_retyped};
+use appended::print_all_appended;
 use file::{print_file, print_list, print_text, print_tree};
 use jobs::print_all_jobs;
-use page::{print_chunks, print_parts, print_pixels, print_samples, print_sides};
+use page::{
+    print_by_plans, print_chunks, print_parts, print_pixels, print_plan, print_samples, print_sides,
+};
 use pages::print_all_pages;
 use std::io;
 use tags::{BITS_PER_SAMPLE, print_entries, print_tags, print_values};
@@ -39,7 +43,10 @@ fn print_pages(rt: &HostRuntime, file: &[u8]) -> io::Result<()> {
     print_sides(rt, file, AT + 400)?;
     print_chunks(rt, file, 0, 1)?;
     print_chunks(rt, file, 0, 2)?;
-    print_chunks(rt, file, 1, u32::MAX)
+    print_chunks(rt, file, 1, u32::MAX)?;
+    print_plan(rt, file, 0)?;
+    print_plan(rt, file, 1)?;
+    print_by_plans(rt, file)
 }
 
 // Prints the calls on the file, and on its first four bytes.
@@ -68,6 +75,7 @@ pub fn print_calls(rt: &HostRuntime) -> io::Result<()> {
     print_files(rt, file)?;
     print_all_jobs(rt)?;
     print_all_pages(rt)?;
+    print_all_appended(rt)?;
     println!(rt; "version: {}", tiff_statuses::version())?;
     print_text(rt, 0)?;
     print_text(rt, 22)

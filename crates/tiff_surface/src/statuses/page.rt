@@ -2,6 +2,109 @@
 
 use std::io;
 use tiff_statuses::calls::{Chunks, Color, Layout, PageSamples, Sides};
+use tiff_statuses::plan::PlannedPage;
+
+const NO_PLAN: PlannedPage = PlannedPage {
+    offsets_count: 0,
+    byte_counts_count: 0,
+    offsets_value: [0; 8],
+    byte_counts_value: [0; 8],
+    width: 0,
+    height: 0,
+    chunk_width: 0,
+    chunk_height: 0,
+    version: 0,
+    order: 0,
+    photometric: 0,
+    compression: 0,
+    samples: 0,
+    extra_count: 0,
+    first_extra: 0,
+    sample_format: 0,
+    bits: 0,
+    predictor: 0,
+    planar: 0,
+    chunk_kind: 0,
+    subsampling_across: 0,
+    subsampling_down: 0,
+    offsets_type: 0,
+    byte_counts_type: 0,
+};
+
+// The plan of the page.
+const PLAN: PlannedPage = PlannedPage {
+    offsets_count: 1,
+    byte_counts_count: 1,
+    offsets_value: [24, 0, 0, 0, 0, 0, 0, 0],
+    byte_counts_value: [12, 0, 0, 0, 0, 0, 0, 0],
+    width: 2,
+    height: 2,
+    chunk_width: 2,
+    chunk_height: 166667,
+    version: 42,
+    order: 0,
+    photometric: 2,
+    compression: 1,
+    samples: 3,
+    extra_count: 0,
+    first_extra: 0,
+    sample_format: 1,
+    bits: 8,
+    predictor: 1,
+    planar: 1,
+    chunk_kind: 0,
+    subsampling_across: 2,
+    subsampling_down: 2,
+    offsets_type: 4,
+    byte_counts_type: 4,
+};
+
+// Plans that are refused: a number of each kind that names nothing; a page without pixels; a list
+// without a number, and one behind the file's end; and a list of another type.
+const REFUSED: [PlannedPage; 14] = [
+    NO_PLAN,
+    PlannedPage { order: 2, ..PLAN },
+    PlannedPage {
+        photometric: 7,
+        ..PLAN
+    },
+    PlannedPage {
+        first_extra: 3,
+        ..PLAN
+    },
+    PlannedPage { bits: 264, ..PLAN },
+    PlannedPage {
+        predictor: 0,
+        ..PLAN
+    },
+    PlannedPage { planar: 3, ..PLAN },
+    PlannedPage {
+        chunk_kind: 2,
+        ..PLAN
+    },
+    PlannedPage {
+        offsets_type: 14,
+        ..PLAN
+    },
+    PlannedPage {
+        byte_counts_type: 0,
+        ..PLAN
+    },
+    PlannedPage { width: 0, ..PLAN },
+    PlannedPage {
+        offsets_count: 0,
+        ..PLAN
+    },
+    PlannedPage {
+        byte_counts_count: 4,
+        byte_counts_value: [0, 1, 0, 0, 0, 0, 0, 0],
+        ..PLAN
+    },
+    PlannedPage {
+        offsets_type: 13,
+        ..PLAN
+    },
+];
 
 /// Prints the sides of a page and its color.
 pub fn print_sides(rt: &HostRuntime, file: &[u8], page: usize) -> io::Result<()> {
@@ -69,4 +172,29 @@ pub fn print_chunks(rt: &HostRuntime, file: &[u8], first: u32, count: u32) -> io
     let mut chunks = [0u8; 14];
     let status = tiff_statuses::read_chunks(rt.alloc(), file, 0, first, count, &mut chunks);
     println!(rt; "read_chunks {first} {count}: {status}, {chunks:?}")
+}
+
+/// Prints the plan of a page.
+pub fn print_plan(rt: &HostRuntime, file: &[u8], page: usize) -> io::Result<()> {
+    let mut plan = NO_PLAN;
+    let status = tiff_statuses::page_plan(rt.alloc(), file, page, &mut plan);
+    println!(rt; "page_plan {page}: {status}, {plan:?}")
+}
+
+// Prints a chunk that is read by a plan.
+fn print_planned(rt: &HostRuntime, file: &[u8], plan: &PlannedPage, n: u32) -> io::Result<()> {
+    let mut chunk = [0u8; 13];
+    let status = tiff_statuses::read_planned_chunk(rt.alloc(), file, plan, n, &mut chunk);
+    println!(rt; "read_planned_chunk {n}: {status}, {chunk:?}")
+}
+
+/// Prints the chunk of page 0 by its plan, a chunk that isn't there, and the answers to plans that
+/// are refused.
+pub fn print_by_plans(rt: &HostRuntime, file: &[u8]) -> io::Result<()> {
+    print_planned(rt, file, &PLAN, 0)?;
+    print_planned(rt, file, &PLAN, 1)?;
+    for plan in &REFUSED {
+        print_planned(rt, file, plan, 0)?;
+    }
+    Ok(())
 }

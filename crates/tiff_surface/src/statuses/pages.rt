@@ -12,8 +12,8 @@ const SCALE: u16 = 33550;
 
 const NO_RESOLUTION: Fraction = Fraction { n: 0, d: 0 };
 
-// A page of two samples of 8 bits, which each other page is made of.
-const GRAY: NewPage<'static> = NewPage {
+/// A page of two samples of 8 bits, which each other page is made of.
+pub const GRAY: NewPage<'static> = NewPage {
     color: 0,
     width: 2,
     height: 1,
@@ -45,9 +45,9 @@ const ONE: NewTag<'static> = NewTag {
     values: &[0, 0, 0, 0, 0, 0, 240, 63],
 };
 
-// A page with tags of its own and a resolution, a page of 16 bits in two planes, and a page of a
-// tile, packed.
-const PAGES: [NewPage<'static>; 3] = [
+/// A page with tags of its own and a resolution, a page of 16 bits in two planes, and a page of a
+/// tile, packed.
+pub const PAGES: [NewPage<'static>; 3] = [
     NewPage {
         resolution_unit: 2,
         x_resolution: Fraction { n: 300, d: 1 },
