@@ -1,11 +1,11 @@
-"""A page of a TIFF file as a dask array whose blocks are its strips or tiles.
+"""A page of a TIFF file as a dask array, whose blocks are whole strips or tiles.
 
   python3 dask_image.py map.tif
 
 prints the sum of the samples of the first page, which two processes on this machine add up. No process reads the whole image: each block is read by the
 worker that needs it, which opens the file by its path for that block alone. Workers on other machines have to see the file at the same path. The array has
-the shape and the number type of the page, as `asarray` returns it: with samples apart, planes, rows and columns; of one bit a sample, bool. The library
-doesn't read palettes, so a page of one is refused before anything is read.
+the shape and the number type of the page, as `asarray` returns it: with samples apart, planes, rows and columns; of one bit a sample, bool; of a palette,
+indexes of the columns of `page.colormap`.
 It wants the package mangohatch_tiff, numpy, dask and distributed.
 """
 from __future__ import annotations
@@ -14,42 +14,38 @@ import sys
 from pathlib import Path
 from typing import Any
 
-import numpy
-from dask.array.core import Array, block, from_delayed
-from dask.delayed import delayed
+from dask.array.core import Array, map_blocks, normalize_chunks
 from distributed import Client, LocalCluster
 
-from mangohatch_tiff import PHOTOMETRIC, TiffFile, TiffPage
+from mangohatch_tiff import TiffFile, TiffPage
+
+# A block has about as many bytes.
+BLOCK = 1 << 22
 
 
-@delayed
-def read_block(path: str, page: int, chunk: int, shape: tuple[int, ...]) -> Any:
-    """Reads one chunk of a page as an array of a shape; a chunk of one plane has a side of 1 for it."""
+def read_block(path: str, page: int, axes: str, block_info: Any = None) -> Any:
+    """Reads the rows and columns of a page that a block has, in all its samples."""
+    places = dict(zip(axes, block_info[None]["array-location"]))
     with TiffFile(path) as file:
-        return file.pages[page].read_chunk(chunk).reshape(shape)
+        return file.pages[page].read(slice(*places["Y"]), slice(*places["X"]), workers=1)
 
 
-def block_of(page: TiffPage, chunk: int) -> tuple[tuple[int, ...], tuple[int, ...]]:
-    """Returns where a chunk lies among the blocks of an array, and the shape of its block."""
-    plane, row, column = page.place_of(chunk)
-    height, width = page.chunks[:2]
-    place = {"S": plane, "Y": row // height, "X": column // width}
-    samples = 1 if page.axes == "SYX" else page.samplesperpixel
-    sides = {"S": samples, "Y": min(height, page.imagelength - row), "X": min(width, page.imagewidth - column)}
-    return tuple(place[axis] for axis in page.axes), tuple(sides[axis] for axis in page.axes)
+def sides_of(page: TiffPage) -> tuple[int, ...]:
+    """Returns the sides of a block: as many whole strips or tiles side by side, and then one below the other, as it has room for."""
+    rows, columns = page.chunks[:2]
+    room = max(1, BLOCK // (page.samplesperpixel * page.dtype.itemsize))
+    across = max(1, min(-(-page.imagewidth // columns), room // (rows * columns)))
+    down = max(1, room // (rows * columns * across))
+    sides = {"S": page.samplesperpixel, "Y": down * rows, "X": across * columns}
+    return tuple(min(sides[axis], size) for axis, size in zip(page.axes, page.shape))
 
 
 def image_of(path: str, index: int = 0) -> Array:
     """Returns a page as a dask array; nothing of its samples is read yet."""
     with TiffFile(path) as file:
         page = file.pages[index]
-        if page.photometric == PHOTOMETRIC.PALETTE:
-            sys.exit("a page of a palette isn't read")
-        told = [block_of(page, chunk) for chunk in range(page.chunk_count)]
-        blocks = numpy.empty([side + 1 for side in told[-1][0]], object)
-        for chunk, (place, shape) in enumerate(told):
-            blocks[place] = from_delayed(read_block(path, index, chunk, shape), shape, page.dtype)
-        image: Array = block(blocks.tolist())
+        chunks = normalize_chunks(sides_of(page), page.shape)
+        image: Array = map_blocks(read_block, path, index, page.axes, chunks=chunks, dtype=page.dtype)
         return image
 
 

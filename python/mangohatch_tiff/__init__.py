@@ -7,6 +7,10 @@
 
 What has a name of tifffile's here means the same; README.md has the table.
 """
+from __future__ import annotations
+
+from typing import TYPE_CHECKING, Any
+
 from ._enums import (
     COMPRESSION,
     DATATYPE,
@@ -19,6 +23,7 @@ from ._enums import (
     SAMPLEFORMAT,
 )
 from ._file import TiffFile, imread
+from ._geo import Geo
 from ._imwrite import imwrite
 from ._jobs import write_jobs
 from ._library import (
@@ -36,6 +41,12 @@ from ._page import TiffPage
 from ._tags import Tag, Tags
 from ._tree import Directory
 from ._version import package_version
+from ._writer import TiffWriter
+
+if TYPE_CHECKING:
+    from ._levels import TiffPageSeries
+    from ._memmap import memmap
+    from ._zarr import ZarrTiffStore
 
 __version__ = package_version()
 
@@ -47,6 +58,7 @@ __all__ = [
     "EXTRASAMPLE",
     "FILLORDER",
     "Found",
+    "Geo",
     "JobsError",
     "PHOTOMETRIC",
     "PLANARCONFIG",
@@ -61,9 +73,30 @@ __all__ = [
     "TiffError",
     "TiffFile",
     "TiffPage",
+    "TiffPageSeries",
+    "TiffWriter",
     "UnsupportedError",
+    "ZarrTiffStore",
     "imread",
     "imwrite",
     "library_version",
+    "memmap",
     "write_jobs",
 ]
+
+
+def __getattr__(name: str) -> Any:
+    """Loads what can't be without numpy when it is asked for."""
+    if name == "memmap":
+        from ._memmap import memmap
+
+        return memmap
+    if name == "TiffPageSeries":
+        from ._levels import TiffPageSeries
+
+        return TiffPageSeries
+    if name == "ZarrTiffStore":
+        from ._zarr import ZarrTiffStore
+
+        return ZarrTiffStore
+    raise AttributeError(f"module {__name__!r} has no attribute {name!r}")

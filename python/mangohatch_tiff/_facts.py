@@ -25,8 +25,12 @@ if TYPE_CHECKING:
     from _typeshed import ReadableBuffer
     from numpy.typing import NDArray
 
+    from ._geo import Geo
+
 DESCRIPTION, SOFTWARE, SUB_IFDS, IMAGE_DEPTH = 270, 305, 330, 32997
-OFFSETS = {True: 324, False: 273}
+SUBFILE_TYPE, NODATA = 254, 42113
+LONGEST_SIDE = (1 << 32) - 1
+OFFSETS, LENGTHS = {True: 324, False: 273}, {True: 325, False: 279}
 
 
 class PageFacts:
@@ -43,6 +47,10 @@ class PageFacts:
         # Calls with the directory's offset don't walk along the pages before it.
         self._at = _library.at(listed.offset)
         self.index = index
+        self._is_told_by_tags = False
+        faults = listed.status, listed.count_status
+        if Status.UNKNOWN_INTERPRETATION in faults or Status.INT_SIZE_ERROR in faults:
+            self._tell_by_tags()
 
     def __repr__(self) -> str:
         if self.status is not Status.DONE:
@@ -52,6 +60,18 @@ class PageFacts:
         except TiffError as fault:
             shown = f"{self.imagelength} x {self.imagewidth}, unread: {fault}"
         return f"<TiffPage {self.index} @{self.offset} {shown}>"
+
+    def _tell_by_tags(self) -> None:
+        """Takes the facts of the page from its tags, if they make an image."""
+        told, listed = told_by_tags(self.tags, self.offset), self._listed
+        if told is None:
+            return
+        page, chunks = told
+        if listed.status == Status.DONE:
+            page.color_status, page.color = listed.color_status, listed.color
+        # The cached property is set in place of the library's facts.
+        self._listed, self.__dict__["_chunks"] = page, chunks
+        self._is_told_by_tags = True
 
     @property
     def _named(self) -> int | None:
@@ -177,7 +197,7 @@ class PageFacts:
     @property
     def is_inverted(self) -> bool:
         """Whether zero is white in the file. With `shown=True`, zero is black in arrays."""
-        return self._samples.inverted == 1
+        return not self._facts.color_status and self._samples.inverted == 1
 
     @property
     def is_tiled(self) -> bool:
@@ -209,12 +229,12 @@ class PageFacts:
     @property
     def rowsperstrip(self) -> int:
         """The number of rows of a strip, 0 for tiles."""
-        return 0 if self.is_tiled else self._chunks.height
+        return 0 if self.is_tiled else min(self._chunks.height, self.imagelength)
 
     @property
     def chunks(self) -> tuple[int, ...]:
         """The shape of a strip or a tile."""
-        sides = self._chunks.height, self._chunks.width
+        sides = self.tile or (self.rowsperstrip, self._chunks.width)
         chunky = self.planarconfig == PLANARCONFIG.CONTIG and self.samplesperpixel > 1
         return (*sides, self.samplesperpixel) if chunky else sides
 
@@ -271,7 +291,7 @@ class PageFacts:
         """The number type of the array that `asarray` returns.
 
         One bit is a bool; samples of other depths have the next number type that holds them.
-        Complex whole numbers have the fields `real` and `imag`. A type that numpy lacks raises
+        Complex whole numbers become complex ones, which hold them. A type that numpy lacks raises
         `UnsupportedError`, `UNSUPPORTED_SAMPLE_FORMAT`.
         """
         from ._samples import number_type
@@ -325,6 +345,59 @@ class PageFacts:
         return self.size * self.dtype.itemsize
 
     @cached_property
+    def geo(self) -> Geo | None:
+        """Where the pixels lie on the earth, by the tags of GeoTIFF; None without such tags.
+
+        Tags that aren't as GeoTIFF has them raise `UnsupportedError`, `INVALID_TAG`.
+        """
+        from ._geo import geo_of
+
+        return geo_of(self.tags, self._named)
+
+    @cached_property
+    def nodata(self) -> int | float | complex:
+        """The value of pixels that the file doesn't have, by the tag GDAL_NODATA, or 0."""
+        text = self._told_text(NODATA)
+        try:
+            value: int | float | complex = type(self.dtype.type(0).item())(text.replace(",", "."))
+        except (ValueError, OverflowError):
+            return 0
+        return value
+
+    @cached_property
+    def databytecounts(self) -> tuple[int, ...]:
+        """How many bytes each strip or tile has in the file."""
+        return self.tags.told(LENGTHS[self.is_tiled])
+
+    @cached_property
     def dataoffsets(self) -> tuple[int, ...]:
         """Where the strips or tiles begin in the file."""
         return self.tags.told(OFFSETS[self.is_tiled])
+
+
+def told_by_tags(tags: Tags, offset: int) -> tuple[ListedPage, Chunks] | None:
+    """Returns the facts of a page by its tags, or None where they make no image.
+
+    These are pages that the library refuses for their interpretation, and strips whose number of
+    rows is the largest one, which TIFF has for a single strip. Their samples are read as stored.
+    """
+    try:
+        width, height = tags.first(256, 0), tags.first(257, 0)
+        samples, planar = tags.first(277, 1), tags.first(284, 1) == PLANARCONFIG.SEPARATE
+        tiled = 322 in tags or 323 in tags
+        columns = tags.first(322, 0) if tiled else width
+        rows = tags.first(323, 0) if tiled else min(tags.first(278, height), height)
+        held = {len(tags.told(places[tiled])) for places in (OFFSETS, LENGTHS)}
+        method = tags.first(259, COMPRESSION.NONE)
+    except TiffError:
+        return None
+    sides = width, height, columns, rows
+    if not 0 < min(*sides, samples) or max(sides) > LONGEST_SIDE:
+        return None
+    count = -(-width // columns) * -(-height // rows) * (samples if planar else 1)
+    if held != {count}:
+        return None
+    chunks = Chunks(int(tiled), count, columns, rows)
+    page = ListedPage(offset=offset, width=width, height=height, method=method, count=count)
+    page.color_status, page.chunk_kind = Status.UNKNOWN_INTERPRETATION, int(tiled)
+    return page, chunks

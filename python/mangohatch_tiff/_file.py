@@ -1,16 +1,19 @@
 """Files: their pages, and the array that the pages make."""
 from __future__ import annotations
 
+import glob
 import mmap
 import operator
 import os
-from collections.abc import Iterable, Iterator
+import re
+from collections.abc import Iterable, Iterator, Sequence
 from functools import cached_property
 from types import TracebackType
-from typing import TYPE_CHECKING, Any, BinaryIO, Union, overload
+from typing import TYPE_CHECKING, Any, BinaryIO, Literal, Union, overload
 
 from . import _directory, _library
-from ._library import Status
+from ._library import ListedPage, Status, TiffError, UnsupportedError
+from ._mapped import Mapped, mapped
 from ._page import TiffPage
 from ._tags import Tags
 from ._tree import Directory, directories_of
@@ -18,6 +21,10 @@ from ._tree import Directory, directories_of
 if TYPE_CHECKING:
     from _typeshed import ReadableBuffer
     from numpy.typing import NDArray
+
+    from ._levels import TiffPageSeries
+    from ._series import Stack
+    from ._zarr import ZarrTiffStore
 
     Source = Union[str, os.PathLike[str], BinaryIO, ReadableBuffer]
     Key = Union[int, slice, Iterable[int]]
@@ -36,7 +43,7 @@ class TiffFile:
     """
 
     def __init__(self, source: Source) -> None:
-        self._map: mmap.mmap | None = None
+        self._map: Mapped | None = None
         self._view: memoryview | None = None
         self._source = source
         file = self._opened(source)
@@ -62,7 +69,7 @@ class TiffFile:
         """Returns the bytes of a file at a path, of an open file, or of a buffer."""
         if isinstance(source, (str, os.PathLike)):
             with open(source, "rb") as file:
-                return self._mapped(file.fileno())
+                return self._mapped(file.fileno(), source)
         given: Any = source
         if isinstance(source, mmap.mmap) or not (hasattr(given, "read") and hasattr(given, "seek")):
             buffer: ReadableBuffer = given
@@ -81,11 +88,13 @@ class TiffFile:
         self._view = memoryview(data)[start:]
         return self._view
 
-    def _mapped(self, number: int) -> ReadableBuffer:
+    def _mapped(
+        self, number: int, path: str | os.PathLike[str] | None = None
+    ) -> ReadableBuffer:
         """Maps an open file into memory. An empty file has no bytes to map."""
         if not os.fstat(number).st_size:
             return b""
-        self._map = mmap.mmap(number, 0, access=mmap.ACCESS_READ)
+        self._map = mapped(number, path)
         return self._map
 
     def close(self) -> None:
@@ -135,12 +144,32 @@ class TiffFile:
         """
         return directories_of(self._file, self.byteorder, self.pages)
 
+    @cached_property
+    def series(self) -> list[TiffPageSeries]:
+        """The arrays of the file: series of pages, each with its shape, number type and axes.
+
+        An array that the file has in smaller sizes too, as in a pyramid, has those as `levels`.
+        Files with pages that are refused raise `UnsupportedError`, as do those that `asarray`
+        refuses.
+        """
+        from ._levels import series_of
+
+        return series_of(self)
+
     def page_at(self, offset: int) -> TiffPage:
         """Returns the page whose directory lies at an offset of the file, in the chain or not.
 
         The tag SubIFDs (330) has such offsets. The `index` of the page is -1.
         """
-        return TiffPage(self._file, -1, _library.page_at(self._file, offset), self.byteorder)
+        try:
+            listed = _library.page_at(self._file, offset)
+        except TiffError as fault:
+            if fault.status is not Status.UNKNOWN_INTERPRETATION:
+                raise
+            listed = ListedPage(offset=offset, status=fault.status)
+        page = TiffPage(self._file, -1, listed, self.byteorder)
+        _library.check(page.status)
+        return page
 
     def tags_at(self, offset: int) -> Tags:
         """Returns the tags of the directory at an offset of the file, even if it is no page.
@@ -149,18 +178,12 @@ class TiffFile:
         """
         return Tags(self._file, _library.at(offset), self.byteorder)
 
-    def _selected(self, key: Key) -> list[TiffPage]:
-        """Returns the pages that a key names: a number, a slice or several numbers."""
-        if isinstance(key, slice):
-            return self.pages[key]
-        if isinstance(key, Iterable):
-            return [self.pages[operator.index(index)] for index in key]
-        return [self.pages[operator.index(key)]]
-
     def asarray(
         self,
         key: Key | None = None,
         *,
+        series: int | None = None,
+        level: int | None = None,
         out: NDArray[Any] | None = None,
         workers: int | None = None,
         shown: bool = False,
@@ -168,29 +191,161 @@ class TiffFile:
         """Reads the array of the file, or pages of it, as an array.
 
         Without a key, the array is that of the first page and all pages like it, one behind the
-        other: pages, rows, columns. If tifffile or ImageJ wrote a shape into the description, the
-        array has it. `key` is the number of a page, whose image is returned, or a slice or several
-        numbers, whose images are returned as one array. `out`, `workers` and `shown` are as those
-        of `TiffPage.asarray`.
+        other: pages, rows, columns. If tifffile or ImageJ wrote a shape into the description, or an
+        OME-TIFF file has one there, the array has it. `key` is the number of a page, whose image is
+        returned, or a slice or several numbers, whose images are returned as one array. `series` is
+        the number of one of `series`, and `level` that of one of its levels: its array is returned,
+        or of its pages those of the key. `out`, `workers` and `shown` are as those of
+        `TiffPage.asarray`.
 
         Errors: those of `TiffPage.asarray`; pages of several shapes or number types, ValueError;
         and without a key, as `UnsupportedError`, files whose arrays tifffile makes by the metadata
-        of other programs, as OME.
+        of other programs, as LSM.
         """
+        return self._stack(key, series, level).read(out, workers, shown)
+
+    def _stack(self, key: Key | None, series: int | None, level: int | None = None) -> Stack:
+        """Returns the pages of an array: those of the file's array or a series, or of a key."""
         from ._series import first_stack, stack_of
 
-        stack = first_stack(self) if key is None else stack_of(self._selected(key))
-        return stack.read(out, workers, shown)
+        if key is not None and series is None:
+            return stack_of(selected(self.pages, key))
+        if series or level:
+            whole = self.series[series or 0].levels[level or 0]._stack
+        else:
+            whole = first_stack(self)
+        return whole if key is None else stack_of(selected(whole.pages, key))
+
+    def aszarr(
+        self,
+        key: Key | None = None,
+        *,
+        series: int | None = None,
+        level: int | None = None,
+        zattrs: dict[str, Any] | None = None,
+        multiscales: bool | None = None,
+    ) -> ZarrTiffStore:
+        """Returns the array of the file, or pages of it, as a store of zarr, to be read.
+
+        `key`, `series` and `level` are as those of `asarray`, and the rest as in `TiffPage.aszarr`.
+        An array with levels is a group of arrays, `0` and on, unless `level` chooses one. The store
+        reads from this file: close the file after it.
+        """
+        from ._zarr import ZarrTiffStore
+
+        if key is None:
+            chosen = self.series[series or 0]
+            return chosen.aszarr(level=level, zattrs=zattrs, multiscales=multiscales)
+        stack = self._stack(key, series, level)
+        return ZarrTiffStore([stack], zattrs=zattrs, multiscales=multiscales)
 
 
+def selected(pages: list[TiffPage], key: Key) -> list[TiffPage]:
+    """Returns the pages that a key names: a number, a slice or several numbers."""
+    if isinstance(key, slice):
+        return pages[key]
+    if isinstance(key, Iterable):
+        return [pages[operator.index(index)] for index in key]
+    return [pages[operator.index(key)]]
+
+
+def matching(pattern: str) -> list[str]:
+    """Returns the paths that a pattern names, in the order of the numbers in them."""
+
+    def key(path: str) -> list[tuple[int, int, str]]:
+        words = re.split(r"(\d+)", path)
+        return [(1, int(word), "") if word.isdigit() else (0, 0, word) for word in words]
+
+    found = sorted(glob.glob(pattern), key=key)
+    if not found:
+        raise ValueError(f"no files found: {pattern!r}")
+    return found
+
+
+def read_each(
+    files: Sequence[Source],
+    key: Key | None,
+    *,
+    out: NDArray[Any] | None = None,
+    **settings: Any,
+) -> NDArray[Any]:
+    """Reads the arrays of several files into one array, one behind the other."""
+    import numpy
+
+    from ._page import room
+
+    if not files:
+        raise ValueError("no files are given")
+    settings["key"] = key
+    first = imread(files[0], **settings)
+    array = room(out, (len(files), *first.shape), first.dtype)
+    array[0] = first
+    for index in range(1, len(files)):
+        one = imread(files[index], **settings)
+        if (one.shape, one.dtype) != (first.shape, first.dtype):
+            what = f"{one.shape} {one.dtype}, and the first file {first.shape} {first.dtype}"
+            raise ValueError(f"{files[index]!r} has {what}: they make no array")
+        array[index] = one
+    if out is None or out is array:
+        return array
+    numpy.copyto(out, array)
+    return out
+
+
+@overload
+def imread(
+    file: Source | Sequence[Source],
+    *,
+    key: Key | None = None,
+    series: int | None = None,
+    level: int | None = None,
+    out: NDArray[Any] | None = None,
+    workers: int | None = None,
+    shown: bool = False,
+    aszarr: Literal[False] = False,
+) -> NDArray[Any]: ...
+@overload
 def imread(
     file: Source,
     *,
     key: Key | None = None,
-    out: NDArray[Any] | None = None,
-    workers: int | None = None,
-    shown: bool = False,
-) -> NDArray[Any]:
-    """Reads the array of a file, or pages of it; everything is as in `TiffFile.asarray`."""
-    with TiffFile(file) as tif:
-        return tif.asarray(key, out=out, workers=workers, shown=shown)
+    series: int | None = None,
+    level: int | None = None,
+    aszarr: Literal[True],
+    zattrs: dict[str, Any] | None = None,
+    multiscales: bool | None = None,
+) -> ZarrTiffStore: ...
+def imread(
+    file: Source | Sequence[Source],
+    *,
+    aszarr: bool = False,
+    key: Key | None = None,
+    **settings: Any,
+) -> NDArray[Any] | ZarrTiffStore:
+    """Reads the array of a file, or pages of it; everything is as in `TiffFile.asarray`.
+
+    Of a list of files, the arrays are one array, one behind the other; that of a single file is
+    read as it is. A text with * or ? is a pattern of paths, as `glob` has them, which are read in
+    the order of the numbers in them. With `aszarr`, returns a store of zarr as `TiffFile.aszarr`
+    does, which closes the file when it is closed.
+    """
+    if isinstance(file, str) and ("*" in file or "?" in file):
+        file = matching(file)
+    if isinstance(file, (list, tuple)):
+        if len(file) != 1:
+            if aszarr:
+                raise UnsupportedError("aszarr of several files")
+            return read_each(file, key, **settings)
+        file = file[0]
+    source: Any = file
+    if not aszarr:
+        with TiffFile(source) as tif:
+            return tif.asarray(key, **settings)
+    tif = TiffFile(source)
+    try:
+        store = tif.aszarr(key, **settings)
+    except BaseException:
+        tif.close()
+        raise
+    store._owned = tif
+    return store

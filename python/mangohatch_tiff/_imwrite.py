@@ -11,11 +11,12 @@ if TYPE_CHECKING:
     import io
     from collections.abc import Sequence
 
-    from numpy.typing import ArrayLike
+    from numpy.typing import ArrayLike, NDArray
 
     from ._enums import COMPRESSION, EXTRASAMPLE, PHOTOMETRIC, PLANARCONFIG, PREDICTOR, RESUNIT
     from ._new_pages import NewTag
     from ._new_tags import ExtraTag, Fractional
+    from ._write import Settings
 
     Target = Union[str, os.PathLike[str], BinaryIO]
 
@@ -28,13 +29,11 @@ OTHERS: dict[str, tuple[object, ...]] = {
     "imagej": (False,),
     "ome": (None, False),
     "shaped": (None, False),
-    "append": (False,),
     "volumetric": (False,),
     "bitspersample": (None,),
     "compressionargs": (None, {}),
     "subsampling": (None, (1, 1)),
     "jpegtables": (None,),
-    "colormap": (None,),
     "contiguous": (False,),
     "truncate": (False,),
     "align": (None,),
@@ -43,14 +42,16 @@ OTHERS: dict[str, tuple[object, ...]] = {
 }
 
 
-def judge_others(others: dict[str, Any]) -> None:
+def judge_others(
+    others: dict[str, Any], call: str = "imwrite", known: dict[str, tuple[object, ...]] = OTHERS
+) -> None:
     """Refuses tifffile's parameters that nothing is done with, and names that it hasn't either."""
     for name, value in others.items():
-        if name not in OTHERS:
-            raise TypeError(f"imwrite() got an unexpected keyword argument {name!r}")
-        plain = value is None or isinstance(value, (bool, str, tuple, dict))
-        if not plain or value not in OTHERS[name]:
-            raise UnsupportedError(f"imwrite: the parameter {name}")
+        if name not in known:
+            raise TypeError(f"{call}() got an unexpected keyword argument {name!r}")
+        plain = value is None or isinstance(value, (bool, int, str, tuple, dict))
+        if not plain or value not in known[name]:
+            raise UnsupportedError(f"{call}: the parameter {name}")
 
 
 def tags_of(
@@ -88,6 +89,15 @@ def texts_of(
     return texts
 
 
+def holds_some(file: Target | None) -> bool:
+    """Returns whether there are bytes of a file to which pages are added."""
+    if file is None:
+        raise ValueError("append=True: there is no file to add to")
+    if not isinstance(file, (str, os.PathLike)):
+        return True
+    return os.path.exists(file) and os.stat(file).st_size > 0
+
+
 def deliver(file: Target | None, data: memoryview) -> bytes | None:
     """Writes the bytes of a file at a path or into an open file, or returns them."""
     if file is None:
@@ -107,14 +117,51 @@ def write_all(file: BinaryIO | io.RawIOBase, data: memoryview) -> None:
         data = data[len(data) if written is None else written :]
 
 
+def settings_of(
+    array: NDArray[Any],
+    *,
+    photometric: PHOTOMETRIC | int | str | None = None,
+    planarconfig: PLANARCONFIG | int | str | None = None,
+    extrasamples: Sequence[EXTRASAMPLE | int | str] | None = None,
+    colormap: ArrayLike | None = None,
+    tile: Sequence[int] | None = None,
+    rowsperstrip: int | None = None,
+    compression: COMPRESSION | int | str | None = None,
+    predictor: PREDICTOR | int | str | bool | None = None,
+    description: str | bytes | None = None,
+    datetime: str | bool | dates.datetime | None = None,
+    resolution: Sequence[Fractional] | None = None,
+    resolutionunit: RESUNIT | int | str | None = None,
+    subfiletype: int | None = None,
+    software: str | bytes | bool | None = None,
+    metadata: dict[str, Any] | None = None,
+    extratags: Sequence[ExtraTag] | None = None,
+) -> Settings:
+    """Returns how an array is written, by the parameters of `imwrite`."""
+    from ._new_tags import resolution_of
+    from ._write import Samples, Settings, Stored
+
+    first = texts_of(array.shape, description, metadata, software, datetime)
+    return Settings(
+        Samples(photometric, planarconfig, extrasamples, colormap),
+        Stored(tile, rowsperstrip, compression, predictor),
+        tags=tuple(tags_of(extratags, subfiletype, first=False)),
+        first_tags=(*first, *tags_of(extratags, subfiletype, first=True)),
+        resolution=resolution_of(resolution, resolutionunit),
+        has_shape=metadata is not None,
+    )
+
+
 def imwrite(
     file: Target | None,
     data: ArrayLike,
     *,
     bigtiff: bool | None = None,
+    append: bool = False,
     photometric: PHOTOMETRIC | int | str | None = None,
     planarconfig: PLANARCONFIG | int | str | None = None,
     extrasamples: Sequence[EXTRASAMPLE | int | str] | None = None,
+    colormap: ArrayLike | None = None,
     tile: Sequence[int] | None = None,
     rowsperstrip: int | None = None,
     compression: COMPRESSION | int | str | None = None,
@@ -133,12 +180,15 @@ def imwrite(
 
     The parameters are tifffile's, and what is written is read back as what was given:
 
-    `data` has two to four dimensions: rows and columns, pages before them, and the samples of a
+    `data` has two dimensions or more: rows and columns, pages before them, and the samples of a
     pixel behind them, or before them with planarconfig "separate". Three or four samples of 8 or 16
     bits at the end are RGB; other arrays with a side of 3 or 4 there need a `photometric`:
-    "minisblack", "rgb", or "separated" (CMYK). Numbers are of 8, 16, 32 or 64 bits, unsigned; of 32
-    or 64 bits, floating-point; and for gray signed.
-    `bigtiff` is decided by the size if it is None. `tile` is rows and columns, each a multiple of
+    "minisblack", "miniswhite", "rgb", "separated" (CMYK), or "palette", of unsigned numbers of 8 or
+    16 bits that are columns of `colormap`, which has three rows of 16 bits: red, green, blue.
+    Numbers are of 8, 16, 32 or 64 bits, unsigned; of 32 or 64 bits, floating-point; and for gray
+    signed.
+    `bigtiff` is decided by the size if it is None. `append` adds the pages to a file that is there,
+    as `TiffWriter` does. `tile` is rows and columns, each a multiple of
     16. `compression` is None or "packbits". `predictor` stores differences of whole numbers, which
     many readers undo for LZW and Deflate alone.
     `description`, `software`, `datetime` and `metadata` go to the first page. `metadata`, a
@@ -153,20 +203,34 @@ def imwrite(
     """
     import numpy
 
-    from ._new_tags import resolution_of
-    from ._write import Samples, Settings, Stored, file_of
+    from ._write import file_of
 
     judge_others(others)
     array = numpy.asarray(data)
-    first = texts_of(array.shape, description, metadata, software, datetime)
-    samples = Samples(photometric, planarconfig, extrasamples)
-    stored = Stored(tile, rowsperstrip, compression, predictor)
-    settings = Settings(
-        samples,
-        stored,
-        tags=tuple(tags_of(extratags, subfiletype, first=False)),
-        first_tags=(*first, *tags_of(extratags, subfiletype, first=True)),
-        resolution=resolution_of(resolution, resolutionunit),
-        has_shape=metadata is not None,
+    settings = settings_of(
+        array,
+        photometric=photometric,
+        planarconfig=planarconfig,
+        extrasamples=extrasamples,
+        colormap=colormap,
+        tile=tile,
+        rowsperstrip=rowsperstrip,
+        compression=compression,
+        predictor=predictor,
+        description=description,
+        datetime=datetime,
+        resolution=resolution,
+        resolutionunit=resolutionunit,
+        subfiletype=subfiletype,
+        software=software,
+        metadata=metadata,
+        extratags=extratags,
     )
-    return deliver(file, file_of(array, bigtiff, settings))
+    if not append or not holds_some(file):
+        return deliver(file, file_of(array, bigtiff, settings))
+    from ._writer import TiffWriter
+
+    target: Any = file
+    with TiffWriter(target, append=True) as writer:
+        writer._add(array, settings)
+    return None

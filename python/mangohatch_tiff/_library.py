@@ -364,6 +364,62 @@ class PagesEnd(Structure):
     _fields_ = [("page", c_size_t), ("field", c_uint32)]
 
 
+class Appended(Structure):
+    """What is added to a file: how many bytes behind it, and a link in it that leads to them.
+
+    `link` is where the link is, of `width` bytes, and `target` the number that goes there. `end` is
+    where the pages were refused.
+    """
+
+    len: int
+    link: int
+    target: int
+    width: int
+    end: PagesEnd
+
+    _fields_ = [
+        ("len", c_size_t),
+        ("link", c_uint64),
+        ("target", c_uint64),
+        ("width", c_uint32),
+        ("end", PagesEnd),
+    ]
+
+
+class PagePlan(Structure):
+    """The plan of a page, by which the library reads each of its chunks without opening the page.
+
+    Only the library takes its members for anything.
+    """
+
+    _fields_ = [
+        ("offsets_count", c_uint64),
+        ("byte_counts_count", c_uint64),
+        ("offsets_value", c_ubyte * 8),
+        ("byte_counts_value", c_ubyte * 8),
+        ("width", c_uint32),
+        ("height", c_uint32),
+        ("chunk_width", c_uint32),
+        ("chunk_height", c_uint32),
+        ("version", c_uint16),
+        ("order", c_uint16),
+        ("photometric", c_uint16),
+        ("compression", c_uint16),
+        ("samples", c_uint16),
+        ("extra_count", c_uint16),
+        ("first_extra", c_uint16),
+        ("sample_format", c_uint16),
+        ("bits", c_uint16),
+        ("predictor", c_uint16),
+        ("planar", c_uint16),
+        ("chunk_kind", c_uint16),
+        ("subsampling_across", c_uint16),
+        ("subsampling_down", c_uint16),
+        ("offsets_type", c_uint16),
+        ("byte_counts_type", c_uint16),
+    ]
+
+
 class _Number(Structure):
     """The number of a tag."""
 
@@ -429,6 +485,10 @@ PAGE_CHUNKS = _declare("tiff_page_chunks", *_PAGE, POINTER(Chunks))
 READ_IMAGE = _declare("tiff_read_image_bytes", *_PAGE, *_BYTES)
 READ_CHUNK = _declare("tiff_read_chunk_bytes", *_PAGE, c_uint32, *_BYTES)
 READ_CHUNKS = _declare("tiff_read_chunks", *_PAGE, c_uint32, c_uint32, *_BYTES)
+PAGE_PLAN = _declare("tiff_page_plan", *_PAGE, POINTER(PagePlan))
+READ_PLANNED_CHUNK = _declare(
+    "tiff_read_planned_chunk", *_BYTES, POINTER(PagePlan), c_uint32, *_BYTES
+)
 TAG_FIELD = _declare("tiff_tag_field", *_PAGE, c_uint16, POINTER(Field))
 TAG_NUMBER = _declare("tiff_tag_number", *_PAGE, c_uint16, POINTER(_Number))
 TAG_BYTES = _declare(
@@ -458,6 +518,9 @@ WRITE_PAGES = _declare(
     *_BYTES,
     POINTER(c_size_t),
     POINTER(PagesEnd),
+)
+APPEND_PAGES = _declare(
+    "tiff_append_pages", *_BYTES, POINTER(PageToWrite), c_size_t, *_BYTES, POINTER(Appended)
 )
 FAULT_TEXT = _declare("tiff_fault_text", c_uint32, *_BYTES, answer=c_size_t)
 

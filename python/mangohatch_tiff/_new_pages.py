@@ -6,14 +6,23 @@ it allocates less, and by tiff_write_pages for everything else.
 from __future__ import annotations
 
 from ctypes import byref, c_size_t, c_uint16
-from dataclasses import dataclass
+from dataclasses import dataclass, replace
 from typing import TYPE_CHECKING, Any, NamedTuple
 
 import numpy
 
 from . import _library
 from ._jobs import BIG, CLASSIC
-from ._library import Fraction, Image, PagesEnd, PagesError, PageToWrite, Status, TagToWrite
+from ._library import (
+    Appended,
+    Fraction,
+    Image,
+    PagesEnd,
+    PagesError,
+    PageToWrite,
+    Status,
+    TagToWrite,
+)
 
 if TYPE_CHECKING:
     from numpy.typing import NDArray
@@ -82,6 +91,10 @@ class NewPage:
     layout: Layout
     tags: tuple[NewTag, ...] = ()
     resolution: tuple[int, tuple[int, int], tuple[int, int]] | None = None
+
+    def copied(self) -> NewPage:
+        """Returns the page with samples of its own."""
+        return replace(self, samples=self.samples.copy())
 
     @property
     def is_plain(self) -> bool:
@@ -195,3 +208,32 @@ def _write_pages(pages: list[NewPage], big: bool) -> memoryview:
         page = made.end.page - 1 if made.end.page else None
         raise PagesError(made.status, page, made.end.field)
     return made.file[: made.length].data
+
+
+class Added(NamedTuple):
+    """What is written to add pages to a file: bytes behind it, and then a link to them."""
+
+    data: memoryview
+    link_place: int
+    link: bytes
+
+
+def _append_pages(file: memoryview, pages: list[NewPage]) -> Added:
+    """Returns what adds pages to a file. What is longer than its room takes two calls.
+
+    Errors are those of the chain of directories, with a page of None, and of a page as those of
+    `_write_pages`.
+    """
+    call, found, size = _library.APPEND_PAGES, Appended(), sum(map(room_of, pages))
+    given = (PageToWrite * len(pages))(*map(page_to_write, pages))
+    with _library.locked(file) as place:
+        made = numpy.empty(size, numpy.uint8)
+        status = call(*place, given, len(pages), made.ctypes.data, size, byref(found))
+        if status == Status.INSUFFICIENT_OUTPUT_BUFFER_SIZE:
+            made = numpy.empty(found.len, numpy.uint8)
+            status = call(*place, given, len(pages), made.ctypes.data, len(made), byref(found))
+    if status:
+        page = found.end.page - 1 if found.end.page else None
+        raise PagesError(status, page, found.end.field)
+    link = found.target.to_bytes(8, "little")[: found.width]
+    return Added(made[: found.len].data, found.link, link)

@@ -1,22 +1,36 @@
 """A page of a file, and its samples."""
 from __future__ import annotations
 
+import sys
 from collections.abc import Iterator
 from functools import cached_property
 from typing import TYPE_CHECKING, Any
 
 from . import _library
-from ._enums import COMPRESSION, FILLORDER, SAMPLEFORMAT
-from ._facts import PageFacts
+from ._enums import COMPRESSION, FILLORDER, PHOTOMETRIC, PLANARCONFIG, PREDICTOR, SAMPLEFORMAT
+from ._facts import LENGTHS, OFFSETS, PageFacts
 from ._library import Status, TiffError, UnsupportedError
+from ._planned import Planned
 
 if TYPE_CHECKING:
     import numpy
     from numpy.typing import NDArray
 
     from ._parts import Grid, Source
+    from ._stored import StoredForm
+    from ._zarr import ZarrTiffStore
 
-LENGTHS = {True: 325, False: 279}
+LACKING = "a strip or a tile that the file doesn't have: its offset or its length is 0"
+# The pages and the depths of which the library reads the samples that are stored.
+SHOWN = {PHOTOMETRIC.MINISWHITE, PHOTOMETRIC.MINISBLACK, PHOTOMETRIC.RGB, PHOTOMETRIC.SEPARATED}
+SHOWN |= {PHOTOMETRIC.YCBCR}
+SUBSAMPLING = 530
+# The tags by which samples are read; of one that is there twice, tifffile reads the first.
+LAYOUT_TAGS = {256, 257, 258, 259, 262, 266, 273, 277, 278, 279, 284, 317, 322, 323, 324, 325}
+LAYOUT_TAGS |= {338, 339, SUBSAMPLING, 32997}
+DEPTHS = {1, 2, 3, 4, 5, 6, 7, 8, 16, 32, 64}
+# The depths of which it mirrors white as 0, and those of colors are whole bytes.
+MIRRORED = {1, 2, 4, 8, 16, 32, 64}
 
 
 class TiffPage(PageFacts):
@@ -27,52 +41,152 @@ class TiffPage(PageFacts):
     """
 
     def _judge(self, shown: bool) -> None:
-        """Refuses a page of which the library gives other samples than the file has."""
-        if self.fillorder != FILLORDER.MSB2LSB:
+        """Refuses a page whose samples can't be read rightly."""
+        for code in sorted(LAYOUT_TAGS & self.tags._twice):
+            self.tags._judge(code)
+        if shown and self.fillorder != FILLORDER.MSB2LSB:
             raise self._refuse("FillOrder 2: the bits of each byte are turned", Status.INVALID_TAG)
         if self.imagedepth != 1:
             what = f"an image of {self.imagedepth} layers (ImageDepth)"
             raise self._refuse(what, Status.UNSUPPORTED_DATA_TYPE)
-        kept = self._color.samples
-        if kept != self.samplesperpixel and not shown and self._samples.planes == 1:
-            what = f"{self.samplesperpixel} samples a pixel, of which the library gives {kept}; "
-            raise self._refuse(what + "shown=True reads those", Status.UNSUPPORTED_SAMPLE_DEPTH)
-        if self._lacks_chunks:
-            what = "a strip or a tile that the file doesn't have: its offset or its length is 0"
-            raise self._refuse(what, Status.INCONSISTENT_SIZES_ENCOUNTERED)
+        if self._lacks_chunks and (shown or self._is_alone):
+            raise self._refuse(LACKING, Status.INCONSISTENT_SIZES_ENCOUNTERED)
+
+    @property
+    def _is_alone(self) -> bool:
+        """Whether a single chunk that isn't packed has the image. Its length may be 0."""
+        return self.chunk_count == 1 and self.compression == COMPRESSION.NONE
 
     @cached_property
     def _lacks_chunks(self) -> bool:
-        """Whether the file lacks a chunk. The length of a plain one that is alone may be 0."""
-        alone = self.chunk_count == 1 and self.compression == COMPRESSION.NONE
-        return 0 in self.dataoffsets or (not alone and 0 in self.tags.told(LENGTHS[self.is_tiled]))
+        """Whether the file lacks a chunk: its offset or its length is 0."""
+        if self.tags._has_zero(OFFSETS[self.is_tiled]):
+            return True
+        return not self._is_alone and self.tags._has_zero(LENGTHS[self.is_tiled])
+
+    @cached_property
+    def _is_as_stored(self) -> bool:
+        """Whether the samples are taken from the file: the library leaves some out or has none."""
+        if self._facts.color_status or self._is_told_by_tags or self._lacks_chunks:
+            return True
+        if self.photometric not in SHOWN or self.bitspersample not in DEPTHS:
+            return True
+        if self.fillorder != FILLORDER.MSB2LSB or self.sampleformat == SAMPLEFORMAT.COMPLEXINT:
+            return True
+        if self.photometric == PHOTOMETRIC.MINISWHITE:
+            plain = self.sampleformat == SAMPLEFORMAT.UINT and self.bitspersample in MIRRORED
+            if not plain or self.samplesperpixel > 1:
+                return True
+        elif self.photometric != PHOTOMETRIC.MINISBLACK and self.bitspersample < 8:
+            return True
+        return self._samples.planes == 1 and self._color.samples != self.samplesperpixel
+
+    @cached_property
+    def _planned(self) -> Planned:
+        """The page with its plan, by which its chunks are read."""
+        return Planned(self._file, self._at)
+
+    @cached_property
+    def _sources(self) -> dict[bool, Source]:
+        """The page as samples that are read, by whether the library shows them."""
+        return {}
+
+    @property
+    def _planes(self) -> int:
+        """How many planes the page has in the file."""
+        apart = self.planarconfig == PLANARCONFIG.SEPARATE
+        return self.samplesperpixel if apart else 1
 
     def _grid(self, shown: bool) -> Grid:
         """How the chunks of the page lie, in all planes or in those that the library shows."""
         from ._parts import Grid
 
         chunks = self._chunks
-        chunky = shown or self._samples.planes == 1
-        planes = self._samples.planes if chunky else self.samplesperpixel
+        planes = self._samples.planes if shown else self._planes
         return Grid(self.imagewidth, self.imagelength, chunks.width, chunks.height, planes)
 
     def _source(self, shown: bool) -> Source:
         """Returns the page as samples that are read: as stored, or as the library shows them."""
+        if shown not in self._sources:
+            self._sources[shown] = self._new_source(shown)
+        return self._sources[shown]
+
+    def _new_source(self, shown: bool) -> Source:
+        """Finds how the samples of the page are read."""
         from ._parts import Source
         from ._samples import SIGNED, Form
 
         self._judge(shown)
+        if not shown and self._is_as_stored:
+            return self._stored_source()
         form = Form(
             dtype=self.dtype,
             bits=self.bitspersample,
             samples=self._color.samples if self._samples.planes == 1 else 1,
             signed=self.sampleformat == SIGNED,
             turned=self.is_inverted and not shown,
-            swapped=self._order == ">" and self.dtype.kind in "cV",
+            swapped=self._order == ">" and self.dtype.kind == "c",
             alone=self.sampleformat > SAMPLEFORMAT.IEEEFP,
         )
         grid = self._grid(shown)
-        return Source(self._file, self._at, grid, form, grid.planes == self._samples.planes)
+        return Source(self._planned, grid, form, grid.planes == self._samples.planes)
+
+    def _stored_source(self) -> Source:
+        """Returns the page as samples that are taken from its chunks in the file."""
+        from ._parts import Source
+        from ._samples import Form
+        from ._stored import Stored
+
+        self._judge_stored()
+        grid, samples = self._grid(shown=False), self.samplesperpixel // self._planes
+        stored = Stored(self._file, self.dataoffsets, self._stored_lengths(), self._stored_form())
+        if min(len(stored.offsets), len(stored.lengths)) < grid.planes * grid.down * grid.across:
+            raise TiffError(Status.INCONSISTENT_SIZES_ENCOUNTERED, self._named)
+        form = Form(self.dtype, 8 * self.dtype.itemsize, samples)
+        return Source(self._planned, grid, form, False, stored)
+
+    def _stored_lengths(self) -> tuple[int, ...]:
+        """Returns how many bytes each chunk has; the one of a page may have all that follow it."""
+        lengths = self.databytecounts
+        return (sys.maxsize,) if self._is_alone and lengths == (0,) else lengths
+
+    def _stored_form(self) -> StoredForm:
+        """Returns how the samples of a chunk lie in the file."""
+        from ._samples import SIGNED
+        from ._stored import StoredForm
+
+        return StoredForm(
+            dtype=self.dtype,
+            bits=self.bitspersample,
+            samples=self.samplesperpixel // self._planes,
+            order=self._order,
+            signed=self.sampleformat == SIGNED,
+            packed=self.compression == COMPRESSION.PACKBITS,
+            turned=self.fillorder != FILLORDER.MSB2LSB,
+            differences=self.predictor == PREDICTOR.HORIZONTAL,
+            paired=self.sampleformat == SAMPLEFORMAT.COMPLEXINT,
+            missing=self.nodata,
+        )
+
+    def _judge_stored(self) -> None:
+        """Refuses a page whose samples aren't taken from its chunks in the file."""
+        if self.compression not in (COMPRESSION.NONE, COMPRESSION.PACKBITS):
+            raise TiffError(Status.UNSUPPORTED_COMPRESSION_METHOD, self._named)
+        if self.photometric == PHOTOMETRIC.YCBCR and self.tags.told(SUBSAMPLING) != (1, 1):
+            raise TiffError(Status.CHROMA_SUBSAMPLING, self._named)
+        bits, whole = self.bitspersample, self.dtype.kind in "ui"
+        if len(set(self.tags.told(258))) > 1:
+            raise TiffError(Status.INCONSISTENT_BITS_PER_SAMPLE, self._named)
+        if len(set(self.tags.told(339))) > 1:
+            raise self._refuse("samples of several formats", Status.UNSUPPORTED_SAMPLE_FORMAT)
+        if self.predictor == PREDICTOR.HORIZONTAL:
+            if not whole or bits != 8 * self.dtype.itemsize:
+                raise TiffError(Status.HORIZONTAL_PREDICTOR, self._named)
+        elif self.predictor != PREDICTOR.NONE:
+            raise TiffError(Status.FLOATING_POINT_PREDICTOR, self._named)
+        if self._order == "<" and bits in (24, 40, 48, 56):
+            what = f"samples of {bits} bits in a little-endian file: programs differ in their order"
+            raise self._refuse(what, Status.UNSUPPORTED_BITS_PER_CHANNEL)
 
     def asarray(
         self,
@@ -88,9 +202,12 @@ class TiffPage(PageFacts):
         With `shown`, the array has the samples as the library shows them: of a page whose zero is
         white, inverted so that zero is black; and without the extra samples that it leaves out.
 
+        The samples of a palette are indexes of the columns of `colormap`. Of several chunks, those
+        that the file doesn't have are filled with `nodata`.
+
         Errors, as `TiffError` with a `status`: what the library refuses; and as `UnsupportedError`
-        FillOrder 2, an ImageDepth, chunks that the file doesn't have, a number type that numpy
-        lacks, and without `shown` pages of which the library leaves out samples.
+        an ImageDepth, a number type that numpy lacks, and with `shown` FillOrder 2 and chunks that
+        the file doesn't have.
         """
         return self.read(out=out, workers=workers, shown=shown)
 
@@ -123,6 +240,21 @@ class TiffPage(PageFacts):
         out[...] = array
         return out
 
+    def aszarr(
+        self, *, zattrs: dict[str, Any] | None = None, multiscales: bool | None = None
+    ) -> ZarrTiffStore:
+        """Returns the image as a store of zarr, version 2, to be read: a mapping of keys to bytes.
+
+        Its chunks are the strips or tiles, each read when it is asked for, with the samples that
+        are stored. The attribute `_ARRAY_DIMENSIONS` has the letters of `axes`, and `zattrs` are
+        more of them. With `multiscales`, the array is `0` in a group, as xarray opens it. The store
+        reads from the page's file: close the file after it. Errors are those of `read_chunk`.
+        """
+        from ._series import stack_of
+        from ._zarr import ZarrTiffStore
+
+        return ZarrTiffStore([stack_of([self])], zattrs=zattrs, multiscales=multiscales)
+
     def read_chunk(self, chunk: int, *, shown: bool = False) -> NDArray[Any]:
         """Reads a strip or a tile as an array, cut at the edges of the image.
 
@@ -130,13 +262,11 @@ class TiffPage(PageFacts):
         to one plane, and the chunks of the first plane come first. The array has rows and columns,
         and samples if several lie side by side.
         """
-        from ._parts import Run
-
         if not 0 <= chunk < self.chunk_count:
             raise TiffError(Status.INVALID_CHUNK_INDEX, self._named)
         source = self._source(shown)
         with _library.named(self._named):
-            ((_, part),) = source.chunks(Run(chunk, 1))
+            part = source.chunk(chunk)
         return part if self.axes == "YXS" else part[:, :, 0]
 
     def place_of(self, chunk: int) -> tuple[int, int, int]:
@@ -158,6 +288,8 @@ class TiffPage(PageFacts):
         """
         from ._parts import segments_of
 
+        if self._lacks_chunks:
+            raise self._refuse(LACKING, Status.INCONSISTENT_SIZES_ENCOUNTERED)
         source = self._source(shown)
         full = self.tile
         with _library.named(self._named):

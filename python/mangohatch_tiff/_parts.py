@@ -10,6 +10,7 @@ from collections import deque
 from collections.abc import Callable, Iterator
 from concurrent.futures import Future, ThreadPoolExecutor
 from dataclasses import dataclass, field
+from functools import cached_property
 from typing import TYPE_CHECKING, Any, TypeVar
 
 import numpy
@@ -18,11 +19,15 @@ from . import _library
 from ._samples import Form
 
 if TYPE_CHECKING:
-    from _typeshed import ReadableBuffer
     from numpy.typing import NDArray
+
+    from ._planned import Planned
+    from ._stored import Stored
 
 # A thread reads about as many bytes by one call, and a smaller image is read by one thread.
 STRETCH = 1 << 20
+# To open a page of so many chunks takes as long as a call that reads one by the page's plan.
+OPENED = 1024
 # A tile of as many bytes is put into its place alone.
 LARGE_TILE = 1 << 15
 
@@ -39,12 +44,12 @@ class Grid:
     chunk_height: int
     planes: int
 
-    @property
+    @cached_property
     def across(self) -> int:
         """How many chunks lie side by side."""
         return -(-self.width // self.chunk_width)
 
-    @property
+    @cached_property
     def down(self) -> int:
         """How many chunks lie one below the other in a plane."""
         return -(-self.height // self.chunk_height)
@@ -100,34 +105,56 @@ class Scratch(threading.local):
 
 @dataclass(frozen=True)
 class Source:
-    """A page whose samples are read: its file, its number for the calls, its chunks and its form.
+    """A page whose samples are read: how its chunks lie, and the form of their samples.
 
-    `at_once` tells whether one call reads all planes.
+    `at_once` tells whether one call reads all planes. With `stored`, the samples come from there,
+    in the form of the array.
     """
 
-    file: ReadableBuffer
-    at: int
+    planned: Planned
     grid: Grid
     form: Form
     at_once: bool
-    scratch: Scratch = field(default_factory=Scratch)
+    stored: Stored | None = None
+
+    @property
+    def count(self) -> int:
+        """How many chunks there are, in all planes."""
+        return self.grid.planes * self.grid.down * self.grid.across
+
+    @property
+    def chunk_bytes(self) -> int:
+        """How many bytes a whole chunk has."""
+        return self.form.row_bytes(self.grid.chunk_width) * self.grid.chunk_height
+
+    @property
+    def most(self) -> int:
+        """How many chunks a thread reads at once."""
+        return max(1, STRETCH // max(1, self.chunk_bytes))
 
     def read(self, call: Any, room: NDArray[Any], *place: int) -> None:
         """Reads samples into an array by a call."""
-        _library.read_samples(call, self.file, (self.at, *place), room)
+        _library.read_samples(call, self.planned.file, (self.planned.at, *place), room)
 
     def read_chunks(self, run: Run, room: NDArray[Any]) -> None:
         """Reads a run of chunks into an array, one behind the other."""
-        if not self.form.alone:
+        if self.stored:
+            self.stored.read_chunks(self.grid, run, room)
+        elif self.form.alone or (self._are_few(run) and self.planned.plan):
+            self.planned.read(self._sized(run), room)
+        else:
             self.read(_library.READ_CHUNKS, room, run.first, run.count)
-            return
-        data, start = room.reshape(-1).view(numpy.uint8), 0
+
+    def _are_few(self, run: Run) -> bool:
+        """Tells whether a call for each chunk takes less time than one that opens the page."""
+        return run.count == 1 or run.count * OPENED < self.count
+
+    def _sized(self, run: Run) -> Iterator[tuple[int, int]]:
+        """Yields the number of each chunk of a run, and how many bytes the library reads of it."""
         for chunk in range(run.first, run.first + run.count):
             _, row, column = self.grid.place(chunk)
-            width = self.grid.columns_from(column)
-            size = self.grid.rows_from(row) * self.form.row_bytes(width)
-            self.read(_library.READ_CHUNK, data[start : start + size], chunk)
-            start += size
+            size = self.form.row_bytes(self.grid.columns_from(column))
+            yield chunk, self.grid.rows_from(row) * size
 
     def read_whole(self, array: NDArray[Any]) -> None:
         """Reads the image into an array of planes, rows, columns and samples, by one call."""
@@ -141,85 +168,13 @@ class Source:
         self.read(_library.READ_IMAGE, raw)
         array[...] = form.natural(raw, grid.width).reshape(array.shape)
 
-    def runs(self, window: Window) -> Iterator[Run]:
-        """Yields the runs of chunks that a window needs; each lies in a line of a plane."""
-        grid = self.grid
-        size = self.form.row_bytes(grid.chunk_width) * grid.chunk_height
-        most = max(1, STRETCH // max(1, size))
-        lines = range(window.top // grid.chunk_height, -(-window.bottom // grid.chunk_height))
-        for plane in range(grid.planes):
-            if grid.across == 1:
-                first = grid.number(plane, lines.start, 0)
-                yield from stretches(first, first + len(lines), most)
-                continue
-            left = window.left // grid.chunk_width
-            right = -(-window.right // grid.chunk_width)
-            for line in lines:
-                first = grid.number(plane, line, 0)
-                yield from stretches(first + left, first + right, most)
-
-    def read_run(self, run: Run, window: Window, array: NDArray[Any]) -> None:
-        """Reads a run of chunks and puts what the window has of them into its array."""
-        if self.grid.across == 1:
-            self._read_strips(run, window, array)
-        else:
-            self._read_tiles(run, window, array)
-
-    def _read_strips(self, run: Run, window: Window, array: NDArray[Any]) -> None:
-        """Reads chunks that lie one below the other, straight into the array if they fit there."""
-        grid, form = self.grid, self.form
-        plane, row, _ = grid.place(run.first)
-        behind = min(row + run.count * grid.chunk_height, grid.height)
-        top, bottom = max(row, window.top), min(behind, window.bottom)
-        target = array[plane, top - window.top : bottom - window.top]
-        whole = (top, bottom, window.left, window.right) == (row, behind, 0, grid.width)
-        if whole and form.is_direct and target.flags.c_contiguous:
-            self.read_chunks(run, target)
-            if form.turned:
-                numpy.bitwise_not(target, out=target)
-            return
-        raw = self.scratch.room((behind - row) * form.row_bytes(grid.width))
-        self.read_chunks(run, raw)
-        raw = raw.reshape(behind - row, -1)
-        numbers = form.natural(raw, grid.width)
-        target[...] = numbers[top - row : bottom - row, window.left : window.right]
-
-    def _read_tiles(self, run: Run, window: Window, array: NDArray[Any]) -> None:
-        """Reads chunks that lie side by side, and puts them into their places."""
-        plane, row, column = self.grid.place(run.first)
-        behind = row + self.grid.rows_from(row)
-        top, bottom = max(row, window.top), min(behind, window.bottom)
-        target = array[plane, top - window.top : bottom - window.top]
-        for block in self._blocks(run):
-            left, right = max(column, window.left), min(column + block.shape[1], window.right)
-            target[:, left - window.left : right - window.left] = block[
-                top - row : bottom - row, left - column : right - column
-            ]
-            column += block.shape[1]
-
-    def _blocks(self, run: Run) -> Iterator[NDArray[Any]]:
-        """Reads chunks that lie side by side, and yields blocks of them from the left.
-
-        Large ones are blocks of their own; small whole ones are one block, and a cut one another.
-        """
-        grid, form = self.grid, self.form
-        _, row, column = grid.place(run.first)
-        rows, width = grid.rows_from(row), grid.chunk_width
-        cut = min(run.count * width, grid.width - column) % width
-        whole = run.count - (cut > 0)
-        room, rest = whole * rows * form.row_bytes(width), rows * form.row_bytes(cut)
-        raw = self.scratch.room(room + rest)
-        self.read_chunks(run, raw)
-        if whole:
-            numbers = form.natural(raw[:room].reshape(whole * rows, -1), width)
-            tiles = numbers.reshape(whole, rows, width, form.samples)
-            if tiles[0].nbytes >= LARGE_TILE:
-                yield from tiles
-            else:
-                side_by_side = tiles.transpose(1, 0, 2, 3)
-                yield side_by_side.reshape(rows, whole * width, form.samples)
-        if cut:
-            yield form.natural(raw[room:].reshape(rows, -1), cut)
+    def chunk(self, chunk: int) -> NDArray[Any]:
+        """Reads a chunk, as an array of rows, columns and samples."""
+        _, row, column = self.grid.place(chunk)
+        rows, wide = self.grid.rows_from(row), self.grid.columns_from(column)
+        raw = numpy.empty((rows, self.form.row_bytes(wide)), numpy.uint8)
+        self.read_chunks(Run(chunk, 1), raw)
+        return self.form.natural(raw, wide)
 
     def chunks(self, run: Run) -> Iterator[tuple[tuple[int, int, int], NDArray[Any]]]:
         """Reads a run of chunks, and yields the place and the samples of each."""
@@ -233,6 +188,95 @@ class Source:
             size = form.row_bytes(wide)
             yield place, form.natural(raw[start : start + rows * size].reshape(rows, size), wide)
             start += rows * size
+
+
+@dataclass(frozen=True)
+class Reading:
+    """A window of a page that is read into an array of planes, rows, columns and samples."""
+
+    source: Source
+    window: Window
+    array: NDArray[Any]
+    scratch: Scratch = field(default_factory=Scratch)
+
+    def runs(self) -> Iterator[Run]:
+        """Yields the runs of chunks that the window needs; each lies in a line of a plane."""
+        grid, window, most = self.source.grid, self.window, self.source.most
+        lines = range(window.top // grid.chunk_height, -(-window.bottom // grid.chunk_height))
+        for plane in range(grid.planes):
+            if grid.across == 1:
+                first = grid.number(plane, lines.start, 0)
+                yield from stretches(first, first + len(lines), most)
+                continue
+            left = window.left // grid.chunk_width
+            right = -(-window.right // grid.chunk_width)
+            for line in lines:
+                first = grid.number(plane, line, 0)
+                yield from stretches(first + left, first + right, most)
+
+    def read(self, run: Run) -> None:
+        """Reads a run of chunks and puts what the window has of them into its array."""
+        if self.source.grid.across == 1:
+            self._read_strips(run)
+        else:
+            self._read_tiles(run)
+
+    def _read_strips(self, run: Run) -> None:
+        """Reads chunks that lie one below the other, straight into the array if they fit there."""
+        grid, form, window = self.source.grid, self.source.form, self.window
+        plane, row, _ = grid.place(run.first)
+        behind = min(row + run.count * grid.chunk_height, grid.height)
+        top, bottom = max(row, window.top), min(behind, window.bottom)
+        target = self.array[plane, top - window.top : bottom - window.top]
+        whole = (top, bottom, window.left, window.right) == (row, behind, 0, grid.width)
+        if whole and form.is_direct and target.flags.c_contiguous:
+            self.source.read_chunks(run, target)
+            if form.turned:
+                numpy.bitwise_not(target, out=target)
+            return
+        raw = self.scratch.room((behind - row) * form.row_bytes(grid.width))
+        self.source.read_chunks(run, raw)
+        raw = raw.reshape(behind - row, -1)
+        numbers = form.natural(raw, grid.width)
+        target[...] = numbers[top - row : bottom - row, window.left : window.right]
+
+    def _read_tiles(self, run: Run) -> None:
+        """Reads chunks that lie side by side, and puts them into their places."""
+        grid, window = self.source.grid, self.window
+        plane, row, column = grid.place(run.first)
+        behind = row + grid.rows_from(row)
+        top, bottom = max(row, window.top), min(behind, window.bottom)
+        target = self.array[plane, top - window.top : bottom - window.top]
+        for block in self._blocks(run):
+            left, right = max(column, window.left), min(column + block.shape[1], window.right)
+            target[:, left - window.left : right - window.left] = block[
+                top - row : bottom - row, left - column : right - column
+            ]
+            column += block.shape[1]
+
+    def _blocks(self, run: Run) -> Iterator[NDArray[Any]]:
+        """Reads chunks that lie side by side, and yields blocks of them from the left.
+
+        Large ones are blocks of their own; small whole ones are one block, and a cut one another.
+        """
+        grid, form = self.source.grid, self.source.form
+        _, row, column = grid.place(run.first)
+        rows, width = grid.rows_from(row), grid.chunk_width
+        cut = min(run.count * width, grid.width - column) % width
+        whole = run.count - (cut > 0)
+        room, rest = whole * rows * form.row_bytes(width), rows * form.row_bytes(cut)
+        raw = self.scratch.room(room + rest)
+        self.source.read_chunks(run, raw)
+        if whole:
+            numbers = form.natural(raw[:room].reshape(whole * rows, -1), width)
+            tiles = numbers.reshape(whole, rows, width, form.samples)
+            if tiles[0].nbytes >= LARGE_TILE:
+                yield from tiles
+            else:
+                side_by_side = tiles.transpose(1, 0, 2, 3)
+                yield side_by_side.reshape(rows, whole * width, form.samples)
+        if cut:
+            yield form.natural(raw[room:].reshape(rows, -1), cut)
 
 
 def stretches(first: int, behind: int, most: int) -> Iterator[Run]:
@@ -272,8 +316,8 @@ def read_window(
     if whole and source.at_once and array.flags.c_contiguous and count == 1:
         source.read_whole(array)
         return
-    runs = list(source.runs(window))
-    each(lambda run: source.read_run(run, window, array), runs, count)
+    reading = Reading(source, window, array)
+    each(reading.read, list(reading.runs()), count)
 
 
 def segments_of(
@@ -283,11 +327,8 @@ def segments_of(
 
     Threads read ahead, each a run of chunks, and at most two runs for each of them are held.
     """
-    grid, wanted = source.grid, threads(workers)
-    count = grid.planes * grid.down * grid.across
-    size = source.form.row_bytes(grid.chunk_width) * grid.chunk_height
-    runs = stretches(0, count, max(1, STRETCH // max(1, size)))
-    if wanted == 1 or count * size < STRETCH:
+    wanted, runs = threads(workers), stretches(0, source.count, source.most)
+    if wanted == 1 or source.count * source.chunk_bytes < STRETCH:
         for run in runs:
             yield from source.chunks(run)
         return

@@ -12,13 +12,14 @@ UNSIGNED, SIGNED, FLOATING, VOID, COMPLEX_INTEGER, COMPLEX = 1, 2, 3, 4, 5, 6
 WHOLE = (8, 16, 32, 64)
 FLOATS = {(FLOATING, bits): f"<f{bits // 8}" for bits in (16, 32, 64)}
 FLOATS |= {(COMPLEX, bits): f"<c{bits // 8}" for bits in (64, 128)}
+FLOATS |= {(COMPLEX_INTEGER, bits): f"<c{16 if bits == 64 else 8}" for bits in (16, 32, 64)}
 
 
 def number_type(sampleformat: int, bits: int) -> numpy.dtype[Any] | None:
     """Returns the number type of samples, by SampleFormat and BitsPerSample; None if it has none.
 
     One bit is a bool, other depths have the next number that holds them. Complex whole numbers
-    have the fields `real` and `imag`.
+    become complex ones, which hold them: of parts of 8 and 16 bits complex64, of 32 complex128.
     """
     if sampleformat in (UNSIGNED, VOID) and bits == 1:
         return numpy.dtype(bool)
@@ -26,9 +27,6 @@ def number_type(sampleformat: int, bits: int) -> numpy.dtype[Any] | None:
         kind = "i" if sampleformat == SIGNED else "u"
         room = next((size for size in WHOLE if 0 < bits <= size), 0)
         return numpy.dtype(f"<{kind}{room // 8}") if room else None
-    if sampleformat == COMPLEX_INTEGER and bits // 2 in WHOLE and bits % 2 == 0:
-        part = f"<i{bits // 16}"
-        return numpy.dtype([("real", part), ("imag", part)])
     name = FLOATS.get((sampleformat, bits))
     return numpy.dtype(name) if name else None
 
@@ -39,8 +37,8 @@ class Form:
 
     A row has whole bytes; `bits` are those of a sample and `samples` how many each pixel has there.
     With `turned`, the bytes are complemented, which takes back that the library inverted them.
-    With `swapped`, the two halves of a number stand in the other order. With `alone`, the library
-    reads chunks one by one and not several by one call, as those of complex numbers.
+    With `swapped`, the two halves of a number stand in the other order. With `alone`, no
+    call reads several chunks, as those of complex numbers.
     """
 
     dtype: numpy.dtype[Any]

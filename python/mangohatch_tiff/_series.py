@@ -19,9 +19,9 @@ if TYPE_CHECKING:
 
 # A page of more bytes is read by all threads at once, and pages of fewer by one thread.
 LARGE, SMALL = 1 << 24, 1 << 16
-# Files whose arrays tifffile makes by what these tags tell.
+# Files whose arrays tifffile makes by what these tags tell, LSM before all others.
+LSM = 34412
 TAGGED = {
-    "LSM": (34412,),
     "NIH Image": (43314,),
     "FluoView": (34362,),
     "STK": (33628,),
@@ -37,10 +37,14 @@ MADE_BY = {"ScanImage": r"SI\.", "QPI": r"PerkinElmer-QPI", "BIF": r".*Ventana|S
 
 
 class Stack(NamedTuple):
-    """Pages that make one array of a shape, read one after another."""
+    """Pages that make one array of a shape, read one after another.
+
+    `axes` has a letter for each side, as tifffile has it, or none if it isn't known.
+    """
 
     pages: list[TiffPage]
     shape: tuple[int, ...]
+    axes: str = ""
 
     def read(
         self, out: NDArray[Any] | None, workers: int | None, shown: bool
@@ -83,6 +87,8 @@ class Stack(NamedTuple):
 def kind_of(page: TiffPage) -> str | None:
     """Returns the kind of file that a first page shows, if tifffile makes its arrays by more."""
     described, software = page._told_text(DESCRIPTION), page._told_text(SOFTWARE)
+    if LSM in page.tags:
+        return "LSM"
     for name, pattern in DESCRIBED.items():
         if re.match(pattern, described):
             return name
@@ -133,22 +139,24 @@ def refused(what: str) -> UnsupportedError:
     return UnsupportedError(f"{what}; key= reads the pages", Status.UNSUPPORTED_DATA_TYPE)
 
 
-def stacked(pages: list[TiffPage], before: tuple[int, ...]) -> Stack:
+def stacked(pages: list[TiffPage], before: dict[str, int]) -> Stack:
     """Returns alike pages as an array with these sides before those of a page, without sides of 1.
 
     Rows and columns stay, also if they are 1.
     """
-    first = pages[0]
-    kept = (side for axis, side in zip(first.axes, first.shape) if side != 1 or axis in "YX")
-    return Stack(pages, (*(side for side in before if side != 1), *kept))
+    sides = {**before, **dict(zip(pages[0].axes, pages[0].shape))}
+    kept = {axis: side for axis, side in sides.items() if side != 1 or axis in "YX"}
+    return Stack(pages, tuple(kept.values()), "".join(kept))
 
 
 def stack_of(pages: list[TiffPage]) -> Stack:
     """Returns the pages that a caller chose: one as it is, several one behind the other."""
     if not pages:
         raise ValueError("no pages are selected")
-    one = pages[0].shape
-    return Stack(pages, one if len(pages) == 1 else (len(pages), *one))
+    one = pages[0]
+    if len(pages) == 1:
+        return Stack(pages, one.shape, one.axes)
+    return Stack(pages, (len(pages), *one.shape), "I" + one.axes)
 
 
 def judge_places(pages: list[TiffPage], begin: int) -> None:
@@ -169,19 +177,25 @@ def judge_places(pages: list[TiffPage], begin: int) -> None:
         raise refused("images that don't lie one behind the other")
 
 
-def shaped_stack(file: TiffFile, text: str) -> Stack:
+def shaped_stack(held: list[TiffPage]) -> Stack:
     """Returns the pages of an array whose shape tifffile wrote into the first description."""
-    first = file.pages[0]
+    first = held[0]
+    text = first._told_text(DESCRIPTION)
     try:
-        shape = tuple(int(side) for side in json.loads(text)["shape"])
+        told = json.loads(text)
+        shape = tuple(int(side) for side in told["shape"])
     except (ValueError, KeyError, TypeError):
         raise refused(f"a description that tells no shape: {text!r}") from None
     count, rest = divmod(math.prod(shape), first.size)
-    pages = file.pages[:count]
+    pages = held[:count]
     if rest or not 0 < count == len(pages) or any(alike(page) != alike(first) for page in pages):
         raise refused(f"an array of the shape {shape}, which the pages don't make")
     judge_places(pages, first.offset)
-    return Stack(pages, shape)
+    axes, before = told.get("axes"), len(shape) - first.ndim
+    if isinstance(axes, str) and len(axes) == len(shape):
+        return Stack(pages, shape, axes)
+    whole = before >= 0 and shape[before:] == first.shape
+    return Stack(pages, shape, "Q" * before + first.axes if whole else "")
 
 
 def imagej_stack(file: TiffFile, text: str) -> Stack:
@@ -192,6 +206,7 @@ def imagej_stack(file: TiffFile, text: str) -> Stack:
     except ValueError:
         raise refused("an ImageJ file whose sides are no numbers") from None
     images, *sides = counts
+    named = dict(zip("TZC", sides))
     first, count = file.pages[0], math.prod(sides)
     plain = told.get("order", "czt").lower() in ("czt", "default") and first.samplesperpixel == 1
     single = count == images == len(file.pages) == 1
@@ -199,24 +214,28 @@ def imagej_stack(file: TiffFile, text: str) -> Stack:
     if not known or any(alike(page) != alike(first) for page in file.pages):
         raise refused("an ImageJ file of pages that make no plain hyperstack")
     judge_places(file.pages, min(first.dataoffsets, default=0))
-    return stacked(file.pages, tuple(sides))
+    return stacked(file.pages, named)
 
 
 def first_stack(file: TiffFile) -> Stack:
     """Returns the pages that make the array of a file, as tifffile's first series.
 
-    These are the first page and those like it, in all the shape that tifffile or ImageJ wrote into
-    the description. Files whose arrays tifffile makes by what other programs wrote raise
+    These are the first page and those like it, in all the shape that tifffile, ImageJ or OME's XML
+    has in the description. Files whose arrays tifffile makes by what other programs wrote raise
     `UnsupportedError`, unless they are one page that is so as it is.
     """
     first = file.pages[0]
     text = first._told_text(DESCRIPTION)
     if first.is_shaped:
-        return shaped_stack(file, text)
+        return shaped_stack(file.pages)
     if text.startswith(("ImageJ=", "SCIFIO=")):
         return imagej_stack(file, text)
     kind = kind_of(first)
+    if kind == "OME":
+        from ._ome import ome_stacks
+
+        return ome_stacks(file.pages, text)[0]
     if kind:
         raise refused(f"an array of {kind} metadata")
     pages = alike_pages(file)
-    return stacked(pages, (len(pages),))
+    return stacked(pages, {"I": len(pages)})

@@ -126,6 +126,11 @@ MEANT = {33471, 33560, 33628, 33629, 33630, 33631, 33723, 33923, 34118, 34361, 3
 MEANT |= {34412, 34665, 34680, 34682, 34853, 37706, 37724, 40100, 40965, 43314, 50288, 50296, 50839}
 MEANT |= {51123, 65426, 65432, 65439, 65459}
 
+# The types of the places of chunks, and how many of these are looked through as an array: more than
+# a few, and as many as the library lists.
+PLACES = {DATATYPE.SHORT, DATATYPE.LONG, DATATYPE.LONG8}
+LONG_LISTS = range(64, (1 << 23) + 1)
+
 Number = Union[int, float]
 # The type of the values of a tag: a text, bytes, a number, a tuple of numbers, or an array.
 TagValue = Any
@@ -357,3 +362,13 @@ class Tags:
         """Returns the unsigned numbers of a tag, none if the page doesn't have the tag."""
         with _library.named(self._index, number):
             return _library.told_numbers(self._file, self._page, number)
+
+    def _has_zero(self, number: int) -> bool:
+        """Tells whether a zero is among the unsigned numbers of a tag. Long lists take numpy."""
+        field = self._field(number)
+        if field is None or field.kind not in PLACES or field.count not in LONG_LISTS:
+            return 0 in self.told(number)
+        import numpy
+
+        data = self._stored(number, field.kind, field.count)
+        return not numpy.frombuffer(data, f"u{value_size(field.kind)}").all()

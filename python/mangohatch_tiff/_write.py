@@ -11,6 +11,7 @@ import numpy
 from ._enums import COMPRESSION, EXTRASAMPLE, PHOTOMETRIC, PLANARCONFIG, PREDICTOR, chosen
 from ._library import Status, UnsupportedError
 from ._new_pages import AROUND_SAMPLES, COLORS, Layout, NewPage, NewTag, _write_pages
+from ._new_pages import KINDS as KINDS_OF
 
 if TYPE_CHECKING:
     from numpy.typing import ArrayLike, NDArray
@@ -19,6 +20,15 @@ LONGEST_SIDE = (1 << 32) - 1
 # From so many bytes of samples on, a file is a BigTIFF file unless the caller says else.
 BIG_FROM = (1 << 32) - (1 << 25)
 KINDS = {PHOTOMETRIC.MINISBLACK: "Gray", PHOTOMETRIC.RGB: "RGB", PHOTOMETRIC.SEPARATED: "CMYK"}
+# What is written as gray, with a tag of its own: the library's color types have no such kinds.
+TAGGED = (PHOTOMETRIC.MINISWHITE, PHOTOMETRIC.PALETTE)
+KINDS |= {meaning: "Gray" for meaning in TAGGED}
+INTERPRETATION, COLOR_MAP, SHORT = 262, 320, 3
+# Arrays that the library has no color type for, by their kind, and what can be written.
+NOT_WRITTEN = {
+    "b": "the library writes no samples of one bit; array.astype('u1') is written",
+    "c": "the library writes no complex samples; array.real and array.imag are written",
+}
 SAMPLES = {"Gray": 1, "RGB": 3, "CMYK": 4}
 
 Named = Union[int, str, None]
@@ -31,6 +41,7 @@ class Samples:
     photometric: Named = None
     planarconfig: Named = None
     extrasamples: Sequence[Named] | None = None
+    colormap: ArrayLike | None = None
 
 
 @dataclass(frozen=True)
@@ -69,8 +80,9 @@ def meaning_of(array: NDArray[Any], given: Samples) -> PHOTOMETRIC:
     Three or four samples of 8 or 16 bits at the end are RGB. Other arrays with a side of 3 or 4
     where samples may be are RGB for one version of tifffile and gray for another: they are refused.
     """
-    if given.photometric is not None:
-        meaning = chosen(PHOTOMETRIC, given.photometric, "photometric")
+    if given.photometric is not None or given.colormap is not None:
+        named = "palette" if given.photometric is None else given.photometric
+        meaning = chosen(PHOTOMETRIC, named, "photometric")
         if meaning not in KINDS:
             what = f"photometric={meaning.name.lower()}"
             raise UnsupportedError(what, Status.UNSUPPORTED_INTERPRETATION)
@@ -143,7 +155,8 @@ def method_of(compression: Named) -> int:
     """Returns the method of compression that is written: none or PackBits."""
     if compression in (None, 0, "", False):
         return int(COMPRESSION.NONE)
-    method = chosen(COMPRESSION, compression, "compression")
+    named = "adobe_deflate" if compression == "zlib" else compression
+    method = chosen(COMPRESSION, named, "compression")
     if method not in (COMPRESSION.NONE, COMPRESSION.PACKBITS):
         what = f"compression={method.name.lower()}"
         raise UnsupportedError(what, Status.UNSUPPORTED_COMPRESSION_METHOD)
@@ -180,7 +193,8 @@ def color_type_of(
     """Returns the color type of pixels of so many samples, and the kinds of the extra ones."""
     extra = extra_of(count, color, given)
     if (color, number) not in COLORS:
-        what = f"{color} samples of type {numpy.dtype(number)}"
+        written = ", ".join(str(numpy.dtype(kind)) for kind in KINDS_OF[color])
+        what = f"{color} samples of type {numpy.dtype(number)}: these are written: {written}"
         raise UnsupportedError(what, Status.UNSUPPORTED_COLOR_TYPE)
     return (color, number), extra
 
@@ -198,24 +212,55 @@ def layout_of(rows: int, kind: str, stored: Stored) -> Layout:
     )
 
 
+def judge_array(given: NDArray[Any]) -> None:
+    """Refuses arrays of dimensions and of number types that aren't written."""
+    if given.ndim < 2:
+        raise ValueError(f"an array of {given.ndim} dimensions: rows and columns are written")
+    if given.dtype.kind not in "uif":
+        why = NOT_WRITTEN.get(given.dtype.kind, "numbers are written")
+        what = f"an array of type {given.dtype}: {why}"
+        raise UnsupportedError(what, Status.UNSUPPORTED_SAMPLE_FORMAT)
+
+
+def meaning_tags(
+    meaning: PHOTOMETRIC, kind: numpy.dtype[Any], colormap: ArrayLike | None
+) -> tuple[NewTag, ...]:
+    """Returns the tags of what the samples mean, where the library's color type doesn't say it."""
+    if (colormap is None) == (meaning is PHOTOMETRIC.PALETTE):
+        raise ValueError("a colormap is there with photometric='palette', and with it alone")
+    if meaning not in TAGGED:
+        return ()
+    if kind.kind != "u":
+        what = f"photometric={meaning.name.lower()} of type {kind}: unsigned numbers are written"
+        raise UnsupportedError(what, Status.UNSUPPORTED_INTERPRETATION)
+    tags = (NewTag(INTERPRETATION, SHORT, 1, int(meaning).to_bytes(2, "little")),)
+    if colormap is None:
+        return tags
+    colors, wanted = numpy.asarray(colormap), (3, 1 << 8 * min(kind.itemsize, 2))
+    if kind.itemsize > 2 or colors.shape != wanted or colors.dtype.kind not in "ui":
+        raise ValueError(f"a colormap of {colors.shape} {colors.dtype}, not {wanted} uint16")
+    data = numpy.ascontiguousarray(colors, "<u2").tobytes()
+    return (*tags, NewTag(COLOR_MAP, SHORT, colors.size, data))
+
+
 def pages_of(data: ArrayLike, settings: Settings) -> list[NewPage]:
     """Returns the pages that an array is written as."""
     given = numpy.asarray(data)
-    if not 2 <= given.ndim <= 4:
-        raise ValueError(f"an array of {given.ndim} dimensions: 2 to 4 are written")
-    if given.dtype.kind not in "uif":
-        what = f"an array of type {given.dtype}"
-        raise UnsupportedError(what, Status.UNSUPPORTED_SAMPLE_FORMAT)
-    color = KINDS[meaning_of(given, settings.samples)]
+    judge_array(given)
+    meaning = meaning_of(given, settings.samples)
+    color, told = KINDS[meaning], settings.samples
+    own = meaning_tags(meaning, given.dtype, told.colormap)
+    if meaning is PHOTOMETRIC.PALETTE:
+        told = replace(told, planarconfig=None, extrasamples=None)
     if color != "Gray" and given.ndim < 3:
         raise ValueError(f"an array of shape {given.shape} has no samples of {color}")
-    pages, apart = pages_of_array(given, color, settings.samples)
+    pages, apart = pages_of_array(given, color, told)
     if max(pages.shape[1:3]) > LONGEST_SIDE:
         raise ValueError(f"a side of an image is {LONGEST_SIDE} at most")
     if not len(pages):
         raise ValueError(f"an array of shape {given.shape} has no page")
     _, rows, _, count = pages.shape
-    kind, extra = color_type_of(count, color, given.dtype.str[1:], settings.samples)
+    kind, extra = color_type_of(count, color, given.dtype.str[1:], told)
     layout = layout_of(rows, given.dtype.kind, settings.stored)
     layout = replace(layout, planar=apart and count > 1, extra=extra)
     order = given.dtype.newbyteorder("<")
@@ -224,7 +269,7 @@ def pages_of(data: ArrayLike, settings: Settings) -> list[NewPage]:
             kind,
             numpy.ascontiguousarray(page, order),
             layout,
-            settings.tags + (settings.first_tags if index == 0 else ()),
+            own + settings.tags + (settings.first_tags if index == 0 else ()),
             settings.resolution,
         )
         for index, page in enumerate(pages)

@@ -1,11 +1,13 @@
 """What the tests share: the repository's files, and arrays of samples."""
 from __future__ import annotations
 
+import io
 import struct
 from pathlib import Path
 
 import numpy
 import pytest
+import tifffile
 
 DATA = Path(__file__).resolve().parents[2] / "crates" / "tiff_replay" / "data"
 
@@ -49,3 +51,17 @@ def gray_file(
         form = {1: "B3x", 3: "H2x", 7: "B3x"}.get(kind, "I")
         file += struct.pack(f"{order}HHI{form}", tag, kind, 1, value)
     return file + bytes(4)
+
+
+def pyramid(big: bool, order: str) -> tuple[bytes, numpy.ndarray]:
+    """Returns a file and its image in color, which has a half and a quarter of it as SubIFDs.
+
+    The quarter is in tiles. A second page has each eighth row.
+    """
+    image, made = samples((48, 64, 3), "u1"), io.BytesIO()
+    with tifffile.TiffWriter(made, bigtiff=big, byteorder=order) as writer:
+        writer.write(image, photometric="rgb", subifds=2)
+        writer.write(image[::2, ::2], photometric="rgb", subfiletype=1)
+        writer.write(image[::4, ::4], photometric="rgb", subfiletype=1, tile=(16, 16))
+        writer.write(image[::8], photometric="rgb")
+    return made.getvalue(), image

@@ -62,7 +62,8 @@ def test_nothing_is_copied(kind: str, tmp_path: Path, monkeypatch: pytest.Monkey
     buffer = KINDS[kind](tmp_path / "image.tif")
     own = numpy.frombuffer(buffer, "u1").ctypes.data
     page = mt.TiffFile(buffer).pages[0]
-    for name, read in (("READ_IMAGE", page.asarray), ("READ_CHUNKS", lambda: page.read_chunk(0))):
+    calls = {"READ_IMAGE": page.asarray, "READ_PLANNED_CHUNK": lambda: page.read_chunk(0)}
+    for name, read in calls.items():
         recorder = Recorder(getattr(_library, name))
         monkeypatch.setattr(_library, name, recorder)
         image = read()

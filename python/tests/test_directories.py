@@ -2,12 +2,10 @@
 from __future__ import annotations
 
 import struct
-from io import BytesIO
 
 import numpy
 import pytest
-import tifffile
-from conftest import gray_file, samples
+from conftest import gray_file, pyramid
 
 import mangohatch_tiff as mt
 from mangohatch_tiff import Found, Status, TiffFile
@@ -47,14 +45,8 @@ def found_of(file: bytes) -> list[tuple[int, int, int | None, int | None, Found]
 @pytest.mark.parametrize(("big", "order"), [(False, "<"), (True, "<"), (True, ">")])
 def test_sub_ifds(big: bool, order: str) -> None:
     """The previews of a page come behind it, each with its page."""
-    image = samples((48, 64, 3), "u1")
-    made = BytesIO()
-    with tifffile.TiffWriter(made, bigtiff=big, byteorder=order) as writer:
-        writer.write(image, photometric="rgb", subifds=2)
-        writer.write(image[::2, ::2], photometric="rgb", subfiletype=1)
-        writer.write(image[::4, ::4], photometric="rgb", subfiletype=1)
-        writer.write(image[::8], photometric="rgb")
-    tif = TiffFile(made.getvalue())
+    file, image = pyramid(big, order)
+    tif = TiffFile(file)
     first, half, quarter, last = tif.directories
     assert tif.directories is tif.directories
     assert [item.depth for item in tif.directories] == [0, 1, 1, 0]

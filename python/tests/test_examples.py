@@ -21,6 +21,8 @@ PAGES = [
     ((100, 120, 3), "u1", {"photometric": "rgb", "tile": (48, 48)}),
     ((100, 120), "f4", {"photometric": "minisblack", "tile": (48, 48)}),
     ((100, 121), "?", {"photometric": "minisblack", "rowsperstrip": 9}),
+    ((100, 120), "u1", {"colormap": samples((3, 256), "u2"), "tile": (48, 48)}),
+    ((100, 120, 5), "u2", {"photometric": "rgb", "rowsperstrip": 9}),
 ]
 
 
@@ -41,15 +43,42 @@ def test_dask(shape: tuple[int, ...], dtype: str, options: dict, tmp_path: Path)
     numpy.testing.assert_array_equal(computed, image)
 
 
-def test_dask_of_a_palette(tmp_path: Path) -> None:
+@pytest.mark.parametrize("block", [1, 5000, 1 << 22])
+@pytest.mark.parametrize(("shape", "dtype", "options"), PAGES)
+def test_dask_blocks(
+    block: int, shape: tuple[int, ...], dtype: str, options: dict, tmp_path: Path, monkeypatch
+) -> None:
+    """Blocks of any size have whole strips or tiles, and make the array."""
     pytest.importorskip("distributed")
     sys.path.insert(0, str(EXAMPLES))
     import dask_image
 
+    monkeypatch.setattr(dask_image, "BLOCK", block)
     path = tmp_path / "page.tif"
-    tifffile.imwrite(path, samples((3, 4), "u1"), colormap=samples((3, 256), "u2"))
-    with pytest.raises(SystemExit, match="palette"):
-        dask_image.image_of(str(path))
+    image = samples(shape, "u1") > 99 if dtype == "?" else samples(shape, dtype)
+    tifffile.imwrite(path, image, metadata=None, **options)
+    told = dask_image.image_of(str(path))
+    assert told.npartitions == 1 if block > image.nbytes else told.npartitions > 1
+    numpy.testing.assert_array_equal(told.compute(scheduler="synchronous"), image)
+
+
+@pytest.mark.parametrize(("shape", "dtype", "options"), PAGES)
+@pytest.mark.parametrize("side", [50, 1024])
+def test_dask_over_zarr(
+    side: int, shape: tuple[int, ...], dtype: str, options: dict, tmp_path: Path, monkeypatch
+) -> None:
+    pytest.importorskip("distributed")
+    pytest.importorskip("zarr")
+    sys.path.insert(0, str(EXAMPLES))
+    import zarr_image
+
+    monkeypatch.setattr(zarr_image, "SIDE", side)
+    path = tmp_path / "page.tif"
+    image = samples(shape, "u1") > 99 if dtype == "?" else samples(shape, dtype)
+    tifffile.imwrite(path, image, metadata=None, **options)
+    with mt.imread(path, key=0, aszarr=True) as store:
+        told = zarr_image.image_of(store)
+        numpy.testing.assert_array_equal(told.compute(scheduler="synchronous"), image)
 
 
 def run(name: str, *words: object) -> str:
@@ -73,3 +102,12 @@ def test_programs(tmp_path: Path) -> None:
     assert "(20, 25)" in run("sub_ifd.py", path, made)
     numpy.testing.assert_array_equal(mt.imread(made), image[::2, ::2])
     assert run("tagged.py", made) == "a ramp (0.5, 0.5, 0.0)\n"
+
+
+def test_scanned_pages(tmp_path: Path) -> None:
+    path = tmp_path / "scan.tif"
+    assert run("scanned_pages.py", path, 3, 40, 50) == "3 pages, the last one 'scan 2'\n"
+    assert run("scanned_pages.py", path, 2, 40, 50) == "5 pages, the last one 'scan 1'\n"
+    ramp = numpy.arange(40)[:, None] + numpy.arange(50)
+    pages = [(ramp + page).astype("u1") for page in (0, 1, 2, 0, 1)]
+    numpy.testing.assert_array_equal(tifffile.imread(path), numpy.stack(pages))

@@ -29,7 +29,9 @@ UNREAD = {
     "a strip past the end": (gray_file(t273=(4, 1 << 20)), Status.UNEXPECTED_EOF),
     "LZW": (gray_file(t259=(3, 5)), Status.UNSUPPORTED_COMPRESSION_METHOD),
     "Deflate": (gray_file(t259=(3, 8)), Status.UNSUPPORTED_COMPRESSION_METHOD),
-    "a palette": (gray_file(t262=(3, 3)), Status.INTERPRETATION_WITH_BITS),
+    "LZW, a palette": (
+        gray_file(t262=(3, 3), t259=(3, 5)), Status.UNSUPPORTED_COMPRESSION_METHOD
+    ),
 }
 
 
@@ -102,11 +104,16 @@ def two_pages() -> bytes:
     return file.getvalue()
 
 
-def test_a_refused_page_stays_in_the_list() -> None:
+def without_width(index: int) -> bytearray:
+    """Returns a file of two pages of which one has a width of 0."""
     file = bytearray(two_pages())
-    width = tifffile.TiffFile(io.BytesIO(bytes(file))).pages[1].tags["ImageWidth"]
+    width = tifffile.TiffFile(io.BytesIO(bytes(file))).pages[index].tags["ImageWidth"]
     file[width.offset + 8 : width.offset + 12] = bytes(4)
-    tif = mt.TiffFile(file)
+    return file
+
+
+def test_a_refused_page_stays_in_the_list() -> None:
+    tif = mt.TiffFile(without_width(1))
     assert [page.status for page in tif] == [Status.DONE, Status.INVALID_DIMENSIONS]
     assert tif[0].asarray().shape == (3, 4)
     assert "refused: INVALID_DIMENSIONS" in repr(tif[1])
@@ -117,9 +124,7 @@ def test_a_refused_page_stays_in_the_list() -> None:
 
 def test_a_first_page_that_is_refused() -> None:
     """The other pages are read, and the tags of the first one."""
-    file = bytearray(two_pages())
-    width = tifffile.TiffFile(io.BytesIO(bytes(file))).pages[0].tags["ImageWidth"]
-    file[width.offset + 8 : width.offset + 12] = bytes(4)
+    file = without_width(0)
     tif = mt.TiffFile(file)
     assert [page.status for page in tif] == [Status.INVALID_DIMENSIONS, Status.DONE]
     assert tif.end is Status.DONE

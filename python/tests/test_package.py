@@ -35,7 +35,8 @@ def test_names_are_in_the_table() -> None:
     """Each name that tifffile has too, and each of our own, is told in the README."""
     told = (FOLDER / "README.md").read_text()
     names = set(mt.__all__)
-    for kind in (mt.TiffFile, mt.TiffPage, mt.Tag, mt.Tags, mt.Directory):
+    kinds = mt.TiffFile, mt.TiffPage, mt.Tag, mt.Tags, mt.Directory, mt.TiffWriter, mt.Geo
+    for kind in (*kinds, mt.TiffPageSeries):
         names |= public(kind)
     names |= {field.name for field in dataclasses.fields(mt.Directory)} | set(mt.Found.__members__)
     lacking = {name for name in names if not re.search(rf"\b{name}\b", told)}
@@ -47,9 +48,12 @@ def test_what_tifffile_has_too() -> None:
     shared = {name for name in mt.__all__ if hasattr(tifffile, name)}
     assert shared == {
         "COMPRESSION", "DATATYPE", "EXTRASAMPLE", "FILLORDER", "PHOTOMETRIC", "PLANARCONFIG",
-        "PREDICTOR", "RESUNIT", "SAMPLEFORMAT", "TiffFile", "TiffPage", "imread", "imwrite",
+        "PREDICTOR", "RESUNIT", "SAMPLEFORMAT", "TiffFile", "TiffPage", "TiffPageSeries",
+        "TiffWriter", "ZarrTiffStore", "imread", "imwrite", "memmap",
     }
-    assert public(mt.TiffFile) & public(tifffile.TiffFile) == {"asarray", "close", "is_bigtiff"}
+    of_files = {"asarray", "aszarr", "close", "is_bigtiff", "series"}
+    assert public(mt.TiffFile) & public(tifffile.TiffFile) == of_files
+    assert public(mt.TiffWriter) & public(tifffile.TiffWriter) == {"close", "write"}
 
 
 def test_reprs() -> None:
@@ -64,6 +68,7 @@ STRUCTS = {
     "tiff_color": "Color",
     "tiff_samples": "Samples",
     "tiff_chunks": "Chunks",
+    "tiff_page_plan": "PagePlan",
     "tiff_listed_page": "ListedPage",
     "tiff_listed_directory": "ListedDirectory",
     "tiff_field": "Field",
@@ -74,6 +79,7 @@ STRUCTS = {
     "tiff_new_tag": "TagToWrite",
     "tiff_new_page": "PageToWrite",
     "tiff_pages_end": "PagesEnd",
+    "tiff_appended": "Appended",
 }
 ENUMERATIONS = {"TIFF_": ("Status", "Found", "ColorKind"), "TIFF_FIELD_": ("PageField",)}
 

@@ -234,8 +234,7 @@ def test_out() -> None:
 def test_shown_in_stacks() -> None:
     image = samples((4, 12, 10, 5), "u1")
     file = written(image, photometric="rgb", metadata=None)
-    with pytest.raises(mt.UnsupportedError, match="page 0: 5 samples"):
-        mt.imread(file)
+    assert_same(file)
     numpy.testing.assert_array_equal(mt.imread(file, shown=True), image[..., :3])
     white = written(image[..., 0], photometric="miniswhite", metadata=None)
     assert_same(white)
@@ -259,6 +258,123 @@ def test_sources(tmp_path) -> None:
     with pytest.raises(ValueError):
         tif.asarray()
     numpy.testing.assert_array_equal(mt.imread(Piped(file)), image)
+
+
+SERIES = {
+    "a page": ((12, 10), {"metadata": None}),
+    "pages": ((5, 12, 10), {"metadata": None}),
+    "a shape": ((5, 12, 10), {}),
+    "a shape of four sides": ((2, 3, 12, 10), {}),
+    "named sides": ((2, 3, 12, 10), {"metadata": {"axes": "TZYX"}}),
+    "colors": ((4, 12, 10, 3), {"photometric": "rgb", "metadata": None}),
+    "planes": ((3, 12, 10), {"photometric": "rgb", "planarconfig": "separate"}),
+    "ImageJ": ((2, 3, 12, 10), {"imagej": True, "metadata": {"axes": "TZYX"}}),
+    "sides of 1": ((5, 1, 1, 10), {"metadata": None}),
+}
+
+
+@pytest.mark.parametrize("name", SERIES)
+def test_series(name: str) -> None:
+    shape, options = SERIES[name]
+    file = written(samples(shape, "u2"), **{"photometric": "minisblack", **options})
+    (series,), theirs = mt.TiffFile(file).series, tifffile.TiffFile(io.BytesIO(file)).series
+    assert len(theirs) == 1
+    for fact in ("shape", "dtype", "axes", "ndim", "size", "nbytes", "index"):
+        assert getattr(series, fact) == getattr(theirs[0], fact), fact
+    numpy.testing.assert_array_equal(series.asarray(workers=2), theirs[0].asarray())
+    assert len(series) == len(series.pages) and series[0] is series.pages[0]
+    assert series.axes in repr(series)
+    assert b"zarr_format" in series.aszarr()[".zarray"] or name == "sides of 1"
+
+
+def test_files_of_several_series() -> None:
+    image, made = samples((48, 64), "u1"), io.BytesIO()
+    with tifffile.TiffWriter(made) as writer:
+        writer.write(image)
+        writer.write(image[:5])
+    for file in (made.getvalue(), several(image, image[:5])):
+        assert [series.shape for series in mt.TiffFile(file).series] == [(48, 64), (5, 64)]
+        for series in (0, 1):
+            assert_same(file, series=series)
+        with pytest.raises(IndexError):
+            mt.imread(file, series=2)
+        assert mt.imread(file, series=1, aszarr=True)["0.0"] == image[:5].tobytes()
+
+
+def pyramid_file(metadata: dict | None, sub: bool) -> bytes:
+    """Returns a file of an array in three sizes, in SubIFDs or as pages of the chain."""
+    image, made = samples((48, 64), "u1"), io.BytesIO()
+    options = {"photometric": "minisblack", "metadata": metadata, "tile": (16, 16)}
+    with tifffile.TiffWriter(made) as writer:
+        writer.write(image, subifds=2 if sub else 0, **options)
+        for step in (2, 4):
+            writer.write(image[::step, ::step], subfiletype=1, **options)
+    return made.getvalue()
+
+
+@pytest.mark.parametrize("metadata", [None, {}])
+@pytest.mark.parametrize("sub", [False, True])
+def test_levels(metadata: dict | None, sub: bool) -> None:
+    image, file = samples((48, 64), "u1"), pyramid_file(metadata, sub)
+    (series,) = mt.TiffFile(file).series
+    assert series.is_pyramidal and series.levels[0] is series and "3 levels" in repr(series)
+    for level, step in enumerate((1, 2, 4)):
+        assert_same(file, series=0, level=level)
+        numpy.testing.assert_array_equal(series.asarray(level=level), image[::step, ::step])
+        numpy.testing.assert_array_equal(series.levels[level].asarray(), image[::step, ::step])
+    with pytest.raises(IndexError):
+        mt.imread(file, level=3)
+
+
+def test_series_that_are_refused() -> None:
+    image = samples((48, 64), "u1")
+    alike = [image] * 10
+    alike[3] = image[:5]
+    with pytest.raises(mt.UnsupportedError, match="aren't alike"):
+        mt.TiffFile(several(*alike)).series
+    file = bytearray(pyramid_file(None, sub=True))
+    offsets = tifffile.TiffFile(io.BytesIO(file)).pages[0].subifds
+    file[offsets[1] : offsets[1] + 2] = b"\0\0"
+    with pytest.raises(mt.UnsupportedError, match="SubIFD that is refused"):
+        mt.TiffFile(file).series
+
+
+def test_lists_of_files(tmp_path) -> None:
+    images = samples((3, 12, 10), "u2")
+    paths = [tmp_path / f"{index}.tif" for index in range(3)]
+    for path, image in zip(paths, images):
+        tifffile.imwrite(path, image, photometric="minisblack")
+    numpy.testing.assert_array_equal(mt.imread(paths), tifffile.imread([*map(str, paths)]))
+    numpy.testing.assert_array_equal(mt.imread(tuple(paths), workers=2), images)
+    numpy.testing.assert_array_equal(mt.imread(paths[:1]), images[0])
+    out = numpy.empty((3, 12, 10), ">u2")
+    assert mt.imread(paths, key=0, out=out) is out
+    numpy.testing.assert_array_equal(out, images)
+    for none in ([], str(tmp_path / "x*.tif")):
+        with pytest.raises(ValueError, match="no files"):
+            mt.imread(none)
+    for index in (9, 10, 100):
+        tifffile.imwrite(tmp_path / f"a_{index}.tif", images[0] + index, photometric=1)
+    found = {"?.tif": "012", "a_*.tif": ("a_9", "a_10", "a_100"), "a_?0.tif": ("a_10",)}
+    for pattern, names in found.items():
+        named = [str(tmp_path / f"{name}.tif") for name in names]
+        read = mt.imread(str(tmp_path / pattern))
+        numpy.testing.assert_array_equal(read, tifffile.imread(named))
+    with pytest.raises(mt.UnsupportedError, match="several files"):
+        mt.imread(paths, aszarr=True)
+    tifffile.imwrite(paths[2], images[0, :5], photometric="minisblack")
+    with pytest.raises(ValueError, match="make no array"):
+        mt.imread(paths)
+
+
+def test_files_of_fsspec(tmp_path) -> None:
+    fsspec = pytest.importorskip("fsspec")
+    image = samples((6, 12, 10), "u2")
+    for url in (f"file://{tmp_path}/a.tif", "memory://a.tif"):
+        with fsspec.open(url, "wb") as file:
+            mt.imwrite(file, image, photometric="minisblack")
+        with fsspec.open(url, "rb") as file:
+            numpy.testing.assert_array_equal(mt.imread(file), image)
 
 
 class Piped:

@@ -2,6 +2,7 @@
 from __future__ import annotations
 
 import io
+from collections.abc import Callable
 from concurrent.futures import ThreadPoolExecutor
 
 import numpy
@@ -68,18 +69,33 @@ def test_windows(options: dict, workers: int, monkeypatch: pytest.MonkeyPatch) -
             numpy.testing.assert_array_equal(out, expected)
 
 
+def chunks_read(monkeypatch: pytest.MonkeyPatch, read: Callable[[], object]) -> list[int]:
+    """Returns the numbers of the chunks that the library reads during a call."""
+    found: list[int] = []
+    several, one = _library.READ_CHUNKS, _library.READ_PLANNED_CHUNK
+
+    def read_several(*given: int) -> int:
+        found.extend(range(given[3], given[3] + given[4]))
+        return int(several(*given))
+
+    def read_one(*given: int) -> int:
+        found.append(given[3])
+        return int(one(*given))
+
+    with monkeypatch.context() as patch:
+        patch.setattr(_library, "READ_CHUNKS", read_several)
+        patch.setattr(_library, "READ_PLANNED_CHUNK", read_one)
+        read()
+    return found
+
+
 def test_a_window_reads_the_chunks_that_it_needs(monkeypatch: pytest.MonkeyPatch) -> None:
     page, _ = page_of({"tile": (16, 16)})
-    read: list[range] = []
-    call = _library.READ_CHUNKS
-
-    def recorded(*given: int) -> int:
-        read.append(range(given[3], given[3] + given[4]))
-        return int(call(*given))
-
-    monkeypatch.setattr(_library, "READ_CHUNKS", recorded)
-    page.read(slice(17, 20), slice(16, 47), workers=1)
-    assert [chunk for run in read for chunk in run] == [5, 6]
+    read: list[int] = []
+    for opened in (0, 1024):
+        monkeypatch.setattr(_parts, "OPENED", opened)
+        read += chunks_read(monkeypatch, lambda: page.read(slice(17, 20), slice(16, 47), workers=1))
+    assert read == [5, 6, 5, 6]
 
 
 def test_windows_that_are_none() -> None:

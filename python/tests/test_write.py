@@ -92,13 +92,21 @@ REFUSED = [
 
 
 @pytest.mark.parametrize("array", REFUSED)
+def test_refusals_say_what_is_written(array: numpy.ndarray) -> None:
+    told = {"bool": "one bit; array.astype.'u1'. is written", "complex64": "real and array.imag"}
+    told["float16"] = "these are written: .*float32"
+    with pytest.raises(mt.UnsupportedError, match=told[str(array.dtype)]):
+        mt.imwrite(None, array)
+
+
+@pytest.mark.parametrize("array", REFUSED)
 def test_number_types_that_are_not_written(array: numpy.ndarray) -> None:
     with pytest.raises(mt.UnsupportedError, match=str(array.dtype)):
         mt.imwrite(None, array)
 
 
 def test_arrays_that_are_not_written() -> None:
-    for shape in ((3,), (2, 2, 2, 2, 2), (0, 3, 5)):
+    for shape in ((), (3,), (0, 3, 5), (2, 0, 3, 5)):
         with pytest.raises(ValueError, match="an array of"):
             mt.imwrite(None, numpy.zeros(shape, "u1"))
     with pytest.raises(ValueError, match="too few"):
@@ -123,7 +131,7 @@ def test_arrays_that_versions_of_tifffile_write_in_two_ways(
 
 
 def test_compression_that_is_not_written() -> None:
-    for compression in ("lzw", "LZW", 8, "jpeg"):
+    for compression in ("lzw", "LZW", 8, "jpeg", "zlib"):
         with pytest.raises(mt.UnsupportedError, match="compression=") as fault:
             mt.imwrite(None, samples((3, 4), "u1"), compression=compression)
         assert fault.value.status is mt.Status.UNSUPPORTED_COMPRESSION_METHOD
@@ -132,7 +140,6 @@ def test_compression_that_is_not_written() -> None:
 
 
 OTHERS = {
-    "append": True,
     "shape": (3, 4),
     "dtype": "u1",
     "byteorder": ">",
@@ -144,7 +151,6 @@ OTHERS = {
     "compressionargs": {"level": 3},
     "subsampling": (2, 2),
     "jpegtables": b"",
-    "colormap": numpy.zeros((3, 256), "u2"),
     "contiguous": True,
     "truncate": True,
     "align": 16,
@@ -173,8 +179,8 @@ def test_parameters_of_tifffile_are_known() -> None:
 def test_other_values_are_refused_by_name() -> None:
     image = samples((32, 32), "u1")
     for given, name in (
-        ({"photometric": "miniswhite"}, "photometric=miniswhite"),
-        ({"photometric": "palette"}, "photometric=palette"),
+        ({"photometric": "cielab"}, "photometric=cielab"),
+        ({"photometric": "mask"}, "photometric=mask"),
         ({"tile": (1, 16, 16)}, "layers"),
         ({"predictor": "floatingpoint"}, "predictor=floatingpoint"),
         ({"description": "a", "metadata": {}}, "both description and metadata"),
@@ -195,6 +201,10 @@ def test_other_values_are_refused_by_name() -> None:
         {"extratags": [(65000, "H", 2, 3, True)]},
         {"extratags": [(65000, "Z", 1, 3, True)]},
         {"extrasamples": [0], "planarconfig": "contig"},
+        {"photometric": "palette"},
+        {"photometric": "rgb", "colormap": numpy.zeros((3, 256), "u2")},
+        {"colormap": numpy.zeros((3, 16), "u2")},
+        {"append": True},
     ):
         with pytest.raises(ValueError):
             mt.imwrite(None, image, **given)

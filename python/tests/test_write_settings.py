@@ -64,8 +64,7 @@ def test_colors(options: dict, planarconfig: str | None, count: int) -> None:
     numpy.testing.assert_array_equal(page.asarray(), image)
     assert page.photometric == 2 and page.samplesperpixel == count
     assert page.planarconfig == (2 if planarconfig == "separate" else 1)
-    if count < 5 or planarconfig == "separate":
-        numpy.testing.assert_array_equal(mt.imread(file), image)
+    numpy.testing.assert_array_equal(mt.imread(file), image)
 
 
 EXTRAS = [("unassalpha",), ("assocalpha",), (2,), ("unspecified", "assocalpha")]
@@ -112,7 +111,29 @@ def test_separated() -> None:
     assert assert_same(image, photometric="separated").photometric == 5
 
 
-STACKS = [(20, 12, 10), (2, 12, 10), (1, 12, 10), (2, 5, 12, 10), (2, 7, 12, 1)]
+@pytest.mark.parametrize("dtype", ["u1", "u2", "u4"])
+@pytest.mark.parametrize("shape", [(20, 30), (5, 20, 30)])
+@pytest.mark.parametrize("options", [{}, *STORED[:3]])
+def test_white_as_zero(dtype: str, shape: tuple[int, ...], options: dict) -> None:
+    page = assert_same(samples(shape, dtype), photometric="miniswhite", **options)
+    assert page.photometric == 0
+    with pytest.raises(mt.UnsupportedError, match="miniswhite of type float32"):
+        mt.imwrite(None, samples(shape, "f4"), photometric="miniswhite")
+
+
+@pytest.mark.parametrize("dtype", ["u1", "u2"])
+@pytest.mark.parametrize("photometric", [None, "palette"])
+@pytest.mark.parametrize("options", [{}, *STORED[:3]])
+def test_palettes(dtype: str, photometric: str | None, options: dict) -> None:
+    image, colors = samples((20, 30), dtype), samples((3, 256 if dtype == "u1" else 65536), "u2")
+    page = assert_same(image, photometric=photometric, colormap=colors, **options)
+    assert page.photometric == 3
+    numpy.testing.assert_array_equal(page.colormap, colors)
+    file = mt.imwrite(None, image, photometric=photometric, colormap=colors, **options)
+    numpy.testing.assert_array_equal(mt.TiffFile(file)[0].colormap, colors)
+
+
+STACKS = [(20, 12, 10), (2, 12, 10), (1, 12, 10), (2, 5, 12, 10), (2, 7, 12, 1), (2, 5, 2, 12, 10)]
 
 
 @pytest.mark.parametrize("shape", STACKS)

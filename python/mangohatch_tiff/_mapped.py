@@ -1,0 +1,22 @@
+"""Files that are mapped into memory."""
+from __future__ import annotations
+
+import mmap
+import os
+
+
+class Mapped(mmap.mmap):
+    """A file mapped into memory, with the path by which it was opened, if it was."""
+
+    path: str | None = None
+
+    def forget(self) -> None:
+        """Gives back the memory of what was read of the file; another read loads it again."""
+        self.madvise(mmap.MADV_DONTNEED)
+
+
+def mapped(number: int, path: str | os.PathLike[str] | None = None) -> Mapped:
+    """Maps an open file, by its number, to be read."""
+    made = Mapped(number, 0, access=mmap.ACCESS_READ)
+    made.path = None if path is None else os.path.abspath(path)
+    return made

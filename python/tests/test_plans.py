@@ -1,0 +1,148 @@
+"""Chunks are read by the plan of their page, and as without it."""
+from __future__ import annotations
+
+import io
+import random
+from ctypes import byref
+
+import numpy
+import pytest
+import tifffile
+from conftest import DATA, gray_file, pyramid, samples
+
+import mangohatch_tiff as mt
+from mangohatch_tiff import _library, _parts
+from mangohatch_tiff._library import PagePlan
+
+NAMES = sorted(path.name for path in DATA.glob("*.tif"))
+GRAY, COLORS = samples((40, 50), "u2"), samples((40, 50, 3), "u1")
+WRITTEN = {
+    "strips": (GRAY, {"photometric": "minisblack", "rowsperstrip": 7}),
+    "tiles": (GRAY.astype("f4"), {"photometric": "minisblack", "tile": (16, 32)}),
+    "white": (GRAY, {"photometric": "miniswhite", "predictor": 2, "tile": (16, 16)}),
+    "packed": (COLORS, {"photometric": "rgb", "compression": "packbits", "rowsperstrip": 9}),
+    "planes": (COLORS, {"photometric": "rgb", "planarconfig": "separate", "tile": (16, 16)}),
+}
+# A chunk is read into so many bytes more than it may have, and into fewer.
+MORE, CHANGES = 64, 40
+
+
+def counted(monkeypatch: pytest.MonkeyPatch, name: str) -> list[tuple]:
+    """Returns a list that gets what each later call of the library is given."""
+    call, given = getattr(_library, name), []
+
+    def recorded(*words: object) -> int:
+        given.append(words)
+        return int(call(*words))
+
+    monkeypatch.setattr(_library, name, recorded)
+    return given
+
+
+@pytest.mark.parametrize("workers", [1, 4])
+def test_a_page_takes_its_plan_once(workers: int, monkeypatch: pytest.MonkeyPatch) -> None:
+    image, made = samples((64, 80), "u2"), io.BytesIO()
+    tifffile.imwrite(made, image, photometric="minisblack", tile=(16, 16))
+    page = mt.TiffFile(made.getvalue()).pages[0]
+    monkeypatch.setattr(_parts, "STRETCH", 2048)
+    monkeypatch.setattr(_parts, "OPENED", 0)
+    plans, others = counted(monkeypatch, "PAGE_PLAN"), counted(monkeypatch, "READ_CHUNKS")
+    numpy.testing.assert_array_equal(page.asarray(workers=1), image)
+    assert not plans
+    page.read_chunk(3)
+    chunks = counted(monkeypatch, "READ_PLANNED_CHUNK")
+    numpy.testing.assert_array_equal(page.asarray(workers=4), image)
+    numpy.testing.assert_array_equal(page.read(slice(3, 50), workers=workers), image[3:50])
+    assert len(list(page.segments(workers=workers))) == 20
+    assert len(plans) == 1 and not others and len(chunks) == 20 + 20 + 20
+
+
+@pytest.mark.parametrize("kind", [1, 13])
+def test_a_page_without_a_plan(kind: int, monkeypatch: pytest.MonkeyPatch) -> None:
+    """Offsets of another type make no plan, and the chunks are read all the same."""
+    page = mt.TiffFile(gray_file(t273=(kind, 8))).pages[0]
+    assert page._planned.plan is None
+    planned = counted(monkeypatch, "READ_PLANNED_CHUNK")
+    numpy.testing.assert_array_equal(page.read_chunk(0), page.asarray())
+    numpy.testing.assert_array_equal(page.read(slice(1, 3)), page.asarray()[1:3])
+    assert not planned
+
+
+@pytest.mark.parametrize("big", [False, True])
+@pytest.mark.parametrize("order", "<>")
+def test_pages_out_of_the_chain(big: bool, order: str) -> None:
+    file, image = pyramid(big, order)
+    tif = mt.TiffFile(file)
+    for step, offset in zip((2, 4), tif.pages[0].tags.told(330)):
+        page, part = tif.page_at(offset), image[::step, ::step]
+        assert page._planned.plan is not None
+        for chunk in range(page.chunk_count):
+            _, row, column = page.place_of(chunk)
+            rows, columns = page.chunks[:2]
+            numpy.testing.assert_array_equal(
+                page.read_chunk(chunk), part[row : row + rows, column : column + columns]
+            )
+
+
+def assert_read_the_same(file: bytes, place: int, size: int) -> int:
+    """Compares the chunks of a page as its plan and as its number read them; returns how many."""
+    plan, count = PagePlan(), 0
+    room = [numpy.zeros(size + MORE, "u1") for _ in range(2)]
+    with _library.locked(file) as (address, length):
+        refused = _library.PAGE_PLAN(address, length, place, byref(plan))
+        if refused == mt.Status.INVALID_TYPE_FOR_TAG:
+            return 0
+        for chunk in range(40):
+            for most in (size + MORE, max(0, size - 1), 7):
+                told = [refused, 0]
+                for at, (call, page) in enumerate((
+                    (_library.READ_PLANNED_CHUNK, plan), (_library.READ_CHUNK, place)
+                )):
+                    room[at][:] = 7
+                    if at or not refused:
+                        told[at] = call(address, length, page, chunk, room[at].ctypes.data, most)
+                assert told[0] == told[1], (chunk, most)
+                if told[0] == mt.Status.DONE:
+                    numpy.testing.assert_array_equal(room[0], room[1])
+                    count += 1
+    return count
+
+
+def assert_pages_read_the_same(file: bytes) -> int:
+    """Compares all pages of a file, by their numbers and their offsets; returns how many chunks."""
+    try:
+        listed, _ = _library.list_pages(file)
+    except mt.TiffError:
+        return 0
+    count = 0
+    for number, page in enumerate(listed[:3]):
+        size = min(1 << 16, 16 * page.width * page.height)
+        for place in (number, _library.at(page.offset)):
+            count += assert_read_the_same(file, place, size)
+    return count
+
+
+def assert_changed_read_the_same(file: bytes) -> int:
+    """Compares the chunks of a file, and of it cut or changed; returns how many are read."""
+    dice, count = random.Random(len(file)), assert_pages_read_the_same(file)
+    for _ in range(CHANGES):
+        changed = bytearray(file[: dice.randrange(len(file))] if dice.random() < 0.2 else file)
+        for _ in range(dice.randrange(3) if changed else 0):
+            changed[-dice.randrange(min(len(changed), 600))] = dice.randrange(256)
+            changed[dice.randrange(min(len(changed), 300))] = dice.randrange(256)
+        count += assert_pages_read_the_same(bytes(changed))
+    return count
+
+
+@pytest.mark.parametrize("name", NAMES)
+def test_files_of_the_repository(name: str) -> None:
+    """By the plan and by the number, the same bytes and the same errors."""
+    assert_changed_read_the_same((DATA / name).read_bytes())
+
+
+@pytest.mark.parametrize("name", WRITTEN)
+@pytest.mark.parametrize("bigtiff", [False, True])
+def test_files_that_are_written(name: str, bigtiff: bool) -> None:
+    image, options = WRITTEN[name]
+    file = mt.imwrite(None, image, bigtiff=bigtiff, **options)
+    assert assert_changed_read_the_same(file)
