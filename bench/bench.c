@@ -1,7 +1,7 @@
 /* Times tiff_c beside libtiff and memcpy. Its words are three for each file: a name, the file's path, and `both` where libtiff reads it
    too, else `alone`. A name that begins with `open` times the opening alone, one that begins with `page`, as `page_9_of_ten`, how long it
-   takes to open the file and answer the sides of that page, or why there are none, and one that begins with `each` the reading of all chunks, one
-   by one. Then it times writing, of images that it makes. */
+   takes to open the file and answer the sides of that page, or why there are none, one that begins with `each` the reading of all chunks, one
+   by one, one that begins with `planned` the same by the plan of the page, and one that begins with `one` the reading of one chunk among them all. Then it times writing, of images that it makes. */
 #include <stdio.h>
 #include <stdlib.h>
 #include <string.h>
@@ -9,7 +9,7 @@
 #include "by_libtiff.h"
 #include "mangohatch_tiff.h"
 
-enum { ROUNDS = 25, OPENINGS = 2000 };
+enum { ROUNDS = 25, OPENINGS = 2000, SOME = 64 };
 
 struct load {
     const char *name;
@@ -18,7 +18,9 @@ struct load {
     size_t len, size;
     int both;
     /* the rows of chunks: how many bytes each has, how many chunks lie side by side, and how high they are */
-    size_t row, across, height;
+    size_t row, across, height, chunks;
+    struct tiff_page_plan plan;
+    struct opened *theirs_open;
 };
 
 /* An image that is written: its samples, and its files. */
@@ -146,6 +148,41 @@ static void chunks_by_ours(struct load *l) {
         if (tiff_read_chunk_bytes(l->file, l->len, 0, i, l->ours, l->size)) stop("refused by tiff_c", l->name);
 }
 
+static void planned_by_ours(struct load *l) {
+    struct tiff_page_plan plan;
+    struct tiff_chunks chunks;
+    if (tiff_page_chunks(l->file, l->len, 0, &chunks) || tiff_page_plan(l->file, l->len, 0, &plan)) stop("refused by tiff_c", l->name);
+    for (uint32_t i = 0; i < chunks.count; i++)
+        if (tiff_read_planned_chunk(l->file, l->len, &plan, i, l->ours, l->size)) stop("refused by tiff_c", l->name);
+}
+
+/* Chunks far from each other, as a viewer asks for them: some number, and that of the chunk at each. */
+static uint32_t some_chunk(const struct load *l, uint32_t at) { return at * 40503u % (uint32_t)l->chunks; }
+
+static void one_by_ours(struct load *l) {
+    for (uint32_t i = 0; i < SOME; i++)
+        if (tiff_read_chunk_bytes(l->file, l->len, 0, some_chunk(l, i), l->ours, l->size)) stop("refused by tiff_c", l->name);
+}
+
+/* The plan is of an earlier call, as libtiff's file below is open. */
+static void one_by_plan(struct load *l) {
+    for (uint32_t i = 0; i < SOME; i++)
+        if (tiff_read_planned_chunk(l->file, l->len, &l->plan, some_chunk(l, i), l->ours, l->size)) stop("refused by tiff_c", l->name);
+}
+
+static void one_by_theirs(struct load *l) {
+    for (uint32_t i = 0; i < SOME; i++)
+        if (!chunk_by_libtiff(l->theirs_open, some_chunk(l, i), l->theirs)) stop("refused by libtiff", l->name);
+}
+
+static void one_opened_by_theirs(struct load *l) {
+    for (uint32_t i = 0; i < SOME; i++) {
+        struct opened *opened = open_by_libtiff(l->file, l->len);
+        if (!opened || !chunk_by_libtiff(opened, some_chunk(l, i), l->theirs)) stop("refused by libtiff", l->name);
+        close_by_libtiff(opened);
+    }
+}
+
 static void chunks_by_theirs(struct load *l) {
     if (!chunks_by_libtiff(l->file, l->len, l->theirs)) stop("refused by libtiff", l->name);
 }
@@ -158,6 +195,7 @@ static void measure(struct load *l) {
         tiff_page_chunks(l->file, l->len, 0, &chunks))
         stop("refused by tiff_c", l->name);
     l->size = layout.complete_len;
+    l->chunks = chunks.count;
     l->across = sides.width / chunks.width;
     l->height = chunks.height;
     l->row = layout.len / sides.height / l->across;
@@ -174,6 +212,40 @@ static void print_chunks(struct load *l) {
         best(&whole, read_ours, l);
     }
     printf("\n%s: %.2f milliseconds, by one call each; libtiff: %.2f; the whole image by one call: %.2f\n", l->name, 1e3 * ours, 1e3 * theirs, 1e3 * whole);
+}
+
+static void print_planned(struct load *l) {
+    measure(l);
+    l->ours = room(l->size);
+    l->theirs = room(l->size);
+    double ours = 0, theirs = 0;
+    for (int i = 0; i < ROUNDS; i++) {
+        best(&ours, planned_by_ours, l);
+        best(&theirs, chunks_by_theirs, l);
+    }
+    printf("\n%s: %.2f milliseconds, by one call each and the plan of the page; libtiff: %.2f\n", l->name, 1e3 * ours, 1e3 * theirs);
+}
+
+static void print_one(struct load *l) {
+    measure(l);
+    l->ours = room(l->size);
+    l->theirs = room(l->size);
+    if (tiff_page_plan(l->file, l->len, 0, &l->plan)) stop("refused by tiff_c", l->name);
+    l->theirs_open = open_by_libtiff(l->file, l->len);
+    if (!l->theirs_open) stop("refused by libtiff", l->name);
+    one_by_plan(l);
+    one_by_theirs(l);
+    if (memcmp(l->ours, l->theirs, l->size / l->chunks)) stop("other bytes than libtiff's", l->name);
+    double alone = 0, ours = 0, theirs = 0, opened = 0;
+    for (int i = 0; i < ROUNDS; i++) {
+        best(&alone, one_by_ours, l);
+        best(&ours, one_by_plan, l);
+        best(&theirs, one_by_theirs, l);
+        best(&opened, one_opened_by_theirs, l);
+    }
+    printf("\n%s: %.2f microseconds by the plan, %.2f without it; libtiff: %.2f in an open file, %.2f with its opening\n", l->name, 1e6 * ours / SOME,
+           1e6 * alone / SOME, 1e6 * theirs / SOME, 1e6 * opened / SOME);
+    close_by_libtiff(l->theirs_open);
 }
 
 static void print_reading(struct load *l) {
@@ -297,6 +369,8 @@ int main(int argc, char **argv) {
         if (strncmp(l.name, "open", 4) == 0) print_opening(&l);
         else if (strncmp(l.name, "page", 4) == 0) print_page(&l);
         else if (strncmp(l.name, "each", 4) == 0) print_chunks(&l);
+        else if (strncmp(l.name, "planned", 7) == 0) print_planned(&l);
+        else if (strncmp(l.name, "one", 3) == 0) print_one(&l);
         else print_reading(&l);
         free(l.file);
         free(l.ours);

@@ -83,19 +83,42 @@ int by_libtiff(const uint8_t *file, size_t len, uint8_t *buffer) {
     return well;
 }
 
+static int chunk(TIFF *t, uint32_t i, uint8_t *buffer) {
+    return (TIFFIsTiled(t) ? TIFFReadEncodedTile(t, i, buffer, -1) : TIFFReadEncodedStrip(t, i, buffer, -1)) >= 0;
+}
+
 int chunks_by_libtiff(const uint8_t *file, size_t len, uint8_t *buffer) {
     struct memory m = {file, len, 0};
     TIFF *t = open_it(&m);
     if (!t) return 0;
-    int tiled = TIFFIsTiled(t), well = 1;
-    uint32_t count = tiled ? TIFFNumberOfTiles(t) : TIFFNumberOfStrips(t);
-    for (uint32_t i = 0; well && i < count; i++) {
-        tmsize_t n = tiled ? TIFFReadEncodedTile(t, i, buffer, -1) : TIFFReadEncodedStrip(t, i, buffer, -1);
-        well = n >= 0;
-    }
+    int well = 1;
+    uint32_t count = TIFFIsTiled(t) ? TIFFNumberOfTiles(t) : TIFFNumberOfStrips(t);
+    for (uint32_t i = 0; well && i < count; i++) well = chunk(t, i, buffer);
     TIFFClose(t);
     return well;
 }
+
+struct opened {
+    struct memory memory;
+    TIFF *t;
+};
+
+struct opened *open_by_libtiff(const uint8_t *file, size_t len) {
+    struct opened *opened = malloc(sizeof *opened);
+    if (!opened) return NULL;
+    opened->memory = (struct memory){file, len, 0};
+    opened->t = open_it(&opened->memory);
+    if (opened->t) return opened;
+    free(opened);
+    return NULL;
+}
+
+void close_by_libtiff(struct opened *opened) {
+    TIFFClose(opened->t);
+    free(opened);
+}
+
+int chunk_by_libtiff(struct opened *opened, uint32_t i, uint8_t *buffer) { return chunk(opened->t, i, buffer); }
 
 uint32_t page_width_by_libtiff(const uint8_t *file, size_t len, uint32_t page) {
     struct memory m = {file, len, 0};

@@ -11,6 +11,14 @@ int by_libtiff(const uint8_t *file, size_t len, uint8_t *buffer);
 /* Reads each chunk of the first page into the front of BUFFER, one after another. Answers 1, or 0 where it fails. */
 int chunks_by_libtiff(const uint8_t *file, size_t len, uint8_t *buffer);
 
+/* A file that libtiff has open; NULL where it fails. */
+struct opened;
+struct opened *open_by_libtiff(const uint8_t *file, size_t len);
+void close_by_libtiff(struct opened *opened);
+
+/* Reads a chunk of the first page of an open file into the front of BUFFER. Answers 1, or 0 where it fails. */
+int chunk_by_libtiff(struct opened *opened, uint32_t chunk, uint8_t *buffer);
+
 /* The width of the first page, or 0. */
 uint32_t width_by_libtiff(const uint8_t *file, size_t len);
 
