@@ -8,10 +8,10 @@ import os
 import re
 from collections.abc import Iterable, Iterator, Sequence
 from functools import cached_property
-from types import TracebackType
 from typing import TYPE_CHECKING, Any, BinaryIO, Literal, Union, overload
 
 from . import _directory, _library
+from ._closing import Closing
 from ._library import ListedPage, Status, TiffError, UnsupportedError
 from ._mapped import Mapped, mapped
 from ._page import TiffPage
@@ -30,7 +30,7 @@ if TYPE_CHECKING:
     Key = Union[int, slice, Iterable[int]]
 
 
-class TiffFile:
+class TiffFile(Closing):
     """A TIFF file: a file at a path or an open one, mapped into memory, or the bytes of a buffer.
 
     A buffer isn't copied: keep its bytes unchanged during a call. Don't shorten a file at a path
@@ -103,17 +103,6 @@ class TiffFile:
             self._view.release()
         if self._map is not None:
             self._map.close()
-
-    def __enter__(self) -> TiffFile:
-        return self
-
-    def __exit__(
-        self,
-        kind: type[BaseException] | None,
-        fault: BaseException | None,
-        trace: TracebackType | None,
-    ) -> None:
-        self.close()
 
     def __len__(self) -> int:
         return len(self.pages)

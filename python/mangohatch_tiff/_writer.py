@@ -2,10 +2,10 @@
 from __future__ import annotations
 
 import os
-from types import TracebackType
 from typing import TYPE_CHECKING, Any
 
 from . import _directory, _library
+from ._closing import Closing
 from ._imwrite import OTHERS, holds_some, judge_others, settings_of, write_all
 from ._library import Status, UnsupportedError
 from ._mapped import mapped
@@ -25,7 +25,7 @@ WRITTEN = {name: value for name, value in OTHERS.items() if name not in OPENED}
 WRITTEN |= {"subifds": (None, 0), "rowsperslice": (None,)}
 
 
-class TiffWriter:
+class TiffWriter(Closing):
     """A file to which pages are written, one array after another.
 
     `file` is a path, or an open file, which is read and written from its current position on. With
@@ -156,17 +156,6 @@ class TiffWriter:
             self._file.seek(0, os.SEEK_END)
         finally:
             self._release()
-
-    def __enter__(self) -> TiffWriter:
-        return self
-
-    def __exit__(
-        self,
-        kind: type[BaseException] | None,
-        fault: BaseException | None,
-        trace: TracebackType | None,
-    ) -> None:
-        self.close()
 
 
 class Held:

@@ -5,11 +5,11 @@ import json
 import math
 from collections.abc import Iterator, MutableMapping
 from itertools import product
-from types import TracebackType
 from typing import TYPE_CHECKING, Any
 
 import numpy
 
+from ._closing import Closing
 from ._library import UnsupportedError
 from ._mapped import Mapped
 from ._series import Stack
@@ -89,7 +89,7 @@ class Level:
         return whole.tobytes()
 
 
-class ZarrTiffStore(MutableMapping[str, bytes]):
+class ZarrTiffStore(Closing, MutableMapping[str, bytes]):
     """The pages of an array as a store of zarr, version 2, which is read and not written.
 
     Its keys are `.zarray`, `.zattrs` and one of each chunk, as `0.0`; with `multiscales`, and for
@@ -230,17 +230,6 @@ class ZarrTiffStore(MutableMapping[str, bytes]):
         """Closes the file if the store opened it; the store of a page leaves the page's file."""
         if self._owned is not None:
             self._owned.close()
-
-    def __enter__(self) -> ZarrTiffStore:
-        return self
-
-    def __exit__(
-        self,
-        kind: type[BaseException] | None,
-        fault: BaseException | None,
-        trace: TracebackType | None,
-    ) -> None:
-        self.close()
 
 
 def encoded(told: dict[str, Any]) -> dict[str, bytes]:
