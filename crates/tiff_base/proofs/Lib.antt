@@ -17,3 +17,4 @@ mod Lasts
 pub mod Places
 pub mod Search
 pub mod MemoryFaults
+pub mod Seen

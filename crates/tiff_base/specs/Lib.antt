@@ -17,3 +17,4 @@ pub mod Named
 pub mod Sparing
 pub mod Place
 pub mod Buffer
+pub mod Windows

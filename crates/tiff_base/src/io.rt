@@ -161,7 +161,7 @@ pub trait Sink: Drop {
 
 // Reads the bytes of a slice from an offset on, as many as there are and as fit in the buffer.
 // Returns their number.
-fn read_of(items: &[u8], at: u64, buf: &mut [u8]) -> usize
+pub(crate) fn read_of(items: &[u8], at: u64, buf: &mut [u8]) -> usize
     ensures { Reads items.now at buf.old result buf.new }
 {
     if at >= items.len() as u64 {

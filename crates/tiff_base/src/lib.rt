@@ -14,3 +14,4 @@ mod place;
 pub mod read;
 pub mod tags;
 mod turn;
+pub mod windows;
