@@ -1,5 +1,5 @@
 -- A chunk by its own numbers.
-use Rattle.std.proofs.Common.{◌≡◌, ℕ, ◌+◌, ◌-◌, ◌*◌, ◌/◌, ◌%◌, ◌^◌, ◌<◌, ◌≤◌, Bool, true, false, List, length, Ok, Err, Some, None, refl, ap, sym, ◌∙◌, inl, inr, ⊎_elim, subst, arith}
+use Rattle.std.proofs.Common.{◌≡◌, ℕ, ◌+◌, ◌-◌, ◌*◌, ◌/◌, ◌%◌, ◌^◌, ◌<◌, ◌≤◌, List, length, Ok, Err, Some, refl, ap, sym, ◌∙◌, ⊎_elim, subst, arith}
 use Rattle.std.specs.Prelude.{Result, slice_index, unwrap_or, if◌then◌else◌, ◌==◌, nat_lt, nat_le, ◌↔◌}
 use Rattle.std.proofs.Math.Path.{transport}
 use Rattle.std.proofs.lemmas.Bool.{cases_lt, le-leb}
@@ -23,19 +23,18 @@ use Rattle.tiff_base.specs.SourceAndSink.{AreReadable, SourceRecord, bytes_at}
 use Rattle.tiff_ifd.specs.declared.limits.Limits.{Limits}
 use Rattle.tiff_page.specs.Buffers.{image_chunk_buffer_layout, planes_layout, rounded_size}
 use Rattle.tiff_page.specs.BufferPositions.{chunk_byte, unit_byte}
-use Rattle.tiff_page.specs.ChunkAlone.{with_lists, TellOfChunk, ChunkAlone}
+use Rattle.tiff_page.specs.ChunkAlone.{with_lists, ChunkAlone}
 use Rattle.tiff_page.specs.Counts.{all_chunks}
 use Rattle.tiff_page.specs.EarlyFaults.{chunk_bytes_early}
 use Rattle.tiff_page.specs.Laws.{HasSides}
-use Rattle.tiff_page.specs.Layout.{LayoutRecord, color_of, color_from, rgb, cmyk, ycbcr, lab, no_color, layout_of, row_bits, row_bytes, samples_in_chunk, wide, whole_chunks, whole_chroma, planes, first_is_alpha, jpeg_alone, sample_type_from, sample_type_of, size_of}
+use Rattle.tiff_page.specs.Layout.{LayoutRecord, color_of, color_from, rgb, cmyk, ycbcr, lab, no_color, layout_of, row_bits, row_bytes, samples_in_chunk, wide, whole_chunks, whole_chroma, planes, first_is_alpha, sample_type_from, sample_type_of, size_of}
 use Rattle.tiff_page.specs.Methods.{data_by_method, is_packed, method_fault}
 use Rattle.tiff_page.specs.OutputRow.{StoresAllShown, handed_byte}
 use Rattle.tiff_page.specs.Page.{PageRecord}
 use Rattle.tiff_page.specs.PixelCalls.{part_fault, chunk_part, bytes_with_region, fill_buffer, read_chunk_bytes, room_fault}
-use Rattle.tiff_page.specs.PixelFault.{fail_if, depth_fault, predictor_fault, fault_of_predictor, inversion_fault, white_from, form_fault, chunk_fault, each_below}
-use Rattle.tiff_page.specs.Pixels.{byte_at, chunk_data, chunk_region, in_row, is_short, needed_bytes, needed_of_row, number_by, number_of_row, number_size, region_byte, shown_number, stored_row_bytes}
-use Rattle.tiff_page.specs.Reach.{ChunkReadable, ChunksReadable, PartReadable, LaidReadable}
-use Rattle.tiff_page.specs.ReadablePage.{IsRead}
+use Rattle.tiff_page.specs.PixelFault.{fail_if, depth_fault, predictor_fault, fault_of_predictor, inversion_fault, white_from, form_fault, chunk_fault}
+use Rattle.tiff_page.specs.Pixels.{byte_at, chunk_data, chunk_region, in_row, is_short, needed_bytes, needed_of_row, number_by, number_size, region_byte, shown_number, stored_row_bytes}
+use Rattle.tiff_page.specs.Reach.{ChunkReadable, ChunksReadable, PartReadable}
 use Rattle.tiff_page.specs.Rect.{rect, chunks_of_plane}
 use Rattle.tiff_page.proofs.ChunkRows.{row_handed}
 use Rattle.tiff_page.proofs.Covering.{is_placed, unit_shown, unit_plane_gap, unit_row_gap}

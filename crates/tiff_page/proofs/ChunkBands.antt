@@ -13,7 +13,7 @@ use Rattle.tiff_base.specs.Answers.{IsCause}
 use Rattle.tiff_base.proofs.Causes.{cause_along}
 use Rattle.tiff_ifd.specs.declared.limits.Limits.{Limits}
 use Rattle.tiff_page.specs.Page.{PageRecord}
-use Rattle.tiff_page.specs.Counts.{parts, all_chunks, planes_of}
+use Rattle.tiff_page.specs.Counts.{parts, all_chunks}
 use Rattle.tiff_page.specs.Rect.{rect, across, chunks_of_plane}
 use Rattle.tiff_page.specs.Layout.{LayoutRecord, layout_of, row_bytes}
 use Rattle.tiff_page.specs.Laws.{HasSides, HasWholeRows}

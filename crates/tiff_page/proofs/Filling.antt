@@ -14,7 +14,7 @@ use Rattle.tiff_base.proofs.Causes.{cause_along}
 use Rattle.tiff_ifd.specs.declared.limits.Limits.{Limits}
 use Rattle.tiff_page.specs.Layout.{LayoutRecord, layout_of, color_of, row_bits, row_bytes}
 use Rattle.tiff_page.specs.PixelFault.{fail_if, form_fault, chunk_fault, each_below}
-use Rattle.tiff_page.specs.Pixels.{is_short, image_region, chunk_region}
+use Rattle.tiff_page.specs.Pixels.{is_short, image_region}
 use Rattle.tiff_page.specs.BufferPositions.{Writes, IsIn, in_rect, chunk_byte, WritesChunk, HasRoom, WritesPlanes, top_of, left_of, IsBefore, image_byte, IsInUnit, unit_byte}
 use Rattle.tiff_page.specs.ReadablePage.{IsRead}
 use Rattle.tiff_page.proofs.Planes.{layout_gives, some_bytes, whole_rows, depth_passed, form_read}

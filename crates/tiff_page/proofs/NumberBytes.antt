@@ -9,10 +9,10 @@ use Rattle.std.proofs.lemmas.List.{append-nil, drop_all, length-drop, length-tak
 use Rattle.std.proofs.lemmas.List.FromFn.{length-map-range_with_len, get_or-map-range_with_len, map-range_with_len_more}
 use Rattle.std.proofs.lemmas.Nat.{div-add-mod', div_below, mod_below, le-div, div-mul-add, mod-mul-add, row_fits}
 use Rattle.std.proofs.Math.ListN.{set}
-use Rattle.std.proofs.Math.Nat.{add-mul, div-one, div-div-eq-div-mul, pow-suc, mod-eq_of_lt, mul-le-mul_right, mul_comm, mul-div_cancel, mul-mod_left, zero-div}
-use Rattle.std.proofs.Math.Seq.{take-add, take-append_seam}
+use Rattle.std.proofs.Math.Nat.{add-mul, mul-sub, div-one, div-div-eq-div-mul, pow-suc, mod-eq_of_lt, mul-le-mul_right, mul_comm, mul-div_cancel, mul-mod_left, zero-div}
+use Rattle.std.proofs.Math.Seq.{take-add}
 use Rattle.tiff_base.specs.declared.tags.ByteOrder.{ByteOrder}
-use Rattle.tiff_base.specs.declared.tags.ByteOrder.TheVariants.{LittleEndian, BigEndian}
+use Rattle.tiff_base.specs.declared.tags.ByteOrder.TheVariants.{LittleEndian}
 use Rattle.tiff_base.specs.Number.{number}
 use Rattle.tiff_base.specs.SourceAndSink.{AreOctets}
 use Rattle.tiff_page.specs.NumberBytes.{byte_of, all_bytes, bytes_in, IsPut, whole_enough}
@@ -354,18 +354,7 @@ bytes_behind : (size : ℕ) (ns : List ℕ) (n : ℕ) → IsSize size → bytes_
 bytes_behind size ns n z = bytes_append size ns (replicate n 0) (some_size size z) ∙ ap (λ (xs : List ℕ). bytes_in size ns ++ xs) (zeros_in size n (replicate n 0) z refl)
 
 less-times : (m n size : ℕ) → (m - n) * size ≡ m * size - n * size
-less-times m n size =
-    ⊎_elim
-    (λ (l : m < n).
-    let a : m - n ≡ 0 = omega (arith, l) in
-    let b : m * size ≤ n * size = mul-le-mul_right size (omega (arith, l)) in
-    let c : m * size - n * size ≡ 0 = omega (arith, b) in
-    let z : 0 * size ≡ 0 = omega arith in
-    ap (λ (k : ℕ). k * size) a ∙ z ∙ sym c)
-    (λ (l : n ≤ m).
-    let a : m ≡ n + (m - n) = omega (arith, l) in
-    omega (arith, (ap (λ (k : ℕ). k * size) a ∙ add-mul n (m - n) size)))
-    (cases_lt m n)
+less-times m n size = mul_comm (m - n) size ∙ mul-sub size m n ∙ (λ t. mul_comm size m t - mul_comm size n t)
 
 -- a list that grew by zeros, seen as bytes
 pub zero_bytes_behind : (size : ℕ) (old new : List ℕ) (count : ℕ) → IsSize size → new ≡ old ++ replicate (count - length old) 0
@@ -442,18 +431,10 @@ piece_behind at more row piece old mid new is e f =
 -- a row that follows a list's bytes is written at their end
 row_behind : (at : ℕ) (row old new : List ℕ) → length old ≡ at → new ≡ old ++ row → IsPut at row (old ++ replicate (length row) 0) new
 row_behind at row old new l e =
-    let was : length (old ++ replicate (length row) 0) ≡ at + length row = length-append old (replicate (length row) 0) ∙ (λ t. l t + length-replicate {A = ℕ} (length row) 0 t) in (
-      (ap (λ (xs : List ℕ). length xs) e ∙ length-append old row ∙ ap (λ (m : ℕ). m + length row) l) ∙ sym was,
-      λ i h.
-          ⊎_elim
-          (λ (a : i < at).
-          inr (
-            λ p. absurd (omega (arith, p.0, a)),
-            ap (λ (xs : List ℕ). get_or xs i 0) e ∙ get_or_append_left old row 0 i (omega (arith, a, l)) ∙ sym (get_or_append_left old (replicate (length row) 0) 0 i (omega (arith, a, l))),
-          ))
-          (λ (a : at ≤ i). inl ((a, omega (arith, h, was)), ap (λ (xs : List ℕ). get_or xs i 0) e ∙ get_or-append_right old row at i 0 l a))
-          (cases_lt i at),
-    )
+    let zeros : List ℕ = replicate (length row) 0 in
+    let all : length (old ++ zeros) ≡ at + length row = length-append old zeros ∙ (λ t. l t + length-replicate {A = ℕ} (length row) 0 t) in
+    copied (old ++ zeros) row new at (omega (arith, all))
+    (e ∙ (λ t. sym (take_at old zeros at l) t ++ (sym (append-nil row) ∙ ap (λ (xs : List ℕ). row ++ xs) (sym (drop_all (at + length row) (old ++ zeros) (omega (arith, all))))) t))
 
 whole_sum : (size count len : ℕ) → IsSize size → len % size ≡ 0 → div_ceil (count * size + len) size * size ≡ count * size + len
 whole_sum size count len z =
@@ -502,9 +483,8 @@ module _ {T : Type 0} (bits : T → ℕ) (size at count : ℕ) (row : List ℕ) 
   pub row_put_grown : (put : List T) (n : ℕ) → length put ≡ n → IsPut at row (bytes_in size (map bits now)) (bytes_in size (map bits put))
       → IsPut at row (filled_to (div_ceil (at + length row) size * size) (bytes_in size (map bits old))) (bytes_in size (map bits (take n (put ++ drop (length put) grown))))
   row_put_grown put n all w =
-      let same : put ≡ take n (put ++ drop (length put) grown) = sym (ap (λ (m : ℕ). take m (put ++ drop (length put) grown)) (sym all) ∙ take-append_seam put (drop (length put) grown)) in
       subst (λ (xs : List ℕ). IsPut at row xs (bytes_in size (map bits (take n (put ++ drop (length put) grown))))) grown_is
-      (subst (λ (xs : List T). IsPut at row (bytes_in size (map bits now)) (bytes_in size (map bits xs))) same w)
+      (subst (λ (xs : List T). IsPut at row (bytes_in size (map bits now)) (bytes_in size (map bits xs))) (all_written put grown n all) w)
 
 -- ---- lists of bytes
 
@@ -528,27 +508,9 @@ plain_put at row old new h =
     (subst (λ (xs : List ℕ). IsPut at row (filled_to (at + length row) xs) (bytes_in 1 (map (λ (x : ℕ). x) new))) (plain_bytes old)
     (subst (λ (n : ℕ). IsPut at row (filled_to n (bytes_in 1 (map (λ (x : ℕ). x) old))) (bytes_in 1 (map (λ (x : ℕ). x) new))) all h))
 
--- ---- numbers of one byte
-
--- one byte is its number
-pub number_one : (order : ByteOrder) (b : ℕ) → number order w8 (b ∷ []) ≡ b
-unfolding number
-number_one LittleEndian b = refl
-number_one BigEndian b = refl
-
 -- bytes are their own numbers
 pub numbers_are : (bytes : List ℕ) → numbers_in 1 bytes ≡ bytes
-unfolding numbers_in
-numbers_are bytes =
-    let count : div_ceil (length bytes) 1 ≡ length bytes = omega arith in
-    ext_get_or 0 _ bytes
-    (length-map-range_with_len (λ n. number LittleEndian w8 (slice_index bytes (n * 1 + 0) ∷ [])) 0 (div_ceil (length bytes) 1) ∙ count)
-    (λ i h.
-    let l : i < div_ceil (length bytes) 1 = subst (λ (n : ℕ). i < n) (length-map-range_with_len (λ n. number LittleEndian w8 (slice_index bytes (n * 1 + 0) ∷ [])) 0 (div_ceil (length bytes) 1)) h in
-    let at : i * 1 + 0 ≡ i = omega arith in
-    get_or-map-range_with_len (λ n. number LittleEndian w8 (slice_index bytes (n * 1 + 0) ∷ [])) 0 (div_ceil (length bytes) 1) i i 0 l (omega arith)
-    ∙ number_one LittleEndian (slice_index bytes (i * 1 + 0))
-    ∙ ap (slice_index bytes) at)
+numbers_are bytes = ap (numbers_in 1) (sym (plain_bytes bytes)) ∙ numbers_again 1 (map (λ (x : ℕ). x) bytes) (inl refl) ∙ map-id bytes
 
 -- ---- a row that was read is written into a list
 
@@ -583,7 +545,7 @@ put_from_room order p color left rest at len row old new e takes put = record { 
 
 -- a scratch buffer whose bytes were all written
 pub all_of_room : (row out bytes : List ℕ) (n : ℕ) → length out ≡ n → row ≡ take n (out ++ drop (length out) bytes) → row ≡ out
-all_of_room row out bytes n e is = is ∙ ap (λ (m : ℕ). take m (out ++ drop (length out) bytes)) (sym e) ∙ take-append_seam out (drop (length out) bytes)
+all_of_room row out bytes n e is = is ∙ sym (all_written out bytes n e)
 
 -- a row that is written from a scratch buffer into a list of bytes, which grows for it
 pub put_into_bytes : (order : ByteOrder) (p : PageRecord) (color : ColorType) (left rest : List ℕ) (at len : ℕ) (row out old new : List ℕ)

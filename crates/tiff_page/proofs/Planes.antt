@@ -5,7 +5,7 @@ use Rattle.std.proofs.lemmas.Bool.{cases_Bool, cases_lt, eqb-true, ltb-false, le
 use Rattle.std.proofs.lemmas.Nat.{div-add-mod', le-div}
 use Rattle.std.proofs.Math.Nat.{one-le-mul, mul_comm, mul-le-mul_right, div-mul-le_self}
 use Rattle.tiff_base.specs.declared.color.ColorType.{ColorType}
-use Rattle.tiff_base.specs.declared.color.ColorType.TheVariants.{Gray, RGB, RGBA, CMYK, CMYKA, YCbCr, Lab, Multiband, Palette, GrayA}
+use Rattle.tiff_base.specs.declared.color.ColorType.TheVariants.{Gray, RGB, RGBA, CMYK, CMYKA, YCbCr, Lab, Multiband}
 use Rattle.tiff_base.specs.declared.error.TiffError.{TiffError}
 use Rattle.tiff_base.specs.declared.error.TiffError.TheVariants.{UnsupportedError, LimitsExceeded, FormatError}
 use Rattle.tiff_base.specs.declared.error.TiffUnsupportedError.TheVariants.{MisalignedTileBoundaries, UnsupportedColorType, HorizontalPredictor, FloatingPointPredictor}
@@ -16,7 +16,7 @@ use Rattle.tiff_base.specs.declared.tags.PhotometricInterpretation.TheVariants a
 use Rattle.tiff_base.specs.declared.tags.PlanarConfiguration.{PlanarConfiguration}
 use Rattle.tiff_base.specs.declared.tags.PlanarConfiguration.TheVariants.{Chunky, Planar}
 use Rattle.tiff_base.specs.declared.tags.SampleFormat.{SampleFormat}
-use Rattle.tiff_base.specs.declared.tags.SampleFormat.TheVariants.{Uint, Int, IEEEFP, Void, Unknown}
+use Rattle.tiff_base.specs.declared.tags.SampleFormat.TheVariants.{Uint}
 use Rattle.tiff_base.specs.Answers.{◌>>=◌}
 use Rattle.tiff_base.specs.Color.{num_samples}
 use Rattle.tiff_ifd.specs.declared.limits.Limits.{Limits}

@@ -32,7 +32,7 @@ use Rattle.tiff_page.specs.Rect.{rect, chunks_of_plane}
 use Rattle.tiff_page.specs.Row.{IsSize}
 use Rattle.tiff_page.specs.Samples.{color_in, first_in, part_of, IsLaid, room_of}
 use Rattle.tiff_page.proofs.Rects.{zero_in}
-use Rattle.tiff_page.proofs.NumberBytes.{numbers_again, zeros_in, numbers_are}
+use Rattle.tiff_page.proofs.NumberBytes.{numbers_again, numbers_are}
 use Rattle.tiff_page.proofs.PositionLaws.{chunks_within, cases_fault, plane_some}
 use Rattle.tiff_page.proofs.Planes.{layout_gives, colored, some_planes}
 use Rattle.tiff_page.proofs.Rows.{some_size, each_same, by_size}
@@ -212,37 +212,26 @@ module _ (wanting failed : Type 0) (file : List ℕ) (order : ByteOrder) (p : Pa
       cause_along e (λ n. absurd n) (λ n. absurd n)
       (λ f. rw (laid, below, room) (form_early file order p limits l.color (chunk_part p unit (planes_used p l (length buf)) l.row_bytes) buf e (omega arith) some f)) c
 
--- ---- the samples of an image and of a chunk
-
-pub of_image : (wanting failed : Type 0) (file : List ℕ) (order : ByteOrder) (p : PageRecord) (limits : Limits) (color : ColorType) (type : DecodingSampleType) (planes stride len : ℕ) (e : TiffError)
-    → 0 < p.width → 0 < p.height → 0 < p.chunk_width → 0 < p.chunk_height → 0 < planes → sample_type_of p ≡ Ok type
-    → IsCause wanting failed e (early_fault file p limits color type 0 len ≡ Err e)
-    → IsCause (Unit {0}) failed e (samples file order p limits color (image_part p planes stride) len ≡ Err e)
-of_image wanting failed file order p limits color type planes stride len e w h cw ch some typed c =
-    cause_along e (λ _. tt) (λ f. f)
-    (λ t. from_early file order p limits color (image_part p planes stride) type len e (plane_some p.width p.height p.chunk_width p.chunk_height w h cw ch) some typed t) c
-
-pub of_chunk : (wanting failed : Type 0) (file : List ℕ) (order : ByteOrder) (p : PageRecord) (limits : Limits) (color : ColorType) (type : DecodingSampleType) (i planes stride len : ℕ) (e : TiffError)
-    → 0 < planes → sample_type_of p ≡ Ok type → IsCause wanting failed e (early_fault file p limits color type i len ≡ Err e)
-    → IsCause (Unit {0}) failed e (samples file order p limits color (chunk_part p i planes stride) len ≡ Err e)
-of_chunk wanting failed file order p limits color type i planes stride len e some typed c =
-    cause_along e (λ _. tt) (λ f. f)
-    (λ t. from_early file order p limits color (chunk_part p i planes stride) type len e (omega arith) some typed t) c
-
 -- ---- early errors
+
+-- a part has chunks, planes, and the first chunk of its request
+part_some : (p : PageRecord) (request : ReadRequest) → HasSides p → IsLaid p request
+    → (0 < (part_of p request).count) × ((0 < (part_of p request).planes) × ((part_of p request).first ≡ first_in request))
+part_some p (Image layout planes) sides laid =
+    (plane_some p.width p.height p.chunk_width p.chunk_height sides.wide sides.high sides.chunk_wide sides.chunk_high, (laid.some, refl))
+part_some p (Chunks color i planes stride) sides laid = (omega arith, (laid.some, refl))
 
 pub portion_early : (wanting failed : Type 0) (file : List ℕ) (order : ByteOrder) (p : PageRecord) (limits : Limits) (request : ReadRequest) (color : ColorType) (type : DecodingSampleType) (first len : ℕ) (e : TiffError)
     → HasSides p → IsLaid p request → sample_type_of p ≡ Ok type → color ≡ color_in request → first ≡ first_in request
     → IsCause wanting failed e (early_fault file p limits color type first len ≡ Err e)
     → IsCause (Unit {0}) failed e (samples file order p limits (color_in request) (part_of p request) len ≡ Err e)
-portion_early wanting failed file order p limits (Image layout planes) color type first len e sides laid typed c f h =
-    of_image wanting failed file order p limits layout.color type planes layout.row_bytes len e sides.wide sides.high sides.chunk_wide sides.chunk_high laid.some typed
-    (subst (λ (n : ℕ). IsCause wanting failed e (early_fault file p limits layout.color type n len ≡ Err e)) f
-    (subst (λ (c : ColorType). IsCause wanting failed e (early_fault file p limits c type first len ≡ Err e)) c h))
-portion_early wanting failed file order p limits (Chunks shade i planes stride) color type first len e sides laid typed c f h =
-    of_chunk wanting failed file order p limits shade type i planes stride len e laid.some typed
-    (subst (λ (n : ℕ). IsCause wanting failed e (early_fault file p limits shade type n len ≡ Err e)) f
-    (subst (λ (c : ColorType). IsCause wanting failed e (early_fault file p limits c type first len ≡ Err e)) c h))
+portion_early wanting failed file order p limits request color type first len e sides laid typed c f h =
+    let some = part_some p request sides laid in
+    cause_along e (λ _. tt) (λ d. d)
+    (λ t.
+    from_early file order p limits (color_in request) (part_of p request) type len e some.0 some.1.0 typed
+    (subst (λ (n : ℕ). early_fault file p limits (color_in request) type n len ≡ Err e) (f ∙ sym some.1.1)
+    (subst (λ (c : ColorType). early_fault file p limits c type first len ≡ Err e) c t))) h
 
 -- without an early error, there is no error of the limit
 pub within_limit : (file : List ℕ) (p : PageRecord) (limits : Limits) (color : ColorType) (type : DecodingSampleType) (first len : ℕ)
@@ -351,29 +340,19 @@ module _ (file : List ℕ) (order : ByteOrder) (p : PageRecord) (limits : Limits
       (cases_fault (part_fault file order p limits (color_in request) part))
 
   -- the samples, if bytes were filled into as many zeros as whole numbers take
-  pub numbers_given : (color : ColorType) (type : DecodingSampleType) (size first len : ℕ) (before after : List ℕ) → IsSize size → size_of type ≡ size → sample_type_of p ≡ Ok type
-      → early_fault file p limits color type first len ≡ Ok tt → room_of p request ≤ len → before ≡ replicate (div_ceil len size) 0
-      → fill_buffer file order p limits (color_in request) part (bytes_in size before) ≡ Ok (bytes_in size after)
+  pub zeros_filled : (color : ColorType) (type : DecodingSampleType) (size first len : ℕ) (before after : List ℕ) → IsSize size → size_of type ≡ size → sample_type_of p ≡ Ok type
+      → early_fault file p limits color type first len ≡ Ok tt → room_of p request ≤ len → before ≡ replicate (div_ceil len size * size) 0
+      → fill_buffer file order p limits (color_in request) part before ≡ Ok (bytes_in size after)
       → samples file order p limits (color_in request) part len ≡ Ok (record { sample_type = type; numbers = after })
   unfolding samples fill_buffer
-  numbers_given color type size first len before after z sized typed early room zeros h =
-      let f = filled_bytes (bytes_in size before) (bytes_in size after) h in
-      let new : bytes_in size after ≡ tabulate (div_ceil len size * size) in_place =
-      f.1 ∙ (ap (λ (xs : List ℕ). bytes_with_region file order p (color_in request) part.region part.stride part.planes xs) (zeros_in size (div_ceil len size) before z zeros) ∙ placed_here (div_ceil len size * size)) in
+  zeros_filled color type size first len before after z sized typed early room zeros h =
+      let more : ℕ = div_ceil len size * size in
+      let f = filled_bytes (replicate more 0) (bytes_in size after) (rw zeros at h) in
       let numbers : numbers_in size (bytes_with_region file order p (color_in request) part.region part.stride part.planes (replicate len 0)) ≡ after =
-      ap (numbers_in size) (placed_here len) ∙ (sym (filled_up size in_place len z (λ i l. none_behind len i room l)) ∙ (sym (ap (numbers_in size) new) ∙ numbers_again size after z)) in
+      ap (numbers_in size) (placed_here len) ∙ (sym (filled_up size in_place len z (λ i l. none_behind len i room l))
+      ∙ (sym (ap (numbers_in size) (f.1 ∙ placed_here more)) ∙ numbers_again size after z)) in
       rw (typed, within_limit file p limits color type first len early, f.0)
       (ap Ok (λ i. record { sample_type = type; numbers = ((λ t. numbers_in (sized t) (bytes_with_region file order p (color_in request) part.region part.stride part.planes (replicate len 0))) ∙ numbers) i }))
-
-  -- the samples, from the bytes of these zeros
-  pub zeros_filled : (color : ColorType) (type : DecodingSampleType) (size first len : ℕ) (after : List ℕ) → IsSize size → size_of type ≡ size → sample_type_of p ≡ Ok type
-      → early_fault file p limits color type first len ≡ Ok tt → room_of p request ≤ len
-      → fill_buffer file order p limits (color_in request) part (replicate (div_ceil len size * size) 0) ≡ Ok (bytes_in size after)
-      → samples file order p limits (color_in request) part len ≡ Ok (record { sample_type = type; numbers = after })
-  zeros_filled color type size first len after z sized typed early room h =
-      let zeros : List ℕ = replicate (div_ceil len size) 0 in
-      numbers_given color type size first len zeros after z sized typed early room refl
-      (ap (fill_buffer file order p limits (color_in request) part) (zeros_in size (div_ceil len size) zeros z refl) ∙ h)
 
   -- the bytes, if these are the numbers
   pub bytes_given : (color : ColorType) (type : DecodingSampleType) (first len : ℕ) (before after : List ℕ) → size_of type ≡ 1 → sample_type_of p ≡ Ok type
@@ -637,12 +616,10 @@ image_asked p color planes stride chunk e s t same l asked r =
 -- the first chunk is in the part
 pub first_readable : (file : List ℕ) (order : ByteOrder) (p : PageRecord) (request : ReadRequest) (s : SourceRecord) → HasSides p → IsLaid p request
     → PartReadable s p (color_in request) (part_of p request) → ChunkReadable s p (color_in request) (first_in request)
-first_readable file order p (Image layout planes) s sides laid r =
-    let x : 0 * chunks_of_plane p + (0 + 0) ≡ 0 = omega arith in
-    subst (λ k. ChunkReadable s p layout.color k) x (r.chunk 0 laid.some 0 (plane_some p.width p.height p.chunk_width p.chunk_height sides.wide sides.high sides.chunk_wide sides.chunk_high))
-first_readable file order p (Chunks color i planes stride) s sides laid r =
-    let x : 0 * chunks_of_plane p + (i + 0) ≡ i = omega arith in
-    subst (λ k. ChunkReadable s p color k) x (r.chunk 0 laid.some 0 (omega arith))
+first_readable file order p request s sides laid r =
+    let some = part_some p request sides laid in
+    let x : 0 * chunks_of_plane p + ((part_of p request).first + 0) ≡ first_in request = omega (arith, some.1.1) in
+    subst (λ k. ChunkReadable s p (color_in request) k) x (r.chunk 0 some.1.0 0 some.0)
 
 -- a portion is read from a source with the same bytes
 pub portion_filled : (order : ByteOrder) (p : PageRecord) (request : ReadRequest) (e : TiffError) (s t : SourceRecord) → t ≡ s
@@ -658,11 +635,6 @@ pub laid_asked : {X : Type 0} (p : PageRecord) (laid : Result LayoutRecord TiffE
     → laid ≡ Ok l → here ≡ shape l → AsksOnly (PartReadable s p l.color here) r → AsksOnly (LaidReadable s p laid shape) r
 laid_asked p laid shape l here s r given same a =
     asks_more (PartReadable s p l.color here) (LaidReadable s p laid shape) r (λ q. subst (λ (x : Part). PartReadable s p l.color x) (sym same) (q.part_readable l given)) a
-
--- the part that the layout defines, with an error that is passed on
-pub laid_error : (p : PageRecord) (laid : Result LayoutRecord TiffError) (shape : LayoutRecord → Part) (l : LayoutRecord) (here : Part) (s : SourceRecord) (e : TiffError)
-    → laid ≡ Ok l → here ≡ shape l → (PartReadable s p l.color here → IsNotDevice e) → LaidReadable s p laid shape → IsNotDevice e
-laid_error p laid shape l here s e given same a q = a (subst (λ (x : Part). PartReadable s p l.color x) (sym same) (q.part_readable l given))
 
 -- the bytes of a chunk don't depend on the distance of its rows
 pub strided_asked : {X : Type 0} (p : PageRecord) (laid : Result LayoutRecord TiffError) (i stride : ℕ) (l : LayoutRecord) (s : SourceRecord) (r : Result X TiffError)

@@ -1,6 +1,6 @@
 //! Layouts of buffers for an image, a chunk and a coding unit.
 
-ghost use Rattle.std.specs.Prelude.{◌≡◌, ◌<◌, ◌*◌, ◌^◌, IfOk, IfSome, Ok};
+ghost use Rattle.std.specs.Prelude.{◌≡◌, ◌<◌, ◌*◌, ◌^◌, IfOk, IfSome};
 ghost use Rattle.tiff_base.specs.Answers.{AnswersWithoutSource, Gives};
 ghost use Rattle.tiff_page.specs.Buffers as spec;
 ghost use Rattle.tiff_base.specs.Sparing.{IsListFault};
@@ -10,37 +10,13 @@ ghost use Rattle.tiff_page.specs.Rect as rects;
 ghost use Rattle.tiff_page.specs.PageView as view;
 
 use crate::layout::{
-    BufferLayoutPreference, PlaneLayout, TiffCodingUnit, checked_byte_count, chunk_data_dimensions,
-    chunks_of_plane, known_sample_type, layout_of, planes, sample_type_of, size_of,
+    BufferLayoutPreference, PlaneLayout, TiffCodingUnit, chunk_data_dimensions, chunks_of_plane,
+    known_sample_type, layout_of, planes, planes_layout, sample_type_of, size_of,
 };
 use crate::page::Page;
 use std::alloc::Global;
 use tiff_base::error::{TiffError, TiffResult, UsageError};
 use tiff_base::tags::PlanarConfiguration;
-
-/// Returns the layout of a part of a page, `width` by `height` pixels, all of whose planes have
-/// together fewer than 2^64 bytes. Returns the layout's own errors first, then `LimitsExceeded` if
-/// all planes have 2^64 bytes or more.
-#[tactic(auto, unfolding(crate::specs::Buffers::planes_layout))]
-pub fn planes_layout(page: &Page, alloc: Global, width: u32, height: u32) -> TiffResult<PlaneLayout>
-    ensures answer { AnswersWithoutSource (λ l. record {
-      color = l.color;
-      row_bytes = l.row_bytes;
-      plane_stride = l.plane_stride;
-    }) result (spec.planes_layout (view.page page.now) width height) }
-    ensures rows { 0 < width → IfOk result (λ l. 0 < l.row_bytes) }
-    ensures plane { 0 < width → 0 < height → IfOk result (λ l. 0 < l.plane_stride) }
-    ensures fits { IfOk result (λ l. l.plane_stride * layouts.planes page.now.planar l.color < 2 ^ 64) }
-    ensures laid { IfOk result (λ l. layouts.layout_of (view.page page.now) width height ≡ Ok
-        (record { color = l.color; row_bytes = l.row_bytes; plane_stride = l.plane_stride })) }
-    ensures some { IfOk result (λ l. 0 < layouts.planes page.now.planar l.color) }
-    ensures memory { WantsWhere (IsListFault (layouts.color_of (view.page page.now))) result }
-{
-    let layout = layout_of(page, alloc, width, height)?;
-    let planes = usize::from(planes(page, layout.color));
-    checked_byte_count(layout.plane_stride, planes)?;
-    Ok(layout)
-}
 
 // Returns the layout of a buffer for all planes of a plane layout.
 pub(crate) fn all_planes(page: &Page, layout: PlaneLayout) -> BufferLayoutPreference

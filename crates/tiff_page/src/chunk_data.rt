@@ -1,7 +1,7 @@
-//! The methods of compression that are read, and how the data of a chunk are read from its start.
+//! How the data of a chunk are read from its start.
 
 ghost use Rattle.std.specs.Prelude.{◌≡◌, ◌+◌, ◌<◌, ◌≤◌, ℕ, List, if◌then◌else◌, length, drop, [], Ok, IfOk, IfErr, OnOk, OnErr};
-ghost use Rattle.tiff_base.specs.Answers.{AsksOnly, Gives, IsCause, IsKept};
+ghost use Rattle.tiff_base.specs.Answers.{AsksOnly, IsCause, IsKept};
 ghost use Rattle.tiff_base.specs.SourceAndSink.{AreReadable, SourceRecord};
 ghost use Rattle.tiff_ifd.specs.Unpacking.{PackedReadable, IsLastPart, left_at};
 ghost use Rattle.tiff_page.specs.Methods.{data_by_method, is_packed, method_fault};
@@ -10,28 +10,11 @@ ghost use Rattle.tiff_page.specs.Reach.{StoredReadable, Moves};
 ghost use Rattle.tiff_base.specs.declared.tags.ByteOrder.{ByteOrder};
 ghost use Rattle.tiff_page.specs.Page.{PageRecord};
 
-use tiff_base::error::{TiffError, TiffResult, TiffUnsupportedError};
+use tiff_base::error::{TiffError, TiffResult};
 use tiff_base::io::{IoKind, Source};
 use tiff_base::read::read_exact_at;
 use tiff_base::tags::CompressionMethod;
 use tiff_ifd::packbits::PackBitsCursor;
-
-/// Returns the `UnsupportedError` of a method that isn't read.
-pub(crate) fn method_fault(method: CompressionMethod) -> TiffResult<()>
-    ensures { Gives (λ _. tt) result (method_fault method) }
-{
-    match method {
-        CompressionMethod::None | CompressionMethod::PackBits => Ok(()),
-        method => Err(TiffUnsupportedError::UnsupportedCompressionMethod(method).into()),
-    }
-}
-
-/// Whether the counted bytes of a chunk alone are read, and are decompressed.
-pub(crate) fn is_packed(method: CompressionMethod) -> bool
-    ensures { result ≡ is_packed method }
-{
-    matches!(method, CompressionMethod::PackBits)
-}
 
 /// A position in the data of a chunk: at an offset in the file, in PackBits data, or after the last
 /// byte of these.
@@ -79,9 +62,8 @@ impl ChunkCursor {
         requires { method_fault method ≡ Ok tt }
         ensures rest { (file : List ℕ) → bytes_left file result ≡ data_by_method file method at
             count }
-        ensures readable { (source : SourceRecord) (n : ℕ)
-            → AreReadable source at (if is_packed method then count else n)
-            → StoredReadable source result n }
+        ensures readable { (source : SourceRecord) (n : ℕ) → AreReadable source at
+            (if is_packed method then count else n) → StoredReadable source result n }
     {
         match method {
             CompressionMethod::PackBits => ChunkCursor::Packed(PackBitsCursor::new(at, count)),
@@ -99,9 +81,8 @@ impl ChunkCursor {
         ensures asked { AsksOnly (StoredReadable (R.told source.old) self.old (length buf.old))
             result }
         ensures moves { OnOk result (Moves self.old (length buf.old) self.new) }
-        ensures stays { OnErr result
-            (bytes_left (R.told source.old).bytes self.new ≡ bytes_left (R.told source.old).bytes
-            self.old) }
+        ensures stays { OnErr result (bytes_left (R.told source.old).bytes self.new
+            ≡ bytes_left (R.told source.old).bytes self.old) }
     {
         match self {
             ChunkCursor::Plain(at) => {
@@ -133,11 +114,9 @@ impl ChunkCursor {
     ) -> TiffResult<()>
         ensures kept { IsKept R.told R.failures result source.old source.new }
         ensures taken { Takes (R.told source.old).bytes self.old self.new (Unit {0})
-            (R.failures source.old < R.failures source.new) len
-            row.new.items result }
-        ensures grown { length row.new.items ≤ length
-            (bytes_left (R.told source.old).bytes self.old)
-            + PIECE }
+            (R.failures source.old < R.failures source.new) len row.new.items result }
+        ensures grown { length row.new.items
+            ≤ length (bytes_left (R.told source.old).bytes self.old) + PIECE }
         ensures asked { AsksOnly (StoredReadable (R.told source.old) self.old len) result }
         ensures moves { OnOk result (Moves self.old len self.new) }
     {

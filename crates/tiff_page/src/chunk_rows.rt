@@ -21,7 +21,8 @@ ghost use Rattle.tiff_page.specs.Reach.{StoredReadable, DataReadable, ChunkReada
 ghost use Rattle.tiff_page.specs.PageView as view;
 
 use crate::chunk_data::ChunkCursor;
-use crate::output_row::{RowFormat, needs_swap, needs_whole_rows, row_len, stored_row_bytes};
+use crate::layout::{needs_whole_rows, row_len, stored_row_bytes};
+use crate::output_row::{RowFormat, needs_swap};
 use crate::row_sink::{RowSink, RowSlot};
 use tiff_base::error::TiffResult;
 use tiff_base::io::Source;
@@ -106,9 +107,8 @@ impl ChunkReader<'_> {
         requires listed { self.now.index < length self.now.format.page.now.offsets }
         ensures rest { (file : List ℕ) (order : ByteOrder) → bytes_left file result
             ≡ chunk_data file order (view.page self.now.format.page.now) self.now.index }
-        ensures readable { (source : SourceRecord) (n : ℕ)
-            → DataReadable source (view.page self.now.format.page.now) self.now.index n
-            → StoredReadable source result n }
+        ensures readable { (source : SourceRecord) (n : ℕ) → DataReadable source
+            (view.page self.now.format.page.now) self.now.index n → StoredReadable source result n }
     {
         let page = self.format.page;
         let chunk = self.index as usize;
@@ -138,8 +138,7 @@ impl ChunkReader<'_> {
             < 2 ^ 64 }
         requires some { 0 < band.destination.stride }
         requires columns { band.destination.left + row_bytes (view.page self.now.format.page.now)
-            self.now.format.color
-            (rect (view.page self.now.format.page.now) self.now.index).width
+            self.now.format.color (rect (view.page self.now.format.page.now) self.now.index).width
             ≤ band.destination.stride }
         requires there { (band.destination.top + (band.to - band.from)) * band.destination.stride
             ≤ length (W.bytes sink.old) }
@@ -147,20 +146,16 @@ impl ChunkReader<'_> {
             < 2 ^ 64 }
         ensures later { W.goes_on sink.old sink.new }
         ensures kept { IsKept R.told R.failures result source.old source.new }
-        ensures ok { OnOk result
-            (WritesRows (R.told source.old).bytes self.now.format.order
-            (view.page self.now.format.page.now) self.now.format.color
-            self.now.index band.destination.stride band.destination.top band.destination.left
-            band.from band.to (W.bytes sink.old) (W.bytes sink.new)) }
-        ensures answer { Answers (λ _. tt) result (fail_if
-            (rows_short (R.told source.old).bytes self.now.format.order
-            (view.page self.now.format.page.now)
-            self.now.format.color self.now.index band.to)
+        ensures ok { OnOk result (WritesRows (R.told source.old).bytes self.now.format.order
+            (view.page self.now.format.page.now) self.now.format.color self.now.index
+            band.destination.stride band.destination.top band.destination.left band.from band.to
+            (W.bytes sink.old) (W.bytes sink.new)) }
+        ensures answer { Answers (λ _. tt) result
+            (fail_if (rows_short (R.told source.old).bytes self.now.format.order
+            (view.page self.now.format.page.now) self.now.format.color self.now.index band.to)
             (tiff.IoError io.UnexpectedEof)) (R.failures source.old) (R.failures source.new) }
-        ensures asked { AsksOnly
-            (ChunkReadable (R.told source.old) (view.page self.now.format.page.now)
-            self.now.format.color
-            self.now.index) result }
+        ensures asked { AsksOnly (ChunkReadable (R.told source.old)
+            (view.page self.now.format.page.now) self.now.format.color self.now.index) result }
     {
         let ChunkBand {
             destination,
@@ -188,9 +183,8 @@ impl ChunkReader<'_> {
     // sink, all of their bytes are output, and no byte is summed with others of its row.
     fn is_contiguous(&self, destination: Destination) -> bool
         ensures { IsTrue result ↔ LieTogether (view.page self.now.format.page.now)
-            self.now.format.color
-            (row_bytes (view.page self.now.format.page.now) self.now.format.color
-            (rect (view.page self.now.format.page.now) self.now.index).width)
+            self.now.format.color (row_bytes (view.page self.now.format.page.now)
+            self.now.format.color (rect (view.page self.now.format.page.now) self.now.index).width)
             destination.left destination.stride }
     {
         let page = self.format.page;
@@ -218,30 +212,22 @@ impl ChunkReader<'_> {
             self.now.format.color
             (rect (view.page self.now.format.page.now) self.now.index).width ≤ destination.stride }
         requires room { (destination.top + (rect (view.page self.now.format.page.now)
-            self.now.index).height)
-            * destination.stride ≤ W.room sink.old }
+            self.now.index).height) * destination.stride ≤ W.room sink.old }
         requires few { (destination.top + (rect (view.page self.now.format.page.now)
-            self.now.index).height)
-            * destination.stride < 2 ^ 64 }
+            self.now.index).height) * destination.stride < 2 ^ 64 }
         ensures later { W.goes_on sink.old sink.new }
         ensures kept { IsKept R.told R.failures result source.old source.new }
-        ensures ok { OnOk result
-            (GrowsByChunk (R.told source.old).bytes self.now.format.order
-            (view.page self.now.format.page.now)
-            self.now.format.color
+        ensures ok { OnOk result (GrowsByChunk (R.told source.old).bytes self.now.format.order
+            (view.page self.now.format.page.now) self.now.format.color
             self.now.index destination.stride destination.top destination.left
             (W.whole ((destination.top + (rect (view.page self.now.format.page.now)
-            self.now.index).height) * destination.stride))
-            (W.bytes sink.old) (W.bytes sink.new)) }
-        ensures answer { Answers (λ _. tt) result (fail_if
-            (is_short (R.told source.old).bytes self.now.format.order
-            (view.page self.now.format.page.now)
-            self.now.format.color self.now.index)
+            self.now.index).height) * destination.stride)) (W.bytes sink.old) (W.bytes sink.new)) }
+        ensures answer { Answers (λ _. tt) result
+            (fail_if (is_short (R.told source.old).bytes self.now.format.order
+            (view.page self.now.format.page.now) self.now.format.color self.now.index)
             (tiff.IoError io.UnexpectedEof)) (R.failures source.old) (R.failures source.new) }
-        ensures asked { AsksOnly
-            (ChunkReadable (R.told source.old) (view.page self.now.format.page.now)
-            self.now.format.color
-            self.now.index) result }
+        ensures asked { AsksOnly (ChunkReadable (R.told source.old)
+            (view.page self.now.format.page.now) self.now.format.color self.now.index) result }
     {
         let format = self.format;
         let rows = self.height as usize;

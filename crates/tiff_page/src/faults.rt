@@ -5,6 +5,7 @@ ghost use Rattle.std.specs.Prelude.{◌≡◌, ◌<◌, length, OnOk, ◌+◌, �
 ghost use Rattle.tiff_base.specs.Answers.{Gives, AnswersWithoutMemory, AsksOnly, IsKept};
 ghost use Rattle.tiff_base.specs.declared.error.TiffError.TheVariants as tiff;
 ghost use Rattle.tiff_base.specs.declared.io.IoKind.TheVariants as io;
+ghost use Rattle.tiff_page.specs.Methods as methods;
 ghost use Rattle.tiff_page.specs.PageView as view;
 ghost use Rattle.tiff_page.specs.PixelFault as spec;
 ghost use Rattle.std.specs.Int.{div_ceil};
@@ -13,15 +14,13 @@ ghost use Rattle.tiff_page.specs.EarlyFaults.{is_cut};
 ghost use Rattle.tiff_page.specs.Pixels as pixels;
 ghost use Rattle.tiff_page.specs.Reach.{ChunkReadable};
 
-use crate::chunk_data::{is_packed, method_fault};
-use crate::layout::chunk_data_dimensions;
-use crate::output_row::{needs_whole_rows, row_len, stored_row_bytes};
+use crate::layout::{chunk_data_dimensions, needed_of_row, row_len, stored_row_bytes};
 use crate::page::Page;
 use tiff_base::color::ColorType;
 use tiff_base::error::{TiffError, TiffFormatError, TiffResult, TiffUnsupportedError};
 use tiff_base::io::{IoKind, Source};
 use tiff_base::read::read_exact_at;
-use tiff_base::tags::{PhotometricInterpretation, Predictor, SampleFormat};
+use tiff_base::tags::{CompressionMethod, PhotometricInterpretation, Predictor, SampleFormat};
 use tiff_ifd::limits::Limits;
 
 fn is_byte_multiple(depth: u8) -> bool
@@ -74,6 +73,23 @@ fn predictor_fault(page: &Page, color: ColorType) -> TiffResult<()>
         (Predictor::FloatingPoint, SampleFormat::IEEEFP) if page.depth != 8 => Ok(()),
         _ => Err(TiffUnsupportedError::FloatingPointPredictor(color).into()),
     }
+}
+
+/// Returns the `UnsupportedError` of a method that isn't read.
+pub(crate) fn method_fault(method: CompressionMethod) -> TiffResult<()>
+    ensures { Gives (λ _. tt) result (methods.method_fault method) }
+{
+    match method {
+        CompressionMethod::None | CompressionMethod::PackBits => Ok(()),
+        method => Err(TiffUnsupportedError::UnsupportedCompressionMethod(method).into()),
+    }
+}
+
+/// Whether the counted bytes of a chunk alone are read, and are decompressed.
+pub(crate) fn is_packed(method: CompressionMethod) -> bool
+    ensures { result ≡ methods.is_packed method }
+{
+    matches!(method, CompressionMethod::PackBits)
 }
 
 fn can_invert(format: SampleFormat, color: ColorType) -> bool
@@ -134,18 +150,6 @@ pub fn limit_fault(limits: &Limits, size: usize, bytes: usize) -> TiffResult<()>
     Ok(())
 }
 
-// Returns how many bytes of a stored row are read to output `len` bytes.
-fn needed_of_row(page: &Page, color: ColorType, len: usize) -> usize
-    requires { len < 2 ^ 56 }
-    ensures value { result ≡ pixels.needed_of_row (view.page page.now) color len }
-    ensures few { result < 2 ^ 56 }
-{
-    if needs_whole_rows(page, color) {
-        return stored_row_bytes(page);
-    }
-    len
-}
-
 // Returns how many decompressed bytes the image needs of a chunk.
 #[tactic(auto, using(crate::proofs::Requests::rows_fit, crate::proofs::Requests::bytes_few))]
 fn needed_bytes(page: &Page, color: ColorType, index: u32) -> u128
@@ -187,8 +191,7 @@ fn reach_packed<R: Source>(source: &mut R, at: u64, count: u64, needed: u128) ->
     ensures kept { IsKept R.told R.failures result source.old source.new }
     ensures answer { AnswersWithoutMemory (λ _. tt) result (spec.fail_if
         (nat_lt (min count (length (R.told source.old).bytes - at)) (div_ceil needed 64))
-        (tiff.IoError io.UnexpectedEof))
-        (R.failures source.old) (R.failures source.new) }
+        (tiff.IoError io.UnexpectedEof)) (R.failures source.old) (R.failures source.new) }
     ensures asked { AsksOnly (AreReadable (R.told source.old) at count) result }
 {
     let least = needed.div_ceil(64);
@@ -209,11 +212,9 @@ pub(crate) fn early_fault<R: Source>(
     index: u32,
 ) -> TiffResult<()>
     ensures kept { IsKept R.told R.failures result source.old source.new }
-    ensures answer { AnswersWithoutMemory (λ _. tt) result
-        (spec.chunk_fault (view.page page.now) limits.now
-        (is_cut (R.told source.old).bytes (view.page page.now) color) color index)
-        (R.failures source.old)
-        (R.failures source.new) }
+    ensures answer { AnswersWithoutMemory (λ _. tt) result (spec.chunk_fault (view.page page.now)
+        limits.now (is_cut (R.told source.old).bytes (view.page page.now) color) color index)
+        (R.failures source.old) (R.failures source.new) }
     ensures asked { AsksOnly (ChunkReadable (R.told source.old) (view.page page.now) color index)
         result }
 {

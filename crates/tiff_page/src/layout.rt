@@ -1,7 +1,7 @@
 //! The color of a page, the number type of its samples, the positions of its chunks, and the layout
-//! of its planes.
+//! of its planes and rows.
 
-ghost use Rattle.std.specs.Prelude.{◌≡◌, ◌+◌, ◌-◌, ◌*◌, ◌/◌, ◌%◌, ◌<◌, ◌≤◌, ◌^◌, replicate, IfOk, None};
+ghost use Rattle.std.specs.Prelude.{◌≡◌, ◌+◌, ◌-◌, ◌*◌, ◌/◌, ◌%◌, ◌<◌, ◌≤◌, ◌^◌, replicate, IfOk, None, Ok};
 ghost use Rattle.tiff_base.specs.Answers.{AnswersWithoutSource, Gives};
 ghost use Rattle.tiff_base.specs.declared.error.TiffError.TheVariants as tiff;
 ghost use Rattle.tiff_base.specs.declared.error.TiffUnsupportedError.TheVariants as unsupported;
@@ -9,7 +9,8 @@ ghost use Rattle.tiff_page.specs.PageView as view;
 ghost use Rattle.tiff_base.specs.declared.color.ColorType.{ColorType};
 ghost use Rattle.tiff_page.specs.Rect as rects;
 ghost use Rattle.tiff_page.specs.Layout as spec;
-ghost use Rattle.tiff_page.specs.Buffers.{type_known};
+ghost use Rattle.tiff_page.specs.Pixels as pixels;
+ghost use Rattle.tiff_page.specs.Buffers.{planes_layout, type_known};
 ghost use Rattle.tiff_base.specs.Sparing.{IsListFault};
 ghost use Rattle.tiff_page.specs.EarlyFaults.{WantsWhere};
 
@@ -20,7 +21,8 @@ use tiff_base::color::ColorType;
 use tiff_base::error::{TiffError, TiffResult, TiffUnsupportedError};
 use tiff_base::lists::{SampleBits, SampleFormats};
 use tiff_base::tags::{
-    CompressionMethod, ExtraSamples, PhotometricInterpretation, PlanarConfiguration, SampleFormat,
+    CompressionMethod, ExtraSamples, PhotometricInterpretation, PlanarConfiguration, Predictor,
+    SampleFormat,
 };
 
 /// The number type of decoded samples.
@@ -336,6 +338,54 @@ pub(crate) fn row_bits(page: &Page, color: ColorType, width: u32) -> usize
     bits(width, page.depth, samples_in_chunk(page, color))
 }
 
+/// Returns how many samples of a pixel a chunk stores.
+pub fn stored_samples(page: &Page) -> u16
+    ensures count { result ≡ pixels.stored_samples (view.page page.now) }
+    ensures some { 0 < result }
+{
+    match page.planar {
+        PlanarConfiguration::Chunky => page.samples,
+        _ => 1,
+    }
+}
+
+/// Returns the number of bytes of a stored row of a chunk, with all of its samples and columns.
+pub fn stored_row_bytes(page: &Page) -> usize
+    ensures value { result ≡ pixels.stored_row_bytes (view.page page.now) }
+    ensures few { result < 2 ^ 56 }
+{
+    (bits(page.chunk_width, page.depth, stored_samples(page)) + 7) / 8
+}
+
+/// Returns how many bytes `width` columns of a row have in the output.
+pub fn row_len(page: &Page, color: ColorType, width: u32) -> usize
+    ensures value { result ≡ spec.row_bytes (view.page page.now) color width }
+    ensures few { result < 2 ^ 56 }
+{
+    (row_bits(page, color, width) + 7) / 8
+}
+
+/// Whether the output needs whole stored rows: with the byte-plane predictor, or if samples are
+/// dropped.
+pub fn needs_whole_rows(page: &Page, color: ColorType) -> bool
+    ensures { result ≡ pixels.needs_whole_rows (view.page page.now) color }
+{
+    matches!(page.predictor, Predictor::FloatingPoint)
+        || samples_in_chunk(page, color) < stored_samples(page)
+}
+
+// Returns how many bytes of a stored row are read to output `len` bytes.
+pub(crate) fn needed_of_row(page: &Page, color: ColorType, len: usize) -> usize
+    requires { len < 2 ^ 56 }
+    ensures value { result ≡ pixels.needed_of_row (view.page page.now) color len }
+    ensures few { result < 2 ^ 56 }
+{
+    if needs_whole_rows(page, color) {
+        return stored_row_bytes(page);
+    }
+    len
+}
+
 fn is_whole_chroma(page: &Page, color: ColorType) -> TiffResult<()>
     ensures { Gives (λ _. color) result (spec.whole_chroma (view.page page.now) color) }
 {
@@ -391,4 +441,28 @@ pub fn layout_of(page: &Page, alloc: Global, width: u32, height: u32) -> TiffRes
         row_bytes,
         plane_stride,
     })
+}
+
+/// Returns the layout of a part of a page, `width` by `height` pixels, all of whose planes have
+/// together fewer than 2^64 bytes. Returns the layout's own errors first, then `LimitsExceeded` if
+/// all planes have 2^64 bytes or more.
+#[tactic(auto, unfolding(crate::specs::Buffers::planes_layout))]
+pub fn planes_layout(page: &Page, alloc: Global, width: u32, height: u32) -> TiffResult<PlaneLayout>
+    ensures answer { AnswersWithoutSource (λ l. record {
+      color = l.color;
+      row_bytes = l.row_bytes;
+      plane_stride = l.plane_stride;
+    }) result (planes_layout (view.page page.now) width height) }
+    ensures rows { 0 < width → IfOk result (λ l. 0 < l.row_bytes) }
+    ensures plane { 0 < width → 0 < height → IfOk result (λ l. 0 < l.plane_stride) }
+    ensures fits { IfOk result (λ l. l.plane_stride * spec.planes page.now.planar l.color < 2 ^ 64) }
+    ensures laid { IfOk result (λ l. spec.layout_of (view.page page.now) width height ≡ Ok
+        (record { color = l.color; row_bytes = l.row_bytes; plane_stride = l.plane_stride })) }
+    ensures some { IfOk result (λ l. 0 < spec.planes page.now.planar l.color) }
+    ensures memory { WantsWhere (IsListFault (spec.color_of (view.page page.now))) result }
+{
+    let layout = layout_of(page, alloc, width, height)?;
+    let planes = usize::from(planes(page, layout.color));
+    checked_byte_count(layout.plane_stride, planes)?;
+    Ok(layout)
 }

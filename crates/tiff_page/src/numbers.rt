@@ -262,8 +262,7 @@ pub(crate) fn grow<T: Number<N>, const N: usize>(
     numbers: &mut Vec<T>,
     count: usize,
 ) -> Result<(), AllocError>
-    ensures { OnOk result
-        (map T.bits numbers.new.items ≡ map T.bits numbers.old.items
+    ensures { OnOk result (map T.bits numbers.new.items ≡ map T.bits numbers.old.items
         ++ replicate (count - length numbers.old.items) 0) }
 {
     if numbers.len() < count {
@@ -277,9 +276,8 @@ pub(crate) fn grow<T: Number<N>, const N: usize>(
 fn put_front<T: Number<N>, const N: usize>(numbers: &mut [T], row: &[u8])
     requires some { 0 < N }
     requires room { length row.now / N ≤ length numbers.old }
-    ensures { map T.bits numbers.new
-        ≡ tabulate (length row.now / N) (row_number LittleEndian N row.now)
-        ++ drop (length row.now / N) (map T.bits numbers.old) }
+    ensures { map T.bits numbers.new ≡ tabulate (length row.now / N)
+        (row_number LittleEndian N row.now) ++ drop (length row.now / N) (map T.bits numbers.old) }
 {
     let (pieces, _) = row.as_chunks::<N>();
     for k in 0..pieces.len() {
@@ -396,10 +394,8 @@ pub(crate) fn append_row<T: Number<N>, const N: usize>(
 ) -> Result<(), AllocError>
     requires some { 0 < N }
     requires fits { at + length row.now < 2 ^ 64 }
-    ensures { OnOk result (IsPut at row.now
-        (filled_to (div_ceil (at + length row.now) N * N)
-        (bytes_in N (map T.bits numbers.old.items)))
-        (bytes_in N (map T.bits numbers.new.items))) }
+    ensures { OnOk result (IsPut at row.now (filled_to (div_ceil (at + length row.now) N * N)
+        (bytes_in N (map T.bits numbers.old.items))) (bytes_in N (map T.bits numbers.new.items))) }
 {
     if ends_at(numbers, at) && row.len() % N == 0 {
         return push_row(numbers, row);

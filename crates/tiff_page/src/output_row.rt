@@ -18,14 +18,14 @@ ghost use Rattle.tiff_page.specs.RowReads.{RowRead};
 ghost use Rattle.tiff_page.specs.Reach.{StoredReadable, Moves};
 
 use crate::chunk_data::ChunkCursor;
-use crate::layout::{bits, row_bits, samples_in_chunk};
+use crate::layout::{needs_whole_rows, samples_in_chunk, stored_row_bytes, stored_samples};
 use crate::page::Page;
 use crate::predictors::{invert, to_little_endian, undo_float_predictor, undo_horizontal};
 use std::alloc::Global;
 use tiff_base::color::ColorType;
 use tiff_base::error::TiffResult;
 use tiff_base::io::Source;
-use tiff_base::tags::{ByteOrder, PhotometricInterpretation, PlanarConfiguration, Predictor};
+use tiff_base::tags::{ByteOrder, PhotometricInterpretation, Predictor};
 
 /// How the rows of a chunk are stored and output: the page and the byte order of its numbers, and
 /// the color and the number of columns of the output.
@@ -35,42 +35,6 @@ pub struct RowFormat<'a> {
     pub(crate) order: ByteOrder,
     pub(crate) color: ColorType,
     pub(crate) width: u32,
-}
-
-/// Returns how many samples of a pixel a chunk stores.
-pub fn stored_samples(page: &Page) -> u16
-    ensures count { result ≡ pixels.stored_samples (view.page page.now) }
-    ensures some { 0 < result }
-{
-    match page.planar {
-        PlanarConfiguration::Chunky => page.samples,
-        _ => 1,
-    }
-}
-
-/// Returns the number of bytes of a stored row of a chunk, with all of its samples and columns.
-pub fn stored_row_bytes(page: &Page) -> usize
-    ensures value { result ≡ pixels.stored_row_bytes (view.page page.now) }
-    ensures few { result < 2 ^ 56 }
-{
-    (bits(page.chunk_width, page.depth, stored_samples(page)) + 7) / 8
-}
-
-/// Returns how many bytes `width` columns of a row have in the output.
-pub fn row_len(page: &Page, color: ColorType, width: u32) -> usize
-    ensures value { result ≡ layouts.row_bytes (view.page page.now) color width }
-    ensures few { result < 2 ^ 56 }
-{
-    (row_bits(page, color, width) + 7) / 8
-}
-
-/// Whether the output needs whole stored rows: with the byte-plane predictor, or if samples are
-/// dropped.
-pub fn needs_whole_rows(page: &Page, color: ColorType) -> bool
-    ensures { result ≡ pixels.needs_whole_rows (view.page page.now) color }
-{
-    matches!(page.predictor, Predictor::FloatingPoint)
-        || samples_in_chunk(page, color) < stored_samples(page)
 }
 
 /// Whether numbers are byte-swapped on their way into a buffer: those of more than one byte in a
@@ -87,8 +51,7 @@ fn undo_differences(page: &Page, row: &mut [u8])
     requires sizes { (page.now.depth < 8) ⊎ IsSize (page.now.depth / 8) }
     requires deep { (page.now.depth < 8) ⊎ (page.now.depth ≡ page.now.depth / 8 * 8) }
     requires in_place { pixels.is_byte_plane page.now.predictor ≡ false }
-    ensures numbers { 8 ≤ page.now.depth
-        → RowReplaced (page.now.depth / 8)
+    ensures numbers { 8 ≤ page.now.depth → RowReplaced (page.now.depth / 8)
         (pixels.number_of_row LittleEndian (view.page page.now) row.old) row.old row.new }
     ensures packed { page.now.depth < 8 → row.new ≡ row.old }
     ensures octets { EachIndex row.new (λ i. slice_index row.new i < 256) }
@@ -107,9 +70,8 @@ fn undo_differences(page: &Page, row: &mut [u8])
 
 // Complements the bytes of a row if the interpretation of the page is `WhiteIsZero`.
 fn complement(page: &Page, row: &mut [u8])
-    ensures { EachIndex row.new
-        (λ b. slice_index row.new b ≡ pixels.shown_number page.now.interpretation 256
-        (slice_index row.old b)) }
+    ensures { EachIndex row.new (λ b. slice_index row.new b ≡ pixels.shown_number
+        page.now.interpretation 256 (slice_index row.old b)) }
 {
     if matches!(page.interpretation, PhotometricInterpretation::WhiteIsZero) {
         invert(row);
@@ -124,8 +86,7 @@ pub fn finish_row(page: &Page, color: ColorType, row: &mut [u8])
     requires whole { (page.now.depth < 8)
         ⊎ (length row.old / (page.now.depth / 8) * (page.now.depth / 8) ≡ length row.old) }
     ensures { (order : ByteOrder) (stored : List ℕ)
-        → HoldsNumbersOf order (view.page page.now) stored row.old
-        → EachIndex row.new
+        → HoldsNumbersOf order (view.page page.now) stored row.old → EachIndex row.new
         (λ b. slice_index row.new b ≡ handed_byte order (view.page page.now) stored color b) }
 {
     undo_differences(page, row);
@@ -226,9 +187,8 @@ impl RowFormat<'_> {
         requires whole { pixels.needs_whole_rows (view.page self.now.page.now) self.now.color ≡ true }
         requires width { self.now.width ≤ self.now.page.now.chunk_width }
         requires row { length row.old ≡ pixels.stored_row_bytes (view.page self.now.page.now) }
-        requires room { (pixels.is_byte_plane self.now.page.now.predictor || spec.needs_swap self.now.order
-            self.now.page.now.depth) ≡ true
-            → length room.old ≡ length row.old }
+        requires room { (pixels.is_byte_plane self.now.page.now.predictor || spec.needs_swap
+            self.now.order self.now.page.now.depth) ≡ true → length room.old ≡ length row.old }
         requires out { length out.old ≡ layouts.row_bytes (view.page self.now.page.now) self.now.color
             self.now.width }
         ensures { EachIndex out.new (λ b. slice_index out.new b
@@ -315,11 +275,9 @@ impl RowFormat<'_> {
         out: &mut [u8],
     ) -> TiffResult<()>
         requires read { IsRead (view.page self.now.page.now) self.now.color }
-        requires in_place { needs_whole_rows (view.page self.now.page.now) self.now.color
-            ≡ false }
-        requires whole { (self.now.page.now.depth < 8)
-            ⊎ (length out.old / (self.now.page.now.depth / 8)
-            * (self.now.page.now.depth / 8) ≡ length out.old) }
+        requires in_place { needs_whole_rows (view.page self.now.page.now) self.now.color ≡ false }
+        requires whole { (self.now.page.now.depth < 8) ⊎ (length out.old /
+            (self.now.page.now.depth / 8) * (self.now.page.now.depth / 8) ≡ length out.old) }
         ensures kept { IsKept R.told R.failures result source.old source.new }
         ensures row { RowRead (R.told source.old).bytes self.now.order
             (view.page self.now.page.now) self.now.color cursor.old cursor.new
@@ -388,8 +346,7 @@ impl RowFormat<'_> {
             (view.page self.now.page.now) self.now.color cursor.old cursor.new
             (R.failures source.old < R.failures source.new) out.new result }
         ensures asked { AsksOnly (StoredReadable (R.told source.old) cursor.old
-            (needed_of_row (view.page self.now.page.now) self.now.color (length out.old)))
-            result }
+            (needed_of_row (view.page self.now.page.now) self.now.color (length out.old))) result }
         ensures moves { OnOk result (Moves cursor.old
             (needed_of_row (view.page self.now.page.now) self.now.color (length out.old))
             cursor.new) }

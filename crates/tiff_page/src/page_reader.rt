@@ -17,13 +17,13 @@ ghost use Rattle.tiff_page.specs.PageView as view;
 ghost use Rattle.tiff_page.specs.ChunkBands.{AreBanded, AreTileRows, GrowsByRows, PutsImageRows, rows_fault, tiles_fault};
 ghost use Rattle.tiff_page.specs.Rect as rects;
 
-use crate::chunk_data::is_packed;
 use crate::chunk_rows::{ChunkBand, ChunkReader, Destination};
-use crate::faults::form_fault;
+use crate::faults::{form_fault, is_packed};
 use crate::layout::{
     PlaneLayout, chunk_data_dimensions, chunks_across, chunks_of_plane, rect, row_bits,
+    stored_row_bytes,
 };
-use crate::output_row::{RowFormat, stored_row_bytes};
+use crate::output_row::RowFormat;
 use crate::page::Page;
 use crate::row_sink::{ByteList, RowSink};
 use std::alloc::Global;
@@ -174,10 +174,9 @@ impl PageReader<'_> {
             next.color next.index next.first.stride next.rows next.first.top next.first.left
             next.planes (W.whole (next.planes * (next.rows * next.first.stride)))
             (W.bytes sink.old) (W.bytes sink.new)) }
-        ensures answer { Answers (λ _. tt) result
-            (each_below (λ plane. chunk_fault (view.page self.now.page.now)
-            self.now.limits.now (is_short (R.told source.old).bytes self.now.order
-            (view.page self.now.page.now) next.color) next.color
+        ensures answer { Answers (λ _. tt) result (each_below (λ plane. chunk_fault
+            (view.page self.now.page.now) self.now.limits.now (is_short (R.told source.old).bytes
+            self.now.order (view.page self.now.page.now) next.color) next.color
             (plane * rects.chunks_of_plane (view.page self.now.page.now) + (0 + next.index)))
             next.planes) (R.failures source.old) (R.failures source.new) }
         ensures asked { AsksOnly (RequestReadable (R.told source.old) self.now
@@ -259,9 +258,8 @@ impl PageReader<'_> {
         requires few { (part.top + (part.to - part.from)) * part.layout.row_bytes < 2 ^ 64 }
         ensures later { W.goes_on sink.old sink.new }
         ensures kept { IsKept R.told R.failures result source.old source.new }
-        ensures ok { OnOk result
-            (PutsImageRows (R.told source.old).bytes self.now.order (view.page self.now.page.now)
-            part.layout.color part.layout.row_bytes
+        ensures ok { OnOk result (PutsImageRows (R.told source.old).bytes
+            self.now.order (view.page self.now.page.now) part.layout.color part.layout.row_bytes
             ((rects.rect (view.page self.now.page.now) part.first).y + part.from)
             (part.to - part.from) part.top (W.bytes sink.old) (W.bytes sink.new)) }
         ensures answer { Answers (λ _. tt) result

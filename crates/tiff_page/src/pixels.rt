@@ -17,7 +17,6 @@ ghost use Rattle.tiff_base.specs.Sparing.{AnswersSparingly, IsListFault};
 ghost use Rattle.tiff_page.specs.Buffers as buffers;
 ghost use Rattle.tiff_page.specs.EarlyFaults.{WantsAfter, WantsWhere, chunk_bytes_early, chunk_early, image_bytes_early, image_early, planes_early, samples_early, strided_early, unit_bytes_early};
 ghost use Rattle.tiff_page.specs.BufferPositions.{filled_to};
-ghost use Rattle.tiff_page.specs.PixelCalls.{image_of};
 ghost use Rattle.tiff_page.specs.Layout as layouts;
 ghost use Rattle.tiff_page.specs.PixelCalls as calls;
 ghost use Rattle.tiff_page.specs.Reach.{ChunkReadable, ChunksReadable, ImageReadable};
@@ -26,12 +25,12 @@ ghost use Rattle.tiff_page.specs.Samples.{samples_as, color_in, first_in, IsLaid
 ghost use Rattle.tiff_page.specs.PageView as view;
 ghost use Rattle.tiff_page.specs.declared.layout.DecodingSampleType.TheVariants as type;
 
-use crate::buffers::{all_planes, planes_layout, unit_fault};
+use crate::buffers::{all_planes, unit_fault};
 use crate::chunk_rows::Destination;
 use crate::faults::{early_fault, form_fault, limit_fault};
 use crate::layout::{
     BufferLayoutPreference, DecodingSampleType, PlaneLayout, checked_byte_count,
-    chunk_data_dimensions, planes, sample_type_of, size_of,
+    chunk_data_dimensions, planes, planes_layout, sample_type_of, size_of,
 };
 use crate::numbers::Number;
 use crate::output_row::RowScratch;
@@ -165,21 +164,15 @@ impl PageReader<'_> {
     ) -> TiffResult<Vec<T>>
         requires { 0 < N }
         ensures kept { IsKept R.told R.failures result source.old source.new }
-        ensures answer { AnswersSparingly (λ _. tt) result
-            (request_early (R.told source.old).bytes self.now request sample_type len)
-            (R.failures source.old) (R.failures source.new) }
+        ensures answer { AnswersSparingly (λ _. tt) result (request_early (R.told source.old).bytes
+            self.now request sample_type len) (R.failures source.old) (R.failures source.new) }
         ensures asked { AsksOnly (ChunkReadable (R.told source.old) (view.page self.now.page.now)
             (color_in request) (first_in request)) result }
         ensures none { IfOk result (λ v. v.items ≡ []) }
     {
-        limit_fault(self.limits, size_of(sample_type), len)?;
-        early_fault(
-            self.page,
-            self.limits,
-            source,
-            request.color(),
-            request.first(),
-        )?;
+        let (page, limits) = (self.page, self.limits);
+        limit_fault(limits, size_of(sample_type), len)?;
+        early_fault(page, limits, source, request.color(), request.first())?;
         Ok(Vec::with_capacity(self.alloc, len.div_ceil(N))?)
     }
 
@@ -225,30 +218,6 @@ impl PageReader<'_> {
         }
     }
 
-    // Reads an image or a chunk into an empty sink, which becomes `len` bytes long, rounded up to
-    // whole items.
-    fn all_requested<R: Source, W: RowSink>(
-        &self,
-        source: &mut R,
-        request: ReadRequest,
-        sink: &mut W,
-        len: usize,
-    ) -> TiffResult<()>
-        requires laid { IsLaid (view.page self.now.page.now) request }
-        requires room { room_of (view.page self.now.page.now) request ≤ len }
-        requires held { len ≤ W.room sink.old }
-        requires none { W.bytes sink.old ≡ [] }
-        ensures kept { IsKept R.told R.failures result source.old source.new }
-        ensures answer { Answers (λ _. W.bytes sink.new) result
-            (request_bytes (R.told source.old).bytes self.now request (replicate (W.whole len) 0))
-            (R.failures source.old) (R.failures source.new) }
-        ensures asked { AsksOnly (RequestReadable (R.told source.old) self.now request) result }
-    {
-        self.requested(source, request, sink)?;
-        sink.zeros_to(len)?;
-        Ok(())
-    }
-
     // Reads an image or chunks into a slice.
     fn request_into<R: Source>(
         &self,
@@ -259,9 +228,8 @@ impl PageReader<'_> {
         requires laid { IsLaid (view.page self.now.page.now) request }
         requires room { room_of (view.page self.now.page.now) request ≤ length buf.old }
         ensures kept { IsKept R.told R.failures result source.old source.new }
-        ensures answer { Answers (λ _. buf.new) result
-            (request_bytes (R.told source.old).bytes self.now request buf.old)
-            (R.failures source.old) (R.failures source.new) }
+        ensures answer { Answers (λ _. buf.new) result (request_bytes (R.told source.old).bytes
+            self.now request buf.old) (R.failures source.old) (R.failures source.new) }
         ensures asked { AsksOnly (RequestReadable (R.told source.old) self.now request) result }
     {
         let mut scratch = RowScratch::new(self.alloc);
@@ -289,12 +257,13 @@ impl PageReader<'_> {
     {
         let bytes = self.allocate_output(source, request, DecodingSampleType::U8, len)?;
         let mut sink = ByteList::new(self.alloc, bytes);
-        self.all_requested(source, request, &mut sink, len)?;
+        self.requested(source, request, &mut sink)?;
+        sink.zeros_to(len)?;
         Ok(sink.into_bytes())
     }
 
     // Returns the numbers of an image or a chunk whose samples have a number type of `N` bytes.
-    #[tactic(auto, using(crate::proofs::Requests::portion_early, crate::proofs::Requests::numbers_given, crate::proofs::Requests::filling_cause))]
+    #[tactic(auto, using(crate::proofs::Requests::portion_early))]
     fn read_as<R: Source, T: Number<N>, const N: usize>(
         &self,
         source: &mut R,
@@ -318,7 +287,8 @@ impl PageReader<'_> {
     {
         let numbers = self.allocate_output(source, request, sample_type, len)?;
         let mut sink = NumberList::<T, N>::new(self.alloc, numbers);
-        self.all_requested(source, request, &mut sink, len)?;
+        self.requested(source, request, &mut sink)?;
+        sink.zeros_to(len)?;
         Ok(sink.into_numbers())
     }
 
@@ -360,12 +330,10 @@ impl PageReader<'_> {
     #[tactic(auto, using(crate::proofs::Planes::image_is_first_plane, crate::proofs::PassedChecks::layout_wanted))]
     pub fn read_image<R: Source>(&self, source: &mut R) -> TiffResult<Samples>
         ensures kept { IsKept R.told R.failures result source.old source.new }
-        ensures memory { WantsAfter
-            (image_early (R.told source.old).bytes (view.page self.now.page.now)
-            self.now.limits.now) result }
-        ensures answer { Answers samples_as result
-            (image_of (R.told source.old).bytes self.now.order (view.page self.now.page.now)
-            self.now.limits.now)
+        ensures memory { WantsAfter (image_early (R.told source.old).bytes
+            (view.page self.now.page.now) self.now.limits.now) result }
+        ensures answer { Answers samples_as result (calls.image_of (R.told source.old).bytes
+            self.now.order (view.page self.now.page.now) self.now.limits.now)
             (R.failures source.old) (R.failures source.new) }
         ensures asked { AsksOnly
             (ImageReadable (R.told source.old) (view.page self.now.page.now) (λ l. 1)) result }
@@ -384,16 +352,12 @@ impl PageReader<'_> {
         source: &mut R,
     ) -> TiffResult<(BufferLayoutPreference, Samples)>
         ensures kept { IsKept R.told R.failures result source.old source.new }
-        ensures memory { WantsAfter
-            (planes_early (R.told source.old).bytes (view.page self.now.page.now)
-            self.now.limits.now) result }
-        ensures answer { Answers (λ r. (r.0, samples_as r.1)) result
-            (calls.read_image_to_buffer (R.told source.old).bytes self.now.order
-            (view.page self.now.page.now) self.now.limits.now)
-            (R.failures source.old)
-            (R.failures source.new) }
-        ensures asked { AsksOnly
-            (ImageReadable (R.told source.old) (view.page self.now.page.now)
+        ensures memory { WantsAfter (planes_early (R.told source.old).bytes
+            (view.page self.now.page.now) self.now.limits.now) result }
+        ensures answer { Answers (λ r. (r.0, samples_as r.1)) result (calls.read_image_to_buffer
+            (R.told source.old).bytes self.now.order (view.page self.now.page.now)
+            self.now.limits.now) (R.failures source.old) (R.failures source.new) }
+        ensures asked { AsksOnly (ImageReadable (R.told source.old) (view.page self.now.page.now)
             (λ l. calls.planes_within (view.page self.now.page.now) self.now.limits.now l)) result }
     {
         let page = self.page;
@@ -412,15 +376,12 @@ impl PageReader<'_> {
     #[tactic(auto, using(crate::proofs::PassedChecks::may_want, crate::proofs::PassedChecks::layout_wanted), unfolding(crate::specs::PixelCalls::read_image_bytes))]
     pub fn read_image_bytes<R: Source>(&self, source: &mut R, buf: &mut [u8]) -> TiffResult<()>
         ensures kept { IsKept R.told R.failures result source.old source.new }
-        ensures memory { WantsAfter
-            (image_bytes_early (view.page self.now.page.now) self.now.limits.now (length buf.old))
-            result }
-        ensures answer { Answers (λ _. buf.new) result
-            (calls.read_image_bytes (R.told source.old).bytes self.now.order
-            (view.page self.now.page.now) self.now.limits.now buf.old)
-            (R.failures source.old) (R.failures source.new) }
-        ensures asked { AsksOnly
-            (ImageReadable (R.told source.old) (view.page self.now.page.now)
+        ensures memory { WantsAfter (image_bytes_early (view.page self.now.page.now)
+            self.now.limits.now (length buf.old)) result }
+        ensures answer { Answers (λ _. buf.new) result (calls.read_image_bytes
+            (R.told source.old).bytes self.now.order (view.page self.now.page.now)
+            self.now.limits.now buf.old) (R.failures source.old) (R.failures source.new) }
+        ensures asked { AsksOnly (ImageReadable (R.told source.old) (view.page self.now.page.now)
             (λ l. calls.planes_used (view.page self.now.page.now) l (length buf.old))) result }
     {
         let page = self.page;
@@ -436,16 +397,13 @@ impl PageReader<'_> {
     #[tactic(auto, using(crate::proofs::PassedChecks::layout_wanted), unfolding(crate::specs::PixelCalls::read_chunk))]
     pub fn read_chunk<R: Source>(&self, source: &mut R, index: u32) -> TiffResult<Samples>
         ensures kept { IsKept R.told R.failures result source.old source.new }
-        ensures memory { WantsAfter
-            (chunk_early (R.told source.old).bytes (view.page self.now.page.now)
-            self.now.limits.now index) result }
-        ensures answer { Answers samples_as result
-            (calls.read_chunk (R.told source.old).bytes self.now.order
-            (view.page self.now.page.now) self.now.limits.now index)
+        ensures memory { WantsAfter (chunk_early (R.told source.old).bytes
+            (view.page self.now.page.now) self.now.limits.now index) result }
+        ensures answer { Answers samples_as result (calls.read_chunk (R.told source.old).bytes
+            self.now.order (view.page self.now.page.now) self.now.limits.now index)
             (R.failures source.old) (R.failures source.new) }
-        ensures asked { AsksOnly
-            (ChunksReadable (R.told source.old) (view.page self.now.page.now) index (λ l. 1))
-            result }
+        ensures asked { AsksOnly (ChunksReadable (R.told source.old) (view.page self.now.page.now)
+            index (λ l. 1)) result }
     {
         let layout = chunk_layout(self.page, self.alloc, index)?;
         let request = ReadRequest::Chunks(layout.color, index, 1, layout.row_bytes);
@@ -463,16 +421,13 @@ impl PageReader<'_> {
         buf: &mut [u8],
     ) -> TiffResult<()>
         ensures kept { IsKept R.told R.failures result source.old source.new }
-        ensures memory { WantsAfter
-            (chunk_bytes_early (view.page self.now.page.now) self.now.limits.now index
-            (length buf.old)) result }
-        ensures answer { Answers (λ _. buf.new) result
-            (calls.read_chunk_bytes (R.told source.old).bytes self.now.order
-            (view.page self.now.page.now) self.now.limits.now index buf.old)
-            (R.failures source.old) (R.failures source.new) }
-        ensures asked { AsksOnly
-            (ChunksReadable (R.told source.old) (view.page self.now.page.now) index (λ l. 1))
-            result }
+        ensures memory { WantsAfter (chunk_bytes_early (view.page self.now.page.now)
+            self.now.limits.now index (length buf.old)) result }
+        ensures answer { Answers (λ _. buf.new) result (calls.read_chunk_bytes
+            (R.told source.old).bytes self.now.order (view.page self.now.page.now)
+            self.now.limits.now index buf.old) (R.failures source.old) (R.failures source.new) }
+        ensures asked { AsksOnly (ChunksReadable (R.told source.old) (view.page self.now.page.now)
+            index (λ l. 1)) result }
     {
         let layout = chunk_layout(self.page, self.alloc, index)?;
         room_fault(buf.len(), layout.plane_stride)?;
@@ -493,16 +448,13 @@ impl PageReader<'_> {
         stride: usize,
     ) -> TiffResult<Samples>
         ensures kept { IsKept R.told R.failures result source.old source.new }
-        ensures memory { WantsAfter
-            (strided_early (R.told source.old).bytes (view.page self.now.page.now)
-            self.now.limits.now index stride) result }
-        ensures answer { Answers samples_as result
-            (calls.read_chunk_to_buffer (R.told source.old).bytes self.now.order
-            (view.page self.now.page.now) self.now.limits.now index stride)
-            (R.failures source.old) (R.failures source.new) }
-        ensures asked { AsksOnly
-            (ChunksReadable (R.told source.old) (view.page self.now.page.now) index (λ l. 1))
-            result }
+        ensures memory { WantsAfter (strided_early (R.told source.old).bytes
+            (view.page self.now.page.now) self.now.limits.now index stride) result }
+        ensures answer { Answers samples_as result (calls.read_chunk_to_buffer
+            (R.told source.old).bytes self.now.order (view.page self.now.page.now)
+            self.now.limits.now index stride) (R.failures source.old) (R.failures source.new) }
+        ensures asked { AsksOnly (ChunksReadable (R.told source.old) (view.page self.now.page.now)
+            index (λ l. 1)) result }
     {
         let page = self.page;
         let layout = chunk_layout(page, self.alloc, index)?;
@@ -525,16 +477,13 @@ impl PageReader<'_> {
         buf: &mut [u8],
     ) -> TiffResult<()>
         ensures kept { IsKept R.told R.failures result source.old source.new }
-        ensures memory { WantsAfter
-            (unit_bytes_early (view.page self.now.page.now) self.now.limits.now unit
-            (length buf.old)) result }
-        ensures answer { Answers (λ _. buf.new) result
-            (calls.read_coding_unit_bytes (R.told source.old).bytes self.now.order
-            (view.page self.now.page.now) self.now.limits.now unit buf.old)
-            (R.failures source.old) (R.failures source.new) }
-        ensures asked { AsksOnly
-            (ChunksReadable (R.told source.old) (view.page self.now.page.now) unit
-            (λ l. calls.planes_used (view.page self.now.page.now) l (length buf.old))) result }
+        ensures memory { WantsAfter (unit_bytes_early (view.page self.now.page.now)
+            self.now.limits.now unit (length buf.old)) result }
+        ensures answer { Answers (λ _. buf.new) result (calls.read_coding_unit_bytes
+            (R.told source.old).bytes self.now.order (view.page self.now.page.now)
+            self.now.limits.now unit buf.old) (R.failures source.old) (R.failures source.new) }
+        ensures asked { AsksOnly (ChunksReadable (R.told source.old) (view.page self.now.page.now)
+            unit (λ l. calls.planes_used (view.page self.now.page.now) l (length buf.old))) result }
     {
         let page = self.page;
         let layout = chunk_layout(page, self.alloc, unit)?;

@@ -219,8 +219,7 @@ pub fn undo_horizontal(row: &mut [u8], size: usize, stored: usize)
 fn join_number(planes: &[u8], count: usize, k: usize, number: &mut [u8])
     requires k { k < count }
     requires within { length number.old * count ≤ length planes.now }
-    ensures { EachIndex number.new
-        (λ j. slice_index number.new j ≡ slice_index planes.now
+    ensures { EachIndex number.new (λ j. slice_index number.new j ≡ slice_index planes.now
         ((length number.old - 1 - j) * count + k)) }
 {
     let size = number.len();
@@ -235,9 +234,8 @@ fn join_number(planes: &[u8], count: usize, k: usize, number: &mut [u8])
 fn join_numbers(planes: &[u8], size: usize, row: &mut [u8])
     requires size { 0 < size }
     requires same { length planes.now ≡ length row.old }
-    ensures { (k : ℕ) → k < length planes.now / size → (j : ℕ) → j < size
-        → slice_index row.new (k * size + j) ≡ slice_index planes.now
-        ((size - 1 - j) * (length planes.now / size) + k) }
+    ensures { (k : ℕ) → k < length planes.now / size → (j : ℕ) → j < size → slice_index row.new
+        (k * size + j) ≡ slice_index planes.now ((size - 1 - j) * (length planes.now / size) + k) }
 {
     let count = planes.len() / size;
     for k in 0..count {
@@ -251,9 +249,8 @@ fn join_numbers(planes: &[u8], size: usize, row: &mut [u8])
 fn join_planes(planes: &[u8], size: usize, row: &mut [u8])
     requires size { 0 < size }
     requires same { length planes.now ≡ length row.old }
-    ensures { (k : ℕ) → k < length planes.now / size → (j : ℕ) → j < size
-        → slice_index row.new (k * size + j) ≡ slice_index planes.now
-        ((size - 1 - j) * (length planes.now / size) + k) }
+    ensures { (k : ℕ) → k < length planes.now / size → (j : ℕ) → j < size → slice_index row.new
+        (k * size + j) ≡ slice_index planes.now ((size - 1 - j) * (length planes.now / size) + k) }
 {
     match size {
         2 => join_numbers(planes, 2, row),

@@ -442,17 +442,13 @@ pub fn read_strips<T: Tags>(
     let offsets = NumberList::from_vec(require_u64_vec(tags, alloc, Tag::StripOffsets)?);
     let byte_counts = NumberList::from_vec(require_u64_vec(tags, alloc, Tag::StripByteCounts)?);
     let rows = some_rows(find_u32(tags, alloc, Tag::RowsPerStrip)?.unwrap_or(height))?;
-    counted(
-        width,
-        height,
-        planes,
-        ChunkTable {
-            chunk_width: width,
-            chunk_height: rows,
-            offsets,
-            byte_counts,
-        },
-    )
+    let chunks = ChunkTable {
+        chunk_width: width,
+        chunk_height: rows,
+        offsets,
+        byte_counts,
+    };
+    counted(width, height, planes, chunks)
 }
 
 // Returns `InvalidTagValueType(tag)` if the width or the height of a tile is 0.
@@ -494,17 +490,13 @@ pub fn read_tiles<T: Tags>(
     let chunk_height = some_side(chunk_height, Tag::TileLength)?;
     let offsets = NumberList::from_vec(require_u64_vec(tags, alloc, Tag::TileOffsets)?);
     let byte_counts = NumberList::from_vec(require_u64_vec(tags, alloc, Tag::TileByteCounts)?);
-    counted(
-        width,
-        height,
-        planes,
-        ChunkTable {
-            chunk_width,
-            chunk_height,
-            offsets,
-            byte_counts,
-        },
-    )
+    let chunks = ChunkTable {
+        chunk_width,
+        chunk_height,
+        offsets,
+        byte_counts,
+    };
+    counted(width, height, planes, chunks)
 }
 
 /// Returns how often chunks cover the image: once, or once for each sample of a pixel.

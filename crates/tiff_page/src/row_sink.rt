@@ -73,14 +73,11 @@ pub trait RowSink {
         ensures later { goes_on self.old self.new }
         ensures kept { IsKept R.told R.failures result source.old source.new }
         ensures row { RowPut (R.told source.old).bytes next.now.format.order
-            (view.page next.now.format.page.now)
-            next.now.format.color cursor.old cursor.new
-            (R.failures source.old < R.failures source.new) next.now.at next.now.len
+            (view.page next.now.format.page.now) next.now.format.color cursor.old
+            cursor.new (R.failures source.old < R.failures source.new) next.now.at next.now.len
             (bytes self.old) (bytes self.new) result }
-        ensures asked { AsksOnly
-            (StoredReadable (R.told source.old) cursor.old
-            (needed_of_row (view.page next.now.format.page.now) next.now.format.color
-            next.now.len)) result }
+        ensures asked { AsksOnly (StoredReadable (R.told source.old) cursor.old (needed_of_row
+            (view.page next.now.format.page.now) next.now.format.color next.now.len)) result }
         ensures moves { OnOk result (Moves cursor.old
             (needed_of_row (view.page next.now.format.page.now) next.now.format.color next.now.len)
             cursor.new) };
@@ -104,11 +101,9 @@ pub trait RowSink {
         ensures later { goes_on self.old self.new }
         ensures kept { IsKept R.told R.failures result source.old source.new }
         ensures row { RowPut (R.told source.old).bytes next.now.format.order
-            (view.page next.now.format.page.now)
-            next.now.format.color cursor.old cursor.new
-            (R.failures source.old < R.failures source.new) next.now.at next.now.len
-            (filled_to (whole (next.now.at + next.now.len)) (bytes self.old))
-            (bytes self.new) result }
+            (view.page next.now.format.page.now) next.now.format.color cursor.old cursor.new
+            (R.failures source.old < R.failures source.new) next.now.at next.now.len (filled_to
+            (whole (next.now.at + next.now.len)) (bytes self.old)) (bytes self.new) result }
         ensures asked { AsksOnly (StoredReadable (R.told source.old) cursor.old next.now.len)
             result }
         ensures moves { OnOk result (Moves cursor.old next.now.len cursor.new) };

@@ -1,7 +1,7 @@
-use Rattle.std.proofs.Common.{◌||◌, ◌≡◌, ◌∙◌, ◌*◌, ◌/◌, ◌<◌, ℕ, length, subst, sym, ap, inr, arith}
+use Rattle.std.proofs.Common.{◌||◌, ◌≡◌, ◌∙◌, ◌*◌, ◌/◌, ℕ, length, subst, sym, ap, inr, arith}
 use Rattle.std.proofs.Math.Bool.{or-true}
 use Rattle.tiff_page.specs.PageView as view
-use Rattle.tiff_page.specs.Pixels.{stored_samples, is_byte_plane, joined_number}
+use Rattle.tiff_page.specs.Pixels.{is_byte_plane, joined_number}
 use Rattle.tiff_page.specs.Row.{IsSize, RowReplaced}
 use Rattle.tiff_page.proofs.OutputRow.{joined_numbers, stored_count, stored_whole, no_byte_plane, undone_numbers}
 use Rattle.tiff_page.proofs.Rows.{some_size}

@@ -1,6 +1,6 @@
 use Rattle.tiff_page.specs.PageView as view
 use Rattle.tiff_page.proofs.Planes.{colored, some_planes}
-use Rattle.tiff_page.proofs.buffers.planes_layout.Goals as goal
+use Rattle.tiff_page.proofs.layout.planes_layout.Goals as goal
 
 pub returns-clause-some : goal.returns-clause-some
 returns-clause-some c =
