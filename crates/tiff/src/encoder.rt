@@ -4,7 +4,7 @@
 pub use tiff_base::tags::Predictor;
 pub use tiff_encode::encoder::{
     Compression, DirectoryEncoder, DirectoryOffset, HasDirectory, ImageEncoder, OffsetNumber,
-    TiffEncoder, TiffKind, TiffKindBig, TiffKindStandard, laws, script,
+    TiffEncoder, TiffKind, TiffKindBig, TiffKindStandard, columns, laws, script,
 };
 pub use tiff_value::encoder::differences::Sample;
 pub use tiff_value::encoder::tiff_value::{

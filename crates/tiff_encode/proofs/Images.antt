@@ -7,7 +7,6 @@ use Rattle.tiff_base.specs.declared.error.TiffError.TheVariants.{OutOfMemory}
 use Rattle.tiff_base.specs.declared.error.TiffError.{TiffError}
 use Rattle.tiff_base.specs.declared.tags.FileKind.{FileKind}
 use Rattle.tiff_base.specs.declared.tags.Predictor.{Predictor}
-use Rattle.tiff_base.specs.declared.tags.SampleFormat.{SampleFormat}
 use Rattle.tiff_base.specs.declared.tags.Tag.{Tag}
 use Rattle.tiff_base.specs.declared.tags.Tag.TheVariants as tag
 use Rattle.tiff_value.specs.ColorType.{ColorTypeRecord}
@@ -18,7 +17,7 @@ use Rattle.tiff_encode.specs.FileWrites.{file_with_bytes}
 use Rattle.tiff_encode.specs.FileBytes.{padding}
 use Rattle.tiff_encode.specs.Ends.{EndsAsDefined, CallFails, Ends}
 use Rattle.tiff_encode.specs.Calls.{new_directory, pad, image_directory, write_tags, meaning_tags, chroma_tags, layout_tags, first_tags, image_in, new_image}
-use Rattle.tiff_encode.specs.Causes.{begin_cause, end_of, image_cause, new_image_cause}
+use Rattle.tiff_encode.specs.Causes.{begin_cause, end_of, is_unpredicted, image_cause, new_image_cause}
 use Rattle.tiff_encode.specs.Tagging.{write_fields, fields_of}
 use Rattle.tiff_encode.proofs.Calling.{refused, uncaused, wanting, fresh_cause}
 use Rattle.tiff_encode.proofs.Guarding.{begun_told, begun_fails}
@@ -39,11 +38,11 @@ first_of i head chroma tail all h c t a =
 
 -- the checks of an image return the error that refuses `new_image`
 pub begins_uncaused : (file : FileState) (color : ColorTypeRecord) (kind : FileKind) (end : ℕ) (predictor : Predictor)
-    (formats : List SampleFormat) (width height : ℕ) (cause : Option TiffError) → file.fault ≡ None → kind ≡ file.kind → end ≡ end_of file
-    → predictor ≡ file.predictor → formats ≡ color.formats → image_cause kind end predictor formats width height ≡ cause
+    (unpredicted : Bool) (width height : ℕ) (cause : Option TiffError) → file.fault ≡ None → kind ≡ file.kind → end ≡ end_of file
+    → predictor ≡ file.predictor → unpredicted ≡ is_unpredicted color → image_cause kind end predictor unpredicted width height ≡ cause
     → new_image_cause file color width height ≡ cause
 unfolding new_image_cause
-begins_uncaused file color kind end predictor formats width height cause f k e p s c =
+begins_uncaused file color kind end predictor unpredicted width height cause f k e p s c =
     fresh_cause file.fault _ f ∙ sym (λ i. image_cause (k i) (e i) (p i) (s i) width height) ∙ c
 
 none_by : (b : Bool) (e : TiffError) (cause : Option TiffError) → cond b (Some e) cause ≡ None → b ≡ false
@@ -59,10 +58,10 @@ some_by zero h = absurd cc
 some_by (suc n) h = omega arith
 
 -- an image that nothing refuses has sides
-pub sides_by : (kind : FileKind) (end : ℕ) (predictor : Predictor) (formats : List SampleFormat) (width height : ℕ)
-    → image_cause kind end predictor formats width height ≡ None → (0 < width) × (0 < height)
+pub sides_by : (kind : FileKind) (end : ℕ) (predictor : Predictor) (unpredicted : Bool) (width height : ℕ)
+    → image_cause kind end predictor unpredicted width height ≡ None → (0 < width) × (0 < height)
 unfolding image_cause
-sides_by kind end predictor formats width height c =
+sides_by kind end predictor unpredicted width height c =
     let z = either_false (width == 0) (height == 0) (none_by _ _ _ c) in
     (some_by width z.0, some_by height z.1)
 

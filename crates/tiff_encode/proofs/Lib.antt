@@ -1,4 +1,5 @@
 pub mod Slices
+pub mod Columns
 pub mod Keeping
 pub mod Moving
 pub mod DirectoryMoves

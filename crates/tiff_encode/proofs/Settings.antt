@@ -6,7 +6,8 @@ use Rattle.std.specs.List.{fold}
 use Rattle.std.specs.Prelude.{nat_lt}
 use Rattle.std.specs.Ordering.{nat_cmp}
 use Rattle.tiff_base.specs.declared.error.TiffError.{TiffError}
-use Rattle.tiff_base.specs.declared.error.TiffError.TheVariants.{IntSizeError, UsageError, OutOfMemory}
+use Rattle.tiff_base.specs.declared.error.TiffError.TheVariants.{IoError, IntSizeError, UsageError, OutOfMemory}
+use Rattle.tiff_base.specs.declared.io.IoKind.TheVariants.{InvalidInput}
 use Rattle.tiff_base.specs.declared.error.UsageError.TheVariants.{ReconfiguredAfterImageWrite}
 use Rattle.tiff_base.specs.declared.tags.ExtraSamples.{ExtraSamples}
 use Rattle.tiff_base.specs.declared.tags.FileKind.{FileKind}
@@ -18,6 +19,7 @@ use Rattle.tiff_base.specs.Directory.{last_of_each}
 use Rattle.tiff_base.specs.Field.{Field}
 use Rattle.tiff_base.specs.Number.{le}
 use Rattle.tiff_base.specs.Tags.{extra_number}
+use Rattle.tiff_value.specs.ColorType.{is_packed}
 use Rattle.tiff_value.specs.Data.{FieldData, Scalars, extras, rationals, u32s, data_of}
 use Rattle.tiff_value.specs.ValueLaws.{each_whole}
 use Rattle.tiff_value.specs.Values.{IsValue}
@@ -201,8 +203,10 @@ extra_parts file i extra c =
     let field : Option TiffError = field_cause file (data_of (extras extra)) in
     let many = nat_lt 65535 (length i.color.bits + length extra) in
     let rest : Option TiffError = cond many (Some IntSizeError) field in
-    let first = passed (is_begun i) (UsageError ReconfiguredAfterImageWrite) rest (unended file.fault _ c) in
-    (fresh_by file.fault _ c, (passed many IntSizeError field first.1).1)
+    let whole : Option TiffError = cond (is_packed i.color) (Some (IoError InvalidInput)) rest in
+    let first = passed (is_begun i) (UsageError ReconfiguredAfterImageWrite) whole (unended file.fault _ c) in
+    let second = passed (is_packed i.color) (IoError InvalidInput) rest first.1 in
+    (fresh_by file.fault _ c, (passed many IntSizeError field second.1).1)
 
 pub extra_short : (file : FileState) (i : OpenImage) (extra : List ExtraSamples) (e : TiffError) → extra_samples_cause file i extra ≡ None
     → e ≡ OutOfMemory → CallFails (one_tag tag.ExtraSamples (extras extra) i.directory file) e file file

@@ -4,6 +4,8 @@ pub mod Bytes
 pub mod Undone
 pub mod Data
 pub mod Offsets
+pub mod Packed
+pub mod Whole
 pub mod Chunks
 pub mod Images
 pub mod FirstPage

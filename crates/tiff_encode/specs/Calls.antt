@@ -20,7 +20,7 @@ use Rattle.tiff_base.specs.declared.tags.«Type».{«Type»}
 use Rattle.tiff_base.specs.Directory.{link_offset}
 use Rattle.tiff_base.specs.Field.{Field}
 use Rattle.tiff_base.specs.Tags.{tag_number}
-use Rattle.tiff_value.specs.ColorType.{ColorTypeRecord}
+use Rattle.tiff_value.specs.ColorType.{ColorTypeRecord, columns_of}
 use Rattle.tiff_encode.specs.declared.encoder.settings.Compression.{Compression}
 use Rattle.tiff_encode.specs.declared.encoder.settings.Compression.TheVariants.{Uncompressed}
 use Rattle.tiff_encode.specs.FileBytes.{padding, rows_per_strip}
@@ -208,7 +208,7 @@ tiles_of width length planar =
 -- samples
 abbrev pub meaning_tags : OpenImage → List (Tag × Scalars)
 meaning_tags i =
-    (tag.ImageWidth, u32s (i.width ∷ []))
+    (tag.ImageWidth, u32s (i.pixels ∷ []))
     ∷ (tag.ImageLength, u32s (i.height ∷ []))
     ∷ (tag.Compression, methods (compression_method i.compression ∷ []))
     ∷ (tag.Predictor, predictors (i.predictor ∷ []))
@@ -229,19 +229,22 @@ layout_tags i =
 unfoldable pub first_tags : OpenImage → List (Tag × Scalars)
 first_tags i = meaning_tags i ++ (chroma_tags i.color.interpretation ++ layout_tags i)
 
--- an image of a width and a height without chunks, in a directory; `size` is the number of bytes of
--- a sample
+-- an image of a width in pixels and a height without chunks, in a directory; `size` is the number of
+-- bytes of a sample
 abbrev pub image_in : FileState → OpenDirectory → ColorTypeRecord → ℕ → ℕ → ℕ → OpenImage
 image_in file d color size width height = record {
   directory = d;
-  width = width;
+  width = columns_of color width;
   height = height;
+  pixels = width;
   color = color;
   size = size;
   extra = [];
   predictor = file.predictor;
   compression = file.compression;
-  form = strips_of width (default_rows file.compression (width * (length color.bits * size))) Chunky;
+  form = strips_of (columns_of color width)
+      (default_rows file.compression (columns_of color width * (length color.bits * size)))
+      Chunky;
   chunks = [];
 }
 

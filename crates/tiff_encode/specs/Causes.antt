@@ -22,7 +22,7 @@ use Rattle.tiff_base.specs.declared.tags.SampleFormat.TheVariants.{IEEEFP, Void}
 use Rattle.tiff_base.specs.declared.tags.«Type».{«Type»}
 use Rattle.tiff_base.specs.Directory.{link_offset}
 use Rattle.tiff_base.specs.Types.{type_size}
-use Rattle.tiff_value.specs.ColorType.{ColorTypeRecord}
+use Rattle.tiff_value.specs.ColorType.{ColorTypeRecord, is_packed}
 use Rattle.tiff_value.specs.Buffer.{BufferRecord}
 use Rattle.tiff_value.specs.Data.{FieldData, extras, rationals, data_of}
 use Rattle.tiff_page.specs.Counts.{all_chunks}
@@ -141,34 +141,39 @@ is_not_whole (IEEEFP ∷ formats) = true
 is_not_whole (Void ∷ formats) = true
 is_not_whole (format ∷ formats) = false
 
--- the error of a predictor that can't be used for samples of these formats; all formats of an image
--- are the same
-abbrev pub predictor_cause : Predictor → List SampleFormat → Option TiffError → Option TiffError
-predictor_cause predictor.None formats rest = rest
-predictor_cause predictor.Horizontal formats rest = if is_not_whole formats
+-- whether a color type has no predictor: its samples aren't integers, or several are in a byte; all
+-- formats of an image are the same
+abbrev pub is_unpredicted : ColorTypeRecord → Bool
+is_unpredicted color = is_packed color || is_not_whole color.formats
+
+-- the error of a predictor that can't be used; `unpredicted` tells whether the color type has none
+abbrev pub predictor_cause : Predictor → Bool → Option TiffError → Option TiffError
+predictor_cause predictor.None unpredicted rest = rest
+predictor_cause predictor.Horizontal unpredicted rest = if unpredicted
     then Some (UsageError PredictorIncompatible) else rest
-predictor_cause predictor.FloatingPoint formats rest = Some (UsageError PredictorUnavailable)
+predictor_cause predictor.FloatingPoint unpredicted rest = Some (UsageError PredictorUnavailable)
 
 -- the error of an image of a width and a height at the end of a file of a length, in the order: the
 -- width and the height, the predictor, the offset of a resolution; in BigTIFF a resolution needs no
 -- offset
-unfoldable pub image_cause : FileKind → ℕ → Predictor → List SampleFormat → ℕ → ℕ → Option TiffError
-image_cause kind end predictor formats width height =
+unfoldable pub image_cause : FileKind → ℕ → Predictor → Bool → ℕ → ℕ → Option TiffError
+image_cause kind end predictor unpredicted width height =
     if width == 0 || height == 0 then Some (FormatError (InvalidDimensions width height))
-    else predictor_cause predictor formats (if is_past kind (resolutions_offset end + 8)
+    else predictor_cause predictor unpredicted (if is_past kind (resolutions_offset end + 8)
     then Some IntSizeError else None)
 
 -- the error of `new_image`, if any
 unfoldable pub new_image_cause : FileState → ColorTypeRecord → ℕ → ℕ → Option TiffError
 new_image_cause file color width height =
     unless_failed file
-    (image_cause file.kind (end_of file) file.predictor color.formats width height)
+    (image_cause file.kind (end_of file) file.predictor (is_unpredicted color) width height)
 
--- the error of `extra_samples`, if any
+-- the error of `extra_samples`, if any; it refuses packed pixels
 unfoldable pub extra_samples_cause : FileState → OpenImage → List ExtraSamples → Option TiffError
 extra_samples_cause file i extra =
     unless_failed file
     (if is_begun i then Some (UsageError ReconfiguredAfterImageWrite)
+    else if is_packed i.color then Some (IoError InvalidInput)
     else if nat_lt 65535 (length i.color.bits + length extra) then Some IntSizeError
     else field_cause file (data_of (extras extra)))
 
@@ -182,12 +187,13 @@ rows_per_strip_cause file i rows =
 abbrev pub is_no_side : ℕ → Bool
 is_no_side n = n == 0 || not (n % 16 == 0)
 
--- the error of `tiles`, if any
+-- the error of `tiles`, if any; it refuses packed pixels
 unfoldable pub tiles_cause : FileState → OpenImage → ℕ → ℕ → Option TiffError
 tiles_cause file i width length =
     unless_failed file
     (if is_begun i then Some (UsageError ReconfiguredAfterImageWrite)
-    else if is_no_side width || is_no_side length then Some (IoError InvalidInput)
+    else if is_packed i.color || (is_no_side width || is_no_side length)
+    then Some (IoError InvalidInput)
     else None)
 
 -- the error of `planar`, if any

@@ -8,6 +8,7 @@ use Rattle.tiff_base.specs.declared.tags.PhotometricInterpretation.TheVariants.{
 use Rattle.tiff_base.specs.declared.tags.PlanarConfiguration.{PlanarConfiguration}
 use Rattle.tiff_base.specs.declared.tags.PlanarConfiguration.TheVariants.{Chunky, Planar}
 use Rattle.tiff_base.specs.declared.tags.SampleFormat.TheVariants.{Void}
+use Rattle.tiff_value.specs.ColorType.{first_bits}
 use Rattle.tiff_page.specs.Page.{PageRecord}
 use Rattle.tiff_page.specs.Counts.{all_chunks}
 use Rattle.tiff_page.specs.Rect.{rect, chunk_of_pixel}
@@ -23,7 +24,7 @@ abbrev pub subsampling_of : PhotometricInterpretation → ℕ × ℕ
 subsampling_of YCbCr = (1, 1)
 subsampling_of _ = (2, 2)
 
--- the page that the reader finds for an image
+-- the page whose samples the chunks of an image store, of whole bytes: a column is one pixel
 abbrev pub image_page : OpenImage → PageRecord
 image_page i = record {
   width = i.width;
@@ -33,7 +34,7 @@ image_page i = record {
   samples = all_samples i;
   extra = i.extra;
   format = get_or i.color.formats 0 Void;
-  depth = get_or i.color.bits 0 0;
+  depth = 8 * i.size;
   predictor = i.predictor;
   planar = i.form.planar;
   subsampling = subsampling_of i.color.interpretation;
@@ -42,6 +43,20 @@ image_page i = record {
   chunk_height = i.form.chunk_height;
   offsets = map (λ chunk. chunk.offset) i.chunks;
   byte_counts = map (λ chunk. chunk.stored) i.chunks;
+}
+
+-- the width of a chunk in pixels, by that of the image and that in columns: a strip is as wide as
+-- the image, and tiles have no packed pixels
+abbrev pub pixels_across : ChunkType → ℕ → ℕ → ℕ
+pixels_across Strip pixels columns = pixels
+pixels_across Tile pixels columns = columns
+
+-- the page that the reader finds for an image
+abbrev pub shown_page : OpenImage → PageRecord
+shown_page i = record (image_page i) {
+  width = i.pixels;
+  depth = first_bits i.color;
+  chunk_width = pixels_across i.form.chunk_type i.pixels i.form.chunk_width;
 }
 
 abbrev pub is_tile : ChunkType → Bool

@@ -1,7 +1,9 @@
 -- The properties of an open image (this project's).
-use Rattle.std.specs.Prelude.{◌≡◌, ℕ, ◌+◌, ◌^◌, ◌<◌}
+use Rattle.std.specs.Prelude.{◌≡◌, ℕ, ◌+◌, ◌^◌, ◌<◌, true, []}
 use Rattle.tiff_base.specs.declared.color.ChunkType.TheVariants.{Strip}
-use Rattle.tiff_encode.specs.Machine.{ChunkLayout}
+use Rattle.tiff_base.specs.declared.tags.Predictor.TheVariants as predictor
+use Rattle.tiff_value.specs.ColorType.{is_packed, columns_of}
+use Rattle.tiff_encode.specs.Machine.{ChunkLayout, OpenImage}
 
 -- a width or a height: a number of 32 bits that isn't 0
 abbrev pub IsSide : ℕ → Type 0
@@ -19,3 +21,11 @@ pub record IsDrawn (width height samples extra : ℕ) (form : ChunkLayout) : Typ
   pub high : IsSide height
   pub few : samples + extra < 2 ^ 16
   pub cut : IsForm width form
+
+-- The columns of an image hold its pixels. If a column holds several, the image has strips, and
+-- neither extra samples nor a predictor.
+pub record HoldsPixels (i : OpenImage) : Type 0 where
+  pub some : IsSide i.pixels
+  pub columns : i.width ≡ columns_of i.color i.pixels
+  pub plain : is_packed i.color ≡ true
+      → (i.form.chunk_type ≡ Strip) × ((i.extra ≡ []) × (i.predictor ≡ predictor.None))

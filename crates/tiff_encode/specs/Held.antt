@@ -28,17 +28,17 @@ use Rattle.tiff_page.specs.Page.{PageRecord}
 use Rattle.tiff_page.specs.Checks.{is_page_tag, tags_of_pixels}
 use Rattle.tiff_page.specs.Counts.{all_chunks}
 use Rattle.tiff_page.specs.Layout.{color_of}
-use Rattle.tiff_page.specs.Pixels.{is_short, shown_sample}
+use Rattle.tiff_page.specs.Pixels.{is_short}
 use Rattle.tiff_encode.specs.FileBytes.{offset_len}
 use Rattle.tiff_encode.specs.Value.{offset_values}
 use Rattle.tiff_encode.specs.Model.{In, FinishedDirectory, Model, Stands}
 use Rattle.tiff_encode.specs.WriteOps.{standing_fields}
 use Rattle.tiff_encode.specs.Machine.{Chunk, OpenImage, compression_method}
-use Rattle.tiff_encode.specs.Drawn.{IsSide, IsForm}
-use Rattle.tiff_encode.specs.Chunks.{all_samples, image_page, chunk_samples, sample_in}
+use Rattle.tiff_encode.specs.Drawn.{IsSide, IsForm, HoldsPixels}
+use Rattle.tiff_encode.specs.Chunks.{all_samples, image_page, shown_page, chunk_samples, sample_in}
 use Rattle.tiff_encode.specs.Calls.{extended_by_first}
 use Rattle.tiff_encode.specs.Stored.{IsChunkStored}
-use Rattle.tiff_encode.specs.Shows.{Image, Shows, page_at}
+use Rattle.tiff_encode.specs.Shows.{Image, Shows, page_at, shown_columns, shown_at}
 
 -- ---- the values of tags
 
@@ -101,7 +101,7 @@ EachGiven (row ∷ rows) given = (given (tag_number row.0) ≡ row.1) × EachGiv
 -- to its end. The value of `ExtraSamples` may be absent or an empty list if there are none.
 abbrev pub lasting_tags : OpenImage → Option Scalars → List (Tag × Option Scalars)
 lasting_tags i extra =
-    (tag.ImageWidth, Some (u32s (i.width ∷ [])))
+    (tag.ImageWidth, Some (u32s (i.pixels ∷ [])))
     ∷ (tag.ImageLength, Some (u32s (i.height ∷ [])))
     ∷ (tag.Compression, Some (methods (compression_method i.compression ∷ [])))
     ∷ (tag.PhotometricInterpretation, Some (interpretations (i.color.interpretation ∷ [])))
@@ -169,6 +169,7 @@ pub record IsWholeImage (kind : FileKind) (i : OpenImage) : Type 0 where
   pub few : all_samples i < 2 ^ 16
   pub predicted_by : (i.predictor ≡ predictor.None) ⊎ (i.predictor ≡ predictor.Horizontal)
   pub form : IsForm i.width i.form
+  pub pixels : HoldsPixels i
   pub chunks : length i.chunks ≡ all_chunks (image_page i)
   pub count : all_chunks (image_page i) < 2 ^ 32
   pub fit : (c : Chunk) → In c i.chunks → (c.offset < 256 ^ offset_len kind)
@@ -211,7 +212,7 @@ RegionsHaveChunks m i samples =
 
 -- an image with these samples
 abbrev pub image_with : OpenImage → List (List ℕ) → Image
-image_with i samples = record { page = image_page i; sample_at = sample_in (image_page i) samples }
+image_with i samples = record { page = shown_page i; sample_at = sample_in (image_page i) samples }
 
 -- ---- the laws
 
@@ -223,8 +224,9 @@ pub record ShowsSamples (file : List ℕ) (page : PageRecord) (sample_at : ℕ �
   pub is_color : color_of page ≡ Ok color
   pub whole : (chunk : ℕ) → chunk < all_chunks page
       → is_short file LittleEndian page color chunk ≡ false
-  pub shows : (x y sample : ℕ) → x < page.width → y < page.height → sample < num_samples color
-      → shown_sample file LittleEndian page x y sample ≡ sample_at x y sample
+  pub shows : (x y sample : ℕ) → x < shown_columns page color → y < page.height
+      → sample < num_samples color
+      → shown_at file page color x y sample ≡ sample_at x y sample
 
 -- a directory with the values that describe an image is the page of that image
 abbrev pub PageTold : Type 0
@@ -234,13 +236,13 @@ PageTold =
     → Stands kind file m → In d m.directories → d.fields ≡ standing_fields kind fields
     → HoldsValues m fields given
     → IsWholeImage kind i → TellsImage kind i given
-    → page_at kind file d.offset unlimited ≡ Ok (image_page i)
+    → page_at kind file d.offset unlimited ≡ Ok (shown_page i)
 
 -- chunks that store samples show these samples
 abbrev pub ChunksShow : Type 0
 ChunksShow = (kind : FileKind) (file : List ℕ) (i : OpenImage) (samples : List (List ℕ))
     → IsWholeImage kind i → AreSupplied i samples → HasChunks file i samples
-    → ShowsSamples file (image_page i) (sample_in (image_page i) samples)
+    → ShowsSamples file (shown_page i) (sample_in (image_page i) samples)
 
 -- a file that contains a model with an image shows that image
 abbrev pub ImagesShow : Type 0

@@ -12,7 +12,7 @@ use Rattle.tiff_encode.specs.declared.encoder.settings.Compression.TheVariants.{
 use Rattle.tiff_encode.specs.Model.{Model, IsLink, Stands, header_link}
 use Rattle.tiff_encode.specs.Machine.{FileState, OpenImage, WriteOutcome, WriteCall}
 use Rattle.tiff_encode.specs.Drawn.{IsDrawn}
-use Rattle.tiff_encode.specs.Chunks.{all_samples, image_page, parts_left, sample_in}
+use Rattle.tiff_encode.specs.Chunks.{all_samples, image_page, shown_page, parts_left, sample_in}
 use Rattle.tiff_encode.specs.Causes.{end_of, write_image_data_cause}
 use Rattle.tiff_encode.specs.Calls as calls
 use Rattle.tiff_encode.specs.Calls.{Offsets}
@@ -23,10 +23,10 @@ use Rattle.tiff_encode.specs.Shows.{Image, Shows, ShowsFirst, ShowsGray}
 use Rattle.tiff_encode.specs.Held.{image_with}
 use Rattle.tiff_encode.specs.Open.{HoldsOpen, IsOpen, model_by}
 
--- an image with these samples, row by row and pixel by pixel
+-- an image with these samples, row by row and column by column
 abbrev pub image_of_samples : OpenImage → List ℕ → Image
 image_of_samples i samples = record {
-  page = image_page i;
+  page = shown_page i;
   sample_at = λ x y sample. slice_index samples ((y * i.width + x) * all_samples i + sample);
 }
 

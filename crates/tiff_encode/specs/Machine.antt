@@ -45,13 +45,15 @@ pub record OpenDirectory : Type 0 where
   pub parent : Option ℕ
   pub chained : Bool
 
--- an open image: its directory, its width and height, its color type, the number of bytes of a
--- sample, its extra samples, its predictor, its compression, the layout of its chunks, and the
--- chunks in the file
+-- an open image: its directory; its width and height, where a column is a pixel, or a byte of
+-- packed pixels; the number of pixels of a row; its color type, the number of bytes of a sample, its
+-- extra samples, its predictor, its compression, the layout of its chunks in columns and rows, and
+-- the chunks in the file
 pub record OpenImage : Type 0 where
   pub directory : OpenDirectory
   pub width : ℕ
   pub height : ℕ
+  pub pixels : ℕ
   pub color : ColorTypeRecord
   pub size : ℕ
   pub extra : List ExtraSamples

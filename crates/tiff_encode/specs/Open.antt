@@ -23,7 +23,7 @@ use Rattle.tiff_encode.specs.FileBytes.{offset_len}
 use Rattle.tiff_encode.specs.Model.{In, Model, Stands, Grows}
 use Rattle.tiff_encode.specs.WriteOps.{model_after, standing_fields}
 use Rattle.tiff_encode.specs.Machine.{FileState, OpenDirectory, Chunk, OpenImage, WriteOutcome, WriteCall}
-use Rattle.tiff_encode.specs.Drawn.{IsSide, IsForm}
+use Rattle.tiff_encode.specs.Drawn.{IsSide, IsForm, HoldsPixels}
 use Rattle.tiff_encode.specs.Chunks.{all_samples, image_page, chunk_samples, is_left}
 use Rattle.tiff_encode.specs.Causes.{end_of}
 use Rattle.tiff_encode.specs.Calls as calls
@@ -58,6 +58,7 @@ pub record IsOpen (i : OpenImage) : Type 0 where
   pub few : all_samples i < 2 ^ 16
   pub predicted_by : (i.predictor ≡ predictor.None) ⊎ (i.predictor ≡ predictor.Horizontal)
   pub form : IsForm i.width i.form
+  pub pixels : HoldsPixels i
 
 -- The chunks of an image so far have these samples: each chunk has its number of samples, each
 -- sample is a number of the bytes of a sample, and the model has regions that store them.

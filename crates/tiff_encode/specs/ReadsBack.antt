@@ -1,59 +1,69 @@
 -- The reader returns the samples of a page that shows an image (this project's).
-use Rattle.std.specs.Prelude.{◌≡◌, ℕ, ◌*◌, ◌/◌, ◌%◌, ◌^◌, ◌<◌, ◌≤◌, true, List, [], length, slice_index, Ok}
+use Rattle.std.specs.Prelude.{◌≡◌, ℕ, ◌*◌, ◌/◌, ◌%◌, ◌^◌, ◌<◌, ◌≤◌, ◌⊎◌, true, nat_lt, if◌then◌else◌, List, [], length, slice_index, Ok}
 use Rattle.tiff_base.specs.declared.color.ColorType.{ColorType}
 use Rattle.tiff_base.specs.declared.tags.ByteOrder.TheVariants.{LittleEndian}
 use Rattle.tiff_base.specs.declared.tags.FileKind.{FileKind}
 use Rattle.tiff_base.specs.declared.tags.PlanarConfiguration.TheVariants.{Chunky}
 use Rattle.tiff_value.specs.declared.encoder.colortype.ColorTypeName.{ColorTypeName}
-use Rattle.tiff_value.specs.ColorType.{ColorTypeRecord}
+use Rattle.tiff_value.specs.ColorType.{ColorTypeRecord, columns_of}
 use Rattle.tiff_value.specs.ColorTypes.{color_type, inner_size}
 use Rattle.tiff_ifd.specs.declared.limits.Limits.{Limits}
 use Rattle.tiff_page.specs.declared.layout.DecodingSampleType.{DecodingSampleType}
 use Rattle.tiff_page.specs.Page.{PageRecord}
 use Rattle.tiff_page.specs.Rect.{chunks_of_plane}
-use Rattle.tiff_page.specs.Layout.{samples_in_chunk, planes, row_bytes, whole_chroma, color_of, sample_type_of}
+use Rattle.tiff_page.specs.Layout.{samples_in_chunk, planes, row_bytes, whole_chunks, whole_chroma, color_of, sample_type_of}
 use Rattle.tiff_page.specs.Methods.{method_fault}
-use Rattle.tiff_page.specs.PixelFault.{is_supported_color, predictor_fault, inversion_fault}
+use Rattle.tiff_page.specs.PixelFault.{is_supported_color, depth_fault, predictor_fault, inversion_fault}
 use Rattle.tiff_page.specs.Pixels.{tabulate}
 use Rattle.tiff_page.specs.Row.{IsSize}
 use Rattle.tiff_page.specs.PixelCalls.{image_of}
 use Rattle.tiff_page.specs.Image.{Decoded}
 use Rattle.tiff_encode.specs.Model.{Model}
 use Rattle.tiff_encode.specs.Machine.{FileState, OpenImage}
-use Rattle.tiff_encode.specs.Chunks.{all_samples, image_page}
+use Rattle.tiff_encode.specs.Chunks.{all_samples, shown_page}
 use Rattle.tiff_encode.specs.Open.{IsOpen}
-use Rattle.tiff_encode.specs.Shows.{Image, Shows}
+use Rattle.tiff_encode.specs.Shows.{Image, shown_columns, Shows}
 use Rattle.tiff_encode.specs.ImageData.{AreNumbers, LeavesImage, image_of_samples}
 
+-- the number of samples of a column that the first plane of a page shows: of a pixel those that a
+-- chunk contains; a byte of packed pixels is one sample
+abbrev pub column_samples : PageRecord → ColorType → ℕ
+column_samples p color = if nat_lt p.depth 8 then 1 else samples_in_chunk p.planar color
+
 -- the samples of an image in row order that the first plane of a page shows: of a chunky page all
--- samples that the color has, pixel by pixel, of a planar page those of the first plane
+-- samples that the color has, column by column, of a planar page those of the first plane
 abbrev pub samples_shown : Image → PageRecord → ColorType → List ℕ
 samples_shown i p color =
-    let s = samples_in_chunk p.planar color in
-    tabulate (p.height * p.width * s) (λ n. i.sample_at (n / s % p.width) (n / s / p.width) (n % s))
+    let s = column_samples p color in
+    let c = shown_columns p color in
+    tabulate (p.height * c * s) (λ n. i.sample_at (n / s % c) (n / s / c) (n % s))
 
--- if a plane shows all samples of a pixel, the samples of an image that was passed as one list are
+-- if a plane shows all samples of a column, the samples of an image that was passed as one list are
 -- in the order of that list
 abbrev pub ShownInOrder : Type 0
 ShownInOrder = (i : OpenImage) (samples : List ℕ) (p : PageRecord) (color : ColorType)
-    → p.width ≡ i.width → samples_in_chunk p.planar color ≡ all_samples i
-    → length samples ≡ p.height * p.width * all_samples i
+    → shown_columns p color ≡ i.width → column_samples p color ≡ all_samples i
+    → length samples ≡ p.height * shown_columns p color * all_samples i
     → samples_shown (image_of_samples i samples) p color ≡ samples
 
--- Each sample of an image has `size` bytes, and is a number of these bytes.
+-- Each sample of an image has `size` bytes, which is the depth of the page, or is a byte of packed
+-- pixels; and it is a number of these bytes.
 pub record HasSamplesOf (i : Image) (size : ℕ) : Type 0 where
   pub is_size : IsSize size
-  pub depth : i.page.depth ≡ 8 * size
+  pub depth : (i.page.depth ≡ 8 * size) ⊎ ((i.page.depth < 8) × (size ≡ 1))
   pub small : (x y sample : ℕ) → i.sample_at x y sample < 256 ^ size
 
--- The reader supports a page whose samples are whole bytes: its color, its predictor, its
--- compression, its inversion of samples, and its chroma subsampling.
+-- The reader supports a page: its color, its predictor, its compression, its inversion of samples,
+-- and its chroma subsampling; and if its pixels are packed, their depth, and the places where its
+-- chunks meet.
 pub record IsReadable (p : PageRecord) (color : ColorType) : Type 0 where
   pub plain : is_supported_color color ≡ true
   pub predictor : predictor_fault p color ≡ Ok tt
   pub packed_by : method_fault p.method ≡ Ok tt
   pub upright : inversion_fault p color ≡ Ok tt
   pub chroma : whole_chroma p color ≡ Ok color
+  pub narrow : p.depth < 8
+      → (depth_fault p color ≡ Ok tt) × (whole_chunks p color p.width ≡ Ok color)
 
 -- The limits permit an image: the number of bytes of the rows of a chunk, across the whole image,
 -- and that of all planes are less than 2^64; the number of bytes of the image that is read is at
@@ -91,13 +101,13 @@ abbrev pub WrittenReadsBack : Type 0
 WrittenReadsBack = (kind : FileKind) (file : List ℕ) (offset : ℕ) (i : OpenImage) (sample_at : ℕ → ℕ
     → ℕ → ℕ) (limits : Limits)
     → IsOpen i → ((x y sample : ℕ) → sample_at x y sample < 256 ^ i.size)
-    → (s : Shows kind file offset (record { page = image_page i; sample_at = sample_at }))
+    → (s : Shows kind file offset (record { page = shown_page i; sample_at = sample_at }))
     → LetsPass limits s.page s.color
     → (type : DecodingSampleType) × ((sample_type_of s.page ≡ Ok type)
     × (image_of file LittleEndian s.page limits
     ≡ Ok (record {
       sample_type = type;
-      numbers = samples_shown (record { page = image_page i; sample_at = sample_at })
+      numbers = samples_shown (record { page = shown_page i; sample_at = sample_at })
           s.page s.color;
     })))
 
@@ -106,7 +116,7 @@ WrittenReadsBack = (kind : FileKind) (file : List ℕ) (offset : ℕ) (i : OpenI
 abbrev pub AllShown : Type 0
 AllShown = (i : OpenImage) (p : PageRecord) (color : ColorType) → IsOpen i → i.extra ≡ []
     → i.form.planar ≡ Chunky
-    → p ≡ record (image_page i) { offsets = p.offsets; byte_counts = p.byte_counts }
+    → p ≡ record (shown_page i) { offsets = p.offsets; byte_counts = p.byte_counts }
     → color_of p ≡ Ok color
     → samples_in_chunk p.planar color ≡ all_samples i
 
@@ -131,6 +141,7 @@ WrittenIsRead =
     (limits : Limits) (d : Decoded)
     → (s : Shows old.kind new.bytes offset (image_of_samples l.image samples))
     → color ≡ color_type name → size ≡ inner_size name
-    → AreNumbers size samples → length samples ≡ height * width * length color.bits
+    → AreNumbers size samples
+    → length samples ≡ height * columns_of color width * length color.bits
     → image_of new.bytes LittleEndian s.page limits ≡ Ok d
     → d.numbers ≡ samples

@@ -1,6 +1,6 @@
 -- What a written file shows: an image from the caller (this project's), by the definitions of the
 -- reader.
-use Rattle.std.specs.Prelude.{◌≡◌, ℕ, ◌+◌, ◌*◌, ◌<◌, false, List, [], slice_index, Result, Ok}
+use Rattle.std.specs.Prelude.{◌≡◌, ℕ, ◌+◌, ◌*◌, ◌<◌, false, if◌then◌else◌, nat_lt, List, [], slice_index, Result, Ok}
 use Rattle.tiff_base.specs.declared.color.ChunkType.TheVariants.{Strip}
 use Rattle.tiff_base.specs.declared.color.ColorType.{ColorType}
 use Rattle.tiff_base.specs.declared.error.TiffError.{TiffError}
@@ -21,14 +21,15 @@ use Rattle.tiff_ifd.specs.Limits.{unlimited}
 use Rattle.tiff_ifd.specs.TagLookup.{look_in}
 use Rattle.tiff_page.specs.Page.{PageRecord}
 use Rattle.tiff_page.specs.Checks.{page_of}
-use Rattle.tiff_page.specs.Layout.{color_of}
+use Rattle.tiff_page.specs.Layout.{row_bytes, color_of}
 use Rattle.tiff_page.specs.Counts.{all_chunks}
-use Rattle.tiff_page.specs.Pixels.{is_short, shown_sample}
+use Rattle.tiff_page.specs.Pixels.{planar_or, image_region, is_short, packed_byte, shown_sample}
 use Rattle.tiff_encode.specs.FileBytes.{rows_per_strip}
 use Rattle.tiff_encode.specs.Model.{IsLink, Stands, header_model}
 
 -- an image from the caller: its page, for any offsets and byte counts of its chunks; and its
--- sample, as bits, for a column, a row and a number of a sample of the pixel
+-- sample, as bits, for a column, a row and a number of a sample of the pixel. A column is a pixel,
+-- or a byte of packed pixels.
 pub record Image : Type 0 where
   pub page : PageRecord
   pub sample_at : ℕ → ℕ → ℕ → ℕ
@@ -38,6 +39,17 @@ abbrev pub page_at : FileKind → List ℕ → ℕ → Limits → Result PageRec
 page_at kind file offset limits = do
   directory ← directory_at kind LittleEndian file offset
   page_of (look_in kind LittleEndian file limits directory.entries)
+
+-- the number of columns of a page: its pixels, or at depths below 8 the bytes of a row
+abbrev pub shown_columns : PageRecord → ColorType → ℕ
+shown_columns p color = if nat_lt p.depth 8 then row_bytes p color p.width else p.width
+
+-- the sample of a column that the reader outputs: a sample of a pixel, or a byte of packed pixels
+abbrev pub shown_at : List ℕ → PageRecord → ColorType → ℕ → ℕ → ℕ → ℕ
+shown_at file p color x y sample =
+    if nat_lt p.depth 8
+    then packed_byte file LittleEndian p color (image_region p) (planar_or p.planar sample 0) y x
+    else shown_sample file LittleEndian p x y sample
 
 -- The directory at an offset is a page that shows the image: without limits it is the image's page,
 -- except for the offsets and byte counts of its chunks; it has a color; none of its chunks has too
@@ -50,8 +62,9 @@ pub record Shows (kind : FileKind) (file : List ℕ) (offset : ℕ) (i : Image) 
   pub is_color : color_of page ≡ Ok color
   pub whole : (chunk : ℕ) → chunk < all_chunks page
       → is_short file LittleEndian page color chunk ≡ false
-  pub shows : (x y sample : ℕ) → x < page.width → y < page.height → sample < num_samples color
-      → shown_sample file LittleEndian page x y sample ≡ i.sample_at x y sample
+  pub shows : (x y sample : ℕ) → x < shown_columns page color → y < page.height
+      → sample < num_samples color
+      → shown_at file page color x y sample ≡ i.sample_at x y sample
 
 -- ---- gray samples of 8 bits
 

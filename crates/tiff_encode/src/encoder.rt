@@ -29,6 +29,7 @@ ghost use Rattle.tiff_encode.specs.FileWrites.{AppendsToFile, PointsLink};
 
 pub use self::directory::encoder::DirectoryEncoder;
 pub use self::directory::state::HasDirectory;
+pub use self::image::begin::columns;
 pub use self::image::encoder::ImageEncoder;
 pub use self::kind::{DirectoryOffset, OffsetNumber, TiffKind, TiffKindBig, TiffKindStandard};
 pub use self::settings::Compression;

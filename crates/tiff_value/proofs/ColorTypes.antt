@@ -1,7 +1,10 @@
 -- Each name is the name of a color type.
-use Rattle.std.proofs.Common.{◌^◌, ◌<◌, lit<}
+use Rattle.std.proofs.Common.{◌^◌, ◌<◌, inl, inr, refl, lit<}
+use Rattle.tiff_base.specs.declared.tags.PhotometricInterpretation.TheVariants.{BlackIsZero}
+use Rattle.tiff_base.specs.declared.tags.SampleFormat.TheVariants.{Uint}
 use Rattle.tiff_base.specs.Types.{type_size}
-use Rattle.tiff_value.specs.ColorLaws.{samples_alike}
+use Rattle.tiff_value.specs.declared.encoder.colortype.ColorTypeName.TheVariants as n
+use Rattle.tiff_value.specs.ColorLaws.{samples_alike, samples_packed}
 use Rattle.tiff_value.specs.ColorTypes.{Family, Gray, meaning_of, count_of, format_of_type, form_of, color_type, inner_type, AreColorTypes}
 
 -- a pixel of a family has samples, and no more than a count of two bytes can encode
@@ -15,6 +18,9 @@ few_samples f = lit< tt
 
 pub are_color_types : AreColorTypes
 unfolding color_type inner_type
+are_color_types n.Gray1 = samples_packed BlackIsZero 1 Uint (inl refl)
+are_color_types n.Gray2 = samples_packed BlackIsZero 2 Uint (inr (inl refl))
+are_color_types n.Gray4 = samples_packed BlackIsZero 4 Uint (inr (inr refl))
 are_color_types name =
     let f : Family = (form_of name).0 in
     let inner = (form_of name).1 in

@@ -1,5 +1,5 @@
--- What each color type says about its samples (TIFF 6.0 sections 4 to 6, 16, 19, 21; their names as
--- in the Rust crate).
+-- What each color type says about its samples (TIFF 6.0 sections 3 to 6, 16, 19, 21; their names as
+-- in the Rust crate, but for those of fewer than 8 bits, which it lacks).
 use Rattle.std.specs.Prelude.{ℕ, ◌*◌, List, [], ◌∷◌, replicate}
 use Rattle.tiff_base.specs.declared.tags.PhotometricInterpretation.{PhotometricInterpretation}
 use Rattle.tiff_base.specs.declared.tags.PhotometricInterpretation.TheVariants as meaning
@@ -60,7 +60,7 @@ format_of_type t.DOUBLE = IEEEFP
 format_of_type type = Uint
 
 -- the family of each color type, and the field type of its samples in memory; floating-point
--- samples are their bits
+-- samples are their bits, and a byte of packed pixels is a sample
 abbrev pub form_of : ColorTypeName → Family × «Type»
 form_of n.Gray8 = (Gray, t.BYTE)
 form_of n.Gray16 = (Gray, t.SHORT)
@@ -92,6 +92,17 @@ form_of n.CMYK32Float = (CMYK, t.FLOAT)
 form_of n.CMYK64Float = (CMYK, t.DOUBLE)
 form_of n.YCbCr8 = (YCbCr, t.BYTE)
 form_of n.CMYKA8 = (CMYKA, t.BYTE)
+form_of n.Gray1 = (Gray, t.BYTE)
+form_of n.Gray2 = (Gray, t.BYTE)
+form_of n.Gray4 = (Gray, t.BYTE)
+
+-- the number of bits of a sample of each color type: all bits of its field type, unless pixels are
+-- packed into bytes
+abbrev pub depth_of : ColorTypeName → ℕ
+depth_of n.Gray1 = 1
+depth_of n.Gray2 = 2
+depth_of n.Gray4 = 4
+depth_of name = 8 * type_size (form_of name).1
 
 -- the color types, by their numbers from 0 on (the numbers are this project's)
 abbrev pub color_types : List ColorTypeName
@@ -101,14 +112,14 @@ color_types =
     ∷ n.RGB8 ∷ n.RGB16 ∷ n.RGB32 ∷ n.RGB64 ∷ n.RGB32Float ∷ n.RGB64Float
     ∷ n.RGBA8 ∷ n.RGBA16 ∷ n.RGBA32 ∷ n.RGBA64 ∷ n.RGBA32Float ∷ n.RGBA64Float
     ∷ n.CMYK8 ∷ n.CMYK16 ∷ n.CMYK32 ∷ n.CMYK64 ∷ n.CMYK32Float ∷ n.CMYK64Float
-    ∷ n.YCbCr8 ∷ n.CMYKA8 ∷ []
+    ∷ n.YCbCr8 ∷ n.CMYKA8 ∷ n.Gray1 ∷ n.Gray2 ∷ n.Gray4 ∷ []
 
 -- the interpretation, the numbers of bits and the sample formats of each color type
 unfoldable pub color_type : ColorTypeName → ColorTypeRecord
 color_type name =
     let family = (form_of name).0 in
     let inner = (form_of name).1 in
-    samples_of (meaning_of family) (count_of family) (8 * type_size inner) (format_of_type inner)
+    samples_of (meaning_of family) (count_of family) (depth_of name) (format_of_type inner)
 
 -- the field type of the samples of a color type in memory
 unfoldable pub inner_type : ColorTypeName → «Type»

@@ -4,7 +4,7 @@ use std::alloc::Global;
 use std::test::Fail;
 use tiff::TiffResult;
 use tiff::decoder::{Decoder, DecodingResult};
-use tiff::encoder::colortype::RGB16;
+use tiff::encoder::colortype::{Gray1, RGB16};
 use tiff::io::MemorySource;
 use tiff_uses::{
     first_image, geo_key, gray_file, image_of_chunks, page_chunk, page_sides, written_and_read,
@@ -63,6 +63,13 @@ fn comes_back(alloc: Global, samples: &[u16]) -> TiffResult<bool> {
     }
 }
 
+// Whether bytes of packed pixels that are written come back: two rows of nine pixels, each in two
+// bytes.
+fn packed_come_back(alloc: Global, bytes: &[u8]) -> TiffResult<bool> {
+    let image = written_and_read::<Gray1>(alloc, 9, 2, bytes)?;
+    Ok(are(&image, bytes))
+}
+
 #[test]
 fn uses(rt: HostRuntime) -> Result<(), Fail> {
     let alloc = rt.alloc();
@@ -83,5 +90,6 @@ fn uses(rt: HostRuntime) -> Result<(), Fail> {
         None
     );
     assert!(rt; comes_back(alloc, &[1, 2, 3, 65535, 256, 7])?);
+    assert!(rt; packed_come_back(alloc, &[0xAB, 0x80, 0x12, 0])?);
     Ok(())
 }

@@ -20,11 +20,11 @@ use Rattle.tiff_encode.specs.WriteOps.{all_appended}
 use Rattle.tiff_encode.specs.Laws.{OpsFit}
 use Rattle.tiff_encode.specs.Machine.{FileState, OpenImage, WriteOutcome}
 use Rattle.tiff_encode.specs.Drawn.{IsDrawn}
-use Rattle.tiff_encode.specs.Chunks.{all_samples, image_page, parts_left}
+use Rattle.tiff_encode.specs.Chunks.{all_samples, shown_page, parts_left}
 use Rattle.tiff_encode.specs.Causes.{end_of}
 use Rattle.tiff_encode.specs.Calls.{Offsets, finish_image, new_image, write_image_data}
 use Rattle.tiff_encode.specs.Ends.{EndsAsDefined, IsTornOff}
-use Rattle.tiff_encode.specs.Shows.{Shows}
+use Rattle.tiff_encode.specs.Shows.{shown_columns, Shows}
 use Rattle.tiff_encode.specs.Held.{image_with}
 use Rattle.tiff_encode.specs.Open.{HoldsOpen, model_by}
 use Rattle.tiff_encode.specs.ImageData.{image_of_samples, WritesImageData, WritesImage, IsShortFile, AreNumbers, LeavesImage, LeavesNewImage, PartsShow, ImageLeaves}
@@ -33,7 +33,8 @@ use Rattle.tiff_encode.proofs.WriteOps.{ops_stand, ops_grow, link_kept}
 use Rattle.tiff_encode.proofs.Open.Begun.{begins_open}
 use Rattle.tiff_encode.proofs.Image.FitsCalls.{put_longer, done_longer}
 use Rattle.tiff_encode.proofs.Image.Fits.{new_image_fits}
-use Rattle.tiff_encode.proofs.Shown.Color.{HasColor, IsOf, of_family, family_has}
+use Rattle.tiff_encode.proofs.Shown.Color.{HasColor, IsOf, is_of_family, family_has}
+use Rattle.tiff_encode.proofs.Shown.Packed.{columns_shown}
 use Rattle.tiff_encode.proofs.Image.FitsCalls.{adding_done}
 use Rattle.tiff_encode.proofs.Data.Chunks.{data_chunks, chunks_done, data_patches, same_directory}
 use Rattle.tiff_encode.proofs.Data.Leaves.{StillStands, appended_stands, data_stopped, data_torn, IsWritten, data_written, data_stands}
@@ -50,12 +51,12 @@ color_few interpretation p most color has h =
 
 -- a page shows no more samples than the image has
 few_shown : (i : OpenImage) → IsOf i.color i.size → (offsets byte_counts : List ℕ) (color : ColorType)
-    → color_of (record (image_page i) { offsets = offsets; byte_counts = byte_counts }) ≡ Ok color → num_samples color ≤ all_samples i
+    → color_of (record (shown_page i) { offsets = offsets; byte_counts = byte_counts }) ≡ Ok color → num_samples color ≤ all_samples i
 unfolding color_of
 few_shown i c offsets byte_counts color h =
-    let p : PageRecord = record (image_page i) { offsets = offsets; byte_counts = byte_counts } in
+    let p : PageRecord = record (shown_page i) { offsets = offsets; byte_counts = byte_counts } in
     let f : Family = c.family in
-    let many : length i.color.bits ≡ count_of f = ap (λ xs. length xs) c.bits ∙ length-replicate (count_of f) (8 * i.size) in
+    let many : length i.color.bits ≡ count_of f = ap (λ xs. length xs) c.bits ∙ length-replicate (count_of f) c.depth in
     let has : HasColor i.color.interpretation p (all_samples i) =
     subst (λ m. HasColor m p (all_samples i)) (sym c.interpretation)
     (family_has p (all_samples i) (omega arith) f (omega (arith, many)) (omega (arith, many))) in
@@ -69,10 +70,8 @@ shown_whole show kind file offset i samples m h none s =
     let o = h.open_so in
     let drawn : IsDrawn i.width i.height (length i.color.bits) (length i.extra) i.form =
     record { wide = o.wide; high = o.high; few = o.few; cut = o.form } in
-    let P : ColorTypeRecord → Type 0 = λ c. IsOf c i.size in
-    let Q : ℕ → Type 0 = λ n. IsOf (color_type o.name) n in
-    let is_of : IsOf i.color i.size = subst P (sym o.color) (subst Q (sym o.size) (of_family o.name)) in
-    let width : s.page.width ≡ i.width = ap (λ p. p.width) s.is_image in
+    let is_of : IsOf i.color i.size = is_of_family i o.name o.color o.size in
+    let width : shown_columns s.page s.color ≡ i.width = columns_shown i is_of o.wide o.form o.pixels s.page s.color s.is_image s.is_color in
     let height : s.page.height ≡ i.height = ap (λ p. p.height) s.is_image in
     let few : num_samples s.color ≤ all_samples i =
     few_shown i is_of s.page.offsets s.page.byte_counts s.color (ap color_of (sym s.is_image) ∙ s.is_color) in

@@ -1,21 +1,20 @@
 -- A new image is held by the model.
-use Rattle.std.proofs.Common.{◌≡◌, ℕ, zero, suc, ◌*◌, ◌^◌, ◌<◌, ◌≤◌, ◌⊎◌, inl, inr, true, List, [], length, Option, Some, None, Ok, refl, sym, ◌∙◌, subst, arith, lit<}
+use Rattle.std.proofs.Common.{◌≡◌, ℕ, zero, suc, ◌*◌, ◌^◌, ◌<◌, ◌≤◌, ◌⊎◌, inl, inr, Bool, true, false, List, [], length, Option, Some, None, Ok, refl, ap, sym, ◌∙◌, subst, arith, lit<}
 use Rattle.std.proofs.Math.Nat.{div-le_self, min-le_left}
 use Rattle.std.proofs.lemmas.Grind.{div_ceil_times}
 use Rattle.std.specs.FinMap.{get}
 use Rattle.std.specs.Ordering.{nat_cmp, eq_by_cmp}
-use Rattle.std.specs.Prelude.{◌/◌, ◌%◌, ◌==◌}
+use Rattle.std.specs.Prelude.{◌/◌, ◌%◌, ◌==◌, ◌||◌}
 use Rattle.tiff_base.proofs.Common.{neither}
 use Rattle.tiff_base.specs.declared.error.TiffError.{TiffError}
 use Rattle.tiff_base.specs.declared.tags.PhotometricInterpretation.{PhotometricInterpretation}
 use Rattle.tiff_base.specs.declared.tags.PhotometricInterpretation.TheVariants as meaning
 use Rattle.tiff_base.specs.declared.tags.Predictor.{Predictor}
 use Rattle.tiff_base.specs.declared.tags.Predictor.TheVariants as predictor
-use Rattle.tiff_base.specs.declared.tags.SampleFormat.{SampleFormat}
 use Rattle.tiff_base.specs.declared.tags.Tag.TheVariants as tag
 use Rattle.tiff_base.specs.Tags.{tag_number}
 use Rattle.tiff_value.specs.declared.encoder.colortype.ColorTypeName.{ColorTypeName}
-use Rattle.tiff_value.specs.ColorType.{ColorTypeRecord}
+use Rattle.tiff_value.specs.ColorType.{ColorTypeRecord, columns_of}
 use Rattle.tiff_value.specs.ColorTypes.{color_type, inner_size}
 use Rattle.tiff_value.proofs.ColorTypes.{are_color_types}
 use Rattle.tiff_encode.specs.declared.encoder.settings.Compression.{Compression}
@@ -24,10 +23,11 @@ use Rattle.tiff_encode.specs.FileBytes.{rows_per_strip}
 use Rattle.tiff_encode.specs.Model.{Model}
 use Rattle.tiff_encode.specs.Machine.{FileState, OpenDirectory, OpenImage, WriteCall, gives, ◌>>=◌}
 use Rattle.tiff_encode.specs.Drawn.{IsSide}
-use Rattle.tiff_encode.specs.Causes.{begin_cause, predictor_cause, new_image_cause, image_cause}
+use Rattle.tiff_encode.specs.Causes.{begin_cause, is_not_whole, is_unpredicted, predictor_cause, new_image_cause, image_cause}
 use Rattle.tiff_encode.specs.Calls.{new_directory, pad, image_directory, default_rows, write_tags, chroma_tags, meaning_tags, layout_tags, first_tags, image_in, new_image}
 use Rattle.tiff_encode.specs.Held.{Given, HoldsAt, HoldsValues, chroma_given}
 use Rattle.tiff_encode.specs.Open.{TellsOpen, HoldsChunks, HoldsOpen, model_by, BeginsOpen}
+use Rattle.tiff_encode.proofs.Columns.{columns_side, size_some}
 use Rattle.tiff_encode.proofs.Slices.{ok_inj}
 use Rattle.tiff_encode.proofs.Runs.{uncaused}
 use Rattle.tiff_encode.proofs.Joining.{adding, begin_adds}
@@ -76,11 +76,18 @@ begun_tells file d color size width height =
 -- ---- the sides, the samples and the compression of a new image
 
 -- the predictor is one that is supported
-predicted : (p : Predictor) (formats : List SampleFormat) (rest : Option TiffError) → predictor_cause p formats rest ≡ None
+predicted : (p : Predictor) (unpredicted : Bool) (rest : Option TiffError) → predictor_cause p unpredicted rest ≡ None
     → (p ≡ predictor.None) ⊎ (p ≡ predictor.Horizontal)
-predicted predictor.None formats rest h = inl refl
-predicted predictor.Horizontal formats rest h = inr refl
-predicted predictor.FloatingPoint formats rest h = absurd cc
+predicted predictor.None unpredicted rest h = inl refl
+predicted predictor.Horizontal unpredicted rest h = inr refl
+predicted predictor.FloatingPoint unpredicted rest h = absurd cc
+
+-- samples that have no predictor are written without one
+unpredicted : (p : Predictor) (b : Bool) (rest : Option TiffError) → predictor_cause p b rest ≡ None → b ≡ true → p ≡ predictor.None
+unpredicted predictor.None b rest h t = refl
+unpredicted predictor.Horizontal true rest h t = absurd cc
+unpredicted predictor.Horizontal false rest h t = absurd cc
+unpredicted predictor.FloatingPoint b rest h t = absurd cc
 
 -- a factor of a product that isn't 0 isn't 0
 some : (x n : ℕ) → 1000000 ≤ x * n → 0 < x
@@ -143,7 +150,8 @@ begun_held file d m name width height w h c o =
     let sides = first_test _ _ _ (fresh file.fault _ c) in
     let some = neither (width == 0) (height == 0) sides.0 in
     let few = (are_color_types name).few in
-    let wide : IsSide width = (above width some.0, w) in
+    let pixels : IsSide width = (above width some.0, w) in
+    let wide : IsSide (columns_of color width) = columns_side size color width (are_color_types name) (size_some name) pixels in
     record {
       given = first_given i;
       holds = o;
@@ -155,11 +163,19 @@ begun_held file d m name width height w h c o =
         wide = wide;
         high = (above height some.1, h);
         few = omega (arith, few);
-        predicted_by = predicted file.predictor color.formats _ sides.1;
+        predicted_by = predicted file.predictor (is_unpredicted color) _ sides.1;
         form = record {
           wide = wide;
-          high = default_side file.compression (width * (length color.bits * size));
+          high = default_side file.compression (columns_of color width * (length color.bits * size));
           strips = λ _. refl;
+        };
+        pixels = record {
+          some = pixels;
+          columns = refl;
+          plain = λ p. (
+            refl,
+            (refl, unpredicted file.predictor (is_unpredicted color) _ sides.1 (ap (λ b. b || is_not_whole color.formats) p)),
+          );
         };
       };
       chunks = no_chunks file d color size width height m;

@@ -143,6 +143,7 @@ module _ (kind : FileKind) (m : Model) (i : OpenImage) (samples : List (List ℕ
     few = s.few;
     predicted_by = s.predicted_by;
     form = s.form;
+    pixels = s.pixels;
     chunks = all_written h l;
     count = few_chunks h l;
     fit = h.fit;

@@ -1,8 +1,9 @@
 -- What is held of an open image if a call changes one part of it.
-use Rattle.std.proofs.Common.{◌≡◌, ℕ, ◌+◌, ◌^◌, ◌<◌, false, List, [], ◌∷◌, length, Option, None, Ok, refl, subst}
+use Rattle.std.proofs.Common.{◌≡◌, ℕ, ◌+◌, ◌^◌, ◌<◌, true, false, List, [], ◌∷◌, length, Option, None, Ok, refl, subst}
 use Rattle.std.specs.List.{list_any}
 use Rattle.std.specs.FinMap.{insert}
 use Rattle.tiff_base.proofs.Common.{neither}
+use Rattle.tiff_base.specs.declared.color.ChunkType.TheVariants.{Strip}
 use Rattle.tiff_base.specs.declared.error.TiffError.{TiffError}
 use Rattle.tiff_base.specs.declared.tags.ExtraSamples.{ExtraSamples}
 use Rattle.tiff_base.specs.declared.tags.FileKind.{FileKind}
@@ -10,6 +11,7 @@ use Rattle.tiff_base.specs.declared.tags.Tag.{Tag}
 use Rattle.tiff_base.specs.declared.tags.Tag.TheVariants as tag
 use Rattle.tiff_base.specs.Field.{Field}
 use Rattle.tiff_base.specs.Tags.{tag_number}
+use Rattle.tiff_value.specs.ColorType.{is_packed}
 use Rattle.tiff_value.specs.Data.{Scalars, rationals, units}
 use Rattle.tiff_page.specs.Checks.{is_page_tag}
 use Rattle.tiff_encode.specs.Model.{Model}
@@ -48,8 +50,9 @@ module _ (i : OpenImage) (d : OpenDirectory) (extra : List ExtraSamples) (form :
   next_image = record i { directory = d; extra = extra; form = form; chunks = chunks }
 
   -- that image is open
-  pub open_with : IsOpen i → length i.color.bits + length extra < 2 ^ 16 → IsForm i.width form → IsOpen next_image
-  open_with s few f = record {
+  pub open_with : IsOpen i → length i.color.bits + length extra < 2 ^ 16 → IsForm i.width form
+      → (is_packed i.color ≡ true → (form.chunk_type ≡ Strip) × (extra ≡ [])) → IsOpen next_image
+  open_with s few f plain = record {
     name = s.name;
     color = s.color;
     size = s.size;
@@ -58,6 +61,11 @@ module _ (i : OpenImage) (d : OpenDirectory) (extra : List ExtraSamples) (form :
     few = few;
     predicted_by = s.predicted_by;
     form = f;
+    pixels = record {
+      some = s.pixels.some;
+      columns = s.pixels.columns;
+      plain = λ p. ((plain p).0, ((plain p).1, (s.pixels.plain p).1.1));
+    };
   }
 
 -- the tags of an image describe it with another directory and other chunks
@@ -68,7 +76,7 @@ tells_kept i d chunks given t = record { extra = t.extra; pixels = t.pixels; chu
 -- an image stays open with another directory and other chunks
 pub open_kept : (i : OpenImage) (d : OpenDirectory) (chunks : List Chunk) → IsOpen i
     → IsOpen (record i { directory = d; chunks = chunks })
-open_kept i d chunks s = open_with i d i.extra i.form chunks s s.few s.form
+open_kept i d chunks s = open_with i d i.extra i.form chunks s s.few s.form (λ p. let t = s.pixels.plain p in (t.0, t.1.0))
 
 -- an image with another directory is held
 pub directory_kept : (kind : FileKind) (m n : Model) (i : OpenImage) (d : OpenDirectory) (samples : List (List ℕ))

@@ -12,6 +12,7 @@ use Rattle.tiff_base.specs.declared.tags.PlanarConfiguration.TheVariants.{Planar
 use Rattle.tiff_base.specs.declared.tags.Tag.{Tag}
 use Rattle.tiff_base.specs.declared.tags.Tag.TheVariants as tag
 use Rattle.tiff_base.specs.Tags.{tag_number}
+use Rattle.tiff_value.specs.ColorType.{is_packed}
 use Rattle.tiff_value.specs.Data.{Scalars, u32s, planars, extras}
 use Rattle.tiff_encode.specs.Model.{In, Model}
 use Rattle.tiff_encode.specs.Machine.{FileState, OpenDirectory, ChunkLayout, OpenImage, WriteOutcome}
@@ -45,6 +46,10 @@ no_strip e = cc
 -- a number that isn't 0 is above 0
 pub above : (n : ℕ) → (n == 0) ≡ false → 0 < n
 above n h = let e = eqb-false n 0 h in omega (arith, e)
+
+-- a color type that doesn't pack pixels packs none
+unpacked : {A : Type 0} (i : OpenImage) → is_packed i.color ≡ false → is_packed i.color ≡ true → A
+unpacked i n p = absurd cc
 
 -- ---- an image without chunks
 
@@ -87,7 +92,8 @@ extra_kept extra file m i next samples h a =
     setting_held (Extra extra) file m i next samples h a
     (λ d n c g o.
     let tests = first_test _ _ _ (fresh file.fault _ c) in
-    let count = first_test _ _ _ tests.1 in
+    let whole = first_test _ _ _ tests.1 in
+    let count = first_test _ _ _ whole.1 in
     let few = ltb-false 65535 (length i.color.bits + length extra) count.0 in
     let t : TellsOpen i h.given = h.tells in
     record {
@@ -95,7 +101,7 @@ extra_kept extra file m i next samples h a =
       holds = o;
       tells = tells_changed change (set_local (tag_number tag.ExtraSamples) value) i (call d) h.given t (inl refl) refl
           (places_kept i.form.chunk_type i.form.chunk_width i.form.chunk_height h.given (change h.given) refl t.chunks);
-      open_so = open_with i d extra i.form i.chunks h.open_so (omega (arith, few)) h.open_so.form;
+      open_so = open_with i d extra i.form i.chunks h.open_so (omega (arith, few)) h.open_so.form (unpacked i whole.0);
       chunks = none_held file.kind n i (call d) samples g tests.0 refl refl;
     })
 
@@ -103,15 +109,16 @@ extra_kept extra file m i next samples h a =
 
 -- an image with another layout that its values describe
 cut_kept : (kind : FileKind) (m : Model) (i : OpenImage) (d : OpenDirectory) (form : ChunkLayout) (later : Given) (samples : List (List ℕ))
-    → IsOpen i → HoldsChunks kind m i samples → is_begun i ≡ false → IsForm i.width form → HoldsValues m d.fields later
+    → IsOpen i → HoldsChunks kind m i samples → is_begun i ≡ false → IsForm i.width form
+    → (is_packed i.color ≡ true → (form.chunk_type ≡ Strip) × (i.extra ≡ [])) → HoldsValues m d.fields later
     → TellsOpen (record i { directory = d; form = form }) later
     → HoldsOpen kind m (record i { directory = d; form = form }) samples
-cut_kept kind m i d form later samples s c b f o t =
+cut_kept kind m i d form later samples s c b f plain o t =
     record {
       given = later;
       holds = o;
       tells = t;
-      open_so = open_with i d i.extra form i.chunks s s.few f;
+      open_so = open_with i d i.extra form i.chunks s s.few f plain;
       chunks = none_held kind m i (record i { directory = d; form = form }) samples c b refl refl;
     }
 
@@ -129,7 +136,7 @@ rows_kept rows l file m i next samples h a =
     let t : TellsOpen i h.given = h.tells in
     let none = unplaced i.form.chunk_type i.form.chunk_width i.form.chunk_height h.given t.chunks in
     cut_kept file.kind n i d form (change h.given) samples h.open_so g fresh.0
-    (record { wide = h.open_so.wide; high = (above rows some.0, l); strips = λ _. refl }) o
+    (record { wide = h.open_so.wide; high = (above rows some.0, l); strips = λ _. refl }) (λ p. (refl, (h.open_so.pixels.plain p).1.0)) o
     (tells_changed change (set_local (tag_number tag.RowsPerStrip) value) i (record i { directory = d; form = form }) h.given t t.extra refl (refl, none)))
 
 planar_kept : KeepsOpen planar
@@ -145,7 +152,7 @@ planar_kept file m i next samples h a =
     let t : TellsOpen i h.given = h.tells in
     let f : IsForm i.width i.form = h.open_so.form in
     cut_kept file.kind n i d form (change h.given) samples h.open_so g tests.0
-    (record { wide = f.wide; high = f.high; strips = f.strips }) o
+    (record { wide = f.wide; high = f.high; strips = f.strips }) (λ p. let q = h.open_so.pixels.plain p in (q.0, q.1.0)) o
     (tells_changed change (set_local (tag_number tag.PlanarConfiguration) value) i (call d) h.given t t.extra refl
     (places_kept i.form.chunk_type i.form.chunk_width i.form.chunk_height h.given (change h.given) refl t.chunks)))
 
@@ -164,11 +171,13 @@ tiles_kept width length w l file m i next samples h a =
     setting_held (Sides width length) file m i next samples h a
     (λ d n c g o.
     let tests = first_test _ _ _ (fresh file.fault _ c) in
-    let sides = neither (is_no_side width) (is_no_side length) (first_test _ _ _ tests.1).0 in
+    let whole = neither (is_packed i.color) _ (first_test _ _ _ tests.1).0 in
+    let sides = neither (is_no_side width) (is_no_side length) whole.1 in
     let t : TellsOpen i h.given = h.tells in
     let none = unplaced i.form.chunk_type i.form.chunk_width i.form.chunk_height h.given t.chunks in
     cut_kept file.kind n i (without_field d tag.RowsPerStrip) form (change h.given) samples h.open_so g tests.0
     (record { wide = (side width sides.0, w); high = (side length sides.1, l); strips = λ e. absurd (no_strip e) })
+    (unpacked i whole.0)
     (unset_held n d.fields (after h.given values) (tag_number tag.RowsPerStrip) o)
     (tells_changed change local i (record i { directory = without_field d tag.RowsPerStrip; form = form }) h.given t t.extra refl
     (refl, (refl, (none.1.1.0, (none.1.1.1.0, (none.0, (none.1.0, tt))))))))

@@ -1,5 +1,5 @@
 -- What the checks of a page return for a look-up of the tags of an image.
-use Rattle.std.proofs.Common.{◌≡◌, ℕ, ◌+◌, ◌^◌, ◌<◌, ◌==◌, ◌⊎◌, List, [], ◌∷◌, length, map, get_or, true, false, Option, Some, None, Ok, refl, ap, sym, ◌∙◌, inl, inr, subst, arith}
+use Rattle.std.proofs.Common.{◌≡◌, ℕ, ◌+◌, ◌^◌, ◌<◌, ◌==◌, ◌⊎◌, List, [], ◌∷◌, length, map, get_or, true, false, Option, Some, None, Ok, refl, ap, sym, ◌∙◌, inl, inr, subst, arith, ◌*◌}
 use Rattle.std.proofs.lemmas.Bool.{eq-eqb, ne_eqb, lt-ltb, le-leb}
 use Rattle.std.proofs.lemmas.List.{length-map}
 use Rattle.std.specs.Prelude.{unwrap_or}
@@ -23,14 +23,15 @@ use Rattle.tiff_base.specs.Tags as kinds
 use Rattle.tiff_ifd.specs.Into.{into_u16, into_u32, into_u16_vec, into_u64_vec}
 use Rattle.tiff_ifd.specs.TagLookup.{TagLookup, find}
 use Rattle.tiff_ifd.specs.TagLookup as look
-use Rattle.tiff_page.specs.Counts.{planes_of, chunk_count}
+use Rattle.tiff_page.specs.Counts.{parts, planes_of, chunk_count, all_chunks}
 use Rattle.tiff_page.specs.Page.{Chunks}
 use Rattle.tiff_page.specs.Checks.{size_in, interpretation_in, method_in, samples_in, extra_in, format_from, format_in, depth_from, depth_in, predictor_in, planar_from, planar_in, subsampling_from, subsampling_in, chunk_type_in, chunks_counted, strips_in, tiles_in, chunks_in}
 use Rattle.tiff_encode.specs.Machine.{OpenImage, compression_method}
-use Rattle.tiff_encode.specs.Chunks.{all_samples, image_page}
+use Rattle.tiff_encode.specs.Chunks.{all_samples, image_page, pixels_across}
 use Rattle.tiff_encode.specs.Chunks as encoded
 use Rattle.tiff_encode.specs.Calls.{extended_by_first}
 use Rattle.tiff_encode.specs.Held.{IsWholeImage}
+use Rattle.tiff_encode.proofs.Columns.{across_same}
 use Rattle.tiff_encode.proofs.Samples.{some_method}
 use Rattle.tiff_encode.proofs.PageTold.Colors.{AreAlike, bits_repeated, formats_repeated, format_same, depth_same, image_alike, image_samples}
 
@@ -79,7 +80,7 @@ chroma_found _ = None
 
 -- The values that a look-up finds are those of an image.
 pub record FindsPage (l : TagLookup) (i : OpenImage) : Type 0 where
-  pub wide : find into_u32 l tag.ImageWidth ≡ Ok (Some i.width)
+  pub wide : find into_u32 l tag.ImageWidth ≡ Ok (Some i.pixels)
   pub high : find into_u32 l tag.ImageLength ≡ Ok (Some i.height)
   pub bits : find into_u64_vec l tag.BitsPerSample ≡ Ok (Some (extended_by_first i.color.bits (length i.extra)))
   pub packed_by : find into_u16 l tag.Compression ≡ Ok (Some (method_number (compression_method i.compression)))
@@ -175,9 +176,9 @@ module _ (kind : FileKind) (l : TagLookup) (i : OpenImage) (t : FindsPage l i) (
   alike = image_alike kind i w
 
   -- the check of the sides returns the width and the height
-  pub size_is : size_in l ≡ Ok (i.width, i.height)
+  pub size_is : size_in l ≡ Ok (i.pixels, i.height)
   unfolding size_in look.require
-  size_is = rw (t.wide, t.high, some_is i.width w.wide.0, some_is i.height w.high.0) refl
+  size_is = rw (t.wide, t.high, some_is i.pixels w.pixels.some.0, some_is i.height w.high.0) refl
 
   -- the check of the photometric interpretation returns the image's
   pub interpretation_is : interpretation_in l ≡ Ok i.color.interpretation
@@ -245,39 +246,40 @@ module _ (kind : FileKind) (l : TagLookup) (i : OpenImage) (t : FindsPage l i) (
   planes = planes_of i.form.planar (all_samples i)
 
   -- the chunks of the image
-  abbrev the_chunks : Chunks
-  the_chunks = record {
-    chunk_width = i.form.chunk_width;
+  abbrev the_chunks : ChunkType → Chunks
+  the_chunks c = record {
+    chunk_width = pixels_across c i.pixels i.form.chunk_width;
     chunk_height = i.form.chunk_height;
     offsets = offsets_of i;
     byte_counts = lengths_of i;
   }
 
   -- the check of the number of chunks returns the chunks
-  counted_is : chunks_counted i.width i.height planes the_chunks ≡ Ok the_chunks
+  counted_is : (c : ChunkType) → i.form.chunk_type ≡ c
+      → chunks_counted i.pixels i.height planes (the_chunks c) ≡ Ok (the_chunks c)
   unfolding chunks_counted
-  counted_is =
-      let count : ℕ = chunk_count i.width i.height i.form.chunk_width i.form.chunk_height planes in
+  counted_is c e =
+      let count : ℕ = chunk_count i.pixels i.height (pixels_across c i.pixels i.form.chunk_width) i.form.chunk_height planes in
+      let same : count ≡ all_chunks (image_page i) =
+      ap (λ n. n * parts i.height i.form.chunk_height * planes) (across_same i w.wide w.form w.pixels c e) in
       let o : length (offsets_of i) ≡ length i.chunks = length-map i.chunks (λ chunk. chunk.offset) in
       let b : length (lengths_of i) ≡ length i.chunks = length-map i.chunks (λ chunk. chunk.stored) in
       rw (
         eq-eqb (length (offsets_of i)) (length (lengths_of i)) (o ∙ sym b),
-        eq-eqb (length (offsets_of i)) count (o ∙ w.chunks),
-        lt-ltb count (2 ^ 32) w.count,
+        eq-eqb (length (offsets_of i)) count (o ∙ w.chunks ∙ sym same),
+        lt-ltb count (2 ^ 32) (subst (λ n. n < 2 ^ 32) (sym same) w.count),
       ) refl
 
   -- the check of the chunks finds the chunks
-  chunks_found : (c : ChunkType) → FindsChunks c l i → (c ≡ Strip → i.form.chunk_width ≡ i.width)
-      → chunks_in l c i.width i.height planes ≡ Ok the_chunks
+  chunks_found : (c : ChunkType) → FindsChunks c l i → i.form.chunk_type ≡ c
+      → chunks_in l c i.pixels i.height planes ≡ Ok (the_chunks c)
   unfolding strips_in tiles_in look.require
-  chunks_found Strip f s =
-      let P : ℕ → Type 0 =
-      λ n. chunks_counted i.width i.height planes (record the_chunks { chunk_width = n }) ≡ Ok the_chunks in
-      rw (f.offsets, f.byte_counts, f.rows, some_is i.form.chunk_height w.form.high.0) (subst P (s refl) counted_is)
-  chunks_found Tile f s =
+  chunks_found Strip f e =
+      rw (f.offsets, f.byte_counts, f.rows, some_is i.form.chunk_height w.form.high.0) (counted_is Strip e)
+  chunks_found Tile f e =
       rw (f.wide, f.high, some_is i.form.chunk_width w.form.wide.0, some_is i.form.chunk_height w.form.high.0)
-      (rw (f.offsets, f.byte_counts) counted_is)
+      (rw (f.offsets, f.byte_counts) (counted_is Tile e))
 
   -- the check of the chunks returns the chunks
-  pub chunks_are : chunks_in l i.form.chunk_type i.width i.height planes ≡ Ok the_chunks
-  chunks_are = chunks_found i.form.chunk_type t.chunks w.form.strips
+  pub chunks_are : chunks_in l i.form.chunk_type i.pixels i.height planes ≡ Ok (the_chunks i.form.chunk_type)
+  chunks_are = chunks_found i.form.chunk_type t.chunks refl

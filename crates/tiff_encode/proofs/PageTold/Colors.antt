@@ -10,10 +10,10 @@ use Rattle.tiff_base.specs.declared.tags.«Type».{«Type»}
 use Rattle.tiff_base.specs.declared.tags.«Type».TheVariants as field
 use Rattle.tiff_base.specs.Tags.{format_number}
 use Rattle.tiff_base.specs.Tags as kinds
-use Rattle.tiff_base.specs.Types.{type_size}
 use Rattle.tiff_value.specs.ColorType.{ColorTypeRecord}
 use Rattle.tiff_value.specs.declared.encoder.colortype.ColorTypeName.{ColorTypeName}
-use Rattle.tiff_value.specs.ColorTypes.{Family, count_of, format_of_type, form_of, color_type}
+use Rattle.tiff_value.specs.declared.encoder.colortype.ColorTypeName.TheVariants as color
+use Rattle.tiff_value.specs.ColorTypes.{Family, count_of, format_of_type, form_of, depth_of, color_type}
 use Rattle.tiff_value.proofs.ColorTypes.{are_color_types}
 use Rattle.tiff_ifd.proofs.Fitted.{all_fit}
 use Rattle.tiff_page.specs.Checks.{format_from, depth_from}
@@ -37,14 +37,14 @@ pub record AreAlike (c : ColorTypeRecord) : Type 0 where
   pub named : kinds.format_of (format_number format) ≡ format
   pub small : format_number format < 2 ^ 16
 
--- a number of a field type has at least one bit, and fewer than 256
-some_bits : (type : «Type») → 0 < 8 * type_size type
-some_bits field.BYTE = lit< tt
-some_bits type = lit< tt
+-- a sample has at least one bit, and fewer than 256
+some_bits : (name : ColorTypeName) → 0 < depth_of name
+some_bits color.Gray8 = lit< tt
+some_bits name = lit< tt
 
-few_bits : (type : «Type») → 8 * type_size type < 2 ^ 8
-few_bits field.BYTE = lit< tt
-few_bits type = lit< tt
+few_bits : (name : ColorTypeName) → depth_of name < 2 ^ 8
+few_bits color.Gray8 = lit< tt
+few_bits name = lit< tt
 
 -- the sample format of a field type is a named one, and its number fits in two bytes
 named_format : (type : «Type») → kinds.format_of (format_number (format_of_type type)) ≡ format_of_type type
@@ -62,7 +62,7 @@ unfolding color_type
 named_alike name =
     let f : Family = (form_of name).0 in
     let type : «Type» = (form_of name).1 in
-    let bits : ℕ = 8 * type_size type in
+    let bits : ℕ = depth_of name in
     let count : count_of f ≡ suc (count_of f - 1) = omega (arith, (are_color_types name).some, length-replicate (count_of f) bits) in
     record {
       more = count_of f - 1;
@@ -70,8 +70,8 @@ named_alike name =
       format = format_of_type type;
       bits = ap (λ k. replicate k bits) count;
       formats = ap (λ k. replicate k (format_of_type type)) count;
-      some = some_bits type;
-      few = few_bits type;
+      some = some_bits name;
+      few = few_bits name;
       named = named_format type;
       small = small_format type;
     }

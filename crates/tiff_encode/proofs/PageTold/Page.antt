@@ -40,7 +40,7 @@ use Rattle.tiff_encode.specs.FileBytes.{offset_len}
 use Rattle.tiff_encode.specs.Value.{offset_values}
 use Rattle.tiff_encode.specs.Model.{In, Model, Stands}
 use Rattle.tiff_encode.specs.Machine.{Chunk, OpenImage, compression_method}
-use Rattle.tiff_encode.specs.Chunks.{all_samples, image_page}
+use Rattle.tiff_encode.specs.Chunks.{all_samples, shown_page}
 use Rattle.tiff_encode.specs.Calls.{extended_by_first}
 use Rattle.tiff_encode.specs.Held.{Given, HoldsValues, chroma_given, planar_given, ExtraGiven, value_in, EachGiven, image_tags, places_in, TellsImage, IsWholeImage, PageTold}
 use Rattle.tiff_encode.proofs.Samples.{some_method}
@@ -256,7 +256,7 @@ module _ (kind : FileKind) (file : List ℕ) (m : Model) (fields : FinMap nat_cm
         let f = w.few in
         let x = extra_is i.extra (omega (arith, f)) t.extra in
         record {
-          wide = long_found kind file m fields given s h tag.ImageWidth i.width refl (told tag.ImageWidth refl) w.wide.1;
+          wide = long_found kind file m fields given s h tag.ImageWidth i.pixels refl (told tag.ImageWidth refl) w.pixels.some.1;
           high = long_found kind file m fields given s h tag.ImageLength i.height refl (told tag.ImageLength refl) w.high.1;
           bits = bits_is;
           packed_by = short tag.Compression (methods (compression_method i.compression ∷ [])) (method_number (compression_method i.compression)) refl (told tag.Compression refl) refl
@@ -277,7 +277,7 @@ module _ (kind : FileKind) (file : List ℕ) (m : Model) (fields : FinMap nat_cm
         }
 
     -- each check returns what the image has
-    image_passed : PassedChecks l (image_page i)
+    image_passed : PassedChecks l (shown_page i)
     image_passed =
         let f : FindsPage l i = image_found in
         record {
@@ -301,6 +301,6 @@ unfolding look_in
 page_told kind file m d fields given i s in_model is holds w t =
     let value : Field → Result PlainValue TiffError = field_value kind LittleEndian file unlimited in
     let F : DirectoryRecord → Result PageRecord TiffError = λ r. page_of (look_up_in value r.entries) in
-    ok_bind (directory_at kind LittleEndian file d.offset) F _ (image_page i) (s.directories d in_model)
+    ok_bind (directory_at kind LittleEndian file d.offset) F _ (shown_page i) (s.directories d in_model)
     (ap (λ fs. page_of (look_up_in value fs)) is
-    ∙ page_passed (the_look kind file m fields given s holds) (image_page i) (image_passed kind file m fields given s holds i w t))
+    ∙ page_passed (the_look kind file m fields given s holds) (shown_page i) (image_passed kind file m fields given s holds i w t))

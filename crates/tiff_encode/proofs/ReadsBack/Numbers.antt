@@ -38,7 +38,7 @@ digits_of x (suc n) =
 -- ---- offsets
 
 -- if a number is below a product, both factors are above 0
-some_right : (a b n : ℕ) → n < a * b → 0 < b
+pub some_right : (a b n : ℕ) → n < a * b → 0 < b
 some_right a zero n h = Prim.absurd (omega (arith, h))
 some_right a (suc b) n h = omega arith
 

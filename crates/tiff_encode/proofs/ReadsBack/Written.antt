@@ -1,12 +1,16 @@
 -- A page that an encoder writes for an image has a form that the decoder reads.
-use Rattle.std.proofs.Common.{◌≡◌, ℕ, ◌+◌, ◌*◌, ◌/◌, ◌%◌, ◌<◌, ◌⊎◌, length, true, cond, get_or, Result, Ok, Err, refl, ap, sym, ◌∙◌, subst, inl, inr, arith}
-use Rattle.std.specs.Prelude.{◌==◌, slice_index}
+use Rattle.std.proofs.Common.{◌≡◌, ℕ, ◌+◌, ◌*◌, ◌/◌, ◌%◌, ◌<◌, ◌⊎◌, length, Bool, true, false, cond, get_or, Result, Ok, Err, refl, ap, sym, ◌∙◌, subst, inl, inr, arith}
+use Rattle.std.specs.Prelude.{◌==◌, ◌&&◌, nat_lt, slice_index}
+use Rattle.std.proofs.lemmas.Bool.{lt-ltb, ltb-true, ne_eqb}
 use Rattle.std.proofs.lemmas.List.{ext_get_or}
 use Rattle.std.proofs.lemmas.List.FromFn.{length-map-range_with_len, get_or-map-range_with_len}
 use Rattle.std.proofs.lemmas.Nat.{div-add-mod'}
 use Rattle.tiff_base.specs.declared.color.ColorType.{ColorType}
 use Rattle.tiff_base.specs.declared.color.ColorType.TheVariants.{Gray, RGB, RGBA, CMYK, CMYKA, YCbCr, Multiband}
+use Rattle.tiff_base.specs.declared.color.ChunkType.TheVariants.{Strip}
 use Rattle.tiff_base.specs.declared.error.TiffError.{TiffError}
+use Rattle.tiff_base.specs.declared.error.TiffError.TheVariants.{UnsupportedError}
+use Rattle.tiff_base.specs.declared.error.TiffUnsupportedError.TheVariants.{UnsupportedColorType}
 use Rattle.tiff_base.specs.declared.tags.CompressionMethod.{CompressionMethod}
 use Rattle.tiff_base.specs.declared.tags.CompressionMethod.TheVariants as method
 use Rattle.tiff_base.specs.declared.tags.PhotometricInterpretation.{PhotometricInterpretation}
@@ -15,34 +19,37 @@ use Rattle.tiff_base.specs.declared.tags.Predictor.TheVariants as predictor
 use Rattle.tiff_base.specs.declared.tags.SampleFormat.{SampleFormat}
 use Rattle.tiff_base.specs.declared.tags.SampleFormat.TheVariants.{Uint, Int, IEEEFP, Void, Unknown}
 use Rattle.tiff_base.specs.declared.tags.«Type».{«Type»}
-use Rattle.tiff_base.specs.declared.tags.«Type».TheVariants as field
-use Rattle.tiff_base.specs.Types.{type_size}
 use Rattle.tiff_value.specs.declared.encoder.colortype.ColorTypeName.{ColorTypeName}
-use Rattle.tiff_value.specs.ColorType.{ColorTypeRecord}
-use Rattle.tiff_value.specs.ColorTypes.{Family, meaning_of, format_of_type, form_of, color_type}
+use Rattle.tiff_value.specs.declared.encoder.colortype.ColorTypeName.TheVariants as color
+use Rattle.tiff_value.specs.ColorType.{ColorTypeRecord, first_bits, is_packed}
+use Rattle.tiff_value.specs.ColorTypes.{Family, meaning_of, format_of_type, form_of, depth_of, color_type}
 use Rattle.tiff_value.specs.ColorTypes as family
 use Rattle.tiff_page.specs.declared.layout.DecodingSampleType.{DecodingSampleType}
 use Rattle.tiff_page.specs.Page.{PageRecord}
-use Rattle.tiff_page.specs.Layout.{samples_in_chunk, first_is_alpha, photometric, no_color, color_from, color_of, whole_chroma, sample_type_from, sample_type_of}
+use Rattle.tiff_page.specs.Layout.{first_is_alpha, photometric, no_color, color_from, color_of, whole_chunks, whole_chroma, sample_type_from, sample_type_of}
 use Rattle.tiff_page.specs.Methods.{method_fault}
-use Rattle.tiff_page.specs.PixelFault.{is_supported_color, is_number, fault_of_predictor, predictor_fault, white_from, inversion_fault}
+use Rattle.tiff_page.specs.PixelFault.{is_byte_multiple, is_supported_color, is_gray, refuse_predictor, depth_fault, is_number, fault_of_predictor, predictor_fault, white_from, inversion_fault}
 use Rattle.tiff_page.specs.Pixels.{tabulate}
 use Rattle.tiff_page.proofs.Rows.{each_same}
 use Rattle.tiff_page.proofs.Planes.{given_if}
 use Rattle.tiff_encode.specs.Machine.{OpenImage}
-use Rattle.tiff_encode.specs.Chunks.{all_samples, subsampling_of, image_page}
+use Rattle.tiff_encode.specs.Chunks.{all_samples, subsampling_of, pixels_across, shown_page}
+use Rattle.tiff_encode.specs.Shows.{shown_columns}
 use Rattle.tiff_encode.specs.Open.{IsOpen}
-use Rattle.tiff_encode.specs.ReadsBack.{IsReadable, WrittenReadsBack, ShownInOrder}
+use Rattle.tiff_encode.specs.ReadsBack.{column_samples, IsReadable, WrittenReadsBack, ShownInOrder}
+use Rattle.tiff_page.specs.Counts.{parts}
+use Rattle.tiff_encode.proofs.ImageState.{one_part}
 use Rattle.tiff_encode.proofs.Samples.{some_method}
-use Rattle.tiff_encode.proofs.Shown.Color.{IsOf, of_family, first_of, IsColored, colored}
+use Rattle.tiff_encode.proofs.Shown.Color.{IsOf, is_of_family, first_of, IsColored, colored}
+use Rattle.tiff_encode.proofs.Shown.Packed.{plain_depth, packed_as, packed_color}
 use Rattle.tiff_encode.proofs.ReadsBack.Entries.{reads_back}
 
 -- ---- the sample type
 
--- samples of each field type have a sample type
-type_of_numbers : (type : «Type») → (t : DecodingSampleType) × (sample_type_from (format_of_type type) (8 * type_size type) ≡ Ok t)
-type_of_numbers field.BYTE = (_, refl)
-type_of_numbers type = (_, refl)
+-- samples of each color type have a sample type
+type_of_numbers : (name : ColorTypeName) → (t : DecodingSampleType) × (sample_type_from (format_of_type (form_of name).1) (depth_of name) ≡ Ok t)
+type_of_numbers color.Gray8 = (_, refl)
+type_of_numbers name = (_, refl)
 
 -- each named color type has a sample type
 typed : (name : ColorTypeName) → (t : DecodingSampleType) × (sample_type_from (get_or (color_type name).formats 0 Void) (get_or (color_type name).bits 0 0) ≡ Ok t)
@@ -50,10 +57,10 @@ unfolding color_type
 typed name =
     let f : Family = (form_of name).0 in
     let type : «Type» = (form_of name).1 in
-    let there = type_of_numbers type in (
+    let there = type_of_numbers name in (
       there.0,
       ap (λ (format : SampleFormat). sample_type_from format (get_or (color_type name).bits 0 0)) (first_of f (format_of_type type) Void)
-          ∙ ap (λ (depth : ℕ). sample_type_from (format_of_type type) depth) (first_of f (8 * type_size type) 0)
+          ∙ ap (λ (depth : ℕ). sample_type_from (format_of_type type) depth) (first_of f (depth_of name) 0)
           ∙ there.1,
     )
 
@@ -115,6 +122,16 @@ module _ (p : PageRecord) where
         | inr h ↦ subst P (sym h) (rw e refl)
       ]
 
+-- a depth of less than a byte isn't one of whole bytes
+narrow_depth : (d : ℕ) → d < 8 → is_byte_multiple d ≡ false
+narrow_depth d l =
+    rw (
+      ne_eqb d 8 (λ q. omega (arith, l, q)),
+      ne_eqb d 16 (λ q. omega (arith, l, q)),
+      ne_eqb d 32 (λ q. omega (arith, l, q)),
+      ne_eqb d 64 (λ q. omega (arith, l, q)),
+    ) refl
+
 unpacked : (m : CompressionMethod) → (m ≡ method.None) ⊎ (m ≡ method.PackBits) → method_fault m ≡ Ok tt
 unpacked m way =
     let P : CompressionMethod → Type 0 = λ r. method_fault r ≡ Ok tt in
@@ -125,12 +142,9 @@ unpacked m way =
 
 -- ---- an image and a page of it, with its chunks at any offsets
 module _ (i : OpenImage) (w : IsOpen i) (p : PageRecord)
-    (same : p ≡ record (image_page i) { offsets = p.offsets; byte_counts = p.byte_counts }) where
+    (same : p ≡ record (shown_page i) { offsets = p.offsets; byte_counts = p.byte_counts }) where
   is_of : IsOf i.color i.size
-  is_of =
-      let P : ColorTypeRecord → Type 0 = λ c. IsOf c i.size in
-      let Q : ℕ → Type 0 = λ k. IsOf (color_type w.name) k in
-      subst P (sym w.color) (subst Q (sym w.size) (of_family w.name))
+  is_of = is_of_family i w.name w.color w.size
 
   tinted : IsColored i
   tinted = colored i is_of
@@ -151,6 +165,40 @@ module _ (i : OpenImage) (w : IsOpen i) (p : PageRecord)
             ∙ t.1,
       )
 
+  -- packed pixels have strips and no predictor
+  packed_so : p.depth < 8 → is_packed i.color ≡ true
+  packed_so l = lt-ltb (first_bits i.color) 8 (subst (λ n. n < 8) (ap (λ (q : PageRecord). q.depth) same) l)
+
+  narrow_taken : (c : ColorType) → color_of p ≡ Ok c → p.depth < 8 → depth_fault p c ≡ Ok tt
+  unfolding depth_fault
+  narrow_taken c e l =
+      let gray = packed_color i is_of w.wide w.form w.pixels (packed_so l) p c same e in
+      let none : p.predictor ≡ predictor.None = ap (λ (q : PageRecord). q.predictor) same ∙ (w.pixels.plain (packed_so l)).1.1 in
+      let whole : is_byte_multiple p.depth ≡ false = narrow_depth p.depth l in
+      let test : nat_lt p.depth 8 ≡ true = lt-ltb p.depth 8 l in
+      let P : ColorType → Predictor → Type 0 = λ x q. cond (is_byte_multiple p.depth && is_supported_color x) (Ok tt)
+      (cond (nat_lt p.depth 8 && is_gray x) (refuse_predictor q x) (Err (UnsupportedError (UnsupportedColorType x)))) ≡ Ok tt in
+      subst (λ x. P x p.predictor) (sym gray) (subst (λ q. P (Gray (first_bits i.color)) q) (sym none) (rw (whole, test) refl))
+
+  narrow_aligned : (c : ColorType) → p.depth < 8 → whole_chunks p c p.width ≡ Ok c
+  narrow_aligned c l =
+      let strip : i.form.chunk_type ≡ Strip = (w.pixels.plain (packed_so l)).0 in
+      let wide : p.width ≡ i.pixels = ap (λ (q : PageRecord). q.width) same in
+      let chunk : p.chunk_width ≡ i.pixels =
+      ap (λ (q : PageRecord). q.chunk_width) same ∙ ap (λ t. pixels_across t i.pixels i.form.chunk_width) strip in
+      let one : parts p.width p.chunk_width ≡ 1 = (λ t. parts (wide t) (chunk t)) ∙ one_part i.pixels i.pixels w.pixels.some.0 (omega arith) in
+      let few : nat_lt 1 (parts p.width p.chunk_width) ≡ false = ap (λ n. nat_lt 1 n) one in
+      rw few refl
+
+  -- the depth of the page
+  pub depth_there : ((shown_page i).depth ≡ 8 * i.size) ⊎ (((shown_page i).depth < 8) × (i.size ≡ 1))
+  depth_there =
+      let P : Bool → Type 0 = λ b. is_packed i.color ≡ b → ((shown_page i).depth ≡ 8 * i.size) ⊎ (((shown_page i).depth < 8) × (i.size ≡ 1)) in
+      elim (is_packed i.color) as P [
+        | true ↦ λ y. inr (ltb-true (first_bits i.color) 8 y, (packed_as i is_of w.wide w.form w.pixels y).1.0)
+        | false ↦ λ n. inl (plain_depth i is_of w.wide w.form w.pixels n)
+      ] refl
+
   pub readable : (c : ColorType) → color_of p ≡ Ok c → IsReadable p c
   unfolding color_of sample_type_of predictor_fault inversion_fault
   readable c e =
@@ -167,6 +215,7 @@ module _ (i : OpenImage) (w : IsOpen i) (p : PageRecord)
         packed_by = unpacked p.method packed;
         upright = ap (λ (m : PhotometricInterpretation). white_from m p c) interpretation_is ∙ family_upright p f c;
         chroma = taken.1;
+        narrow = λ l. (narrow_taken c e l, narrow_aligned c l);
       }
 
 pub written_reads_back : WrittenReadsBack
@@ -176,8 +225,8 @@ written_reads_back kind file offset i sample_at limits w small s l =
       t.0,
       (
         t.1,
-        reads_back kind file offset (record { page = image_page i; sample_at = sample_at }) i.size limits t.0 s
-            (record { is_size = c.is_size; depth = c.depth; small = small }) t.1
+        reads_back kind file offset (record { page = shown_page i; sample_at = sample_at }) i.size limits t.0 s
+            (record { is_size = c.is_size; depth = depth_there i w s.page s.is_image; small = small }) t.1
             (readable i w s.page s.is_image s.color s.is_color) l,
       ),
     )
@@ -187,18 +236,19 @@ written_reads_back kind file offset i sample_at limits w small s l =
 -- the page shows the samples of an image in the order in which the call receives them
 pub shown_in_order : ShownInOrder
 shown_in_order i samples p color wide all long =
-    let s : ℕ = samples_in_chunk p.planar color in
-    let n : ℕ = p.height * p.width * s in
-    let at : ℕ → ℕ = λ k. slice_index samples ((k / s / p.width * i.width + k / s % p.width) * all_samples i + k % s) in
-    let offset : (k : ℕ) → (k / s / p.width * i.width + k / s % p.width) * all_samples i + k % s ≡ k = λ k.
-    let a : (k / s / p.width * p.width + k / s % p.width) * s ≡ k / s * s = ap (λ (m : ℕ). m * s) (div-add-mod' (k / s) p.width) in
-    let b : (k / s / p.width * i.width + k / s % p.width) * all_samples i ≡ (k / s / p.width * p.width + k / s % p.width) * s =
-    λ t. (k / s / p.width * sym wide t + k / s % p.width) * sym all t in
+    let s : ℕ = column_samples p color in
+    let c : ℕ = shown_columns p color in
+    let n : ℕ = p.height * c * s in
+    let at : ℕ → ℕ = λ k. slice_index samples ((k / s / c * i.width + k / s % c) * all_samples i + k % s) in
+    let offset : (k : ℕ) → (k / s / c * i.width + k / s % c) * all_samples i + k % s ≡ k = λ k.
+    let a : (k / s / c * c + k / s % c) * s ≡ k / s * s = ap (λ (m : ℕ). m * s) (div-add-mod' (k / s) c) in
+    let b : (k / s / c * i.width + k / s % c) * all_samples i ≡ (k / s / c * c + k / s % c) * s =
+    λ t. (k / s / c * sym wide t + k / s % c) * sym all t in
     omega (arith, a, b, div-add-mod' k s) in
-    let count : length samples ≡ n = long ∙ ap (λ (m : ℕ). p.height * p.width * m) (sym all) in
+    let count : length samples ≡ n = long ∙ ap (λ (m : ℕ). p.height * c * m) (sym all) in
     each_same n at (λ k. slice_index samples k) (λ k b. ap (λ (m : ℕ). slice_index samples m) (offset k))
     ∙ ext_get_or 0 (tabulate n (λ k. slice_index samples k)) samples
     (length-map-range_with_len (λ k. slice_index samples k) 0 n ∙ sym count)
     (λ k b.
-    let c : k < n = subst (λ (m : ℕ). k < m) (length-map-range_with_len (λ j. slice_index samples j) 0 n) b in
-    get_or-map-range_with_len (λ j. slice_index samples j) 0 n k k 0 c (omega arith))
+    let within : k < n = subst (λ (m : ℕ). k < m) (length-map-range_with_len (λ j. slice_index samples j) 0 n) b in
+    get_or-map-range_with_len (λ j. slice_index samples j) 0 n k k 0 within (omega arith))

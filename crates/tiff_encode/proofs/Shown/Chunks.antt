@@ -1,25 +1,27 @@
 -- Chunks that encode samples show them.
-use Rattle.std.proofs.Common.{◌≡◌, ℕ, ◌+◌, ◌*◌, ◌%◌, ◌^◌, ◌<◌, ◌≤◌, false, List, ◌++◌, length, get_or, ap, sym, ◌∙◌, subst, arith, length-append}
-use Rattle.std.specs.Prelude.{slice_index}
+use Rattle.std.proofs.Common.{refl, Bool, true, cond, ◌≡◌, ℕ, ◌+◌, ◌*◌, ◌%◌, ◌^◌, ◌<◌, ◌≤◌, false, List, ◌++◌, length, get_or, ap, sym, ◌∙◌, subst, arith, length-append}
+use Rattle.std.specs.Prelude.{nat_lt, slice_index}
 use Rattle.std.proofs.lemmas.Bool.{le-ltb}
 use Rattle.std.proofs.lemmas.Nat.{mod_below}
 use Rattle.std.proofs.Math.Nat.{mul_assoc}
 use Rattle.tiff_base.specs.declared.tags.ByteOrder.TheVariants.{LittleEndian}
 use Rattle.tiff_base.specs.declared.tags.FileKind.{FileKind}
 use Rattle.tiff_base.specs.Color.{num_samples}
-use Rattle.tiff_value.specs.ColorType.{ColorTypeRecord}
-use Rattle.tiff_value.specs.ColorTypes.{color_type}
+use Rattle.tiff_value.specs.ColorType.{is_packed}
 use Rattle.tiff_page.specs.Page.{PageRecord}
+use Rattle.tiff_page.specs.Layout.{row_bytes}
 use Rattle.tiff_page.specs.Counts.{all_chunks}
 use Rattle.tiff_page.specs.Rect.{chunk_of_pixel}
 use Rattle.tiff_page.specs.Methods.{data_by_method}
-use Rattle.tiff_page.specs.Pixels.{planar_or, stored_samples, stored_row_bytes, chunk_data, stored_number, needed_bytes, is_short, shown_sample}
+use Rattle.tiff_page.specs.Pixels.{planar_or, stored_samples, stored_row_bytes, chunk_data, stored_number, needed_bytes, image_region, is_short, packed_byte, shown_sample}
 use Rattle.tiff_page.specs.Laws.{HasSides}
 use Rattle.tiff_encode.specs.Machine.{OpenImage, compression_method}
-use Rattle.tiff_encode.specs.Chunks.{image_page, chunk_rows, row_samples, sample_in}
+use Rattle.tiff_encode.specs.Chunks.{image_page, shown_page, chunk_rows, row_samples, sample_in}
 use Rattle.tiff_encode.specs.Stored.{unpacked_chunk}
-use Rattle.tiff_encode.specs.Held.{IsWholeImage, samples_of_chunk, AreSupplied, HasChunks, ChunksShow}
-use Rattle.tiff_encode.proofs.Shown.Color.{IsOf, of_family, IsColored, colored}
+use Rattle.tiff_encode.specs.Held.{IsWholeImage, samples_of_chunk, AreSupplied, HasChunks, ShowsSamples, ChunksShow}
+use Rattle.tiff_encode.proofs.Shown.Color.{IsOf, is_of_family, IsColored, colored}
+use Rattle.tiff_encode.proofs.Shown.Packed.{plain_page, pixels_shown}
+use Rattle.tiff_page.proofs.Rows.{some_size}
 use Rattle.tiff_encode.proofs.Shown.Data.{data_begin, row_is, length_bytes, number_is}
 use Rattle.tiff_encode.proofs.Shown.Offsets.{plane_within, sample_within, chunk_listed, offset_within, offset_same, needed_within}
 
@@ -35,10 +37,7 @@ module _ (kind : FileKind) (file : List ℕ) (i : OpenImage) (samples : List (Li
 
   -- the color type of the image is of a family
   is_of : IsOf i.color i.size
-  is_of =
-      let P : ColorTypeRecord → Type 0 = λ c. IsOf c i.size in
-      let Q : ℕ → Type 0 = λ n. IsOf (color_type w.name) n in
-      subst P (sym w.color) (subst Q (sym w.size) (of_family w.name))
+  is_of = is_of_family i w.name w.color w.size
 
   tinted : IsColored i
   tinted = colored i is_of
@@ -88,13 +87,28 @@ module _ (kind : FileKind) (file : List ℕ) (i : OpenImage) (samples : List (Li
       ∙ number_is i tinted xs file t.0 k t.1 (h.small k) w.predicted_by row column one f (mod_below x p.chunk_width sides.chunk_wide) within
       ∙ ap (λ (n : ℕ). get_or xs n 0) (offset_same p sides row column one)
 
+  -- the page of the columns shows them
+  columns_show : ShowsSamples file p (sample_in p samples)
+  columns_show =
+      let deep : nat_lt (8 * i.size) 8 ≡ false = le-ltb (8 * i.size) 8 (omega (arith, some_size i.size tinted.is_size)) in
+      record {
+        color = tinted.color;
+        is_color = tinted.is_color;
+        whole = not_short;
+        shows = λ x y sample xl yl sl.
+            let P : Bool → Type 0 = λ b. x < cond b (row_bytes p tinted.color p.width) p.width
+            → cond b (packed_byte file LittleEndian p tinted.color (image_region p) (planar_or p.planar sample 0) y x) (shown_sample file LittleEndian p x y sample)
+            ≡ sample_in p samples x y sample in
+            subst P (sym deep) (λ l. sample_shown x y sample l yl sl) xl;
+      }
+
+  -- the page that the reader finds shows them
+  pages_show : (b : Bool) → is_packed i.color ≡ b → ShowsSamples file (shown_page i) (sample_in p samples)
+  pages_show true y =
+      pixels_shown i is_of w.wide w.form w.pixels y file tinted.color (sample_in p samples) tinted.is_color not_short sample_shown
+  pages_show false n =
+      subst (λ q. ShowsSamples file q (sample_in p samples)) (sym (plain_page i is_of w.wide w.form w.pixels n)) columns_show
+
 -- chunks that encode samples show them
 pub chunks_show : ChunksShow
-chunks_show kind file i samples w h there =
-    let c = tinted kind file i samples w h there in
-    record {
-      color = c.color;
-      is_color = c.is_color;
-      whole = not_short kind file i samples w h there;
-      shows = sample_shown kind file i samples w h there;
-    }
+chunks_show kind file i samples w h there = pages_show kind file i samples w h there (is_packed i.color) refl

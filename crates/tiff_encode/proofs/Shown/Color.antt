@@ -1,5 +1,5 @@
 -- The page of an image of a named color type has a color with no more samples than a pixel.
-use Rattle.std.proofs.Common.{◌≡◌, ◌==◌, ℕ, ◌+◌, ◌*◌, ◌≤◌, ◌⊎◌, true, false, cond, Bool, List, [], ◌∷◌, length, get_or, replicate, Ok, refl, ap, ◌∙◌, arith}
+use Rattle.std.proofs.Common.{◌≡◌, ◌==◌, ℕ, ◌+◌, ◌*◌, ◌<◌, ◌≤◌, ◌⊎◌, inl, inr, true, false, cond, Bool, List, [], ◌∷◌, length, get_or, replicate, Ok, refl, ap, sym, ◌∙◌, subst, arith, lit<}
 use Rattle.std.proofs.lemmas.Bool.{ne_eqb}
 use Rattle.std.proofs.lemmas.List.{length-replicate}
 use Rattle.tiff_base.specs.declared.color.ColorType.{ColorType}
@@ -12,8 +12,9 @@ use Rattle.tiff_base.specs.declared.tags.«Type».TheVariants as field
 use Rattle.tiff_base.specs.Color.{num_samples}
 use Rattle.tiff_base.specs.Types.{type_size}
 use Rattle.tiff_value.specs.declared.encoder.colortype.ColorTypeName.{ColorTypeName}
+use Rattle.tiff_value.specs.declared.encoder.colortype.ColorTypeName.TheVariants as color
 use Rattle.tiff_value.specs.ColorType.{ColorTypeRecord}
-use Rattle.tiff_value.specs.ColorTypes.{Family, meaning_of, count_of, form_of, color_type, inner_type, inner_size}
+use Rattle.tiff_value.specs.ColorTypes.{Family, meaning_of, count_of, form_of, depth_of, color_type, inner_type, inner_size}
 use Rattle.tiff_value.specs.ColorTypes as family
 use Rattle.tiff_page.specs.Page.{PageRecord}
 use Rattle.tiff_page.specs.Layout.{first_is_alpha, photometric, color_from, color_of}
@@ -27,11 +28,17 @@ use Rattle.tiff_encode.specs.Chunks.{all_samples, image_page}
 abbrev pub IsSize : ℕ → Type 0
 IsSize size = (size ≡ 1) ⊎ ((size ≡ 2) ⊎ ((size ≡ 4) ⊎ (size ≡ 8)))
 
+-- a sample has all bits of its bytes; or pixels of one gray sample are packed into bytes
+abbrev pub IsDeep : ℕ → Family → ℕ → Type 0
+IsDeep depth f size = (depth ≡ 8 * size) ⊎ ((f ≡ family.Gray) × ((size ≡ 1) × ((0 < depth) × (depth < 8))))
+
 -- A color type of a family, whose samples have the given number of bytes.
 pub record IsOf (c : ColorTypeRecord) (size : ℕ) : Type 0 where
   pub family : Family
   pub interpretation : c.interpretation ≡ meaning_of family
-  pub bits : c.bits ≡ replicate (count_of family) (8 * size)
+  pub depth : ℕ
+  pub bits : c.bits ≡ replicate (count_of family) depth
+  pub is_deep : IsDeep depth family size
   pub is_size : IsSize size
 
 -- a number of each field type has a number of bytes that a sample may have
@@ -39,13 +46,22 @@ pub size_of_type : (type : «Type») → IsSize (type_size type)
 size_of_type field.BYTE = grind arith
 size_of_type type = grind arith
 
+-- the samples of each named color type have all bits of their bytes, or are packed
+deep : (name : ColorTypeName) → IsDeep (depth_of name) (form_of name).0 (type_size (form_of name).1)
+deep color.Gray1 = inr (refl, (refl, (lit< tt, lit< tt)))
+deep color.Gray2 = inr (refl, (refl, (lit< tt, lit< tt)))
+deep color.Gray4 = inr (refl, (refl, (lit< tt, lit< tt)))
+deep name = inl refl
+
 -- each named color type is of a family
 pub of_family : (name : ColorTypeName) → IsOf (color_type name) (inner_size name)
 unfolding color_type inner_type
 of_family name = record {
   family = (form_of name).0;
   interpretation = refl;
+  depth = depth_of name;
   bits = refl;
+  is_deep = deep name;
   is_size = size_of_type (form_of name).1;
 }
 
@@ -117,15 +133,22 @@ unfolding color_of
 colored i c =
     let p : PageRecord = image_page i in
     let f : Family = c.family in
-    let many : length i.color.bits ≡ count_of f = ap length c.bits ∙ length-replicate (count_of f) (8 * i.size) in
+    let many : length i.color.bits ≡ count_of f = ap length c.bits ∙ length-replicate (count_of f) c.depth in
     let has = family_has p (all_samples i) (omega arith) f (omega (arith, many)) (omega (arith, many)) in
     record {
       color = has.0;
       is_color = ap (λ (m : PhotometricInterpretation). color_from m p) c.interpretation ∙ has.1.0;
       few = has.1.1;
-      depth = ap (λ (l : List ℕ). get_or l 0 0) c.bits ∙ first_of f (8 * i.size) 0;
+      depth = refl;
       is_size = c.is_size;
       upright = λ limit v.
           ap (λ (m : PhotometricInterpretation). shown_number m limit v) c.interpretation
           ∙ plain_family f limit v;
     }
+
+-- the color type of an image with a name is of a family
+pub is_of_family : (i : OpenImage) (name : ColorTypeName) → i.color ≡ color_type name → i.size ≡ inner_size name → IsOf i.color i.size
+is_of_family i name c s =
+    let P : ColorTypeRecord → Type 0 = λ x. IsOf x i.size in
+    let Q : ℕ → Type 0 = λ n. IsOf (color_type name) n in
+    subst P (sym c) (subst Q (sym s) (of_family name))

@@ -4,7 +4,7 @@ use Rattle.std.specs.Prelude.{slice_index}
 use Rattle.tiff_base.specs.declared.tags.FileKind.{FileKind}
 use Rattle.tiff_encode.specs.Model.{Model, Stands}
 use Rattle.tiff_encode.specs.Machine.{OpenImage}
-use Rattle.tiff_encode.specs.Chunks.{image_page, sample_in}
+use Rattle.tiff_encode.specs.Chunks.{image_page, shown_page, sample_in}
 use Rattle.tiff_encode.specs.Held.{HasChunks, RegionsHaveChunks, ShowsSamples, PageTold, ImagesShow}
 use Rattle.tiff_encode.proofs.Shown.Chunks.{chunks_show}
 
@@ -18,10 +18,10 @@ regions_stand kind file m i samples s r k b =
 -- images are shown if a directory with the tags of an image is read as the image's page
 pub images_show_by : PageTold → ImagesShow
 images_show_by told kind file m d fields given i samples s in_directories is_listed holds whole tells supplied regions =
-    let c : ShowsSamples file (image_page i) (sample_in (image_page i) samples) =
+    let c : ShowsSamples file (shown_page i) (sample_in (image_page i) samples) =
     chunks_show kind file i samples whole supplied (regions_stand kind file m i samples s regions) in
     record {
-      page = image_page i;
+      page = shown_page i;
       is_page = told kind file m d fields given i s in_directories is_listed holds whole tells;
       is_image = refl;
       color = c.color;

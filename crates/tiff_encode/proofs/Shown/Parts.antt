@@ -22,7 +22,7 @@ use Rattle.tiff_value.specs.ColorTypes.{color_type, inner_type, inner_size}
 use Rattle.tiff_encode.specs.FileBytes.{rows_per_strip}
 use Rattle.tiff_encode.specs.declared.encoder.settings.Compression.TheVariants.{Uncompressed}
 use Rattle.tiff_encode.specs.Machine.{FileState, OpenDirectory, compression_method}
-use Rattle.tiff_encode.specs.Chunks.{all_samples, image_page, is_tile, is_planar, row_samples, chunk_samples, cut_out, chunks_left, part, parts_left, sample_in}
+use Rattle.tiff_encode.specs.Chunks.{all_samples, image_page, shown_page, is_tile, is_planar, row_samples, chunk_samples, cut_out, chunks_left, part, parts_left, sample_in}
 use Rattle.tiff_encode.specs.Calls.{default_rows, image_in}
 use Rattle.tiff_encode.specs.Shows.{gray_page}
 use Rattle.tiff_encode.specs.ImageData.{image_of_samples, PartsShow}
@@ -202,7 +202,7 @@ parts_show i samples x y sample d none xl yl sl =
 
 -- the page of the new image
 pub gray_page_is : (file : FileState) (d : OpenDirectory) (width height : ℕ) → file.compression ≡ Uncompressed → file.predictor ≡ predictor.None
-    → image_page (image_in file d (color_type Gray8) (inner_size Gray8) width height) ≡ gray_page width height
+    → shown_page (image_in file d (color_type Gray8) (inner_size Gray8) width height) ≡ gray_page width height
 unfolding color_type inner_type
 gray_page_is file d width height m q =
     let e : width * 1 ≡ width = omega arith in

@@ -56,5 +56,8 @@ pub fn by_name<E, I, A, V: ColorVisitor<E, I, A>>(name: ColorTypeName, state: &m
         ColorTypeName::CMYK64Float => V::visit::<colortype::CMYK64Float>(state, input),
         ColorTypeName::YCbCr8 => V::visit::<colortype::YCbCr8>(state, input),
         ColorTypeName::CMYKA8 => V::visit::<colortype::CMYKA8>(state, input),
+        ColorTypeName::Gray1 => V::visit::<colortype::Gray1>(state, input),
+        ColorTypeName::Gray2 => V::visit::<colortype::Gray2>(state, input),
+        ColorTypeName::Gray4 => V::visit::<colortype::Gray4>(state, input),
     }
 }

@@ -9,7 +9,8 @@ pub use super::colors::{
 };
 use super::differences::Sample;
 pub use super::grays::{
-    Gray16, Gray32, Gray32Float, Gray64, Gray64Float, GrayI8, GrayI16, GrayI32, GrayI64,
+    Gray1, Gray2, Gray4, Gray16, Gray32, Gray32Float, Gray64, Gray64Float, GrayI8, GrayI16,
+    GrayI32, GrayI64,
 };
 use tiff_base::error::TiffResult;
 use tiff_base::tags::{PhotometricInterpretation, SampleFormat};
@@ -81,7 +82,8 @@ pub trait ColorType {
     ghost lawful: { IsColorType (type_size Self.Inner.value_type) described };
 }
 
-/// A color type that the Rust crate has. This project adds this trait.
+/// A color type with a name: one of the Rust crate, or `Gray1`, `Gray2` or `Gray4`. This project
+/// adds this trait.
 pub trait NamedColorType: ColorType {
     ghost use Rattle.std.specs.Prelude.{◌≡◌};
     ghost use Rattle.tiff_value.specs.ColorTypes.{color_type, inner_type};
@@ -179,11 +181,14 @@ pub enum ColorTypeName {
     CMYK64Float,
     YCbCr8,
     CMYKA8,
+    Gray1,
+    Gray2,
+    Gray4,
 }
 
 impl ColorTypeName {
     /// All names, in the order of the numbers that C uses for them, which start from 0.
-    pub const ALL: [ColorTypeName; 30] = [
+    pub const ALL: [ColorTypeName; 33] = [
         ColorTypeName::Gray8,
         ColorTypeName::Gray16,
         ColorTypeName::Gray32,
@@ -214,5 +219,8 @@ impl ColorTypeName {
         ColorTypeName::CMYK64Float,
         ColorTypeName::YCbCr8,
         ColorTypeName::CMYKA8,
+        ColorTypeName::Gray1,
+        ColorTypeName::Gray2,
+        ColorTypeName::Gray4,
     ];
 }

@@ -2,6 +2,7 @@
 
 ghost use Rattle.std.specs.Prelude.{◌≡◌, ℕ, ◌+◌, ◌*◌, ◌^◌, ◌<◌, [], ◌∷◌, length, IfOk, MatchOption, MatchResult, None, Some, true};
 ghost use Rattle.tiff_base.specs.Types.{type_size};
+ghost use Rattle.tiff_value.specs.ColorType.{columns_of};
 ghost use Rattle.tiff_encode.specs.Calls as calls;
 ghost use Rattle.tiff_encode.specs.Calls.{default_rows, image_in, new_directory};
 ghost use Rattle.tiff_encode.specs.Causes as causes;
@@ -16,7 +17,7 @@ use crate::encoder::TiffEncoder;
 use crate::encoder::directory::state::DirectoryState;
 use crate::encoder::directory::tags::TagValue;
 use crate::encoder::image::chunk_rooms::ChunkRooms;
-use crate::encoder::image::state::{ChunkLayout, ImageState};
+use crate::encoder::image::state::{ChunkLayout, ImageState, first_bits, is_packed};
 use crate::encoder::kind::TiffKind;
 use crate::encoder::settings::Compression;
 use std::alloc::{AllocError, Global};
@@ -53,16 +54,25 @@ fn is_past_resolutions(kind: FileKind, end: u64) -> bool
     }
 }
 
+// Returns whether a color type has no predictor: its samples aren't integers, or several are in a
+// byte.
+fn is_unpredicted<C: ColorType>() -> bool
+    ensures { result ≡ causes.is_unpredicted C.described }
+{
+    is_packed::<C>() || is_not_whole(C::sample_formats())
+}
+
 /// Returns the first error of `new_image` that applies, except that of an earlier failed write.
+/// `unpredicted` tells whether the color type has no predictor.
 #[tactic(auto, unfolding(crate::specs::Causes::image_cause))]
 fn check_image(
     kind: FileKind,
     end: u64,
     predictor: Predictor,
-    formats: &[SampleFormat],
+    unpredicted: bool,
     sides: (u32, u32),
 ) -> TiffResult<()>
-    ensures { Checks (image_cause kind end predictor formats.now sides.0 sides.1) result }
+    ensures { Checks (image_cause kind end predictor unpredicted sides.0 sides.1) result }
 {
     if sides.0 == 0 || sides.1 == 0 {
         return Err(TiffError::FormatError(TiffFormatError::InvalidDimensions(sides.0, sides.1)));
@@ -70,7 +80,7 @@ fn check_image(
     match predictor {
         Predictor::None => {}
         Predictor::Horizontal => {
-            if is_not_whole(formats) {
+            if unpredicted {
                 return Err(TiffError::UsageError(UsageError::PredictorIncompatible));
             }
         }
@@ -90,6 +100,18 @@ fn method(compression: Compression) -> CompressionMethod
         Compression::Uncompressed => CompressionMethod::None,
         Compression::Packbits | Compression::PackbitsRows => CompressionMethod::PackBits,
     }
+}
+
+/// Returns the number of columns of a row of `width` pixels of a color type: a column is a pixel,
+/// or a byte of packed pixels, of which the last may be partly used. It never fails.
+pub fn columns<C: ColorType>(width: u32) -> u32
+    ensures count { result ≡ columns_of C.described width }
+    ensures some { 0 < width → 0 < result }
+{
+    if !is_packed::<C>() {
+        return width;
+    }
+    (u64::from(width) * u64::from(first_bits::<C>())).div_ceil(8) as u32
 }
 
 // Returns the number of rows of a strip by default. `row_bytes` is the number of bytes of a row.
@@ -118,13 +140,14 @@ impl<W: Sink, K: TiffKind> TiffEncoder<W, K> {
             self.file_kind(),
             end,
             self.predictor,
-            C::sample_formats(),
+            is_unpredicted::<C>(),
             (width, height),
         )?;
         Ok(())
     }
 
-    // Returns an image without chunks, with a directory of the IFD chain that has no fields.
+    // Returns an image of a width in pixels without chunks, with a directory of the IFD chain that
+    // has no fields.
     fn blank<C: ColorType>(&self, width: u32, height: u32) -> ImageState<C>
         requires sides { (0 < width) × (0 < height) }
         ensures { result ≡ image_in self.now (new_directory (Some self.now.chain) true) C.described
@@ -132,21 +155,23 @@ impl<W: Sink, K: TiffKind> TiffEncoder<W, K> {
     {
         let (_kind, len) = C::Inner::type_and_len();
         let pixel = C::sample_bits().len() as u64 * u64::from(len);
-        let rows = rows_of_strip(self.compression, u64::from(width) * pixel);
+        let columns = columns::<C>(width);
+        let rows = rows_of_strip(self.compression, u64::from(columns) * pixel);
         ImageState {
             directory: DirectoryState {
                 directory: Directory::empty(self.alloc),
                 parent: Some(self.chain),
                 chained: true,
             },
-            width,
+            width: columns,
             height,
+            pixels: width,
             extra: Vec::new(self.alloc),
             predictor: self.predictor,
             compression: self.compression,
             form: ChunkLayout {
                 chunk_type: ChunkType::Strip,
-                chunk_width: width,
+                chunk_width: columns,
                 chunk_height: rows,
                 planar: PlanarConfiguration::Chunky,
             },
@@ -164,7 +189,7 @@ fn meaning_values<C: ColorType>(image: &ImageState<C>) -> [TagValue; 5]
     ensures { result ≡ fields_of (calls.meaning_tags image.now) }
 {
     [
-        TagValue::long(Tag::ImageWidth, image.width),
+        TagValue::long(Tag::ImageWidth, image.pixels),
         TagValue::long(Tag::ImageLength, image.height),
         TagValue::short(Tag::Compression, method(image.compression).to_u16()),
         TagValue::short(Tag::Predictor, image.predictor.to_u16()),

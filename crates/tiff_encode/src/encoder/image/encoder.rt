@@ -33,12 +33,14 @@ impl<W: Sink, K: TiffKind> TiffEncoder<W, K> {
     ghost use Rattle.std.specs.Borrow.{sem};
     ghost use Rattle.tiff_encode.specs.Lending.{new_image_rests};
 
-    /// Begins an image of a color type, `width` columns wide and `height` rows high. It appends
-    /// padding up to a multiple of 4 bytes, and writes the first tags of the image, with a
-    /// resolution of 1/1. The chunks are strips of as many rows as make a million bytes, or of one
+    /// Begins an image of a color type, `width` pixels wide and `height` rows high. A sample of
+    /// packed pixels (`Gray1`, `Gray2`, `Gray4`) is a byte of them, and a row has as many bytes as
+    /// its pixels fill. The call appends padding up to a multiple of 4 bytes, and writes the first
+    /// tags of the image, with a resolution of 1/1. The chunks are strips of as many rows as make a million bytes, or of one
     /// row if they are compressed. Returns the first error that applies: `UsageError(WriterFailed)`
     /// if an earlier write to the sink failed; `FormatError(InvalidDimensions)` if the width or the
-    /// height is 0; `UsageError(PredictorIncompatible)` for differences of floating point samples;
+    /// height is 0; `UsageError(PredictorIncompatible)` for differences of floating point samples or
+    /// of packed pixels;
     /// `UsageError(PredictorUnavailable)` for `Predictor::FloatingPoint`; `IntSizeError` if in a
     /// classic file the offset of a resolution exceeds 4 bytes. Otherwise `OutOfMemory` if an
     /// allocation fails, or the error of the sink, `IoError(Device)` or `OutOfMemory`.

@@ -1,6 +1,7 @@
 //! Sets the properties of an open image, and its division into chunks.
 
-ghost use Rattle.std.specs.Prelude.{◌≡◌, ◌+◌, ◌^◌, ◌<◌, length, IfErr, MatchResult, OnErr, None, Some, nat_lt};
+ghost use Rattle.std.specs.Prelude.{◌≡◌, ◌+◌, ◌^◌, ◌<◌, ◌||◌, length, IfErr, MatchResult, OnErr, None, Some, nat_lt};
+ghost use Rattle.tiff_value.specs.ColorType as color_type;
 ghost use Rattle.tiff_value.specs.Data.{data_of, extras};
 ghost use Rattle.tiff_encode.specs.Calls as calls;
 ghost use Rattle.tiff_encode.specs.Causes as causes;
@@ -14,7 +15,7 @@ ghost use Rattle.tiff_encode.specs.Tagging.{StopsResolving, fields_of};
 use crate::encoder::TiffEncoder;
 use crate::encoder::directory::encoder::DirectoryEncoder;
 use crate::encoder::directory::tags::TagValue;
-use crate::encoder::image::state::{ChunkLayout, ImageState};
+use crate::encoder::image::state::{ChunkLayout, ImageState, is_packed};
 use crate::encoder::kind::TiffKind;
 use crate::encoder::limits::check_field;
 use tiff_base::color::ChunkType;
@@ -54,6 +55,9 @@ impl<W: Sink, K: TiffKind> TiffEncoder<W, K> {
         if image.is_begun() {
             return Err(TiffError::UsageError(UsageError::ReconfiguredAfterImageWrite));
         }
+        if is_packed::<C>() {
+            return Err(TiffError::IoError(IoKind::InvalidInput));
+        }
         if is_past_samples(C::sample_bits().len(), extra.len()) {
             return Err(TiffError::IntSizeError);
         }
@@ -87,11 +91,12 @@ impl<W: Sink, K: TiffKind> TiffEncoder<W, K> {
             × (0 < length))
             (λ e. causes.tiles_cause self.now image.now width length ≡ Some e) }
     {
+        let _form = &image.form;
         self.end()?;
         if image.is_begun() {
             return Err(TiffError::UsageError(UsageError::ReconfiguredAfterImageWrite));
         }
-        if is_no_side(width) || is_no_side(length) {
+        if is_no_tile::<C>(width, length) {
             return Err(TiffError::IoError(IoKind::InvalidInput));
         }
         Ok(())
@@ -147,6 +152,14 @@ fn is_no_side(n: u32) -> bool
     ensures { result ≡ causes.is_no_side n }
 {
     n == 0 || n % 16 != 0
+}
+
+// Returns whether an image of a color type can't have tiles of a width and a length.
+fn is_no_tile<C: ColorType>(width: u32, length: u32) -> bool
+    ensures { result ≡ (color_type.is_packed C.described || (causes.is_no_side width
+        || causes.is_no_side length)) }
+{
+    is_packed::<C>() || is_no_side(width) || is_no_side(length)
 }
 
 // Returns whether a pixel would have more than 65535 samples.
@@ -338,7 +351,8 @@ impl<'a, W: Sink, K: TiffKind, C: ColorType> DirectoryEncoder<'a, W, K, ImageSta
     /// each extra sample. The list replaces an earlier one. Each pixel that is written after the
     /// call has these samples too. Returns the first error that applies: `UsageError(WriterFailed)`
     /// if an earlier write to the sink failed; `UsageError(ReconfiguredAfterImageWrite)` if a chunk
-    /// is in the file; `IntSizeError` if a pixel has more than 65535 samples in all, or if in a
+    /// is in the file; `IoError(InvalidInput)` for packed pixels, which have none; `IntSizeError` if
+    /// a pixel has more than 65535 samples in all, or if in a
     /// classic file the offset of the list exceeds 4 bytes. Otherwise `OutOfMemory` if an
     /// allocation fails, or the error of the sink, `IoError(Device)` or `OutOfMemory`.
     pub fn extra_samples(&mut self, extra: &[ExtraSamples]) -> TiffResult<()>
@@ -386,7 +400,7 @@ impl<'a, W: Sink, K: TiffKind, C: ColorType> DirectoryEncoder<'a, W, K, ImageSta
     /// tiles of another size. Returns the first error that applies: `UsageError(WriterFailed)` if
     /// an earlier write to the sink failed; `UsageError(ReconfiguredAfterImageWrite)` if a chunk is
     /// in the file; `IoError(InvalidInput)` if the width or the length is 0 or not a multiple of
-    /// 16. Otherwise `OutOfMemory` if an allocation fails.
+    /// 16, and for packed pixels, which have strips alone. Otherwise `OutOfMemory` if an allocation fails.
     pub fn tiles(&mut self, width: u32, length: u32) -> TiffResult<()>
         ensures same_reference { self.new.encoder.ghost_name ≡ self.old.encoder.ghost_name }
         ensures stays { OnErr result (self.new.state ≡ self.old.state) }

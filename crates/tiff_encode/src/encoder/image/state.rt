@@ -3,6 +3,7 @@
 ghost use Rattle.std.specs.Prelude.{◌≡◌, ℕ, ◌^◌, ◌<◌, ◌≤◌, MatchOption, false};
 ghost use Rattle.tiff_base.specs.Field.{AreEntries};
 ghost use Rattle.tiff_base.specs.Types.{type_size};
+ghost use Rattle.tiff_value.specs.ColorType as color_type;
 ghost use Rattle.tiff_page.specs.Counts.{all_chunks, parts, planes_of};
 ghost use Rattle.tiff_page.specs.Pixels.{stored_samples};
 ghost use Rattle.tiff_page.specs.Rect.{chunks_of_plane};
@@ -20,7 +21,7 @@ use tiff_base::tags::{ExtraSamples, PlanarConfiguration, Predictor, Tag};
 use tiff_value::encoder::colortype::ColorType;
 
 /// How an image is divided into chunks: strips or tiles; the width and the height of a chunk, in
-/// pixels, where the last strip of a plane can have fewer rows; and whether a chunk contains all
+/// columns and rows, where the last strip of a plane can have fewer rows; and whether a chunk contains all
 /// samples of its pixels or those of one plane.
 #[derive(Clone, Copy, Drop)]
 pub struct ChunkLayout {
@@ -37,14 +38,16 @@ pub struct Chunk {
     pub stored: u64,
 }
 
-/// An open image: its directory, its width and height, its extra samples, its predictor, its
-/// compression, its division into chunks, the chunks in the file, and the buffers that compress
-/// chunks, which stay empty if chunks aren't compressed.
+/// An open image: its directory; its width and height, where a column is a pixel, or a byte of
+/// packed pixels; the number of pixels of a row; its extra samples, its predictor, its compression,
+/// its division into chunks, the chunks in the file, and the buffers that compress chunks, which
+/// stay empty if chunks aren't compressed.
 #[derive(Drop)]
 pub struct ImageState<C: ColorType> {
     pub(crate) directory: DirectoryState,
     pub(crate) width: u32,
     pub(crate) height: u32,
+    pub(crate) pixels: u32,
     pub(crate) extra: Vec<ExtraSamples>,
     pub(crate) predictor: Predictor,
     pub(crate) compression: Compression,
@@ -70,6 +73,7 @@ impl<C: ColorType> Model for ImageState<C> {
       directory = i.directory;
       width = i.width;
       height = i.height;
+      pixels = i.pixels;
       color = C.described;
       size = type_size C.Inner.value_type;
       extra = i.extra.items;
@@ -266,6 +270,23 @@ impl<C: ColorType> ImageState<C> {
             ChunkType::Strip => self.next_samples(),
         }
     }
+}
+
+/// Returns the number of bits of the first sample of a pixel, 0 if there is none.
+pub(crate) fn first_bits<C: ColorType>() -> u16
+    ensures { result ≡ color_type.first_bits C.described }
+{
+    match C::sample_bits() {
+        [bits, ..] => *bits,
+        [] => 0,
+    }
+}
+
+/// Returns whether a color type packs several pixels into a byte.
+pub(crate) fn is_packed<C: ColorType>() -> bool
+    ensures { result ≡ color_type.is_packed C.described }
+{
+    first_bits::<C>() < 8
 }
 
 /// Returns how many parts of a size cover a length.
