@@ -24,7 +24,7 @@ use Rattle.tiff_page.specs.Reach.{ChunksReadable}
 use Rattle.tiff_page.specs.Page.{PageRecord}
 use Rattle.tiff_page.specs.PixelCalls.{read_chunk_bytes}
 use Rattle.tiff_page.proofs.ChunkAlone.{chunk_alone}
-use Rattle.tiff_pages.specs.Plan.{chunks_planned, extra_of, is_sized, page_of_chunk, page_with, place_planned, planned_early, planned_layout, number_planned, read_planned, HasNumbers, IsPage, IsPlanOf, PlansReadPages}
+use Rattle.tiff_pages.specs.Plan.{chunks_planned, extra_of, is_sized, page_of_chunk, page_with, place_planned, planned_early, planned_layout, number_planned, read_planned, HasNumbers, IsPage, IsPageOfChunk, IsPlanOf, PlansMakePages, PlansReadPages}
 use Rattle.tiff_pages.specs.declared.plan.PagePlan.{PagePlan}
 
 -- a number of a list, read alone, where a list of which no other number is known has it
@@ -159,6 +159,12 @@ module _ (plan : PagePlan) (file : List ℕ) (opened : Limits) (p : PageRecord) 
         subst (λ (q : PageRecord). ChunksReadable source q k (λ l. 1)) one
         ((chunk_alone.asked source p k (extra_of plan) (offsets wide k) (byte_counts wide k) (tells wide k)).1 r)
 
+  page_there : length file < 2 ^ 64 → (k : ℕ) → (page : PageRecord) × ((page_of_chunk file plan k ≡ Ok page) × IsPageOfChunk p k page)
+  page_there wide k =
+      let page : PageRecord = with_lists p (extra_of plan) (offsets wide k) (byte_counts wide k) in
+      let told : IsPageOfChunk p k page = record { extra = extra_of plan; offsets = offsets wide k; byte_counts = byte_counts wide k; same = refl; tells = tells wide k } in
+      (page, (page_is wide k, told))
+
   layout_is : (k : ℕ) → planned_layout plan k ≡ image_chunk_buffer_layout p k
   unfolding planned_layout
   layout_is k =
@@ -166,6 +172,9 @@ module _ (plan : PagePlan) (file : List ℕ) (opened : Limits) (p : PageRecord) 
       ap (λ (r : Result ℕ TiffError). r >>= (λ count. image_chunk_buffer_layout (page_with plan (extra_of plan) (one_known count k 0) (one_known count k 0)) k)) count_is
       ∙ ap (λ (q : PageRecord). image_chunk_buffer_layout (with_lists q (extra_of plan) none none) k) i.facts
       ∙ chunk_alone.layout p k (extra_of plan) none none (length-replicate plan.extra_count plan.first_extra ∙ i.extras) i.alpha
+
+pub plans_make_pages : PlansMakePages
+plans_make_pages plan file opened p k wide i = page_there plan file opened p i wide k
 
 pub plans_read_pages : PlansReadPages
 plans_read_pages = record {

@@ -23,6 +23,7 @@ use Rattle.tiff_ifd.specs.Unsigned.{field_numbers}
 use Rattle.tiff_page.specs.declared.layout.BufferLayoutPreference.{BufferLayoutPreference}
 use Rattle.tiff_page.specs.Buffers.{image_chunk_buffer_layout}
 use Rattle.tiff_page.specs.Checks.{inconsistent, page_of}
+use Rattle.tiff_page.specs.ChunkAlone.{TellOfChunk, with_lists}
 use Rattle.tiff_page.specs.Counts.{all_chunks}
 use Rattle.tiff_page.specs.EarlyFaults.{chunk_bytes_early}
 use Rattle.tiff_page.specs.Laws.{HasSides}
@@ -130,6 +131,15 @@ page_of_chunk file plan k = do
   count ← chunks_planned plan
   place ← place_planned file plan count k
   Ok (page_with plan (extra_of plan) (one_known count k place.0) (one_known count k place.1))
+
+-- A page tells of chunk k what another page does, and nothing of the other chunks but how many they
+-- are: it is that page with other lists.
+pub record IsPageOfChunk (p : PageRecord) (k : ℕ) (page : PageRecord) : Type 0 where
+  pub extra : List ExtraSamples
+  pub offsets : List ℕ
+  pub byte_counts : List ℕ
+  pub same : page ≡ with_lists p extra offsets byte_counts
+  pub tells : TellOfChunk p k extra offsets byte_counts
 
 -- a slice after the plan's chunk k is read into it, or the first error
 unfoldable pub read_planned : List ℕ → PagePlan → Limits → ℕ → List ℕ → Result (List ℕ) TiffError
@@ -244,3 +254,9 @@ pub record PlansReadPages : Type 0 where
   pub layout : (plan : PagePlan) (file : List ℕ) (opened : Limits) (p : PageRecord) (k : ℕ)
       → IsPlanOf plan file opened p
       → planned_layout plan k ≡ image_chunk_buffer_layout p k
+
+-- By the plan of a page there is a page of each chunk, which tells of the chunk what the page does.
+abbrev pub PlansMakePages : Type 0
+PlansMakePages = (plan : PagePlan) (file : List ℕ) (opened : Limits) (p : PageRecord) (k : ℕ)
+    → length file < 2 ^ 64 → IsPlanOf plan file opened p
+    → (page : PageRecord) × ((page_of_chunk file plan k ≡ Ok page) × IsPageOfChunk p k page)

@@ -66,11 +66,11 @@ pub struct PagePlan {
     pub byte_counts: Entry,
 }
 
-// The offset and the byte count of a chunk.
-#[derive(Clone, Copy)]
-struct ChunkPlace {
-    offset: u64,
-    byte_count: u64,
+/// Where a chunk is in the file: its offset, and its byte count.
+#[derive(Clone, Copy, Debug)]
+pub struct ChunkPlace {
+    pub offset: u64,
+    pub byte_count: u64,
 }
 
 // Whether a plan has pixels and chunks, and no more extra samples than samples.
@@ -335,9 +335,13 @@ impl PlanReader<'_> {
         Ok(ChunkPlace { offset, byte_count })
     }
 
-    // Returns the plan's page with the offset and the byte count of a chunk.
+    /// Returns the plan's page with the offset and the byte count of one chunk, which it reads alone;
+    /// those of the other chunks are 0. By the plan of a page, this page tells of the chunk what the
+    /// page does (`plans_make_pages`). For any other plan it returns `InconsistentSizesEncountered` if no page has the
+    /// plan's sizes, else the errors of `FieldReader::read_number` of the chunk's offset, then of its
+    /// byte count.
     #[tactic(auto, unfolding(crate::specs::Plan::page_of_chunk))]
-    fn page_of_chunk<R: Source>(&self, source: &mut R, index: u32) -> TiffResult<Page>
+    pub fn page_of_chunk<R: Source>(&self, source: &mut R, index: u32) -> TiffResult<Page>
         ensures kept { IsKept R.told R.failures result source.old source.new }
         ensures answer { AnswersWithoutMemory view.page result
             (spec.page_of_chunk (R.told source.old).bytes self.now.plan.now index)
@@ -443,4 +447,9 @@ impl PlanReader<'_> {
 /// the same layout.
 pub fn plans_read_pages()
     ensures { spec.PlansReadPages }
+{}
+
+/// By the plan of a page there is a page of each chunk, which tells of the chunk what the page does.
+pub fn plans_make_pages()
+    ensures { spec.PlansMakePages }
 {}

@@ -443,6 +443,7 @@ pub fn directories<R: Source>(decoder: &mut Decoder<R>) -> TiffResult<DirectoryL
     ensures answer { Answers directories_in result (Ok (directories_of decoder.old))
         decoder.old.failures decoder.new.failures }
     ensures decoder { LeavesTree result decoder.old decoder.new }
+    ensures readable { decoder.new.readable ≡ decoder.old.readable }
 {
     let listed = pages(decoder)?;
     let mut listing = list_chain(decoder, listed.pages)?;

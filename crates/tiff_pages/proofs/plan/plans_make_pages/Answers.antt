@@ -1,0 +1,5 @@
+use Rattle.tiff_pages.proofs.Planned.{plans_make_pages}
+use Rattle.tiff_pages.proofs.plan.plans_make_pages.Goals as goal
+
+pub returns : goal.returns
+returns c = plans_make_pages

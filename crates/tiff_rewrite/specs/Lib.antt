@@ -1,0 +1,4 @@
+pub mod PlannedRewrite
+pub mod Rewrite
+pub mod RewriteLaws
+pub mod StoredNumbers
