@@ -1,1 +1,4 @@
+pub mod Digits
+pub mod Numbers
+pub mod Stands
 pub mod Told

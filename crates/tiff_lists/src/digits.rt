@@ -1,13 +1,15 @@
 //! Bytes as hexadecimal digits.
 
-ghost use Rattle.std.specs.Prelude.{◌<◌, IfSome};
+ghost use Rattle.std.specs.Prelude.{◌≡◌, ◌++◌, IfNone, IfOk, IfSome, MatchOption, OnOk, flat_map, string_bytes};
+ghost use Rattle.tiff_lists.specs.Digits.{AreBytes, ArePairs, IsDigit, IsPair, two_digits};
 
 use std::alloc::{AllocError, Global};
 use std::fmt::Write;
 
 // The number that a hexadecimal digit is, of `0` to `9` and `a` to `f`.
 fn digit(byte: u8) -> Option<u8>
-    ensures { IfSome result (λ n. n < 16) }
+    ensures some { IfSome result (IsDigit byte) }
+    ensures none { IfNone result ((n : _) → ¬ IsDigit byte n) }
 {
     match byte {
         b'0'..=b'9' => Some(byte - b'0'),
@@ -17,43 +19,70 @@ fn digit(byte: u8) -> Option<u8>
 }
 
 // The byte that two digits are.
-fn byte_of(pair: &[u8]) -> Option<u8> {
-    match pair {
-        [high, low] => Some(digit(*high)? * 16 + digit(*low)?),
-        _ => None,
+fn byte_of(high: u8, low: u8) -> Option<u8>
+    ensures some { IfSome result (IsPair high low) }
+    ensures none { IfNone result ((byte : _) → ¬ IsPair high low byte) }
+{
+    Some(digit(high)? * 16 + digit(low)?)
+}
+
+// Appends a byte as two hexadecimal digits.
+#[tactic(auto, using(std::proofs::lemmas::Fmt::hex_byte))]
+fn push_byte(text: &mut String, byte: u8) -> Result<(), AllocError>
+    ensures { OnOk result (string_bytes text.new ≡ string_bytes text.old ++ two_digits byte) }
+{
+    write!(text, "{byte:02x}")
+}
+
+// The bytes that pairs of digits are. `None` if one of them is none, or if a digit is left over.
+fn bytes_of_pairs(alloc: Global, digits: &[u8]) -> Result<Option<Vec<u8>>, AllocError>
+    ensures { IfOk result (λ answer. MatchOption answer ((bytes : _) → ¬ ArePairs digits.now bytes)
+        (λ bytes. ArePairs digits.now bytes.items)) }
+{
+    let mut bytes = Vec::new(alloc);
+    let mut rest = digits;
+    while let [high, low, behind @ ..] = rest {
+        let Some(byte) = byte_of(*high, *low) else {
+            return Ok(None);
+        };
+        bytes.push(byte)?;
+        rest = behind;
     }
+    Ok(rest.is_empty().then_some(bytes))
 }
 
 /// The bytes that hexadecimal digits are, two digits for each; `-` is no bytes. `None` if the text
 /// is anything else.
-pub fn bytes_of(alloc: Global, digits: &str) -> Result<Option<Vec<u8>>, AllocError> {
-    let mut bytes = Vec::new(alloc);
+pub fn bytes_of(alloc: Global, digits: &str) -> Result<Option<Vec<u8>>, AllocError>
+    ensures { IfOk result (λ answer. MatchOption answer ((bytes : _) → ¬ AreBytes digits.now bytes)
+        (λ bytes. AreBytes digits.now bytes.items)) }
+{
     if digits == "-" {
-        return Ok(Some(bytes));
+        return Ok(Some(Vec::new(alloc)));
     }
-    for pair in digits.as_bytes().chunks(2) {
-        let Some(byte) = byte_of(pair) else {
-            return Ok(None);
-        };
-        bytes.push(byte)?;
-    }
-    Ok(Some(bytes))
+    bytes_of_pairs(alloc, digits.as_bytes())
 }
 
 /// Appends bytes to a text as hexadecimal digits, two small digits for each.
-pub fn push_digits(text: &mut String, bytes: &[u8]) -> Result<(), AllocError> {
+#[tactic(auto, using(crate::proofs::DigitPairs::digits_more))]
+pub fn push_digits(text: &mut String, bytes: &[u8]) -> Result<(), AllocError>
+    ensures { OnOk result
+        (string_bytes text.new ≡ string_bytes text.old ++ flat_map two_digits bytes.now) }
+{
     for byte in bytes {
-        write!(text, "{byte:02x}")?;
+        push_byte(text, *byte)?;
     }
     Ok(())
 }
 
 /// Bytes as hexadecimal digits, two small digits for each; `-` for no bytes.
-pub fn digits_text(alloc: Global, bytes: &[u8]) -> Result<String, AllocError> {
-    let mut text = String::new(alloc);
-    match bytes {
-        [] => text.push_str("-")?,
-        _ => push_digits(&mut text, bytes)?,
+pub fn digits_text(alloc: Global, bytes: &[u8]) -> Result<String, AllocError>
+    ensures { IfOk result (λ text. AreBytes (string_bytes text) bytes.now) }
+{
+    if bytes.is_empty() {
+        return String::from_str(alloc, "-");
     }
+    let mut text = String::new(alloc);
+    push_digits(&mut text, bytes)?;
     Ok(text)
 }

@@ -4,6 +4,7 @@
 pub mod call;
 pub mod digits;
 pub mod jobs;
+mod numbers;
 pub mod replies;
 mod samples;
 mod steps;
@@ -12,4 +13,4 @@ mod words;
 
 /// The version of the calls for C, which is `MANGOHATCH_TIFF_VERSION` of their header. It is raised
 /// when a call or a word of a list of jobs changes or is added.
-pub const VERSION: u32 = 5;
+pub const VERSION: u32 = 6;

@@ -1,6 +1,15 @@
 //! Single words of a line: numbers, and what numbers and names stand for.
 
+ghost use Rattle.std.specs.Prelude.{◌≡◌, ℕ, List, MatchResult, None, Option, Some};
+ghost use Rattle.std.specs.Option.{option_map};
+ghost use Rattle.tiff_base.specs.Tags.{extra_of, format_of, interpretation_of, method_of, planar_of, predictor_of, tag_of, type_of, unit_of};
+ghost use Rattle.tiff_lists.specs.Digits.{AreBytes};
+ghost use Rattle.tiff_lists.specs.Numbers.{magnitude, signed, unsigned};
+ghost use Rattle.tiff_lists.specs.Stands.{numbered, order};
+ghost use Rattle.tiff_lists.specs.declared.words.ParseError.TheVariants as parse_error;
+
 use crate::digits::bytes_of;
+use crate::numbers::{magnitude, signed};
 use std::alloc::{AllocError, AllocFailed, Global};
 use std::fmt;
 use std::fmt::Write;
@@ -34,79 +43,82 @@ impl<T: Drop> From<AllocFailed<T>> for ParseError {
 
 /// What a single word can stand for.
 pub trait FromWord: Sized {
+    /// What a word may be read as. Where a type doesn't say it, as for numbers in floating point,
+    /// fractions and names of color types, a word may be read as anything.
+    ghost reads: { List ℕ → Option Self → Type 0 } = { λ _ _. Unit {0} };
+
     /// What the word stands for; `None` if it stands for nothing of this type.
-    fn from_word(word: &str) -> Option<Self>;
-}
-
-// The number that digits are, without a sign: decimal, or hexadecimal behind `0x`.
-fn magnitude(word: &str) -> Option<u64> {
-    let (digits, radix) = match word.strip_prefix("0x") {
-        Some(digits) => (digits, 16),
-        None => (word, 10),
-    };
-    if digits.starts_with('+') {
-        return None;
-    }
-    u64::from_str_radix(digits, radix).ok()
-}
-
-// The number that digits are, behind `-` if it is negative.
-fn signed(word: &str) -> Option<i64> {
-    match word.strip_prefix("-") {
-        None => i64::try_from(magnitude(word)?).ok(),
-        Some(word) => 0i64.checked_sub_unsigned(magnitude(word)?),
-    }
+    fn from_word(word: &str) -> Option<Self>
+        ensures { reads word.now result };
 }
 
 impl FromWord for u8 {
+    ghost reads = { λ word read. read ≡ unsigned 8 word };
+
     fn from_word(word: &str) -> Option<u8> {
         u8::try_from(magnitude(word)?).ok()
     }
 }
 
 impl FromWord for i8 {
+    ghost reads = { λ word read. read ≡ signed 8 word };
+
     fn from_word(word: &str) -> Option<i8> {
         i8::try_from(signed(word)?).ok()
     }
 }
 
 impl FromWord for u16 {
+    ghost reads = { λ word read. read ≡ unsigned 16 word };
+
     fn from_word(word: &str) -> Option<u16> {
         u16::try_from(magnitude(word)?).ok()
     }
 }
 
 impl FromWord for i16 {
+    ghost reads = { λ word read. read ≡ signed 16 word };
+
     fn from_word(word: &str) -> Option<i16> {
         i16::try_from(signed(word)?).ok()
     }
 }
 
 impl FromWord for u32 {
+    ghost reads = { λ word read. read ≡ unsigned 32 word };
+
     fn from_word(word: &str) -> Option<u32> {
         u32::try_from(magnitude(word)?).ok()
     }
 }
 
 impl FromWord for i32 {
+    ghost reads = { λ word read. read ≡ signed 32 word };
+
     fn from_word(word: &str) -> Option<i32> {
         i32::try_from(signed(word)?).ok()
     }
 }
 
 impl FromWord for u64 {
+    ghost reads = { λ word read. read ≡ magnitude word };
+
     fn from_word(word: &str) -> Option<u64> {
         magnitude(word)
     }
 }
 
 impl FromWord for i64 {
+    ghost reads = { λ word read. read ≡ signed 64 word };
+
     fn from_word(word: &str) -> Option<i64> {
         signed(word)
     }
 }
 
 impl FromWord for usize {
+    ghost reads = { λ word read. read ≡ magnitude word };
+
     fn from_word(word: &str) -> Option<usize> {
         usize::try_from(magnitude(word)?).ok()
     }
@@ -141,66 +153,88 @@ impl FromWord for Bits64 {
 }
 
 impl FromWord for Tag {
+    ghost reads = { λ word read. read ≡ numbered (λ n. Some (tag_of n)) word };
+
     fn from_word(word: &str) -> Option<Tag> {
         Some(Tag::from_u16_exhaustive(u16::from_word(word)?))
     }
 }
 
 impl FromWord for Type {
+    ghost reads = { λ word read. read ≡ numbered type_of word };
+
     fn from_word(word: &str) -> Option<Type> {
         Type::from_u16(u16::from_word(word)?)
     }
 }
 
 impl FromWord for CompressionMethod {
+    ghost reads = { λ word read. read ≡ numbered (λ n. Some (method_of n)) word };
+
     fn from_word(word: &str) -> Option<CompressionMethod> {
         Some(CompressionMethod::from_u16_exhaustive(u16::from_word(word)?))
     }
 }
 
 impl FromWord for PhotometricInterpretation {
+    ghost reads = { λ word read. read ≡ numbered interpretation_of word };
+
     fn from_word(word: &str) -> Option<PhotometricInterpretation> {
         PhotometricInterpretation::from_u16(u16::from_word(word)?)
     }
 }
 
 impl FromWord for PlanarConfiguration {
+    ghost reads = { λ word read. read ≡ numbered planar_of word };
+
     fn from_word(word: &str) -> Option<PlanarConfiguration> {
         PlanarConfiguration::from_u16(u16::from_word(word)?)
     }
 }
 
 impl FromWord for Predictor {
+    ghost reads = { λ word read. read ≡ numbered predictor_of word };
+
     fn from_word(word: &str) -> Option<Predictor> {
         Predictor::from_u16(u16::from_word(word)?)
     }
 }
 
 impl FromWord for ResolutionUnit {
+    ghost reads = { λ word read. read ≡ numbered unit_of word };
+
     fn from_word(word: &str) -> Option<ResolutionUnit> {
         ResolutionUnit::from_u16(u16::from_word(word)?)
     }
 }
 
 impl FromWord for SampleFormat {
+    ghost reads = { λ word read. read ≡ numbered (λ n. Some (format_of n)) word };
+
     fn from_word(word: &str) -> Option<SampleFormat> {
         Some(SampleFormat::from_u16_exhaustive(u16::from_word(word)?))
     }
 }
 
 impl FromWord for ExtraSamples {
+    ghost reads = { λ word read. read ≡ numbered extra_of word };
+
     fn from_word(word: &str) -> Option<ExtraSamples> {
         ExtraSamples::from_u16(u16::from_word(word)?)
     }
 }
 
 impl FromWord for Ifd {
+    ghost reads = { λ word read. option_map (λ x. x.0) read ≡ unsigned 32 word };
+
     fn from_word(word: &str) -> Option<Ifd> {
         Some(Ifd(u32::from_word(word)?))
     }
 }
 
 impl FromWord for Ifd8 {
+    ghost reads = { λ word read. option_map (λ x. x.0) read ≡ magnitude word };
+
     fn from_word(word: &str) -> Option<Ifd8> {
         Some(Ifd8(u64::from_word(word)?))
     }
@@ -242,6 +276,8 @@ impl FromWord for SRational {
 }
 
 impl FromWord for ByteOrder {
+    ghost reads = { λ word read. read ≡ order word };
+
     fn from_word(word: &str) -> Option<ByteOrder> {
         match word {
             "little" => Some(ByteOrder::LittleEndian),
@@ -301,7 +337,10 @@ impl FromWord for ColorTypeName {
 }
 
 /// What a word stands for; `Form` if it stands for nothing of this type.
-pub fn read<T: FromWord>(word: &str) -> Result<T, ParseError> {
+pub fn read<T: FromWord>(word: &str) -> Result<T, ParseError>
+    ensures { MatchResult result (λ x. T.reads word.now (Some x))
+        (λ e. (e ≡ parse_error.Form) × T.reads word.now None) }
+{
     T::from_word(word).ok_or(ParseError::Form)
 }
 
@@ -352,6 +391,13 @@ pub fn list_of<T: FromWord + Drop>(alloc: Global, words: &str) -> Result<Vec<T>,
 }
 
 /// The bytes that hexadecimal digits are; `Form` for anything else.
-pub fn digits_of(alloc: Global, word: &str) -> Result<Vec<u8>, ParseError> {
-    bytes_of(alloc, word)?.ok_or(ParseError::Form)
+pub fn digits_of(alloc: Global, word: &str) -> Result<Vec<u8>, ParseError>
+    ensures { MatchResult result (λ bytes. AreBytes word.now bytes.items)
+        (λ e. e ≡ parse_error.Form → (bytes : List ℕ) → ¬ AreBytes word.now bytes) }
+{
+    match bytes_of(alloc, word) {
+        Ok(Some(bytes)) => Ok(bytes),
+        Ok(None) => Err(ParseError::Form),
+        Err(_) => Err(ParseError::OutOfMemory),
+    }
 }
