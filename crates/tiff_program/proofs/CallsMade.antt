@@ -1,6 +1,13 @@
 -- Replies to lists of calls.
-use Rattle.std.proofs.Common.{◌≡◌, suc, List, [], ◌∷◌, ◌++◌, length, refl, ap, sym, ◌∙◌, subst}
+use Rattle.std.proofs.Common.{◌≡◌, ℕ, suc, List, [], ◌∷◌, ◌++◌, length, refl, ap, sym, ◌∙◌, subst}
+use Rattle.std.specs.Prelude.{Err, None, Ok, Result, String, string_bytes}
+use Rattle.std.specs.Result.{result_map_both}
+use Rattle.std.specs.declared.alloc.Global.{Global}
+use Rattle.tiff_base.specs.declared.error.TiffError.{TiffError}
 use Rattle.tiff_decode.specs.declared.script.Call.{Call}
+use Rattle.tiff_decode.specs.Outcome.{decoder_of}
+use Rattle.tiff_lists.specs.Told.{LinesOfCalls}
+use Rattle.tiff_program.specs.Commands.{RepliesTo}
 use Rattle.tiff_decode.specs.declared.script.Reply.{Reply}
 use Rattle.tiff_decode.specs.Machine.{Decoding}
 use Rattle.tiff_decode.specs.Steps.{Steps, Ran}
@@ -17,3 +24,9 @@ steps_length old new [] [] s = refl
 steps_length old new [] (r ∷ replies) s = absurd s
 steps_length old new (c ∷ calls) [] s = absurd s
 steps_length old new (c ∷ calls) (r ∷ replies) s = ap (λ n. suc n) (steps_length s.0 new calls replies s.2)
+
+-- The replies to calls of a decoder that is opened at the first page of a file.
+pub replies_made : (file : List ℕ) (calls : List Call) (d last : Decoding) (r : Result (String Global) TiffError) → decoder_of file 0 ≡ Ok (record d { readable = None; failures = 0 })
+    → LinesOfCalls d calls r last → RepliesTo file calls (result_map_both string_bytes (λ e. e) r)
+replies_made file calls d last (Ok text) e h = (d, last, h.0, e, h.1)
+replies_made file calls d last (Err fault) e h = rw h.0 tt

@@ -9,3 +9,5 @@ mod Shown
 mod CallsMade
 mod Visits
 mod Words
+pub mod Steps
+pub mod Refused

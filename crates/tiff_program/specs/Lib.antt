@@ -1,6 +1,8 @@
 pub mod AtPage
 pub mod Check
+pub mod Commands
 pub mod Directories
+pub mod Files
 pub mod Listing
 pub mod Replied
 pub mod Png

@@ -1,8 +1,10 @@
 //! Calls of a decoder, and the replies to them.
 
-ghost use Rattle.std.specs.Prelude.{◌≡◌, ◌<◌, ◌∷◌, [], length, MatchResult};
+ghost use Rattle.std.specs.Prelude.{◌≡◌, ◌<◌, ◌∷◌, [], length, MatchResult, string_bytes};
+ghost use Rattle.std.specs.Result.{result_map_both};
 ghost use Rattle.std.specs.Vec.Iter.{into_iter_items};
 ghost use Rattle.tiff_decode.specs.Steps.{Steps};
+ghost use Rattle.tiff_program.specs.Commands.{RepliesTo};
 
 use std::alloc::Global;
 use std::vec::IntoIter;
@@ -14,7 +16,9 @@ use tiff_lists::replies::lines_of_calls;
 
 /// Opens the file, makes the calls one after another, and returns a line for the reply to each,
 /// also to one that is refused. Its errors are those of opening the file, and `OutOfMemory`.
-pub fn replies_to(alloc: Global, file: Vec<u8>, calls: &[Call]) -> TiffResult<String> {
+pub fn replies_to(alloc: Global, file: Vec<u8>, calls: &[Call]) -> TiffResult<String>
+    ensures { RepliesTo file.items calls.now (result_map_both string_bytes (λ e. e) result) }
+{
     let mut decoder = Decoder::new(alloc, MemorySource::new(file))?;
     lines_of_calls(alloc, &mut decoder, calls)
 }

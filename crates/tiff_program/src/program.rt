@@ -1,9 +1,17 @@
 //! The program: it does what a command line asks for.
 
-ghost use Rattle.std.specs.Prelude.{◌≡◌, ◌≤◌, ◌⊎◌, [], IfErr, IfOk, MatchOption, None, Ok, map, string_bytes, true};
+ghost use Rattle.std.specs.Prelude.{◌≡◌, ◌≤◌, ◌⊎◌, [], MatchResult, None, codes, map, option_map, string_bytes, true};
+ghost use Rattle.std.specs.List.{list_any};
+ghost use Rattle.std.specs.Result.{result_map_both};
+ghost use Rattle.std.specs.Io.KnownBytes as known;
 ghost use Rattle.tiff_program.specs.declared.command.Command.{Command};
-ghost use Rattle.tiff_program.specs.AtPage.{limits_for};
-ghost use Rattle.tiff_program.specs.Status.{status_of};
+ghost use Rattle.tiff_program.specs.declared.program.Failure.TheVariants as failure;
+ghost use Rattle.tiff_program.specs.AtPage.{AnswersUnder, limits_for};
+ghost use Rattle.tiff_program.specs.Check.{told_under};
+ghost use Rattle.tiff_program.specs.Commands.{Adds, AppendsJobs, AreLines, AreText, Calls, Does, Grays, Jobs, ListsCalls, ListsJobs, Raws, ReadsInput, ReadsText, Tags, Tells, TellsSome, Views, WritesKept, WritesOutput, is_page, line_after, page_or_none, samples_of};
+ghost use Rattle.tiff_program.specs.Directories.{told_of_directories};
+ghost use Rattle.tiff_program.specs.Files.{Appends, Compares, Reads, Writes};
+ghost use Rattle.tiff_program.specs.Status.{Ends, PrintsLines, Runs, is_stream, status_of};
 ghost use Rattle.tiff_program.specs.Words.{AskFor};
 
 use crate::calls::replies_to;
@@ -18,11 +26,11 @@ use crate::view::page_picture;
 use std::alloc::Global;
 use std::fmt;
 use std::io::Write;
-use tiff::TiffError;
 use tiff::decoder::Limits;
 use tiff::decoder::script::Call;
 use tiff::encoder::script::Job;
 use tiff::tags::FileKind;
+use tiff::{TiffError, TiffResult};
 use tiff_append::last_link::last_link;
 use tiff_append::sink::Addition;
 use tiff_lists::call::calls_of;
@@ -90,7 +98,11 @@ impl Failure<'_> {
     }
 }
 
-fn read<'a, F: Files>(files: &mut F, name: &'a str) -> Result<Vec<u8>, Failure<'a>> {
+// All bytes of a file.
+fn read<'a, F: Files>(files: &mut F, name: &'a str) -> Result<Vec<u8>, Failure<'a>>
+    ensures { Reads F.reads name.entry files.old (result_map_both (λ bytes. bytes.items) (λ e. e) result)
+        files.new }
+{
     match files.read(name) {
         Ok(bytes) => Ok(bytes),
         Err(TiffError::OutOfMemory) => Err(Failure::Tiff(TiffError::OutOfMemory)),
@@ -98,7 +110,10 @@ fn read<'a, F: Files>(files: &mut F, name: &'a str) -> Result<Vec<u8>, Failure<'
     }
 }
 
-fn write<'a, F: Files>(files: &mut F, name: &'a str, bytes: &[u8]) -> Result<(), Failure<'a>> {
+// Makes a file of bytes.
+fn write<'a, F: Files>(files: &mut F, name: &'a str, bytes: &[u8]) -> Result<(), Failure<'a>>
+    ensures { Writes F.writes name.entry bytes.now files.old result files.new }
+{
     match files.write(name, bytes) {
         Ok(()) => Ok(()),
         Err(TiffError::OutOfMemory) => Err(Failure::Tiff(TiffError::OutOfMemory)),
@@ -107,36 +122,64 @@ fn write<'a, F: Files>(files: &mut F, name: &'a str, bytes: &[u8]) -> Result<(),
 }
 
 // The number, from 1, of the line that goes on behind these bytes.
-fn line_after(bytes: &[u8]) -> usize {
+fn line_after(bytes: &[u8]) -> usize
+    ensures { result ≡ line_after bytes.now }
+{
     let ended = bytes.iter().filter(|byte| **byte == b'\n').count();
     ended.saturating_add(1)
 }
 
+// All bytes of standard input.
+fn read_stream<'a, F: Files>(files: &mut F) -> Result<Vec<u8>, Failure<'a>>
+    ensures { ReadsInput F.reads files.old (result_map_both (λ bytes. bytes.items) (λ e. e) result)
+        files.new }
+{
+    read(files, STREAM)
+}
+
+// The text that bytes are.
+fn text_of<'a>(bytes: Vec<u8>) -> Result<String, Failure<'a>>
+    ensures { AreText bytes.items (result_map_both string_bytes (λ e. e) result) }
+{
+    match String::from_utf8(bytes) {
+        Ok(text) => Ok(text),
+        Err(fault) => {
+            let text = &fault.as_bytes()[..fault.utf8_error().valid_up_to()];
+            Err(Failure::NoText(line_after(text)))
+        }
+    }
+}
+
 // The text of standard input.
-fn read_input<'a, F: Files>(files: &mut F) -> Result<String, Failure<'a>> {
-    String::from_utf8(read(files, STREAM)?).map_err(|fault| {
-        let text = fault.as_bytes().get(..fault.utf8_error().valid_up_to());
-        Failure::NoText(line_after(text.unwrap_or_default()))
-    })
+fn read_input<'a, F: Files>(files: &mut F) -> Result<String, Failure<'a>>
+    ensures { ReadsText F.reads files.old (result_map_both string_bytes (λ e. e) result) files.new }
+{
+    let bytes = read_stream(files)?;
+    text_of(bytes)
 }
 
 // The calls that standard input lists.
-fn listed_calls<'a, F: Files>(alloc: Global, files: &mut F) -> Result<Vec<Call>, Failure<'a>> {
+fn listed_calls<'a, F: Files>(alloc: Global, files: &mut F) -> Result<Vec<Call>, Failure<'a>>
+    ensures { ListsCalls F.reads files.old (result_map_both (λ calls. calls.items) (λ e. e) result)
+        files.new }
+{
     let text = read_input(files)?;
     match calls_of(alloc, text.as_str()) {
-        Ok(calls) => calls.map_err(|number| Failure::NoCall(number)),
+        Ok(Ok(calls)) => Ok(calls),
+        Ok(Err(number)) => Err(Failure::NoCall(number)),
         Err(_) => Err(Failure::Tiff(TiffError::OutOfMemory)),
     }
 }
 
 // The jobs that standard input lists.
-fn listed_jobs<'a, F: Files>(
-    alloc: Global,
-    files: &mut F,
-) -> Result<Vec<Job<'static>>, Failure<'a>> {
+fn listed_jobs<'a, F: Files>(alloc: Global, files: &mut F) -> Result<Vec<Job<'static>>, Failure<'a>>
+    ensures { ListsJobs F.reads files.old (result_map_both (λ jobs. jobs.items) (λ e. e) result)
+        files.new }
+{
     let text = read_input(files)?;
     match jobs_of(alloc, text.as_str()) {
-        Ok(jobs) => jobs.map_err(|number| Failure::NoJob(number)),
+        Ok(Ok(jobs)) => Ok(jobs),
+        Ok(Err(number)) => Err(Failure::NoJob(number)),
         Err(_) => Err(Failure::Tiff(TiffError::OutOfMemory)),
     }
 }
@@ -146,10 +189,13 @@ fn call_replies<'a, F: Files>(
     alloc: Global,
     input: &'a str,
     files: &mut F,
-) -> Result<String, Failure<'a>> {
+) -> Result<Lines, Failure<'a>>
+    ensures { Calls F.reads input.entry files.old result files.new }
+{
     let file = read(files, input)?;
     let calls = listed_calls(alloc, files)?;
-    Ok(replies_to(alloc, file, &calls)?)
+    let replies = replies_to(alloc, file, &calls)?;
+    Ok(told(replies))
 }
 
 // Writes the file that jobs left, if there is one, and returns the lines of their replies.
@@ -158,23 +204,41 @@ fn write_kept<'a, F: Files>(
     written: Written,
     files: &mut F,
 ) -> Result<Lines, Failure<'a>>
-    ensures { MatchOption written.file
-        ((result ≡ Ok written.lines) × (files.new ≡ files.old))
-        (λ _. IfOk result (λ lines. lines ≡ written.lines)) }
+    ensures { WritesKept F.writes output.entry (option_map (λ file. file.items) written.file) written.lines
+        files.old result files.new }
 {
     let Written { file, lines } = written;
-    if let Some(file) = file {
-        write(files, output, &file)?;
+    match file {
+        Some(file) => write(files, output, &file).and(Ok(lines)),
+        None => Ok(lines),
     }
-    Ok(lines)
 }
 
 // Whether a job makes an image or a directory.
-fn is_page(job: &Job<'_>) -> bool {
+fn is_page(job: &Job<'_>) -> bool
+    ensures { result ≡ is_page job.now }
+{
     match job {
         Job::Image(_) | Job::Directory(_) => true,
         _ => false,
     }
+}
+
+// Whether one of the jobs makes a page.
+fn have_page(jobs: &[Job<'_>]) -> bool
+    ensures { result ≡ list_any is_page jobs.now }
+{
+    jobs.iter().any(|job| is_page(job))
+}
+
+// Refuses a list of jobs without a page, unless it keeps going.
+fn refuse_no_page<'a>(keep_going: bool, jobs: &[Job<'_>]) -> Result<(), Failure<'a>>
+    ensures { result ≡ page_or_none keep_going jobs.now }
+{
+    if keep_going || have_page(jobs) {
+        return Ok(());
+    }
+    Err(Failure::NoPage)
 }
 
 // Runs the jobs that standard input lists, writes their file, if it is to be written, and returns a
@@ -182,13 +246,14 @@ fn is_page(job: &Job<'_>) -> bool {
 fn job_replies<'a, F: Files>(
     alloc: Global,
     output: &'a str,
-    (kind, keep_going): (FileKind, bool),
+    kind: FileKind,
+    keep_going: bool,
     files: &mut F,
-) -> Result<Lines, Failure<'a>> {
+) -> Result<Lines, Failure<'a>>
+    ensures { Jobs F.reads F.writes output.entry kind keep_going files.old result files.new }
+{
     let jobs = listed_jobs(alloc, files)?;
-    if !keep_going && !jobs.iter().any(is_page) {
-        return Err(Failure::NoPage);
-    }
+    refuse_no_page(keep_going, &jobs)?;
     let written = write_by(alloc, kind, keep_going, &jobs)?;
     write_kept(output, written, files)
 }
@@ -200,11 +265,31 @@ fn append<'a, F: Files>(
     addition: &Addition,
     at: u64,
     files: &mut F,
-) -> Result<(), Failure<'a>> {
+) -> Result<(), Failure<'a>>
+    ensures { Appends F.appends name.entry addition.now.more.items at addition.now.link.items files.old
+        result files.new }
+{
     match files.append(name, &addition.more, at as usize, &addition.link) {
         Ok(()) => Ok(()),
         Err(TiffError::OutOfMemory) => Err(Failure::Tiff(TiffError::OutOfMemory)),
         Err(_) => Err(Failure::Write(name)),
+    }
+}
+
+// Adds what jobs wrote behind a file to the file, if there is such, and returns the lines of their
+// replies.
+fn add<'a, F: Files>(
+    name: &'a str,
+    at: u64,
+    written: Option<Addition>,
+    lines: Lines,
+    files: &mut F,
+) -> Result<Lines, Failure<'a>>
+    ensures { Adds F.reads F.appends name.entry at written lines files.old result files.new }
+{
+    match written {
+        Some(addition) => append(name, &addition, at, files).and(Ok(lines)),
+        None => Ok(lines),
     }
 }
 
@@ -214,18 +299,15 @@ fn append_jobs<'a, F: Files>(
     alloc: Global,
     name: &'a str,
     files: &mut F,
-) -> Result<Lines, Failure<'a>> {
+) -> Result<Lines, Failure<'a>>
+    ensures { AppendsJobs F.reads F.appends name.entry files.old result files.new }
+{
     let file = read(files, name)?;
     let place = last_link(alloc, &file)?;
     let jobs = listed_jobs(alloc, files)?;
-    if !jobs.iter().any(is_page) {
-        return Err(Failure::NoPage);
-    }
+    refuse_no_page(false, &jobs)?;
     let (written, lines) = append_by(alloc, &file, place, &jobs)?;
-    if let Some(addition) = written {
-        append(name, &addition, place.at, files)?;
-    }
-    Ok(lines)
+    add(name, place.at, written, lines, files)
 }
 
 // Writes bytes into a file, and returns no lines.
@@ -234,7 +316,9 @@ fn write_alone<'a, F: Files>(
     files: &mut F,
     name: &'a str,
     bytes: &[u8],
-) -> Result<Lines, Failure<'a>> {
+) -> Result<Lines, Failure<'a>>
+    ensures { WritesOutput F.writes name.entry bytes.now files.old result files.new }
+{
     write(files, name, bytes)?;
     Ok(told(String::new(alloc)))
 }
@@ -243,11 +327,14 @@ fn write_alone<'a, F: Files>(
 fn write_gray<'a, F: Files>(
     alloc: Global,
     output: &'a str,
-    (width, height): (u32, u32),
+    sides: (u32, u32),
     input: &'a str,
     files: &mut F,
-) -> Result<Lines, Failure<'a>> {
+) -> Result<Lines, Failure<'a>>
+    ensures { Grays F.reads F.writes output.entry sides.0 sides.1 input.entry files.old result files.new }
+{
     let samples = read(files, input)?;
+    let (width, height) = sides;
     let file = gray_file(alloc, width, height, &samples)?;
     write_alone(alloc, files, output, &file)
 }
@@ -264,21 +351,36 @@ fn limits_for(limit: Option<usize>) -> Limits
     limits
 }
 
+// The samples of a page: of all planes, or of the first one.
+fn samples_by(
+    alloc: Global,
+    file: Vec<u8>,
+    page: u32,
+    planes: bool,
+    limits: Limits,
+) -> TiffResult<Vec<u8>>
+    ensures { AnswersUnder (λ v. v.items) (samples_of planes) limits result file.items page }
+{
+    if planes {
+        page_planes(alloc, file, page, limits)
+    } else {
+        page_samples(alloc, file, page, limits)
+    }
+}
+
 // Writes the samples of a page: of all planes, or of the first one.
 fn write_samples<'a, F: Files>(
     alloc: Global,
     input: &'a str,
-    (page, planes, limit): (u32, bool, Option<usize>),
+    asked: (u32, bool, Option<usize>),
     output: &'a str,
     files: &mut F,
-) -> Result<Lines, Failure<'a>> {
+) -> Result<Lines, Failure<'a>>
+    ensures { Raws F.reads F.writes input.entry asked.0 output.entry asked.1 asked.2 files.old result files.new }
+{
+    let (page, planes, limit) = asked;
     let file = read(files, input)?;
-    let limits = limits_for(limit);
-    let samples = if planes {
-        page_planes(alloc, file, page, limits)?
-    } else {
-        page_samples(alloc, file, page, limits)?
-    };
+    let samples = samples_by(alloc, file, page, planes, limits_for(limit))?;
     write_alone(alloc, files, output, &samples)
 }
 
@@ -287,7 +389,9 @@ fn refuse_input<'a, F: Files>(
     files: &mut F,
     input: &str,
     output: &'a str,
-) -> Result<(), Failure<'a>> {
+) -> Result<(), Failure<'a>>
+    ensures { Compares F.compares input.entry output.entry files.old result files.new }
+{
     if files.are_same(input, output)? {
         return Err(Failure::WriteInput(output));
     }
@@ -302,7 +406,9 @@ fn write_picture<'a, F: Files>(
     page: u32,
     output: &'a str,
     files: &mut F,
-) -> Result<Lines, Failure<'a>> {
+) -> Result<Lines, Failure<'a>>
+    ensures { Views F.reads F.writes F.compares input.entry page output.entry files.old result files.new }
+{
     let file = read(files, input)?;
     refuse_input(files, input, output)?;
     let picture = page_picture(alloc, file, page)?;
@@ -315,9 +421,12 @@ fn list_page<'a, F: Files>(
     input: &'a str,
     page: u32,
     files: &mut F,
-) -> Result<String, Failure<'a>> {
+) -> Result<Lines, Failure<'a>>
+    ensures { Tags F.reads input.entry page files.old result files.new }
+{
     let file = read(files, input)?;
-    Ok(page_tags(alloc, file, page)?)
+    let entries = page_tags(alloc, file, page)?;
+    Ok(told(entries))
 }
 
 // The pages of a file, one line for each.
@@ -325,7 +434,9 @@ fn list_pages<'a, F: Files>(
     alloc: Global,
     input: &'a str,
     files: &mut F,
-) -> Result<Lines, Failure<'a>> {
+) -> Result<Lines, Failure<'a>>
+    ensures { TellsSome F.reads input.entry files.old result files.new }
+{
     let file = read(files, input)?;
     Ok(file_list(alloc, file)?)
 }
@@ -335,7 +446,9 @@ fn list_directories<'a, F: Files>(
     alloc: Global,
     input: &'a str,
     files: &mut F,
-) -> Result<Lines, Failure<'a>> {
+) -> Result<Lines, Failure<'a>>
+    ensures { Tells F.reads told_of_directories input.entry files.old result files.new }
+{
     let file = read(files, input)?;
     Ok(file_directories(alloc, file)?)
 }
@@ -346,13 +459,17 @@ fn check_pages<'a, F: Files>(
     input: &'a str,
     limit: Option<usize>,
     files: &mut F,
-) -> Result<Lines, Failure<'a>> {
+) -> Result<Lines, Failure<'a>>
+    ensures { Tells F.reads (told_under (limits_for limit)) input.entry files.old result files.new }
+{
     let file = read(files, input)?;
     Ok(file_check(alloc, file, limits_for(limit))?)
 }
 
 // Lines without an error.
-fn told(text: String) -> Lines {
+fn told(text: String) -> Lines
+    ensures { AreLines (string_bytes text) result }
+{
     Lines {
         text,
         end: None,
@@ -361,8 +478,24 @@ fn told(text: String) -> Lines {
 }
 
 // Lines without an error, copied from a text.
-fn told_text<'a>(alloc: Global, text: &str) -> Result<Lines, Failure<'a>> {
-    Ok(told(String::from_str(alloc, text).map_err(TiffError::from)?))
+fn told_text<'a>(alloc: Global, text: &str) -> Result<Lines, Failure<'a>>
+    ensures { MatchResult result (AreLines text.now) (λ e. e ≡ failure.Tiff TiffError.OutOfMemory) }
+{
+    match String::from_str(alloc, text) {
+        Ok(text) => Ok(told(text)),
+        Err(_) => Err(Failure::Tiff(TiffError::OutOfMemory)),
+    }
+}
+
+// The line of the version.
+fn told_version<'a>(alloc: Global) -> Result<Lines, Failure<'a>>
+    ensures { MatchResult result (λ lines. AreLines (string_bytes lines.text) lines)
+        (λ e. e ≡ failure.Tiff TiffError.OutOfMemory) }
+{
+    match version_line(alloc) {
+        Ok(line) => Ok(told(line)),
+        Err(_) => Err(Failure::Tiff(TiffError::OutOfMemory)),
+    }
 }
 
 // Does what a command asks for, and returns what to print.
@@ -370,7 +503,9 @@ fn execute<'a, F: Files>(
     alloc: Global,
     command: Command<'a>,
     files: &mut F,
-) -> Result<Lines, Failure<'a>> {
+) -> Result<Lines, Failure<'a>>
+    ensures { Does F.reads F.writes F.appends F.compares command.entry files.old result files.new }
+{
     match command {
         Command::Gray {
             output,
@@ -390,19 +525,29 @@ fn execute<'a, F: Files>(
             page,
             output,
         } => write_picture(alloc, input, page, output, files),
-        Command::Tags { input, page } => Ok(told(list_page(alloc, input, page, files)?)),
+        Command::Tags { input, page } => list_page(alloc, input, page, files),
         Command::List { input } => list_pages(alloc, input, files),
         Command::Directories { input } => list_directories(alloc, input, files),
         Command::Check { input, limit } => check_pages(alloc, input, limit, files),
-        Command::Calls { input } => Ok(told(call_replies(alloc, input, files)?)),
+        Command::Calls { input } => call_replies(alloc, input, files),
         Command::Jobs {
             output,
             kind,
             keep_going,
-        } => job_replies(alloc, output, (kind, keep_going), files),
+        } => job_replies(alloc, output, kind, keep_going, files),
         Command::Append { file } => append_jobs(alloc, file, files),
         Command::Help => told_text(alloc, HELP),
-        Command::Version => Ok(told(version_line(alloc)?)),
+        Command::Version => told_version(alloc),
+    }
+}
+
+// Whether an output is standard output.
+fn is_stream(output: Option<&str>) -> bool
+    ensures { result ≡ is_stream (option_map (λ name. name.now) output.entry) }
+{
+    match output {
+        Some(name) => name == STREAM,
+        None => false,
     }
 }
 
@@ -421,7 +566,10 @@ fn print_failure<E: Write>(alloc: Global, failure: &Failure<'_>, err: &mut E) {
 
 // Prints a text on standard output. If that fails, it prints the line of the failure, and returns
 // false.
-fn print_text<O: Write, E: Write>(alloc: Global, text: &str, out: &mut O, err: &mut E) -> bool {
+fn print_text<O: Write, E: Write>(alloc: Global, text: &str, out: &mut O, err: &mut E) -> bool
+    ensures { result ≡ true → known.Appends (O.contents out.old) (O.contents out.new) text.now
+        × (err.new ≡ err.old) }
+{
     let is_printed = out.write_all(text.as_bytes()).is_ok();
     if !is_printed {
         print_failure(alloc, &Failure::Write(STREAM), err);
@@ -433,7 +581,7 @@ fn print_text<O: Write, E: Write>(alloc: Global, text: &str, out: &mut O, err: &
 // lines that are printed.
 fn print_end<E: Write>(alloc: Global, end: Option<TiffError>, well: bool, err: &mut E) -> u8
     ensures status { result ≤ 1 }
-    ensures well { result ≡ 0 → (well ≡ true) × (end ≡ None) }
+    ensures well { result ≡ 0 → (well ≡ true) × (end ≡ None) × (err.new ≡ err.old) }
 {
     match end {
         Some(fault) => {
@@ -447,8 +595,7 @@ fn print_end<E: Write>(alloc: Global, end: Option<TiffError>, well: bool, err: &
 // Prints lines, and behind them the line of the error by which the chain ends, if there is one.
 // Returns the status.
 fn print_lines<O: Write, E: Write>(alloc: Global, lines: Lines, out: &mut O, err: &mut E) -> u8
-    ensures status { result ≤ 1 }
-    ensures well { result ≡ 0 → (lines.well ≡ true) × (lines.end ≡ None) }
+    ensures { PrintsLines lines (O.contents out.old) (O.contents out.new) result }
 {
     let Lines { text, end, well } = lines;
     if !print_text(alloc, text.as_str(), out, err) {
@@ -460,8 +607,7 @@ fn print_lines<O: Write, E: Write>(alloc: Global, lines: Lines, out: &mut O, err
 // Prints lines on standard error, where standard output has the file of the command. Returns the
 // status.
 fn print_aside<E: Write>(alloc: Global, lines: Lines, err: &mut E) -> u8
-    ensures status { result ≤ 1 }
-    ensures well { result ≡ 0 → (lines.well ≡ true) × (lines.end ≡ None) }
+    ensures { PrintsLines lines (E.contents err.old) (E.contents err.new) result }
 {
     let Lines { text, end, well } = lines;
     if err.write_all(text.as_bytes()).is_err() {
@@ -478,9 +624,7 @@ fn print_outcome<O: Write, E: Write>(
     out: &mut O,
     err: &mut E,
 ) -> u8
-    ensures ok { IfOk outcome.entry (λ lines. (result ≤ 1)
-        × (result ≡ 0 → (lines.well ≡ true) × (lines.end ≡ None))) }
-    ensures err { IfErr outcome.entry (λ failure. result ≡ status_of failure) }
+    ensures { Ends O.contents E.contents is_aside outcome.entry out.old out.new err.old err.new result }
 {
     match outcome {
         Ok(lines) if is_aside => print_aside(alloc, lines, err),
@@ -519,6 +663,8 @@ pub fn run<F: Files, O: Write, E: Write>(
     ensures status { result ≤ 2 }
     ensures asked { result ≡ 0 → (words.now ≡ [])
         ⊎ ((command : Command) × AskFor (map string_bytes words.now) command) }
+    ensures runs { Runs O.contents E.contents F.reads F.writes F.appends F.compares
+        (map string_bytes words.now) files.old files.new out.old out.new err.old err.new result }
 {
     if words.is_empty() {
         return u8::from(!print_text(alloc, USAGE, out, err));
@@ -530,7 +676,7 @@ pub fn run<F: Files, O: Write, E: Write>(
             1
         };
     };
-    let is_aside = command.output().is_some_and(|name| name == STREAM);
+    let is_aside = is_stream(command.output());
     let outcome = execute(alloc, command, files);
     print_outcome(alloc, outcome, is_aside, out, err)
 }

@@ -48,6 +48,21 @@ impl Files for MemoryFiles {
         self.files.insert(0, File { name, bytes })?;
         Ok(())
     }
+
+    // The file is written whole, with both.
+    fn append(&mut self, name: &str, more: &[u8], at: usize, over: &[u8]) -> TiffResult<()> {
+        let mut bytes = self.read(name)?;
+        bytes.extend_from_slice(more)?;
+        if at > bytes.len() || over.len() > bytes.len() - at {
+            return Err(TiffError::IoError(IoKind::InvalidInput));
+        }
+        bytes[at..at + over.len()].copy_from_slice(over);
+        self.write(name, &bytes)
+    }
+
+    fn are_same(&mut self, one: &str, other: &str) -> TiffResult<bool> {
+        Ok(one == other && one != "-")
+    }
 }
 
 /// The file of one gray sample 7, byte by byte.

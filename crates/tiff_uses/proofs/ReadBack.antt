@@ -1,5 +1,5 @@
 -- An image that was written behind a header, and read back.
-use Rattle.std.proofs.Common.{◌≡◌, ℕ, ◌+◌, ◌*◌, ◌<◌, List, length, Option, None, Some, Result, Ok, Err, IfOk, refl, ap, sym, ◌∙◌, subst, inl, inr}
+use Rattle.std.proofs.Common.{◌≡◌, ℕ, ◌+◌, ◌*◌, ◌<◌, ◌⊎◌, List, length, Option, None, Some, Result, Ok, Err, IfOk, refl, ap, sym, ◌∙◌, subst, inl, inr, lit<}
 use Rattle.std.specs.Prelude.{get_or}
 use Rattle.std.proofs.lemmas.Option.{slice_get_within}
 use Rattle.std.specs.List.{slice_get}
@@ -12,8 +12,8 @@ use Rattle.tiff_base.specs.Field.{DirectoryRecord}
 use Rattle.tiff_base.specs.Header.{Header}
 use Rattle.tiff_base.specs.declared.tags.SampleFormat.TheVariants.{Void}
 use Rattle.tiff_value.specs.declared.encoder.colortype.ColorTypeName.{ColorTypeName}
-use Rattle.tiff_value.specs.declared.encoder.colortype.ColorTypeName.TheVariants.{Gray8}
-use Rattle.tiff_value.specs.ColorType.{ColorTypeRecord}
+use Rattle.tiff_value.specs.declared.encoder.colortype.ColorTypeName.TheVariants.{Gray1, Gray2, Gray4, Gray8}
+use Rattle.tiff_value.specs.ColorType.{ColorTypeRecord, columns_of}
 use Rattle.tiff_value.specs.ColorTypes.{color_type, format_of_type, inner_size, inner_type}
 use Rattle.tiff_ifd.specs.declared.limits.Limits.{Limits}
 use Rattle.tiff_ifd.specs.Limits.{unlimited}
@@ -88,15 +88,20 @@ image_is_first opens seeks file opened free at new (Err fault) h e s f = tt
 
 -- ---- the type of the samples
 
-first_format : (name : ColorTypeName) → get_or (color_type name).formats 0 Void ≡ format_of_type (inner_type name)
+-- the page has the sample type of the field type, also for bytes of packed pixels
+first_type : (name : ColorTypeName) → sample_type_from (format_of_type (inner_type name)) (8 * inner_size name)
+    ≡ sample_type_from (get_or (color_type name).formats 0 Void) (get_or (color_type name).bits 0 0)
 unfolding color_type inner_type
-first_format Gray8 = refl
-first_format name = refl
+first_type Gray8 = refl
+first_type name = refl
 
-first_depth : (name : ColorTypeName) → get_or (color_type name).bits 0 0 ≡ 8 * inner_size name
+first_depth : (name : ColorTypeName)
+    → (get_or (color_type name).bits 0 0 ≡ 8 * inner_size name) ⊎ ((get_or (color_type name).bits 0 0 < 8) × (inner_size name ≡ 1))
 unfolding color_type inner_type
-first_depth Gray8 = refl
-first_depth name = refl
+first_depth Gray1 = inr (lit< tt, refl)
+first_depth Gray2 = inr (lit< tt, refl)
+first_depth Gray4 = inr (lit< tt, refl)
+first_depth name = inl refl
 
 some_size : (name : ColorTypeName) → IsSize (inner_size name)
 unfolding inner_type
@@ -114,23 +119,22 @@ type_is reads color size width height samples old new m l name offset image s c 
     let i = l.image in
     let n = new_is color size width height old i l.begun.answer in
     let tint : i.color ≡ color_type name = sym (ap (λ (j : OpenImage). j.color) n.1.0) ∙ c in
-    let depth : get_or i.color.bits 0 0 ≡ 8 * inner_size name = ap (λ (k : ColorTypeRecord). get_or k.bits 0 0) tint ∙ first_depth name in
-    let format : get_or i.color.formats 0 Void ≡ format_of_type (inner_type name) = ap (λ (k : ColorTypeRecord). get_or k.formats 0 Void) tint ∙ first_format name in
+    let D : ColorTypeRecord → ℕ → Type 0 = λ k n. (get_or k.bits 0 0 ≡ 8 * n) ⊎ ((get_or k.bits 0 0 < 8) × (n ≡ 1)) in
     let has : HasSamplesOf (image_of_samples i samples) size = record {
       is_size = subst IsSize (sym z) (some_size name);
-      depth = depth ∙ ap (λ k. 8 * k) (sym z);
+      depth = subst (λ k. D k size) (sym tint) (subst (D (color_type name)) (sym z) (first_depth name));
       small = λ x y k. small ((y * i.width + x) * all_samples i + k);
     } in
-    let page_format : s.page.format ≡ format_of_type (inner_type name) = ap (λ (q : PageRecord). q.format) s.is_image ∙ format in
-    let page_depth : s.page.depth ≡ 8 * inner_size name = ap (λ (q : PageRecord). q.depth) s.is_image ∙ depth in
-    (λ t. sample_type_from (sym page_format t) (sym page_depth t))
+    first_type name
+    ∙ ap (λ (k : ColorTypeRecord). sample_type_from (get_or k.formats 0 Void) (get_or k.bits 0 0)) (sym tint)
+    ∙ ap (λ (q : PageRecord). sample_type_from q.format q.depth) (sym s.is_image)
     ∙ (reads old.kind new.bytes offset (image_of_samples i samples) size unlimited image s has read).1
 
 -- The samples of the image are those of the image that was written behind the header.
 comes_back : FirstShown → ReadsShown → WrittenIsRead → (color : ColorTypeRecord) (size width height : ℕ) (samples : List ℕ) (old new : FileState) (m : Model)
     → LeavesImage color size width height samples old new m → (name : ColorTypeName) → color ≡ color_type name → size ≡ inner_size name
     → AreNumbers size samples → old.chain ≡ header_link old.kind → 0 < end_of old → (file : List ℕ) (image : Decoded) → file ≡ new.bytes
-    → IsFirstImage file image → ComesBack (inner_type name) width height (length color.bits) samples image
+    → IsFirstImage file image → ComesBack (inner_type name) (columns_of color width) height (length color.bits) samples image
 comes_back shown_first shows_read is_read color size width height samples old new m l name c s small chain some file image is_file read =
     let shown = shown_first color size width height samples old new m chain some l name c s in
     let f : IsFirstImage new.bytes image = subst (λ b. IsFirstImage b image) is_file read in
@@ -156,7 +160,7 @@ pub all_come_back : FirstShown → ReadsShown → WrittenIsRead → (color : Col
     → LeavesImage color size width height samples old new m → (name : ColorTypeName) → color ≡ color_type name → size ≡ inner_size name
     → AreNumbers size samples → old.chain ≡ header_link old.kind → 0 < end_of old → (file : List ℕ) (result : Result DecodingResult TiffError)
     → file ≡ new.bytes → IfOk result (λ image. IsFirstImage file (decoded_as image))
-    → IfOk result (λ image. ComesBack (inner_type name) width height (length color.bits) samples (decoded_as image))
+    → IfOk result (λ image. ComesBack (inner_type name) (columns_of color width) height (length color.bits) samples (decoded_as image))
 all_come_back shown_first shows_read is_read color size width height samples old new m l name c s small chain some file (Ok image) is_file read =
     comes_back shown_first shows_read is_read color size width height samples old new m l name c s small chain some file (decoded_as image) is_file read
 all_come_back shown_first shows_read is_read color size width height samples old new m l name c s small chain some file (Err fault) is_file read = tt

@@ -39,12 +39,12 @@ first_freely file = do
   })).answer
 
 -- The sample type is that of the field type of the samples in memory, and samples of an image with
--- this width and height, and with so many samples a pixel, come back as they were passed, if they
--- are as many as the image has.
-pub record ComesBack (inner : «Type») (width height samples_of_pixel : ℕ) (samples : List ℕ)
+-- so many columns and rows, and with so many samples in a column, come back as they were passed, if
+-- they are as many as the image has. A column is a pixel, or a byte of packed pixels.
+pub record ComesBack (inner : «Type») (columns rows samples_of_column : ℕ) (samples : List ℕ)
     (image : Decoded) : Type 0 where
   pub type : sample_type_from (format_of_type inner) (8 * type_size inner) ≡ Ok image.sample_type
-  pub numbers : length samples ≡ height * width * samples_of_pixel → image.numbers ≡ samples
+  pub numbers : length samples ≡ rows * columns * samples_of_column → image.numbers ≡ samples
 
 -- The image can't be written, for the first error of `write_image`; or the file is written, and this
 -- is what a reader without limits returns of its first page. Or memory is out.

@@ -8,7 +8,7 @@ ghost use Rattle.tiff.specs.Outcome.{decoder_of, read_image_bytes};
 ghost use Rattle.tiff.specs.Result.{decoded_as};
 ghost use Rattle.tiff.specs.Shows.{ShowsGray};
 ghost use Rattle.tiff_base.specs.Types.{type_size};
-ghost use Rattle.tiff_value.specs.ColorType.{sample_number};
+ghost use Rattle.tiff_value.specs.ColorType.{columns_of, sample_number};
 ghost use Rattle.tiff_uses.specs.Chunks.{IsImageOfChunks};
 ghost use Rattle.tiff_uses.specs.Cleared.{cleared_from};
 ghost use Rattle.tiff_decode.specs.NextState.{view_of_result};
@@ -195,8 +195,8 @@ pub fn written_and_read<C: NamedColorType>(
     ensures answer { AnswersBack C.described (type_size C.Inner.value_type) width height
         (map (sample_number (type_size C.Inner.value_type) C.Inner.bits) samples.now)
         (view_of_result decoded_as result) }
-    ensures comes_back { IfOk result (λ image. ComesBack C.Inner.value_type width height
-        (length C.described.bits)
+    ensures comes_back { IfOk result (λ image. ComesBack C.Inner.value_type
+        (columns_of C.described width) height (length C.described.bits)
         (map (sample_number (type_size C.Inner.value_type) C.Inner.bits) samples.now)
         (decoded_as image)) }
 {

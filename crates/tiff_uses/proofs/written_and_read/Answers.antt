@@ -7,7 +7,7 @@ use Rattle.tiff.proofs.MemoryFaults.{only_memory}
 use Rattle.tiff.specs.Model.{IsLink, Stands, header_model}
 use Rattle.tiff_base.specs.declared.tags.FileKind.TheVariants.{Classic}
 use Rattle.tiff_base.specs.Types.{type_size}
-use Rattle.tiff_value.specs.ColorType.{sample_number}
+use Rattle.tiff_value.specs.ColorType.{columns_of, sample_number}
 use Rattle.tiff_encode.specs.Model.{header_link}
 use Rattle.tiff.proofs.Samples.{are_numbers}
 use Rattle.tiff.proofs.Gray.{header_chain}
@@ -30,7 +30,7 @@ returns-clause-comes_back g c =
     let chain = subst (λ k. encoder.chain ≡ header_link k) kind (header_chain Classic encoder.chain header.link) in
     let size = type_size g.C.Inner.TiffValue.value_type in
     let samples = map (sample_number size g.C.Inner.Sample.bits) c.args.samples.now in
-    let Back : «Type» → Type 0 = λ inner. IfOk c.first_without_limits.result (λ image. ComesBack inner c.args.width c.args.height (length g.C.ColorType.described.bits) samples (decoded_as image)) in
+    let Back : «Type» → Type 0 = λ inner. IfOk c.first_without_limits.result (λ image. ComesBack inner (columns_of g.C.ColorType.described c.args.width) c.args.height (length g.C.ColorType.described.bits) samples (decoded_as image)) in
     subst Back (sym g.met.C.NamedColorType.in_memory)
     (all_come_back c.first_shown.ensures c.reads_shown.ensures c.written_is_read.ensures g.C.ColorType.described size c.args.width c.args.height samples encoder c.write_image-written.new.self m
     image g.C.NamedColorType.name g.met.C.NamedColorType.named (ap type_size g.met.C.NamedColorType.in_memory)

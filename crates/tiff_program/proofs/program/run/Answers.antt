@@ -1,0 +1,13 @@
+use Rattle.std.proofs.Common.{refl, sym, inl, inr, ◌∙◌}
+use Rattle.tiff_program.proofs.Refused.{on_ok, runs_refused}
+use Rattle.tiff_program.proofs.program.run.Goals as goal
+
+pub returns-then-is_ok-clause-runs : goal.returns-then-is_ok-clause-runs
+returns-then-is_ok-clause-runs g c =
+    let printed = on_ok _ _ (sym c.is_ok.ensures.value ∙ c.if-is_ok.true) c.write_all.ensures.bytes in
+    runs_refused _ _ _ _ _ _ c.args.words.now _ _ _ _ _ (sym c.is_empty.ensures ∙ c.if-is_empty.false) c.in_default.ensures.none
+    (refl, inr (refl, rw c.as_bytes.ensures.value at printed))
+
+pub returns-else-is_ok-clause-runs : goal.returns-else-is_ok-clause-runs
+returns-else-is_ok-clause-runs g c =
+    runs_refused _ _ _ _ _ _ c.args.words.now _ _ _ _ _ (sym c.is_empty.ensures ∙ c.if-is_empty.false) c.in_default.ensures.none (refl, inl refl)
