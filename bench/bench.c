@@ -156,6 +156,12 @@ static void planned_by_ours(struct load *l) {
         if (tiff_read_planned_chunk(l->file, l->len, &plan, i, l->ours, l->size)) stop("refused by tiff_c", l->name);
 }
 
+static void range_by_plan(struct load *l) {
+    struct tiff_page_plan plan;
+    if (tiff_page_plan(l->file, l->len, 0, &plan) || tiff_read_planned_chunks(l->file, l->len, &plan, 0, (uint32_t)l->chunks, l->ours, l->size))
+        stop("refused by tiff_c", l->name);
+}
+
 /* Chunks far from each other, as a viewer asks for them: some number, and that of the chunk at each. */
 static uint32_t some_chunk(const struct load *l, uint32_t at) { return at * 40503u % (uint32_t)l->chunks; }
 
@@ -218,12 +224,15 @@ static void print_planned(struct load *l) {
     measure(l);
     l->ours = room(l->size);
     l->theirs = room(l->size);
-    double ours = 0, theirs = 0;
+    double ours = 0, theirs = 0, range = 0, whole = 0;
     for (int i = 0; i < ROUNDS; i++) {
         best(&ours, planned_by_ours, l);
         best(&theirs, chunks_by_theirs, l);
+        best(&range, range_by_plan, l);
+        best(&whole, read_ours, l);
     }
-    printf("\n%s: %.2f milliseconds, by one call each and the plan of the page; libtiff: %.2f\n", l->name, 1e3 * ours, 1e3 * theirs);
+    printf("\n%s: %.2f milliseconds, by one call each and the plan of the page; libtiff: %.2f; all by one call and the plan: %.2f; the whole image: %.2f\n",
+           l->name, 1e3 * ours, 1e3 * theirs, 1e3 * range, 1e3 * whole);
 }
 
 static void print_one(struct load *l) {

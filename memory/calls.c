@@ -48,6 +48,8 @@ struct answer {
     struct tiff_pages_end pages_end;
     struct tiff_page_plan plan;
     struct tiff_appended appended;
+    struct tiff_chunk_place place;
+    struct tiff_stretch wanted;
     struct tiff_listed_page pages[LISTED];
     struct tiff_tag_entry entries[LISTED];
     struct tiff_listed_directory directories[LISTED];
@@ -101,6 +103,63 @@ static tiff_status page_plan(const struct input *on, struct answer *to) { return
 static tiff_status planned_chunk(const struct input *on, struct answer *to) {
     return tiff_read_planned_chunk(on->file, on->len, &on->plan, 0, to->bytes, ROOM);
 }
+
+static tiff_status planned_chunks(const struct input *on, struct answer *to) {
+    return tiff_read_planned_chunks(on->file, on->len, &on->plan, 0, 2, to->bytes, ROOM);
+}
+
+static tiff_status chunk_place(const struct input *on, struct answer *to) {
+    return tiff_chunk_place(on->file, on->len, &on->plan, 0, &to->place);
+}
+
+/* of samples that are zeros, as many as a whole chunk of whole bytes has */
+static tiff_status rewrite_chunk(const struct input *on, struct answer *to) {
+    static const uint8_t zeros[ROOM];
+    uint64_t pixels = (uint64_t)on->plan.chunk_width * on->plan.chunk_height;
+    uint64_t count = pixels < ROOM ? pixels * on->plan.samples * (on->plan.bits / 8) : ROOM;
+    return tiff_rewrite_chunk(on->file, on->len, &on->plan, 0, zeros, count < ROOM ? count : ROOM, to->bytes, ROOM);
+}
+
+/* of a file that two windows have */
+static tiff_status by_windows(const struct input *on, tiff_status call(const struct tiff_windows *, const struct input *, struct answer *), struct answer *to) {
+    size_t half = on->len / 2;
+    struct tiff_window windows[] = {{0, on->file, half}, {half, on->file + half, on->len - half}};
+    struct tiff_windows seen = {on->len, windows, 2};
+    return call(&seen, on, to);
+}
+
+static tiff_status seen_pages(const struct tiff_windows *seen, const struct input *on, struct answer *to) {
+    (void)on;
+    return tiff_list_pages_in(seen, to->pages, LISTED, &to->number, &to->wanted);
+}
+
+static tiff_status seen_directories(const struct tiff_windows *seen, const struct input *on, struct answer *to) {
+    (void)on;
+    return tiff_list_directories_in(seen, to->directories, LISTED, &to->number, &to->wanted);
+}
+
+static tiff_status seen_tags(const struct tiff_windows *seen, const struct input *on, struct answer *to) {
+    return tiff_list_tags_in(seen, on->page, to->entries, LISTED, &to->number, &to->wanted);
+}
+
+static tiff_status seen_bytes(const struct tiff_windows *seen, const struct input *on, struct answer *to) {
+    return tiff_tag_bytes_in(seen, on->page, 258, 0, to->bytes, ROOM, &to->number, &to->wanted);
+}
+
+static tiff_status seen_plan(const struct tiff_windows *seen, const struct input *on, struct answer *to) {
+    return tiff_page_plan_in(seen, on->page, &to->plan, &to->wanted);
+}
+
+static tiff_status seen_chunk(const struct tiff_windows *seen, const struct input *on, struct answer *to) {
+    return tiff_read_planned_chunk_in(seen, &on->plan, 0, to->bytes, ROOM, &to->wanted);
+}
+
+static tiff_status list_pages_in(const struct input *on, struct answer *to) { return by_windows(on, seen_pages, to); }
+static tiff_status list_directories_in(const struct input *on, struct answer *to) { return by_windows(on, seen_directories, to); }
+static tiff_status list_tags_in(const struct input *on, struct answer *to) { return by_windows(on, seen_tags, to); }
+static tiff_status tag_bytes_in(const struct input *on, struct answer *to) { return by_windows(on, seen_bytes, to); }
+static tiff_status page_plan_in(const struct input *on, struct answer *to) { return by_windows(on, seen_plan, to); }
+static tiff_status planned_chunk_in(const struct input *on, struct answer *to) { return by_windows(on, seen_chunk, to); }
 
 static tiff_status two_chunks(const struct input *on, struct answer *to) {
     return tiff_read_chunks(on->file, on->len, on->page, 0, 2, to->bytes, ROOM);
@@ -210,6 +269,15 @@ static const struct call readers[] = {
     {"tiff_read_chunks", BUT_BYTES, two_chunks},
     {"tiff_page_plan", ALL, page_plan},
     {"tiff_read_planned_chunk", BUT_BYTES, planned_chunk},
+    {"tiff_read_planned_chunks", BUT_BYTES, planned_chunks},
+    {"tiff_chunk_place", ALL, chunk_place},
+    {"tiff_rewrite_chunk", ALL, rewrite_chunk},
+    {"tiff_list_pages_in", BUT_COUNT, list_pages_in},
+    {"tiff_list_directories_in", BUT_COUNT, list_directories_in},
+    {"tiff_list_tags_in", ALL, list_tags_in},
+    {"tiff_tag_bytes_in", BUT_BYTES, tag_bytes_in},
+    {"tiff_page_plan_in", ALL, page_plan_in},
+    {"tiff_read_planned_chunk_in", BUT_BYTES, planned_chunk_in},
     {"tiff_append_pages", BUT_APPENDED, append_pages},
     {"tiff_page_sides (of an offset)", ALL, sides_at},
     {"tiff_read_coding_unit_bytes", BUT_BYTES, unit_bytes},

@@ -8,7 +8,8 @@ DESCRIPTION
     A file is FILE, LEN bytes of the caller's memory that hold the whole file. No call copies FILE,
     and no call keeps anything: each call that reads opens the file anew, reads the header and the
     directories up to the page that the caller asks for, and frees all memory that it allocated.
-    tiff_read_planned_chunk alone reads no header and no directory, but what a plan says instead.
+    tiff_read_planned_chunk, tiff_read_planned_chunks, tiff_chunk_place and tiff_rewrite_chunk alone
+    read no header and no directory, but what a plan says instead.
     FILE must stay unchanged during a call. Several threads may call at once, also on the same
     FILE: a call writes only into what the caller passes for its results, and no call has a state
     of its own.
@@ -35,7 +36,7 @@ DESCRIPTION
     A call that returns TIFF_DONE has written its result. A call that returns any other status
     leaves a struct or a number as it was; what it leaves in a buffer of bytes is not specified.
     tiff_list_pages, tiff_list_directories, tiff_list_tags, tiff_tag_numbers, tiff_tag_floats,
-    tiff_tag_text, tiff_write_image, tiff_write_jobs, tiff_write_pages and tiff_append_pages specify
+    tiff_tag_text, tiff_rewrite_chunk, tiff_write_image, tiff_write_jobs, tiff_write_pages and tiff_append_pages specify
     more.
 
     A file may claim any size: call tiff_page_layout and judge its result before you allocate for
@@ -68,7 +69,7 @@ LINKING
 #ifndef MANGOHATCH_TIFF_H
 #define MANGOHATCH_TIFF_H
 
-#define MANGOHATCH_TIFF_VERSION 5
+#define MANGOHATCH_TIFF_VERSION 6
 
 /* A PAGE that is the directory at an offset of the file. */
 #define TIFF_AT(offset) ((size_t)(offset) | (size_t)1 << 63)
@@ -89,6 +90,7 @@ enum {
     TIFF_INT_SIZE_ERROR = 2, /* platform or format size limits exceeded */
     TIFF_OUT_OF_MEMORY = 3, /* out of memory */
     TIFF_LATER_FAULT = 4, /* an error that has no number yet; no call returns it */
+    TIFF_BYTES_WANTED = 5, /* bytes of the file that no window has; only calls on windows return it */
     /* the bytes */
     TIFF_UNEXPECTED_EOF = 10, /* unexpected end of file */
     TIFF_INVALID_DATA = 11, /* invalid data */
@@ -371,6 +373,45 @@ tiff_status tiff_page_plan(const uint8_t *file, size_t len, size_t page, struct 
    TIFF_UNEXPECTED_EOF; then those of tiff_read_chunk_bytes. */
 tiff_status tiff_read_planned_chunk(const uint8_t *file, size_t len, const struct tiff_page_plan *plan, uint32_t chunk, uint8_t *buffer, size_t size);
 
+/* Reads COUNT chunks from the number FIRST on into BUFFER, one behind the other, each as
+   tiff_read_planned_chunk reads it: as tiff_read_chunks reads them of the page that PLAN is of, but
+   without opening it. The bytes of BUFFER behind them stay. Any *PLAN is safe. Errors of a *PLAN
+   that tiff_page_plan wrote for this FILE: those of tiff_read_chunks. Of any other, in this order:
+   a number that names nothing, as for tiff_read_planned_chunk; FIRST + COUNT of 2^32 or more,
+   TIFF_INVALID_CHUNK_INDEX; then, chunk by chunk, sizes that no page has,
+   TIFF_INCONSISTENT_SIZES_ENCOUNTERED; the first error of the page's color or its layout; samples
+   without a number type, as complex ones, TIFF_UNSUPPORTED_SAMPLE_FORMAT; fewer bytes of BUFFER
+   left than the chunk has, TIFF_INSUFFICIENT_OUTPUT_BUFFER_SIZE; the error of reading its offset or
+   its byte count; the first error of the chunk. */
+tiff_status tiff_read_planned_chunks(const uint8_t *file, size_t len, const struct tiff_page_plan *plan, uint32_t first, uint32_t count, uint8_t *buffer, size_t size);
+
+/* Where a chunk is in FILE: its offset and its byte count, as the tags of the page have them.
+   tiff_chunk_place puts it into *PLACE for the chunk with the number CHUNK, counted from 0, of the
+   page that PLAN is of, and reads these two numbers alone. Errors: those of a *PLAN, as
+   tiff_read_planned_chunk has them, up to those of reading the chunk's offset and byte count; no
+   such chunk, TIFF_INCONSISTENT_SIZES_ENCOUNTERED. */
+struct tiff_chunk_place {
+    uint64_t offset;
+    uint64_t byte_count;
+};
+tiff_status tiff_chunk_place(const uint8_t *file, size_t len, const struct tiff_page_plan *plan, uint32_t chunk, struct tiff_chunk_place *place);
+
+/* Makes the bytes that FILE has of the chunk with the number CHUNK from new samples, so that one chunk
+   of a file can be changed in place. SAMPLES are COUNT bytes, as tiff_read_planned_chunk gives them of
+   this chunk. STORED is SIZE bytes: before the call a copy of those of FILE from the chunk's offset
+   on, as many as its byte count says, or more; after it the new bytes of the same place. What no sample
+   needs stays as it is: the parts of a tile outside the image, and samples that the calls which read
+   pixels leave out. The call changes nothing in FILE. Once the caller has written STORED at the
+   offset, a read of the chunk gives SAMPLES, and every chunk of whose bytes none was overwritten is as
+   it was. A page whose PLAN is changed, or whose chunks overlap, is the caller's to see to.
+   Errors: those of a *PLAN, as tiff_chunk_place; the page's color or its layout, as
+   tiff_read_planned_chunk; a COUNT that isn't the chunk's, TIFF_INVALID_DATA; the chunk's form, as
+   tiff_read_planned_chunk; data that are packed, TIFF_UNSUPPORTED_COMPRESSION_METHOD; the byte-plane
+   predictor, TIFF_FLOATING_POINT_PREDICTOR; rows that need 2^64 bytes or more, TIFF_LIMITS_EXCEEDED;
+   a SIZE that is below what the rows need, TIFF_INSUFFICIENT_OUTPUT_BUFFER_SIZE. An error leaves STORED
+   as it was. */
+tiff_status tiff_rewrite_chunk(const uint8_t *file, size_t len, const struct tiff_page_plan *plan, uint32_t chunk, const uint8_t *samples, size_t count, uint8_t *stored, size_t size);
+
 /* Reads the coding unit with the number UNIT, counted from 0: a chunk of the first plane and the
    chunks of the other planes that cover the same pixels, one behind the other, as many as fit whole
    into BUFFER. The other bytes of BUFFER stay. Errors, in this order: the first error of the page's
@@ -456,6 +497,50 @@ enum {
 };
 tiff_status tiff_byte_order(const uint8_t *file, size_t len, uint32_t *order);
 
+/* FILES THAT AREN'T IN MEMORY
+   A window is SIZE bytes of a file, from its offset on, which the caller has read. A struct
+   tiff_windows is what the caller has of a file: the LEN bytes of the whole file, which it knows, and
+   COUNT windows in ascending order, which lie in the file and don't overlap. The calls below do what
+   the ones without _in do on the whole file, and ask for no byte that these don't ask for.
+   If a call needs a byte that no window has, it returns TIFF_BYTES_WANTED and puts what it needs next
+   into *WANTED: at least one byte, the first of which no window has. The caller reads these bytes, or
+   more around them, as whole pages of 4 or 64 KB, adds a window, and calls again. As each such answer
+   names a byte that is new, the calls come to an end. Any other status is the whole file's, and so is
+   what the call leaves: that holds for every file that the windows are of. Windows in another order,
+   that overlap or that pass LEN are refused: TIFF_INVALID_INPUT. With these two statuses a list has a
+   *COUNT of 0. */
+struct tiff_window {
+    uint64_t offset;
+    const uint8_t *bytes;
+    size_t size;
+};
+struct tiff_windows {
+    uint64_t len;
+    const struct tiff_window *windows;
+    size_t count;
+};
+struct tiff_stretch {
+    uint64_t offset;
+    uint64_t len;
+};
+
+/* As tiff_list_pages. */
+tiff_status tiff_list_pages_in(const struct tiff_windows *seen, struct tiff_listed_page *pages, size_t room, size_t *count, struct tiff_stretch *wanted);
+
+/* As tiff_list_directories. */
+tiff_status tiff_list_directories_in(const struct tiff_windows *seen, struct tiff_listed_directory *directories, size_t room, size_t *count, struct tiff_stretch *wanted);
+
+/* As tiff_list_tags and tiff_tag_bytes with TIFF_AT, also for a number: whether the directory is a
+   page isn't asked. */
+tiff_status tiff_list_tags_in(const struct tiff_windows *seen, size_t page, struct tiff_tag_entry *entries, size_t room, size_t *count, struct tiff_stretch *wanted);
+tiff_status tiff_tag_bytes_in(const struct tiff_windows *seen, size_t page, uint16_t tag, uint64_t at, uint8_t *buffer, size_t size, size_t *written, struct tiff_stretch *wanted);
+
+/* As tiff_page_plan. */
+tiff_status tiff_page_plan_in(const struct tiff_windows *seen, size_t page, struct tiff_page_plan *plan, struct tiff_stretch *wanted);
+
+/* As tiff_read_planned_chunk. */
+tiff_status tiff_read_planned_chunk_in(const struct tiff_windows *seen, const struct tiff_page_plan *plan, uint32_t chunk, uint8_t *buffer, size_t size, struct tiff_stretch *wanted);
+
 /* How to write an image: its color type; its width and its height, in pixels; the version in the
    header of its file; the values of its tags Compression and Predictor. */
 enum {
@@ -491,6 +576,12 @@ enum {
     TIFF_CMYK64_FLOAT = 27,
     TIFF_YCBCR8 = 28, /* chroma not subsampled */
     TIFF_CMYKA8 = 29,
+    /* packed pixels of 1, 2 and 4 bits: a sample is a byte of pixels of one row, the leftmost in the
+       most significant bits. A row has as many bytes as its pixels fill, the last one partly. 0 is
+       black. They have strips, no extra samples and no predictor */
+    TIFF_GRAY1 = 30,
+    TIFF_GRAY2 = 31,
+    TIFF_GRAY4 = 32,
     /* the kinds of files, by the version in the header */
     TIFF_CLASSIC = 42,
     TIFF_BIG = 43,
@@ -528,8 +619,8 @@ struct tiff_image {
    doesn't write, TIFF_UNSUPPORTED_COMPRESSION_METHOD; a predictor that is none,
    TIFF_UNKNOWN_PREDICTOR; SAMPLES_LEN that is no whole number of samples,
    TIFF_MISMATCHED_ENTRY_LENGTH; a side of 0, TIFF_INVALID_DIMENSIONS; the horizontal predictor with
-   floating-point samples, TIFF_PREDICTOR_INCOMPATIBLE, and predictor 3, TIFF_PREDICTOR_UNAVAILABLE;
-   2^64 samples or more, TIFF_INVALID_INPUT; too few samples, TIFF_INVALID_DATA; a file that its
+   floating-point samples or packed pixels, TIFF_PREDICTOR_INCOMPATIBLE, and predictor 3,
+   TIFF_PREDICTOR_UNAVAILABLE; 2^64 samples or more, TIFF_INVALID_INPUT; too few samples, TIFF_INVALID_DATA; a file that its
    kind can't hold, TIFF_INT_SIZE_ERROR; and at last a BUFFER that is too short. */
 tiff_status tiff_write_image(const struct tiff_image *image, const uint8_t *samples, size_t samples_len, uint8_t *buffer, size_t size,
                              size_t *len);

@@ -4,22 +4,27 @@
 //! but `tiff_byte_order` may return the number of `OutOfMemory`.
 #![tactic(auto)]
 
-ghost use Rattle.std.specs.Prelude.{◌≡◌, ◌⊎◌};
+ghost use Rattle.std.specs.Prelude.{◌≡◌, ◌⊎◌, length, ℕ, List};
+ghost use Rattle.tiff_base.specs.Windows.{AreWindowsOf};
 ghost use Rattle.tiff_statuses.specs.Appended.{AppendTells};
 ghost use Rattle.tiff_statuses.specs.Calls as calls;
 ghost use Rattle.tiff_statuses.specs.Directories.{TreeTells, tree_of};
 ghost use Rattle.tiff_statuses.specs.Entries.{list_tags};
+ghost use Rattle.tiff_statuses.specs.InWindows as in_windows;
+ghost use Rattle.tiff_statuses.specs.InWindows.{SeenTells};
 ghost use Rattle.tiff_statuses.specs.Jobs.{JobsTell};
 ghost use Rattle.tiff_statuses.specs.List.{ListTells, list_of};
 ghost use Rattle.tiff_statuses.specs.Pages.{PagesTell};
 ghost use Rattle.tiff_statuses.specs.Plan as plans;
 ghost use Rattle.tiff_statuses.specs.Plan.{ReadsPage};
+ghost use Rattle.tiff_statuses.specs.Rewrite as rewriting;
 ghost use Rattle.tiff_statuses.specs.Status.{StatusIs, StatusPuts, StatusTells};
 ghost use Rattle.tiff_statuses.specs.Values as values;
 ghost use Rattle.tiff_statuses.specs.Writer as writer;
 ghost use Rattle.tiff_statuses.specs.Writer.{IsShown};
 
 use std::alloc::Global;
+use tiff_base::windows::{Stretch, Windows};
 use tiff_statuses::VERSION;
 use tiff_statuses::appended::Appended;
 use tiff_statuses::calls::{Chunks, Color, FieldSize, Layout, PageSamples, Sides};
@@ -29,6 +34,7 @@ use tiff_statuses::jobs::JobsEnd;
 use tiff_statuses::list::ListedPage;
 use tiff_statuses::pages::{NewPage, PagesEnd};
 use tiff_statuses::plan::PlannedPage;
+use tiff_statuses::rewrite::PlacedChunk;
 use tiff_statuses::writer::NewImage;
 
 /// Puts the width and the height of a page, in pixels, into `sides`. Returns 0, or the number of
@@ -148,9 +154,10 @@ pub extern "C" fn tiff_read_chunks(
 }
 
 /// Puts the plan of a page, what its tags define as numbers, into `plan`. By this plan
-/// `tiff_read_planned_chunk` reads each chunk as `tiff_read_chunk_bytes` reads it of the page. Returns 0, or
-/// the number of the first error: of the file or the page; of offsets or byte counts of chunks that
-/// aren't of type SHORT, LONG or LONG8, `InvalidTypeForTag`. An error leaves `plan` as it was.
+/// `tiff_read_planned_chunk` reads each chunk as `tiff_read_chunk_bytes` reads it of the page, and
+/// `tiff_read_planned_chunks` several as `tiff_read_chunks` does. Returns 0, or the number of the
+/// first error: of the file or the page; of offsets or byte counts of chunks that aren't of type
+/// SHORT, LONG or LONG8, `InvalidTypeForTag`. An error leaves `plan` as it was.
 #[unsafe(no_mangle)]
 pub extern "C" fn tiff_page_plan(
     alloc: Global,
@@ -185,6 +192,79 @@ pub extern "C" fn tiff_read_planned_chunk(
     ensures { StatusTells (plans.read_planned_chunk file.now plan.now chunk buffer.old) result buffer.new }
 {
     tiff_statuses::read_planned_chunk(alloc, file, plan, chunk, buffer)
+}
+
+/// Reads `count` chunks, from the number `first` on, into `buffer`, one behind the other, by the plan
+/// of their page and under no limits: of each it reads the offset and the byte count alone, and it
+/// opens no page. Returns 0, or the number of the first error: of a number of the plan that names
+/// nothing, as `tiff_read_planned_chunk` has it; `first` plus `count` of 2^32 or more,
+/// `InvalidChunkIndex`; and then, chunk by chunk, of sizes that no page has,
+/// `InconsistentSizesEncountered`; of the page's color or its layout; of a buffer that has no room
+/// left for the chunk, `InsufficientOutputBufferSize`; of the chunk's offset and byte count; of the
+/// chunk. What an error leaves in `buffer` is not specified.
+#[unsafe(no_mangle)]
+pub extern "C" fn tiff_read_planned_chunks(
+    alloc: Global,
+    file: &[u8],
+    plan: &PlannedPage,
+    first: u32,
+    count: u32,
+    buffer: &mut [u8],
+) -> u32
+    ensures { StatusTells (plans.read_planned_chunks file.now plan.now first count buffer.old) result
+        buffer.new }
+{
+    tiff_statuses::read_planned_chunks(alloc, file, plan, first, count, buffer)
+}
+
+/// Puts the offset and the byte count of the chunk with the number `chunk`, from 0, into `place`, by
+/// the plan of its page: it reads these two numbers alone. Returns 0, or the number of the first
+/// error: of a number of the plan that names nothing, as `tiff_read_planned_chunk`; of sizes that no
+/// page has, `InconsistentSizesEncountered`; of the chunk's offset and byte count; no such chunk,
+/// `InconsistentSizesEncountered`. An error leaves `place` as it was.
+#[unsafe(no_mangle)]
+pub extern "C" fn tiff_chunk_place(
+    alloc: Global,
+    file: &[u8],
+    plan: &PlannedPage,
+    chunk: u32,
+    place: &mut PlacedChunk,
+) -> u32
+    ensures { StatusPuts (rewriting.chunk_place file.now plan.now chunk) result place.old place.new }
+{
+    tiff_statuses::chunk_place(alloc, file, plan, chunk, place)
+}
+
+/// Makes the bytes that the file has of the chunk with the number `chunk`, from 0, from new samples,
+/// by the plan of its page. `samples` are as `tiff_read_planned_chunk` gives them; `stored` has the
+/// bytes of the file from the chunk's offset on, at least as many as the rows of the chunk need. Bytes
+/// that no sample needs stay as they are. Writes nothing to the file. Returns 0, or the number of the
+/// first error: of a number of the plan that names nothing, as `tiff_read_planned_chunk`; of sizes
+/// that no page has, `InconsistentSizesEncountered`; of the chunk's offset and byte count; of the
+/// page's color or its layout; of samples that aren't as many bytes as the chunk has,
+/// `IoError(InvalidData)`; of the chunk's form, as `tiff_read_planned_chunk`; of data that are packed,
+/// `UnsupportedCompressionMethod`; of byte planes, `FloatingPointPredictor`; of rows that need 2^64
+/// stored bytes or more, `LimitsExceeded`; of fewer stored bytes than the rows need,
+/// `InsufficientOutputBufferSize`. An error leaves `stored` as it was.
+#[unsafe(no_mangle)]
+pub extern "C" fn tiff_rewrite_chunk(
+    alloc: Global,
+    file: &[u8],
+    plan: &PlannedPage,
+    chunk: u32,
+    samples: &[u8],
+    stored: &mut [u8],
+) -> u32
+    ensures answer { StatusTells
+        (rewriting.rewrite_fault file.now plan.now chunk (length samples.now) (length stored.old)) result
+        tt }
+    ensures rewritten { result ≡ 0
+        → rewriting.IsRewritten file.now plan.now chunk samples.now stored.old stored.new }
+    ensures shows { result ≡ 0
+        → rewriting.ShowsSamples file.now plan.now chunk samples.now stored.new }
+    ensures refused { (result ≡ 0 → ⊥) → stored.new ≡ stored.old }
+{
+    tiff_statuses::rewrite_chunk(alloc, file, plan, chunk, samples, stored)
 }
 
 /// Reads the coding unit of a page with the number `unit`, from 0, into `buffer`, under no limits:
@@ -389,6 +469,135 @@ pub extern "C" fn tiff_list_directories(
     ensures { TreeTells (tree_of file.now) result directories.old directories.new count.new }
 {
     tiff_statuses::list_directories(alloc, file, directories, count)
+}
+
+/// Puts the pages of a file of which the caller has the windows `seen` into `pages`, as many as fit,
+/// and how many there are into `count`, as `tiff_list_pages` does of the whole file. Returns
+/// `BytesWanted` if it wants bytes that no window has, and puts their stretch into `wanted`; the
+/// number of `IoError(InvalidInput)` for windows that overlap, or are out of order or of the file.
+/// `count` is then 0, and `pages` is as it was. Whatever file the windows are of, any other status is
+/// that of the whole file.
+#[unsafe(no_mangle)]
+pub extern "C" fn tiff_list_pages_in(
+    alloc: Global,
+    seen: &Windows<'_>,
+    pages: &mut [ListedPage],
+    count: &mut usize,
+    wanted: &mut Stretch,
+) -> u32
+    ghost file: { List ℕ }
+    ensures { AreWindowsOf file seen.now → SeenTells seen.now result wanted.new
+        ((count.new ≡ 0) × (pages.new ≡ pages.old))
+        (ListTells (list_of file) result pages.old pages.new count.new) }
+{
+    tiff_statuses::list_pages_in(alloc, seen, pages, count, wanted)
+}
+
+/// Puts the directories of a file of which the caller has the windows `seen` into `directories`, as
+/// many as fit, and how many there are into `count`, as `tiff_list_directories` does of the whole
+/// file. It returns `BytesWanted` and refuses windows as `tiff_list_pages_in` does. `count` is then 0,
+/// and `directories` is as it was.
+#[unsafe(no_mangle)]
+pub extern "C" fn tiff_list_directories_in(
+    alloc: Global,
+    seen: &Windows<'_>,
+    directories: &mut [ListedDirectory],
+    count: &mut usize,
+    wanted: &mut Stretch,
+) -> u32
+    ghost file: { List ℕ }
+    ensures { AreWindowsOf file seen.now → SeenTells seen.now result wanted.new
+        ((count.new ≡ 0) × (directories.new ≡ directories.old))
+        (TreeTells (tree_of file) result directories.old directories.new count.new) }
+{
+    tiff_statuses::list_directories_in(alloc, seen, directories, count, wanted)
+}
+
+/// Puts the plan of a page of a file of which the caller has the windows `seen` into `plan`, as
+/// `tiff_page_plan` does of the whole file. It returns `BytesWanted` and refuses windows as
+/// `tiff_list_pages_in` does. `plan` is then as it was.
+#[unsafe(no_mangle)]
+pub extern "C" fn tiff_page_plan_in(
+    alloc: Global,
+    seen: &Windows<'_>,
+    page: usize,
+    plan: &mut PlannedPage,
+    wanted: &mut Stretch,
+) -> u32
+    ghost file: { List ℕ }
+    ensures answer { AreWindowsOf file seen.now → SeenTells seen.now result wanted.new
+        (plan.new ≡ plan.old) (StatusPuts (plans.page_plan file page) result plan.old plan.new) }
+    ensures reads { AreWindowsOf file seen.now → result ≡ 0 → ReadsPage file page plan.new }
+{
+    tiff_statuses::page_plan_in(alloc, seen, page, plan, wanted)
+}
+
+/// Reads the chunk with the number `chunk`, from 0, into `buffer`, by the plan of its page, as
+/// `tiff_read_planned_chunk` does, of a file of which the caller has the windows `seen`. It returns
+/// `BytesWanted` and refuses windows as `tiff_list_pages_in` does. What an error leaves in `buffer` is
+/// not specified.
+#[unsafe(no_mangle)]
+pub extern "C" fn tiff_read_planned_chunk_in(
+    alloc: Global,
+    seen: &Windows<'_>,
+    plan: &PlannedPage,
+    chunk: u32,
+    buffer: &mut [u8],
+    wanted: &mut Stretch,
+) -> u32
+    ghost file: { List ℕ }
+    ensures { AreWindowsOf file seen.now → SeenTells seen.now result wanted.new (Unit {0})
+        (StatusTells (plans.read_planned_chunk file plan.now chunk buffer.old) result buffer.new) }
+{
+    tiff_statuses::read_planned_chunk_in(alloc, seen, plan, chunk, buffer, wanted)
+}
+
+/// Puts the entries of the directory of a page of a file of which the caller has the windows `seen`
+/// into `entries`, as many as fit, and how many there are into `count`. Whether that directory is a
+/// page isn't asked, also for the number of a page of the chain; else as `tiff_list_tags`. It returns
+/// `BytesWanted` and refuses windows as `tiff_list_pages_in` does. `entries` and `count` are then as
+/// they were.
+#[unsafe(no_mangle)]
+pub extern "C" fn tiff_list_tags_in(
+    alloc: Global,
+    seen: &Windows<'_>,
+    page: usize,
+    entries: &mut [TagEntry],
+    count: &mut usize,
+    wanted: &mut Stretch,
+) -> u32
+    ghost file: { List ℕ }
+    ensures { AreWindowsOf file seen.now → SeenTells seen.now result wanted.new
+        ((count.new ≡ count.old) × (entries.new ≡ entries.old))
+        (StatusPuts (in_windows.list_tags file page entries.old) result (count.old, entries.old)
+        (count.new, entries.new)) }
+{
+    tiff_statuses::list_tags_in(alloc, seen, page, entries, count, wanted)
+}
+
+/// Copies the bytes of the values of a tag of a file of which the caller has the windows `seen` into
+/// `buffer`, in the file's byte order, from byte `at` on, as many as fit, and puts how many into
+/// `written`. Whether the directory of the page is a page isn't asked, also for the number of a page of
+/// the chain; else as `tiff_tag_bytes`. It returns `BytesWanted` and refuses windows as
+/// `tiff_list_pages_in` does. `written` is then as it was.
+#[unsafe(no_mangle)]
+pub extern "C" fn tiff_tag_bytes_in(
+    alloc: Global,
+    seen: &Windows<'_>,
+    page: usize,
+    tag: u16,
+    at: u64,
+    buffer: &mut [u8],
+    written: &mut usize,
+    wanted: &mut Stretch,
+) -> u32
+    ghost file: { List ℕ }
+    ensures { AreWindowsOf file seen.now → SeenTells seen.now result wanted.new
+        (written.new ≡ written.old)
+        (StatusTells (in_windows.tag_bytes file page tag at buffer.old) result (written.new, buffer.new)
+        × ((result ≡ 0) ⊎ (written.new ≡ written.old))) }
+{
+    tiff_statuses::tag_bytes_in(alloc, seen, page, tag, at, buffer, written, wanted)
 }
 
 /// Writes a file of one image into `buffer`, and puts how many bytes the file has into `len`.

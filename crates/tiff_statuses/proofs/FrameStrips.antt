@@ -134,9 +134,9 @@ module _ (file : FileState) (d : OpenDirectory) (color : ColorTypeRecord) (size 
   abbrev row : ℕ
   row = row_samples p
 
-  module _ (pos : 0 < width) (rows : 0 < high) (samples : List ℕ) (whole : length samples ≡ image_samples i) where
+  module _ (pos : 0 < i.width) (rows : 0 < high) (samples : List ℕ) (whole : length samples ≡ image_samples i) where
     one_across : across p ≡ 1
-    one_across = one_part width width pos (omega arith)
+    one_across = one_part i.width i.width pos (omega arith)
 
     of_plane : chunks_of_plane p ≡ parts height high
     of_plane = let e : 1 * parts height high ≡ parts height high = omega arith in ap (λ n. n * parts height high) one_across ∙ e
@@ -145,7 +145,7 @@ module _ (file : FileState) (d : OpenDirectory) (color : ColorTypeRecord) (size 
     left = let a = of_plane in omega (arith, a)
 
     all_rows : length samples ≡ height * row
-    all_rows = let e : width * height * all_samples i ≡ height * row = omega arith in whole ∙ e
+    all_rows = let e : i.width * height * all_samples i ≡ height * row = omega arith in whole ∙ e
 
     rows_of : (k : ℕ) → k < parts height high → chunk_rows p k ≡ min high (height - k * high)
     rows_of k l =

@@ -12,7 +12,7 @@ use Rattle.tiff_encode.specs.declared.encoder.settings.Compression.TheVariants.{
 use Rattle.tiff_base.specs.declared.tags.ByteOrder.TheVariants.{LittleEndian}
 use Rattle.tiff_base.specs.Number.{le, number}
 use Rattle.tiff_base.specs.SourceAndSink.{AreOctets}
-use Rattle.tiff_value.specs.ColorType.{ColorTypeRecord}
+use Rattle.tiff_value.specs.ColorType.{ColorTypeRecord, columns_of}
 use Rattle.tiff_value.specs.ColorTypes.{color_type, inner_size}
 use Rattle.tiff_page.specs.Pixels.{tabulate, width_of, row_number, numbers_in}
 use Rattle.tiff_encode.specs.Model.{header_model}
@@ -56,8 +56,8 @@ same_behind m c n z h l = sym (drop-append_seam m c) ∙ (λ j. drop (l j) (h j)
 
 module _ (s : Settings) (width height failures : ℕ) (samples : List ℕ) (last : FileState)
     (z : WritesZeros (color_type s.color) (inner_size s.color) width height (file_by s failures) last)
-    (wide : width < 2 ^ 32) (tall : height < 2 ^ 32) (few : width * height * length (color_type s.color).bits < 2 ^ 64)
-    (kept : IsKept s (width * height * length (color_type s.color).bits) (length samples)) where
+    (wide : width < 2 ^ 32) (tall : height < 2 ^ 32) (few : columns_of (color_type s.color) width * height * length (color_type s.color).bits < 2 ^ 64)
+    (kept : IsKept s (columns_of (color_type s.color) width * height * length (color_type s.color).bits) (length samples)) where
   abbrev old : FileState
   old = file_by s failures
 
@@ -76,17 +76,17 @@ module _ (s : Settings) (width height failures : ℕ) (samples : List ℕ) (last
   open_image : IsOpen i
   open_image = (begins_open old (header_model s.kind) s.color width height i wide tall z.begun.answer).open_so
 
-  many : length zeros ≡ width * height * length (color_type s.color).bits
+  many : length zeros ≡ columns_of (color_type s.color) width * height * length (color_type s.color).bits
   many =
       let n = new_is (color_type s.color) (inner_size s.color) width height old i z.begun.answer in
       let all : image_samples (image_in old n.0 (color_type s.color) (inner_size s.color) width height) ≡ image_samples i = ap (λ j. image_samples j) n.1.0 in
-      let e : image_samples (image_in old n.0 (color_type s.color) (inner_size s.color) width height) ≡ width * height * length (color_type s.color).bits = omega arith in
+      let e : image_samples (image_in old n.0 (color_type s.color) (inner_size s.color) width height) ≡ columns_of (color_type s.color) width * height * length (color_type s.color).bits = omega arith in
       length-replicate (image_samples i) 0 ∙ sym all ∙ e
 
   same : length samples ≡ length zeros
   same = kept.whole ∙ sym many
 
-  zeros_kept : IsKept s (width * height * length (color_type s.color).bits) (length zeros)
+  zeros_kept : IsKept s (columns_of (color_type s.color) width * height * length (color_type s.color).bits) (length zeros)
   zeros_kept = record { packs = kept.packs; differs = kept.differs; whole = many }
 
   fresh : z.mid.fault ≡ None
@@ -202,17 +202,17 @@ numbers_many size all pos bytes h =
 -- The frame around the bytes of an image is the file that shows them.
 pub around_written : (s : Settings) (width height failures : ℕ) (bytes : List ℕ) (old last : FileState) (color : ColorTypeRecord) (size : ℕ)
     → old ≡ file_by s failures → color ≡ color_type s.color → size ≡ inner_size s.color → WritesZeros color size width height old last
-    → width < 2 ^ 32 → height < 2 ^ 32 → AreKept s (width * height * length color.bits) size (length bytes) → ((k : ℕ) → Fits w8 (get_or bytes k 0))
+    → width < 2 ^ 32 → height < 2 ^ 32 → AreKept s (columns_of color width * height * length color.bits) size (length bytes) → ((k : ℕ) → Fits w8 (get_or bytes k 0))
     → (frame : Frame) (told : List ℕ) → told ≡ last.bytes → length told < 2 ^ 63 → IsFrameOf told (front_len s.kind) bytes frame
     → WritesBytes s width height (samples_from_bytes s.color bytes) (Ok (framed frame))
 around_written s width height failures bytes old last color size is colored sized z wide tall kept fit frame told is_told short f =
     let n : ℕ = inner_size s.color in
-    let all : ℕ = width * height * length (color_type s.color).bits in
+    let all : ℕ = columns_of (color_type s.color) width * height * length (color_type s.color).bits in
     let zeros : WritesZeros (color_type s.color) n width height (file_by s failures) last =
     subst (λ c. WritesZeros c n width height (file_by s failures) last) colored
     (subst (λ k. WritesZeros color k width height (file_by s failures) last) sized (subst (λ (x : FileState). WritesZeros color size width height x last) is z)) in
     let are : AreKept s all n (length bytes) =
-    subst (λ c. AreKept s (width * height * length c.bits) n (length bytes)) colored (subst (λ k. AreKept s (width * height * length color.bits) k (length bytes)) sized kept) in
+    subst (λ c. AreKept s (columns_of c width * height * length c.bits) n (length bytes)) colored (subst (λ k. AreKept s (columns_of color width * height * length color.bits) k (length bytes)) sized kept) in
     let is_size : IsSize n = (of_family s.color).is_size in
     let octets : AreOctets bytes = λ k. (let h = fit k in omega (arith, h)) in
     let samples : List ℕ = numbers_in n bytes in

@@ -10,7 +10,7 @@ use Rattle.tiff_base.specs.declared.io.IoKind.TheVariants.{InvalidData, InvalidI
 use Rattle.tiff_base.specs.declared.io.SinkFault.{SinkFault}
 use Rattle.tiff_encode.specs.declared.encoder.settings.Compression.TheVariants.{Uncompressed}
 use Rattle.tiff_value.specs.declared.encoder.colortype.ColorTypeName.{ColorTypeName}
-use Rattle.tiff_value.specs.ColorType.{ColorTypeRecord}
+use Rattle.tiff_value.specs.ColorType.{ColorTypeRecord, columns_of}
 use Rattle.tiff_value.specs.ColorTypes.{Family, color_type, count_of, inner_size}
 use Rattle.tiff_value.specs.ColorTypes.{Gray, RGB, RGBA, CMYK, CMYKA, YCbCr}
 use Rattle.tiff_page.specs.Counts.{parts, all_chunks}
@@ -230,7 +230,7 @@ some_family YCbCr = lit< tt
 
 -- It has no strip yet.
 pub begun_new : (name : ColorTypeName) (color : ColorTypeRecord) (size width height : ℕ) (file : FileState) (i : OpenImage) → color ≡ color_type name → size ≡ inner_size name
-    → width < 2 ^ 32 → height < 2 ^ 32 → file.compression ≡ Uncompressed → width * height * length color.bits < 2 ^ 64
+    → width < 2 ^ 32 → height < 2 ^ 32 → file.compression ≡ Uncompressed → columns_of color width * height * length color.bits < 2 ^ 64
     → (new_image color size width height file).answer ≡ Ok i → IsNewImage i
 begun_new name color size width height file i colored sized w h plain few begun =
     let named : (new_image (color_type name) (inner_size name) width height file).answer ≡ Ok i =

@@ -9,6 +9,7 @@ use Rattle.tiff_base.specs.declared.tags.FileKind.TheVariants.{Classic, Big}
 use Rattle.tiff_base.specs.declared.tags.Predictor.TheVariants as predictor
 use Rattle.tiff_base.specs.Number.{le}
 use Rattle.tiff_base.specs.SourceAndSink.{put}
+use Rattle.tiff_value.specs.ColorType.{columns_of}
 use Rattle.tiff_value.specs.ColorTypes.{color_type, inner_size}
 use Rattle.tiff_encode.specs.declared.encoder.settings.Compression.TheVariants.{Uncompressed}
 use Rattle.tiff_encode.specs.FileBytes.{offset_len, directory_bytes, header_mark}
@@ -134,7 +135,7 @@ pub record IsKept (s : Settings) (all count : ℕ) : Type 0 where
   pub whole : count ≡ all
 
 module _ (s : Settings) (width height failures : ℕ) (zeros samples : List ℕ) (same : length samples ≡ length zeros)
-    (kept : IsKept s (width * height * length (color_type s.color).bits) (length zeros))
+    (kept : IsKept s (columns_of (color_type s.color) width * height * length (color_type s.color).bits) (length zeros))
     (i : OpenImage) (mid last : FileState)
     (begun : EndsAsDefined (new_image (color_type s.color) (inner_size s.color) width height (file_by s failures)) (Ok i) mid)
     (o : IsOpen i) (w : IsWritten i zeros mid last) where
@@ -193,7 +194,7 @@ module _ (s : Settings) (width height failures : ℕ) (zeros samples : List ℕ)
       → (data_mid i xs stored mid).bytes ≡ mid.bytes ++ (raw xs ++ [])
   strips_in xs stored end as_many are all h =
       let samples_are : length xs ≡ image_samples here = let k = kept.whole in omega (arith, k, as_many) in
-      let wide : 0 < width = subst (λ j. 0 < j.width) (sym is) o.wide.0 in
+      let wide : 0 < here.width = subst (λ j. 0 < j.width) (sym is) o.wide.0 in
       let high : 0 < here.form.chunk_height = subst (λ j. 0 < j.form.chunk_height) (sym is) o.form.high.0 in
       let parts : joined (parts_left i xs) ≡ xs =
       subst (λ j. joined (parts_left j xs) ≡ xs) is (parts_are old d (color_type s.color) (inner_size s.color) width height wide high xs samples_are) in

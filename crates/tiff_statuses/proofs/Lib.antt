@@ -19,3 +19,5 @@ mod FrameWritten
 mod PagesMade
 pub mod ToldBehind
 mod Plans
+mod Rewritten
+mod SeenFiles

@@ -30,6 +30,8 @@ use Rattle.tiff_ifd.specs.Limits.{unlimited}
 use Rattle.tiff_ifd.specs.Fitted.{fitted_numbers}
 use Rattle.tiff_ifd.specs.Into.{into_u16, into_u64_vec}
 use Rattle.tiff_ifd.specs.TagLookup.{TagLookup, find, find_or, look_in, ok_or_fault}
+use Rattle.tiff_page.specs.declared.layout.BufferLayoutPreference.{BufferLayoutPreference}
+use Rattle.tiff_page.specs.Buffers.{image_chunk_buffer_layout}
 use Rattle.tiff_page.specs.Checks.{format_from, format_in, method_in, one_format, page_of}
 use Rattle.tiff_page.specs.Page.{PageRecord}
 use Rattle.tiff_page.specs.PixelCalls.{read_chunk_bytes}
@@ -44,10 +46,11 @@ use Rattle.tiff_pages.specs.Plan as pages
 use Rattle.tiff_pages.specs.Plan.{plan_in, plan_of, plan_with, IsPlanOf, PlansReadPages}
 use Rattle.tiff_statuses.specs.declared.plan.PlannedPage.{PlannedPage}
 use Rattle.tiff_statuses.specs.Calls as calls
-use Rattle.tiff_statuses.specs.Calls.{chunk_number, decoder_at_page, order_number, page_outcome}
+use Rattle.tiff_statuses.specs.Calls.{chunk_number, chunks_from, decoder_at_page, order_number, page_outcome, page_reading, ChunkReading}
 use Rattle.tiff_statuses.specs.Status.{status}
 use Rattle.tiff_statuses.proofs.Delivered.{none}
-use Rattle.tiff_statuses.specs.Plan.{chunk_type_named, depth_named, numbers_of, order_named, page_directory, page_offset, page_plan, plan_found, plan_from, plan_told, read_planned_chunk, version_named, version_number, IsNamed, PlansComeBack, ReadsPage}
+use Rattle.tiff_statuses.proofs.Ranges.{ranges_alike, AreAlike}
+use Rattle.tiff_statuses.specs.Plan.{chunk_type_named, depth_named, numbers_of, order_named, page_directory, page_offset, page_plan, plan_found, plan_from, plan_reading, plan_told, read_planned_chunk, read_planned_chunks, version_named, version_number, IsNamed, PlansComeBack, ReadsPage}
 
 -- ---- a plan and its numbers
 
@@ -194,6 +197,33 @@ chunk_is file page kind order directory p chunk slice h k =
     freed chunk slice (decoder_at_page file page) ∙ at_page (chunk_given chunk slice) file page
     ∙ step _ _ (kind, order, directory) h (step _ _ p k refl)
 
+-- ---- several chunks of a page
+
+-- the chunks of a page under no limits
+abbrev reading_of : List ℕ → ByteOrder → PageRecord → ChunkReading
+reading_of file order p = record {
+  len_of = λ i. image_chunk_buffer_layout p i >>= λ layout. Ok layout.len;
+  read = read_chunk_bytes file order p unlimited;
+}
+
+abbrev range_given : ℕ → ℕ → List ℕ → List ℕ → FileKind → ByteOrder → DirectoryRecord → PageRecord → Result (List ℕ) TiffError
+range_given first count slice file kind order directory p = chunks_from (reading_of file order p) first count slice
+
+range_freed : (first count : ℕ) (slice : List ℕ) (r : Result Decoding TiffError)
+    → ((r >>= λ d. Ok (record d { state = (set_limits d unlimited).next })) >>= λ d. chunks_from (page_reading d) first count slice)
+    ≡ (r >>= λ d. chunks_from (reading_of d.bytes d.order d.state.page) first count slice)
+unfolding set_limits outcome.read_chunk_bytes outcome.image_chunk_buffer_layout
+range_freed first count slice (Ok d) = refl
+range_freed first count slice (Err e) = refl
+
+-- of a page whose directory is found
+range_is : (file : List ℕ) (page : ℕ) (kind : FileKind) (order : ByteOrder) (directory : DirectoryRecord) (p : PageRecord) (first count : ℕ) (slice : List ℕ)
+    → page_directory file page ≡ Ok (kind, order, directory) → page_in kind order file default_limits directory ≡ Ok p
+    → calls.read_chunks file page first count slice ≡ chunks_from (reading_of file order p) first count slice
+range_is file page kind order directory p first count slice h k =
+    range_freed first count slice (decoder_at_page file page) ∙ at_page (range_given first count slice) file page
+    ∙ step _ _ (kind, order, directory) h (step _ _ p k refl)
+
 -- ---- the plan of a page has named methods
 
 -- the byte order of a plan that was found
@@ -265,21 +295,29 @@ page_found file kind order directory plan h =
     let same : plan_of kind order directory page.0 ≡ Some plan = ok_is _ _ page.1.1 in
     (page.0, (page.1.0, same))
 
--- by the numbers of a page's plan a chunk is read as it is read of the page
+-- by the numbers of a page's plan chunks are read as they are read of the page
 pub reads_page : (file : List ℕ) (page : ℕ) (kind : FileKind) (order : ByteOrder) (directory : DirectoryRecord) (plan : PagePlan)
     → NumbersComeBack → NamesComeBack → PlansReadPages → length file < 2 ^ 64 → plan.depth < 2 ^ 8
     → page_directory file page ≡ Ok (kind, order, directory) → plan_in kind order file default_limits directory ≡ Ok (Some plan)
     → ((p : PageRecord) → page_in kind order file default_limits directory ≡ Ok p → IsPlanOf plan file default_limits p)
     → ReadsPage file page (numbers_of plan)
-unfolding read_planned_chunk
-reads_page file page kind order directory plan numbers names law wide deep h found is chunk slice =
+unfolding read_planned_chunk read_planned_chunks
+reads_page file page kind order directory plan numbers names law wide deep h found is =
     let p = page_found file kind order directory plan found in
     let i = is p.0 p.1.0 in
     let same : plan.order ≡ order = order_is kind order directory p.0 plan p.1.1 in
-    step _ _ plan (plans_come_back names plan (named numbers _ plan file default_limits p.0 p.1.0 i deep))
-    (law.bytes plan file default_limits p.0 unlimited chunk slice wide i
-    ∙ ap (λ (o : ByteOrder). read_chunk_bytes file o p.0 unlimited chunk slice) same
-    ∙ sym (chunk_is file page kind order directory p.0 chunk slice h p.1.0))
+    let back = plans_come_back names plan (named numbers _ plan file default_limits p.0 p.1.0 i deep) in
+    let read : (chunk : ℕ) (slice : List ℕ) → pages.read_planned file plan unlimited chunk slice ≡ read_chunk_bytes file order p.0 unlimited chunk slice
+    = λ chunk slice. law.bytes plan file default_limits p.0 unlimited chunk slice wide i
+    ∙ ap (λ (o : ByteOrder). read_chunk_bytes file o p.0 unlimited chunk slice) same in
+    let alike : AreAlike (plan_reading file plan unlimited) (reading_of file order p.0) = record {
+      len_of = λ k. ap (λ (r : Result BufferLayoutPreference TiffError). r >>= λ layout. Ok layout.len) (law.layout plan file default_limits p.0 k i);
+      read = read;
+    } in
+    record {
+      chunk = λ chunk slice. step _ _ plan back (read chunk slice ∙ sym (chunk_is file page kind order directory p.0 chunk slice h p.1.0));
+      chunks = λ first count slice. step _ _ plan back (ranges_alike _ _ alike first count slice ∙ sym (range_is file page kind order directory p.0 first count slice h p.1.0));
+    }
 
 -- what the numbers that a call put read
 pub given_reads : (file : List ℕ) (page : ℕ) (answer : Result PlannedPage TiffError) (n : ℕ) (new : PlannedPage)

@@ -105,24 +105,41 @@ room_for len slice =
     if nat_le len (length slice) then Ok (take len slice)
     else Err (UsageError (InsufficientOutputBufferSize len (length slice)))
 
+-- What chunks are read by: how many bytes a chunk has, and a slice after a chunk was read into it.
+pub record ChunkReading : Type 0 where
+  pub len_of : ℕ → Result ℕ TiffError
+  pub read : ℕ → List ℕ → Result (List ℕ) TiffError
+
 -- a slice after `count` chunks, from the number `i` on, were read into it, one behind the other;
 -- what is behind them stays
-unfoldable pub chunks_in : Decoding → ℕ → ℕ → List ℕ → Result (List ℕ) TiffError
-chunks_in d zero i slice = Ok slice
-chunks_in d (suc count) i slice = do
-  len ← chunk_len d i
+unfoldable pub chunks_in : ChunkReading → ℕ → ℕ → List ℕ → Result (List ℕ) TiffError
+chunks_in by zero i slice = Ok slice
+chunks_in by (suc count) i slice = do
+  len ← by.len_of i
   room ← room_for len slice
-  chunk ← (outcome.read_chunk_bytes d i room).answer
-  rest ← chunks_in d count (i + 1) (drop len slice)
+  chunk ← by.read i room
+  rest ← chunks_in by count (i + 1) (drop len slice)
   Ok (chunk ++ rest)
+
+-- the same; an error unless the numbers of all chunks are below 2^32
+abbrev pub chunks_from : ChunkReading → ℕ → ℕ → List ℕ → Result (List ℕ) TiffError
+chunks_from by first count slice =
+    if nat_lt (first + count) (2 ^ 32) then chunks_in by count first slice
+    else Err (UsageError (InvalidChunkIndex (2 ^ 32 - 1)))
+
+-- the chunks of a decoder's page
+abbrev pub page_reading : Decoding → ChunkReading
+page_reading d = record {
+  len_of = chunk_len d;
+  read = λ i slice. (outcome.read_chunk_bytes d i slice).answer;
+}
 
 -- a slice after `count` chunks of a page were read into it; an error unless the numbers of all are
 -- below 2^32
 abbrev pub read_chunks : List ℕ → ℕ → ℕ → ℕ → List ℕ → Result (List ℕ) TiffError
 read_chunks file page first count slice = do
   d ← free_at_page file page
-  if nat_lt (first + count) (2 ^ 32) then chunks_in d count first slice
-      else Err (UsageError (InvalidChunkIndex (2 ^ 32 - 1)))
+  chunks_from (page_reading d) first count slice
 
 -- a slice after a coding unit of a page was read into it
 abbrev pub read_unit_bytes : List ℕ → ℕ → ℕ → List ℕ → Result (List ℕ) TiffError

@@ -12,3 +12,5 @@ pub mod Pages
 pub mod Directories
 pub mod Appended
 pub mod Plan
+pub mod Rewrite
+pub mod InWindows

@@ -19,14 +19,15 @@ use Rattle.tiff_base.specs.Directory.{directory_at}
 use Rattle.tiff_base.specs.Field.{DirectoryRecord}
 use Rattle.tiff_base.specs.Header.{Header, header_at}
 use Rattle.tiff_base.specs.Tags.{extra_number, format_number, format_of, interpretation_number, interpretation_of, method_number, method_of, planar_number, predictor_number, type_number, type_of}
+use Rattle.tiff_ifd.specs.declared.limits.Limits.{Limits}
 use Rattle.tiff_ifd.specs.Limits.{unlimited}
 use Rattle.tiff_ifd.specs.TagLookup.{ok_or_fault}
 use Rattle.tiff_decode.specs.DefaultLimits.{default_limits}
 use Rattle.tiff_decode.specs.Outcome.{chain_from, end_fault}
 use Rattle.tiff_pages.specs.declared.plan.PagePlan.{PagePlan}
-use Rattle.tiff_pages.specs.Plan.{plan_in, plan_of, read_planned}
+use Rattle.tiff_pages.specs.Plan.{plan_in, plan_of, planned_layout, read_planned}
 use Rattle.tiff_statuses.specs.declared.plan.PlannedPage.{PlannedPage}
-use Rattle.tiff_statuses.specs.Calls.{chunk_number, decoder_at_page, order_number, read_chunk_bytes}
+use Rattle.tiff_statuses.specs.Calls.{chunk_number, chunks_from, decoder_at_page, order_number, read_chunk_bytes, read_chunks, ChunkReading}
 use Rattle.tiff_statuses.specs.Pages.{extra_named, planar_named}
 use Rattle.tiff_statuses.specs.Writer.{kind_of, predictor_named}
 
@@ -177,6 +178,20 @@ read_planned_chunk file numbers chunk slice = do
   plan ← plan_from numbers
   read_planned file plan unlimited chunk slice
 
+-- the chunks of a plan under limits
+abbrev pub plan_reading : List ℕ → PagePlan → Limits → ChunkReading
+plan_reading file plan limits = record {
+  len_of = λ i. planned_layout plan i >>= λ layout. Ok layout.len;
+  read = read_planned file plan limits;
+}
+
+-- a slice after `count` chunks were read into it by the numbers of a plan, from the number `first`
+-- on, one behind the other
+unfoldable pub read_planned_chunks : List ℕ → PlannedPage → ℕ → ℕ → List ℕ → Result (List ℕ) TiffError
+read_planned_chunks file numbers first count slice = do
+  plan ← plan_from numbers
+  chunks_from (plan_reading file plan unlimited) first count slice
+
 -- ---- the laws
 
 -- The methods and the sample formats of a plan are named where their numbers have names, as those
@@ -190,7 +205,10 @@ pub record IsNamed (plan : PagePlan) : Type 0 where
 abbrev pub PlansComeBack : Type 0
 PlansComeBack = (plan : PagePlan) → IsNamed plan → plan_from (numbers_of plan) ≡ Ok plan
 
--- By these numbers each chunk is read as it is read of the page.
-abbrev pub ReadsPage : List ℕ → ℕ → PlannedPage → Type 0
-ReadsPage file page numbers = (chunk : ℕ) (slice : List ℕ)
-    → read_planned_chunk file numbers chunk slice ≡ read_chunk_bytes file page chunk slice
+-- By these numbers each chunk is read as it is read of the page, and so are several chunks.
+pub record ReadsPage (file : List ℕ) (page : ℕ) (numbers : PlannedPage) : Type 0 where
+  pub chunk : (chunk : ℕ) (slice : List ℕ)
+      → read_planned_chunk file numbers chunk slice ≡ read_chunk_bytes file page chunk slice
+  pub chunks : (first count : ℕ) (slice : List ℕ)
+      → read_planned_chunks file numbers first count slice
+      ≡ read_chunks file page first count slice

@@ -1,7 +1,7 @@
 //! Calls of a decoder on a page of a file that lies in a slice. No read of a slice fails, so an
 //! error comes from the file or the caller, or memory is out.
 
-ghost use Rattle.std.specs.Prelude.{◌≡◌, ◌-◌, ◌^◌, ◌<◌, length, option_map, IfOk, Ok, OnOk};
+ghost use Rattle.std.specs.Prelude.{◌≡◌, ◌^◌, ◌<◌, length, option_map, IfOk, Ok, OnOk};
 ghost use Rattle.tiff_base.specs.Answers.{Answers, AnswersWithoutMemory, AnswersWithoutSource, Gives};
 ghost use Rattle.tiff_base.specs.Color.{num_samples};
 ghost use Rattle.tiff_base.specs.declared.error.TiffError.TheVariants.{FormatError};
@@ -12,10 +12,11 @@ ghost use Rattle.tiff_decode.specs.Outcome as outcome;
 ghost use Rattle.tiff_decode.specs.Reader.{reader_of};
 ghost use Rattle.tiff_statuses.specs.Calls as calls;
 
+use crate::range::{ReadsChunks, chunks_from};
 use std::alloc::Global;
 use tiff_base::color::{ChunkType, ColorType};
 use tiff_base::directory::{Directory, Entry};
-use tiff_base::error::{TiffFormatError, TiffResult, UsageError};
+use tiff_base::error::{TiffFormatError, TiffResult};
 use tiff_base::io::{SliceSource, Source};
 use tiff_base::tags::{ByteOrder, IfdPointer, Tag};
 use tiff_decode::decoder::Decoder;
@@ -309,41 +310,17 @@ pub fn chunk_bytes(
     chunk_here(&mut open_free(alloc, file, page)?, chunk, buffer)
 }
 
-// How many bytes a chunk of a decoder's page has.
-#[tactic(auto, unfolding(tiff_decode::specs::Outcome::image_chunk_buffer_layout))]
-fn chunk_len(decoder: &mut Decoder<SliceSource<'_>>, chunk: u32) -> TiffResult<usize>
-    ensures answer { AnswersWithoutSource (λ l. l) result (calls.chunk_len decoder.old chunk) }
-    ensures stays { decoder.new ≡ decoder.old }
-{
-    Ok(decoder.image_chunk_buffer_layout(chunk)?.len)
-}
+impl ReadsChunks for Decoder<SliceSource<'_>> {
+    ghost reading = { calls.page_reading };
 
-// Reads the chunks of a decoder's page from the number `first` up to `end`, without `end`, into a
-// slice, one behind the other.
-fn range_here(
-    decoder: &mut Decoder<SliceSource<'_>>,
-    first: u32,
-    end: u32,
-    buffer: &mut [u8],
-) -> TiffResult<()>
-    ensures { AnswersWithoutSource (λ _. buffer.new) result
-        (calls.chunks_in decoder.old (end - first) first buffer.old) }
-{
-    let mut at = 0;
-    for chunk in first..end {
-        let len = chunk_len(decoder, chunk)?;
-        let provided = buffer.len() - at;
-        if provided < len {
-            return Err(UsageError::InsufficientOutputBufferSize {
-                needed: len,
-                provided,
-            }
-            .into());
-        }
-        chunk_here(decoder, chunk, &mut buffer[at..at + len])?;
-        at += len;
+    #[tactic(auto, unfolding(tiff_decode::specs::Outcome::image_chunk_buffer_layout))]
+    fn len_of(&mut self, chunk: u32) -> TiffResult<usize> {
+        Ok(self.image_chunk_buffer_layout(chunk)?.len)
     }
-    Ok(())
+
+    fn read(&mut self, chunk: u32, buffer: &mut [u8]) -> TiffResult<()> {
+        chunk_here(self, chunk, buffer)
+    }
 }
 
 /// Reads `count` chunks of a page, from the number `first` on, into `buffer`, one behind the other,
@@ -362,11 +339,7 @@ pub fn range_bytes(
     ensures { AnswersWithoutSource (λ _. buffer.new) result
         (calls.read_chunks file.now page first count buffer.old) }
 {
-    let mut decoder = open_free(alloc, file, page)?;
-    let Some(end) = first.checked_add(count) else {
-        return Err(UsageError::InvalidChunkIndex(u32::MAX).into());
-    };
-    range_here(&mut decoder, first, end, buffer)
+    chunks_from(&mut open_free(alloc, file, page)?, first, count, buffer)
 }
 
 // Reads a coding unit of a decoder's page into a slice.

@@ -1,8 +1,9 @@
 //! All directories of a file, listed for C: those of its chain, and those that tags name.
 
-ghost use Rattle.std.specs.Prelude.{◌≡◌, map};
+ghost use Rattle.std.specs.Prelude.{◌≡◌, Result, map};
+ghost use Rattle.tiff_base.specs.declared.error.TiffError.{TiffError};
 ghost use Rattle.tiff_base.specs.Answers.{AnswersWithoutSource};
-ghost use Rattle.tiff_pages.specs.Tree.{directories_in};
+ghost use Rattle.tiff_pages.specs.Tree.{Directories, directories_in};
 ghost use Rattle.tiff_statuses.specs.Directories as spec;
 ghost use Rattle.tiff_statuses.specs.List.{filled};
 
@@ -134,6 +135,28 @@ fn list_directories(alloc: Global, file: &[u8]) -> TiffResult<DirectoryList>
     listed
 }
 
+/// Puts listed directories into `out`, as many as fit, and how many there are into `count`, which is 0
+/// before. Returns the number of the error by which their chain ends, or 0; for an error of the list
+/// its number.
+pub fn tell_directories(
+    listed: TiffResult<DirectoryList>,
+    out: &mut [ListedDirectory],
+    count: &mut usize,
+) -> u32
+    requires { count.old ≡ 0 }
+    ensures { (tree : Result Directories TiffError) → AnswersWithoutSource directories_in listed tree
+        → spec.TreeTells tree result out.old out.new count.new }
+{
+    match listed {
+        Ok(listed) => {
+            fill(out, &listed.directories);
+            *count = listed.directories.len();
+            end_status(&listed.end)
+        }
+        Err(fault) => fault_number(&fault),
+    }
+}
+
 /// Puts the directories of a file into `out`, in the order of their tree, as many as fit, and how
 /// many there are into `count`. Returns the number of the error by which the chain ends, or 0. If
 /// the file isn't opened or memory is out, it returns the number of that error. `count` is then 0,
@@ -141,15 +164,6 @@ fn list_directories(alloc: Global, file: &[u8]) -> TiffResult<DirectoryList>
 pub fn list_tree(alloc: Global, file: &[u8], out: &mut [ListedDirectory], count: &mut usize) -> u32
     ensures { spec.TreeTells (spec.tree_of file.now) result out.old out.new count.new }
 {
-    match list_directories(alloc, file) {
-        Ok(listed) => {
-            fill(out, &listed.directories);
-            *count = listed.directories.len();
-            end_status(&listed.end)
-        }
-        Err(fault) => {
-            *count = 0;
-            fault_number(&fault)
-        }
-    }
+    *count = 0;
+    tell_directories(list_directories(alloc, file), out, count)
 }

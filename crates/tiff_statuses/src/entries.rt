@@ -59,31 +59,32 @@ fn values_at(kind: FileKind, order: ByteOrder, entry: &Entry) -> u64
 }
 
 // An entry, as C gets it.
-fn entry_told(header: &FileHeader, number: u16, entry: &Entry) -> TagEntry
-    ensures { result ≡ spec.entry_told header.now.kind header.now.order (number, entry.now) }
+fn entry_told(kind: FileKind, order: ByteOrder, number: u16, entry: &Entry) -> TagEntry
+    ensures { result ≡ spec.entry_told kind order (number, entry.now) }
 {
     TagEntry {
         count: entry.count(),
-        offset: values_at(header.kind, header.order, entry),
+        offset: values_at(kind, order, entry),
         number,
         kind: entry.field_type().to_u16(),
-        in_place: u32::from(is_in_place(header.kind, entry)),
+        in_place: u32::from(is_in_place(kind, entry)),
     }
 }
 
-// The entries of a directory, as C gets them.
-fn entries_told(
+/// The entries of a directory of a file of a kind and a byte order, as C gets them.
+pub(crate) fn entries_told(
     alloc: Global,
-    header: &FileHeader,
+    kind: FileKind,
+    order: ByteOrder,
     directory: &Directory,
 ) -> TiffResult<Vec<TagEntry>>
     ensures { MatchResult result
-        (λ v. v.items ≡ spec.entries_told header.now.kind header.now.order directory.now)
+        (λ v. v.items ≡ spec.entries_told kind order directory.now)
         (λ e. e ≡ TiffError.OutOfMemory) }
 {
     let mut told = Vec::new(alloc);
     for (tag, entry) in directory.iter() {
-        told.push(entry_told(header, tag.to_u16(), entry))?;
+        told.push(entry_told(kind, order, tag.to_u16(), entry))?;
     }
     Ok(told)
 }
@@ -106,7 +107,12 @@ pub fn list_tags(alloc: Global, file: &[u8], page: usize, out: &mut [TagEntry]) 
 {
     let header = header_of(file)?;
     let (mut decoder, other) = open_tags(alloc, file, page)?;
-    let told = entries_told(alloc, &header, tags_of(&mut decoder, &other).directory())?;
+    let told = entries_told(
+        alloc,
+        header.kind,
+        header.order,
+        tags_of(&mut decoder, &other).directory(),
+    )?;
     fill(out, &told);
     Ok(told.len())
 }

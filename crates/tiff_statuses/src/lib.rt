@@ -8,7 +8,7 @@
 //! a tag don't ask whether the directory at an offset is a page.
 #![tactic(auto)]
 
-ghost use Rattle.std.specs.Prelude.{◌≡◌, ◌⊎◌};
+ghost use Rattle.std.specs.Prelude.{◌≡◌, ◌⊎◌, length};
 ghost use Rattle.tiff_statuses.specs.Appended.{AppendTells};
 ghost use Rattle.tiff_statuses.specs.Calls as calls;
 ghost use Rattle.tiff_statuses.specs.Directories.{TreeTells, tree_of};
@@ -18,6 +18,7 @@ ghost use Rattle.tiff_statuses.specs.List.{ListTells, list_of};
 ghost use Rattle.tiff_statuses.specs.Pages.{PagesTell};
 ghost use Rattle.tiff_statuses.specs.Plan as plans;
 ghost use Rattle.tiff_statuses.specs.Plan.{ReadsPage};
+ghost use Rattle.tiff_statuses.specs.Rewrite as rewriting;
 ghost use Rattle.tiff_statuses.specs.Status.{StatusIs, StatusPuts, StatusTells};
 ghost use Rattle.tiff_statuses.specs.Values as values;
 ghost use Rattle.tiff_statuses.specs.Writer as writer;
@@ -31,10 +32,13 @@ pub mod calls;
 pub mod directories;
 pub mod entries;
 mod frame;
+pub mod in_windows;
 pub mod jobs;
 pub mod list;
 pub mod pages;
 pub mod plan;
+mod range;
+pub mod rewrite;
 mod status;
 pub mod values;
 pub mod writer;
@@ -43,10 +47,15 @@ use crate::appended::{Appended, run_appended, tell_appended};
 use crate::calls::{Chunks, Color, FieldSize, Layout, PageSamples, Sides};
 use crate::directories::{ListedDirectory, list_tree};
 use crate::entries::TagEntry;
+pub use crate::in_windows::{
+    list_directories_in, list_pages_in, list_tags_in, page_plan_in, read_planned_chunk_in,
+    tag_bytes_in,
+};
 use crate::jobs::{JobsEnd, run_version, tell};
 use crate::list::{ListedPage, list_into};
 use crate::pages::{NewPage, PagesEnd, run_pages, tell_pages};
 use crate::plan::PlannedPage;
+use crate::rewrite::PlacedChunk;
 use crate::status::{done, given, text_of};
 use crate::writer::{NewImage, deliver, write_new};
 
@@ -147,9 +156,10 @@ pub fn read_chunks(
 }
 
 /// Puts the plan of a page, what its tags define as numbers, into `plan`. By this plan
-/// `read_planned_chunk` reads each chunk as `read_chunk_bytes` reads it of the page. Returns 0, or
-/// the number of the first error: of the file or the page; of offsets or byte counts of chunks that
-/// aren't of type SHORT, LONG or LONG8, `InvalidTypeForTag`. An error leaves `plan` as it was.
+/// `read_planned_chunk` reads each chunk as `read_chunk_bytes` reads it of the page, and
+/// `read_planned_chunks` several as `read_chunks` does. Returns 0, or the number of the first error:
+/// of the file or the page; of offsets or byte counts of chunks that aren't of type SHORT, LONG or
+/// LONG8, `InvalidTypeForTag`. An error leaves `plan` as it was.
 #[tactic(auto, using(crate::proofs::StatusTells::puts_told, crate::proofs::Plans::given_reads))]
 pub fn page_plan(alloc: Global, file: &[u8], page: usize, plan: &mut PlannedPage) -> u32
     ensures answer { StatusPuts (plans.page_plan file.now page) result plan.old plan.new }
@@ -179,6 +189,78 @@ pub fn read_planned_chunk(
     ensures { StatusTells (plans.read_planned_chunk file.now plan.now chunk buffer.old) result buffer.new }
 {
     done(plan::planned_chunk(alloc, file, plan, chunk, buffer))
+}
+
+/// Reads `count` chunks, from the number `first` on, into `buffer`, one behind the other, by the plan
+/// of their page and under no limits: of each it reads the offset and the byte count alone, and it
+/// opens no page. Returns 0, or the number of the first error: of a number of the plan that names
+/// nothing, as `read_planned_chunk` has it; `first` plus `count` of 2^32 or more,
+/// `InvalidChunkIndex`; and then, chunk by chunk, of sizes that no page has,
+/// `InconsistentSizesEncountered`; of the page's color or its layout; of a buffer that has no room
+/// left for the chunk, `InsufficientOutputBufferSize`; of the chunk's offset and byte count; of the
+/// chunk. What an error leaves in `buffer` is not specified.
+#[tactic(auto, using(crate::proofs::StatusTells::tells_left))]
+pub fn read_planned_chunks(
+    alloc: Global,
+    file: &[u8],
+    plan: &PlannedPage,
+    first: u32,
+    count: u32,
+    buffer: &mut [u8],
+) -> u32
+    ensures { StatusTells (plans.read_planned_chunks file.now plan.now first count buffer.old) result
+        buffer.new }
+{
+    done(plan::planned_chunks(alloc, file, plan, first, count, buffer))
+}
+
+/// Puts the offset and the byte count of the chunk with the number `chunk`, from 0, into `place`, by
+/// the plan of its page: it reads these two numbers alone. Returns 0, or the number of the first
+/// error: of a number of the plan that names nothing, as `read_planned_chunk`; of sizes that no page
+/// has, `InconsistentSizesEncountered`; of the chunk's offset and byte count; no such chunk,
+/// `InconsistentSizesEncountered`. An error leaves `place` as it was.
+#[tactic(auto, using(crate::proofs::StatusTells::puts_told))]
+pub fn chunk_place(
+    alloc: Global,
+    file: &[u8],
+    plan: &PlannedPage,
+    chunk: u32,
+    place: &mut PlacedChunk,
+) -> u32
+    ensures { StatusPuts (rewriting.chunk_place file.now plan.now chunk) result place.old place.new }
+{
+    given(rewrite::chunk_place(alloc, file, plan, chunk), place)
+}
+
+/// Makes the bytes that the file has of the chunk with the number `chunk`, from 0, from new samples,
+/// by the plan of its page. `samples` are as `read_planned_chunk` gives them; `stored` has the bytes
+/// of the file from the chunk's offset on, at least as many as the rows of the chunk need. Bytes that
+/// no sample needs stay as they are. Writes nothing to the file. Returns 0, or the number of the
+/// first error: of a number of the plan that names nothing, as `read_planned_chunk`; of sizes that no
+/// page has, `InconsistentSizesEncountered`; of the chunk's offset and byte count; of the page's color
+/// or its layout; of samples that aren't as many bytes as the chunk has, `IoError(InvalidData)`; of
+/// the chunk's form, as `read_planned_chunk`; of data that are packed, `UnsupportedCompressionMethod`;
+/// of byte planes, `FloatingPointPredictor`; of rows that need 2^64 stored bytes or more,
+/// `LimitsExceeded`; of fewer stored bytes than the rows need, `InsufficientOutputBufferSize`. An
+/// error leaves `stored` as it was.
+pub fn rewrite_chunk(
+    alloc: Global,
+    file: &[u8],
+    plan: &PlannedPage,
+    chunk: u32,
+    samples: &[u8],
+    stored: &mut [u8],
+) -> u32
+    ensures answer { StatusTells
+        (rewriting.rewrite_fault file.now plan.now chunk (length samples.now) (length stored.old)) result
+        tt }
+    ensures rewritten { result ≡ 0
+        → rewriting.IsRewritten file.now plan.now chunk samples.now stored.old stored.new }
+    ensures shows { result ≡ 0
+        → rewriting.ShowsSamples file.now plan.now chunk samples.now stored.new }
+    ensures refused { (result ≡ 0 → ⊥) → stored.new ≡ stored.old }
+{
+    done(rewrite::rewrite_chunk(alloc, file, plan, chunk, samples, stored))
 }
 
 /// Reads the coding unit of a page with the number `unit`, from 0, into `buffer`, under no limits:

@@ -1,8 +1,9 @@
 //! All pages of a file, listed for C. One call opens the file once and walks along its chain once.
 
-ghost use Rattle.std.specs.Prelude.{◌≡◌, map};
+ghost use Rattle.std.specs.Prelude.{◌≡◌, Result, map};
+ghost use Rattle.tiff_base.specs.declared.error.TiffError.{TiffError};
 ghost use Rattle.tiff_base.specs.Answers.{AnswersWithoutSource};
-ghost use Rattle.tiff_pages.specs.Pages.{pages_in};
+ghost use Rattle.tiff_pages.specs.Pages.{Pages, pages_in};
 ghost use Rattle.tiff_statuses.specs.List as list;
 ghost use Rattle.tiff_statuses.specs.Status as status;
 
@@ -148,21 +149,30 @@ pub fn end_status(end: &Option<TiffError>) -> u32
     }
 }
 
+/// Puts listed pages into `out`, as many as fit, and how many there are into `count`, which is 0 before.
+/// Returns the number of the error by which their chain ends, or 0; for an error of the list its
+/// number.
+pub fn tell_pages(listed: TiffResult<PageList>, out: &mut [ListedPage], count: &mut usize) -> u32
+    requires { count.old ≡ 0 }
+    ensures { (pages : Result Pages TiffError) → AnswersWithoutSource pages_in listed pages
+        → list.ListTells pages result out.old out.new count.new }
+{
+    match listed {
+        Ok(listed) => {
+            fill(out, &listed.pages);
+            *count = listed.pages.len();
+            end_status(&listed.end)
+        }
+        Err(fault) => fault_number(&fault),
+    }
+}
+
 /// Puts the pages of a file into `out`, as many as fit, and how many there are into `count`.
 /// Returns the number of the error by which the chain ends, or 0. If the file isn't opened or
 /// memory is out, it returns the number of that error. `count` is then 0, and `out` is as it was.
 pub fn list_into(alloc: Global, file: &[u8], out: &mut [ListedPage], count: &mut usize) -> u32
     ensures { list.ListTells (list.list_of file.now) result out.old out.new count.new }
 {
-    match list_pages(alloc, file) {
-        Ok(listed) => {
-            fill(out, &listed.pages);
-            *count = listed.pages.len();
-            end_status(&listed.end)
-        }
-        Err(fault) => {
-            *count = 0;
-            fault_number(&fault)
-        }
-    }
+    *count = 0;
+    tell_pages(list_pages(alloc, file), out, count)
 }

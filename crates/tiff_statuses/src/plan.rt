@@ -1,22 +1,26 @@
-//! One chunk of a page, by the plan of the page as plain numbers: at the cost of one chunk, however
-//! many the page has.
+//! Chunks of a page, by the plan of the page as plain numbers: each at the cost of one chunk,
+//! however many the page has.
 
-ghost use Rattle.std.specs.Prelude.{◌≡◌, ◌<◌, ◌^◌, IfOk, IfSome, length};
-ghost use Rattle.tiff_base.specs.Answers.{AnswersWithoutSource};
-ghost use Rattle.tiff_base.specs.Memory.{slice_bytes};
+ghost use Rattle.std.specs.Prelude.{◌≡◌, ◌<◌, ◌^◌, ℕ, List, IfOk, IfSome, Ok, length};
+ghost use Rattle.tiff_base.specs.Answers.{Answers, AnswersWithoutSource, IsKept};
 ghost use Rattle.tiff_decode.specs.DefaultLimits.{default_limits};
-ghost use Rattle.tiff_pages.specs.Plan.{read_planned};
+ghost use Rattle.tiff_ifd.specs.Limits.{unlimited};
+ghost use Rattle.tiff_ifd.specs.TagLookup.{look_in};
+ghost use Rattle.tiff_page.specs.Checks.{page_of};
+ghost use Rattle.tiff_page.specs.Page.{PageRecord};
+ghost use Rattle.tiff_pages.specs.Plan.{IsPlanOf, plan_in};
 ghost use Rattle.tiff_statuses.specs.Calls as calls;
 ghost use Rattle.tiff_statuses.specs.Plan as spec;
 
 use crate::calls::{AT, order_number};
 use crate::pages::{extra_named, planar_named};
+use crate::range::{ReadsChunks, chunks_from};
 use crate::writer::{kind_of, predictor_named};
 use std::alloc::Global;
 use tiff_base::color::ChunkType;
-use tiff_base::directory::Entry;
+use tiff_base::directory::{Directory, Entry};
 use tiff_base::error::{TiffError, TiffFormatError, TiffResult, TiffUnsupportedError};
-use tiff_base::io::{IoKind, SliceSource};
+use tiff_base::io::{IoKind, SliceSource, Source};
 use tiff_base::laws::{names_come_back, numbers_come_back};
 use tiff_base::tags::{
     ByteOrder, CompressionMethod, FileKind, PhotometricInterpretation, SampleFormat, Type,
@@ -234,16 +238,16 @@ pub fn plans_come_back()
 // ---- the plan of a page
 
 // The offset of a page's directory, by the header of its file.
-fn page_offset(
+fn page_offset<R: Source>(
     alloc: Global,
-    source: &mut SliceSource<'_>,
+    source: &mut R,
     header: &FileHeader,
     page: usize,
 ) -> TiffResult<u64>
-    ensures stays { slice_bytes source.new ≡ slice_bytes source.old }
-    ensures answer { AnswersWithoutSource (λ n. n) result (spec.page_offset
+    ensures kept { IsKept R.told R.failures result source.old source.new }
+    ensures answer { Answers (λ n. n) result (spec.page_offset
         (record { order = header.now.order; kind = header.now.kind; first = header.now.first })
-        (slice_bytes source.old) page) }
+        (R.told source.old).bytes page) (R.failures source.old) (R.failures source.new) }
 {
     if page >= AT {
         return Ok((page - AT) as u64);
@@ -255,83 +259,176 @@ fn page_offset(
     }
 }
 
-// The reader of the tags of a page, under the default limits. Whether its directory is a page isn't
+// The directory of a page, with the kind and the byte order of its file. Whether it is a page isn't
 // asked.
+#[derive(Drop)]
+pub(crate) struct PageDirectory {
+    pub kind: FileKind,
+    pub order: ByteOrder,
+    pub directory: Directory,
+}
+
+// The directory of a page.
 #[tactic(auto, unfolding(crate::specs::Plan::page_directory))]
-fn open_page<'a>(
+pub(crate) fn page_directory<R: Source>(
     alloc: Global,
-    file: &'a [u8],
+    source: &mut R,
     page: usize,
-) -> TiffResult<ValueReader<SliceSource<'a>>>
-    ensures answer { AnswersWithoutSource (λ t. (t.kind, t.order, t.directory)) result
-        (spec.page_directory file.now page) }
-    ensures bytes { IfOk result (λ t. slice_bytes t.source ≡ file.now) }
-    ensures limits { IfOk result (λ t. t.limits ≡ default_limits) }
+) -> TiffResult<PageDirectory>
+    ensures kept { IsKept R.told R.failures result source.old source.new }
+    ensures answer { Answers (λ p. (p.kind, p.order, p.directory)) result
+        (spec.page_directory (R.told source.old).bytes page) (R.failures source.old)
+        (R.failures source.new) }
 {
-    let mut source = SliceSource::new(file);
-    let header = read_header(&mut source)?;
-    let offset = page_offset(alloc, &mut source, &header, page)?;
+    let header = read_header(source)?;
+    let offset = page_offset(alloc, source, &header, page)?;
     let (kind, order) = (header.kind, header.order);
-    let directory = read_directory(alloc, &mut source, offset, kind, order)?;
-    Ok(ValueReader {
-        source,
+    let directory = read_directory(alloc, source, offset, kind, order)?;
+    Ok(PageDirectory {
         kind,
         order,
         directory,
-        limits: Limits::default(),
     })
 }
 
-// Proves that a file has fewer than 2^64 bytes.
-fn bytes_fit(file: &[u8])
-    ensures { length file.now < 2 ^ 64 }
+// A source has fewer than 2^64 bytes.
+fn bytes_fit<R: Source>(source: &R)
+    ensures { length (R.told source.now).bytes < 2 ^ 64 }
+{}
+
+// The plan of a directory, and its source.
+fn plan_here<R: Source>(
+    alloc: Global,
+    source: R,
+    page: PageDirectory,
+) -> (TiffResult<Option<PagePlan>>, R)
+    ensures kept { IsKept R.told R.failures result.0 source result.1 }
+    ensures answer { Answers (λ plan. plan) result.0
+        (plan_in page.kind page.order (R.told source).bytes default_limits page.directory)
+        (R.failures source) (R.failures result.1) }
+    ensures plan { IfOk result.0 (λ found. IfSome found (λ plan. (p : PageRecord)
+        → page_of (look_in page.kind page.order (R.told source).bytes default_limits
+        page.directory.entries) ≡ Ok p
+        → IsPlanOf plan (R.told source).bytes default_limits p)) }
 {
-    let _len = file.len();
+    let mut tags = ValueReader {
+        source,
+        kind: page.kind,
+        order: page.order,
+        directory: page.directory,
+        limits: Limits::default(),
+    };
+    let plan = page_plan_of(alloc, &mut tags);
+    (plan, tags.source)
 }
 
-// The plan of a page.
+/// The plan of a page, under the default limits, and its source.
 #[tactic(auto, unfolding(crate::specs::Plan::plan_found))]
-fn find_plan(alloc: Global, file: &[u8], page: usize) -> TiffResult<Option<PagePlan>>
-    ensures answer { AnswersWithoutSource (λ plan. plan) result (spec.plan_found file.now page) }
-    ensures reads { IfOk result
+pub(crate) fn find_plan<R: Source>(
+    alloc: Global,
+    source: R,
+    page: usize,
+) -> (TiffResult<Option<PagePlan>>, R)
+    ensures kept { IsKept R.told R.failures result.0 source result.1 }
+    ensures answer { Answers (λ plan. plan) result.0 (spec.plan_found (R.told source).bytes page)
+        (R.failures source) (R.failures result.1) }
+    ensures reads { IfOk result.0
         (λ found. IfSome found (λ plan. plan.depth < 2 ^ 8
-        → spec.ReadsPage file.now page (spec.numbers_of plan))) }
+        → spec.ReadsPage (R.told source).bytes page (spec.numbers_of plan))) }
 {
     numbers_come_back();
     names_come_back();
     plans_read_pages();
-    bytes_fit(file);
-    let mut tags = open_page(alloc, file, page)?;
-    page_plan_of(alloc, &mut tags)
+    bytes_fit(&source);
+    let mut source = source;
+    match page_directory(alloc, &mut source, page) {
+        Ok(page) => plan_here(alloc, source, page),
+        Err(fault) => (Err(fault), source),
+    }
 }
 
-/// The numbers of the plan of a page. The first error: of the file or the page; of offsets or byte
-/// counts of chunks that aren't of type SHORT, LONG or LONG8, `InvalidTypeForTag`. By these numbers
-/// `planned_chunk` reads what `chunk_bytes` reads of the page.
+/// The numbers of a plan that was found; `InvalidTypeForTag` if there is none.
 #[tactic(auto, using(crate::proofs::Plans::is_plan, crate::proofs::Plans::no_plan, crate::proofs::Plans::no_page, crate::proofs::Plans::told_reads))]
-pub fn page_plan(alloc: Global, file: &[u8], page: usize) -> TiffResult<PlannedPage>
-    ensures answer { AnswersWithoutSource (λ n. n) result (spec.page_plan file.now page) }
-    ensures reads { IfOk result (λ n. spec.ReadsPage file.now page n) }
+pub(crate) fn found_numbers(found: TiffResult<Option<PagePlan>>) -> TiffResult<PlannedPage>
+    ensures answer { (file : List ℕ) (page : ℕ)
+        → AnswersWithoutSource (λ plan. plan) found (spec.plan_found file page)
+        → AnswersWithoutSource (λ n. n) result (spec.page_plan file page) }
+    ensures reads { (file : List ℕ) (page : ℕ)
+        → IfOk found (λ found. IfSome found (λ plan. plan.depth < 2 ^ 8
+        → spec.ReadsPage file page (spec.numbers_of plan)))
+        → IfOk result (λ n. spec.ReadsPage file page n) }
 {
-    match find_plan(alloc, file, page)? {
+    match found? {
         Some(plan) => Ok(plan_numbers(&plan)),
         None => Err(TiffFormatError::InvalidTypeForTag.into()),
     }
 }
 
-// ---- a chunk
-
-// Reads a chunk of a file in a slice by a plan.
-fn read_by_plan(
-    reader: &PlanReader<'_>,
-    file: &[u8],
-    chunk: u32,
-    buffer: &mut [u8],
-) -> TiffResult<()>
-    ensures { AnswersWithoutSource (λ _. buffer.new) result
-        (read_planned file.now reader.now.plan.now reader.now.limits.now chunk buffer.old) }
+/// The numbers of the plan of a page. The first error: of the file or the page; of offsets or byte
+/// counts of chunks that aren't of type SHORT, LONG or LONG8, `InvalidTypeForTag`. By these numbers
+/// `planned_chunk` reads what `chunk_bytes` reads of the page, and `planned_chunks` what
+/// `range_bytes` reads.
+pub fn page_plan(alloc: Global, file: &[u8], page: usize) -> TiffResult<PlannedPage>
+    ensures answer { AnswersWithoutSource (λ n. n) result (spec.page_plan file.now page) }
+    ensures reads { IfOk result (λ n. spec.ReadsPage file.now page n) }
 {
-    reader.read_chunk_bytes(&mut SliceSource::new(file), chunk, buffer)
+    let (found, _source) = find_plan(alloc, SliceSource::new(file), page);
+    found_numbers(found)
+}
+
+// ---- chunks
+
+// The chunks of a file in a slice, by a plan under limits.
+#[derive(Drop)]
+struct PlannedChunks<'a> {
+    alloc: Global,
+    file: &'a [u8],
+    plan: PagePlan,
+    limits: Limits,
+}
+
+impl PlannedChunks<'_> {
+    fn reader(&self) -> PlanReader<'_>
+        ensures plan { result.plan.now ≡ self.now.plan }
+        ensures limits { result.limits.now ≡ self.now.limits }
+    {
+        PlanReader {
+            alloc: self.alloc,
+            plan: &self.plan,
+            limits: &self.limits,
+        }
+    }
+}
+
+impl ReadsChunks for PlannedChunks<'_> {
+    ghost reading = { λ p. spec.plan_reading p.file.now p.plan p.limits };
+
+    fn len_of(&mut self, chunk: u32) -> TiffResult<usize> {
+        Ok(self.reader().chunk_buffer_layout(chunk)?.len)
+    }
+
+    fn read(&mut self, chunk: u32, buffer: &mut [u8]) -> TiffResult<()> {
+        let mut source = SliceSource::new(self.file);
+        self.reader().read_chunk_bytes(&mut source, chunk, buffer)
+    }
+}
+
+// The chunks of a file by the numbers of a plan, under no limits.
+fn planned_by<'a>(
+    alloc: Global,
+    file: &'a [u8],
+    numbers: &PlannedPage,
+) -> TiffResult<PlannedChunks<'a>>
+    ensures plan { AnswersWithoutSource (λ chunks. chunks.plan) result (spec.plan_from numbers.now) }
+    ensures file { IfOk result (λ chunks. chunks.file.now ≡ file.now) }
+    ensures limits { IfOk result (λ chunks. chunks.limits ≡ unlimited) }
+{
+    Ok(PlannedChunks {
+        alloc,
+        file,
+        plan: plan_from(numbers)?,
+        limits: Limits::unlimited(),
+    })
 }
 
 /// Reads the chunk with the number `chunk` into `buffer` by the numbers of a plan, under no limits.
@@ -350,12 +447,26 @@ pub fn planned_chunk(
     ensures { AnswersWithoutSource (λ _. buffer.new) result
         (spec.read_planned_chunk file.now plan.now chunk buffer.old) }
 {
-    let plan = plan_from(plan)?;
-    let limits = Limits::unlimited();
-    let reader = PlanReader {
-        alloc,
-        plan: &plan,
-        limits: &limits,
-    };
-    read_by_plan(&reader, file, chunk, buffer)
+    planned_by(alloc, file, plan)?.read(chunk, buffer)
+}
+
+/// Reads `count` chunks, from the number `first` on, into `buffer`, one behind the other, by the
+/// numbers of a plan and under no limits. The first error: of a number that names nothing, as
+/// `plan_from` has it; `first` plus `count` of 2^32 or more, `InvalidChunkIndex`; and then, chunk by
+/// chunk, of sizes that no page has, `InconsistentSizesEncountered`; of the page's color or its
+/// layout; of a buffer that has no room left for the chunk, `InsufficientOutputBufferSize`; of the
+/// chunk's offset and byte count; of the chunk. What an error leaves in `buffer` is not specified.
+#[tactic(auto, unfolding(crate::specs::Plan::read_planned_chunks))]
+pub fn planned_chunks(
+    alloc: Global,
+    file: &[u8],
+    plan: &PlannedPage,
+    first: u32,
+    count: u32,
+    buffer: &mut [u8],
+) -> TiffResult<()>
+    ensures { AnswersWithoutSource (λ _. buffer.new) result
+        (spec.read_planned_chunks file.now plan.now first count buffer.old) }
+{
+    chunks_from(&mut planned_by(alloc, file, plan)?, first, count, buffer)
 }

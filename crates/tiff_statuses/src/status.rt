@@ -16,6 +16,8 @@ pub enum Status {
     OutOfMemory = 3,
     /// An error that has no number yet; no call returns it.
     LaterFault = 4,
+    /// The call wants bytes of the file that no window has.
+    BytesWanted = 5,
     UnexpectedEof = 10,
     InvalidData = 11,
     InvalidInput = 12,
@@ -214,7 +216,7 @@ pub fn given<T: Copy + Drop>(answer: TiffResult<T>, out: &mut T) -> u32
 }
 
 // The text of each status.
-const TEXTS: [(Status, &str); 57] = [
+const TEXTS: [(Status, &str); 58] = [
     (Status::Done, "done"),
     (Status::LimitsExceeded, "decoder limits exceeded"),
     (
@@ -223,6 +225,7 @@ const TEXTS: [(Status, &str); 57] = [
     ),
     (Status::OutOfMemory, "out of memory"),
     (Status::LaterFault, "a fault that has no number yet"),
+    (Status::BytesWanted, "bytes of the file are wanted"),
     (Status::UnexpectedEof, "unexpected end of file"),
     (Status::InvalidData, "invalid data"),
     (Status::InvalidInput, "invalid input"),

@@ -3,7 +3,7 @@
 ghost use Rattle.std.specs.Prelude.{◌≡◌, ◌*◌, ◌^◌, ◌<◌, length, map, slice_get, MatchResult, MatchOption, IfOk, IfSome, Ok, OnOk, replicate, true};
 ghost use Rattle.tiff_encode.specs.declared.encoder.settings.Compression.TheVariants.{Uncompressed};
 ghost use Rattle.tiff_base.specs.Types.{type_size};
-ghost use Rattle.tiff_value.specs.ColorType.{sample_number};
+ghost use Rattle.tiff_value.specs.ColorType.{columns_of, sample_number};
 ghost use Rattle.tiff_value.specs.ColorTypes.{color_types};
 ghost use Rattle.tiff_decode.specs.NextState.{view_of_result};
 ghost use Rattle.tiff_statuses.specs.Writer as writer;
@@ -19,7 +19,7 @@ use tiff_base::io::{IoKind, MemorySink};
 use tiff_base::tags::{CompressionMethod, FileKind, Predictor};
 use tiff_encode::encoder::script::JobSamples;
 use tiff_encode::encoder::{
-    Compression, ImageEncoder, TiffEncoder, TiffKind, TiffKindBig, TiffKindStandard,
+    Compression, ImageEncoder, TiffEncoder, TiffKind, TiffKindBig, TiffKindStandard, columns,
 };
 use tiff_value::encoder::color_visitor::{ColorVisitor, by_name};
 use tiff_value::encoder::colortype::{ColorType, ColorTypeName, NamedColorType};
@@ -170,15 +170,15 @@ fn write_whole<K: TiffKind, C: NamedColorType>(
 // predictor, and they are as many samples as it has.
 fn are_kept<C: ColorType>(settings: &Settings, image: &NewImage, len: usize) -> bool
     ensures { result ≡ true → AreKept settings.now
-        (image.now.width * image.now.height * length C.described.bits) (type_size C.Inner.value_type)
-        len }
+        (columns_of C.described image.now.width * image.now.height * length C.described.bits)
+        (type_size C.Inner.value_type) len }
 {
     let (Compression::Uncompressed, Predictor::None) = (settings.compression, settings.predictor)
     else {
         return false;
     };
-    let pixels = u64::from(image.width) * u64::from(image.height);
-    let Some(samples) = pixels.checked_mul(C::sample_bits().len() as u64) else {
+    let columns = u64::from(columns::<C>(image.width)) * u64::from(image.height);
+    let Some(samples) = columns.checked_mul(C::sample_bits().len() as u64) else {
         return false;
     };
     let (_ty, size) = C::Inner::type_and_len();
@@ -252,7 +252,7 @@ fn write_zeros<K: TiffKind, C: NamedColorType>(
     height: u32,
 ) -> TiffResult<()>
     requires plain { encoder.old.compression ≡ Uncompressed }
-    requires few { width * height * length C.described.bits < 2 ^ 64 }
+    requires few { columns_of C.described width * height * length C.described.bits < 2 ^ 64 }
     ensures { OnOk result (WritesZeros C.described (type_size C.Inner.value_type) width height
         encoder.old encoder.new) }
 {

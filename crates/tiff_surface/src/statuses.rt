@@ -9,6 +9,7 @@ mod jobs;
 mod page;
 mod pages;
 mod tags;
+mod windows;
 mod written;
 
 use altered::{print_claim, print_refused, print_retyped};
@@ -16,11 +17,13 @@ use appended::print_all_appended;
 use file::{print_file, print_list, print_text, print_tree};
 use jobs::print_all_jobs;
 use page::{
-    print_by_plans, print_chunks, print_parts, print_pixels, print_plan, print_samples, print_sides,
+    print_by_plans, print_chunks, print_parts, print_pixels, print_plan, print_ranges_by_plans,
+    print_rewrites, print_samples, print_sides,
 };
 use pages::print_all_pages;
 use std::io;
 use tags::{BITS_PER_SAMPLE, print_entries, print_tags, print_values};
+use windows::print_windows;
 use written::{AT, DIRECTORY, print_too_long, write};
 
 fn print_page(rt: &HostRuntime, file: &[u8], page: usize) -> io::Result<()> {
@@ -46,7 +49,9 @@ fn print_pages(rt: &HostRuntime, file: &[u8]) -> io::Result<()> {
     print_chunks(rt, file, 1, u32::MAX)?;
     print_plan(rt, file, 0)?;
     print_plan(rt, file, 1)?;
-    print_by_plans(rt, file)
+    print_by_plans(rt, file)?;
+    print_ranges_by_plans(rt, file)?;
+    print_rewrites(rt, file)
 }
 
 // Prints the calls on the file, and on its first four bytes.
@@ -57,7 +62,8 @@ fn print_files(rt: &HostRuntime, file: &[u8]) -> io::Result<()> {
     print_list(rt, file)?;
     print_list(rt, cut)?;
     print_tree(rt, file)?;
-    print_tree(rt, cut)
+    print_tree(rt, cut)?;
+    print_windows(rt, file)
 }
 
 /// Prints each call with its status and with what it put.

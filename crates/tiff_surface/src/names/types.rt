@@ -63,8 +63,8 @@ pub mod compression {
 pub mod colortype {
     pub use tiff::encoder::colortype::{
         CMYK8, CMYK16, CMYK32, CMYK32Float, CMYK64, CMYK64Float, CMYKA8, ColorType, ColorTypeName,
-        Gray8, Gray16, Gray32, Gray32Float, Gray64, Gray64Float, GrayI8, GrayI16, GrayI32, GrayI64,
-        NamedColorType, RGB8, RGB16, RGB32, RGB32Float, RGB64, RGB64Float, RGBA8, RGBA16, RGBA32,
-        RGBA32Float, RGBA64, RGBA64Float, YCbCr8,
+        Gray1, Gray2, Gray4, Gray8, Gray16, Gray32, Gray32Float, Gray64, Gray64Float, GrayI8,
+        GrayI16, GrayI32, GrayI64, NamedColorType, RGB8, RGB16, RGB32, RGB32Float, RGB64,
+        RGB64Float, RGBA8, RGBA16, RGBA32, RGBA32Float, RGBA64, RGBA64Float, YCbCr8,
     };
 }

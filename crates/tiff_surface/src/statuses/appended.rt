@@ -106,7 +106,7 @@ fn print_refused_pages(rt: &HostRuntime) -> io::Result<()> {
     let mut buffer = [0u8; 300];
     let mut short = [0u8; 10];
     let _end = print_append(rt, file, &[GRAY], &mut short)?;
-    let wrong = [GRAY, NewPage { color: 30, ..GRAY }];
+    let wrong = [GRAY, NewPage { color: 33, ..GRAY }];
     let _end = print_append(rt, file, &wrong, &mut buffer)?;
     let flat = [GRAY, NewPage { height: 0, ..GRAY }];
     let _end = print_append(rt, file, &flat, &mut buffer)?;

@@ -15,7 +15,7 @@ pub fn print_file(rt: &HostRuntime, file: &[u8]) -> io::Result<()> {
     println!(rt; "page_count: {status}, {pages}")
 }
 
-const NO_PAGE: ListedPage = ListedPage {
+pub const NO_PAGE: ListedPage = ListedPage {
     offset: 0,
     status: 0,
     width: 0,
@@ -32,7 +32,7 @@ const NO_PAGE: ListedPage = ListedPage {
     count: 0,
 };
 
-const NO_DIRECTORY: ListedDirectory = ListedDirectory {
+pub const NO_DIRECTORY: ListedDirectory = ListedDirectory {
     offset: 0,
     parent: 0,
     fields: 0,

@@ -3,8 +3,9 @@
 use std::io;
 use tiff_statuses::calls::{Chunks, Color, Layout, PageSamples, Sides};
 use tiff_statuses::plan::PlannedPage;
+use tiff_statuses::rewrite::PlacedChunk;
 
-const NO_PLAN: PlannedPage = PlannedPage {
+pub const NO_PLAN: PlannedPage = PlannedPage {
     offsets_count: 0,
     byte_counts_count: 0,
     offsets_value: [0; 8],
@@ -32,7 +33,7 @@ const NO_PLAN: PlannedPage = PlannedPage {
 };
 
 // The plan of the page.
-const PLAN: PlannedPage = PlannedPage {
+pub const PLAN: PlannedPage = PlannedPage {
     offsets_count: 1,
     byte_counts_count: 1,
     offsets_value: [24, 0, 0, 0, 0, 0, 0, 0],
@@ -186,6 +187,83 @@ fn print_planned(rt: &HostRuntime, file: &[u8], plan: &PlannedPage, n: u32) -> i
     let mut chunk = [0u8; 13];
     let status = tiff_statuses::read_planned_chunk(rt.alloc(), file, plan, n, &mut chunk);
     println!(rt; "read_planned_chunk {n}: {status}, {chunk:?}")
+}
+
+// Prints some chunks that are read by a plan.
+fn print_range(
+    rt: &HostRuntime,
+    file: &[u8],
+    plan: &PlannedPage,
+    first: u32,
+    count: u32,
+) -> io::Result<()> {
+    let mut chunks = [0u8; 14];
+    let status = tiff_statuses::read_planned_chunks(
+        rt.alloc(),
+        file,
+        plan,
+        first,
+        count,
+        &mut chunks,
+    );
+    println!(rt; "read_planned_chunks {first} {count}: {status}, {chunks:?}")
+}
+
+/// Prints some chunks of page 0 by its plan, and the answers to plans that are refused: a number
+/// that names nothing, before chunks that have no numbers, and a page without pixels.
+pub fn print_ranges_by_plans(rt: &HostRuntime, file: &[u8]) -> io::Result<()> {
+    print_range(rt, file, &PLAN, 0, 1)?;
+    print_range(rt, file, &PLAN, 0, 2)?;
+    print_range(rt, file, &PLAN, 1, u32::MAX)?;
+    print_range(rt, file, &NO_PLAN, 1, u32::MAX)?;
+    print_range(rt, file, &PlannedPage { width: 0, ..PLAN }, 0, 1)
+}
+
+// Prints where a chunk is, by a plan.
+fn print_place(rt: &HostRuntime, file: &[u8], plan: &PlannedPage, n: u32) -> io::Result<()> {
+    let mut place = PlacedChunk {
+        offset: 0,
+        byte_count: 0,
+    };
+    let status = tiff_statuses::chunk_place(rt.alloc(), file, plan, n, &mut place);
+    println!(rt; "chunk_place {n}: {status}, {place:?}")
+}
+
+// Prints the bytes of chunk 0 that are made from samples, by a plan.
+fn print_rewritten(
+    rt: &HostRuntime,
+    file: &[u8],
+    plan: &PlannedPage,
+    samples: &[u8],
+    stored: &mut [u8],
+) -> io::Result<()> {
+    let status = tiff_statuses::rewrite_chunk(rt.alloc(), file, plan, 0, samples, stored);
+    println!(rt; "rewrite_chunk {samples:?}: {status}, {stored:?}")
+}
+
+/// Prints where the chunk of page 0 is, and a chunk that isn't there; the bytes of the chunk with
+/// other samples, too few samples and too few bytes; and those of three big-endian numbers, stored as
+/// differences with white as zero.
+pub fn print_rewrites(rt: &HostRuntime, file: &[u8]) -> io::Result<()> {
+    print_place(rt, file, &PLAN, 0)?;
+    print_place(rt, file, &PLAN, 1)?;
+    let samples = [21, 22, 23, 24, 25, 26, 27, 28, 29, 30, 31, 32];
+    print_rewritten(rt, file, &PLAN, &samples, &mut [7u8; 13])?;
+    print_rewritten(rt, file, &PLAN, &samples[..11], &mut [7u8; 13])?;
+    print_rewritten(rt, file, &PLAN, &samples, &mut [7u8; 11])?;
+    let white = PlannedPage {
+        width: 3,
+        height: 1,
+        chunk_width: 3,
+        chunk_height: 1,
+        order: 1,
+        photometric: 0,
+        samples: 1,
+        bits: 16,
+        predictor: 2,
+        ..PLAN
+    };
+    print_rewritten(rt, file, &white, &[1, 0, 3, 0, 0, 1], &mut [7u8; 7])
 }
 
 /// Prints the chunk of page 0 by its plan, a chunk that isn't there, and the answers to plans that

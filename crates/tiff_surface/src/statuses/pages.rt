@@ -83,7 +83,7 @@ const SHORT: NewTag<'static> = NewTag { count: 2, ..ONE };
 
 // Pages that are refused before one is written: a field each.
 const REFUSED: [NewPage<'static>; 9] = [
-    NewPage { color: 30, ..GRAY },
+    NewPage { color: 33, ..GRAY },
     NewPage { method: 5, ..GRAY },
     NewPage {
         predictor: 4,

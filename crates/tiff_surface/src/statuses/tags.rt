@@ -24,16 +24,18 @@ pub fn print_tags(rt: &HostRuntime, file: &[u8], page: usize) -> io::Result<()> 
     println!(rt; "tag_bytes {page}: {status}, {count}, {bytes:?}")
 }
 
+/// An entry that no call put.
+pub const NO_ENTRY: TagEntry = TagEntry {
+    count: 9,
+    offset: 9,
+    number: 9,
+    kind: 9,
+    in_place: 9,
+};
+
 /// Prints the first entries of a directory.
 pub fn print_entries(rt: &HostRuntime, file: &[u8], page: usize) -> io::Result<()> {
-    let none = TagEntry {
-        count: 9,
-        offset: 9,
-        number: 9,
-        kind: 9,
-        in_place: 9,
-    };
-    let mut entries = [none; 3];
+    let mut entries = [NO_ENTRY; 3];
     let mut count = 9;
     let (out, told) = (&mut entries, &mut count);
     let status = tiff_statuses::list_tags(rt.alloc(), file, page, out, told);

@@ -4,5 +4,5 @@ use Rattle.tiff_statuses.proofs.entries.entries_told.Given as goal
 
 abbrev pub invariant-loop-tag : goal.invariant-loop-tag
 invariant-loop-tag l =
-    l.told.items ++ map (entry_told l.fn.header.kind l.fn.header.order) l.tag-iterator
-    ≡ entries_told l.fn.header.kind l.fn.header.order l.fn.directory
+    l.told.items ++ map (entry_told l.fn.kind l.fn.order) l.tag-iterator
+    ≡ entries_told l.fn.kind l.fn.order l.fn.directory

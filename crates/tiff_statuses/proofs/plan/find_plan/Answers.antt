@@ -1,9 +1,12 @@
+use Rattle.std.proofs.Common.{ap, refl}
+use Rattle.tiff_base.specs.SourceAndSink.{SourceRecord}
 use Rattle.tiff_statuses.proofs.Plans.{found_reads}
 use Rattle.tiff_statuses.proofs.plan.find_plan.Goals as goal
 
-pub returns-clause-reads : goal.returns-clause-reads
-returns-clause-reads c =
-    let tags = c.in_ok-tags.tags in
-    found_reads c.args.file.now _ c.args.page tags.kind tags.order tags.directory tags.limits c.page_plan.result _ _
-    c.numbers_come_back.ensures c.names_come_back.ensures c.plans_read_pages.ensures c.bytes_fit.ensures c.in_ok-tags.ensures.bytes c.in_ok-tags.ensures.limits
-    c.in_ok-tags.ensures.answer c.page_plan.ensures.answer c.page_plan.ensures.plan
+pub returns-in-Ok-clause-reads : goal.returns-in-Ok-clause-reads
+returns-in-Ok-clause-reads g c =
+    let page = c.in-Ok.page in
+    let told = g.R.Source.told in
+    found_reads (told c.args.source).bytes (told c.page_directory.new.source).bytes c.args.page page.kind page.order page.directory _ c.plan_here.result.0 _ _
+    c.numbers_come_back.ensures c.names_come_back.ensures c.plans_read_pages.ensures c.bytes_fit.ensures (ap (λ (s : SourceRecord). s.bytes) c.in-Ok.ensures.kept.told) refl
+    c.in-Ok.ensures.answer c.plan_here.ensures.answer c.plan_here.ensures.plan

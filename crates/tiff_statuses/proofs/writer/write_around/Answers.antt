@@ -1,5 +1,6 @@
 use Rattle.std.proofs.Common.{rules, ◌*◌, ◌^◌, ◌<◌, ◌++◌, length, sym, ap, ◌∙◌, subst, arith, length-append}
 use Rattle.tiff_base.specs.Types.{type_size}
+use Rattle.tiff_value.specs.ColorType.{columns_of}
 use Rattle.tiff_value.specs.ColorTypes.{color_type, inner_type}
 use Rattle.tiff_statuses.specs.Frame.{IsFrameOf, frame_told}
 use Rattle.tiff_statuses.specs.Writer.{AreKept}
@@ -14,7 +15,7 @@ returns g c =
     let sink = c.into_inner-sink.result in
     let wide : image.width < 2 ^ 32 = search rules in
     let tall : image.height < 2 ^ 32 = search rules in
-    let kept : AreKept s (image.width * image.height * length g.C.ColorType.described.bits) (type_size g.C.Inner.TiffValue.value_type) (length bytes) = search rules in
+    let kept : AreKept s (columns_of g.C.ColorType.described image.width * image.height * length g.C.ColorType.described.bits) (type_size g.C.Inner.TiffValue.value_type) (length bytes) = search rules in
     let counted = sink.counted in
     let within = sink.short in
     let short : length (frame_told sink) < 2 ^ 63 =

@@ -1,14 +1,15 @@
 use Rattle.std.proofs.Common.{◌≡◌, ◌-◌, ◌≤◌, length, take, drop}
 use Rattle.tiff_statuses.specs.Calls.{chunks_in}
 use Rattle.tiff_statuses.proofs.Ranges.{behind}
-use Rattle.tiff_statuses.proofs.calls.range_here.Given as goal
+use Rattle.tiff_statuses.proofs.range.chunks_between.Given as goal
 
 -- The chunks that were read are in front, and those that are left are read behind them.
 abbrev pub invariant-loop-chunk : goal.invariant-loop-chunk
-invariant-loop-chunk l =
+invariant-loop-chunk g l =
+    let by = g.R.ReadsChunks.reading l.fn.chunks in
     record {
-      stays : l.decoder ≡ l.fn.decoder;
+      stays : g.R.ReadsChunks.reading l.chunks ≡ by;
       room : l.at ≤ length l.buffer;
-      left : chunks_in l.fn.decoder (l.fn.end - l.fn.first) l.fn.first l.fn.buffer
-          ≡ behind (take l.at l.buffer) (chunks_in l.fn.decoder (l.fn.end - l.chunk) l.chunk (drop l.at l.buffer));
+      left : chunks_in by (l.fn.end - l.fn.first) l.fn.first l.fn.buffer
+          ≡ behind (take l.at l.buffer) (chunks_in by (l.fn.end - l.chunk) l.chunk (drop l.at l.buffer));
     }
