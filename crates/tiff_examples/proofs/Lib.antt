@@ -7,4 +7,5 @@ pub mod OfPage
 pub mod OfDecode
 pub mod OfEncode
 pub mod OfValue
+pub mod OfStatuses
 pub mod OnePixel

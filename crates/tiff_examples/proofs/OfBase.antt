@@ -3,3 +3,4 @@ pub mod Runs
 pub mod Directory
 pub mod SourceAndSink
 pub mod Answers
+pub mod Windows

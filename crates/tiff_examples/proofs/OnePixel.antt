@@ -5,7 +5,6 @@ use Rattle.std.specs.FinMap.{from_entries}
 use Rattle.std.proofs.Common.{◌≡◌, ℕ, ◌<◌, ◌^◌, zero, suc, true, false, List, [], ◌∷◌, ◌++◌, length, Some, Ok, ap, sym, ◌∙◌, subst, inl, inr, arith, lit<, lit≤}
 use Rattle.tiff_base.specs.declared.color.ColorType.TheVariants.{Gray}
 use Rattle.tiff_base.specs.declared.tags.FileKind.TheVariants.{Classic}
-use Rattle.tiff_base.specs.declared.tags.ByteOrder.TheVariants.{LittleEndian}
 use Rattle.tiff_base.specs.Color.{num_samples}
 use Rattle.tiff_base.specs.Field.{Field}
 use Rattle.tiff_base.specs.Number.{number, le}
@@ -16,12 +15,11 @@ use Rattle.tiff_value.specs.Data.{data_of}
 use Rattle.tiff_value.specs.Differences.{differences}
 use Rattle.tiff_page.specs.Layout.{color_of}
 use Rattle.tiff_page.specs.Page.{PageRecord}
-use Rattle.tiff_page.specs.Pixels.{shown_sample}
 use Rattle.tiff_page.specs.Rect.{rect}
 use Rattle.tiff_encode.specs.Model.{In, SuppliedField, Model, Stands, Grows, header_model}
 use Rattle.tiff_encode.specs.Laws.{AreListable, OpsFit, IsListable}
 use Rattle.tiff_encode.specs.WriteOps.{WriteOp, Appended, Supplied, Listed, Linked, bytes_after, model_after}
-use Rattle.tiff_encode.specs.Shows.{Image, Shows}
+use Rattle.tiff_encode.specs.Shows.{Image, shown_columns, shown_at, Shows}
 use Rattle.tiff_encode.specs.Machine.{FileState}
 use Rattle.tiff_encode.specs.Chunks.{is_left, next_chunk_sample_count, sample_in}
 use Rattle.tiff_encode.specs.Causes.{begin_cause, new_image_cause, image_cause, write_strip_cause, write_tag_cause}
@@ -287,6 +285,10 @@ module _ (file : List ℕ) (t : Shows Classic file 25 pixel_image) where
   unfolding color_of
   color_is = ok_inj (Gray 8) t.color (ap color_of page_is ∙ t.is_color)
 
+  -- the page has one column
+  one_column : 1 ≡ shown_columns t.page t.color
+  one_column = λ k. shown_columns (page_is k) (color_is k)
+
   -- each image of the page of `pixel_image` is shown if its first sample is 7
   pub shown_alike : (i : Image) → bare pixel_image.page ≡ bare i.page → i.sample_at 0 0 0 ≡ 7 → Shows Classic file 25 i
   shown_alike i p q = record {
@@ -299,11 +301,11 @@ module _ (file : List ℕ) (t : Shows Classic file 25 pixel_image) where
     is_color = t.is_color;
     whole = t.whole;
     shows = λ x y sample a b c.
-        let column : 0 ≡ x = (let d : x < 1 = subst (λ n. x < n) (sym (ap (λ page. page.width) page_is)) a in omega arith) in
+        let column : 0 ≡ x = (let d : x < 1 = subst (λ n. x < n) (sym one_column) a in omega arith) in
         let row : 0 ≡ y = (let d : y < 1 = subst (λ n. y < n) (sym (ap (λ page. page.height) page_is)) b in omega arith) in
         let one : 0 ≡ sample = (let d : sample < 1 = subst (λ k. sample < num_samples k) (sym color_is) c in omega arith) in
-        let Q : ℕ → ℕ → ℕ → Type 0 = λ x y sample. shown_sample file LittleEndian t.page x y sample ≡ i.sample_at x y sample in
-        let first = t.shows 0 0 0 (subst (λ n. n < t.page.width) (sym column) a) (subst (λ n. n < t.page.height) (sym row) b)
+        let Q : ℕ → ℕ → ℕ → Type 0 = λ x y sample. shown_at file t.page t.color x y sample ≡ i.sample_at x y sample in
+        let first = t.shows 0 0 0 (subst (λ n. n < shown_columns t.page t.color) (sym column) a) (subst (λ n. n < t.page.height) (sym row) b)
         (subst (λ n. n < num_samples t.color) (sym one) c) in
         subst (λ x. Q x y sample) column (subst (λ y. Q 0 y sample) row (subst (λ n. Q 0 0 n) one (first ∙ is_seven ∙ sym q)));
   }
@@ -316,12 +318,12 @@ module _ (file : List ℕ) (t : Shows Classic file 25 pixel_image) where
   pub sample_alike : (i : Image) → Shows Classic file 25 i → i.sample_at 0 0 0 ≡ 7
   sample_alike i u =
       let same : t.page ≡ u.page = ok_inj t.page u.page (sym t.is_page ∙ u.is_page) in
-      let wide : 0 < t.page.width = subst (λ n. 0 < n) (ap (λ page. page.width) page_is) (lit< tt) in
+      let wide : 0 < shown_columns t.page t.color = subst (λ n. 0 < n) one_column (lit< tt) in
       let high : 0 < t.page.height = subst (λ n. 0 < n) (ap (λ page. page.height) page_is) (lit< tt) in
       let some : 0 < num_samples t.color = subst (λ k. 0 < num_samples k) color_is (lit< tt) in
       let hue : t.color ≡ u.color = ok_inj t.color u.color (sym t.is_color ∙ ap color_of same ∙ u.is_color) in
-      sym (u.shows 0 0 0 (subst (λ page. 0 < page.width) same wide) (subst (λ page. 0 < page.height) same high) (subst (λ k. 0 < num_samples k) hue some))
-      ∙ ap (λ page. shown_sample file LittleEndian page 0 0 0) (sym same) ∙ t.shows 0 0 0 wide high some ∙ is_seven
+      sym (u.shows 0 0 0 (subst (λ k. 0 < shown_columns u.page k) hue (subst (λ page. 0 < shown_columns page t.color) same wide)) (subst (λ page. 0 < page.height) same high) (subst (λ k. 0 < num_samples k) hue some))
+      ∙ (λ k. shown_at file (sym same k) (sym hue k) 0 0 0) ∙ t.shows 0 0 0 wide high some ∙ is_seven
 
 -- `gray_file` shows the image
 pub gray_shown : Shows Classic gray_file 25 pixel_image

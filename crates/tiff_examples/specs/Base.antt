@@ -7,3 +7,4 @@ pub mod Directory
 pub mod FieldBytes
 pub mod SourceAndSink
 pub mod Answers
+pub mod Windows

@@ -10,6 +10,7 @@ pub mod Encoder
 pub mod Leaves
 pub mod ImageJobs
 pub mod Open
+pub mod Packed
 pub mod ImageData
 pub mod ImageDataWholes
 pub mod Tagging

@@ -7,3 +7,4 @@ pub mod Decode
 pub mod Encode
 pub mod Decoders
 pub mod Value
+pub mod Statuses

@@ -1,5 +1,5 @@
-//! Worked examples of the definitions of `tiff_base`: numbers, headers, directories, fields and
-//! PackBits lists.
+//! Worked examples of the definitions of `tiff_base`: numbers, headers, directories, fields, windows
+//! and PackBits lists.
 
 pub mod answers;
 pub mod directory;
@@ -9,3 +9,4 @@ pub mod number;
 pub mod runs;
 pub mod source_and_sink;
 pub mod tags;
+pub mod windows;

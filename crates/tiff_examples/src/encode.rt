@@ -15,5 +15,6 @@ pub mod jobs;
 pub mod leaves;
 pub mod model;
 pub mod open;
+pub mod packed;
 pub mod stored;
 pub mod tagging;

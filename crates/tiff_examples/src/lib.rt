@@ -6,4 +6,5 @@ pub mod decode;
 pub mod encode;
 pub mod ifd;
 pub mod page;
+pub mod statuses;
 pub mod value;

@@ -279,6 +279,21 @@ uneven_bits =
 abbrev pub narrow_bits : Type 0
 narrow_bits = Never (IsColorType 2 gray_type)
 
+-- packed pixels: one sample of 1, 2 or 4 bits, in bytes
+abbrev pub packed_gray : Type 0
+packed_gray = IsColorType 1 (record gray_type { bits = 4 ∷ [] })
+
+abbrev pub three_bits : Type 0
+three_bits = Never (IsColorType 1 (record gray_type { bits = 3 ∷ [] }))
+
+abbrev pub packed_pairs : Type 0
+packed_pairs = Never (IsColorType 2 (record gray_type { bits = 1 ∷ [] }))
+
+abbrev pub packed_samples : Type 0
+packed_samples =
+    Never (IsColorType 1
+    (record gray_type { bits = 1 ∷ 1 ∷ []; formats = format.Uint ∷ format.Uint ∷ [] }))
+
 abbrev pub more_formats : Type 0
 more_formats = Never (IsColorType 1 (record gray_type { formats = format.Uint ∷ format.Uint ∷ [] }))
 

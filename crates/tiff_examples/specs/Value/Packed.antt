@@ -8,6 +8,7 @@ use Rattle.tiff_base.specs.declared.tags.PhotometricInterpretation.TheVariants.{
 use Rattle.tiff_base.specs.declared.tags.Predictor.TheVariants as predictor
 use Rattle.tiff_base.specs.declared.tags.SampleFormat.TheVariants.{Uint, Int, IEEEFP}
 use Rattle.tiff_value.specs.declared.encoder.colortype.ColorTypeName.TheVariants as n
+use Rattle.tiff_value.specs.ColorType.{columns_of}
 use Rattle.tiff_value.specs.ColorTypes.{color_type, inner_size, inner_type}
 use Rattle.tiff_value.specs.Differences.{differences, restored_number}
 use Rattle.tiff_value.specs.Predicted.{row_of_type}
@@ -66,6 +67,34 @@ cmyka8 =
       bits = 8 ∷ 8 ∷ 8 ∷ 8 ∷ 8 ∷ [];
       formats = Uint ∷ Uint ∷ Uint ∷ Uint ∷ Uint ∷ [];
     }
+
+-- bytes of packed pixels
+abbrev pub gray1 : Type 0
+gray1 =
+    color_type n.Gray1
+    ≡ record { interpretation = BlackIsZero; bits = 1 ∷ []; formats = Uint ∷ [] }
+
+abbrev pub gray4 : Type 0
+gray4 =
+    color_type n.Gray4
+    ≡ record { interpretation = BlackIsZero; bits = 4 ∷ []; formats = Uint ∷ [] }
+
+abbrev pub size_gray2 : Type 0
+size_gray2 = inner_size n.Gray2 ≡ 1
+
+-- the columns of a row: nine bits are in two bytes, eight in one, and three pixels of 4 bits in two;
+-- of whole bytes each pixel is one
+abbrev pub columns_nine : Type 0
+columns_nine = columns_of (color_type n.Gray1) 9 ≡ 2
+
+abbrev pub columns_eight : Type 0
+columns_eight = columns_of (color_type n.Gray1) 8 ≡ 1
+
+abbrev pub columns_three : Type 0
+columns_three = columns_of (color_type n.Gray4) 3 ≡ 2
+
+abbrev pub columns_whole : Type 0
+columns_whole = columns_of (color_type n.RGB16) 9 ≡ 9
 
 -- the number of bytes of a sample
 abbrev pub size_gray8 : Type 0

@@ -33,7 +33,8 @@ pub fn names()
 
 /// What color types are.
 pub fn color_types()
-    ensures { s.gray_type_is × s.two_grays × s.uneven_bits × s.narrow_bits × s.more_formats
+    ensures { s.gray_type_is × s.two_grays × s.uneven_bits × s.narrow_bits × s.packed_gray
+        × s.three_bits × s.packed_pairs × s.packed_samples × s.more_formats
         × s.no_samples ×
         s.two_formats }
 {}

@@ -6,7 +6,8 @@ ghost use Rattle.tiff_examples.specs.Value.Packed as s;
 /// Color types.
 pub fn colors()
     ensures { s.gray8 × s.gray_i16 × s.gray64_float × s.rgb16 × s.rgba8 × s.cmyk32_float × s.ycbcr8
-        × s.cmyka8 ×
+        × s.cmyka8 × s.gray1 × s.gray4 × s.size_gray2 × s.columns_nine × s.columns_eight × s.columns_three
+        × s.columns_whole ×
         s.size_gray8 × s.size_gray_i32 × s.size_rgb64 × s.size_rgba32_float }
 {}
 

@@ -1,0 +1,2 @@
+-- Worked examples of the definitions of `tiff_statuses`.
+pub mod InWindows
