@@ -18,14 +18,16 @@ from ._enums import (
 )
 from ._library import Chunks, Color, ColorKind, ListedPage, Samples, Status, TiffError
 from ._library import UnsupportedError
+from ._planned import Planned
 from ._tags import Tags
+from ._windows import Windows
 
 if TYPE_CHECKING:
     import numpy
-    from _typeshed import ReadableBuffer
     from numpy.typing import NDArray
 
     from ._geo import Geo
+    from ._library import File
 
 DESCRIPTION, SOFTWARE, SUB_IFDS, IMAGE_DEPTH = 270, 305, 330, 32997
 SUBFILE_TYPE, NODATA = 254, 42113
@@ -40,7 +42,7 @@ class PageFacts:
     the facts of the page raise it. `index` is the page's number in the chain, -1 for other pages.
     """
 
-    def __init__(self, file: ReadableBuffer, index: int, listed: ListedPage, order: str) -> None:
+    def __init__(self, file: File, index: int, listed: ListedPage, order: str) -> None:
         self._file = file
         self._listed = listed
         self._order = order
@@ -110,13 +112,31 @@ class PageFacts:
     def _chunks(self) -> Chunks:
         """The page's strips or tiles."""
         with _library.named(self._named):
+            if isinstance(self._file, Windows):
+                kind, count, plan = self._facts.chunk_kind, self.chunk_count, self._planned.certain
+                return Chunks(kind, count, plan.chunk_width, plan.chunk_height)
             return _library.ask(_library.PAGE_CHUNKS, Chunks, self._file, self._at)
 
     @cached_property
     def _samples(self) -> Samples:
         """What the samples of the page are, and how they are laid out."""
         with _library.named(self._named):
+            if isinstance(self._file, Windows):
+                color, plan = self._color, self._planned.laid_out()
+                planes = 1 if plan.planar == PLANARCONFIG.CONTIG else color.samples
+                inverted = int(plan.photometric == PHOTOMETRIC.MINISWHITE)
+                return Samples(plan.sample_format, color.bits, color.samples, planes, inverted)
             return _library.ask(_library.PAGE_SAMPLES, Samples, self._file, self._at)
+
+    @cached_property
+    def _planned(self) -> Planned:
+        """The page with its plan, by which its chunks are read."""
+        return Planned(self._file, self._at, self._range_of)
+
+    def _range_of(self, chunk: int) -> tuple[int, int]:
+        """Returns where a chunk begins in the file, and its length."""
+        offset = self.tags._place(OFFSETS[self.is_tiled], chunk)
+        return offset, self.tags._place(LENGTHS[self.is_tiled], chunk)
 
     @cached_property
     def tags(self) -> Tags:

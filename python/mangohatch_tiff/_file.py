@@ -17,16 +17,19 @@ from ._mapped import Mapped, mapped
 from ._page import TiffPage
 from ._tags import Tags
 from ._tree import Directory, directories_of
+from ._windows import OpenedSource, Windows
 
 if TYPE_CHECKING:
     from _typeshed import ReadableBuffer
     from numpy.typing import NDArray
 
     from ._levels import TiffPageSeries
+    from ._library import File
     from ._series import Stack
+    from ._windows import RangeSource
     from ._zarr import ZarrTiffStore
 
-    Source = Union[str, os.PathLike[str], BinaryIO, ReadableBuffer]
+    Source = Union[str, os.PathLike[str], BinaryIO, ReadableBuffer, RangeSource]
     Key = Union[int, slice, Iterable[int]]
 
 
@@ -37,17 +40,23 @@ class TiffFile(Closing):
     before `close`. An open file is read from its current position on, as tifffile does; one that
     can't be mapped is read whole.
 
+    A source with `read_at(offset, size)`, and a length by `size` or `len`, is read by ranges: its
+    bytes are fetched in pages of 64 KB when they are wanted, and the last 16 MB are kept. So is an
+    open file or one at a path with `ranges=True`. Errors of a source are passed on.
+
     `pages` are the pages of the file's chain, also those that are refused, each with its `status`;
     `byteorder` is `<` or `>`, and `end` is `Status.DONE`, or the error by which the chain ends. A
     file whose header or whose first directory can't be read raises the error.
     """
 
-    def __init__(self, source: Source) -> None:
+    def __init__(self, source: Source, *, ranges: bool = False) -> None:
         self._map: Mapped | None = None
+        self._opened_here: BinaryIO | None = None
         self._view: memoryview | None = None
         self._source = source
-        file = self._opened(source)
         try:
+            by_ranges = ranges or hasattr(source, "read_at")
+            file = self._by_ranges(source) if by_ranges else self._opened(source)
             listed, self.end = _library.list_pages(file)
             if not listed:
                 _library.check(self.end)
@@ -65,24 +74,30 @@ class TiffFile(Closing):
         end = "" if self.end is Status.DONE else f", then {self.end.name}"
         return f"<TiffFile {kind!r}: {len(self.pages)} pages{end}>"
 
-    def _opened(self, source: Source) -> ReadableBuffer:
+    def _by_ranges(self, source: Any) -> File:
+        """Returns the pages of a source of ranges, of an open file, or of a file at a path."""
+        if isinstance(source, (str, os.PathLike)):
+            source = self._opened_here = open(source, "rb", buffering=0)
+        return Windows(source if hasattr(source, "read_at") else OpenedSource(source))
+
+    def _opened(self, source: Any) -> ReadableBuffer:
         """Returns the bytes of a file at a path, of an open file, or of a buffer."""
         if isinstance(source, (str, os.PathLike)):
             with open(source, "rb") as file:
                 return self._mapped(file.fileno(), source)
-        given: Any = source
-        if isinstance(source, mmap.mmap) or not (hasattr(given, "read") and hasattr(given, "seek")):
-            buffer: ReadableBuffer = given
+        is_file = hasattr(source, "read") and hasattr(source, "seek")
+        if isinstance(source, mmap.mmap) or not is_file:
+            buffer: ReadableBuffer = source
             return buffer
-        start: int = given.tell()
+        start: int = source.tell()
         data: ReadableBuffer
-        if hasattr(given, "getvalue"):
-            data = given.getvalue()
+        if hasattr(source, "getvalue"):
+            data = source.getvalue()
         else:
             try:
-                data = self._mapped(given.fileno())
+                data = self._mapped(source.fileno())
             except (OSError, ValueError):
-                data, start = given.read(), 0
+                data, start = source.read(), 0
         if not start:
             return data
         self._view = memoryview(data)[start:]
@@ -98,11 +113,16 @@ class TiffFile(Closing):
         return self._map
 
     def close(self) -> None:
-        """Unmaps a file; its pages can't be read then. A buffer stays as it is."""
+        """Unmaps or closes a file that this one opened; its pages can't be read then.
+
+        A buffer, an open file and a source stay as they are.
+        """
         if self._view is not None:
             self._view.release()
         if self._map is not None:
             self._map.close()
+        if self._opened_here is not None:
+            self._opened_here.close()
 
     def __len__(self) -> int:
         return len(self.pages)
@@ -148,10 +168,11 @@ class TiffFile(Closing):
     def page_at(self, offset: int) -> TiffPage:
         """Returns the page whose directory lies at an offset of the file, in the chain or not.
 
-        The tag SubIFDs (330) has such offsets. The `index` of the page is -1.
+        The tag SubIFDs (330) has such offsets. The `index` of the page is -1. Of a file that is
+        read by ranges, it is a page of `directories`; other offsets raise `UnsupportedError`.
         """
         try:
-            listed = _library.page_at(self._file, offset)
+            listed = self._listed_at(offset)
         except TiffError as fault:
             if fault.status is not Status.UNKNOWN_INTERPRETATION:
                 raise
@@ -159,6 +180,16 @@ class TiffFile(Closing):
         page = TiffPage(self._file, -1, listed, self.byteorder)
         _library.check(page.status)
         return page
+
+    def _listed_at(self, offset: int) -> ListedPage:
+        """Returns the facts of the page at an offset."""
+        if not isinstance(self._file, Windows):
+            return _library.page_at(self._file, offset)
+        for directory in self.directories:
+            if directory.offset == offset and directory.page is not None:
+                return directory.page._listed
+        what = f"the page at {offset}, which no directory names, of a file that is read by ranges"
+        raise UnsupportedError(what, Status.IMAGE_FILE_DIRECTORY_NOT_FOUND)
 
     def tags_at(self, offset: int) -> Tags:
         """Returns the tags of the directory at an offset of the file, even if it is no page.

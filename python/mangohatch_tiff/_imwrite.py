@@ -30,7 +30,6 @@ OTHERS: dict[str, tuple[object, ...]] = {
     "ome": (None, False),
     "shaped": (None, False),
     "volumetric": (False,),
-    "bitspersample": (None,),
     "compressionargs": (None, {}),
     "subsampling": (None, (1, 1)),
     "jpegtables": (None,),
@@ -128,6 +127,7 @@ def settings_of(
     rowsperstrip: int | None = None,
     compression: COMPRESSION | int | str | None = None,
     predictor: PREDICTOR | int | str | bool | None = None,
+    bitspersample: int | None = None,
     description: str | bytes | None = None,
     datetime: str | bool | dates.datetime | None = None,
     resolution: Sequence[Fractional] | None = None,
@@ -144,7 +144,7 @@ def settings_of(
     first = texts_of(array.shape, description, metadata, software, datetime)
     return Settings(
         Samples(photometric, planarconfig, extrasamples, colormap),
-        Stored(tile, rowsperstrip, compression, predictor),
+        Stored(tile, rowsperstrip, compression, predictor, bitspersample),
         tags=tuple(tags_of(extratags, subfiletype, first=False)),
         first_tags=(*first, *tags_of(extratags, subfiletype, first=True)),
         resolution=resolution_of(resolution, resolutionunit),
@@ -166,6 +166,7 @@ def imwrite(
     rowsperstrip: int | None = None,
     compression: COMPRESSION | int | str | None = None,
     predictor: PREDICTOR | int | str | bool | None = None,
+    bitspersample: int | None = None,
     description: str | bytes | None = None,
     datetime: str | bool | dates.datetime | None = None,
     resolution: Sequence[Fractional] | None = None,
@@ -186,7 +187,9 @@ def imwrite(
     "minisblack", "miniswhite", "rgb", "separated" (CMYK), or "palette", of unsigned numbers of 8 or
     16 bits that are columns of `colormap`, which has three rows of 16 bits: red, green, blue.
     Numbers are of 8, 16, 32 or 64 bits, unsigned; of 32 or 64 bits, floating-point; and for gray
-    signed.
+    signed. A bool array is a gray page of one bit, in which True is 1: white, or with "miniswhite"
+    black. `bitspersample` is 1, 2 or 4 for gray numbers of 8 bits that have no more bits. Both are
+    in strips, without a predictor.
     `bigtiff` is decided by the size if it is None. `append` adds the pages to a file that is there,
     as `TiffWriter` does. `tile` is rows and columns, each a multiple of
     16. `compression` is None or "packbits". `predictor` stores differences of whole numbers, which
@@ -217,6 +220,7 @@ def imwrite(
         rowsperstrip=rowsperstrip,
         compression=compression,
         predictor=predictor,
+        bitspersample=bitspersample,
         description=description,
         datetime=datetime,
         resolution=resolution,

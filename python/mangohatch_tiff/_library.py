@@ -22,10 +22,15 @@ from ctypes import (
 )
 from enum import IntEnum
 from pathlib import Path
-from typing import TYPE_CHECKING, Any, TypeVar
+from typing import TYPE_CHECKING, Any, TypeVar, Union
+
+from ._windows import BYTES_WANTED, Seen, Stretch, Windows
 
 if TYPE_CHECKING:
     from _typeshed import ReadableBuffer
+
+    # A file in memory, or one of which pages are fetched.
+    File = Union[ReadableBuffer, Windows]
 
 NAME = "mangohatch_tiff"
 VARIABLE = "MANGOHATCH_TIFF_LIBRARY"
@@ -39,6 +44,7 @@ class Status(IntEnum):
     INT_SIZE_ERROR = 2
     OUT_OF_MEMORY = 3
     LATER_FAULT = 4
+    BYTES_WANTED = BYTES_WANTED
     UNEXPECTED_EOF = 10
     INVALID_DATA = 11
     INVALID_INPUT = 12
@@ -146,6 +152,8 @@ BIG_ENDIAN = 1
 # list.
 SHORT_PAGE = 64
 FIRST_ROOM = 1 << 14
+# The most bytes of a file's header.
+HEADER = 16
 # The room for the values of a tag in the first call.
 FEW = 16
 
@@ -389,8 +397,14 @@ class Appended(Structure):
 class PagePlan(Structure):
     """The plan of a page, by which the library reads each of its chunks without opening the page.
 
-    Only the library takes its members for anything.
+    A page of a file that isn't in memory has its facts from the members that are declared.
     """
+
+    chunk_width: int
+    chunk_height: int
+    photometric: int
+    sample_format: int
+    planar: int
 
     _fields_ = [
         ("offsets_count", c_uint64),
@@ -418,6 +432,15 @@ class PagePlan(Structure):
         ("offsets_type", c_uint16),
         ("byte_counts_type", c_uint16),
     ]
+
+
+class ChunkPlace(Structure):
+    """Where a chunk is in a file: its offset and its byte count, by the tags of its page."""
+
+    offset: int
+    byte_count: int
+
+    _fields_ = [("offset", c_uint64), ("byte_count", c_uint64)]
 
 
 class _Number(Structure):
@@ -468,16 +491,23 @@ def _declare(name: str, *parameters: Any, answer: Any = c_uint32) -> Any:
     return call
 
 
+def _declare_in(name: str, *parameters: Any) -> Any:
+    """Declares a call on windows of a file, and returns it."""
+    return _declare(f"{name}_in", POINTER(Seen), *parameters, POINTER(Stretch))
+
+
 _BYTES = (c_void_p, c_size_t)
 _PAGE = (*_BYTES, c_size_t)
+# What calls on a file and calls on windows of it take alike.
+_PAGES = (POINTER(ListedPage), c_size_t, POINTER(c_size_t))
+_DIRECTORIES = (POINTER(ListedDirectory), c_size_t, POINTER(c_size_t))
+_ENTRIES = (POINTER(TagEntry), c_size_t, POINTER(c_size_t))
+_STORED = (c_uint16, c_uint64, *_BYTES, POINTER(c_size_t))
+_CHUNK = (POINTER(PagePlan), c_uint32, *_BYTES)
 
 BYTE_ORDER = _declare("tiff_byte_order", *_BYTES, POINTER(c_uint32))
-LIST_PAGES = _declare(
-    "tiff_list_pages", *_BYTES, POINTER(ListedPage), c_size_t, POINTER(c_size_t)
-)
-LIST_DIRECTORIES = _declare(
-    "tiff_list_directories", *_BYTES, POINTER(ListedDirectory), c_size_t, POINTER(c_size_t)
-)
+LIST_PAGES = _declare("tiff_list_pages", *_BYTES, *_PAGES)
+LIST_DIRECTORIES = _declare("tiff_list_directories", *_BYTES, *_DIRECTORIES)
 PAGE_SIDES = _declare("tiff_page_sides", *_PAGE, POINTER(Sides))
 PAGE_COLOR = _declare("tiff_page_color", *_PAGE, POINTER(Color))
 PAGE_SAMPLES = _declare("tiff_page_samples", *_PAGE, POINTER(Samples))
@@ -486,14 +516,19 @@ READ_IMAGE = _declare("tiff_read_image_bytes", *_PAGE, *_BYTES)
 READ_CHUNK = _declare("tiff_read_chunk_bytes", *_PAGE, c_uint32, *_BYTES)
 READ_CHUNKS = _declare("tiff_read_chunks", *_PAGE, c_uint32, c_uint32, *_BYTES)
 PAGE_PLAN = _declare("tiff_page_plan", *_PAGE, POINTER(PagePlan))
-READ_PLANNED_CHUNK = _declare(
-    "tiff_read_planned_chunk", *_BYTES, POINTER(PagePlan), c_uint32, *_BYTES
+READ_PLANNED_CHUNK = _declare("tiff_read_planned_chunk", *_BYTES, *_CHUNK)
+READ_PLANNED_CHUNKS = _declare(
+    "tiff_read_planned_chunks", *_BYTES, POINTER(PagePlan), c_uint32, c_uint32, *_BYTES
+)
+CHUNK_PLACE = _declare(
+    "tiff_chunk_place", *_BYTES, POINTER(PagePlan), c_uint32, POINTER(ChunkPlace)
+)
+REWRITE_CHUNK = _declare(
+    "tiff_rewrite_chunk", *_BYTES, POINTER(PagePlan), c_uint32, *_BYTES, *_BYTES
 )
 TAG_FIELD = _declare("tiff_tag_field", *_PAGE, c_uint16, POINTER(Field))
 TAG_NUMBER = _declare("tiff_tag_number", *_PAGE, c_uint16, POINTER(_Number))
-TAG_BYTES = _declare(
-    "tiff_tag_bytes", *_PAGE, c_uint16, c_uint64, *_BYTES, POINTER(c_size_t)
-)
+TAG_BYTES = _declare("tiff_tag_bytes", *_PAGE, *_STORED)
 TAG_NUMBERS = _declare(
     "tiff_tag_numbers", *_PAGE, c_uint16, POINTER(c_uint64), c_size_t, POINTER(c_size_t)
 )
@@ -501,9 +536,7 @@ TAG_FLOATS = _declare(
     "tiff_tag_floats", *_PAGE, c_uint16, POINTER(c_double), c_size_t, POINTER(c_size_t)
 )
 TAG_TEXT = _declare("tiff_tag_text", *_PAGE, c_uint16, *_BYTES, POINTER(c_size_t))
-LIST_TAGS = _declare(
-    "tiff_list_tags", *_PAGE, POINTER(TagEntry), c_size_t, POINTER(c_size_t)
-)
+LIST_TAGS = _declare("tiff_list_tags", *_PAGE, *_ENTRIES)
 WRITE_IMAGE = _declare(
     "tiff_write_image", POINTER(Image), *_BYTES, *_BYTES, POINTER(c_size_t)
 )
@@ -522,6 +555,12 @@ WRITE_PAGES = _declare(
 APPEND_PAGES = _declare(
     "tiff_append_pages", *_BYTES, POINTER(PageToWrite), c_size_t, *_BYTES, POINTER(Appended)
 )
+LIST_PAGES_IN = _declare_in("tiff_list_pages", *_PAGES)
+LIST_DIRECTORIES_IN = _declare_in("tiff_list_directories", *_DIRECTORIES)
+LIST_TAGS_IN = _declare_in("tiff_list_tags", c_size_t, *_ENTRIES)
+TAG_BYTES_IN = _declare_in("tiff_tag_bytes", c_size_t, *_STORED)
+PAGE_PLAN_IN = _declare_in("tiff_page_plan", c_size_t, POINTER(PagePlan))
+READ_PLANNED_CHUNK_IN = _declare_in("tiff_read_planned_chunk", *_CHUNK)
 FAULT_TEXT = _declare("tiff_fault_text", c_uint32, *_BYTES, answer=c_size_t)
 
 # Prototypes of this module, since other modules share the attributes of `ctypes.pythonapi`.
@@ -664,6 +703,31 @@ class locked:
         _RELEASE_BUFFER(byref(self.view))
 
 
+def length_of(file: File) -> int:
+    """Returns how many bytes a file has."""
+    if isinstance(file, Windows):
+        return file.size
+    with locked(file) as (_, length):
+        return length
+
+
+def part(file: File, offset: int, size: int) -> bytes:
+    """Returns bytes of a file from an offset on, as many as it has there."""
+    if isinstance(file, Windows):
+        return file.part(offset, size)
+    with memoryview(file) as view, view.cast("B") as data:
+        return bytes(data[offset : offset + size])
+
+
+def status_of(file: File, call: Any, call_in: Any, *given: Any) -> int:
+    """Calls with a file in memory, or with windows of another one, and returns the status."""
+    if isinstance(file, Windows):
+        return file.ask(call_in, *given)
+    with locked(file) as (address, length):
+        status: int = call(address, length, *given)
+    return status
+
+
 Answer = TypeVar("Answer", bound=Structure)
 
 
@@ -686,35 +750,41 @@ def offset_of(page: int) -> int:
 
 
 def _listed(
-    call: Any, kind: type[Answer], file: ReadableBuffer
+    call: Any, call_in: Any, kind: type[Answer], file: File
 ) -> tuple[list[Answer], Status]:
     """Returns what a call lists of a file, and the status with which the chain of pages ends.
 
     One call is enough if it has room for all. Else a second call has the room that it needs.
     """
     count = c_size_t()
-    with locked(file) as (address, length):
-        room = min(length // SHORT_PAGE + 1, FIRST_ROOM)
+    room = min(length_of(file) // SHORT_PAGE + 1, FIRST_ROOM)
+    listed = (kind * room)()
+    end = status_of(file, call, call_in, listed, room, byref(count))
+    if count.value > room:
+        room = count.value
         listed = (kind * room)()
-        end = call(address, length, listed, room, byref(count))
-        if count.value > room:
-            room = count.value
-            listed = (kind * room)()
-            end = call(address, length, listed, room, byref(count))
+        end = status_of(file, call, call_in, listed, room, byref(count))
     return list((kind * min(count.value, room)).from_buffer_copy(listed)), Status(end)
 
 
-def list_pages(file: ReadableBuffer) -> tuple[list[ListedPage], Status]:
+def list_pages(file: File) -> tuple[list[ListedPage], Status]:
     """Returns the pages of a file, and the status with which their chain ends."""
-    return _listed(LIST_PAGES, ListedPage, file)
+    return _listed(LIST_PAGES, LIST_PAGES_IN, ListedPage, file)
 
 
-def list_directories(file: ReadableBuffer) -> list[ListedDirectory]:
+def list_directories(file: File) -> list[ListedDirectory]:
     """Returns the places of a file where directories are named; without one, raises the error."""
-    listed, end = _listed(LIST_DIRECTORIES, ListedDirectory, file)
+    listed, end = _listed(LIST_DIRECTORIES, LIST_DIRECTORIES_IN, ListedDirectory, file)
     if not listed:
         check(end)
     return listed
+
+
+def page_plan(file: File, page: int) -> PagePlan:
+    """Returns the plan of a page."""
+    plan = PagePlan()
+    check(status_of(file, PAGE_PLAN, PAGE_PLAN_IN, page, byref(plan)))
+    return plan
 
 
 def _told(call: Any, kind: type[Answer], file: ReadableBuffer, *place: int) -> tuple[Answer, int]:
@@ -745,23 +815,32 @@ def page_at(file: ReadableBuffer, offset: int) -> ListedPage:
     )
 
 
-def _values(call: Any, kind: Any, file: ReadableBuffer, *place: int) -> Any:
+def _values(call: Any, kind: Any, file: File, *place: int, call_in: Any = None) -> Any:
     """Returns the values of a tag, or the tags of a page. For many, a second call has the room."""
     count = c_size_t()
     room = FEW
-    with locked(file) as (address, length):
+    values = (kind * room)()
+    check(status_of(file, call, call_in, *place, values, room, byref(count)))
+    if count.value > room:
+        room = count.value
         values = (kind * room)()
-        check(call(address, length, *place, values, room, byref(count)))
-        if count.value > room:
-            room = count.value
-            values = (kind * room)()
-            check(call(address, length, *place, values, room, byref(count)))
+        check(status_of(file, call, call_in, *place, values, room, byref(count)))
     return values[: min(count.value, room)]
 
 
-def list_tags(file: ReadableBuffer, page: int) -> list[TagEntry]:
+def list_tags(file: File, page: int) -> list[TagEntry]:
     """Returns the entries of a directory, by the number of their tags."""
-    return list(_values(LIST_TAGS, TagEntry, file, page))
+    return list(_values(LIST_TAGS, TagEntry, file, page, call_in=LIST_TAGS_IN))
+
+
+def tag_bytes(file: File, page: int, number: int, start: int, size: int) -> bytes:
+    """Returns bytes of the values of a tag, as many as there are from a first one on."""
+    # Values that are longer than the file don't lie in it; the call returns that error.
+    buffer = ctypes.create_string_buffer(min(size, length_of(file) + 1) or 1)
+    place, written = (page, number, start), c_size_t()
+    calls = TAG_BYTES, TAG_BYTES_IN
+    check(status_of(file, *calls, *place, buffer, len(buffer), byref(written)))
+    return buffer.raw[: written.value]
 
 
 def tag_numbers(file: ReadableBuffer, page: int, number: int) -> tuple[int, ...]:
@@ -797,10 +876,10 @@ def tag_text(file: ReadableBuffer, page: int, number: int) -> str:
     return bytes(_values(TAG_TEXT, c_ubyte, file, page, number)).decode()
 
 
-def byte_order(file: ReadableBuffer) -> str:
+def byte_order(file: File) -> str:
     """Returns the byte order of a file as `struct` writes it: `<` or `>`."""
     order = c_uint32()
-    with locked(file) as (address, length):
+    with locked(file.part(0, HEADER) if isinstance(file, Windows) else file) as (address, length):
         check(BYTE_ORDER(address, length, byref(order)))
     return ">" if order.value == BIG_ENDIAN else "<"
 

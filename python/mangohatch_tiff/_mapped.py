@@ -6,9 +6,14 @@ import os
 
 
 class Mapped(mmap.mmap):
-    """A file mapped into memory, with the path by which it was opened, if it was."""
+    """A file mapped into memory, with the path by which it was opened, if it was.
+
+    `identity` is the device and the number of the file, by which it is known if the path has
+    another one later.
+    """
 
     path: str | None = None
+    identity: tuple[int, int] = (0, 0)
 
     def forget(self) -> None:
         """Gives back the memory of what was read of the file; another read loads it again."""
@@ -19,4 +24,11 @@ def mapped(number: int, path: str | os.PathLike[str] | None = None) -> Mapped:
     """Maps an open file, by its number, to be read."""
     made = Mapped(number, 0, access=mmap.ACCESS_READ)
     made.path = None if path is None else os.path.abspath(path)
+    made.identity = identity_of(number)
     return made
+
+
+def identity_of(number: int) -> tuple[int, int]:
+    """Returns the device and the number of an open file, which no other file has."""
+    found = os.fstat(number)
+    return found.st_dev, found.st_ino

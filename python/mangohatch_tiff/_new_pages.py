@@ -41,6 +41,10 @@ COLORS = {
     color: number
     for number, color in enumerate((name, kind) for name, kinds in KINDS.items() for kind in kinds)
 }
+# Packed samples, gray ones: the name of each kind, by its bits. Their color types have numbers from
+# the first one on.
+PACKED, FIRST_PACKED = {1: "1 bit", 2: "2 bits", 4: "4 bits"}, 30
+COLORS |= {("Gray", name): FIRST_PACKED + at for at, name in enumerate(PACKED.values())}
 # The resolution of a page that has none: no unit, and fractions that count for nothing.
 NO_RESOLUTION = (0, (0, 1), (0, 1))
 # How many bytes a page has besides its samples, its own tags and the places of its chunks, in most
@@ -82,7 +86,8 @@ class Layout:
 class NewPage:
     """A page that is written: its color type, its samples row by row and pixel by pixel, its tags.
 
-    The samples have rows, columns and the samples of a pixel. The resolution is the unit, and two
+    The samples have rows, columns and the samples of a pixel; of packed pixels, rows, the bytes of
+    a row and 1, and `columns` is how many pixels a row has. The resolution is the unit, and two
     fractions along a row and along a column.
     """
 
@@ -91,6 +96,13 @@ class NewPage:
     layout: Layout
     tags: tuple[NewTag, ...] = ()
     resolution: tuple[int, tuple[int, int], tuple[int, int]] | None = None
+    columns: int | None = None
+
+    @property
+    def sides(self) -> tuple[int, int]:
+        """How many rows and columns the page has."""
+        rows, columns = self.samples.shape[:2]
+        return rows, columns if self.columns is None else self.columns
 
     def copied(self) -> NewPage:
         """Returns the page with samples of its own."""
@@ -127,7 +139,7 @@ def tag_to_write(tag: NewTag) -> TagToWrite:
 
 def page_to_write(page: NewPage) -> PageToWrite:
     """Returns a page as the library takes it; its samples stay in the array of the page."""
-    layout, (height, width) = page.layout, page.samples.shape[:2]
+    layout, (height, width) = page.layout, page.sides
     tile_length, tile_width = layout.tile or (0, 0)
     unit, across, down = page.resolution or NO_RESOLUTION
     return PageToWrite(
@@ -163,7 +175,7 @@ class Written(NamedTuple):
 
 def write_image_into(size: int, page: NewPage, version: int) -> Written:
     """Writes a file of one plain page into a new buffer."""
-    samples, (height, width) = page.samples, page.samples.shape[:2]
+    samples, (height, width) = page.samples, page.sides
     file, length = numpy.empty(size, numpy.uint8), c_size_t()
     image = Image(
         color=COLORS[page.color],

@@ -10,7 +10,6 @@ from . import _library
 from ._enums import COMPRESSION, FILLORDER, PHOTOMETRIC, PLANARCONFIG, PREDICTOR, SAMPLEFORMAT
 from ._facts import LENGTHS, OFFSETS, PageFacts
 from ._library import Status, TiffError, UnsupportedError
-from ._planned import Planned
 
 if TYPE_CHECKING:
     import numpy
@@ -82,11 +81,6 @@ class TiffPage(PageFacts):
         return self._samples.planes == 1 and self._color.samples != self.samplesperpixel
 
     @cached_property
-    def _planned(self) -> Planned:
-        """The page with its plan, by which its chunks are read."""
-        return Planned(self._file, self._at)
-
-    @cached_property
     def _sources(self) -> dict[bool, Source]:
         """The page as samples that are read, by whether the library shows them."""
         return {}
@@ -129,7 +123,8 @@ class TiffPage(PageFacts):
             alone=self.sampleformat > SAMPLEFORMAT.IEEEFP,
         )
         grid = self._grid(shown)
-        return Source(self._planned, grid, form, grid.planes == self._samples.planes)
+        at_once = grid.planes == self._samples.planes and not self._planned.is_by_ranges
+        return Source(self._planned, grid, form, at_once)
 
     def _stored_source(self) -> Source:
         """Returns the page as samples that are taken from its chunks in the file."""
@@ -274,6 +269,25 @@ class TiffPage(PageFacts):
         if not 0 <= chunk < self.chunk_count:
             raise TiffError(Status.INVALID_CHUNK_INDEX, self._named)
         return self._grid(shown=False).place(chunk)
+
+    def rewrite(self, chunk: int, samples: NDArray[Any], *, shown: bool = False) -> None:
+        """Changes a strip or a tile in the file: `read_chunk` returns these samples then.
+
+        The file is one at a path, or a buffer that can be written, as a bytearray or a mmap. Its
+        data aren't packed. The array has the shape and the number type of that of `read_chunk`,
+        with `shown` as there. In the file the chunk's own bytes change and no other ones, at the
+        offset that the page has for it: chunks that lie over each other are the caller's to see to.
+
+        Errors: an array of another shape or number type, and numbers of more bits than a sample
+        has, ValueError; what the library refuses, as packed data and the byte-plane predictor,
+        `TiffError`; and as `UnsupportedError` samples that the library doesn't read, bytes that
+        can't be written, and a path that has another file now. The file stays as it is then.
+        """
+        from ._rewrite import rewrite_chunk
+
+        if not 0 <= chunk < self.chunk_count:
+            raise TiffError(Status.INVALID_CHUNK_INDEX, self._named)
+        rewrite_chunk(self, chunk, samples, shown)
 
     def segments(
         self, *, workers: int | None = None, shown: bool = False

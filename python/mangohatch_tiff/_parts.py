@@ -26,8 +26,8 @@ if TYPE_CHECKING:
 
 # A thread reads about as many bytes by one call, and a smaller image is read by one thread.
 STRETCH = 1 << 20
-# To open a page of so many chunks takes as long as a call that reads one by the page's plan.
-OPENED = 1024
+# To open a page of so many chunks takes as long as to find one by the page's plan.
+OPENED = 16
 # A tile of as many bytes is put into its place alone.
 LARGE_TILE = 1 << 15
 
@@ -134,20 +134,22 @@ class Source:
 
     def read(self, call: Any, room: NDArray[Any], *place: int) -> None:
         """Reads samples into an array by a call."""
-        _library.read_samples(call, self.planned.file, (self.planned.at, *place), room)
+        _library.read_samples(call, self.planned.buffer, (self.planned.at, *place), room)
 
     def read_chunks(self, run: Run, room: NDArray[Any]) -> None:
         """Reads a run of chunks into an array, one behind the other."""
         if self.stored:
             self.stored.read_chunks(self.grid, run, room)
-        elif self.form.alone or (self._are_few(run) and self.planned.plan):
+        elif self.form.alone or run.count == 1 or self.planned.is_by_ranges:
             self.planned.read(self._sized(run), room)
+        elif self._are_few(run) and self.planned.plan:
+            self.planned.read_run(self.planned.plan, run.first, run.count, room)
         else:
             self.read(_library.READ_CHUNKS, room, run.first, run.count)
 
     def _are_few(self, run: Run) -> bool:
-        """Tells whether a call for each chunk takes less time than one that opens the page."""
-        return run.count == 1 or run.count * OPENED < self.count
+        """Tells whether a call by the page's plan takes less time than one that opens the page."""
+        return run.count * OPENED < self.count
 
     def _sized(self, run: Run) -> Iterator[tuple[int, int]]:
         """Yields the number of each chunk of a run, and how many bytes the library reads of it."""

@@ -1,38 +1,103 @@
 """The chunks of a page, read by its plan."""
 from __future__ import annotations
 
-from collections.abc import Iterable
+import ctypes
+from collections.abc import Callable, Iterable
 from functools import cached_property
 from typing import TYPE_CHECKING, Any
 
 from . import _library
-from ._library import PagePlan, Status, TiffError
+from ._library import PagePlan, Status, TiffError, UnsupportedError
+from ._windows import Windows
 
 if TYPE_CHECKING:
     from _typeshed import ReadableBuffer
 
+    from ._library import File
+
+OTHER_TYPES = "a page whose offsets or byte counts are of another type than SHORT, LONG or LONG8"
+OTHER_TYPES += ", of a file that is read by ranges"
+
 
 class Planned:
-    """A page of a file, by its number for the calls, with its plan, which is taken once."""
+    """A page of a file, by its number for the calls, with its plan, which is taken once.
 
-    def __init__(self, file: ReadableBuffer, at: int) -> None:
-        self.file, self.at = file, at
+    Of a file that isn't in memory, `place_of` tells the offset and the length of a chunk.
+    """
+
+    def __init__(
+        self, file: File, at: int, place_of: Callable[[int], tuple[int, int]]
+    ) -> None:
+        self.file, self.at, self.place_of = file, at, place_of
+
+    @property
+    def is_by_ranges(self) -> bool:
+        """Whether the file isn't in memory, so that each chunk is read alone."""
+        return isinstance(self.file, Windows)
+
+    @property
+    def buffer(self) -> ReadableBuffer:
+        """The bytes of a file that is in memory."""
+        assert not isinstance(self.file, Windows)
+        return self.file
 
     @cached_property
     def plan(self) -> PagePlan | None:
         """The plan of the page; None where the types of its lists of chunks make none."""
         try:
-            return _library.ask(_library.PAGE_PLAN, PagePlan, self.file, self.at)
+            return _library.page_plan(self.file, self.at)
         except TiffError as fault:
             if fault.status is not Status.INVALID_TYPE_FOR_TAG:
                 raise
             return None
 
+    @property
+    def certain(self) -> PagePlan:
+        """The plan of the page; without one, raises an error."""
+        if self.plan is None:
+            raise UnsupportedError(OTHER_TYPES, Status.INVALID_TYPE_FOR_TAG)
+        return self.plan
+
+    def laid_out(self) -> PagePlan:
+        """Returns the plan of a page that isn't in memory; raises the error of its layout.
+
+        A chunk is asked for with no room, so none of its bytes are read.
+        """
+        assert isinstance(self.file, Windows)
+        plan, room = self.certain, ctypes.c_ubyte()
+        status = self.file.ask(_library.READ_PLANNED_CHUNK_IN, plan, 0, ctypes.byref(room), 0)
+        if status != Status.INSUFFICIENT_OUTPUT_BUFFER_SIZE:
+            _library.check(status)
+        return plan
+
     def read(self, chunks: Iterable[tuple[int, int]], room: Any) -> None:
         """Reads chunks into an array, one behind the other; each has a number and so many bytes."""
+        if isinstance(self.file, Windows):
+            self._read_by_ranges(self.file, chunks, room)
+            return
         call = _library.READ_PLANNED_CHUNK if self.plan else _library.READ_CHUNK
         page, place = self.plan or self.at, room.ctypes.data
         with _library.locked(self.file) as (address, length):
             for chunk, size in chunks:
                 _library.check(call(address, length, page, chunk, place, size))
                 place += size
+
+    def _read_by_ranges(
+        self, file: Windows, chunks: Iterable[tuple[int, int]], room: Any
+    ) -> None:
+        """Reads chunks of a file that isn't in memory; the bytes of each are fetched together."""
+        plan, place = self.certain, room.ctypes.data
+        for chunk, size in chunks:
+            offset, length = self.place_of(chunk)
+            # PackBits may take more bytes than the samples; what is longer is fetched by parts.
+            together = offset, min(length, 2 * size)
+            call = _library.READ_PLANNED_CHUNK_IN
+            _library.check(file.ask(call, plan, chunk, place, size, together=together))
+            place += size
+
+    def read_run(self, plan: PagePlan, first: int, count: int, room: Any) -> None:
+        """Reads `count` chunks from the number `first` on into an array, by one call."""
+        with _library.locked(self.buffer) as (address, length):
+            place, size = room.ctypes.data, room.nbytes
+            call = _library.READ_PLANNED_CHUNKS
+            _library.check(call(address, length, plan, first, count, place, size))

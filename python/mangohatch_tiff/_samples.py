@@ -76,6 +76,45 @@ class Form:
         return numbers.reshape(rows, columns, self.samples)
 
 
+    def raw(self, samples: NDArray[Any]) -> NDArray[numpy.uint8]:
+        """Returns the rows of bytes of which `natural` makes this array.
+
+        Bits behind the last number of a row are 0, or 1 with `turned`. Numbers of more than `bits`
+        bits are a ValueError.
+        """
+        numbers = numpy.ascontiguousarray(samples, self.dtype).reshape(len(samples), -1)
+        if self.bits < 8:
+            raw = packed(numbers.view(numpy.uint8), self.bits)
+            found = unpacked(raw, self.bits, numbers.shape[1])
+            fits = extended(found, self.bits) if self.signed else found.view(self.dtype)
+            if not numpy.array_equal(fits, numbers):
+                raise ValueError(f"numbers of more than {self.bits} bits")
+        else:
+            numbers = halves_swapped(numbers) if self.swapped else numbers
+            raw = numbers.view(numpy.uint8)
+        return numpy.bitwise_not(raw) if self.turned else raw
+
+
+def packed(numbers: NDArray[numpy.uint8], bits: int) -> NDArray[numpy.uint8]:
+    """Returns rows of whole bytes of the lowest `bits` bits of numbers, the first number highest.
+
+    One bit is 1 for any number but 0. The bits behind the last number of a row are 0.
+    """
+    numbers = numpy.ascontiguousarray(numbers)
+    if bits == 1:
+        return numpy.packbits(numbers, axis=1)
+    if 8 % bits == 0:
+        each, lowest = 8 // bits, (1 << bits) - 1
+        raw = numpy.zeros((len(numbers), -(-numbers.shape[1] // each)), numpy.uint8)
+        for place in range(each):
+            part = numbers[:, place::each] & lowest
+            places = 8 - bits * (place + 1)
+            raw[:, : part.shape[1]] |= numpy.left_shift(part, places, dtype=numpy.uint8)
+        return raw
+    single = numpy.unpackbits(numbers[:, :, None], axis=2)[:, :, 8 - bits :]
+    return numpy.packbits(single.reshape(len(numbers), -1), axis=1)
+
+
 def unpacked(raw: NDArray[numpy.uint8], bits: int, count: int) -> NDArray[numpy.uint8]:
     """Returns the numbers of `bits` bits each, `count` a row, that rows of whole bytes contain."""
     if bits == 1:

@@ -14,11 +14,12 @@ import numpy
 from . import _library
 from ._library import Status, TiffError
 from ._samples import unpacked
+from ._windows import Windows
 
 if TYPE_CHECKING:
-    from _typeshed import ReadableBuffer
     from numpy.typing import NDArray
 
+    from ._library import File
     from ._parts import Grid, Run
 
 # As many bytes of numbers are unpacked at once.
@@ -102,7 +103,7 @@ class StoredForm:
 class Stored:
     """The chunks of a page in its file: where each begins, how many bytes it has, and its form."""
 
-    file: ReadableBuffer
+    file: File
     offsets: tuple[int, ...]
     lengths: tuple[int, ...]
     form: StoredForm
@@ -129,18 +130,22 @@ class Stored:
     def _rows(self, chunk: int, rows: int, size: int) -> NDArray[numpy.uint8]:
         """Returns the first rows of a chunk, each of so many bytes, with the highest bit first."""
         if self.form.packed:
-            return unpacked_bytes(self._held(chunk).tobytes(), rows, size)
-        held = self._held(chunk)
+            return unpacked_bytes(self._held(chunk, self.lengths[chunk]).tobytes(), rows, size)
+        held = self._held(chunk, min(self.lengths[chunk], rows * size))
         if len(held) < rows * size:
             # A map of a file can't be closed while an array lies there, also in a traceback.
             del held
             raise TiffError(Status.UNEXPECTED_EOF)
-        return held[: rows * size].reshape(rows, size)
+        return held.reshape(rows, size)
 
-    def _held(self, chunk: int) -> NDArray[numpy.uint8]:
-        """Returns the bytes of a chunk, as many as the file has, with the highest bit first."""
-        file = numpy.frombuffer(memoryview(self.file), numpy.uint8)
-        held: NDArray[numpy.uint8] = file[self.offsets[chunk] :][: self.lengths[chunk]]
+    def _held(self, chunk: int, most: int) -> NDArray[numpy.uint8]:
+        """Returns the first bytes of a chunk, as far as they are there, the highest bit first."""
+        held: NDArray[numpy.uint8]
+        if isinstance(self.file, Windows):
+            held = numpy.frombuffer(self.file.part(self.offsets[chunk], most), numpy.uint8)
+        else:
+            file = numpy.frombuffer(memoryview(self.file), numpy.uint8)
+            held = file[self.offsets[chunk] :][:most]
         return TURNED[held] if self.form.turned else held
 
 

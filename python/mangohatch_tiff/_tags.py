@@ -1,20 +1,22 @@
 """The tags of a page: their names, and their values by type."""
 from __future__ import annotations
 
-import ctypes
 import struct
 from collections import Counter
 from collections.abc import Iterator
-from ctypes import byref, c_size_t
 from functools import cached_property
 from typing import TYPE_CHECKING, Any, Union
 
 from . import _directory, _library
 from ._enums import DATATYPE, ENUMS, member
+from ._directory import StoredTag
 from ._library import Field, Status, TagEntry, TiffError, UnsupportedError
+from ._windows import Windows
 
 if TYPE_CHECKING:
     from _typeshed import ReadableBuffer
+
+    from ._library import File
 
 NAMES = {
     254: "NewSubfileType",
@@ -129,7 +131,10 @@ MEANT |= {51123, 65426, 65432, 65439, 65459}
 # The types of the places of chunks, and how many of these are looked through as an array: more than
 # a few, and as many as the library lists.
 PLACES = {DATATYPE.SHORT, DATATYPE.LONG, DATATYPE.LONG8}
-LONG_LISTS = range(64, (1 << 23) + 1)
+MOST_LISTED = 1 << 23
+LONG_LISTS = range(64, MOST_LISTED + 1)
+# The bytes of a text of which the library tells no more.
+LONGEST_TEXT = 1 << 28
 
 Number = Union[int, float]
 # The type of the values of a tag: a text, bytes, a number, a tuple of numbers, or an array.
@@ -211,7 +216,7 @@ class Tags:
     """The tags of a page, by number or by name; an iteration yields the tags, as in tifffile."""
 
     def __init__(
-        self, file: ReadableBuffer, page: int, order: str, index: int | None = None
+        self, file: File, page: int, order: str, index: int | None = None
     ) -> None:
         self._file = file
         self._page = page
@@ -228,6 +233,11 @@ class Tags:
             return _library.list_tags(self._file, self._page)
 
     @cached_property
+    def _listed(self) -> dict[int, Field]:
+        """The type and the count of each tag, by its number."""
+        return {entry.number: Field(entry.type, entry.count) for entry in self._entries}
+
+    @cached_property
     def _twice(self) -> set[int]:
         """The numbers of the tags that the directory has twice."""
         offset = _library.offset_of(self._page)
@@ -239,6 +249,8 @@ class Tags:
         number = number_of(key)
         if number is None:
             return None
+        if isinstance(self._file, Windows):
+            return self._listed.get(number)
         try:
             with _library.named(self._index, number):
                 return _library.ask(_library.TAG_FIELD, Field, self._file, self._page, number)
@@ -267,17 +279,42 @@ class Tags:
             raise TiffError(Status.INVALID_TYPE_FOR_TAG, self._index, code)
         return self._bytes(code, count * value_size(kind))
 
-    def _bytes(self, number: int, size: int) -> bytes:
-        """Returns the bytes of the values of a tag."""
-        written = c_size_t()
-        with _library.named(self._index, number), _library.locked(self._file) as file:
-            # Values that are longer than the file don't lie in it; the call returns that error.
-            buffer = ctypes.create_string_buffer(min(size, file[1] + 1) or 1)
-            place = self._page, number, 0
-            _library.check(
-                _library.TAG_BYTES(*file, *place, buffer, len(buffer), byref(written))
-            )
-        return buffer.raw[: written.value]
+    def _bytes(self, number: int, size: int, start: int = 0) -> bytes:
+        """Returns bytes of the values of a tag, from a first one on."""
+        with _library.named(self._index, number):
+            return _library.tag_bytes(self._file, self._page, number, start, size)
+
+    def _place(self, number: int, chunk: int) -> int:
+        """Returns the number of a chunk in a list of places; no others of the list are read."""
+        field = self._field(number)
+        if field is None or field.kind not in PLACES:
+            raise TiffError(Status.INVALID_TYPE_FOR_TAG, self._index, number)
+        if chunk >= field.count:
+            raise TiffError(Status.INCONSISTENT_SIZES_ENCOUNTERED, self._index)
+        size = value_size(field.kind)
+        data = self._bytes(number, size, chunk * size)
+        place: int = struct.unpack(self._order + FORMATS[field.kind], data)[0]
+        return place
+
+    def _in_memory(self, number: int) -> tuple[ReadableBuffer, int]:
+        """Returns a file in memory that has a tag, and the number of its directory there.
+
+        Of a file that isn't in memory, it is a small one of this tag alone, or of another tag where
+        the directory doesn't have it.
+        """
+        if not isinstance(self._file, Windows):
+            return self._file, self._page
+        field = self._listed.get(number)
+        if field is None:
+            tag = StoredTag(number ^ 1, BYTE, 1, b"\0")
+        elif field.count > (LONGEST_TEXT if field.kind == ASCII else MOST_LISTED):
+            raise TiffError(Status.LIMITS_EXCEEDED, self._index, number)
+        else:
+            data = self._stored(number, field.kind, field.count)
+            tag = StoredTag(number, field.kind, field.count, data)
+        big = _directory.is_big(self._file, self._order)
+        file, offset = _directory.alone(tag, big, self._order)
+        return file, _library.at(offset)
 
     def __getitem__(self, key: int | str) -> Tag:
         tag = self.get(key)
@@ -317,8 +354,7 @@ class Tags:
 
     def items(self) -> list[tuple[int, Tag]]:
         """Returns the tags, each with its number, in the order of `keys`."""
-        fields = ((entry.number, Field(entry.type, entry.count)) for entry in self._entries)
-        return [(code, Tag(self, code, field)) for code, field in fields]
+        return [(code, Tag(self, code, field)) for code, field in self._listed.items()]
 
     def _number(self, key: int | str) -> int:
         """Returns the number of a tag; raises KeyError if it is no tag."""
@@ -334,19 +370,19 @@ class Tags:
         """
         number = self._number(key)
         with _library.named(self._index, number):
-            return _library.tag_numbers(self._file, self._page, number)
+            return _library.tag_numbers(*self._in_memory(number), number)
 
     def floats(self, key: int | str) -> tuple[float, ...]:
         """Returns the values of a tag of floating-point numbers of 64 bits; else as `numbers`."""
         number = self._number(key)
         with _library.named(self._index, number):
-            return _library.tag_floats(self._file, self._page, number)
+            return _library.tag_floats(*self._in_memory(number), number)
 
     def text(self, key: int | str) -> str:
         """Returns the text of a tag up to its first zero; the text has to be UTF-8."""
         number = self._number(key)
         with _library.named(self._index, number):
-            return _library.tag_text(self._file, self._page, number)
+            return _library.tag_text(*self._in_memory(number), number)
 
     def data(self, key: int | str) -> bytes:
         """Returns the bytes of the values of a tag, in the file's byte order."""
@@ -361,7 +397,7 @@ class Tags:
     def told(self, number: int) -> tuple[int, ...]:
         """Returns the unsigned numbers of a tag, none if the page doesn't have the tag."""
         with _library.named(self._index, number):
-            return _library.told_numbers(self._file, self._page, number)
+            return _library.told_numbers(*self._in_memory(number), number)
 
     def _has_zero(self, number: int) -> bool:
         """Tells whether a zero is among the unsigned numbers of a tag. Long lists take numpy."""

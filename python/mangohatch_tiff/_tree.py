@@ -10,7 +10,7 @@ from ._page import TiffPage
 from ._tags import NAMES, Tags
 
 if TYPE_CHECKING:
-    from _typeshed import ReadableBuffer
+    from ._library import File
 
 
 @dataclass(frozen=True, repr=False)
@@ -63,7 +63,7 @@ def name_of(tag: int) -> str:
 
 
 def directory_of(
-    file: ReadableBuffer, listed: ListedDirectory, order: str, pages: dict[int, TiffPage]
+    file: File, listed: ListedDirectory, order: str, pages: dict[int, TiffPage]
 ) -> Directory:
     """Returns a directory of the library's list. Its page is that of the chain, if it is there."""
     page = None
@@ -82,7 +82,7 @@ def directory_of(
     )
 
 
-def directories_of(file: ReadableBuffer, order: str, pages: list[TiffPage]) -> list[Directory]:
+def directories_of(file: File, order: str, pages: list[TiffPage]) -> list[Directory]:
     """Returns the directories of a file that has these pages in its chain."""
     known = {page.offset: page for page in pages}
     listed = _library.list_directories(file)

@@ -2,6 +2,7 @@
 from __future__ import annotations
 
 import math
+import operator
 from collections.abc import Sequence
 from dataclasses import dataclass, replace
 from typing import TYPE_CHECKING, Any, Union
@@ -10,8 +11,9 @@ import numpy
 
 from ._enums import COMPRESSION, EXTRASAMPLE, PHOTOMETRIC, PLANARCONFIG, PREDICTOR, chosen
 from ._library import Status, UnsupportedError
-from ._new_pages import AROUND_SAMPLES, COLORS, Layout, NewPage, NewTag, _write_pages
+from ._new_pages import AROUND_SAMPLES, COLORS, PACKED, Layout, NewPage, NewTag, _write_pages
 from ._new_pages import KINDS as KINDS_OF
+from ._samples import packed
 
 if TYPE_CHECKING:
     from numpy.typing import ArrayLike, NDArray
@@ -26,7 +28,6 @@ KINDS |= {meaning: "Gray" for meaning in TAGGED}
 INTERPRETATION, COLOR_MAP, SHORT = 262, 320, 3
 # Arrays that the library has no color type for, by their kind, and what can be written.
 NOT_WRITTEN = {
-    "b": "the library writes no samples of one bit; array.astype('u1') is written",
     "c": "the library writes no complex samples; array.real and array.imag are written",
 }
 SAMPLES = {"Gray": 1, "RGB": 3, "CMYK": 4}
@@ -52,6 +53,7 @@ class Stored:
     rowsperstrip: int | None = None
     compression: Named = None
     predictor: Union[Named, bool] = None
+    bitspersample: int | None = None
 
 
 @dataclass(frozen=True)
@@ -77,8 +79,9 @@ def ambiguous(shape: tuple[int, ...]) -> ValueError:
 def meaning_of(array: NDArray[Any], given: Samples) -> PHOTOMETRIC:
     """Returns what the samples of an array mean: what the caller says, or what the shape shows.
 
-    Three or four samples of 8 or 16 bits at the end are RGB. Other arrays with a side of 3 or 4
-    where samples may be are RGB for one version of tifffile and gray for another: they are refused.
+    Three or four samples of 8 or 16 bits at the end are RGB, and samples of one bit are gray. Other
+    arrays with a side of 3 or 4 where samples may be are RGB for one version of tifffile and gray
+    for another: they are refused.
     """
     if given.photometric is not None or given.colormap is not None:
         named = "palette" if given.photometric is None else given.photometric
@@ -87,6 +90,8 @@ def meaning_of(array: NDArray[Any], given: Samples) -> PHOTOMETRIC:
             what = f"photometric={meaning.name.lower()}"
             raise UnsupportedError(what, Status.UNSUPPORTED_INTERPRETATION)
         return meaning
+    if array.dtype.kind == "b":
+        return PHOTOMETRIC.MINISBLACK
     apart = given.planarconfig is not None and planar_of(given)
     at_end = array.ndim > 2 and array.shape[-1] in (3, 4) and not apart
     if at_end and array.dtype.kind == "u" and array.itemsize <= 2:
@@ -216,10 +221,41 @@ def judge_array(given: NDArray[Any]) -> None:
     """Refuses arrays of dimensions and of number types that aren't written."""
     if given.ndim < 2:
         raise ValueError(f"an array of {given.ndim} dimensions: rows and columns are written")
-    if given.dtype.kind not in "uif":
+    if given.dtype.kind not in "buif":
         why = NOT_WRITTEN.get(given.dtype.kind, "numbers are written")
         what = f"an array of type {given.dtype}: {why}"
         raise UnsupportedError(what, Status.UNSUPPORTED_SAMPLE_FORMAT)
+
+
+def packed_bits(array: NDArray[Any], wanted: int | None) -> int | None:
+    """Returns how many bits a packed sample of an array has; None for samples of whole bytes.
+
+    The samples of a bool array have one bit, and those of uint8 as many as the caller wants.
+    """
+    kind = array.dtype
+    whole = 1 if kind.kind == "b" else 8 * kind.itemsize
+    bits = whole if wanted is None else operator.index(wanted)
+    if bits == whole:
+        return 1 if kind.kind == "b" else None
+    if kind != numpy.uint8 or bits not in PACKED:
+        what = f"bitspersample={bits} of type {kind}: 1, 2 and 4 of uint8 are written"
+        raise UnsupportedError(what, Status.UNSUPPORTED_BITS_PER_CHANNEL)
+    if array.size and array.max() >> bits:
+        raise ValueError(f"bitspersample={bits}: there are numbers of more bits")
+    return bits
+
+
+def judge_packed(bits: int, meaning: PHOTOMETRIC, count: int, stored: Stored) -> None:
+    """Refuses what the library doesn't write of packed samples: colors, extra samples and tiles."""
+    what = f"samples of {PACKED[bits]}"
+    if KINDS[meaning] != "Gray" or meaning is PHOTOMETRIC.PALETTE:
+        what = f"photometric={meaning.name.lower()} of {what}: gray ones are written"
+        raise UnsupportedError(what, Status.UNSUPPORTED_COLOR_TYPE)
+    if count > 1:
+        what = f"{count} {what} a pixel: one is written"
+        raise UnsupportedError(what, Status.UNSUPPORTED_COLOR_TYPE)
+    if stored.tile:
+        raise UnsupportedError(f"tiles of {what}: strips are written", Status.INVALID_INPUT)
 
 
 def meaning_tags(
@@ -230,7 +266,7 @@ def meaning_tags(
         raise ValueError("a colormap is there with photometric='palette', and with it alone")
     if meaning not in TAGGED:
         return ()
-    if kind.kind != "u":
+    if kind.kind not in "bu":
         what = f"photometric={meaning.name.lower()} of type {kind}: unsigned numbers are written"
         raise UnsupportedError(what, Status.UNSUPPORTED_INTERPRETATION)
     tags = (NewTag(INTERPRETATION, SHORT, 1, int(meaning).to_bytes(2, "little")),)
@@ -247,33 +283,49 @@ def pages_of(data: ArrayLike, settings: Settings) -> list[NewPage]:
     """Returns the pages that an array is written as."""
     given = numpy.asarray(data)
     judge_array(given)
+    bits = packed_bits(given, settings.stored.bitspersample)
     meaning = meaning_of(given, settings.samples)
     color, told = KINDS[meaning], settings.samples
-    own = meaning_tags(meaning, given.dtype, told.colormap)
     if meaning is PHOTOMETRIC.PALETTE:
         told = replace(told, planarconfig=None, extrasamples=None)
     if color != "Gray" and given.ndim < 3:
         raise ValueError(f"an array of shape {given.shape} has no samples of {color}")
     pages, apart = pages_of_array(given, color, told)
-    if max(pages.shape[1:3]) > LONGEST_SIDE:
-        raise ValueError(f"a side of an image is {LONGEST_SIDE} at most")
-    if not len(pages):
-        raise ValueError(f"an array of shape {given.shape} has no page")
-    _, rows, _, count = pages.shape
-    kind, extra = color_type_of(count, color, given.dtype.str[1:], told)
+    judge_sides(pages, given.shape)
+    _, rows, columns, count = pages.shape
+    if bits:
+        judge_packed(bits, meaning, count, settings.stored)
+    own = meaning_tags(meaning, given.dtype, told.colormap)
+    number = PACKED[bits] if bits else given.dtype.str[1:]
+    kind, extra = color_type_of(count, color, number, told)
     layout = layout_of(rows, given.dtype.kind, settings.stored)
     layout = replace(layout, planar=apart and count > 1, extra=extra)
-    order = given.dtype.newbyteorder("<")
     return [
         NewPage(
             kind,
-            numpy.ascontiguousarray(page, order),
+            samples_of(page, bits),
             layout,
             own + settings.tags + (settings.first_tags if index == 0 else ()),
             settings.resolution,
+            columns,
         )
         for index, page in enumerate(pages)
     ]
+
+
+def judge_sides(pages: NDArray[Any], shape: tuple[int, ...]) -> None:
+    """Refuses sides that no image has, and an array of no pages."""
+    if max(pages.shape[1:3]) > LONGEST_SIDE:
+        raise ValueError(f"a side of an image is {LONGEST_SIDE} at most")
+    if not len(pages):
+        raise ValueError(f"an array of shape {shape} has no page")
+
+
+def samples_of(page: NDArray[Any], bits: int | None) -> NDArray[Any]:
+    """Returns the rows, columns and samples of a page as the library takes them."""
+    if bits is None:
+        return numpy.ascontiguousarray(page, page.dtype.newbyteorder("<"))
+    return packed(page[:, :, 0].view(numpy.uint8), bits)[:, :, None]
 
 
 def judge_shape(pages: list[NewPage]) -> None:

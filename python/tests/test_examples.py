@@ -2,6 +2,7 @@
 from __future__ import annotations
 
 import os
+import re
 import subprocess
 import sys
 from pathlib import Path
@@ -102,6 +103,18 @@ def test_programs(tmp_path: Path) -> None:
     assert "(20, 25)" in run("sub_ifd.py", path, made)
     numpy.testing.assert_array_equal(mt.imread(made), image[::2, ::2])
     assert run("tagged.py", made) == "a ramp (0.5, 0.5, 0.0)\n"
+
+
+def test_remote_tile(tmp_path: Path) -> None:
+    """A tile of a file behind HTTP takes four requests, for the header, two lists and the tile."""
+    image = samples((4096, 4096), "u1")
+    path, made = tmp_path / "page.tif", tmp_path / "made.tif"
+    tifffile.imwrite(path, image, photometric="minisblack", tile=(128, 128), bigtiff=True)
+    told = run("remote_tile.py", path, 2000, 3000, made)
+    assert told.startswith("shape (128, 128), uint8: ")
+    requests, fetched, size = map(int, re.findall(r"(\d+) (?:requests|of|bytes)", told))
+    assert requests <= 4 and 10 * fetched < size
+    numpy.testing.assert_array_equal(mt.imread(made), image[1920:2048, 2944:3072])
 
 
 def test_scanned_pages(tmp_path: Path) -> None:

@@ -25,6 +25,8 @@ WRITTEN = {
 }
 # A chunk is read into so many bytes more than it may have, and into fewer.
 MORE, CHANGES = 64, 40
+# The first chunk and how many: none, chunks that are there or not, more than have numbers.
+RUNS = [(0, 0), (0, 1), (0, 4), (1, 3), (3, 9), (39, 0), (1, 2**32 - 1), (2**32 - 1, 0)]
 
 
 def counted(monkeypatch: pytest.MonkeyPatch, name: str) -> list[tuple]:
@@ -50,11 +52,27 @@ def test_a_page_takes_its_plan_once(workers: int, monkeypatch: pytest.MonkeyPatc
     numpy.testing.assert_array_equal(page.asarray(workers=1), image)
     assert not plans
     page.read_chunk(3)
-    chunks = counted(monkeypatch, "READ_PLANNED_CHUNK")
+    ones = counted(monkeypatch, "READ_PLANNED_CHUNK")
+    runs = counted(monkeypatch, "READ_PLANNED_CHUNKS")
     numpy.testing.assert_array_equal(page.asarray(workers=4), image)
     numpy.testing.assert_array_equal(page.read(slice(3, 50), workers=workers), image[3:50])
     assert len(list(page.segments(workers=workers))) == 20
-    assert len(plans) == 1 and not others and len(chunks) == 20 + 20 + 20
+    assert len(plans) == 1 and not others
+    # of each line of five tiles four at once and one alone, and then all tiles, four at once
+    assert len(ones) == 4 + 4 and [run[4] for run in runs] == [4] * (4 + 4 + 5)
+
+
+def test_a_run_of_a_page_with_many_chunks(monkeypatch: pytest.MonkeyPatch) -> None:
+    """Of a page with many more chunks than a run has, none but those of the run are looked up."""
+    image, made = samples((16 * 4, 16 * 64), "u1"), io.BytesIO()
+    tifffile.imwrite(made, image, photometric="minisblack", tile=(16, 16))
+    page = mt.TiffFile(made.getvalue()).pages[0]
+    few, many = counted(monkeypatch, "READ_PLANNED_CHUNKS"), counted(monkeypatch, "READ_CHUNKS")
+    for columns in (slice(16, 48), slice(0, 16 * 64)):
+        part = page.read(slice(16, 32), columns, workers=1)
+        numpy.testing.assert_array_equal(part, image[16:32, columns])
+    assert [run[3:5] for run in few + many] == [(65, 2), (64, 64)]
+    assert len(few) == len(many) == 1
 
 
 @pytest.mark.parametrize("kind", [1, 13])
@@ -62,10 +80,11 @@ def test_a_page_without_a_plan(kind: int, monkeypatch: pytest.MonkeyPatch) -> No
     """Offsets of another type make no plan, and the chunks are read all the same."""
     page = mt.TiffFile(gray_file(t273=(kind, 8))).pages[0]
     assert page._planned.plan is None
-    planned = counted(monkeypatch, "READ_PLANNED_CHUNK")
+    ones = counted(monkeypatch, "READ_PLANNED_CHUNK")
+    runs = counted(monkeypatch, "READ_PLANNED_CHUNKS")
     numpy.testing.assert_array_equal(page.read_chunk(0), page.asarray())
     numpy.testing.assert_array_equal(page.read(slice(1, 3)), page.asarray()[1:3])
-    assert not planned
+    assert not ones and not runs
 
 
 @pytest.mark.parametrize("big", [False, True])
@@ -88,20 +107,21 @@ def assert_read_the_same(file: bytes, place: int, size: int) -> int:
     """Compares the chunks of a page as its plan and as its number read them; returns how many."""
     plan, count = PagePlan(), 0
     room = [numpy.zeros(size + MORE, "u1") for _ in range(2)]
+    one = (_library.READ_PLANNED_CHUNK, _library.READ_CHUNK)
+    several = (_library.READ_PLANNED_CHUNKS, _library.READ_CHUNKS)
+    asked = [(one, (chunk,)) for chunk in range(40)] + [(several, run) for run in RUNS]
     with _library.locked(file) as (address, length):
         refused = _library.PAGE_PLAN(address, length, place, byref(plan))
         if refused == mt.Status.INVALID_TYPE_FOR_TAG:
             return 0
-        for chunk in range(40):
+        for calls, chunks in asked:
             for most in (size + MORE, max(0, size - 1), 7):
                 told = [refused, 0]
-                for at, (call, page) in enumerate((
-                    (_library.READ_PLANNED_CHUNK, plan), (_library.READ_CHUNK, place)
-                )):
+                for at, (call, page) in enumerate(zip(calls, (plan, place))):
                     room[at][:] = 7
                     if at or not refused:
-                        told[at] = call(address, length, page, chunk, room[at].ctypes.data, most)
-                assert told[0] == told[1], (chunk, most)
+                        told[at] = call(address, length, page, *chunks, room[at].ctypes.data, most)
+                assert told[0] == told[1], (chunks, most)
                 if told[0] == mt.Status.DONE:
                     numpy.testing.assert_array_equal(room[0], room[1])
                     count += 1

@@ -69,22 +69,22 @@ def test_windows(options: dict, workers: int, monkeypatch: pytest.MonkeyPatch) -
             numpy.testing.assert_array_equal(out, expected)
 
 
-def chunks_read(monkeypatch: pytest.MonkeyPatch, read: Callable[[], object]) -> list[int]:
-    """Returns the numbers of the chunks that the library reads during a call."""
-    found: list[int] = []
-    several, one = _library.READ_CHUNKS, _library.READ_PLANNED_CHUNK
+def noting(call: Callable[..., int], found: list[int]) -> Callable[..., int]:
+    """Returns a call that reads several chunks, and first notes their numbers."""
 
     def read_several(*given: int) -> int:
         found.extend(range(given[3], given[3] + given[4]))
-        return int(several(*given))
+        return int(call(*given))
 
-    def read_one(*given: int) -> int:
-        found.append(given[3])
-        return int(one(*given))
+    return read_several
 
+
+def chunks_read(monkeypatch: pytest.MonkeyPatch, read: Callable[[], object]) -> list[int]:
+    """Returns the numbers of the chunks that the library reads during a call, several at once."""
+    found: list[int] = []
     with monkeypatch.context() as patch:
-        patch.setattr(_library, "READ_CHUNKS", read_several)
-        patch.setattr(_library, "READ_PLANNED_CHUNK", read_one)
+        for name in ("READ_CHUNKS", "READ_PLANNED_CHUNKS"):
+            patch.setattr(_library, name, noting(getattr(_library, name), found))
         read()
     return found
 

@@ -86,15 +86,13 @@ def test_longer_than_guessed(options: dict) -> None:
 
 REFUSED = [
     samples((3, 4), "f2"),
-    samples((3, 4), "u1") > 7,
     samples((3, 4), "c8"),
 ]
 
 
 @pytest.mark.parametrize("array", REFUSED)
 def test_refusals_say_what_is_written(array: numpy.ndarray) -> None:
-    told = {"bool": "one bit; array.astype.'u1'. is written", "complex64": "real and array.imag"}
-    told["float16"] = "these are written: .*float32"
+    told = {"complex64": "real and array.imag", "float16": "these are written: .*float32"}
     with pytest.raises(mt.UnsupportedError, match=told[str(array.dtype)]):
         mt.imwrite(None, array)
 
@@ -147,7 +145,6 @@ OTHERS = {
     "ome": True,
     "shaped": True,
     "volumetric": True,
-    "bitspersample": 4,
     "compressionargs": {"level": 3},
     "subsampling": (2, 2),
     "jpegtables": b"",

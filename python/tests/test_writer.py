@@ -91,8 +91,8 @@ def test_what_is_refused(tmp_path: Path) -> None:
                 writer.write(samples((3, 4), "u1"), **given)
         with pytest.raises(TypeError, match="colour"):
             writer.write(samples((3, 4), "u1"), colour="rgb")
-        with pytest.raises(mt.UnsupportedError, match="bool"):
-            writer.write(samples((3, 4), "u1") > 7)
+        with pytest.raises(mt.UnsupportedError, match="complex64"):
+            writer.write(samples((3, 4), "c8"))
         writer.write(samples((3, 4), "u1"), subifds=None, contiguous=False)
     numpy.testing.assert_array_equal(mt.imread(path), samples((3, 4), "u1"))
 
