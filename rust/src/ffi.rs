@@ -1,4 +1,4 @@
-//! The calls of the C library, of version 4, over slices. All `unsafe` of this crate is here.
+//! The calls of the C library, over slices. All `unsafe` of this crate is here.
 //!
 //! What the header asks of each call that gets pointers is that none is null, that the memory that
 //! the call reads stays as it is meanwhile, and that the memory that it writes lies apart from that.

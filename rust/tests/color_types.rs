@@ -20,7 +20,7 @@ enum Kind {
 use Kind::{Floating, Signed, Unsigned};
 
 /// The color types, by their number in the header for C.
-const COLORS: [(&str, ColorType, Kind); 30] = [
+const COLORS: [(&str, ColorType, Kind); 33] = [
     ("Gray8", ColorType::Gray(8), Unsigned),
     ("Gray16", ColorType::Gray(16), Unsigned),
     ("Gray32", ColorType::Gray(32), Unsigned),
@@ -51,7 +51,16 @@ const COLORS: [(&str, ColorType, Kind); 30] = [
     ("CMYK64Float", ColorType::CMYK(64), Floating),
     ("YCbCr8", ColorType::YCbCr(8), Unsigned),
     ("CMYKA8", ColorType::CMYKA(8), Unsigned),
+    ("Gray1", ColorType::Gray(1), Unsigned),
+    ("Gray2", ColorType::Gray(2), Unsigned),
+    ("Gray4", ColorType::Gray(4), Unsigned),
 ];
+
+/// Returns how many bytes a row of so many pixels has.
+fn row_bytes(color: ColorType, width: usize) -> usize {
+    let bits = usize::from(color.num_samples()) * usize::from(color.bit_depth());
+    (width * bits + 7) / 8
+}
 
 /// Returns the name of the number type of samples.
 fn type_of(samples: &DecodingResult) -> &'static str {
@@ -72,7 +81,7 @@ fn type_of(samples: &DecodingResult) -> &'static str {
 
 /// Reads an image by all calls that read one.
 fn read_back(decoder: &mut Reader, color: ColorType, kind: Kind, samples: &[u8], what: &str) {
-    let bits = color.bit_depth();
+    let bits = color.bit_depth().max(8);
     assert_eq!(decoder.colortype().unwrap(), color, "{what}");
     let mut image = decoder.read_image().unwrap();
     let letter = match kind {
@@ -113,10 +122,10 @@ fn read_back(decoder: &mut Reader, color: ColorType, kind: Kind, samples: &[u8],
 fn images_of_each_color_type_are_read_back() {
     let mut random = Random(88172645463325252);
     for (number, (name, color, kind)) in (0..).zip(COLORS) {
-        let predictors: &[u16] = if kind == Floating { &[1] } else { &[1, 2] };
+        let has_none = kind == Floating || color.bit_depth() < 8;
+        let predictors: &[u16] = if has_none { &[1] } else { &[1, 2] };
         for (width, height) in [(1, 1), (7, 5), (129, 40)] {
-            let pixel = usize::from(color.num_samples()) * usize::from(color.bit_depth()) / 8;
-            let samples = random.bytes(width as usize * height as usize * pixel);
+            let samples = random.bytes(row_bytes(color, width as usize) * height as usize);
             for version in [CLASSIC, BIG] {
                 for method in [UNCOMPRESSED, PACKBITS] {
                     for &predictor in predictors {
@@ -145,9 +154,9 @@ fn images_of_each_color_type_are_read_back() {
 fn images_in_strips_are_read_back() {
     let mut random = Random(362436069);
     for (name, color, kind) in COLORS {
-        let size = usize::from(color.bit_depth()) / 8;
+        let size = usize::from(color.bit_depth().max(8)) / 8;
         let (width, height, rows) = (5usize, 11usize, 3);
-        let samples = random.bytes(width * height * usize::from(color.num_samples()) * size);
+        let samples = random.bytes(row_bytes(color, width) * height);
         let words = samples.chunks(size).map(|sample| {
             let mut number = [0; 8];
             number[..size].copy_from_slice(sample);

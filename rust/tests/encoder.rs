@@ -9,7 +9,7 @@ use common::{open, try_jobs, write_image, write_jobs, Image, Reader, BIG, CLASSI
 use tiff::decoder::ifd::Value;
 use tiff::decoder::{Decoder, DecodingResult};
 use tiff::encoder::colortype::{
-    self, ColorType as _, Gray16, Gray32Float, Gray8, GrayI16, RGB16, RGB8,
+    self, ColorType as _, Gray1, Gray16, Gray2, Gray32Float, Gray4, Gray8, GrayI16, RGB16, RGB8,
 };
 use tiff::encoder::compression::{CompressionAlgorithm, Compressor, Packbits, Uncompressed};
 use tiff::encoder::{
@@ -624,6 +624,40 @@ fn predictors_are_refused() {
     assert!(matches!(
         floating.write_image::<Gray32Float>(1, 1, &[1.5]),
         Err(TiffError::UsageError(UsageError::PredictorUnavailable))
+    ));
+}
+
+#[test]
+fn packed_pixels_have_bytes_as_samples() {
+    let rows = [0x80, 0, 0x40, 0xff, 0x80, 0x7f];
+    let file = classic(|encoder| {
+        let mut image = encoder.new_image::<Gray1>(9, 3).unwrap();
+        let extra = image.extra_samples(&[ExtraSamples::Unspecified]);
+        assert_eq!(kind_of(extra), io::ErrorKind::InvalidInput);
+        assert_eq!(image.next_strip_sample_count(), 6);
+        image.rows_per_strip(2).unwrap();
+        assert_eq!(image.next_strip_sample_count(), 4);
+        assert_eq!(
+            kind_of(image.write_strip(&rows)),
+            io::ErrorKind::InvalidData
+        );
+        image.write_strip(&rows[..4]).unwrap();
+        assert_eq!(image.next_strip_sample_count(), 2);
+        image.write_data(&rows[4..]).unwrap();
+        encoder.write_image::<Gray4>(3, 1, &[0x12, 0x30]).unwrap();
+    });
+    let jobs = "image Gray1 9 3\nrows_per_strip 2\nwrite_data 128 0 64 255 128 127\nimage Gray4 3 1\nwrite_data 18 48\n";
+    assert_eq!(file, write_jobs(CLASSIC, jobs));
+    let mut decoder = open(&file).unwrap();
+    assert_eq!(decoder.colortype().unwrap(), ColorType::Gray(1));
+    assert_eq!(u8s(decoder.read_image().unwrap()), rows);
+
+    let mut encoder = TiffEncoder::new(Cursor::new(Vec::new()))
+        .unwrap()
+        .with_predictor(Predictor::Horizontal);
+    assert!(matches!(
+        encoder.write_image::<Gray2>(4, 1, &[27]),
+        Err(TiffError::UsageError(UsageError::PredictorIncompatible))
     ));
 }
 

@@ -169,7 +169,8 @@ where
     let mut tags = Vec::new();
     let mut color = color;
     let mut count = C::BITS_PER_SAMPLE.len();
-    if matches!(color, ColorType::Gray(_)) && random.below(3) == 0 {
+    let is_packed = color.bit_depth() < 8;
+    if matches!(color, ColorType::Gray(_)) && !is_packed && random.below(3) == 0 {
         image.extra_samples(&[ExtraSamples::Unspecified]).unwrap();
         image
             .extra_samples(&[ExtraSamples::UnassociatedAlpha])
@@ -184,7 +185,11 @@ where
         let rows = 1 + random.below(sides.1 as usize) as u32;
         image.rows_per_strip(rows).unwrap();
     }
-    let row = u64::from(sides.0) * count as u64;
+    let pixels = u64::from(sides.0);
+    let row = match is_packed {
+        true => (pixels * u64::from(color.bit_depth()) + 7) / 8,
+        false => pixels * count as u64,
+    };
     let rows = (image.next_strip_sample_count() / row) as u32;
     if random.below(2) == 0 {
         let value = Rational { n: 72, d: 1 };
@@ -198,7 +203,7 @@ where
     for _ in 0..random.below(5) {
         set_any(&mut image, &mut tags, random);
     }
-    let samples = numbers::<C::Inner>(random, sides.0 as usize * sides.1 as usize * count);
+    let samples = numbers::<C::Inner>(random, row as usize * sides.1 as usize);
     let size = C::Inner::BYTE_LEN;
     write_samples(image, &samples, random);
     Page {
@@ -256,7 +261,7 @@ fn round_trip<K: TiffKind>(method: Compression, predictor: Predictor, random: &m
         ($($name:ident $color:ident $bits:literal;)*) => {
             $(
                 let is_floating = colortype::$name::SAMPLE_FORMAT[0] == SampleFormat::IEEEFP;
-                if predictor == Predictor::None || !is_floating {
+                if predictor == Predictor::None || !(is_floating || $bits < 8) {
                     let color = ColorType::$color($bits);
                     let page = add::<K, colortype::$name>(&mut encoder, color, random);
                     pages.push(page);
@@ -275,6 +280,7 @@ fn round_trip<K: TiffKind>(method: Compression, predictor: Predictor, random: &m
         CMYK8 CMYK 8; CMYK16 CMYK 16; CMYK32 CMYK 32; CMYK64 CMYK 64;
         CMYK32Float CMYK 32; CMYK64Float CMYK 64;
         YCbCr8 YCbCr 8; CMYKA8 CMYKA 8;
+        Gray1 Gray 1; Gray2 Gray 2; Gray4 Gray 4;
     }
     encoder.finish().unwrap();
     let mut decoder = open(file.get_ref()).unwrap();

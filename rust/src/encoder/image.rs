@@ -41,19 +41,28 @@ fn check_predictor<C: ColorType>(predictor: Predictor) -> TiffResult<()> {
         C::SAMPLE_FORMAT.first(),
         Some(SampleFormat::IEEEFP | SampleFormat::Void)
     );
+    let has_none = is_floating || colortype::packed_bits::<C>() != 0;
     match predictor {
-        Predictor::Horizontal if is_floating => Err(UsageError::PredictorIncompatible.into()),
+        Predictor::Horizontal if has_none => Err(UsageError::PredictorIncompatible.into()),
         Predictor::FloatingPoint => Err(UsageError::PredictorUnavailable.into()),
         _ => Ok(()),
     }
 }
 
-/// Returns the number of a color type for the C library, which refuses all but thirty.
+/// Returns the number of a color type for the C library, which refuses all others.
 fn color_number<C: ColorType>() -> TiffResult<u32> {
     colortype::number_of::<C>().ok_or_else(|| {
         let bits = C::BITS_PER_SAMPLE.iter().map(|&bits| bits as u8).collect();
         TiffUnsupportedError::InterpretationWithBits(C::TIFF_VALUE, bits).into()
     })
+}
+
+/// Returns how many samples a row of so many pixels has: of packed pixels, how many bytes.
+fn row_samples<C: ColorType>(width: u32) -> u64 {
+    match u64::from(colortype::packed_bits::<C>()) {
+        0 => u64::from(width) * C::BITS_PER_SAMPLE.len() as u64,
+        bits => (u64::from(width) * bits + 7) / 8,
+    }
 }
 
 impl<'a, W: 'a + Write + Seek, T: ColorType, K: TiffKind> ImageEncoder<'a, W, T, K> {
@@ -68,7 +77,7 @@ impl<'a, W: 'a + Write + Seek, T: ColorType, K: TiffKind> ImageEncoder<'a, W, T,
         let (compression, predictor) = (encoder.compression, encoder.predictor);
         check_predictor::<T>(predictor)?;
         let color = color_number::<T>()?;
-        let row_samples = u64::from(width) * T::BITS_PER_SAMPLE.len() as u64;
+        let row_samples = row_samples::<T>(width);
         let row_bytes = row_samples * u64::from(T::Inner::BYTE_LEN);
         let rows_per_strip = match compression {
             Compression::Packbits => 1,
@@ -93,11 +102,15 @@ impl<'a, W: 'a + Write + Seek, T: ColorType, K: TiffKind> ImageEncoder<'a, W, T,
     }
 
     /// Adds samples to each pixel, behind those of its color and those that were added before.
-    /// Errors: behind a strip, `ReconfiguredAfterImageWrite`; more than 65,535 samples in a pixel,
-    /// `IntSizeError`.
+    /// Errors: behind a strip, `ReconfiguredAfterImageWrite`; packed pixels, which have none, an
+    /// `IoError` of the kind [`InvalidInput`](io::ErrorKind::InvalidInput); more than 65,535 samples in
+    /// a pixel, `IntSizeError`.
     pub fn extra_samples(&mut self, extra: &[ExtraSamples]) -> Result<(), TiffError> {
         if self.strips != 0 {
             return Err(UsageError::ReconfiguredAfterImageWrite.into());
+        }
+        if colortype::packed_bits::<T>() != 0 {
+            return Err(invalid_input("packed pixels have no extra samples"));
         }
         let before = T::BITS_PER_SAMPLE.len() + self.page.extra_samples.len();
         let samples = u16::try_from(before + extra.len())?;
