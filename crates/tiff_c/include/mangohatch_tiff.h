@@ -501,7 +501,8 @@ tiff_status tiff_byte_order(const uint8_t *file, size_t len, uint32_t *order);
    A window is SIZE bytes of a file, from its offset on, which the caller has read. A struct
    tiff_windows is what the caller has of a file: the LEN bytes of the whole file, which it knows, and
    COUNT windows in ascending order, which lie in the file and don't overlap. The calls below do what
-   the ones without _in do on the whole file, and ask for no byte that these don't ask for.
+   the ones without _in do on the whole file. Each begins anew, so a chunk whose data are packed is
+   unpacked from its start once for each answer that wants more: fetch all of its bytes at once.
    If a call needs a byte that no window has, it returns TIFF_BYTES_WANTED and puts what it needs next
    into *WANTED: at least one byte, the first of which no window has. The caller reads these bytes, or
    more around them, as whole pages of 4 or 64 KB, adds a window, and calls again. As each such answer
