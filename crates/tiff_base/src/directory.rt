@@ -1,6 +1,6 @@
 //! Directories (IFDs): a field for each of some tags.
 
-ghost use Rattle.std.specs.Prelude.{◌≡◌, ℕ, ◌^◌, ◌<◌, ◌++◌, ◌∷◌, [], List, IfErr, IfOk, OnOk, OnErr, None, option_map, slice_get, unwrap_or, ◌==◌};
+ghost use Rattle.std.specs.Prelude.{◌≡◌, ℕ, ◌^◌, ◌<◌, ◌++◌, ◌∷◌, [], List, IfErr, IfOk, OnOk, OnErr, IsOk, None, true, option_map, slice_get, unwrap_or, ◌==◌};
 ghost use Rattle.std.specs.FinMap as map;
 ghost use Rattle.std.specs.Iterator.{Drains, ExtendsWithItems, IsFinite, YieldsFirstBy, item_count};
 ghost use Rattle.std.specs.Option.{IfSome};
@@ -263,12 +263,14 @@ impl Directory {
         self.entries.reserve(1)
     }
 
-    /// Sets the field of a tag number. After an error the directory is unchanged.
+    /// Sets the field of a tag number. After an error the directory is unchanged. A tag that has a field
+    /// is set without an error.
     #[tactic(auto, using(crate::proofs::Places::inserted_in_gap, crate::proofs::Places::replaced_at))]
     pub fn insert(&mut self, tag: u16, entry: Entry) -> Result<(), AllocError>
         ensures ok { OnOk result
             (self.new ≡ record self.old { entries = map.insert self.old.entries tag entry }) }
         ensures err { OnErr result (self.new ≡ self.old) }
+        ensures there { map.contains_key self.old.entries tag ≡ true → IsOk result }
     {
         entry.fits();
         match place_in(&self.entries, tag) {

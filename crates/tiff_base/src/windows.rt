@@ -1,7 +1,7 @@
 //! Windows of a file, and the source that they are: so a file is read of which most bytes are
 //! elsewhere, as on a disk or behind a network.
 
-ghost use Rattle.std.specs.Prelude.{◌≡◌, [], None, ℕ, ◌+◌, ◌-◌, ◌<◌, ◌≤◌, ◌^◌, List, IfSome, IsSome, length, All, nat_le, true, false};
+ghost use Rattle.std.specs.Prelude.{◌≡◌, [], None, ℕ, ◌+◌, ◌-◌, ◌<◌, ◌≤◌, ◌^◌, List, IfSome, IsSome, MatchOption, length, All, nat_le, true, false};
 ghost use Rattle.std.specs.Option.{ForSome};
 ghost use Rattle.std.specs.List.Sorted.{IsPartitionPoint};
 ghost use Rattle.tiff_base.specs.SourceAndSink.{AreOctets, AreReadable, answers_for};
@@ -106,30 +106,43 @@ fn count_until(windows: &[Window<'_>], at: u64) -> usize
     )
 }
 
-impl Windows<'_> {
-    /// Whether the windows lie within the file, and follow one another without an overlap. If they
-    /// do, there is a file that they are of.
-    pub fn are_in_order(&self) -> bool
-        ensures order { result ≡ true → IsSome (behind_windows self.now.len self.now.windows.now) }
-        ensures disorder { result ≡ false → behind_windows self.now.len self.now.windows.now ≡ None }
-        ensures apart { result ≡ true → AreApart self.now.windows.now }
-        ensures file { result ≡ true → (file : List ℕ) → AreWindowsOf (file_of file self.now) self.now }
-    {
-        behind_windows(self.len, self.windows).is_some()
-    }
+/// Windows that lie within their file and follow one another without an overlap.
+#[derive(Drop)]
+pub struct OrderedWindows<'a> {
+    seen: Windows<'a>,
+    ghost apart: { AreApart seen.windows.now },
+}
 
+impl<'a> Windows<'a> {
+    /// Returns the windows as ones in order: they lie within the file, and follow one another without
+    /// an overlap. If they do, there is a file that they are of. Returns `None` for others.
+    pub fn in_order(&self) -> Option<OrderedWindows<'a>>
+        ensures order { MatchOption result
+            (behind_windows self.now.len self.now.windows.now ≡ None)
+            (λ o. (o.seen ≡ self.now) × IsSome (behind_windows self.now.len self.now.windows.now)) }
+        ensures file { IfSome result
+            (λ o. (file : List ℕ) → AreWindowsOf (file_of file self.now) self.now) }
+    {
+        match behind_windows(self.len, self.windows) {
+            Some(_end) => Some(OrderedWindows { seen: *self }),
+            None => None,
+        }
+    }
+}
+
+impl OrderedWindows<'_> {
     // Returns the index of the window that has the byte at an offset.
     fn window_at(&self, at: u64) -> Option<usize>
-        requires apart { AreApart self.now.windows.now }
-        requires within { at < self.now.len }
-        ensures has { IfSome result (HasWindowAt self.now.windows.now at) }
-        ensures none { result ≡ None → answers_for (seen_by self.now []).readable at ≡ false }
+        requires within { at < self.now.seen.len }
+        ensures has { IfSome result (HasWindowAt self.now.seen.windows.now at) }
+        ensures none { result ≡ None → answers_for (seen_by self.now.seen []).readable at ≡ false }
     {
-        let count = count_until(self.windows, at);
+        let windows = self.seen.windows;
+        let count = count_until(windows, at);
         if count == 0 {
             return None;
         }
-        let window = &self.windows[count - 1];
+        let window = &windows[count - 1];
         if at - window.offset >= window.bytes.len() as u64 {
             return None;
         }
@@ -139,16 +152,15 @@ impl Windows<'_> {
     /// Returns the bytes of the file from its offset 0 on, up to `len` of them, that no window has:
     /// from the first such byte on. Returns `None` if the windows have them all.
     pub fn wanted_of_front(&self, len: u64) -> Option<Stretch>
-        requires apart { AreApart self.now.windows.now }
-        ensures wanted { IfSome result (IsWanted self.now) }
-        ensures none { result ≡ None → (file : List ℕ) → AreReadable (seen_by self.now file) 0 len }
+        ensures wanted { IfSome result (IsWanted self.now.seen) }
+        ensures none { result ≡ None → (file : List ℕ) → AreReadable (seen_by self.now.seen file) 0 len }
     {
-        let end = len.min(self.len);
+        let end = len.min(self.seen.len);
         let mut at = 0;
         'windows: while at < end {
             match self.window_at(at) {
                 Some(i) => {
-                    let window = &self.windows[i];
+                    let window = &self.seen.windows[i];
                     at = window.offset.saturating_add(window.bytes.len() as u64);
                 }
                 None => {
@@ -167,28 +179,26 @@ impl Windows<'_> {
 /// read asked for are kept as wanted.
 #[derive(Drop)]
 pub struct WindowSource<'a, F: SeenFile> {
-    seen: Windows<'a>,
+    windows: OrderedWindows<'a>,
     wanted: Option<Stretch>,
     failed: Count,
     file: PhantomData<F>,
-    ghost apart: { AreApart seen.windows.now },
     ghost offsets: { length F.bytes < 2 ^ 64 },
-    ghost of: { AreWindowsOf F.bytes seen },
-    ghost wants: { ForSome wanted (IsWanted seen) },
+    ghost of: { AreWindowsOf F.bytes windows.seen },
+    ghost wants: { ForSome wanted (IsWanted windows.seen) },
     ghost noted: { wanted ≡ None → failed ≡ 0 },
 }
 
 impl<'a, F: SeenFile> WindowSource<'a, F> {
-    /// Makes the source of these windows.
-    pub fn new(seen: &Windows<'a>) -> Self
-        requires apart { AreApart seen.now.windows.now }
-        requires of { AreWindowsOf F.bytes seen.now }
-        ensures seen { result.seen ≡ seen.now }
+    /// Makes the source of these windows. The file that they are of is the one that only contracts see.
+    pub fn new(windows: &OrderedWindows<'a>) -> Self
+        requires of { AreWindowsOf F.bytes windows.now.seen }
+        ensures seen { result.windows.seen ≡ windows.now.seen }
         ensures failed { result.failed ≡ 0 }
     {
-        len_fits(seen.len);
+        len_fits(windows.seen.len);
         WindowSource {
-            seen: *seen,
+            windows: OrderedWindows { seen: windows.seen },
             wanted: None,
             failed: Count::new(),
             file: PhantomData,
@@ -197,9 +207,9 @@ impl<'a, F: SeenFile> WindowSource<'a, F> {
 
     /// The bytes that the last failed read asked for, or `None` if no read failed.
     pub fn wanted(&self) -> Option<Stretch>
-        ensures wanted { IfSome result (IsWanted self.now.seen) }
+        ensures wanted { IfSome result (IsWanted self.now.windows.seen) }
         ensures none { result ≡ None → self.now.failed ≡ 0 }
-        ensures len { length F.bytes ≡ self.now.seen.len }
+        ensures len { length F.bytes ≡ self.now.windows.seen.len }
     {
         self.wanted
     }
@@ -207,21 +217,21 @@ impl<'a, F: SeenFile> WindowSource<'a, F> {
     // Notes a read of `len` bytes that fails.
     fn miss(&mut self, at: u64, len: usize)
         requires some { 0 < len }
-        requires within { at < self.old.seen.len }
-        requires unseen { answers_for (seen_by self.old.seen []).readable at ≡ false }
-        ensures seen { self.new.seen ≡ self.old.seen }
+        requires within { at < self.old.windows.seen.len }
+        requires unseen { answers_for (seen_by self.old.windows.seen []).readable at ≡ false }
+        ensures seen { self.new.windows.seen ≡ self.old.windows.seen }
         ensures failed { self.new.failed ≡ self.old.failed + 1 }
     {
         self.wanted = Some(Stretch {
             offset: at,
-            len: (len as u64).min(self.seen.len - at),
+            len: (len as u64).min(self.windows.seen.len - at),
         });
         self.failed.add();
     }
 }
 
 impl<F: SeenFile> Source for WindowSource<'_, F> {
-    ghost told = { λ s. seen_by s.seen F.bytes };
+    ghost told = { λ s. seen_by s.windows.seen F.bytes };
 
     ghost failures = { λ s. s.failed };
 
@@ -230,12 +240,12 @@ impl<F: SeenFile> Source for WindowSource<'_, F> {
     ghost octets = { λ s. s.of.octets };
 
     fn read_at(&mut self, at: u64, buf: &mut [u8]) -> Result<usize, DeviceFault> {
-        if buf.is_empty() || at >= self.seen.len {
+        if buf.is_empty() || at >= self.windows.seen.len {
             return Ok(0);
         }
-        match self.seen.window_at(at) {
+        match self.windows.window_at(at) {
             Some(i) => {
-                let window = &self.seen.windows[i];
+                let window = &self.windows.seen.windows[i];
                 Ok(read_of(window.bytes, at - window.offset, buf))
             }
             None => {

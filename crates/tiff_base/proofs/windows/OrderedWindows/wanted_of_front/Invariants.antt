@@ -1,9 +1,9 @@
 use Rattle.std.proofs.Common.{◌-◌}
 use Rattle.tiff_base.proofs.Seen.{FrontSeen}
-use Rattle.tiff_base.proofs.windows.Windows.wanted_of_front.Given as goal
+use Rattle.tiff_base.proofs.windows.OrderedWindows.wanted_of_front.Given as goal
 
 abbrev pub invariant-windows : goal.invariant-windows
-invariant-windows l = FrontSeen l.self l.at
+invariant-windows l = FrontSeen l.self.seen l.at
 
 abbrev pub decreases-windows : goal.decreases-windows
 decreases-windows l = l.end - l.at
