@@ -5,6 +5,7 @@ use Rattle.std.proofs.Math.Path.{transport}
 use Rattle.std.proofs.lemmas.Bool.{cases_lt, le-leb}
 use Rattle.std.proofs.lemmas.Nat.{mod_below}
 use Rattle.tiff_base.specs.Answers.{◌>>=◌}
+use Rattle.tiff_base.proofs.Common.{bind_ok}
 use Rattle.tiff_base.specs.declared.color.ColorType.{ColorType}
 use Rattle.tiff_base.specs.declared.color.ColorType.TheVariants as color
 use Rattle.tiff_base.specs.declared.error.TiffError.{TiffError}
@@ -38,12 +39,8 @@ use Rattle.tiff_page.specs.Reach.{ChunkReadable, ChunksReadable, PartReadable}
 use Rattle.tiff_page.specs.Rect.{rect, chunks_of_plane}
 use Rattle.tiff_page.proofs.ChunkRows.{row_handed}
 use Rattle.tiff_page.proofs.Covering.{is_placed, unit_shown, unit_plane_gap, unit_row_gap}
-use Rattle.tiff_page.proofs.Planes.{colored, columns, form_read}
+use Rattle.tiff_page.proofs.Planes.{colored, columns, form_read, laid_once}
 use Rattle.tiff_page.proofs.PositionLaws.{chunks_within, placed_each}
-
-first_passed : {B : Type 0} (r : Result (Unit {0}) TiffError) (next : Unit {0} → Result B TiffError) {x : B} → (r >>= next) ≡ Ok x → r ≡ Ok tt
-first_passed (Ok u) next h = refl
-first_passed (Err e) next h = cc
 
 -- a page of which a chunk passes the checks of its form lists the chunk
 is_listed : (p : PageRecord) (limits : Limits) (c : ColorType) (i : ℕ) → form_fault p limits c i ≡ Ok tt → i < length p.offsets
@@ -52,23 +49,10 @@ is_listed p limits c i h =
     ⊎_elim
     (λ (l : i < length p.offsets). l)
     (λ (l : length p.offsets ≤ i).
-    let none : fail_if (nat_le (length p.offsets) i) (FormatError InconsistentSizesEncountered) ≡ Ok tt = first_passed _ _ h in
+    let none : fail_if (nat_le (length p.offsets) i) (FormatError InconsistentSizesEncountered) ≡ Ok tt = (bind_ok (fail_if (nat_le (length p.offsets) i) (FormatError InconsistentSizesEncountered)) _ tt h).1.0 in
     let fault : Err (FormatError InconsistentSizesEncountered) ≡ Ok tt = rw (le-leb (length p.offsets) i l) at none in
     cc)
     (cases_lt i (length p.offsets))
-
--- the layout of all planes is that of one
-laid_once : (p : PageRecord) (w h : ℕ) (l : LayoutRecord) → planes_layout p w h ≡ Ok l → layout_of p w h ≡ Ok l
-unfolding planes_layout
-laid_once p w h l q = by_layout (layout_of p w h) q
-  where
-    widened : (k : LayoutRecord) (w : Result ℕ TiffError) → (w >>= (λ _. Ok k)) ≡ Ok l → k ≡ l
-    widened k (Ok n) h = cc
-    widened k (Err e) h = cc
-
-    by_layout : (r : Result LayoutRecord TiffError) → (r >>= (λ k. wide (k.plane_stride * planes p.planar k.color) >>= (λ _. Ok k))) ≡ Ok l → r ≡ Ok l
-    by_layout (Ok k) h = ap Ok (widened k (wide (k.plane_stride * planes p.planar k.color)) h)
-    by_layout (Err e) h = cc
 
 only_chunk : (n plane i j : ℕ) → plane < 1 → j < 1 → plane * n + (i + j) ≡ i
 only_chunk n plane i j a b =
@@ -278,7 +262,7 @@ module _ (p : PageRecord) (extra : List ExtraSamples) (offsets byte_counts : Lis
             by_fault (Err e) h = refl
             by_fault (Ok u) h =
                 let here : 0 * chunks_of_plane p + (i + 0) ≡ i = omega arith in
-                let formed : form_fault p limits c i ≡ Ok tt = first_passed (form_fault p limits c i) _ ((λ t. chunk_fault p limits (is_short file order p c) c (sym here t)) ∙ h) in
+                let formed : form_fault p limits c i ≡ Ok tt = (bind_ok (form_fault p limits c i) _ tt ((λ t. chunk_fault p limits (is_short file order p c) c (sym here t)) ∙ h)).1.0 in
                 ap Ok (placed_same c stride sides (form_read p limits c i some colored formed).stored (subst (λ n. i < n) counted (is_listed p limits c i formed)) fits buf)
 
             fill_same : fill_buffer file order q limits c (chunk_part q i 1 stride) buf ≡ fill_buffer file order p limits c (chunk_part p i 1 stride) buf

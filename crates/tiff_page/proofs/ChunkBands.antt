@@ -373,10 +373,7 @@ module _ (file : List ℕ) (order : ByteOrder) (p : PageRecord) (limits : Limits
 pub rows_moved : (order : ByteOrder) (p : PageRecord) (color : ColorType) (k from to : ℕ) (mid new f f' : List ℕ) (a a' b b' d d' : ℕ) → f ≡ f' → a ≡ a' → b ≡ b' → d ≡ d'
     → WritesRows f order p color k a b d from to mid new → WritesRows f' order p color k a' b' d' from to mid new
 rows_moved order p color k from to mid new f f' a a' b b' d d' ef ea eb ed w =
-    subst (λ (z : ℕ). WritesRows f' order p color k a' b' z from to mid new) ed
-    (subst (λ (z : ℕ). WritesRows f' order p color k a' z d from to mid new) eb
-    (subst (λ (z : ℕ). WritesRows f' order p color k z b d from to mid new) ea
-    (subst (λ (z : List ℕ). WritesRows z order p color k a b d from to mid new) ef w)))
+    rw (← ef, ← ea, ← eb, ← ed) w
 
 -- the last row of a chunk is within its stored height
 pub rows_of_chunk : (p : PageRecord) (k : ℕ) → (rect p k).height ≤ p.chunk_height

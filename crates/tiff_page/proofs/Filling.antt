@@ -65,11 +65,7 @@ plane_room plane planes rows y h stride len l f r =
 pub chunk_moved : (order : ByteOrder) (p : PageRecord) (color : ColorType) (f f' : List ℕ) (i i' stride stride' top top' left left' : ℕ) (mid new : List ℕ) → f ≡ f' → i ≡ i' → stride ≡ stride' → top ≡ top' → left ≡ left'
     → WritesChunk f order p color i stride top left mid new → WritesChunk f' order p color i' stride' top' left' mid new
 chunk_moved order p color f f' i i' stride stride' top top' left left' mid new ef ei es et el w =
-    subst (λ (z : ℕ). WritesChunk f' order p color i' stride' top' z mid new) el
-    (subst (λ (z : ℕ). WritesChunk f' order p color i' stride' z left mid new) et
-    (subst (λ (z : ℕ). WritesChunk f' order p color i' z top left mid new) es
-    (subst (λ (z : ℕ). WritesChunk f' order p color z stride top left mid new) ei
-    (subst (λ (z : List ℕ). WritesChunk z order p color i stride top left mid new) ef w))))
+    rw (← ef, ← ei, ← es, ← et, ← el) w
 
 -- ---- the chunk of each of several planes
 

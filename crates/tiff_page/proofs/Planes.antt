@@ -18,6 +18,7 @@ use Rattle.tiff_base.specs.declared.tags.PlanarConfiguration.TheVariants.{Chunky
 use Rattle.tiff_base.specs.declared.tags.SampleFormat.{SampleFormat}
 use Rattle.tiff_base.specs.declared.tags.SampleFormat.TheVariants.{Uint}
 use Rattle.tiff_base.specs.Answers.{◌>>=◌}
+use Rattle.tiff_base.proofs.Common.{bind_ok}
 use Rattle.tiff_base.specs.Color.{num_samples}
 use Rattle.tiff_ifd.specs.declared.limits.Limits.{Limits}
 use Rattle.tiff_page.specs.Page.{PageRecord}
@@ -109,138 +110,12 @@ module _ (p : PageRecord) (w h : ℕ) where
   pub layout_gives : (l : LayoutRecord) → layout_of p w h ≡ Ok l → Given (Ok l)
   layout_gives l e = subst Given e layout_given
 
--- ---- a row has at least one byte
-
-abbrev pub Shows : Result ColorType TiffError → Type 0
-Shows (Ok c) = 0 < num_samples c
-Shows (Err e) = Unit {0}
-
-pub no_color_shows : (p : PageRecord) → Shows (no_color p)
-unfolding no_color
-no_color_shows p = tt
-
-pub lab_shows : (f : SampleFormat) (p : PageRecord) → Shows (lab f p)
-lab_shows Uint p = given_if Shows (photometric p == 3) (Ok (Lab p.depth)) (no_color p) (omega arith) (no_color_shows p)
-lab_shows _ p = no_color_shows p
-
-pub gray_shows : (p : PageRecord) → 0 < p.samples → Shows (gray p)
-gray_shows p h = given_if Shows (p.samples == 1) (Ok (Gray p.depth)) (Ok (Multiband p.depth p.samples)) (omega arith) h
-
-pub from_shows : (i : PhotometricInterpretation) (p : PageRecord) → 0 < p.samples → Shows (color_from i p)
-from_shows meaning.RGB p h =
-    given_if Shows (photometric p == 3) (Ok (if first_is_alpha p.extra then RGBA p.depth else RGB p.depth))
-    (if photometric p == 4 then Ok (RGBA p.depth) else no_color p)
-    (given_if (λ c. Shows (Ok c)) (first_is_alpha p.extra) (RGBA p.depth) (RGB p.depth) (omega arith) (omega arith))
-    (given_if Shows (photometric p == 4) (Ok (RGBA p.depth)) (no_color p) (omega arith) (no_color_shows p))
-from_shows meaning.CMYK p h =
-    given_if Shows (photometric p == 4) (Ok (if first_is_alpha p.extra then CMYKA p.depth else CMYK p.depth))
-    (if photometric p == 5 then Ok (CMYKA p.depth) else no_color p)
-    (given_if (λ c. Shows (Ok c)) (first_is_alpha p.extra) (CMYKA p.depth) (CMYK p.depth) (omega arith) (omega arith))
-    (given_if Shows (photometric p == 5) (Ok (CMYKA p.depth)) (no_color p) (omega arith) (no_color_shows p))
-from_shows meaning.YCbCr p h = given_if Shows (photometric p == 3) (Ok (YCbCr p.depth)) (no_color p) (omega arith) (no_color_shows p)
-from_shows meaning.BlackIsZero p h = gray_shows p h
-from_shows meaning.WhiteIsZero p h = gray_shows p h
-from_shows meaning.IccLab p h = lab_shows p.format p
-from_shows _ p h = no_color_shows p
-
-pub shown_some : (planar : PlanarConfiguration) (c : ColorType) → 0 < num_samples c → 0 < samples_in_chunk planar c
-shown_some Chunky c h = h
-shown_some Planar c h = omega arith
-
-pub color_shows : (p : PageRecord) → 0 < p.samples → Shows (color_of p)
-unfolding color_of
-color_shows p h = from_shows p.interpretation p h
-
-pub row_some : (p : PageRecord) (c : ColorType) (w : ℕ) → 0 < w → 0 < p.depth → 0 < num_samples c → 0 < row_bytes p c w
-unfolding row_bits
-row_some p c w a b s = product_some w p.depth (samples_in_chunk p.planar c) a b (shown_some p.planar c s)
-
-pub some_bytes : law.SomeBytes
-some_bytes p w h l wp hp d s e =
-    let g : ((l.row_bytes ≡ row_bytes p l.color w) × (l.plane_stride ≡ row_bytes p l.color w * h)) × ((color_of p ≡ Ok l.color) × (whole_chunks p l.color w ≡ Ok l.color)) = layout_gives p w h l e in
-    let c : 0 < num_samples l.color = subst Shows g.1.0 (color_shows p s) in
-    let r : 0 < row_bytes p l.color w = row_some p l.color w wp d c in
-    (omega (arith, r, g.0.0), omega (arith, one-le-mul r hp, g.0.1))
-
--- the rows of a page whose samples have at least one bit
-pub some_row : (p : PageRecord) (c : ColorType) (w : ℕ) → 0 < p.depth → 0 < p.samples → color_of p ≡ Ok c → 0 < w → 0 < row_bytes p c w
-some_row p c w d s e wp =
-    let k : 0 < num_samples c = subst Shows e (color_shows p s) in
-    row_some p c w wp d k
-
-pub some_plane : (n h : ℕ) → 0 < n → 0 < h → 0 < n * h
-some_plane n h p q = one-le-mul p q
-
--- ---- the first plane
-
-pub each_same : (f g : ℕ → Result (Unit {0}) TiffError) (n : ℕ) → ((k : ℕ) → f k ≡ g k) → each_below f n ≡ each_below g n
-each_same f g zero h = refl
-each_same f g (suc n) h = rw (each_same f g n h, h n) refl
-
-pub one_plane : (f : ℕ → Result (Unit {0}) TiffError) (c j : ℕ) → f j ≡ each_below (λ plane. f (plane * c + (0 + j))) 1
-one_plane f c j = let e : 0 * c + (0 + j) ≡ j = omega arith in ap f (sym e)
-
-pub from_0 : (i : ℕ) → 0 + i ≡ i
-from_0 i = omega arith
-
-pub first_plane_fault : (file : List ℕ) (order : ByteOrder) (p : PageRecord) (limits : Limits) (color : ColorType) (stride : ℕ)
-    → part_fault file order p limits color (image_part p 1 stride) ≡ each_below (chunk_fault p limits (is_short file order p color) color) (chunks_of_plane p)
-first_plane_fault file order p limits color stride =
-    let f : ℕ → Result (Unit {0}) TiffError = chunk_fault p limits (is_short file order p color) color in
-    sym (each_same f (λ j. each_below (λ plane. f (plane * chunks_of_plane p + (0 + j))) 1) (chunks_of_plane p) (one_plane f (chunks_of_plane p)))
-
-pub image_is_first_plane : (file : List ℕ) (order : ByteOrder) (p : PageRecord) (limits : Limits) → image_of file order p limits
-    ≡ (planes_layout p p.width p.height >>= (λ layout. samples file order p limits layout.color (image_part p 1 layout.row_bytes) layout.plane_stride))
-unfolding image_of
-image_is_first_plane file order p limits = refl
-
--- ---- rows of whole bytes
-
-pub whole_depth : (d : ℕ) → is_byte_multiple d ≡ true → d ≡ d / 8 * 8
-whole_depth d h =
-    ⊎_elim (λ (t : (d == 8) ≡ true). let e : d ≡ 8 = eqb-true d 8 t in omega (arith, e))
-    (λ (a : (d == 8) ≡ false).
-    ⊎_elim (λ (t : (d == 16) ≡ true). let e : d ≡ 16 = eqb-true d 16 t in omega (arith, e))
-    (λ (b : (d == 16) ≡ false).
-    ⊎_elim (λ (t : (d == 32) ≡ true). let e : d ≡ 32 = eqb-true d 32 t in omega (arith, e))
-    (λ (c : (d == 32) ≡ false).
-    ⊎_elim (λ (t : (d == 64) ≡ true). let e : d ≡ 64 = eqb-true d 64 t in omega (arith, e))
-    (λ (f : (d == 64) ≡ false). let g : false ≡ true = rw (a, b, c, f) at h in cc)
-    (cases_Bool (d == 64)))
-    (cases_Bool (d == 32)))
-    (cases_Bool (d == 16)))
-    (cases_Bool (d == 8))
-
-pub read_depth : (p : PageRecord) (c : ColorType) → depth_fault p c ≡ Ok tt → (p.depth < 8) ⊎ (p.depth ≡ p.depth / 8 * 8)
-unfolding depth_fault
-read_depth p c h =
-    ⊎_elim (λ (l : p.depth < 8). inl l)
-    (λ (g : 8 ≤ p.depth).
-    ⊎_elim (λ (t : is_byte_multiple p.depth ≡ true). inr (whole_depth p.depth t))
-    (λ (n : is_byte_multiple p.depth ≡ false). let k : Err (UnsupportedError (UnsupportedColorType c)) ≡ Ok tt = rw (n, le-ltb p.depth 8 g) at h in cc)
-    (cases_Bool (is_byte_multiple p.depth)))
-    (cases_lt p.depth 8)
-
-pub aligned_rows : (p : PageRecord) (c : ColorType) (w : ℕ) (a : ColorType) → whole_chunks p c w ≡ Ok a
-    → (parts w p.chunk_width ≤ 1) ⊎ (row_bits p c p.chunk_width ≡ row_bits p c p.chunk_width / 8 * 8)
-aligned_rows p c w a h =
-    let n : ℕ = row_bits p c p.chunk_width in
-    ⊎_elim
-    (λ (t : nat_lt 1 (parts w p.chunk_width) ≡ true).
-    ⊎_elim
-    (λ (z : (row_bits p c p.chunk_width % 8 == 0) ≡ true).
-    inr (omega (arith, eqb-true (n % 8) 0 z, div-add-mod' n 8)))
-    (λ (f : (row_bits p c p.chunk_width % 8 == 0) ≡ false).
-    let k : Err (UnsupportedError MisalignedTileBoundaries) ≡ Ok a = rw (t, f) at h in cc)
-    (cases_Bool (row_bits p c p.chunk_width % 8 == 0)))
-    (λ (f : nat_lt 1 (parts w p.chunk_width) ≡ false). inl (ltb-false 1 (parts w p.chunk_width) f))
-    (cases_Bool (nat_lt 1 (parts w p.chunk_width)))
-
-pub whole_rows : law.WholeRows
-whole_rows p l e d =
-    record { depth = read_depth p l.color d; rows = aligned_rows p l.color p.width l.color (layout_gives p p.width p.height l e).1.1 }
-
--- ---- facts of a page that passed the checks of its form
+-- the layout of all planes is that of one
+pub laid_once : (p : PageRecord) (w h : ℕ) (l : LayoutRecord) → planes_layout p w h ≡ Ok l → layout_of p w h ≡ Ok l
+unfolding planes_layout
+laid_once p w h l q =
+    let one = bind_ok (layout_of p w h) _ l q in
+    one.1.0 ∙ (bind_ok (wide (one.0.plane_stride * planes p.planar one.0.color)) _ l one.1.1).1.1
 
 -- ---- the samples of a color are samples of the page
 
@@ -302,28 +177,85 @@ pub color_stores : (p : PageRecord) → Stores p.samples (color_of p)
 unfolding color_of
 color_stores p = from_stores p.interpretation p
 
-pub shown_stored : (planar : PlanarConfiguration) (p : PageRecord) (c : ColorType) → p.planar ≡ planar → num_samples c ≤ p.samples → samples_in_chunk p.planar c ≤ stored_samples p
-shown_stored Chunky p c e h = rw e h
-shown_stored Planar p c e h = rw e (omega arith)
+-- ---- a row has at least one byte
 
--- ---- depths
+abbrev pub Shows : Result ColorType TiffError → Type 0
+Shows (Ok c) = 0 < num_samples c
+Shows (Err e) = Unit {0}
 
-whole_size : (d : ℕ) → is_byte_multiple d ≡ true → IsSize (d / 8)
+pub shown_some : (planar : PlanarConfiguration) (c : ColorType) → 0 < num_samples c → 0 < samples_in_chunk planar c
+shown_some Chunky c h = h
+shown_some Planar c h = omega arith
+
+shows_of : (r : Result ColorType TiffError) (n : ℕ) → 0 < n → Stores n r → Shows r
+shows_of (Ok (Multiband d m)) n h s = omega (arith, s.1, h)
+shows_of (Ok c) n h s = omega arith
+shows_of (Err e) n h s = tt
+
+pub color_shows : (p : PageRecord) → 0 < p.samples → Shows (color_of p)
+color_shows p h = shows_of (color_of p) p.samples h (color_stores p)
+
+pub row_some : (p : PageRecord) (c : ColorType) (w : ℕ) → 0 < w → 0 < p.depth → 0 < num_samples c → 0 < row_bytes p c w
+unfolding row_bits
+row_some p c w a b s = product_some w p.depth (samples_in_chunk p.planar c) a b (shown_some p.planar c s)
+
+pub some_bytes : law.SomeBytes
+some_bytes p w h l wp hp d s e =
+    let g : ((l.row_bytes ≡ row_bytes p l.color w) × (l.plane_stride ≡ row_bytes p l.color w * h)) × ((color_of p ≡ Ok l.color) × (whole_chunks p l.color w ≡ Ok l.color)) = layout_gives p w h l e in
+    let c : 0 < num_samples l.color = subst Shows g.1.0 (color_shows p s) in
+    let r : 0 < row_bytes p l.color w = row_some p l.color w wp d c in
+    (omega (arith, r, g.0.0), omega (arith, one-le-mul r hp, g.0.1))
+
+-- the rows of a page whose samples have at least one bit
+pub some_row : (p : PageRecord) (c : ColorType) (w : ℕ) → 0 < p.depth → 0 < p.samples → color_of p ≡ Ok c → 0 < w → 0 < row_bytes p c w
+some_row p c w d s e wp =
+    let k : 0 < num_samples c = subst Shows e (color_shows p s) in
+    row_some p c w wp d k
+
+pub some_plane : (n h : ℕ) → 0 < n → 0 < h → 0 < n * h
+some_plane n h p q = one-le-mul p q
+
+-- ---- the first plane
+
+pub each_same : (f g : ℕ → Result (Unit {0}) TiffError) (n : ℕ) → ((k : ℕ) → f k ≡ g k) → each_below f n ≡ each_below g n
+each_same f g zero h = refl
+each_same f g (suc n) h = rw (each_same f g n h, h n) refl
+
+pub one_plane : (f : ℕ → Result (Unit {0}) TiffError) (c j : ℕ) → f j ≡ each_below (λ plane. f (plane * c + (0 + j))) 1
+one_plane f c j = let e : 0 * c + (0 + j) ≡ j = omega arith in ap f (sym e)
+
+pub from_0 : (i : ℕ) → 0 + i ≡ i
+from_0 i = omega arith
+
+pub first_plane_fault : (file : List ℕ) (order : ByteOrder) (p : PageRecord) (limits : Limits) (color : ColorType) (stride : ℕ)
+    → part_fault file order p limits color (image_part p 1 stride) ≡ each_below (chunk_fault p limits (is_short file order p color) color) (chunks_of_plane p)
+first_plane_fault file order p limits color stride =
+    let f : ℕ → Result (Unit {0}) TiffError = chunk_fault p limits (is_short file order p color) color in
+    sym (each_same f (λ j. each_below (λ plane. f (plane * chunks_of_plane p + (0 + j))) 1) (chunks_of_plane p) (one_plane f (chunks_of_plane p)))
+
+pub image_is_first_plane : (file : List ℕ) (order : ByteOrder) (p : PageRecord) (limits : Limits) → image_of file order p limits
+    ≡ (planes_layout p p.width p.height >>= (λ layout. samples file order p limits layout.color (image_part p 1 layout.row_bytes) layout.plane_stride))
+unfolding image_of
+image_is_first_plane file order p limits = refl
+
+-- ---- rows of whole bytes
+
+whole_size : (d : ℕ) → is_byte_multiple d ≡ true → IsSize (d / 8) × (d ≡ d / 8 * 8)
 whole_size d h =
-    ⊎_elim (λ (t : (d == 8) ≡ true). let e : d ≡ 8 = eqb-true d 8 t in inl (omega (arith, e)))
+    ⊎_elim (λ (t : (d == 8) ≡ true). let e : d ≡ 8 = eqb-true d 8 t in (inl (omega (arith, e)), omega (arith, e)))
     (λ (a : (d == 8) ≡ false).
-    ⊎_elim (λ (t : (d == 16) ≡ true). let e : d ≡ 16 = eqb-true d 16 t in inr (inl (omega (arith, e))))
+    ⊎_elim (λ (t : (d == 16) ≡ true). let e : d ≡ 16 = eqb-true d 16 t in (inr (inl (omega (arith, e))), omega (arith, e)))
     (λ (b : (d == 16) ≡ false).
-    ⊎_elim (λ (t : (d == 32) ≡ true). let e : d ≡ 32 = eqb-true d 32 t in inr (inr (inl (omega (arith, e)))))
+    ⊎_elim (λ (t : (d == 32) ≡ true). let e : d ≡ 32 = eqb-true d 32 t in (inr (inr (inl (omega (arith, e)))), omega (arith, e)))
     (λ (c : (d == 32) ≡ false).
-    ⊎_elim (λ (t : (d == 64) ≡ true). let e : d ≡ 64 = eqb-true d 64 t in inr (inr (inr (omega (arith, e)))))
+    ⊎_elim (λ (t : (d == 64) ≡ true). let e : d ≡ 64 = eqb-true d 64 t in (inr (inr (inr (omega (arith, e)))), omega (arith, e)))
     (λ (f : (d == 64) ≡ false). let g : false ≡ true = rw (a, b, c, f) at h in cc)
     (cases_Bool (d == 64)))
     (cases_Bool (d == 32)))
     (cases_Bool (d == 16)))
     (cases_Bool (d == 8))
 
-read_size : (p : PageRecord) (c : ColorType) → depth_fault p c ≡ Ok tt → (p.depth < 8) ⊎ IsSize (p.depth / 8)
+read_size : (p : PageRecord) (c : ColorType) → depth_fault p c ≡ Ok tt → (p.depth < 8) ⊎ (IsSize (p.depth / 8) × (p.depth ≡ p.depth / 8 * 8))
 unfolding depth_fault
 read_size p c h =
     ⊎_elim (λ (l : p.depth < 8). inl l)
@@ -333,10 +265,40 @@ read_size p c h =
     (cases_Bool (is_byte_multiple p.depth)))
     (cases_lt p.depth 8)
 
+read_depth : (p : PageRecord) (c : ColorType) → depth_fault p c ≡ Ok tt → (p.depth < 8) ⊎ (p.depth ≡ p.depth / 8 * 8)
+read_depth p c h = ⊎_elim (λ l. inl l) (λ b. inr b.1) (read_size p c h)
+
+pub aligned_rows : (p : PageRecord) (c : ColorType) (w : ℕ) (a : ColorType) → whole_chunks p c w ≡ Ok a
+    → (parts w p.chunk_width ≤ 1) ⊎ (row_bits p c p.chunk_width ≡ row_bits p c p.chunk_width / 8 * 8)
+aligned_rows p c w a h =
+    let n : ℕ = row_bits p c p.chunk_width in
+    ⊎_elim
+    (λ (t : nat_lt 1 (parts w p.chunk_width) ≡ true).
+    ⊎_elim
+    (λ (z : (row_bits p c p.chunk_width % 8 == 0) ≡ true).
+    inr (omega (arith, eqb-true (n % 8) 0 z, div-add-mod' n 8)))
+    (λ (f : (row_bits p c p.chunk_width % 8 == 0) ≡ false).
+    let k : Err (UnsupportedError MisalignedTileBoundaries) ≡ Ok a = rw (t, f) at h in cc)
+    (cases_Bool (row_bits p c p.chunk_width % 8 == 0)))
+    (λ (f : nat_lt 1 (parts w p.chunk_width) ≡ false). inl (ltb-false 1 (parts w p.chunk_width) f))
+    (cases_Bool (nat_lt 1 (parts w p.chunk_width)))
+
+pub whole_rows : law.WholeRows
+whole_rows p l e d =
+    record { depth = read_depth p l.color d; rows = aligned_rows p l.color p.width l.color (layout_gives p p.width p.height l e).1.1 }
+
+-- ---- facts of a page that passed the checks of its form
+
+pub shown_stored : (planar : PlanarConfiguration) (p : PageRecord) (c : ColorType) → p.planar ≡ planar → num_samples c ≤ p.samples → samples_in_chunk p.planar c ≤ stored_samples p
+shown_stored Chunky p c e h = rw e h
+shown_stored Planar p c e h = rw e (omega arith)
+
+-- ---- depths
+
 not_whole : (d : ℕ) → d < 8 → is_byte_multiple d ≡ false
 not_whole d h =
     ⊎_elim (λ (t : is_byte_multiple d ≡ true). Prim.absurd (⊎_elim (λ (e : d / 8 ≡ 1). omega (arith, e, h))
-    (λ o. ⊎_elim (λ (e : d / 8 ≡ 2). omega (arith, e, h)) (λ q. ⊎_elim (λ (e : d / 8 ≡ 4). omega (arith, e, h)) (λ (e : d / 8 ≡ 8). omega (arith, e, h)) q) o) (whole_size d t)))
+    (λ o. ⊎_elim (λ (e : d / 8 ≡ 2). omega (arith, e, h)) (λ q. ⊎_elim (λ (e : d / 8 ≡ 4). omega (arith, e, h)) (λ (e : d / 8 ≡ 8). omega (arith, e, h)) q) o) (whole_size d t).0))
     (λ f. f) (cases_Bool (is_byte_multiple d))
 
 -- depths below 8
@@ -369,21 +331,17 @@ all_stored Planar p c e h = rw e refl
 
 -- ---- the whole form
 
-both : (a : Result (Unit {0}) TiffError) (f : Unit {0} → Result (Unit {0}) TiffError) → (a >>= f) ≡ Ok tt → (a ≡ Ok tt) × (f tt ≡ Ok tt)
-both (Ok u) f h = (refl, h)
-both (Err e) f h = cc
-
 pub depth_passed : (p : PageRecord) (limits : Limits) (c : ColorType) (i : ℕ) → form_fault p limits c i ≡ Ok tt → depth_fault p c ≡ Ok tt
 unfolding form_fault
 depth_passed p limits c i h =
-    (both (depth_fault p c) _ (both (fail_if (nat_le (length p.offsets) i) (FormatError InconsistentSizesEncountered)) _ h).1).0
+    (bind_ok (depth_fault p c) _ tt (bind_ok (fail_if (nat_le (length p.offsets) i) (FormatError InconsistentSizesEncountered)) _ tt h).1.1).1.0
 
 pub method_passed : (p : PageRecord) (limits : Limits) (c : ColorType) (i : ℕ) → form_fault p limits c i ≡ Ok tt → method_fault p.method ≡ Ok tt
 unfolding form_fault
 method_passed p limits c i h =
-    let b = both (depth_fault p c) _ (both (fail_if (nat_le (length p.offsets) i) (FormatError InconsistentSizesEncountered)) _ h).1 in
-    let e = both (fail_if (nat_lt limits.intermediate_buffer_size (slice_index p.byte_counts i)) LimitsExceeded) _ (both (predictor_fault p c) _ b.1).1 in
-    (both (method_fault p.method) _ e.1).0
+    let b = bind_ok (depth_fault p c) _ tt (bind_ok (fail_if (nat_le (length p.offsets) i) (FormatError InconsistentSizesEncountered)) _ tt h).1.1 in
+    let e = bind_ok (fail_if (nat_lt limits.intermediate_buffer_size (slice_index p.byte_counts i)) LimitsExceeded) _ tt (bind_ok (predictor_fault p c) _ tt b.1.1).1.1 in
+    (bind_ok (method_fault p.method) _ tt e.1.1).1.0
 
 is_read : (p : PageRecord) (c : ColorType) → 0 < p.samples → color_of p ≡ Ok c → depth_fault p c ≡ Ok tt → IsRead p c
 is_read p c s e d =
@@ -391,7 +349,7 @@ is_read p c s e d =
     let some : 0 < num_samples c = subst Shows e (color_shows p s) in
     record {
       stored = record { depth = read_depth p c d; shows = shown_some p.planar c some; stores = shown_stored p.planar p c refl few.0 };
-      size = read_size p c d;
+      size = ⊎_elim (λ l. inl l) (λ b. inr b.0) (read_size p c d);
       unpredicted = λ l. no_predictor p.predictor c (sym (packed_fault p c l) ∙ d);
       all = λ l. all_stored p.planar p c refl (gray_all c p.samples (gray_here p.predictor c (sym (packed_fault p c l) ∙ d)) few.1);
     }

@@ -125,14 +125,6 @@ row_put_there value stride top r left len at bytes old mid new b e n v w h =
     v (i - at) (omega (arith, q.0, q.1, n)) ∙ sym (ap (λ z. value z (i % stride - left)) y ∙ ap (λ z. value r z) x))
     h)
 
--- one more row of a rectangle is written
-pub row_written : (value : ℕ → ℕ → ℕ) (stride top r left len at : ℕ) (bytes old mid new : List ℕ) → left + len ≤ stride → at ≡ (top + r) * stride + left
-    → length bytes ≡ len → ((k : ℕ) → k < len → get_or bytes k 0 ≡ value r k) → at + len ≤ length mid
-    → Writes (IsIn stride top r left len) (in_rect value stride top left) old mid → Holds mid at bytes new
-    → Writes (IsIn stride top (r + 1) left len) (in_rect value stride top left) old new
-row_written value stride top r left len at bytes old mid new b e n v f w h =
-    row_put_there value stride top r left len at bytes old mid new b e n v w (copied mid bytes new at (omega (arith, n, f)) h)
-
 -- no row is written yet
 pub no_row : (value : ℕ → ℕ → ℕ) (stride top left len : ℕ) (old : List ℕ) → Writes (IsIn stride top 0 left len) (in_rect value stride top left) old old
 no_row value stride top left len old =
@@ -140,7 +132,8 @@ no_row value stride top left len old =
 
 pub row_put : law.RowWritten
 row_put value stride top r left len at bytes old mid b e n v f w =
-    row_written value stride top r left len at bytes old mid (put_mid at (at + len - at) mid bytes) b e n v f w (holds_put_mid mid bytes at len n)
+    let new : List ℕ = put_mid at (at + len - at) mid bytes in
+    row_put_there value stride top r left len at bytes old mid new b e n v w (copied mid bytes new at (omega (arith, n, f)) (holds_put_mid mid bytes at len n))
 
 -- ---- a list that grows is a buffer, if zeros follow it up to its last length
 

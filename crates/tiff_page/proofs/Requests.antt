@@ -21,7 +21,7 @@ use Rattle.tiff_page.specs.declared.samples.ReadRequest.{ReadRequest}
 use Rattle.tiff_page.specs.declared.samples.ReadRequest.TheVariants.{Image, Chunks}
 use Rattle.tiff_page.specs.EarlyFaults.{early_fault, is_cut, samples_early, image_early, planes_early, chunk_early, strided_early}
 use Rattle.tiff_page.specs.Laws.{HasSides}
-use Rattle.tiff_page.specs.Layout.{LayoutRecord, row_bytes, sample_type_of, size_of, color_of, layout_of, planes, wide}
+use Rattle.tiff_page.specs.Layout.{LayoutRecord, row_bytes, sample_type_of, size_of, planes, wide}
 use Rattle.tiff_page.specs.NumberBytes.{bytes_in}
 use Rattle.tiff_page.specs.Page.{PageRecord}
 use Rattle.tiff_page.specs.PageView as view
@@ -34,7 +34,7 @@ use Rattle.tiff_page.specs.Samples.{color_in, first_in, part_of, IsLaid, room_of
 use Rattle.tiff_page.proofs.Rects.{zero_in}
 use Rattle.tiff_page.proofs.NumberBytes.{numbers_again, numbers_are}
 use Rattle.tiff_page.proofs.PositionLaws.{chunks_within, cases_fault, plane_some}
-use Rattle.tiff_page.proofs.Planes.{layout_gives, colored, some_planes}
+use Rattle.tiff_page.proofs.Planes.{layout_gives, laid_once, some_planes}
 use Rattle.tiff_page.proofs.Rows.{some_size, each_same, by_size}
 use Rattle.tiff_base.specs.declared.error.TiffError.TheVariants.{IoError}
 use Rattle.tiff_base.specs.declared.io.IoKind.TheVariants.{UnexpectedEof}
@@ -443,20 +443,6 @@ module _ (file : List ℕ) (order : ByteOrder) (p : PageRecord) (limits : Limits
       chosen true = s
       chosen false = omega arith
 
-  -- a layout of all planes has the page's color
-  laid_color : (w h : ℕ) (l : LayoutRecord) → planes_layout p w h ≡ Ok l → color_of p ≡ Ok l.color
-  unfolding planes_layout
-  laid_color w h l q = by_layout (layout_of p w h) refl q
-    where
-      by_layout : (r : Result LayoutRecord TiffError) → layout_of p w h ≡ r
-          → (r >>= (λ k. wide (k.plane_stride * planes p.planar k.color) >>= (λ _. Ok k))) ≡ Ok l → color_of p ≡ Ok l.color
-      by_layout (Err f) g q = absurd cc
-      by_layout (Ok k) g q = widened (wide (k.plane_stride * planes p.planar k.color)) q
-        where
-          widened : (r : Result ℕ TiffError) → (r >>= (λ _. Ok k)) ≡ Ok l → color_of p ≡ Ok l.color
-          widened (Err f) q = absurd cc
-          widened (Ok x) q = let s : k ≡ l = cc in colored p w h k.color k.row_bytes k.plane_stride g ∙ ap (λ m. Ok m.color) s
-
   all : (e : TiffError) → HasSides p → 0 < p.samples → planes_early file p limits ≡ Err e → read_image_to_buffer file order p limits ≡ Err e
   unfolding read_image_to_buffer
   all e s some h =
@@ -468,7 +454,7 @@ module _ (file : List ℕ) (order : ByteOrder) (p : PageRecord) (limits : Limits
       let used = planes_within p limits l in
       goes_on _ (λ numbers. Ok (all_planes p l, numbers)) e
       (sampled l.color (image_part p used l.row_bytes) (l.plane_stride * used) e (some_chunks s)
-      (within_some l (some_planes p l.color some (laid_color p.width p.height l q))) k)) h
+      (within_some l (some_planes p l.color some (layout_gives p p.width p.height l (laid_once p p.width p.height l q)).1.0)) k)) h
 
 pub early_is_answered : EarlyIsAnswered
 early_is_answered = record {
