@@ -1,6 +1,6 @@
 -- The columns of a row of pixels.
-use Rattle.std.proofs.Common.{◌≡◌, ℕ, ◌+◌, ◌*◌, ◌/◌, ◌^◌, ◌<◌, ◌≤◌, ◌⊎◌, inl, inr, Bool, true, false, cond, List, [], ◌∷◌, get_or, length, refl, ap, sym, ◌∙◌, subst, arith, lit<}
-use Rattle.std.specs.Prelude.{All, nat_lt}
+use Rattle.std.proofs.Common.{◌≡◌, ℕ, ◌+◌, ◌*◌, ◌/◌, ◌<◌, ◌≤◌, inl, inr, Bool, true, false, cond, List, [], ◌∷◌, get_or, length, refl, ap, sym, ◌∙◌, subst, arith, lit<}
+use Rattle.std.specs.Prelude.{All}
 use Rattle.std.proofs.lemmas.Bool.{ltb-true}
 use Rattle.std.proofs.Math.Nat.{mul-le-mul_left}
 use Rattle.tiff_base.specs.declared.color.ChunkType.{ChunkType}
@@ -10,7 +10,7 @@ use Rattle.tiff_base.specs.declared.tags.«Type».TheVariants as field
 use Rattle.tiff_base.specs.Types.{type_size}
 use Rattle.tiff_value.specs.declared.encoder.colortype.ColorTypeName.{ColorTypeName}
 use Rattle.tiff_value.specs.ColorType.{ColorTypeRecord, IsColorType, ArePacked, first_bits, is_packed, columns_of}
-use Rattle.tiff_value.specs.ColorTypes.{form_of, inner_type, inner_size}
+use Rattle.tiff_value.specs.ColorTypes.{inner_type, inner_size}
 use Rattle.tiff_page.specs.Counts.{parts}
 use Rattle.tiff_encode.specs.Machine.{OpenImage}
 use Rattle.tiff_encode.specs.Drawn.{IsSide, IsForm, HoldsPixels}

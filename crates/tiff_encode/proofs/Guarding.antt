@@ -7,7 +7,6 @@ use Rattle.std.specs.FinMap.{FinMap, empty, insert, len}
 use Rattle.std.specs.Prelude.{nat_lt}
 use Rattle.std.specs.Ordering.{nat_cmp}
 use Rattle.tiff_base.specs.declared.error.TiffError.{TiffError}
-use Rattle.tiff_base.specs.declared.error.TiffError.TheVariants.{OutOfMemory}
 use Rattle.tiff_base.specs.declared.io.SinkFault.{SinkFault}
 use Rattle.tiff_base.specs.declared.tags.FileKind.{FileKind}
 use Rattle.tiff_base.specs.declared.tags.Tag.{Tag}
@@ -29,9 +28,9 @@ use Rattle.tiff_encode.specs.Calls.{Offsets, offsets_of, links_to, chains, new_d
 use Rattle.tiff_encode.specs.Ends.{EndsAsDefined, CallFails, Ends}
 use Rattle.tiff_encode.specs.Leaves.{IsGiven, Leaves, LeavesTorn, LeavesLinked}
 use Rattle.tiff_encode.proofs.Calling.{cut_off, refused, uncaused, stopped_cause, fresh_cause}
-use Rattle.tiff_encode.proofs.CallFits.{caused_fits, followed_fits, offset_len_8, placed_fits}
-use Rattle.tiff_encode.proofs.Joining.{Adds, answers_adding, begin_adds, bind_adds, bind_ends, bind_fails, bind_told, data_adds, data_buf_adds, entry_adds, entry_buf_adds, entry_bytes_adds, extra_adds}
-use Rattle.tiff_encode.proofs.Keeping.{adds_leaves}
+use Rattle.tiff_encode.proofs.CallFits.{caused_fits, offset_len_8, placed_fits}
+use Rattle.tiff_encode.proofs.Joining.{Adds, begin_adds, bind_fails, bind_told, data_adds, data_buf_adds, entry_adds, entry_buf_adds, entry_bytes_adds, extra_adds}
+use Rattle.tiff_encode.proofs.Keeping.{adds_leaves, failed_leaves}
 use Rattle.tiff_encode.proofs.Leaving.{refused_leaves, ok_err, unended, in_order, passed, data_whole, data_short, finish_plain, finish_leaves}
 
 -- ---- a directory is opened
@@ -100,21 +99,6 @@ module _ {A B : Type 0} (g : A → B) (call : WriteCall A) where
   given_told x old new h =
       bind_told call (λ y. gives (g y)) x (Ok (g x)) old new new h (record { answer = refl; state = refl })
 
-  -- memory runs out after the call
-  given_short : (x : A) (e : TiffError) (old new : FileState) → Adds (call old) old → old.fault ≡ None
-      → EndsAsDefined (call old) (Ok x) new → e ≡ OutOfMemory → CallFails ((call >>= (λ y. gives (g y))) old) e old new
-  given_short x e old new a f h q =
-      let view : B → B = λ y. y in
-      let r : Result B TiffError = Err e in
-      bind_ends view call (λ y. gives (g y)) x r old new new a h (inr (inr (inr (record {
-        fresh = ap (λ s. s.fault) (h.state ∙ a.next) ∙ f;
-        fault = q;
-        begun = tt;
-        count = 0;
-        within = omega arith;
-        state = ap (λ bytes. record new { bytes = bytes }) (sym (append-nil new.bytes));
-      }))))
-
 -- ---- a call writes a value
 
 -- nothing refuses a call that succeeds
@@ -177,12 +161,6 @@ pub tag_fails : (d : OpenDirectory) (t : Tag) (v : Value) (e : TiffError) (old n
 tag_fails d t v e old new h =
     subst (λ told. CallFails told e old new) (sym (tag_called d t v old))
     (bind_fails (entry_of v) (λ field. gives (with_field d t field)) e old new (value_adds v old) h)
-
-pub tag_short : (d : OpenDirectory) (t : Tag) (v : Value) (field : Field) (e : TiffError) (old new : FileState)
-    → EndsAsDefined (entry_of v old) (Ok field) new → e ≡ OutOfMemory → CallFails (tag_of d t v old) e old new
-tag_short d t v field e old new h q =
-    subst (λ told. CallFails told e old new) (sym (tag_called d t v old))
-    (given_short (with_field d t) (entry_of v) field e old new (value_adds v old) (value_fresh v old field h.answer) h q)
 
 -- ---- the earlier content of the file
 
@@ -257,13 +235,6 @@ bytes_fit type bytes file m n l =
     let value : FieldData = data_in type bytes in
     caused_fits (write_entry_bytes_cause file type bytes) (placed_field value) file m
     (λ h. placed_fits file m value (data_whole type bytes) (passed _ _ _ (unended file.fault _ h)).1 l (data_short type bytes n))
-
--- the changes of a call that sets a tag are those of the call that writes its value
-tag_fit : (d : OpenDirectory) (t : Tag) (v : Value) (file : FileState) (m : Model)
-    → OpsFit file.kind file.bytes m (entry_of v file).ops → OpsFit file.kind file.bytes m (tag_of d t v file).ops
-tag_fit d t v file m f =
-    subst (λ (told : WriteOutcome OpenDirectory). OpsFit file.kind file.bytes m told.ops) (sym (tag_called d t v file))
-    (followed_fits (entry_of v) (λ field. gives (with_field d t field)) file m f (λ _ _. tt))
 
 -- The end of the file is a 64-bit number, unless a write failed.
 abbrev EndFits : FileState → Type 0
@@ -340,17 +311,10 @@ entry_left v field old new m a fits h s =
     let view : Field → Field = λ f. f in
     adds_leaves view (entry_of v old) (Ok field) old new m (value_adds v old) (value_fits v field old new m a fits h) s h
 
--- what a call leaves that sets a field
-pub tag_left : (d : OpenDirectory) (t : Tag) (v : Value) (field : Field) (old new : FileState) (m : Model) → IsAllowed v → EndFits new
-    → EndsAsDefined (entry_of v old) (Ok field) new → Stands old.kind old.bytes m
-    → Stands old.kind new.bytes (model_after old.kind old.bytes m (tag_of d t v old).ops)
-tag_left d t v field old new m a fits h s =
-    let view : OpenDirectory → OpenDirectory = λ f. f in
-    let adds : Adds (tag_of d t v old) old =
-    subst (λ told. Adds told old) (sym (tag_called d t v old))
-    (bind_adds (entry_of v) (λ f. gives (with_field d t f)) old (value_adds v old) (λ f _. answers_adding (Ok (with_field d t f)) (entry_of v old).next)) in
-    adds_leaves view (tag_of d t v old) (Ok (with_field d t field)) old new m adds (tag_fit d t v old m (value_fits v field old new m a fits h)) s
-    (tag_told d t v field old new h)
+pub entry_leaves : (v : Value) (r : Result Field TiffError) (old new : FileState) (m : Model) → IsAllowed v → EndFits new
+    → Ends (λ (field : Field). field) (entry_of v old) r old new → Stands old.kind old.bytes m → Leaves (entry_of v old) r old new m
+entry_leaves v (Ok field) old new m a fits h s = entry_left v field old new m a fits h s
+entry_leaves v (Err e) old new m a fits h s = failed_leaves (entry_of v old) e old new m (value_adds v old) h s
 
 -- ---- a directory after its opening
 

@@ -21,6 +21,7 @@ pub mod Images
 pub mod Storing
 pub mod Leaving
 pub mod Guarding
+pub mod Rooms
 pub mod Joining
 pub mod Tagging
 pub mod Offsets

@@ -246,13 +246,10 @@ module _ (v : Tag × FieldData) (tag : Tag) (type : «Type») (len : ℕ) (bytes
       ap (λ n. record { field_type = type; count = n / type_size type; bytes = take len bytes }) all ∙ ap (λ x. x.1) h in
       whole_entry type (take len bytes) file (ap (λ n. n % type_size type) all ∙ m) ∙ ap (λ d. write_entry (Ok d) file) same
 
-  pub kept_told : (field : Field) (old new : FileState) → len ≤ 8 → length bytes ≡ 8 → len % type_size type ≡ 0 → kept ≡ v
-      → EndsAsDefined (write_entry_bytes type (take len bytes) old) (Ok field) new → EndsAsDefined (write_entry (Ok v.1) old) (Ok field) new
-  kept_told field old new l w m h t = subst (λ told. EndsAsDefined told (Ok field) new) (kept_entry old l w m h) t
-
-  pub kept_fails : (e : TiffError) (old new : FileState) → len ≤ 8 → length bytes ≡ 8 → len % type_size type ≡ 0 → kept ≡ v
-      → CallFails (write_entry_bytes type (take len bytes) old) e old new → CallFails (write_entry (Ok v.1) old) e old new
-  kept_fails e old new l w m h f = subst (λ told. CallFails told e old new) (kept_entry old l w m h) f
+  pub kept_ends : (r : Result Field TiffError) (old new : FileState) → len ≤ 8 → length bytes ≡ 8 → len % type_size type ≡ 0 → kept ≡ v
+      → Ends (λ (field : Field). field) (write_entry_bytes type (take len bytes) old) r old new
+      → Ends (λ (field : Field). field) (write_entry (Ok v.1) old) r old new
+  kept_ends r old new l w m h t = subst (λ told. Ends (λ (field : Field). field) told r old new) (kept_entry old l w m h) t
 
 -- ---- two parts of an array
 

@@ -13,6 +13,7 @@ pub mod Causes
 pub mod Calls
 pub mod Ends
 pub mod Placing
+pub mod Rooms
 pub mod Leaves
 pub mod Stored
 pub mod Held

@@ -1,5 +1,5 @@
 -- An image that a call writes as a whole is read back with the same samples.
-use Rattle.std.proofs.Common.{◌≡◌, ℕ, ◌+◌, ◌*◌, ◌<◌, Bool, true, false, cond, List, [], length, Ok, refl, ap, sym, ◌∙◌, subst, arith}
+use Rattle.std.proofs.Common.{◌≡◌, ℕ, ◌+◌, ◌*◌, Bool, true, false, cond, List, [], length, Ok, refl, ap, sym, ◌∙◌, subst, arith}
 use Rattle.std.specs.Prelude.{nat_lt}
 use Rattle.std.proofs.lemmas.List.{length-replicate}
 use Rattle.tiff_base.specs.declared.color.ColorType.{ColorType}
@@ -9,8 +9,8 @@ use Rattle.tiff_base.specs.declared.tags.PhotometricInterpretation.{PhotometricI
 use Rattle.tiff_base.specs.declared.tags.PlanarConfiguration.{PlanarConfiguration}
 use Rattle.tiff_base.specs.declared.tags.PlanarConfiguration.TheVariants.{Chunky}
 use Rattle.tiff_base.specs.Color.{num_samples}
-use Rattle.tiff_value.specs.ColorType.{ColorTypeRecord, columns_of}
-use Rattle.tiff_value.specs.ColorTypes.{Family, meaning_of, count_of, color_type}
+use Rattle.tiff_value.specs.ColorType.{columns_of}
+use Rattle.tiff_value.specs.ColorTypes.{Family, meaning_of, count_of}
 use Rattle.tiff_value.specs.ColorTypes as family
 use Rattle.tiff_page.specs.Page.{PageRecord}
 use Rattle.tiff_page.specs.Layout.{color_from, color_of, samples_in_chunk}

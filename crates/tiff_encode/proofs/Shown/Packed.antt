@@ -1,5 +1,5 @@
 -- The page of packed pixels shows the bytes that the page of its columns shows.
-use Rattle.std.proofs.Common.{◌≡◌, ℕ, ◌+◌, ◌-◌, ◌*◌, ◌/◌, ◌%◌, ◌<◌, ◌≤◌, ◌⊎◌, min, inl, inr, Bool, true, false, cond, List, [], length, get_or, Ok, refl, ap, sym, ◌∙◌, subst, arith, lit<}
+use Rattle.std.proofs.Common.{◌≡◌, ℕ, ◌+◌, ◌-◌, ◌*◌, ◌/◌, ◌%◌, ◌<◌, min, inl, inr, Bool, true, false, cond, List, [], length, get_or, Ok, refl, ap, sym, ◌∙◌, subst, arith, lit<}
 use Rattle.std.specs.Prelude.{nat_lt, slice_index}
 use Rattle.std.proofs.lemmas.Bool.{lt-ltb, le-ltb, ltb-true, ltb-false}
 use Rattle.std.proofs.lemmas.List.{length-replicate}
@@ -26,7 +26,7 @@ use Rattle.tiff_page.specs.Page.{PageRecord}
 use Rattle.tiff_page.specs.Counts.{parts, planes_of, all_chunks}
 use Rattle.tiff_page.specs.Rect.{across, chunks_of_plane, rect, chunk_of_pixel}
 use Rattle.tiff_page.specs.Layout.{row_bits, row_bytes, samples_in_chunk, color_of}
-use Rattle.tiff_page.specs.Pixels.{planar_or, stored_samples, stored_row_bytes, needed_of_row, needed_bytes, chunk_data, stored_row, is_short, image_region, packed_byte, shown_sample}
+use Rattle.tiff_page.specs.Pixels.{planar_or, stored_row_bytes, needed_of_row, needed_bytes, chunk_data, stored_row, is_short, image_region, packed_byte, shown_sample}
 use Rattle.tiff_page.proofs.Rows.{one_number, some_size}
 use Rattle.tiff_encode.specs.Machine.{OpenImage, compression_method}
 use Rattle.tiff_encode.specs.Drawn.{IsSide, IsForm, HoldsPixels}
@@ -36,7 +36,7 @@ use Rattle.tiff_encode.specs.Held.{ShowsSamples}
 use Rattle.tiff_encode.proofs.ImageState.{one_part}
 use Rattle.tiff_encode.proofs.Slices.{ok_inj}
 use Rattle.tiff_encode.proofs.Columns.{columns_plain, columns_packed}
-use Rattle.tiff_encode.proofs.Shown.Color.{IsSize, IsOf, first_of}
+use Rattle.tiff_encode.proofs.Shown.Color.{IsOf, first_of}
 
 -- ---- one sample of a pixel
 

@@ -9,6 +9,7 @@ ghost use Rattle.tiff_encode.specs.Ends.{Ends, EndsSilently, EndsAsDefined};
 ghost use Rattle.tiff_encode.specs.Extending.{Extends};
 ghost use Rattle.tiff_encode.specs.Leaves.{Leaves, LeavesLinked};
 ghost use Rattle.tiff_encode.specs.Model.{IsLink, Model, Stands};
+ghost use Rattle.tiff_encode.specs.Rooms.{StaysUnlessCut};
 
 use crate::encoder::TiffEncoder;
 use crate::encoder::directory::state::{DirectoryState, HasDirectory};
@@ -24,8 +25,9 @@ use tiff_value::encoder::tiff_value::TiffValue;
 
 /// An open directory in the file of an encoder, alone or with an image. It ends by `finish`,
 /// `finish_with_offsets` or `discard`: the checker rejects code that ends it in another way. After
-/// a write to the sink fails, each later call that writes returns `UsageError(WriterFailed)`. After
-/// any other refusal of a call, the file and the open directory are as they were before the call.
+/// a write to the sink fails, each later call that writes returns `UsageError(WriterFailed)`. If a
+/// call that writes an entry or a tag is refused for another reason, the file and the open directory
+/// are as they were before the call.
 pub struct DirectoryEncoder<'a, W: Sink, K: TiffKind = TiffKindStandard, D = DirectoryState> {
     pub(crate) encoder: &'a mut TiffEncoder<W, K>,
     pub(crate) state: D,
@@ -131,6 +133,9 @@ impl<'a, W: Sink, K: TiffKind, D: HasDirectory> DirectoryEncoder<'a, W, K, D> {
             result
             self.old.encoder.now self.new.encoder.now }
 
+        // Unless a write to the sink failed, an error leaves the file as it was.
+        ensures unwritten { OnErr result (StaysUnlessCut self.old.encoder.now self.new.encoder.now) }
+
         // Everything that the file contained before the call is still in it.
         ensures leaves { (m : Model) → Stands self.old.encoder.now.kind self.old.encoder.now.bytes m
             → Leaves (calls.write_entry (T.field_data value) self.old.encoder.now) result
@@ -149,6 +154,9 @@ impl<'a, W: Sink, K: TiffKind, D: HasDirectory> DirectoryEncoder<'a, W, K, D> {
         ensures stays { self.new.state ≡ self.old.state }
         ensures answer { Ends (λ entry. entry) (calls.write_entry_buf buffer.now self.old.encoder.now) result
             self.old.encoder.now self.new.encoder.now }
+
+        // Unless a write to the sink failed, an error leaves the file as it was.
+        ensures unwritten { OnErr result (StaysUnlessCut self.old.encoder.now self.new.encoder.now) }
 
         // Everything that the file contained before the call is still in it.
         ensures leaves { (m : Model) → Stands self.old.encoder.now.kind self.old.encoder.now.bytes m
@@ -170,6 +178,9 @@ impl<'a, W: Sink, K: TiffKind, D: HasDirectory> DirectoryEncoder<'a, W, K, D> {
         ensures answer { Ends (λ entry. entry)
             (calls.write_entry_bytes field_type bytes.now self.old.encoder.now) result
             self.old.encoder.now self.new.encoder.now }
+
+        // Unless a write to the sink failed, an error leaves the file as it was.
+        ensures unwritten { OnErr result (StaysUnlessCut self.old.encoder.now self.new.encoder.now) }
 
         // Everything that the file contained before the call is still in it.
         ensures leaves { (m : Model) → Stands self.old.encoder.now.kind self.old.encoder.now.bytes m
@@ -193,16 +204,19 @@ impl<'a, W: Sink, K: TiffKind, D: HasDirectory> DirectoryEncoder<'a, W, K, D> {
             self.old.encoder.now) result
             self.old.encoder.now self.new.encoder.now }
 
+        // Room for the entry is made before a byte of the value is written: unless a write to the
+        // sink failed, an error leaves the file as it was.
+        ensures unwritten { OnErr result (StaysUnlessCut self.old.encoder.now self.new.encoder.now) }
+
         // Everything that the file contained before the call is still in it.
         ensures leaves { (m : Model) → Stands self.old.encoder.now.kind self.old.encoder.now.bytes m
             → Leaves (calls.write_tag (D.open_directory self.old.state) tag (T.field_data value)
             self.old.encoder.now) result self.old.encoder.now self.new.encoder.now m }
     {
-        let has_room = self.state.make_room(tag);
-        let entry = self.encoder.place_value(&value, has_room)?;
+        let room = self.state.make_room(tag);
+        let placed = self.encoder.place_value(&value, room.is_made());
         self.encoder.fits();
-        self.state.set(tag, entry)?;
-        Ok(())
+        self.state.settle(tag, room, placed)
     }
 
     /// Writes the values of a buffer as `write_entry_buf` does, and then sets the field of a tag.
@@ -217,17 +231,20 @@ impl<'a, W: Sink, K: TiffKind, D: HasDirectory> DirectoryEncoder<'a, W, K, D> {
             self.old.encoder.now) result
             self.old.encoder.now self.new.encoder.now }
 
+        // Room for the entry is made before a byte of the value is written: unless a write to the
+        // sink failed, an error leaves the file as it was.
+        ensures unwritten { OnErr result (StaysUnlessCut self.old.encoder.now self.new.encoder.now) }
+
         // Everything that the file contained before the call is still in it.
         ensures leaves { (m : Model) → Stands self.old.encoder.now.kind self.old.encoder.now.bytes m
             → Leaves (calls.write_tag_buf (D.open_directory self.old.state) tag buffer.now
             self.old.encoder.now) result self.old.encoder.now self.new.encoder.now m }
     {
         fits_short(buffer);
-        let has_room = self.state.make_room(tag);
-        let entry = self.encoder.place_buffer(buffer, has_room)?;
+        let room = self.state.make_room(tag);
+        let placed = self.encoder.place_buffer(buffer, room.is_made());
         self.encoder.fits();
-        self.state.set(tag, entry)?;
-        Ok(())
+        self.state.settle(tag, room, placed)
     }
 
     /// Appends all bytes of a buffer, also those after the last whole value, and returns their

@@ -1,17 +1,19 @@
 //! The state of an open directory.
 
-ghost use Rattle.std.specs.Prelude.{◌≡◌, ◌^◌, ◌<◌, MatchResult, Some};
+ghost use Rattle.std.specs.Prelude.{◌≡◌, ◌^◌, ◌<◌, IfOk, MatchResult, Some, true};
 ghost use Rattle.std.specs.FinMap as map;
 ghost use Rattle.tiff_base.specs.declared.error.TiffError.TheVariants.{OutOfMemory};
 ghost use Rattle.tiff_base.specs.Field.{AreEntries};
 ghost use Rattle.tiff_encode.specs.Calls.{with_field, without_field};
 ghost use Rattle.tiff_encode.specs.Extending.{Extends};
+ghost use Rattle.tiff_encode.specs.Machine.{OpenDirectory};
+ghost use Rattle.tiff_encode.specs.Rooms.{IsRoomFor, IsSettled, is_made, with_room};
 
 use std::alloc::Global;
 use std::marker::Model;
 use tiff_base::directory::{Directory, Entry};
 use tiff_base::error::{TiffError, TiffResult};
-use tiff_base::tags::Tag;
+use tiff_base::tags::{Tag, Type};
 
 /// An open directory: its fields, the offset of the link that points to it when it ends, and
 /// whether it is in the IFD chain, so that its own link becomes the last link of the chain.
@@ -34,6 +36,26 @@ impl Model for DirectoryState {
     ghost view = { λ d. record { fields = d.directory.entries; parent = d.parent; chained = d.chained } };
 }
 
+/// The room for the field of a tag.
+#[derive(Clone, Copy, Drop)]
+pub enum Room {
+    /// The directory has a field of the tag, which the new one replaces.
+    Taken,
+    /// A field without a value holds the place.
+    Held,
+    /// There is no memory for a field.
+    Missing,
+}
+
+impl Room {
+    /// Returns whether there is room.
+    pub(crate) fn is_made(self) -> bool
+        ensures { result ≡ is_made self }
+    {
+        !matches!(self, Room::Missing)
+    }
+}
+
 /// What is open in the file of an encoder: a directory, alone or with the state of an image (this
 /// project's).
 pub trait HasDirectory {
@@ -46,18 +68,21 @@ pub trait HasDirectory {
     // The same state with another directory.
     ghost with_directory: { Self → OpenDirectory → Self };
 
-    /// Reserves memory for the field of a tag, before a byte of its value is written. Returns
-    /// whether the memory is available.
-    fn make_room(&mut self, tag: Tag) -> bool
-        ensures { self.new ≡ self.old };
+    /// Makes room for the field of a tag, before a byte of its value is written: if the directory
+    /// has no field of the tag, a field without a value is set. `settle` ends this.
+    fn make_room(&mut self, tag: Tag) -> Room
+        ensures state { self.new ≡ with_directory self.old (with_room (open_directory self.old) tag result) }
+        ensures room { IsRoomFor tag (open_directory self.old) result };
 
-    /// Sets the field of a tag. It replaces an earlier field of that tag. The only error is
-    /// `OutOfMemory`; then the fields don't change.
-    fn set(&mut self, tag: Tag, entry: Entry) -> TiffResult<()>
-        ensures { MatchResult result
-            (λ _. self.new ≡ with_directory self.old
-            (with_field (open_directory self.old) tag entry))
-            (λ e. (e ≡ OutOfMemory) × (self.new ≡ self.old)) };
+    /// Sets the field of a tag to an entry that was written, in the room that `make_room` made for
+    /// it. If it was refused instead, returns that error, and the state is as it was before
+    /// `make_room`.
+    fn settle(&mut self, tag: Tag, room: Room, placed: TiffResult<Entry>) -> TiffResult<()>
+        ensures { (s : Self) → self.old ≡ with_directory s (with_room (open_directory s) tag room)
+            → IsRoomFor tag (open_directory s) room
+            → IfOk placed (λ _. is_made room ≡ true)
+            → IsSettled (λ entry. with_directory s (with_field (open_directory s) tag entry)) s
+            placed result self.new };
 
     /// Sets each field of a directory in turn. Each field replaces an earlier field of its tag. The
     /// only error is `OutOfMemory`; then the fields before the one that failed are set.
@@ -81,11 +106,25 @@ impl HasDirectory for DirectoryState {
 
     ghost with_directory = { λ s d. d };
 
-    fn make_room(&mut self, tag: Tag) -> bool {
-        self.directory.make_room(tag).is_ok()
+    fn make_room(&mut self, tag: Tag) -> Room {
+        if self.directory.contains(tag) {
+            return Room::Taken;
+        }
+        let blank = Entry::new_u64(Type::BYTE, 0, [0; 8]);
+        match self.directory.insert(tag.to_u16(), blank) {
+            Ok(()) => Room::Held,
+            Err(_) => Room::Missing,
+        }
     }
 
-    fn set(&mut self, tag: Tag, entry: Entry) -> TiffResult<()> {
+    fn settle(&mut self, tag: Tag, room: Room, placed: TiffResult<Entry>) -> TiffResult<()> {
+        let entry = match placed {
+            Ok(entry) => entry,
+            Err(fault) => {
+                self.give_up(tag, room);
+                return Err(fault);
+            }
+        };
         match self.directory.insert(tag.to_u16(), entry) {
             Ok(()) => return Ok(()),
             Err(_) => return Err(TiffError::OutOfMemory),
@@ -121,6 +160,17 @@ impl DirectoryState {
         ensures { self.new ≡ without_field self.old tag }
     {
         let _taken = self.directory.remove(tag);
+    }
+
+    // Gives up the room for the field of a tag.
+    fn give_up(&mut self, tag: Tag, room: Room)
+        ensures { (d : OpenDirectory) → self.old ≡ with_room d tag room → IsRoomFor tag d room
+            → self.new ≡ d }
+    {
+        match room {
+            Room::Held => self.remove(tag),
+            Room::Taken | Room::Missing => {}
+        }
     }
 
     /// Returns a copy of the directory. The only error is `OutOfMemory`.

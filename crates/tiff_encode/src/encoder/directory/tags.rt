@@ -152,10 +152,9 @@ impl<W: Sink, K: TiffKind> TiffEncoder<W, K> {
             (calls.write_tag fields.old tag (T.field_data value.now) self.old) result
             self.old self.new }
     {
-        let has_room = fields.make_room(tag);
-        let entry = self.place_value(value, has_room)?;
-        fields.set(tag, entry)?;
-        Ok(())
+        let room = fields.make_room(tag);
+        let placed = self.place_value(value, room.is_made());
+        fields.settle(tag, room, placed)
     }
 
     // Writes a value of at most 8 bytes, and then sets the field of its tag. It allocates memory
@@ -166,11 +165,10 @@ impl<W: Sink, K: TiffKind> TiffEncoder<W, K> {
             (calls.write_tag fields.old value.now.0 (Ok value.now.1) self.old) result
             self.old self.new }
     {
-        let has_room = fields.make_room(value.tag);
+        let room = fields.make_room(value.tag);
         let bytes = &value.bytes[..value.len];
-        let entry = self.place_entry_bytes(value.field_type, bytes, has_room)?;
-        fields.set(value.tag, entry)?;
-        Ok(())
+        let placed = self.place_entry_bytes(value.field_type, bytes, room.is_made());
+        fields.settle(value.tag, room, placed)
     }
 
     // Writes tags one after another, each with a value of at most 8 bytes. It allocates memory for

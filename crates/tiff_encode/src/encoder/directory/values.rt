@@ -7,6 +7,7 @@ ghost use Rattle.tiff_encode.specs.Causes.{end_of, field_cause, order_cause};
 ghost use Rattle.tiff_encode.specs.Ends.{Ends};
 ghost use Rattle.tiff_encode.specs.Machine.{by_cause};
 ghost use Rattle.tiff_encode.specs.Placing.{Checks, Places};
+ghost use Rattle.tiff_encode.specs.Rooms.{IsInRoom};
 ghost use Rattle.tiff_encode.specs.Value.{data_in};
 
 use crate::encoder::TiffEncoder;
@@ -65,15 +66,15 @@ impl<W: Sink, K: TiffKind> TiffEncoder<W, K> {
         Ok(Entry::new_u64(field_type, count, offset.to_le_bytes()))
     }
 
-    // `write_entry`. It returns `OutOfMemory` and appends nothing if there is no room for the
-    // entry.
+    // `write_entry`. Without room for the entry it appends nothing.
     pub(crate) fn place_value<T: TiffValue>(
         &mut self,
         value: &T,
         has_room: bool,
     ) -> TiffResult<Entry>
-        ensures { Ends (λ e. e) (calls.write_entry (T.field_data value.now) self.old) result
+        ensures answer { Ends (λ e. e) (calls.write_entry (T.field_data value.now) self.old) result
             self.old self.new }
+        ensures room { IsInRoom has_room self.old self.new result }
     {
         let end = self.end()?;
         value.check()?;
@@ -97,8 +98,9 @@ impl<W: Sink, K: TiffKind> TiffEncoder<W, K> {
     ) -> TiffResult<Entry>
         requires fresh { self.old.fault ≡ None }
         requires at_end { end ≡ end_of self.old }
-        ensures { Ends (λ e. e) (by_cause (field_cause self.old (data_in field_type bytes.now))
+        ensures answer { Ends (λ e. e) (by_cause (field_cause self.old (data_in field_type bytes.now))
             (calls.placed_field (data_in field_type bytes.now)) self.old) result self.old self.new }
+        ensures room { IsInRoom has_room self.old self.new result }
     {
         let size = usize::from(field_type.byte_len());
         let count = bytes.len() / size;
@@ -118,10 +120,11 @@ impl<W: Sink, K: TiffKind> TiffEncoder<W, K> {
         bytes: &[u8],
         has_room: bool,
     ) -> TiffResult<Entry>
-        ensures { Ends (λ e. e)
+        ensures answer { Ends (λ e. e)
             (calls.write_entry_buf
             (record { order = order; data_type = field_type; bytes = bytes.now })
             self.old) result self.old self.new }
+        ensures room { IsInRoom has_room self.old self.new result }
     {
         let end = self.end()?;
         check_order(order)?;
@@ -130,7 +133,8 @@ impl<W: Sink, K: TiffKind> TiffEncoder<W, K> {
 
     // `write_entry_buf` of a buffer.
     pub(crate) fn place_buffer(&mut self, buffer: &ValueBuffer, has_room: bool) -> TiffResult<Entry>
-        ensures { Ends (λ e. e) (calls.write_entry_buf buffer.now self.old) result self.old self.new }
+        ensures answer { Ends (λ e. e) (calls.write_entry_buf buffer.now self.old) result self.old self.new }
+        ensures room { IsInRoom has_room self.old self.new result }
     {
         let (order, field_type) = (buffer.byte_order(), buffer.data_type());
         self.place_ordered(order, field_type, buffer.as_bytes(), has_room)
@@ -143,8 +147,9 @@ impl<W: Sink, K: TiffKind> TiffEncoder<W, K> {
         bytes: &[u8],
         has_room: bool,
     ) -> TiffResult<Entry>
-        ensures { Ends (λ e. e) (calls.write_entry_bytes field_type bytes.now self.old) result
+        ensures answer { Ends (λ e. e) (calls.write_entry_bytes field_type bytes.now self.old) result
             self.old self.new }
+        ensures room { IsInRoom has_room self.old self.new result }
     {
         let end = self.end()?;
         let found = bytes.len();

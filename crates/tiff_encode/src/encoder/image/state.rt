@@ -10,7 +10,7 @@ ghost use Rattle.tiff_page.specs.Rect.{chunks_of_plane};
 ghost use Rattle.tiff_encode.specs.Causes.{image_samples, is_past_chunks};
 ghost use Rattle.tiff_encode.specs.Chunks.{all_samples, chunk_rows, chunks_left, image_page, is_begun, is_in_order, is_left, next_chunk_sample_count, next_strip_sample_count};
 
-use crate::encoder::directory::state::{DirectoryState, HasDirectory};
+use crate::encoder::directory::state::{DirectoryState, HasDirectory, Room};
 use crate::encoder::image::chunk_rooms::ChunkRooms;
 use crate::encoder::settings::Compression;
 use std::marker::{Model, PhantomData};
@@ -94,12 +94,12 @@ impl<C: ColorType> HasDirectory for ImageState<C> {
 
     ghost with_directory = { with_directory_of };
 
-    fn make_room(&mut self, tag: Tag) -> bool {
+    fn make_room(&mut self, tag: Tag) -> Room {
         self.directory.make_room(tag)
     }
 
-    fn set(&mut self, tag: Tag, entry: Entry) -> TiffResult<()> {
-        self.directory.set(tag, entry)
+    fn settle(&mut self, tag: Tag, room: Room, placed: TiffResult<Entry>) -> TiffResult<()> {
+        self.directory.settle(tag, room, placed)
     }
 
     fn extend_from(&mut self, directory: &Directory) -> TiffResult<()> {

@@ -43,10 +43,9 @@ impl<'a, W: Sink, K: TiffKind, D: HasDirectory> DirectoryEncoder<'a, W, K, D> {
             → Leaves (calls.write_tag (D.open_directory self.old.state) tag (value_data value.now)
             self.old.encoder.now) result self.old.encoder.now self.new.encoder.now m }
     {
-        let has_room = self.state.make_room(tag);
-        let entry = self.encoder.place_job_value(value, has_room)?;
-        self.state.set(tag, entry)?;
-        Ok(())
+        let room = self.state.make_room(tag);
+        let placed = self.encoder.place_job_value(value, room.is_made());
+        self.state.settle(tag, room, placed)
     }
 
     // `write_tag_buf` of a buffer of a job.
@@ -63,10 +62,9 @@ impl<'a, W: Sink, K: TiffKind, D: HasDirectory> DirectoryEncoder<'a, W, K, D> {
             (buffer_in buffer.now) self.old.encoder.now) result self.old.encoder.now
             self.new.encoder.now m }
     {
-        let has_room = self.state.make_room(tag);
-        let entry = self.encoder.place_job_buffer(buffer, has_room)?;
-        self.state.set(tag, entry)?;
-        Ok(())
+        let room = self.state.make_room(tag);
+        let placed = self.encoder.place_job_buffer(buffer, room.is_made());
+        self.state.settle(tag, room, placed)
     }
 
     /// Runs one step of a directory.

@@ -5,6 +5,7 @@ ghost use Rattle.tiff_encode.specs.Ends.{Ends};
 ghost use Rattle.tiff_encode.specs.JobValues.{buffer_in, value_data};
 ghost use Rattle.tiff_encode.specs.Leaves.{Leaves};
 ghost use Rattle.tiff_encode.specs.Model.{Model, Stands};
+ghost use Rattle.tiff_encode.specs.Rooms.{IsInRoom};
 
 use crate::encoder::TiffEncoder;
 use crate::encoder::kind::TiffKind;
@@ -73,11 +74,14 @@ impl<W: Sink, K: TiffKind> ValueVisitor<TiffEncoder<W, K>, Entry> for ForField {
     ghost use Rattle.tiff_encode.specs.Ends.{Ends};
     ghost use Rattle.tiff_encode.specs.Leaves.{Leaves};
     ghost use Rattle.tiff_encode.specs.Model.{Model, Stands};
+    ghost use Rattle.std.specs.Prelude.{true};
+    ghost use Rattle.tiff_encode.specs.Rooms.{IsInRoom};
 
     ghost hands = { λ given old result new.
         Ends (λ (e : Field). e) (calls.write_entry given old) result old new
         × ((m : Model) → Stands old.kind old.bytes m
-        → Leaves (calls.write_entry given old) result old new m) };
+        → Leaves (calls.write_entry given old) result old new m)
+        × IsInRoom true old new result };
 
     fn list<T: TiffScalar>(state: &mut TiffEncoder<W, K>, values: &Vec<T>) -> TiffResult<Entry> {
         state.place_given(&Slice(values), true)
@@ -97,11 +101,14 @@ impl<W: Sink, K: TiffKind> ValueVisitor<TiffEncoder<W, K>, Entry> for ForNoField
     ghost use Rattle.tiff_encode.specs.Ends.{Ends};
     ghost use Rattle.tiff_encode.specs.Leaves.{Leaves};
     ghost use Rattle.tiff_encode.specs.Model.{Model, Stands};
+    ghost use Rattle.std.specs.Prelude.{false};
+    ghost use Rattle.tiff_encode.specs.Rooms.{IsInRoom};
 
     ghost hands = { λ given old result new.
         Ends (λ (e : Field). e) (calls.write_entry given old) result old new
         × ((m : Model) → Stands old.kind old.bytes m
-        → Leaves (calls.write_entry given old) result old new m) };
+        → Leaves (calls.write_entry given old) result old new m)
+        × IsInRoom false old new result };
 
     fn list<T: TiffScalar>(state: &mut TiffEncoder<W, K>, values: &Vec<T>) -> TiffResult<Entry> {
         state.place_given(&Slice(values), false)
@@ -145,6 +152,7 @@ impl<W: Sink, K: TiffKind> TiffEncoder<W, K> {
     fn place_given<T: TiffValue>(&mut self, value: &T, has_room: bool) -> TiffResult<Entry>
         ensures answer { Ends (λ e. e) (calls.write_entry (T.field_data value.now) self.old) result self.old
             self.new }
+        ensures room { IsInRoom has_room self.old self.new result }
         ensures leaves { (m : Model) → Stands self.old.kind self.old.bytes m
             → Leaves (calls.write_entry (T.field_data value.now) self.old) result self.old self.new
             m }
@@ -168,6 +176,7 @@ impl<W: Sink, K: TiffKind> TiffEncoder<W, K> {
     pub(crate) fn place_job_value(&mut self, value: &JobValue, has_room: bool) -> TiffResult<Entry>
         ensures answer { Ends (λ e. e) (calls.write_entry (value_data value.now) self.old) result self.old
             self.new }
+        ensures room { IsInRoom has_room self.old self.new result }
         ensures leaves { (m : Model) → Stands self.old.kind self.old.bytes m
             → Leaves (calls.write_entry (value_data value.now) self.old) result self.old self.new m }
     {
@@ -195,6 +204,7 @@ impl<W: Sink, K: TiffKind> TiffEncoder<W, K> {
     ) -> TiffResult<Entry>
         ensures answer { Ends (λ e. e) (calls.write_entry_buf (buffer_in buffer.now) self.old) result self.old
             self.new }
+        ensures room { IsInRoom has_room self.old self.new result }
         ensures leaves { (m : Model) → Stands self.old.kind self.old.bytes m
             → Leaves (calls.write_entry_buf (buffer_in buffer.now) self.old) result self.old
             self.new m }

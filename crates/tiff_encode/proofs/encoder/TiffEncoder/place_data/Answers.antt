@@ -6,8 +6,8 @@ use Rattle.tiff_encode.specs.Causes.{field_cause}
 use Rattle.tiff_encode.proofs.Calling.{refused, uncaused, wanting, data_test, data_placed}
 use Rattle.tiff_encode.proofs.encoder.TiffEncoder.place_data.Goals as goal
 
-pub returns-in_err-check_field : goal.returns-in_err-check_field
-returns-in_err-check_field g c =
+pub returns-in_err-check_field-clause-answer : goal.returns-in_err-check_field-clause-answer
+returns-in_err-check_field-clause-answer g c =
     let told =
     let old = c.args.self.now in
     let v = data_in c.args.field_type c.args.bytes.now in
@@ -16,8 +16,8 @@ returns-in_err-check_field g c =
     refused (λ f. f) (field_cause old v) (placed_field v) old c.in_err-check_field.field-0.0 (test ∙ c.in_err-check_field.ensures) in
     search rules
 
-pub returns : goal.returns
-returns g c =
+pub returns-clause-answer : goal.returns-clause-answer
+returns-clause-answer g c =
     let old = c.args.self.now in
     let v = data_in c.args.field_type c.args.bytes.now in
     let size = c.from-size.ensures ∙ c.byte_len.ensures in
@@ -26,8 +26,8 @@ returns g c =
     uncaused (λ f. f) (field_cause old v) (placed_field v) c.place_entry.result old c.place_entry.new.self (test ∙ c.in_ok-check_field.ensures)
     (data_placed c.args.field_type c.args.bytes.now c.from-size.result c.place_entry.result old c.place_entry.new.self size c.place_entry.ensures)
 
-pub returns-then-not-has_room : goal.returns-then-not-has_room
-returns-then-not-has_room g c =
+pub returns-then-not-has_room-clause-answer : goal.returns-then-not-has_room-clause-answer
+returns-then-not-has_room-clause-answer g c =
     let old = c.args.self.now in
     let v = data_in c.args.field_type c.args.bytes.now in
     let test = data_test old c.file_kind.result c.args.field_type c.args.bytes.now c.from-size.result c.args.end c.file_kind.ensures

@@ -20,7 +20,7 @@ returns-clause-leaves g c m s =
     let v = c.args.buffer.now.bytes in
     let short : length b.bytes < 2 ^ 64 = omega (arith, v.ok, v.small) in
     entry_left (Lent b) c.in_ok-entry.entry old new m short c.fits.ensures
-    (subst (λ (bytes : List ℕ). Ends view (write_entry_buf (record b { bytes = bytes }) old) r old new) c.deref.ensures.value c.in_ok-entry.ensures) s
+    (subst (λ (bytes : List ℕ). Ends view (write_entry_buf (record b { bytes = bytes }) old) r old new) c.deref.ensures.value c.in_ok-entry.ensures.answer) s
 
 pub returns-in_err-entry-clause-leaves : goal.returns-in_err-entry-clause-leaves
 returns-in_err-entry-clause-leaves g c m s =
@@ -31,5 +31,5 @@ returns-in_err-entry-clause-leaves g c m s =
     let view : Field → Field = λ entry. entry in
     let r : Result Field TiffError = Err c.in_err-entry.field-0.0 in
     failed_leaves _ c.in_err-entry.field-0.0 old new m (entry_buf_adds b old)
-    (subst (λ (bytes : List ℕ). Ends view (write_entry_buf (record b { bytes = bytes }) old) r old new) c.deref.ensures.value c.in_err-entry.ensures) s in
+    (subst (λ (bytes : List ℕ). Ends view (write_entry_buf (record b { bytes = bytes }) old) r old new) c.deref.ensures.value c.in_err-entry.ensures.answer) s in
     search rules

@@ -9,20 +9,20 @@ use Rattle.tiff_encode.specs.Calls.{placed_field}
 use Rattle.tiff_encode.proofs.Calling.{entry_stopped, entry_refused, entry_caused, entry_uncaused, placed_ends, writable, wants, wanting, test_is}
 use Rattle.tiff_encode.proofs.encoder.TiffEncoder.place_value.Goals as goal
 
-pub returns-in_err-end : goal.returns-in_err-end
-returns-in_err-end g c =
+pub returns-in_err-end-clause-answer : goal.returns-in_err-end-clause-answer
+returns-in_err-end-clause-answer g c =
     let told =
     entry_stopped (λ f. f) (g.T.TiffValue.field_data c.args.value.now) c.args.self.now c.in_err-end.field-0.0 c.in_err-end.ensures.0 c.in_err-end.ensures.1 in
     search rules
 
-pub returns-in_err-check : goal.returns-in_err-check
-returns-in_err-check g c =
+pub returns-in_err-check-clause-answer : goal.returns-in_err-check-clause-answer
+returns-in_err-check-clause-answer g c =
     let told =
     entry_refused (λ f. f) (g.T.TiffValue.field_data c.args.value.now) c.args.self.now c.in_err-check.field-0.0 c.in_ok-end.ensures.0 c.in_err-check.ensures in
     search rules
 
-pub returns-in_err-check_field : goal.returns-in_err-check_field
-returns-in_err-check_field g c =
+pub returns-in_err-check_field-clause-answer : goal.returns-in_err-check_field-clause-answer
+returns-in_err-check_field-clause-answer g c =
     let told =
     let old = c.args.self.now in
     let given : Result FieldData TiffError = g.T.TiffValue.field_data c.args.value.now in
@@ -35,8 +35,8 @@ returns-in_err-check_field g c =
     ∙ c.in_err-check_field.ensures) in
     search rules
 
-pub returns-in_err-data : goal.returns-in_err-data
-returns-in_err-data g c =
+pub returns-in_err-data-clause-answer : goal.returns-in_err-data-clause-answer
+returns-in_err-data-clause-answer g c =
     let told =
     let old = c.args.self.now in
     let given : Result FieldData TiffError = g.T.TiffValue.field_data c.args.value.now in
@@ -58,8 +58,8 @@ made : (given : Result FieldData TiffError) (type field_type : «Type») (count 
 made given type field_type count n items now h t c b =
     h ∙ sym (λ i. Ok (record { field_type = t i; count = c i; bytes = b i }))
 
-pub returns : goal.returns
-returns g c =
+pub returns-clause-answer : goal.returns-clause-answer
+returns-clause-answer g c =
     let old = c.args.self.now in
     let given : Result FieldData TiffError = g.T.TiffValue.field_data c.args.value.now in
     let type = g.T.TiffValue.value_type in
@@ -74,8 +74,8 @@ returns g c =
     entry_uncaused (λ f. f) given v r old c.place_entry.new.self c.in_ok-end.ensures.0 is_v uncaused
     (placed_ends v r old c.place_entry.new.self c.place_entry.ensures)
 
-pub returns-then-not-has_room : goal.returns-then-not-has_room
-returns-then-not-has_room g c =
+pub returns-then-not-has_room-clause-answer : goal.returns-then-not-has_room-clause-answer
+returns-then-not-has_room-clause-answer g c =
     let old = c.args.self.now in
     let given : Result FieldData TiffError = g.T.TiffValue.field_data c.args.value.now in
     let type = g.T.TiffValue.value_type in

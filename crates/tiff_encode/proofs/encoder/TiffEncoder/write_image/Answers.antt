@@ -1,4 +1,4 @@
-use Rattle.std.proofs.Common.{map, ap, sym, arith}
+use Rattle.std.proofs.Common.{map, arith}
 use Rattle.tiff_base.specs.Types.{type_size}
 use Rattle.tiff_value.specs.ColorType.{sample_number}
 use Rattle.tiff_encode.proofs.Data.Image.{image_leaves_by}

@@ -1,37 +1,35 @@
-use Rattle.std.proofs.Common.{◌≡◌, rules, Ok, ap, sym, subst, ◌∙◌}
-use Rattle.tiff_encode.specs.Calls as calls
-use Rattle.tiff_encode.specs.Ends.{EndsAsDefined}
 use Rattle.tiff_encode.specs.JobValues.{value_data}
-use Rattle.tiff_encode.proofs.Joining.{tag_adds}
-use Rattle.tiff_encode.proofs.Guarding.{Given, tag_told, tag_fails, tag_short}
-use Rattle.tiff_encode.proofs.Keeping.{failed_leaves}
-use Rattle.tiff_encode.proofs.DirectoryMoves.{tag_kept}
+use Rattle.tiff_encode.proofs.Guarding.{Given}
+use Rattle.tiff_encode.proofs.Rooms.{room_kept, settled_stays, settled_rest, settled_ends, settled_leaves}
 use Rattle.tiff_encode.proofs.encoder.directory.encoder.DirectoryEncoder.write_job_tag.Goals as goal
 
-pub returns-in_err-entry-clause-answer : goal.returns-in_err-entry-clause-answer
-returns-in_err-entry-clause-answer g c =
-    let told =
-    tag_fails (g.D.HasDirectory.open_directory c.args.self.now.state) c.args.tag (Given (value_data c.args.value.now)) c.in_err-entry.field-0.0 c.args.self.now.encoder.now c.place_job_value.new.self c.in_err-entry.ensures.answer in
-    search rules
+pub returns-clause-stays : goal.returns-clause-stays
+returns-clause-stays g c =
+    let settled =
+    c.settle.ensures c.args.self.now.state c.make_room-room.ensures.state c.make_room-room.ensures.room
+    (room_kept c.make_room-room.result c.is_made.result c.place_job_value-placed.result c.args.self.now.encoder.now c.place_job_value-placed.new.self c.is_made.ensures c.place_job_value-placed.ensures.room) in
+    settled_stays g.D.HasDirectory.open_directory g.D.HasDirectory.with_directory g.met.D.HasDirectory.given_directory g.met.D.HasDirectory.with_its_own c.args.self.now.state c.settle.new.self c.args.tag c.place_job_value-placed.result c.settle.result settled
+
+pub returns-clause-rest : goal.returns-clause-rest
+returns-clause-rest g c =
+    let settled =
+    c.settle.ensures c.args.self.now.state c.make_room-room.ensures.state c.make_room-room.ensures.room
+    (room_kept c.make_room-room.result c.is_made.result c.place_job_value-placed.result c.args.self.now.encoder.now c.place_job_value-placed.new.self c.is_made.ensures c.place_job_value-placed.ensures.room) in
+    settled_rest g.D.HasDirectory.open_directory g.D.HasDirectory.with_directory g.met.D.HasDirectory.given_directory g.met.D.HasDirectory.with_its_own c.args.self.now.state c.settle.new.self c.args.tag c.place_job_value-placed.result c.settle.result settled
 
 pub returns-clause-answer : goal.returns-clause-answer
 returns-clause-answer g c =
-    subst (λ d. EndsAsDefined (calls.write_tag (g.D.HasDirectory.open_directory c.args.self.now.state) c.args.tag (value_data c.args.value.now) c.args.self.now.encoder.now) (Ok d) c.place_job_value.new.self) (sym (ap g.D.HasDirectory.open_directory (subst (λ s. c.set.new.self ≡ g.D.HasDirectory.with_directory s (calls.with_field (g.D.HasDirectory.open_directory s) c.args.tag c.in_ok-entry.entry)) c.make_room-has_room.ensures c.in_ok-set.ensures) ∙ g.met.D.HasDirectory.given_directory c.args.self.now.state _))
-    (tag_told (g.D.HasDirectory.open_directory c.args.self.now.state) c.args.tag (Given (value_data c.args.value.now)) c.in_ok-entry.entry c.args.self.now.encoder.now c.place_job_value.new.self c.in_ok-entry.ensures.answer)
+    let settled =
+    c.settle.ensures c.args.self.now.state c.make_room-room.ensures.state c.make_room-room.ensures.room
+    (room_kept c.make_room-room.result c.is_made.result c.place_job_value-placed.result c.args.self.now.encoder.now c.place_job_value-placed.new.self c.is_made.ensures c.place_job_value-placed.ensures.room) in
+    settled_ends g.D.HasDirectory.open_directory g.D.HasDirectory.with_directory g.met.D.HasDirectory.given_directory g.met.D.HasDirectory.with_its_own c.args.self.now.state c.settle.new.self c.args.tag c.place_job_value-placed.result
+    (Given (value_data c.args.value.now)) c.args.self.now.encoder.now c.place_job_value-placed.new.self c.place_job_value-placed.ensures.answer c.settle.result settled
 
 pub returns-clause-leaves : goal.returns-clause-leaves
 returns-clause-leaves g c m s =
-    tag_kept (g.D.HasDirectory.open_directory c.args.self.now.state) c.args.tag c.in_ok-entry.entry c.args.self.now.encoder.now c.place_job_value.new.self m (Given (value_data c.args.value.now)) c.in_ok-entry.ensures.answer (c.in_ok-entry.ensures.leaves m s)
-
-pub returns-in_err-set-clause-answer : goal.returns-in_err-set-clause-answer
-returns-in_err-set-clause-answer g c =
-    let told =
-    tag_short (g.D.HasDirectory.open_directory c.args.self.now.state) c.args.tag (Given (value_data c.args.value.now)) c.in_ok-entry.entry c.in_err-set.field-0.0 c.args.self.now.encoder.now c.place_job_value.new.self c.in_ok-entry.ensures.answer c.in_err-set.ensures.0 in
-    search rules
-
-pub returns-in_err-set-clause-leaves : goal.returns-in_err-set-clause-leaves
-returns-in_err-set-clause-leaves g c m s =
-    let told =
-    failed_leaves _ c.in_err-set.field-0.0 c.args.self.now.encoder.now c.place_job_value.new.self m (tag_adds (g.D.HasDirectory.open_directory c.args.self.now.state) c.args.tag (value_data c.args.value.now) c.args.self.now.encoder.now)
-    (tag_short (g.D.HasDirectory.open_directory c.args.self.now.state) c.args.tag (Given (value_data c.args.value.now)) c.in_ok-entry.entry c.in_err-set.field-0.0 c.args.self.now.encoder.now c.place_job_value.new.self c.in_ok-entry.ensures.answer c.in_err-set.ensures.0) s in
-    search rules
+    let settled =
+    c.settle.ensures c.args.self.now.state c.make_room-room.ensures.state c.make_room-room.ensures.room
+    (room_kept c.make_room-room.result c.is_made.result c.place_job_value-placed.result c.args.self.now.encoder.now c.place_job_value-placed.new.self c.is_made.ensures c.place_job_value-placed.ensures.room) in
+    settled_leaves g.D.HasDirectory.open_directory g.D.HasDirectory.with_directory g.met.D.HasDirectory.given_directory g.met.D.HasDirectory.with_its_own c.args.self.now.state c.settle.new.self c.args.tag c.place_job_value-placed.result
+    (Given (value_data c.args.value.now)) c.args.self.now.encoder.now c.place_job_value-placed.new.self c.place_job_value-placed.ensures.answer c.settle.result m
+    (c.place_job_value-placed.ensures.leaves m s) settled

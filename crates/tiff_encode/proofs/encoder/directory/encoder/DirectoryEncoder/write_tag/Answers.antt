@@ -1,42 +1,42 @@
-use Rattle.std.proofs.Common.{◌≡◌, rules, Ok, ap, sym, subst, ◌∙◌}
-use Rattle.tiff_encode.specs.Calls as calls
-use Rattle.tiff_encode.specs.Ends.{EndsAsDefined}
-use Rattle.tiff_encode.proofs.Joining.{tag_adds}
-use Rattle.tiff_encode.proofs.Guarding.{Given, tag_told, tag_fails, tag_short, tag_left}
-use Rattle.tiff_encode.proofs.Keeping.{failed_leaves}
+use Rattle.tiff_encode.proofs.Guarding.{Given, entry_leaves}
+use Rattle.tiff_encode.proofs.Rooms.{room_kept, settled_stays, settled_rest, settled_ends, settled_leaves, settled_unwritten}
 use Rattle.tiff_encode.proofs.encoder.directory.encoder.DirectoryEncoder.write_tag.Goals as goal
 
-pub returns-in_err-entry-clause-answer : goal.returns-in_err-entry-clause-answer
-returns-in_err-entry-clause-answer g c =
-    let told =
-    tag_fails (g.D.HasDirectory.open_directory c.args.self.now.state) c.args.tag (Given (g.T.TiffValue.field_data c.args.value)) c.in_err-entry.field-0.0 c.args.self.now.encoder.now c.place_value.new.self c.in_err-entry.ensures in
-    search rules
+pub returns-clause-stays : goal.returns-clause-stays
+returns-clause-stays g c =
+    let settled =
+    c.settle.ensures c.args.self.now.state c.make_room-room.ensures.state c.make_room-room.ensures.room
+    (room_kept c.make_room-room.result c.is_made.result c.place_value-placed.result c.args.self.now.encoder.now c.place_value-placed.new.self c.is_made.ensures c.place_value-placed.ensures.room) in
+    settled_stays g.D.HasDirectory.open_directory g.D.HasDirectory.with_directory g.met.D.HasDirectory.given_directory g.met.D.HasDirectory.with_its_own c.args.self.now.state c.settle.new.self c.args.tag c.place_value-placed.result c.settle.result settled
 
-pub returns-in_err-entry-clause-leaves : goal.returns-in_err-entry-clause-leaves
-returns-in_err-entry-clause-leaves g c m s =
-    let told =
-    failed_leaves _ c.in_err-entry.field-0.0 c.args.self.now.encoder.now c.place_value.new.self m (tag_adds (g.D.HasDirectory.open_directory c.args.self.now.state) c.args.tag (g.T.TiffValue.field_data c.args.value) c.args.self.now.encoder.now)
-    (tag_fails (g.D.HasDirectory.open_directory c.args.self.now.state) c.args.tag (Given (g.T.TiffValue.field_data c.args.value)) c.in_err-entry.field-0.0 c.args.self.now.encoder.now c.place_value.new.self c.in_err-entry.ensures) s in
-    search rules
+pub returns-clause-rest : goal.returns-clause-rest
+returns-clause-rest g c =
+    let settled =
+    c.settle.ensures c.args.self.now.state c.make_room-room.ensures.state c.make_room-room.ensures.room
+    (room_kept c.make_room-room.result c.is_made.result c.place_value-placed.result c.args.self.now.encoder.now c.place_value-placed.new.self c.is_made.ensures c.place_value-placed.ensures.room) in
+    settled_rest g.D.HasDirectory.open_directory g.D.HasDirectory.with_directory g.met.D.HasDirectory.given_directory g.met.D.HasDirectory.with_its_own c.args.self.now.state c.settle.new.self c.args.tag c.place_value-placed.result c.settle.result settled
 
 pub returns-clause-answer : goal.returns-clause-answer
 returns-clause-answer g c =
-    subst (λ d. EndsAsDefined (calls.write_tag (g.D.HasDirectory.open_directory c.args.self.now.state) c.args.tag (g.T.TiffValue.field_data c.args.value) c.args.self.now.encoder.now) (Ok d) c.place_value.new.self) (sym (ap g.D.HasDirectory.open_directory (subst (λ s. c.set.new.self ≡ g.D.HasDirectory.with_directory s (calls.with_field (g.D.HasDirectory.open_directory s) c.args.tag c.in_ok-entry.entry)) c.make_room-has_room.ensures c.in_ok-set.ensures) ∙ g.met.D.HasDirectory.given_directory c.args.self.now.state _))
-    (tag_told (g.D.HasDirectory.open_directory c.args.self.now.state) c.args.tag (Given (g.T.TiffValue.field_data c.args.value)) c.in_ok-entry.entry c.args.self.now.encoder.now c.place_value.new.self c.in_ok-entry.ensures)
+    let settled =
+    c.settle.ensures c.args.self.now.state c.make_room-room.ensures.state c.make_room-room.ensures.room
+    (room_kept c.make_room-room.result c.is_made.result c.place_value-placed.result c.args.self.now.encoder.now c.place_value-placed.new.self c.is_made.ensures c.place_value-placed.ensures.room) in
+    settled_ends g.D.HasDirectory.open_directory g.D.HasDirectory.with_directory g.met.D.HasDirectory.given_directory g.met.D.HasDirectory.with_its_own c.args.self.now.state c.settle.new.self c.args.tag c.place_value-placed.result
+    (Given (g.T.TiffValue.field_data c.args.value)) c.args.self.now.encoder.now c.place_value-placed.new.self c.place_value-placed.ensures.answer c.settle.result settled
+
+pub returns-clause-unwritten : goal.returns-clause-unwritten
+returns-clause-unwritten g c =
+    let settled =
+    c.settle.ensures c.args.self.now.state c.make_room-room.ensures.state c.make_room-room.ensures.room
+    (room_kept c.make_room-room.result c.is_made.result c.place_value-placed.result c.args.self.now.encoder.now c.place_value-placed.new.self c.is_made.ensures c.place_value-placed.ensures.room) in
+    settled_unwritten g.D.HasDirectory.open_directory g.D.HasDirectory.with_directory g.met.D.HasDirectory.given_directory g.met.D.HasDirectory.with_its_own c.args.self.now.state c.settle.new.self c.args.tag c.place_value-placed.result
+    c.settle.result c.is_made.result c.args.self.now.encoder.now c.place_value-placed.new.self c.place_value-placed.ensures.room settled
 
 pub returns-clause-leaves : goal.returns-clause-leaves
 returns-clause-leaves g c m s =
-    tag_left (g.D.HasDirectory.open_directory c.args.self.now.state) c.args.tag (Given (g.T.TiffValue.field_data c.args.value)) c.in_ok-entry.entry c.args.self.now.encoder.now c.place_value.new.self m (g.T.TiffValue.value_type, (g.T.TiffValue.value_count c.args.value, g.met.T.TiffValue.sized c.args.value)) c.fits.ensures c.in_ok-entry.ensures s
-
-pub returns-in_err-set-clause-answer : goal.returns-in_err-set-clause-answer
-returns-in_err-set-clause-answer g c =
-    let told =
-    tag_short (g.D.HasDirectory.open_directory c.args.self.now.state) c.args.tag (Given (g.T.TiffValue.field_data c.args.value)) c.in_ok-entry.entry c.in_err-set.field-0.0 c.args.self.now.encoder.now c.place_value.new.self c.in_ok-entry.ensures c.in_err-set.ensures.0 in
-    search rules
-
-pub returns-in_err-set-clause-leaves : goal.returns-in_err-set-clause-leaves
-returns-in_err-set-clause-leaves g c m s =
-    let told =
-    failed_leaves _ c.in_err-set.field-0.0 c.args.self.now.encoder.now c.place_value.new.self m (tag_adds (g.D.HasDirectory.open_directory c.args.self.now.state) c.args.tag (g.T.TiffValue.field_data c.args.value) c.args.self.now.encoder.now)
-    (tag_short (g.D.HasDirectory.open_directory c.args.self.now.state) c.args.tag (Given (g.T.TiffValue.field_data c.args.value)) c.in_ok-entry.entry c.in_err-set.field-0.0 c.args.self.now.encoder.now c.place_value.new.self c.in_ok-entry.ensures c.in_err-set.ensures.0) s in
-    search rules
+    let settled =
+    c.settle.ensures c.args.self.now.state c.make_room-room.ensures.state c.make_room-room.ensures.room
+    (room_kept c.make_room-room.result c.is_made.result c.place_value-placed.result c.args.self.now.encoder.now c.place_value-placed.new.self c.is_made.ensures c.place_value-placed.ensures.room) in
+    settled_leaves g.D.HasDirectory.open_directory g.D.HasDirectory.with_directory g.met.D.HasDirectory.given_directory g.met.D.HasDirectory.with_its_own c.args.self.now.state c.settle.new.self c.args.tag c.place_value-placed.result
+    (Given (g.T.TiffValue.field_data c.args.value)) c.args.self.now.encoder.now c.place_value-placed.new.self c.place_value-placed.ensures.answer c.settle.result m
+    (entry_leaves (Given (g.T.TiffValue.field_data c.args.value)) c.place_value-placed.result c.args.self.now.encoder.now c.place_value-placed.new.self m (g.T.TiffValue.value_type, (g.T.TiffValue.value_count c.args.value, g.met.T.TiffValue.sized c.args.value)) c.fits.ensures c.place_value-placed.ensures.answer s) settled

@@ -1,4 +1,4 @@
-use Rattle.std.proofs.Common.{ℕ, List, ◌≡◌, ◌*◌, ◌%◌, ◌≤◌, ◌<◌, ◌^◌, MatchResult, arith, length, map, ap, subst, sym, ◌∙◌}
+use Rattle.std.proofs.Common.{ℕ, List, ◌≡◌, ◌*◌, ◌%◌, ◌^◌, MatchResult, arith, length, map, ap, subst, ◌∙◌}
 use Rattle.std.proofs.lemmas.List.{length-map}
 use Rattle.std.specs.List.{flat_map}
 use Rattle.tiff_base.specs.Number.{le}

@@ -1,7 +1,6 @@
 use Rattle.std.proofs.Common.{map, ap, sym, ◌∙◌, ◌*◌}
 use Rattle.tiff_base.specs.Types.{type_size}
 use Rattle.tiff_value.specs.ColorType.{sample_number}
-use Rattle.tiff_encode.specs.Machine.{compression_method}
 use Rattle.tiff_encode.proofs.Storing.{unpacked_is, whole_rows, packs_whole, whole_stored, rows_stored}
 use Rattle.tiff_encode.proofs.encoder.image.state.ImageState.pack_samples.Goals as goal
 
