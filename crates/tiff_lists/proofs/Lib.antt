@@ -1,2 +1,3 @@
 pub mod DigitPairs
+pub mod Folds
 pub mod NumberWords

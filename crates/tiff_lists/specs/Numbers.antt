@@ -17,10 +17,14 @@ number radix digits =
     if are_digits radix digits && nat_lt (digits_value radix digits) (2 ^ 64)
     then Some (digits_value radix digits) else None
 
+-- whether a word has `0x` in front
+abbrev pub is_hexadecimal : List ℕ → Bool
+is_hexadecimal word = starts_with eqb word (codes "0x")
+
 -- the number that a word is, without a sign: in decimal, or in hexadecimal behind `0x`
 unfoldable pub magnitude : List ℕ → Option ℕ
 magnitude word =
-    if starts_with eqb word (codes "0x") then number 16 (drop 2 word) else number 10 word
+    if is_hexadecimal word then number 16 (drop 2 word) else number 10 word
 
 -- the number of so many bits that a word is
 abbrev pub unsigned : ℕ → List ℕ → Option ℕ

@@ -1,15 +1,15 @@
 //! Bytes as hexadecimal digits.
 
-ghost use Rattle.std.specs.Prelude.{◌≡◌, ◌++◌, IfNone, IfOk, IfSome, MatchOption, OnOk, flat_map, string_bytes};
-ghost use Rattle.tiff_lists.specs.Digits.{AreBytes, ArePairs, IsDigit, IsPair, two_digits};
+ghost use Rattle.std.specs.Prelude.{◌≡◌, ◌++◌, IfOk, OnOk, Some, flat_map, string_bytes};
+ghost use Rattle.std.specs.Option.{option_map};
+ghost use Rattle.tiff_lists.specs.Digits.{bytes_in, digit, pair_byte, pairs, two_digits};
 
 use std::alloc::{AllocError, Global};
 use std::fmt::Write;
 
 // The number that a hexadecimal digit is, of `0` to `9` and `a` to `f`.
 fn digit(byte: u8) -> Option<u8>
-    ensures some { IfSome result (IsDigit byte) }
-    ensures none { IfNone result ((n : _) → ¬ IsDigit byte n) }
+    ensures { result ≡ digit byte }
 {
     match byte {
         b'0'..=b'9' => Some(byte - b'0'),
@@ -20,8 +20,7 @@ fn digit(byte: u8) -> Option<u8>
 
 // The byte that two digits are.
 fn byte_of(high: u8, low: u8) -> Option<u8>
-    ensures some { IfSome result (IsPair high low) }
-    ensures none { IfNone result ((byte : _) → ¬ IsPair high low byte) }
+    ensures { result ≡ pair_byte high low }
 {
     Some(digit(high)? * 16 + digit(low)?)
 }
@@ -36,8 +35,8 @@ fn push_byte(text: &mut String, byte: u8) -> Result<(), AllocError>
 
 // The bytes that pairs of digits are. `None` if one of them is none, or if a digit is left over.
 fn bytes_of_pairs(alloc: Global, digits: &[u8]) -> Result<Option<Vec<u8>>, AllocError>
-    ensures { IfOk result (λ answer. MatchOption answer ((bytes : _) → ¬ ArePairs digits.now bytes)
-        (λ bytes. ArePairs digits.now bytes.items)) }
+    ensures { IfOk result (λ answer.
+        pairs digits.now ≡ option_map (λ bytes. bytes.items) answer) }
 {
     let mut bytes = Vec::new(alloc);
     let mut rest = digits;
@@ -54,8 +53,8 @@ fn bytes_of_pairs(alloc: Global, digits: &[u8]) -> Result<Option<Vec<u8>>, Alloc
 /// The bytes that hexadecimal digits are, two digits for each; `-` is no bytes. `None` if the text
 /// is anything else.
 pub fn bytes_of(alloc: Global, digits: &str) -> Result<Option<Vec<u8>>, AllocError>
-    ensures { IfOk result (λ answer. MatchOption answer ((bytes : _) → ¬ AreBytes digits.now bytes)
-        (λ bytes. AreBytes digits.now bytes.items)) }
+    ensures { IfOk result (λ answer.
+        bytes_in digits.now ≡ option_map (λ bytes. bytes.items) answer) }
 {
     if digits == "-" {
         return Ok(Some(Vec::new(alloc)));
@@ -77,7 +76,7 @@ pub fn push_digits(text: &mut String, bytes: &[u8]) -> Result<(), AllocError>
 
 /// Bytes as hexadecimal digits, two small digits for each; `-` for no bytes.
 pub fn digits_text(alloc: Global, bytes: &[u8]) -> Result<String, AllocError>
-    ensures { IfOk result (λ text. AreBytes (string_bytes text) bytes.now) }
+    ensures { IfOk result (λ text. bytes_in (string_bytes text) ≡ Some bytes.now) }
 {
     if bytes.is_empty() {
         return String::from_str(alloc, "-");

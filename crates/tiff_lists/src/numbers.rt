@@ -3,8 +3,8 @@
 ghost use Rattle.std.specs.Prelude.{◌≡◌, ◌≤◌};
 ghost use Rattle.tiff_lists.specs.Numbers.{magnitude, number, signed};
 
-// The number that digits are, of 64 bits at most, without a sign.
-fn number(digits: &str, radix: u32) -> Option<u64>
+/// The number that digits are, of 64 bits at most, without a sign.
+pub fn number(digits: &str, radix: u32) -> Option<u64>
     requires lower { 2 ≤ radix }
     requires upper { radix ≤ 36 }
     ensures { result ≡ number radix digits.now }

@@ -3,6 +3,7 @@
 use crate::words::{FromWord, ParseError, repeated};
 use std::alloc::Global;
 use tiff_base::tags::{Bits32, Bits64, SampleFormat};
+use tiff_encode::encoder::columns;
 use tiff_value::encoder::color_visitor::{ColorVisitor, by_name};
 use tiff_value::encoder::colortype::{ColorTypeName, NamedColorType};
 
@@ -40,7 +41,8 @@ struct Pixel {
     samples: u64,
 }
 
-// The type of samples of a format and a number of bits.
+// The type of samples of a format and a number of bits. Those of fewer than 8 bits are packed into
+// bytes.
 fn sample_type(format: SampleFormat, bits: u16) -> SampleType {
     match (format, bits) {
         (SampleFormat::Int, 8) => SampleType::I8,
@@ -49,31 +51,33 @@ fn sample_type(format: SampleFormat, bits: u16) -> SampleType {
         (SampleFormat::Int, _) => SampleType::I64,
         (SampleFormat::IEEEFP, 32) => SampleType::F32,
         (SampleFormat::IEEEFP, _) => SampleType::F64,
-        (_, 8) => SampleType::U8,
+        (_, 1..=8) => SampleType::U8,
         (_, 16) => SampleType::U16,
         (_, 32) => SampleType::U32,
         _ => SampleType::U64,
     }
 }
 
-// Gives the pixel of a color type.
+// Gives the pixel of a color type, and the columns of a row of so many pixels: pixels, or bytes of
+// packed pixels.
 struct PixelOf;
 
-impl ColorVisitor<(), (), Pixel> for PixelOf {
+impl ColorVisitor<(), u32, (Pixel, u32)> for PixelOf {
     ghost takes = { λ _ _ _. Unit };
 
     ghost visits = { λ _ _ _ _ _. Unit };
 
-    fn visit<C: NamedColorType>(_none: &mut (), _input: ()) -> Pixel {
+    fn visit<C: NamedColorType>(_none: &mut (), width: u32) -> (Pixel, u32) {
         let format = C::sample_formats().first().copied();
         let bits = C::sample_bits();
-        Pixel {
+        let pixel = Pixel {
             sample: sample_type(
                 format.unwrap_or(SampleFormat::Uint),
                 bits.first().copied().unwrap_or(8),
             ),
             samples: bits.len() as u64,
-        }
+        };
+        (pixel, columns::<C>(width))
     }
 }
 
@@ -105,11 +109,12 @@ pub struct SampleWords {
 
 impl SampleWords {
     /// The samples of an image of these sides. A word stands for as many samples at most as the
-    /// image has, and always for one.
+    /// image has, and always for one. A sample of packed pixels is a byte.
     pub fn new(color: ColorTypeName, width: u32, height: u32) -> Self {
+        let (pixel, columns) = by_name::<(), u32, (Pixel, u32), PixelOf>(color, &mut (), width);
         SampleWords {
-            pixel: by_name::<(), (), Pixel, PixelOf>(color, &mut (), ()),
-            pixels: area(width, height),
+            pixel,
+            pixels: area(columns, height),
         }
     }
 

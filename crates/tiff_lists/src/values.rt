@@ -1,13 +1,24 @@
 //! The values that jobs write, and the fields of directories, as words.
 
-use crate::words::{ParseError, digits_of, first_word, list_of, read};
+ghost use Rattle.std.specs.Prelude.{◌≡◌, List, ℕ};
+ghost use Rattle.std.specs.Option.{option_map};
+ghost use Rattle.tiff_base.specs.declared.tags.«Type».{«Type»};
+ghost use Rattle.tiff_base.specs.declared.tags.Tag.{Tag};
+ghost use Rattle.tiff_lists.specs.Line.{Reads};
+ghost use Rattle.tiff_lists.specs.Values.{buffer, buffer_held, field_bytes, fields, parted, place_value, tagged, typed, value_held, with_field};
+
+use crate::numbers::number;
+use crate::words::{ParseError, digits_of, first_word, list_of, parts, read};
 use std::alloc::Global;
 use tiff_base::directory::{Directory, Entry};
 use tiff_base::tags::{Tag, Type};
 use tiff_encode::encoder::script::{JobBuffer, JobValue};
 
 // A value of offsets or fractions.
-fn place_value(alloc: Global, name: &str, words: &str) -> Result<JobValue, ParseError> {
+#[tactic(auto, unfolding(crate::specs::Values::place_value))]
+fn place_value(alloc: Global, name: &str, words: &str) -> Result<JobValue, ParseError>
+    ensures { Reads value_held (place_value name.now words.now) result }
+{
     match name {
         "ifd" => Ok(JobValue::Ifd(list_of(alloc, words)?)),
         "ifd8" => Ok(JobValue::Ifd8(list_of(alloc, words)?)),
@@ -60,7 +71,9 @@ pub fn value_of(alloc: Global, words: &str) -> Result<JobValue, ParseError> {
 
 /// The bytes that words stand for: the number of a type, the byte order `little` or `big`, and the
 /// bytes as hexadecimal digits. Words that aren't so: `Form`.
-pub fn buffer_of(alloc: Global, words: &str) -> Result<JobBuffer, ParseError> {
+pub fn buffer_of(alloc: Global, words: &str) -> Result<JobBuffer, ParseError>
+    ensures { Reads buffer_held (buffer words.now) result }
+{
     let (data_type, words) = first_word(words);
     let (order, digits) = first_word(words);
     Ok(JobBuffer {
@@ -71,21 +84,27 @@ pub fn buffer_of(alloc: Global, words: &str) -> Result<JobBuffer, ParseError> {
 }
 
 // The eight bytes that sixteen hexadecimal digits are.
-fn field_bytes(digits: &str) -> Option<[u8; 8]> {
+fn field_bytes(digits: &str) -> Option<[u8; 8]>
+    ensures { result ≡ field_bytes digits.now }
+{
     if digits.len() != 16 {
         return None;
     }
-    Some(u64::from_str_radix(digits, 16).ok()?.to_be_bytes())
+    Some(number(digits, 16)?.to_be_bytes())
 }
 
 // Both parts of `a:b`.
-fn parted(word: &str) -> Result<(&str, &str), ParseError> {
-    word.split_once(':').ok_or(ParseError::Form)
+fn parted(word: &str) -> Result<(&str, &str), ParseError>
+    ensures { Reads {B = List ℕ × List ℕ} (λ p. (p.0.now, p.1.now)) (parted word.now) result }
+{
+    parts(word, ':').ok_or(ParseError::Form)
 }
 
 // Sets the field that a word stands for: the number of its tag, the number of its type, how many
 // values it has, and its eight bytes as digits, with `:` between them.
-fn set_field(directory: &mut Directory, word: &str) -> Result<(), ParseError> {
+fn set_field(directory: &mut Directory, word: &str) -> Result<(), ParseError>
+    ensures { Reads (λ _. directory.new) (with_field directory.old word.now) result }
+{
     let (tag, word) = parted(word)?;
     let (data_type, word) = parted(word)?;
     let (count, digits) = parted(word)?;
@@ -98,7 +117,10 @@ fn set_field(directory: &mut Directory, word: &str) -> Result<(), ParseError> {
 /// The directory of the fields that words stand for; no words are no fields. Each word is the
 /// number of a tag, the number of a type, the count of values and eight bytes as hexadecimal
 /// digits, with `:` between them. Words that aren't so: `Form`.
-pub fn directory_of(alloc: Global, words: &str) -> Result<Directory, ParseError> {
+#[tactic(auto, unfolding(crate::specs::Values::fields))]
+pub fn directory_of(alloc: Global, words: &str) -> Result<Directory, ParseError>
+    ensures { Reads (λ d. d) (fields words.now) result }
+{
     let mut directory = Directory::empty(alloc);
     if words.is_empty() {
         return Ok(directory);
@@ -110,14 +132,18 @@ pub fn directory_of(alloc: Global, words: &str) -> Result<Directory, ParseError>
 }
 
 /// The tag whose number is the first word, and the words behind it. Another word: `Form`.
-pub fn tagged(words: &str) -> Result<(Tag, &str), ParseError> {
+pub fn tagged(words: &str) -> Result<(Tag, &str), ParseError>
+    ensures { Reads {B = Tag × List ℕ} (λ t. (t.0, t.1.now)) (tagged words.now) result }
+{
     let (tag, words) = first_word(words);
     Ok((read(tag)?, words))
 }
 
 /// The type whose number is the first word, and the bytes that the second word is as hexadecimal
 /// digits. Words that aren't so: `Form`.
-pub fn typed_bytes(alloc: Global, words: &str) -> Result<(Type, Vec<u8>), ParseError> {
+pub fn typed_bytes(alloc: Global, words: &str) -> Result<(Type, Vec<u8>), ParseError>
+    ensures { Reads {B = «Type» × List ℕ} (λ t. (t.0, t.1.items)) (typed words.now) result }
+{
     let (data_type, digits) = first_word(words);
     Ok((read(data_type)?, digits_of(alloc, digits)?))
 }

@@ -1,4 +1,3 @@
-mod Digits
 mod Found
 mod Lines
 mod SampleBytes

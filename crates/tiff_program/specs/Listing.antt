@@ -1,7 +1,7 @@
 -- The entries of a page as lines.
-use Rattle.std.specs.Prelude.{ℕ, List, [], ◌∷◌, ◌++◌, ◌/◌, ◌%◌, Option, None, Some, Result, Ok, codes, flat_map, map, false}
+use Rattle.std.specs.Prelude.{ℕ, List, [], ◌∷◌, ◌++◌, Option, None, Some, Result, Ok, codes, flat_map, map}
 use Rattle.std.specs.FinMap.{entries}
-use Rattle.std.specs.Fmt.{decimal, digit_glyph}
+use Rattle.std.specs.Fmt.{decimal}
 use Rattle.tiff_base.specs.declared.error.TiffError.{TiffError}
 use Rattle.tiff_base.specs.declared.tags.IfdPointer.{IfdPointer}
 use Rattle.tiff_decode.specs.declared.script.Call.{Call}
@@ -12,10 +12,7 @@ use Rattle.tiff.specs.Tags.{tag_of, type_number}
 use Rattle.tiff.specs.TagQueries.{buffer_of}
 use Rattle.tiff.specs.Machine.{Decoding}
 use Rattle.tiff.specs.Outcome.{find_entry, ifd_pointer, read_directory}
-
--- a byte as two hexadecimal digits, in small letters
-abbrev pub two_digits : ℕ → List ℕ
-two_digits b = digit_glyph false (b / 16) ∷ digit_glyph false (b % 16) ∷ []
+use Rattle.tiff_lists.specs.Digits.{two_digits}
 
 -- bytes as two digits each; a dash for no bytes
 abbrev pub shown_bytes : List ℕ → List ℕ

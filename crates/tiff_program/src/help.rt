@@ -72,7 +72,8 @@ What the words are:
                          whole numbers: decimal, or hexadecimal behind 0x
   X, Y                   positive numbers: 300, 72.5 or 1/3
   SAMPLES                numbers of the color type: 7, 0x7f, -1, 1.5, or of floating-point samples 0x and their bits;
-                         0..255 is each one from 0 to 255. A word has no more samples than the image
+                         0..255 is each one from 0 to 255. A word has no more samples than the image. Those of
+                         Gray1, Gray2 and Gray4 are bytes of packed pixels; a row begins with a new byte
   VALUE                  a type and its numbers, as u16 1 2; or text and, behind a space, the text, in ASCII
   types of a value       u8 i8 u16 i16 u32 i32 u64 i64 ifd ifd8; f32 f64 with numbers as those of samples; rational, as X;
                          srational, as -1/3; method interpretation planar predictor unit format extra

@@ -1,6 +1,6 @@
 //! The entries of a page as lines.
 
-ghost use Rattle.std.specs.Prelude.{◌≡◌, ◌≤◌, ◌++◌, IfOk, MatchResult, OnOk, flat_map, map, string_bytes};
+ghost use Rattle.std.specs.Prelude.{◌≡◌, ◌≤◌, ◌++◌, IfOk, MatchResult, OnOk, map, string_bytes};
 ghost use Rattle.std.specs.FinMap.{entries};
 ghost use Rattle.tiff_decode.specs.Step.{Step};
 ghost use Rattle.tiff_decode.specs.Steps.{Steps};
@@ -9,7 +9,7 @@ ghost use Rattle.tiff.specs.Machine.{Decoding};
 ghost use Rattle.tiff.specs.Outcome.{read_directory};
 ghost use Rattle.tiff.specs.Tags.{tag_of};
 ghost use Rattle.tiff_program.specs.AtPage.{AnswersIn, VisitsPage};
-ghost use Rattle.tiff_program.specs.Listing.{after, field_line, finds, line, lines, listing, listing_at, numbers_at, page_pointer, shown_bytes, two_digits};
+ghost use Rattle.tiff_program.specs.Listing.{after, field_line, finds, line, lines, listing, listing_at, numbers_at, page_pointer, shown_bytes};
 
 use crate::calls::{let_go, next_of, replies_to_both, replies_to_calls, reply_to_one};
 use crate::replies::{directory_read, field_found, pointer_told, sought};
@@ -21,26 +21,7 @@ use tiff::decoder::script::{Call, Reply};
 use tiff::io::{MemorySource, Source};
 use tiff::tags::{IfdPointer, Tag, ValueBuffer};
 use tiff::{Directory, TiffError, TiffResult};
-
-// Appends a byte as two hexadecimal digits.
-#[tactic(auto, using(std::proofs::lemmas::Fmt::hex_byte))]
-fn push_byte(text: &mut String, byte: u8) -> Result<(), AllocError>
-    ensures { OnOk result (string_bytes text.new ≡ string_bytes text.old ++ two_digits byte) }
-{
-    write!(text, "{byte:02x}")
-}
-
-// Appends each byte as two hexadecimal digits.
-#[tactic(auto, using(crate::proofs::Digits::digits_more))]
-fn push_digits(text: &mut String, bytes: &[u8]) -> Result<(), AllocError>
-    ensures { OnOk result
-        (string_bytes text.new ≡ string_bytes text.old ++ flat_map two_digits bytes.now) }
-{
-    for byte in bytes {
-        push_byte(text, *byte)?;
-    }
-    Ok(())
-}
+use tiff_lists::digits::push_digits;
 
 // Appends each byte as two hexadecimal digits, or `-` if there is none.
 fn push_bytes(text: &mut String, bytes: &[u8]) -> Result<(), AllocError>
