@@ -101,11 +101,19 @@ tells_in_order : (seen : Windows) (status : ℕ) (wanted : Stretch) (stays told 
 tells_in_order seen status wanted stays told h t =
     in_order_by (behind_windows seen.len seen.windows.now) seen status wanted stays told h t
 
+-- windows that are in order are those of a file
+pub of_order : (seen mine : Windows) → mine ≡ seen → ((file : List ℕ) → AreWindowsOf (file_of file seen) seen) → (file : List ℕ) → AreWindowsOf (file_of file mine) mine
+of_order seen mine e h file = (let P : Windows → Type 0 = λ w. AreWindowsOf (file_of file w) w in subst P (sym e) (h file))
+
+-- the file of windows in order is the one that they are of
+pub in_order_of : (seen mine : Windows) (file : List ℕ) → mine ≡ seen → AreWindowsOf file seen → file_of file mine ≡ file
+in_order_of seen mine file e of = ap (λ w. file_of file w) e ∙ same_file file seen of
+
 -- a call that tells what it tells of the file that it picked, tells it of the file that the windows are of
-pub tells_of : (seen : Windows) (file : List ℕ) (status : ℕ) (wanted : Stretch) (stays : Type 0) (told : List ℕ → Type 0)
-    → IsSome (behind_windows seen.len seen.windows.now) → AreWindowsOf file seen → told (file_of file seen) → SeenTells seen status wanted stays (told file)
-tells_of seen file status wanted stays told h of t =
-    tells_in_order seen status wanted stays (told file) h (inr (subst told (same_file file seen of) t))
+pub tells_of : (seen mine : Windows) (file : List ℕ) (status : ℕ) (wanted : Stretch) (stays : Type 0) (told : List ℕ → Type 0)
+    → (mine ≡ seen) × IsSome (behind_windows seen.len seen.windows.now) → AreWindowsOf file seen → told (file_of file mine) → SeenTells seen status wanted stays (told file)
+tells_of seen mine file status wanted stays told o of t =
+    tells_in_order seen status wanted stays (told file) o.1 (inr (subst told (in_order_of seen mine file o.0 of) t))
 
 -- ---- tags
 

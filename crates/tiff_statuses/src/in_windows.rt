@@ -4,7 +4,7 @@ ghost use Rattle.std.specs.Prelude.{◌≡◌, ◌⊎◌, ◌<◌, ◌≤◌, �
 ghost use Rattle.std.specs.FinMap.{get};
 ghost use Rattle.tiff_base.specs.Answers.{AnswersWithoutMemory, AnswersWithoutSource, Gives, IsKept};
 ghost use Rattle.tiff_base.specs.SourceAndSink.{AreReadable};
-ghost use Rattle.tiff_base.specs.Windows.{AreApart, AreWindowsOf, IsWanted, seen_by};
+ghost use Rattle.tiff_base.specs.Windows.{AreWindowsOf, IsWanted, seen_by};
 ghost use Rattle.tiff_ifd.specs.TagLookup.{ok_or_fault};
 ghost use Rattle.tiff_ifd.specs.TagQueries.{part_of_field};
 ghost use Rattle.tiff_decode.specs.Machine.{Decoding};
@@ -34,7 +34,7 @@ use tiff_base::error::{TiffFormatError, TiffResult};
 use tiff_base::io::Source;
 use tiff_base::laws::numbers_come_back;
 use tiff_base::tags::Tag;
-use tiff_base::windows::{SeenFile, Stretch, WindowSource, Windows};
+use tiff_base::windows::{OrderedWindows, SeenFile, Stretch, WindowSource, Windows};
 use tiff_decode::decoder::Decoder;
 use tiff_ifd::field_reader::FieldReader;
 use tiff_ifd::limits::Limits;
@@ -48,14 +48,13 @@ const HEADER_LEN: u64 = 16;
 // A decoder before the first page of a file whose header the windows have.
 fn open_seen<'a, F: SeenFile>(
     alloc: Global,
-    seen: &Windows<'a>,
+    seen: &OrderedWindows<'a>,
 ) -> TiffResult<Decoder<WindowSource<'a, F>>>
-    requires apart { AreApart seen.now.windows.now }
-    requires of { AreWindowsOf F.bytes seen.now }
-    requires header { AreReadable (seen_by seen.now F.bytes) 0 16 }
+    requires of { AreWindowsOf F.bytes seen.now.seen }
+    requires header { AreReadable (seen_by seen.now.seen F.bytes) 0 16 }
     ensures answer { AnswersWithoutSource (λ (d : Decoding). record d { readable = None }) result
         (opened_of F.bytes 0) }
-    ensures readable { IfOk result (λ d. d.readable ≡ (seen_by seen.now F.bytes).readable) }
+    ensures readable { IfOk result (λ d. d.readable ≡ (seen_by seen.now.seen F.bytes).readable) }
     ensures failures { IfOk result (λ d. d.failures ≡ 0) }
 {
     Decoder::open(alloc, WindowSource::<F>::new(seen))
@@ -78,12 +77,11 @@ fn unless_wanted<T: Drop>(
 #[tactic(auto, using(crate::proofs::SeenFiles::pages_seen, crate::proofs::SeenFiles::wanted_seen))]
 fn pages_seen<F: SeenFile>(
     alloc: Global,
-    seen: &Windows<'_>,
+    seen: &OrderedWindows<'_>,
 ) -> Result<TiffResult<PageList>, Stretch>
-    requires apart { AreApart seen.now.windows.now }
-    requires of { AreWindowsOf F.bytes seen.now }
+    requires of { AreWindowsOf F.bytes seen.now.seen }
     ensures { MatchResult result (λ listed. AnswersWithoutSource pages_in listed (list_of F.bytes))
-        (IsWanted seen.now) }
+        (IsWanted seen.now.seen) }
 {
     if let Some(wanted) = seen.wanted_of_front(HEADER_LEN) {
         return Err(wanted);
@@ -100,12 +98,11 @@ fn pages_seen<F: SeenFile>(
 #[tactic(auto, using(crate::proofs::SeenFiles::directories_seen, crate::proofs::SeenFiles::wanted_seen))]
 fn directories_seen<F: SeenFile>(
     alloc: Global,
-    seen: &Windows<'_>,
+    seen: &OrderedWindows<'_>,
 ) -> Result<TiffResult<DirectoryList>, Stretch>
-    requires apart { AreApart seen.now.windows.now }
-    requires of { AreWindowsOf F.bytes seen.now }
+    requires of { AreWindowsOf F.bytes seen.now.seen }
     ensures { MatchResult result (λ listed. AnswersWithoutSource directories_in listed (tree_of F.bytes))
-        (IsWanted seen.now) }
+        (IsWanted seen.now.seen) }
 {
     if let Some(wanted) = seen.wanted_of_front(HEADER_LEN) {
         return Err(wanted);
@@ -121,14 +118,13 @@ fn directories_seen<F: SeenFile>(
 // The directory of a page, or the bytes that are wanted for it.
 fn directory_seen<F: SeenFile>(
     alloc: Global,
-    seen: &Windows<'_>,
+    seen: &OrderedWindows<'_>,
     page: usize,
 ) -> Result<TiffResult<PageDirectory>, Stretch>
-    requires apart { AreApart seen.now.windows.now }
-    requires of { AreWindowsOf F.bytes seen.now }
+    requires of { AreWindowsOf F.bytes seen.now.seen }
     ensures { MatchResult result
         (λ told. AnswersWithoutSource (λ p. (p.kind, p.order, p.directory)) told
-        (plans.page_directory F.bytes page)) (IsWanted seen.now) }
+        (plans.page_directory F.bytes page)) (IsWanted seen.now.seen) }
 {
     let mut source = WindowSource::<F>::new(seen);
     let read = page_directory(alloc, &mut source, page);
@@ -140,14 +136,13 @@ fn directory_seen<F: SeenFile>(
 #[tactic(auto, unfolding(crate::specs::InWindows::list_tags))]
 fn entries_seen<F: SeenFile>(
     alloc: Global,
-    seen: &Windows<'_>,
+    seen: &OrderedWindows<'_>,
     page: usize,
     out: &mut [TagEntry],
 ) -> Result<TiffResult<usize>, Stretch>
-    requires apart { AreApart seen.now.windows.now }
-    requires of { AreWindowsOf F.bytes seen.now }
+    requires of { AreWindowsOf F.bytes seen.now.seen }
     ensures answer { MatchResult result (λ told. AnswersWithoutSource (λ n. (n, out.new)) told
-        (spec.list_tags F.bytes page out.old)) (IsWanted seen.now) }
+        (spec.list_tags F.bytes page out.old)) (IsWanted seen.now.seen) }
     ensures stays { MatchResult result (λ told. OnErr told (out.new ≡ out.old)) (λ s. out.new ≡ out.old) }
 {
     let found = match directory_seen::<F>(alloc, seen, page)? {
@@ -196,16 +191,15 @@ fn copy_part<R: Source>(
 // Copies bytes of a field, or returns the bytes that are wanted for them.
 fn part_seen<F: SeenFile>(
     fields: &FieldReader<'_>,
-    seen: &Windows<'_>,
+    seen: &OrderedWindows<'_>,
     entry: &Entry,
     at: u64,
     buffer: &mut [u8],
 ) -> Result<TiffResult<usize>, Stretch>
-    requires apart { AreApart seen.now.windows.now }
-    requires of { AreWindowsOf F.bytes seen.now }
+    requires of { AreWindowsOf F.bytes seen.now.seen }
     ensures { MatchResult result (λ told. AnswersWithoutSource (λ n. (n, buffer.new)) told
         (spec.copied (part_of_field fields.now.kind fields.now.order F.bytes entry.now (length buffer.old) at)
-        buffer.old)) (IsWanted seen.now) }
+        buffer.old)) (IsWanted seen.now.seen) }
 {
     let mut source = WindowSource::<F>::new(seen);
     let read = copy_part(fields, &mut source, entry, at, buffer);
@@ -217,16 +211,15 @@ fn part_seen<F: SeenFile>(
 #[tactic(auto, unfolding(crate::specs::InWindows::tag_bytes))]
 fn bytes_seen<F: SeenFile>(
     alloc: Global,
-    seen: &Windows<'_>,
+    seen: &OrderedWindows<'_>,
     page: usize,
     number: u16,
     at: u64,
     buffer: &mut [u8],
 ) -> Result<TiffResult<usize>, Stretch>
-    requires apart { AreApart seen.now.windows.now }
-    requires of { AreWindowsOf F.bytes seen.now }
+    requires of { AreWindowsOf F.bytes seen.now.seen }
     ensures { MatchResult result (λ told. AnswersWithoutSource (λ n. (n, buffer.new)) told
-        (spec.tag_bytes F.bytes page number at buffer.old)) (IsWanted seen.now) }
+        (spec.tag_bytes F.bytes page number at buffer.old)) (IsWanted seen.now.seen) }
 {
     let found = match directory_seen::<F>(alloc, seen, page)? {
         Ok(found) => found,
@@ -263,10 +256,10 @@ pub fn list_pages_in(
         (ListTells (list_of file) result out.old out.new count.new) }
 {
     *count = 0;
-    if !seen.are_in_order() {
+    let Some(windows) = seen.in_order() else {
         return Status::InvalidInput as u32;
-    }
-    match pages_seen::<Brand>(alloc, seen) {
+    };
+    match pages_seen::<Brand>(alloc, &windows) {
         Ok(listed) => tell_pages(listed, out, count),
         Err(stretch) => {
             *wanted = stretch;
@@ -292,10 +285,10 @@ pub fn list_directories_in(
         (TreeTells (tree_of file) result out.old out.new count.new) }
 {
     *count = 0;
-    if !seen.are_in_order() {
+    let Some(windows) = seen.in_order() else {
         return Status::InvalidInput as u32;
-    }
-    match directories_seen::<Brand>(alloc, seen) {
+    };
+    match directories_seen::<Brand>(alloc, &windows) {
         Ok(listed) => tell_directories(listed, out, count),
         Err(stretch) => {
             *wanted = stretch;
@@ -307,13 +300,12 @@ pub fn list_directories_in(
 // The plan of a page, or the bytes that are wanted for it.
 fn plan_seen<F: SeenFile>(
     alloc: Global,
-    seen: &Windows<'_>,
+    seen: &OrderedWindows<'_>,
     page: usize,
 ) -> Result<TiffResult<Option<PagePlan>>, Stretch>
-    requires apart { AreApart seen.now.windows.now }
-    requires of { AreWindowsOf F.bytes seen.now }
+    requires of { AreWindowsOf F.bytes seen.now.seen }
     ensures plan { MatchResult result (λ told. AnswersWithoutSource (λ plan. plan) told (plans.plan_found F.bytes page))
-        (IsWanted seen.now) }
+        (IsWanted seen.now.seen) }
     ensures reads { IfOk result (λ told. IfOk told (λ found. IfSome found (λ plan. plan.depth < 2 ^ 8
         → plans.ReadsPage F.bytes page (plans.numbers_of plan)))) }
 {
@@ -324,14 +316,13 @@ fn plan_seen<F: SeenFile>(
 // Reads a chunk into a slice by a plan, or returns the bytes that are wanted for it.
 fn chunk_seen<F: SeenFile>(
     reader: &PlanReader<'_>,
-    seen: &Windows<'_>,
+    seen: &OrderedWindows<'_>,
     chunk: u32,
     buffer: &mut [u8],
 ) -> Result<TiffResult<()>, Stretch>
-    requires apart { AreApart seen.now.windows.now }
-    requires of { AreWindowsOf F.bytes seen.now }
+    requires of { AreWindowsOf F.bytes seen.now.seen }
     ensures { MatchResult result (λ told. AnswersWithoutSource (λ _. buffer.new) told
-        (read_planned F.bytes reader.now.plan.now reader.now.limits.now chunk buffer.old)) (IsWanted seen.now) }
+        (read_planned F.bytes reader.now.plan.now reader.now.limits.now chunk buffer.old)) (IsWanted seen.now.seen) }
 {
     let mut source = WindowSource::<F>::new(seen);
     let read = reader.read_chunk_bytes(&mut source, chunk, buffer);
@@ -342,15 +333,14 @@ fn chunk_seen<F: SeenFile>(
 #[tactic(auto, unfolding(crate::specs::Plan::read_planned_chunk))]
 fn planned_seen<F: SeenFile>(
     alloc: Global,
-    seen: &Windows<'_>,
+    seen: &OrderedWindows<'_>,
     numbers: &PlannedPage,
     chunk: u32,
     buffer: &mut [u8],
 ) -> Result<TiffResult<()>, Stretch>
-    requires apart { AreApart seen.now.windows.now }
-    requires of { AreWindowsOf F.bytes seen.now }
+    requires of { AreWindowsOf F.bytes seen.now.seen }
     ensures { MatchResult result (λ told. AnswersWithoutSource (λ _. buffer.new) told
-        (plans.read_planned_chunk F.bytes numbers.now chunk buffer.old)) (IsWanted seen.now) }
+        (plans.read_planned_chunk F.bytes numbers.now chunk buffer.old)) (IsWanted seen.now.seen) }
 {
     let plan = match plan_from(numbers) {
         Ok(plan) => plan,
@@ -381,10 +371,10 @@ pub fn page_plan_in(
         (StatusPuts (plans.page_plan file page) result plan.old plan.new) }
     ensures reads { AreWindowsOf file seen.now → result ≡ 0 → plans.ReadsPage file page plan.new }
 {
-    if !seen.are_in_order() {
+    let Some(windows) = seen.in_order() else {
         return Status::InvalidInput as u32;
-    }
-    match plan_seen::<Brand>(alloc, seen, page) {
+    };
+    match plan_seen::<Brand>(alloc, &windows, page) {
         Ok(found) => given(found_numbers(found), plan),
         Err(stretch) => {
             *wanted = stretch;
@@ -409,10 +399,10 @@ pub fn read_planned_chunk_in(
     ensures { AreWindowsOf file seen.now → SeenTells seen.now result wanted.new (Unit {0})
         (StatusTells (plans.read_planned_chunk file plan.now chunk buffer.old) result buffer.new) }
 {
-    if !seen.are_in_order() {
+    let Some(windows) = seen.in_order() else {
         return Status::InvalidInput as u32;
-    }
-    match planned_seen::<Brand>(alloc, seen, plan, chunk, buffer) {
+    };
+    match planned_seen::<Brand>(alloc, &windows, plan, chunk, buffer) {
         Ok(read) => done(read),
         Err(stretch) => {
             *wanted = stretch;
@@ -440,10 +430,10 @@ pub fn list_tags_in(
         (StatusPuts (spec.list_tags file page entries.old) result (count.old, entries.old)
         (count.new, entries.new)) }
 {
-    if !seen.are_in_order() {
+    let Some(windows) = seen.in_order() else {
         return Status::InvalidInput as u32;
-    }
-    match entries_seen::<Brand>(alloc, seen, page, entries) {
+    };
+    match entries_seen::<Brand>(alloc, &windows, page, entries) {
         Ok(told) => given(told, count),
         Err(stretch) => {
             *wanted = stretch;
@@ -472,10 +462,10 @@ pub fn tag_bytes_in(
         (StatusTells (spec.tag_bytes file page number at buffer.old) result (written.new, buffer.new)
         × ((result ≡ 0) ⊎ (written.new ≡ written.old))) }
 {
-    if !seen.are_in_order() {
+    let Some(windows) = seen.in_order() else {
         return Status::InvalidInput as u32;
-    }
-    match bytes_seen::<Brand>(alloc, seen, page, number, at, buffer) {
+    };
+    match bytes_seen::<Brand>(alloc, &windows, page, number, at, buffer) {
         Ok(told) => given(told, written),
         Err(stretch) => {
             *wanted = stretch;

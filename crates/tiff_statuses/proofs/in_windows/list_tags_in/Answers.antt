@@ -1,19 +1,18 @@
-use Rattle.std.proofs.Common.{refl}
 use Rattle.tiff_base.specs.Windows.{file_of}
 use Rattle.tiff_statuses.specs.InWindows.{list_tags}
 use Rattle.tiff_statuses.specs.Status.{StatusPuts}
 use Rattle.tiff_statuses.proofs.StatusTells.{puts_both}
-use Rattle.tiff_statuses.proofs.SeenFiles.{tells_of}
+use Rattle.tiff_statuses.proofs.SeenFiles.{of_order, tells_of}
 use Rattle.tiff_statuses.proofs.in_windows.list_tags_in.Goals as goal
 
-pub entries_seen-requires-clause-apart : goal.entries_seen-requires-clause-apart
-entries_seen-requires-clause-apart g c = c.if-not-are_in_order.ensures.apart refl
+pub entries_seen-requires : goal.entries_seen-requires
+entries_seen-requires g c = record { of = of_order c.args.seen.now c.in-Some.windows.seen (c.in-Some.ensures).order.0 (c.in-Some.ensures).file g.file }
 
 pub returns-in-Ok : goal.returns-in-Ok
 returns-in-Ok g c =
     let entries = c.args.entries.now in
-    λ of. tells_of c.args.seen.now g.file c.given.result c.args.wanted.now _
+    λ of. tells_of c.args.seen.now c.in-Some.windows.seen g.file c.given.result c.args.wanted.now _
     (λ file. StatusPuts (list_tags file c.args.page entries) c.given.result (c.args.count.now, entries) (c.given.new.out, c.entries_seen.new.out))
-    (c.if-not-are_in_order.ensures.order refl) of
-    (puts_both c.in-Ok.told (list_tags (file_of g.file c.args.seen.now) c.args.page entries) c.given.result c.args.count.now c.given.new.out entries c.entries_seen.new.out
+    (c.in-Some.ensures).order of
+    (puts_both c.in-Ok.told (list_tags (file_of g.file c.in-Some.windows.seen) c.args.page entries) c.given.result c.args.count.now c.given.new.out entries c.entries_seen.new.out
     c.in-Ok.ensures.answer c.given.ensures.status c.given.ensures.put c.given.ensures.kept c.in-Ok.ensures.stays)

@@ -7,7 +7,7 @@ use Rattle.tiff_statuses.proofs.in_windows.open_seen.Goals as goal
 
 pub returns-clause-answer : goal.returns-clause-answer
 returns-clause-answer g c =
-    opened_seen g.F.SeenFile.bytes (seen_by c.args.seen.now g.F.SeenFile.bytes) c.new.result.failed _ c.open.result c.new.ensures.failed c.open.ensures.answer c.open.ensures.count
+    opened_seen g.F.SeenFile.bytes (seen_by c.args.seen.now.seen g.F.SeenFile.bytes) c.new.result.failed _ c.open.result c.new.ensures.failed c.open.ensures.answer c.open.ensures.count
     (subst (λ s. AsksOnly (HeaderReadable (seen_by s g.F.SeenFile.bytes)) c.open.result) c.new.ensures.seen c.open.ensures.asked) c.requires.header
 
 pub returns-clause-readable : goal.returns-clause-readable

@@ -1,21 +1,21 @@
-use Rattle.std.proofs.Common.{◌≡◌, ◌⊎◌, ℕ, List, Result, refl}
+use Rattle.std.proofs.Common.{◌≡◌, ◌⊎◌, ℕ, List, Result}
 use Rattle.tiff_base.specs.declared.error.TiffError.{TiffError}
 use Rattle.tiff_base.specs.Windows.{file_of}
 use Rattle.tiff_statuses.specs.InWindows.{tag_bytes}
 use Rattle.tiff_statuses.specs.Status.{StatusTells}
 use Rattle.tiff_statuses.proofs.StatusTells.{kept_told, tells_both}
-use Rattle.tiff_statuses.proofs.SeenFiles.{tells_of}
+use Rattle.tiff_statuses.proofs.SeenFiles.{of_order, tells_of}
 use Rattle.tiff_statuses.proofs.in_windows.tag_bytes_in.Goals as goal
 
-pub bytes_seen-requires-clause-apart : goal.bytes_seen-requires-clause-apart
-bytes_seen-requires-clause-apart g c = c.if-not-are_in_order.ensures.apart refl
+pub bytes_seen-requires : goal.bytes_seen-requires
+bytes_seen-requires g c = record { of = of_order c.args.seen.now c.in-Some.windows.seen (c.in-Some.ensures).order.0 (c.in-Some.ensures).file g.file }
 
 pub returns-in-Ok : goal.returns-in-Ok
 returns-in-Ok g c =
     let bytes : List ℕ → Result (ℕ × List ℕ) TiffError = λ file. tag_bytes file c.args.page c.args.number c.args.at c.args.buffer.now in
-    λ of. tells_of c.args.seen.now g.file c.given.result c.args.wanted.now _
+    λ of. tells_of c.args.seen.now c.in-Some.windows.seen g.file c.given.result c.args.wanted.now _
     (λ file. StatusTells (bytes file) c.given.result (c.given.new.out, c.bytes_seen.new.buffer) × ((c.given.result ≡ 0) ⊎ (c.given.new.out ≡ c.args.written.now)))
-    (c.if-not-are_in_order.ensures.order refl) of (
-      tells_both c.in-Ok.told (bytes (file_of g.file c.args.seen.now)) c.given.result c.given.new.out c.bytes_seen.new.buffer c.in-Ok.ensures c.given.ensures.status c.given.ensures.put,
+    (c.in-Some.ensures).order of (
+      tells_both c.in-Ok.told (bytes (file_of g.file c.in-Some.windows.seen)) c.given.result c.given.new.out c.bytes_seen.new.buffer c.in-Ok.ensures c.given.ensures.status c.given.ensures.put,
       kept_told c.in-Ok.told c.given.result c.args.written.now c.given.new.out c.given.ensures.status c.given.ensures.kept,
     )
