@@ -32,6 +32,7 @@ same n = n
 abbrev pub given : Type 0
 given = Answers same (Ok 1) (Ok 1) 0 0
 
+-- mistake: `AnswersBut` allows any result
 abbrev pub another : Type 0
 another = Never (Answers same (Ok 1) (Ok 2) 0 0)
 
@@ -39,6 +40,7 @@ another = Never (Answers same (Ok 1) (Ok 2) 0 0)
 abbrev pub fault_given : Type 0
 fault_given = Gives same (Err IntSizeError) (Err IntSizeError)
 
+-- mistake: `AnswersBut` allows any error
 abbrev pub fault_another : Type 0
 fault_another = Never (Answers same (Err IntSizeError) (Err LimitsExceeded) 0 0)
 
@@ -50,6 +52,9 @@ abbrev pub wanting : Type 0
 wanting = Answers same (Err OutOfMemory) (Ok 1) 0 0
     × AnswersWithoutSource same (Err OutOfMemory) (Err IntSizeError)
 
+-- mistake: `IsCause` allows out of memory in every case
+-- mistake: `AnswersWithoutMemory` allows out of memory
+-- mistake: `Gives` allows out of memory
 abbrev pub not_wanting : Type 0
 not_wanting = Never (AnswersWithoutMemory same (Err OutOfMemory) (Ok 1) 0 0)
     × Never (Gives same (Err OutOfMemory) (Ok 1))
@@ -58,6 +63,9 @@ not_wanting = Never (AnswersWithoutMemory same (Err OutOfMemory) (Ok 1) 0 0)
 abbrev pub failed : Type 0
 failed = AnswersWithoutMemory same (Err (IoError Device)) (Ok 1) 0 1
 
+-- mistake: `IsCause` allows the device error in every case
+-- mistake: `Answers` allows a device error if the count didn't grow
+-- mistake: `AnswersWithoutSource` allows a device error
 abbrev pub not_failed : Type 0
 not_failed =
     Never (Answers same (Err (IoError Device)) (Ok 1) 1 1)
@@ -88,15 +96,19 @@ ended = Err (IoError UnexpectedEof)
 abbrev pub memory_wanted : Result ℕ TiffError
 memory_wanted = Err OutOfMemory
 
+-- mistake: `IsKept` allows fewer failures
 abbrev pub kept : Type 0
 kept = IsKept bytes_of failures_of answered (7, 1) (7, 1)
     × IsKept bytes_of failures_of device_failed (7, 1) (7, 2)
 
+-- mistake: `IsKept` allows other bytes
 -- a source isn't kept if its bytes change or a failure is forgotten
 abbrev pub not_kept : Type 0
 not_kept = Never (IsKept bytes_of failures_of answered (7, 1) (8, 1))
     × Never (IsKept bytes_of failures_of device_failed (7, 1) (7, 0))
 
+-- mistake: `IsKept` allows a failed read with an `Ok`, with the end of the source or with out of
+--   memory
 -- a failed read must be returned as a device error
 abbrev pub swallowed : Type 0
 swallowed =
@@ -104,10 +116,12 @@ swallowed =
     × Never (IsKept bytes_of failures_of ended (7, 1) (7, 2))
     × Never (IsKept bytes_of failures_of memory_wanted (7, 1) (7, 2))
 
+-- mistake: `AsksOnly` refuses another error
 -- a call whose bytes are readable may return other errors, and else a device error too
 abbrev pub asks : Type 0
 asks = AsksOnly (Unit {0}) ended × AsksOnly (Unit {0}) memory_wanted × AsksOnly ⊥ device_failed
 
+-- mistake: `AsksOnly` allows a device error if the bytes can be read
 -- a call whose bytes are readable doesn't return a device error
 abbrev pub asks_not : Type 0
 asks_not = Never (AsksOnly (Unit {0}) device_failed)
@@ -116,15 +130,18 @@ asks_not = Never (AsksOnly (Unit {0}) device_failed)
 abbrev pub fails_from : Type 0
 fails_from = FailsFrom bytes_of failures_of (7, 1)
 
+-- mistake: `FailsFrom` allows as many failures
 abbrev pub never_fails : Type 0
 never_fails = Never (FailsFrom bytes_of (λ (s : ℕ × ℕ). 3) (7, 1))
 
+-- mistake: `FailsFrom` allows other bytes
 -- if failures are the bytes themselves, they can't rise while the bytes stay
 abbrev pub fails_elsewhere : Type 0
 fails_elsewhere = Never (FailsFrom bytes_of bytes_of (7, 1))
 
 -- ---- what a sink and an in-memory directory contain
 
+-- mistake: `sink_error` exchanges the two errors
 -- the errors for the failures of a sink
 abbrev pub sink_errors : Type 0
 sink_errors = (sink_error fault.Device ≡ IoError Device)
@@ -141,6 +158,10 @@ ones = 1 ∷ 1 ∷ 1 ∷ 1 ∷ 1 ∷ 1 ∷ 1 ∷ 1 ∷ []
 abbrev pub entry_fits : Type 0
 entry_fits = IsEntry (65535, shorts 18446744073709551615 ones)
 
+-- mistake: `IsEntry` allows 2^16 as a tag number
+-- mistake: `IsEntry` allows 2^64 as a count
+-- mistake: `IsEntry` allows seven bytes as a value field
+-- mistake: `IsEntry` allows 256 as a byte
 -- a tag number or a count that is too large, seven bytes, and a number that isn't a byte
 abbrev pub entry_not : Type 0
 entry_not =
@@ -148,10 +169,12 @@ entry_not =
     × Never (IsEntry (258, shorts 1 (1 ∷ 1 ∷ 1 ∷ 1 ∷ 1 ∷ 1 ∷ 1 ∷ [])))
     × Never (IsEntry (258, shorts 1 (256 ∷ ones)))
 
+-- mistake: `In` finds every value in the empty list
 -- a list contains its items and nothing else
 abbrev pub one_in : Type 0
 one_in = In {A = ℕ} 2 (1 ∷ 2 ∷ []) × Never (In {A = ℕ} 3 (1 ∷ 2 ∷ [])) × Never (In {A = ℕ} 1 [])
 
+-- mistake: `AreEntries` tests no entry
 -- a directory without entries is valid, and one with an invalid entry isn't
 abbrev pub entries_fit : Type 0
 entries_fit = AreEntries empty × Never (AreEntries (insert empty 65536 (shorts 1 ones)))
@@ -173,13 +196,16 @@ three = record {
 abbrev pub broken : Written
 broken = record three { fault = Some fault.Device; failures = 1 }
 
+-- mistake: `new_writer` begins at offset 0
 -- a new writer is at the end, whatever failed before
 abbrev pub three_new : Type 0
 three_new = new_writer (1 ∷ 2 ∷ 3 ∷ []) 2 ≡ record three { at = 3; failures = 2 }
 
+-- mistake: `writer_after` keeps the offset
 abbrev pub nine_moved : Type 0
 nine_moved = writer_after three (9 ∷ []) ≡ record three { bytes = 1 ∷ 9 ∷ 3 ∷ []; at = 2 }
 
+-- mistake: `writer_after_counted` drops the count
 -- a counted write keeps its count, and bytes past the end are appended
 abbrev pub nines_written : Type 0
 nines_written =
@@ -196,12 +222,15 @@ none_moved = writer_after three [] ≡ three
 abbrev pub write_fails : Type 0
 write_fails = SinkFails (IoError Device) three broken
 
+-- mistake: `SinkFails` doesn't count the failure
 abbrev pub write_fails_not : Type 0
 write_fails_not = Never (SinkFails (IoError Device) three (record broken { failures = 0 }))
 
+-- mistake: `SinkFails` returns the other error
 abbrev pub fault_swapped : Type 0
 fault_swapped = Never (SinkFails OutOfMemory three broken)
 
+-- mistake: `IsStopped` counts a writer that didn't fail (`not_stopped` fails too)
 -- after a failed write nothing is done; before one nothing is stopped
 abbrev pub stopped : Type 0
 stopped = IsStopped (UsageError WriterFailed) broken broken
@@ -213,23 +242,28 @@ not_stopped = Never (IsStopped (UsageError WriterFailed) three three)
 abbrev pub cut : Type 0
 cut = IsCut (8 ∷ 9 ∷ []) (IoError Device) three (record broken { bytes = 1 ∷ 8 ∷ 3 ∷ []; at = 2 })
 
+-- mistake: `IsCut` allows more bytes than there are
 abbrev pub not_cut : Type 0
 not_cut = Never (IsCut [] (IoError Device) three (record broken { at = 2 }))
 
+-- mistake: `IsCut` allows the other error
 -- not a cut: another error, all bytes written, or two failed calls of the sink
 abbrev pub cut_swapped : Type 0
 cut_swapped =
     Never (IsCut (8 ∷ 9 ∷ []) OutOfMemory three (record broken { bytes = 1 ∷ 8 ∷ 3 ∷ []; at = 2 }))
 
+-- mistake: `IsCut` allows a whole write
 abbrev pub cut_whole : Type 0
 cut_whole =
     Never (IsCut (8 ∷ []) (IoError Device) three (record broken { bytes = 1 ∷ 8 ∷ 3 ∷ []; at = 2 }))
 
+-- mistake: `IsCut` allows two failed calls
 abbrev pub cut_twice : Type 0
 cut_twice =
     Never (IsCut (8 ∷ 9 ∷ []) (IoError Device) three
     (record broken { bytes = 1 ∷ 8 ∷ 3 ∷ []; at = 2; failures = 2 }))
 
+-- mistake: `WritesCounted` keeps the count
 -- bytes are written, with a kept count and without one
 abbrev pub writes : Type 0
 writes =
@@ -237,23 +271,28 @@ writes =
     × WritesCounted {A = ℕ} (9 ∷ []) three
     (record three { bytes = 1 ∷ 9 ∷ 3 ∷ []; at = 2; last = 1 }) (Ok 0)
 
+-- mistake: `WritesCounted` writes bytes after a failed write
 -- nothing is written after a failed write
 abbrev pub writes_not : Type 0
 writes_not = Never (WritesCounted {A = ℕ} [] broken broken (Ok 0))
 
 -- ---- names and color types
 
+-- mistake: `named_tag` names an unknown one
 abbrev pub tags_named : Type 0
 tags_named = (named_tag tag.ImageWidth ≡ Some tag.ImageWidth) × (named_tag (tag.Unknown 256) ≡ None)
 
+-- mistake: `named_method` names an unknown one
 abbrev pub methods_named : Type 0
 methods_named = (named_method method.None ≡ Some method.None)
     × (named_method (method.Unknown 9) ≡ None)
 
+-- mistake: `named_format` names an unknown one
 abbrev pub formats_named : Type 0
 formats_named = (named_format format.Void ≡ Some format.Void)
     × (named_format (format.Unknown 5) ≡ None)
 
+-- mistake: `unit_of` names Inch for 4
 abbrev pub units_of : Type 0
 units_of = (unit_of 2 ≡ Some unit.Inch) × (unit_of 4 ≡ None)
 
@@ -271,11 +310,13 @@ abbrev pub two_grays : Type 0
 two_grays =
     IsColorType 1 (record gray_type { bits = 8 ∷ 8 ∷ []; formats = format.Uint ∷ format.Uint ∷ [] })
 
+-- mistake: `IsColorType` allows bits of several depths
 abbrev pub uneven_bits : Type 0
 uneven_bits =
     Never (IsColorType 1
     (record gray_type { bits = 8 ∷ 16 ∷ []; formats = format.Uint ∷ format.Uint ∷ [] }))
 
+-- mistake: `IsColorType` allows bits of another size
 abbrev pub narrow_bits : Type 0
 narrow_bits = Never (IsColorType 2 gray_type)
 
@@ -283,23 +324,29 @@ narrow_bits = Never (IsColorType 2 gray_type)
 abbrev pub packed_gray : Type 0
 packed_gray = IsColorType 1 (record gray_type { bits = 4 ∷ [] })
 
+-- mistake: `ArePacked` allows 3 bits
 abbrev pub three_bits : Type 0
 three_bits = Never (IsColorType 1 (record gray_type { bits = 3 ∷ [] }))
 
+-- mistake: `ArePacked` allows numbers of two bytes
 abbrev pub packed_pairs : Type 0
 packed_pairs = Never (IsColorType 2 (record gray_type { bits = 1 ∷ [] }))
 
+-- mistake: `ArePacked` allows two samples
 abbrev pub packed_samples : Type 0
 packed_samples =
     Never (IsColorType 1
     (record gray_type { bits = 1 ∷ 1 ∷ []; formats = format.Uint ∷ format.Uint ∷ [] }))
 
+-- mistake: `IsColorType` allows more formats than bits
 abbrev pub more_formats : Type 0
 more_formats = Never (IsColorType 1 (record gray_type { formats = format.Uint ∷ format.Uint ∷ [] }))
 
+-- mistake: `IsColorType` allows no sample
 abbrev pub no_samples : Type 0
 no_samples = Never (IsColorType 1 (record gray_type { bits = []; formats = [] }))
 
+-- mistake: `IsColorType` allows several formats
 abbrev pub two_formats : Type 0
 two_formats =
     Never (IsColorType 1

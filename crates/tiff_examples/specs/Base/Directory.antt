@@ -19,6 +19,9 @@ abbrev pub fields_in : Result DirectoryRecord TiffError → ℕ
 fields_in (Ok d) = len d.entries
 fields_in (Err e) = 0
 
+-- mistake: `value_of` doesn't fill up with zeros in a classic file
+-- mistake: `field_of` reads the count from byte 8 on
+-- mistake: `entry_of` takes the type for the tag number
 -- an entry of a classic file: ImageWidth, LONG, one value, 5
 abbrev pub classic_entry : Type 0
 classic_entry =
@@ -43,6 +46,7 @@ unknown_entry =
     (0xff ∷ 0xff ∷ 0x63 ∷ 0x00 ∷ 0xaa ∷ 0xaa ∷ 0xaa ∷ 0xaa ∷ 0xaa ∷ 0xaa
     ∷ 0xaa ∷ 0xaa ∷ []) ≡ None
 
+-- mistake: `value_of` begins at byte 8 in BigTIFF
 -- an entry of a BigTIFF file: ImageWidth, LONG, one value, 5
 abbrev pub wide_entry : Type 0
 wide_entry =
@@ -66,18 +70,22 @@ entry_at_1 =
     ∷ 0x00 ∷ 0x00 ∷ []) 1
     ≡ Ok (Some (256, one_long (0x05 ∷ 0x00 ∷ 0x00 ∷ 0x00 ∷ 0x00 ∷ 0x00 ∷ 0x00 ∷ 0x00 ∷ [])))
 
+-- mistake: `entry_at` reads an entry that is cut
 abbrev pub cut_entry : Type 0
 cut_entry =
     entry_at Classic LittleEndian
     (0x00 ∷ 0x01 ∷ 0x04 ∷ 0x00 ∷ 0x01 ∷ 0x00 ∷ 0x00 ∷ 0x00 ∷ 0x05 ∷ 0x00 ∷ 0x00
     ∷ []) 0 ≡ Err (IoError UnexpectedEof)
 
+-- mistake: `link` takes 0 for an offset like others
 -- a directory without entries, and a directory whose link is 258
 abbrev pub no_entries : Type 0
 no_entries =
     directory_at Classic LittleEndian (0x00 ∷ 0x00 ∷ 0x00 ∷ 0x00 ∷ 0x00 ∷ 0x00 ∷ []) 0
     ≡ Ok (record { entries = last_of_each []; next = None })
 
+-- mistake: `first_entry` is 8 bytes after the directory's offset, in both kinds of file
+-- mistake: `link_offset` is one entry too far
 abbrev pub linked : Type 0
 linked =
     directory_at Classic BigEndian (0x00 ∷ 0x00 ∷ 0x00 ∷ 0x00 ∷ 0x01 ∷ 0x02 ∷ []) 0
@@ -109,11 +117,14 @@ twice_entries =
           ∷ 0x00 ∷ 0x00 ∷ 0x00 ∷ 0x00 ∷ 0x00 ∷ 0x00 ∷ []),
     ) ∷ []
 
+-- mistake: `entries_from` reads entries one byte apart
+-- mistake: `directory_at` reads the link before the entries
 abbrev pub twice_found : Type 0
 twice_found =
     directory_at Classic LittleEndian twice 0
     ≡ Ok (record { entries = last_of_each twice_entries; next = None })
 
+-- mistake: `last_of_each` keeps the first
 -- the last of two entries with one tag number is kept, and the other isn't
 abbrev pub last_stands : Type 0
 last_stands =
@@ -133,6 +144,8 @@ first_stands =
     ++ (0x00 ∷ 0x00 ∷ 0x00 ∷ 0x00 ∷ [])) 0) 256
     ≡ Some (one_long (0x01 ∷ 0x00 ∷ 0x00 ∷ 0x00 ∷ 0x00 ∷ 0x00 ∷ 0x00 ∷ 0x00 ∷ []))
 
+-- mistake: `count_width` reads two bytes in BigTIFF
+-- mistake: `entry_len` gives an entry 12 bytes in BigTIFF
 -- a BigTIFF directory whose first entry has the unknown type 99 skips the whole entry
 abbrev pub wide_directory : Type 0
 wide_directory =

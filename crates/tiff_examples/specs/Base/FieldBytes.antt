@@ -13,6 +13,8 @@ use Rattle.tiff_examples.specs.Files.{gray_file}
 abbrev pub of : «Type» → ℕ → List ℕ → Field
 of type count value = record { field_type = type; count = count; value = value }
 
+-- mistake: `field_len` takes the count for the number of bytes
+-- mistake: `bytes_of_field` doesn't read four bytes from the entry in a classic file
 -- two SHORTs are in the entry
 abbrev pub inline_shorts : Type 0
 inline_shorts =
@@ -79,6 +81,7 @@ past_end =
     (of RATIONAL 1 (0xc3 ∷ 0x00 ∷ 0x00 ∷ 0x00 ∷ 0x00 ∷ 0x00 ∷ 0x00
     ∷ 0x00 ∷ [])) ≡ Err (IoError UnexpectedEof)
 
+-- mistake: `field_bytes` doesn't test their number
 -- four bytes for each of 2^64 - 1 values are too many to count
 abbrev pub too_many : Type 0
 too_many =

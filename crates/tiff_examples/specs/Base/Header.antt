@@ -19,26 +19,32 @@ empty_file = header_at [] ≡ Err (FormatError TiffSignatureNotFound)
 abbrev pub one_byte : Type 0
 one_byte = header_at (0x49 ∷ []) ≡ Err (FormatError TiffSignatureNotFound)
 
+-- mistake: `order_at` asks for at least three bytes
 -- the version after the byte order is cut off
 abbrev pub cut_version : Type 0
 cut_version = header_at (0x49 ∷ 0x49 ∷ []) ≡ Err (IoError UnexpectedEof)
 
+-- mistake: `version_at` takes any other version for BigTIFF
 -- version 44 is unknown
 abbrev pub unknown_version : Type 0
 unknown_version =
     header_at (0x49 ∷ 0x49 ∷ 0x2c ∷ 0x00 ∷ []) ≡ Err (FormatError TiffSignatureInvalid)
 
+-- mistake: `required_number` doesn't test the number
+-- mistake: `big_at` doesn't test the size of offsets
 -- a BigTIFF header whose offsets have 4 bytes is refused before its first offset is read
 abbrev pub narrow_offsets : Type 0
 narrow_offsets =
     header_at (0x49 ∷ 0x49 ∷ 0x2b ∷ 0x00 ∷ 0x04 ∷ 0x00 ∷ [])
     ≡ Err (FormatError TiffSignatureNotFound)
 
+-- mistake: `header_of` doesn't test the offset
 -- offset 0 isn't a directory
 abbrev pub first_offset_0 : Type 0
 first_offset_0 = header_at (0x49 ∷ 0x49 ∷ 0x2a ∷ 0x00 ∷ 0x00 ∷ 0x00 ∷ 0x00 ∷ 0x00 ∷ [])
     ≡ Err (FormatError ImageFileDirectoryNotFound)
 
+-- mistake: `classic_at` reads an offset of two bytes
 -- the first offset is cut off
 abbrev pub cut_offset : Type 0
 cut_offset =
@@ -53,6 +59,8 @@ classic_little =
       first = 25;
     })
 
+-- mistake: `order_of` doesn't know MM
+-- mistake: `header_at` reads the version as little-endian in every file
 -- a classic big-endian file
 abbrev pub classic_big_endian : Type 0
 classic_big_endian =
@@ -71,6 +79,7 @@ big_little =
     ∷ 0x00 ∷ 0x00 ∷ [])
     ≡ Ok (record { order = LittleEndian; kind = Big; first = 16 })
 
+-- mistake: `big_at` doesn't test the zeros
 -- a BigTIFF header whose two reserved bytes aren't zero
 abbrev pub no_zeros : Type 0
 no_zeros =

@@ -30,6 +30,7 @@ shorts_field = (258, of SHORT 3 (0x00 ∷ 0x00 ∷ 0x00 ∷ 0x00 ∷ 0x00 ∷ 0x
 abbrev pub limited : ℕ → Limits
 limited n = record unlimited { decoding_buffer_size = n }
 
+-- mistake: `bytes_at` takes as many bytes more as the offset is
 -- two bytes of four
 abbrev pub two_in_middle : Type 0
 two_in_middle =
@@ -44,6 +45,7 @@ abbrev pub read_one : Type 0
 read_one =
     Reads (0x0a ∷ 0x0b ∷ 0x0c ∷ []) 1 (0x00 ∷ 0x00 ∷ []) 1 (0x0b ∷ 0x00 ∷ [])
 
+-- mistake: `Reads` allows that no bytes are returned before the end
 -- a read before the end must give at least one byte
 abbrev pub read_none : Type 0
 read_none =
@@ -67,9 +69,11 @@ six = record { bytes = 1 ∷ 2 ∷ 3 ∷ 4 ∷ 5 ∷ 6 ∷ 7 ∷ 8 ∷ []; reada
 abbrev pub last_of_six : Type 0
 last_of_six = AreReadable six 4 2
 
+-- mistake: `AreReadable` asks for a byte more
 abbrev pub one_more_than_six : Type 0
 one_more_than_six = AreReadable six 4 3 → ⊥
 
+-- mistake: `AreReadable` refuses to read no bytes
 -- a stretch of zero bytes is readable in every source
 abbrev pub nothing_readable : Type 0
 nothing_readable = AreReadable six 9 0
@@ -89,6 +93,7 @@ abbrev pub octets : Type 0
 octets =
     AreOctets (0x00 ∷ 0xff ∷ [])
 
+-- mistake: `AreOctets` counts 256 as a byte
 abbrev pub no_octets : Type 0
 no_octets =
     AreOctets (0x100 ∷ []) → ⊥
@@ -102,6 +107,7 @@ abbrev pub append_one : Type 0
 append_one =
     Appends (0x0a ∷ []) (0x0b ∷ 0x0c ∷ []) 1 (0x0a ∷ 0x0b ∷ [])
 
+-- mistake: `Appends` allows that no bytes are taken
 -- a write at the end takes no bytes only if it is offered none
 abbrev pub append_none : Type 0
 append_none =
@@ -120,16 +126,19 @@ abbrev pub run_of_two : Type 0
 run_of_two =
     AppendsRun (0x0b ∷ 0x0c ∷ []) (0x0a ∷ []) 1 (Some Device) (0x0a ∷ 0x0b ∷ 0x0c ∷ []) 1 None (Some (Ok 2))
 
+-- mistake: `AppendsRun` allows a part of the bytes
 -- it isn't appended in part
 abbrev pub run_in_part : Type 0
 run_in_part =
     AppendsRun (0x0b ∷ 0x0c ∷ []) (0x0a ∷ []) 1 None (0x0a ∷ 0x0b ∷ []) 1 None (Some (Ok 1)) → ⊥
 
+-- mistake: `AppendsRun` doesn't count the error
 -- an error appends nothing, is counted, and is the last one
 abbrev pub run_failed : Type 0
 run_failed =
     AppendsRun (0x0b ∷ 0x0c ∷ []) (0x0a ∷ []) 1 None (0x0a ∷ []) 2 (Some OutOfMemory) (Some (Err OutOfMemory))
 
+-- mistake: `AppendsRun` appends before an error
 abbrev pub run_half_failed : Type 0
 run_half_failed =
     AppendsRun (0x0b ∷ 0x0c ∷ []) (0x0a ∷ []) 1 None (0x0a ∷ 0x0b ∷ []) 2 (Some Device) (Some (Err Device)) → ⊥
@@ -139,10 +148,12 @@ abbrev pub run_refused : Type 0
 run_refused =
     AppendsRun (0x0b ∷ 0x0c ∷ []) (0x0a ∷ []) 1 (Some Device) (0x0a ∷ []) 1 (Some Device) None
 
+-- mistake: `AppendsRun` appends and then returns `None`
 abbrev pub run_refused_late : Type 0
 run_refused_late =
     AppendsRun (0x0b ∷ 0x0c ∷ []) (0x0a ∷ []) 1 None (0x0a ∷ 0x0b ∷ 0x0c ∷ []) 1 None None → ⊥
 
+-- mistake: `Overwrites` writes all bytes, whatever count was returned
 -- a write at 1 may take one of two bytes, and keeps the rest of the file
 abbrev pub over_one : Type 0
 over_one =
@@ -171,13 +182,18 @@ over_elsewhere =
 abbrev pub apart : SourceRecord
 apart = record six { readable = Some ((0, 2) ∷ (4, 2) ∷ []) }
 
+-- mistake: `AreReadable` asks for the bytes before those too
+-- mistake: `AreReadable` takes the first stretch alone
+-- mistake: `AreReadable` takes a stretch's length for its end
 -- two bytes after a gap are readable, and a byte within the gap isn't
 abbrev pub second_stretch : Type 0
 second_stretch = AreReadable apart 4 2
 
+-- mistake: `AreReadable` counts the bytes between two stretches
 abbrev pub within_gap : Type 0
 within_gap = AreReadable apart 0 3 → ⊥
 
+-- mistake: `AreReadable` takes an empty list of stretches for all bytes
 -- in a source without readable stretches no byte is readable
 abbrev pub no_stretch : Type 0
 no_stretch = AreReadable (record six { readable = Some [] }) 0 1 → ⊥
@@ -186,6 +202,7 @@ no_stretch = AreReadable (record six { readable = Some [] }) 0 1 → ⊥
 abbrev pub everywhere : SourceRecord
 everywhere = record six { readable = None }
 
+-- mistake: `AreReadable` takes no list of stretches for no bytes
 abbrev pub all_readable : Type 0
 all_readable = (at len : ℕ) → AreReadable everywhere at len
 
@@ -193,20 +210,27 @@ all_readable = (at len : ℕ) → AreReadable everywhere at len
 abbrev pub long : SourceRecord
 long = record six { readable = Some ((0, 8200) ∷ []) }
 
+-- mistake: `buffered` leaves out 8192
+-- mistake: `buffered` leaves out the first bytes instead of the last
 abbrev pub nine_buffered : Type 0
 nine_buffered = AreReadable (buffered long) 0 9
 
+-- mistake: `buffered` leaves out 8190 bytes of a stretch
 abbrev pub ten_buffered : Type 0
 ten_buffered = AreReadable (buffered long) 0 10 → ⊥
 
+-- mistake: `buffered` leaves out nothing
 -- a buffered source with a second stretch that is too short: no byte of the stretch is readable
 abbrev pub short_buffered : Type 0
 short_buffered = AreReadable (buffered apart) 4 1 → ⊥
 
+-- mistake: `buffered` lets no bytes be read of a source whose bytes can all be read
 -- a buffered source over a source in which every byte is readable: every byte is readable
 abbrev pub all_buffered : Type 0
 all_buffered = (at len : ℕ) → AreReadable (buffered everywhere) at len
 
+-- mistake: `item` reads an SBYTE, an SSHORT by the wrong width (`minus_two` of `Ifd/FieldValue`
+--   fails too)
 -- a signed byte in its entry
 abbrev pub signed_byte_alone : Type 0
 signed_byte_alone =
@@ -214,12 +238,14 @@ signed_byte_alone =
     (of SBYTE 1 (0xfe ∷ 0x00 ∷ 0x00 ∷ 0x00 ∷ 0x00 ∷ 0x00 ∷ 0x00 ∷ 0x00 ∷ []))
     ≡ Ok (signed_byte (negsuc 1))
 
+-- mistake: `if_found` drops the value
 -- a SHORT, looked up in a directory of a big-endian file
 abbrev pub look_big_endian : Type 0
 look_big_endian =
     (look_in Classic BigEndian [] unlimited (last_of_each short_field)).value tag.BitsPerSample
     ≡ Ok (Some (short 8))
 
+-- mistake: `look_in` reads a file without bytes
 -- a list at an offset, looked up in a directory
 abbrev pub look_placed : Type 0
 look_placed =
@@ -234,6 +260,7 @@ look_limited =
     (last_of_each shorts_field)).value tag.BitsPerSample
     ≡ Err LimitsExceeded
 
+-- mistake: `field_offset` reads four bytes in both kinds of file
 -- an offset of a BigTIFF file has eight bytes: this one is past the end
 abbrev pub wide_offset : Type 0
 wide_offset =
@@ -241,6 +268,7 @@ wide_offset =
     (of BYTE 9 (0x00 ∷ 0x00 ∷ 0x00 ∷ 0x00 ∷ 0x01 ∷ 0x00 ∷ 0x00 ∷ 0x00 ∷ []))
     ≡ Err (IoError UnexpectedEof)
 
+-- mistake: `offset_width` reads four bytes in BigTIFF
 -- a count of a BigTIFF file has eight bytes
 abbrev pub wide_count : Type 0
 wide_count =
@@ -249,6 +277,7 @@ wide_count =
     ∷ 0x00 ∷ 0x00 ∷ 0x00 ∷ 0x00 ∷ 0x00 ∷ 0x00 ∷ 0x00 ∷ [])
     ≡ Some (256, of BYTE 4294967296 (0x05 ∷ 0x00 ∷ 0x00 ∷ 0x00 ∷ 0x00 ∷ 0x00 ∷ 0x00 ∷ 0x00 ∷ []))
 
+-- mistake: `field_value` reads a field of no values by its type
 -- a text without characters is an empty list, like other values
 abbrev pub no_letters : Type 0
 no_letters =

@@ -14,6 +14,7 @@ use Rattle.tiff_examples.specs.Decoders.{at, gray_state, gray_decoder, two_decod
 
 -- ---- openings
 
+-- mistake: `decoder_of` forgets failures
 -- opening `gray_file`, with a source that failed three times before
 abbrev pub gray_begins : Type 0
 gray_begins = decoder_of gray_file 3 ≡ Ok (record gray_decoder { failures = 3 })
@@ -22,6 +23,7 @@ gray_begins = decoder_of gray_file 3 ≡ Ok (record gray_decoder { failures = 3 
 abbrev pub no_file : Type 0
 no_file = decoder_of (0x58 ∷ 0x58 ∷ []) 0 ≡ Err (FormatError TiffSignatureNotFound)
 
+-- mistake: `decoder_of` doesn't ask that the first directory is in the chain
 -- a first directory that links to itself isn't entered
 abbrev pub own_cycle : Type 0
 own_cycle =
@@ -37,12 +39,14 @@ past_end = decoder_of (0x49 ∷ 0x49 ∷ 0x2a ∷ 0x00 ∷ 0x09 ∷ 0x00 ∷ 0x0
 
 -- ---- the next page
 
+-- mistake: `next_image` lets a decoder that isn't open go on
 -- no next page: nothing moves
 abbrev pub no_next : Type 0
 no_next =
     outcome.next_image gray_decoder
     ≡ record { answer = Err (FormatError ImageFileDirectoryNotFound); next = gray_state }
 
+-- mistake: `Decoding` doesn't move the pointer when a directory is entered (`seek_1` fails too)
 -- a next directory without tags is entered, and the decoder keeps the former page
 abbrev pub next_bare : Type 0
 next_bare =
@@ -52,6 +56,7 @@ next_bare =
       next = record (two_decoder []).state { pointer = Some (at 199); more = false };
     }
 
+-- mistake: `next_image` leaves the decoder open at an error of the chain
 -- a next directory that links back to the first isn't entered: the decoder closes and keeps its
 -- pointer
 abbrev pub next_cycle : Type 0
@@ -82,6 +87,7 @@ seek_5 =
       next = record three_decoder.state { pointer = Some (at 20); more = false };
     }
 
+-- mistake: `seek_to_image` keeps the pointer of a decoder that isn't open, past the end
 -- a page past the chain: a closed decoder loses its pointer
 abbrev pub seek_5_again : Type 0
 seek_5_again =
@@ -134,6 +140,7 @@ byte_24 =
     outcome.read_byte (bytes_decoder gray_file 24)
     ≡ record { answer = Ok 7; next = record gray_state { offset = 25 } }
 
+-- mistake: `read_long` moves the offset at a refused read
 -- a number that is cut off doesn't move the offset
 abbrev pub long_cut : Type 0
 long_cut =
@@ -159,6 +166,7 @@ byte_past =
 abbrev pub eight : List ℕ
 eight = 0xfe ∷ 0xff ∷ 0xff ∷ 0xff ∷ 0xff ∷ 0xff ∷ 0xff ∷ 0xff ∷ []
 
+-- mistake: `read_sshort` takes the sign of the wrong width
 abbrev pub sshort_read : Type 0
 sshort_read =
     outcome.read_sshort (bytes_decoder eight 0)
@@ -183,6 +191,7 @@ slong_cut =
       next = record gray_state { offset = 5 };
     }
 
+-- mistake: `read_long8` reads 32 bits for 64
 abbrev pub long8_read : Type 0
 long8_read =
     outcome.read_long8 (bytes_decoder eight 0)
@@ -235,6 +244,7 @@ ifd_offset_read =
     outcome.read_ifd_offset (bytes_decoder eight 0)
     ≡ record { answer = Ok 0xffff_fffe; next = record gray_state { offset = 4 } }
 
+-- mistake: `read_ifd_offset` reads an offset of 4 bytes in BigTIFF
 abbrev pub ifd_offset_big : Type 0
 ifd_offset_big =
     outcome.read_ifd_offset (record (bytes_decoder eight 0) { kind = Big; order = BigEndian })
@@ -249,6 +259,7 @@ offset_read =
       next = record gray_state { offset = 4 };
     }
 
+-- mistake: `read_offset` reads an offset of 4 bytes in BigTIFF
 abbrev pub offset_big : Type 0
 offset_big =
     outcome.read_offset (record (bytes_decoder eight 0) { kind = Big })
@@ -267,6 +278,7 @@ offset_u64_cut =
     outcome.read_offset_u64 (bytes_decoder eight 1)
     ≡ record { answer = Err (IoError UnexpectedEof); next = record gray_state { offset = 1 } }
 
+-- mistake: `read_string` neither cuts at a zero nor tests for UTF-8 (`string_wild` fails too)
 -- a text ends before its first zero, and the offset moves past all its bytes
 abbrev pub string_read : Type 0
 string_read =
@@ -292,6 +304,7 @@ string_none =
 
 -- ---- settings of a decoder
 
+-- mistake: `set_limits` doesn't keep the limits
 abbrev pub limits_set : Type 0
 limits_set =
     outcome.set_limits gray_decoder unlimited

@@ -55,6 +55,7 @@ directory_cut =
     (0x49 ∷ 0x49 ∷ 0x2a ∷ 0x00 ∷ 0x08 ∷ 0x00 ∷ 0x00 ∷ 0x00 ∷ 0x00 ∷ 0x00 ∷ 0x08 ∷ 0x00 ∷ 0x00
     ∷ []) 0 ≡ Err (IoError UnexpectedEof)
 
+-- mistake: `decoder_of` returns "not found" for the chain's error
 -- `gray_file` without its last byte
 abbrev pub gray_cut : Type 0
 gray_cut = decoder_of (take 198 gray_file) 0 ≡ Err (IoError UnexpectedEof)
@@ -81,6 +82,7 @@ abbrev pub count_0 : Type 0
 count_0 =
     first_page (put gray_file 131 (0x00 ∷ [])) ≡ Ok (record pixel_page { byte_counts = 0 ∷ [] })
 
+-- mistake: `decoder_of` reads the page without limits
 -- a list of more byte counts than the default limits allow, and a list of the allowed number that
 -- the file doesn't contain
 abbrev pub list_limited : Type 0
@@ -91,6 +93,8 @@ abbrev pub list_within : Type 0
 list_within =
     decoder_of (put gray_file 127 (0x00 ∷ 0x00 ∷ 0x80 ∷ 0x00 ∷ [])) 0 ≡ Err (IoError UnexpectedEof)
 
+-- mistake: `decoder_of` needs the next directory to be readable
+-- mistake: `decoder_of` is never open
 -- a file whose next directory is cut off opens, as that directory isn't read yet
 abbrev pub next_unread : Type 0
 next_unread = decoder_of (two_file []) 0 ≡ Ok (two_decoder [])
@@ -154,6 +158,7 @@ big_endian_decoder = record {
   };
 }
 
+-- mistake: `decoder_of` reads tags as little-endian
 abbrev pub big_endian : Type 0
 big_endian = decoder_of big_endian_file 0 ≡ Ok big_endian_decoder
 
@@ -205,5 +210,7 @@ big_decoder = record {
   };
 }
 
+-- mistake: `decoder_of` takes each file for a classic one
+-- mistake: `decoder_of` takes 8 for the offset in every file
 abbrev pub big : Type 0
 big = decoder_of big_file 0 ≡ Ok big_decoder

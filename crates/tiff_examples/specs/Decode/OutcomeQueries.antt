@@ -42,6 +42,7 @@ value_found =
     ≡ stays (one_field (one_short (0x01 ∷ 0x00 ∷ 0x00 ∷ 0x00 ∷ 0x00 ∷ 0x00 ∷ 0x00 ∷ 0x00 ∷ [])))
     (Ok (Some (d.short 1)))
 
+-- mistake: `find_tag` returns an error for a missing tag
 abbrev pub value_none : Type 0
 value_none =
     outcome.find_tag (fields_decoder gray_file []) (tag.Unknown 65000)
@@ -126,6 +127,7 @@ value_missing =
     ≡ stays (fields_decoder gray_file [])
     (Err (FormatError (RequiredTagNotFound (tag.Unknown 65000))))
 
+-- mistake: `get_tag_unsigned` reads 32 bits for 64
 -- a required number
 abbrev pub number_got : Type 0
 number_got =
@@ -478,6 +480,7 @@ bytes_got =
     }))
     (Ok (1 ∷ 0 ∷ 0 ∷ 0 ∷ 1 ∷ []))
 
+-- mistake: `get_tag_u8_vec` accepts BYTEs in the entry as bytes
 abbrev pub bytes_inline : Type 0
 bytes_inline =
     outcome.get_tag_u8_vec
@@ -564,11 +567,13 @@ buffer_found =
       },
     ))
 
+-- mistake: `find_tag_buf` changes the buffer where there is no tag
 abbrev pub buffer_none : Type 0
 buffer_none =
     outcome.find_tag_buf (fields_decoder gray_file []) (tag.Unknown 65000) (empty_buffer BYTE)
     ≡ stays (fields_decoder gray_file []) (Ok (None, empty_buffer BYTE))
 
+-- mistake: `find_tag_bytes` cuts the slice to what was copied
 -- the bytes of a field from the fourth on, in a slice of six bytes
 abbrev pub slice_from_4 : Type 0
 slice_from_4 =
@@ -616,6 +621,7 @@ slice_none =
 abbrev pub sides : Type 0
 sides = outcome.dimensions gray_decoder ≡ stays gray_decoder (Ok (1, 1))
 
+-- mistake: `dimensions` exchanges the sides
 abbrev pub sides_wide : Type 0
 sides_wide =
     outcome.dimensions
@@ -705,6 +711,7 @@ unit_laid =
       sample_type = Some type.U8;
     }))
 
+-- mistake: `image_coding_unit_layout` lays out a coding unit as any chunk
 abbrev pub unit_past : Type 0
 unit_past = outcome.image_coding_unit_layout (with_page (record pixel_page { planar = Planar })) 4
     ≡ stays (with_page (record pixel_page { planar = Planar }))
@@ -721,6 +728,7 @@ image_cut =
     outcome.read_image (record gray_decoder { bytes = take 24 gray_file })
     ≡ stays (record gray_decoder { bytes = take 24 gray_file }) (Err (IoError UnexpectedEof))
 
+-- mistake: `read_image` reads under other limits
 -- the decoder's own limits apply
 abbrev pub image_limited : Type 0
 image_limited =
@@ -764,6 +772,7 @@ chunk_read =
     outcome.read_chunk gray_decoder 0
     ≡ stays gray_decoder (Ok (record { sample_type = type.U8; numbers = 7 ∷ [] }))
 
+-- mistake: `read_chunk` reads the first chunk for each
 abbrev pub chunk_past : Type 0
 chunk_past =
     outcome.read_chunk gray_decoder 1
@@ -779,6 +788,7 @@ chunk_slice_short =
     outcome.read_chunk_bytes gray_decoder 0 []
     ≡ stays gray_decoder (Err (UsageError (InsufficientOutputBufferSize 1 0)))
 
+-- mistake: `read_chunk_to_buffer` takes no stride
 abbrev pub chunk_apart : Type 0
 chunk_apart =
     outcome.read_chunk_to_buffer gray_decoder 0 2
@@ -794,6 +804,7 @@ unit_read =
     outcome.read_coding_unit_bytes gray_decoder 0 (0xaa ∷ 0xaa ∷ [])
     ≡ stays gray_decoder (Ok (0x07 ∷ 0xaa ∷ []))
 
+-- mistake: `read_coding_unit_bytes` reads a coding unit as any chunk
 abbrev pub unit_absent : Type 0
 unit_absent =
     outcome.read_coding_unit_bytes gray_decoder 1 (0xaa ∷ [])

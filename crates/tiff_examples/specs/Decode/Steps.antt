@@ -40,13 +40,17 @@ Never A = A → ⊥
 abbrev pub sides_told : Type 0
 sides_told = Step gray_decoder call.Dimensions (reply.Dimensions (Ok (1, 1))) gray_decoder
 
+-- mistake: `Step` allows a reply that wasn't asked for
 abbrev pub sides_wrong : Type 0
 sides_wrong = Never (Step gray_decoder call.Dimensions (reply.Dimensions (Ok (1, 2))) gray_decoder)
 
+-- mistake: `reply_view` shows another call's reply
 -- the reply of another call
 abbrev pub other_call : Type 0
 other_call = Never (Step gray_decoder call.StripCount (reply.TileCount (Ok 1)) gray_decoder)
 
+-- mistake: `FollowsBut` allows a call that moves the decoder
+-- mistake: `Step` allows another state of the decoder
 -- the right reply, but the decoder moves
 abbrev pub left_elsewhere : Type 0
 left_elsewhere =
@@ -59,17 +63,21 @@ failed_read =
     Step gray_decoder call.ReadByte (reply.ReadByte (Err (IoError Device)))
     (record gray_decoder { failures = 1 })
 
+-- mistake: `ReadFailed` allows a device error without a failed read
 -- no device error without a failed read
 abbrev pub no_failed_read : Type 0
 no_failed_read =
     Never (Step gray_decoder call.ReadByte (reply.ReadByte (Err (IoError Device))) gray_decoder)
 
+-- mistake: `FollowsWithoutSourceBut` allows a failed read where nothing is read
+-- mistake: `promise` allows a failed read of a call that reads nothing
 -- a call that reads nothing returns no device error
 abbrev pub no_read : Type 0
 no_read =
     Never (Step gray_decoder call.Dimensions (reply.Dimensions (Err (IoError Device)))
     (record gray_decoder { failures = 1 }))
 
+-- mistake: `GivesOutcome` allows an `Ok` after a read that failed
 -- a value after a failed read that was repeated
 abbrev pub swallowed : Type 0
 swallowed =
@@ -92,6 +100,9 @@ abbrev pub none_to_enter : Type 0
 none_to_enter =
     Never (Step gray_decoder call.NextImage (reply.NextImage (Err OutOfMemory)) gray_decoder)
 
+-- mistake: `FollowsWithoutMemory` allows out of memory where nothing is allocated (`color_wanting`
+--   fails too)
+-- mistake: `promise` allows out of memory where nothing is allocated
 abbrev pub not_wanting : Type 0
 not_wanting =
     Never (Step gray_decoder call.ReadByte (reply.ReadByte (Err OutOfMemory)) gray_decoder)
@@ -104,10 +115,13 @@ abbrev pub color_wanting : Type 0
 color_wanting =
     Never (Step gray_decoder call.Colortype (reply.Colortype (Err OutOfMemory)) gray_decoder)
 
+-- mistake: `promise` never allows out of memory for samples
 -- an out-of-memory error for the samples of an image, but not if the file ends before them
 abbrev pub image_wanting : Type 0
 image_wanting = Step gray_decoder call.ReadImage (reply.ReadImage (Err OutOfMemory)) gray_decoder
 
+-- mistake: `promise` allows out of memory for samples that an error refuses before
+--   (`buffer_not_wanting`, `chunk_not_wanting`, `strided_not_wanting` fail too)
 abbrev pub image_not_wanting : Type 0
 image_not_wanting =
     let d = record gray_decoder { state = record gray_state { page = claiming_page } } in
@@ -136,6 +150,7 @@ abbrev pub chunk_wanting : Type 0
 chunk_wanting =
     Step faults_decoder (call.ReadChunk 0) (reply.ReadChunk (Err OutOfMemory)) faults_decoder
 
+-- mistake: `promise` allows out of memory as for the first chunk
 abbrev pub chunk_not_wanting : Type 0
 chunk_not_wanting =
     Never (Step faults_decoder (call.ReadChunk 1) (reply.ReadChunk (Err OutOfMemory))
@@ -148,6 +163,7 @@ strided_wanting =
     → Step faults_decoder (call.ReadChunkToBuffer 0 2)
     (reply.ReadChunkToBuffer (Err OutOfMemory) held) faults_decoder
 
+-- mistake: `promise` allows out of memory as for rows without a stride
 abbrev pub strided_not_wanting : Type 0
 strided_not_wanting =
     (held : DecodingResult)
@@ -176,10 +192,12 @@ gray_read =
 abbrev pub none_called : Type 0
 none_called = Steps gray_decoder [] [] gray_decoder
 
+-- mistake: `Steps` allows a call without a reply
 -- each call has a reply
 abbrev pub one_unanswered : Type 0
 one_unanswered = Never (Steps gray_decoder (call.MoreImages ∷ []) [] gray_decoder)
 
+-- mistake: `Steps` allows a reply without a call
 abbrev pub one_unasked : Type 0
 one_unasked = Never (Steps gray_decoder [] (reply.MoreImages false ∷ []) gray_decoder)
 
@@ -201,11 +219,13 @@ failing_replies =
 abbrev pub two_failures : Type 0
 two_failures = all_failures failing_replies ≡ 2
 
+-- mistake: `all_failures` counts the end of the file as a failed read (`fault_told` fails too)
 abbrev pub no_failures : Type 0
 no_failures =
     all_failures
     (reply.ReadByte (Err (IoError UnexpectedEof)) ∷ reply.NextImage (Err OutOfMemory) ∷ []) ≡ 0
 
+-- mistake: `Ran` loses earlier replies
 abbrev pub failing_ran : Type 0
 failing_ran =
     Ran gray_decoder (call.ReadByte ∷ call.MoreImages ∷ call.ReadLong ∷ [])
@@ -221,9 +241,11 @@ abbrev pub next_of_limits : Type 0
 next_of_limits =
     next_state gray_decoder (call.SetLimits unlimited) ≡ record gray_state { limits = unlimited }
 
+-- mistake: `state_after` moves the decoder when tags are read
 abbrev pub next_of_tag : Type 0
 next_of_tag = next_state gray_decoder (call.GetTag tag.ImageWidth) ≡ gray_state
 
+-- mistake: `next_state` moves the decoder at a call that reads nothing (`next_of_long` fails too)
 abbrev pub next_of_sides : Type 0
 next_of_sides = next_state gray_decoder call.Dimensions ≡ gray_state
 
@@ -239,6 +261,7 @@ no_fault_told = fault_in (reply.MoreImages false) ≡ None
 abbrev pub named : Type 0
 named = IsNamed (reply.NextImage (Err (FormatError CycleInOffsets)))
 
+-- mistake: `IsNamed` counts out of memory as such a reply
 abbrev pub not_named : Type 0
 not_named = Never (IsNamed (reply.NextImage (Err OutOfMemory)))
 
@@ -250,11 +273,13 @@ abbrev pub not_same : Type 0
 not_same =
     Never (SameAnswer gray_decoder call.ReadByte (reply.ReadByte (Ok 7)) (reply.ReadByte (Ok 8)))
 
+-- mistake: `SameAnswer` takes any two replies for the same
 abbrev pub not_same_call : Type 0
 not_same_call =
     Never (SameAnswer gray_decoder call.StripCount (reply.StripCount (Ok 7))
     (reply.TileCount (Ok 7)))
 
+-- mistake: `reply_view` shows another call's reply
 -- a reply to another call has no result, and isn't even the same as itself
 abbrev pub tells_nothing : Type 0
 tells_nothing =
@@ -263,6 +288,7 @@ tells_nothing =
 
 -- ---- directories
 
+-- mistake: `read_directory` moves the pointer when a directory is read
 -- the directory of `gray_file`, read with any decoder position
 abbrev pub directory_read : Type 0
 directory_read =
@@ -287,6 +313,7 @@ told_of =
 abbrev pub told_of_two : Type 0
 told_of_two = outcome.more_images (two_decoder []) ≡ true
 
+-- mistake: `chunk_dimensions` clips a chunk's sides to the image
 abbrev pub chunk_sides : Type 0
 chunk_sides =
     (outcome.chunk_dimensions gray_decoder ≡ (1, 1000000))
@@ -305,9 +332,11 @@ told_of_big =
 abbrev pub no_items : Type 0
 no_items = ItemsAre [] [] 3 3
 
+-- mistake: `ItemsAre` has an item too few
 abbrev pub item_missing : Type 0
 item_missing = Never (ItemsAre (Err LimitsExceeded ∷ []) [] 0 0)
 
+-- mistake: `ItemsAre` has one too many
 abbrev pub item_unasked : Type 0
 item_unasked = Never (ItemsAre [] (Err LimitsExceeded ∷ []) 0 0)
 
@@ -318,21 +347,25 @@ items_told =
     ∷ [])
     (Err LimitsExceeded ∷ Err (IoError Device) ∷ Err OutOfMemory ∷ []) 0 1
 
+-- mistake: `ItemsAre` doesn't count a failed read
 -- a failed read that isn't counted
 abbrev pub item_not_failed : Type 0
 item_not_failed = Never (ItemsAre (Err LimitsExceeded ∷ []) (Err (IoError Device) ∷ []) 1 1)
 
+-- mistake: `ItemsAre` passes over a failed read
 -- an item with its value after a failed read
 abbrev pub item_swallowed : Type 0
 item_swallowed =
     Never (ItemsAre (Ok (tag.Compression, d.short 1) ∷ []) (Ok (tag.Compression, v.Short 1) ∷ []) 0
     1)
 
+-- mistake: `ItemsAre` allows any value
 -- an item with its value
 abbrev pub item_told : Type 0
 item_told =
     ItemsAre (Ok (tag.Compression, d.short 1) ∷ []) (Ok (tag.Compression, v.Short 1) ∷ []) 0 0
 
+-- mistake: `Items` allows any error for the list
 -- an out-of-memory error for the list of items, and another error
 abbrev pub no_list : Type 0
 no_list = Items [] (Err OutOfMemory) gray_decoder gray_decoder
@@ -352,6 +385,7 @@ buffer_emptied =
     BufferLeft BigEndian (Some longs) (empty_buffer BYTE) (Err (IoError Device))
     (record { order = BigEndian; data_type = LONG; bytes = [] })
 
+-- mistake: `BufferLeft` leaves the buffer unspecified after every error
 abbrev pub buffer_changed : Type 0
 buffer_changed =
     Never (BufferLeft BigEndian (Some longs) (empty_buffer BYTE) (Err LimitsExceeded)

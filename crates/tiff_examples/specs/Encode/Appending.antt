@@ -32,15 +32,19 @@ in_header = last_link_at Classic (header_bytes Classic) ≡ Ok 4
 abbrev pub in_big_header : Type 0
 in_big_header = last_link_at Big (header_bytes Big) ≡ Ok 8
 
+-- mistake: `last_link_at` takes the number of entries for the link
 -- the last link is that of the only directory, behind its number of entries
 abbrev pub in_directory : Type 0
 in_directory = last_link_at Classic (one_directory (0x00 ∷ 0x00 ∷ 0x00 ∷ 0x00 ∷ [])) ≡ Ok 10
 
+-- mistake: `last_link_at` takes the link of the first directory
+-- mistake: `last_link_at` leaves out the entries
 -- the last link is that of the second directory, at 14, behind its entry
 abbrev pub in_second : Type 0
 in_second =
     last_link_at Classic (one_directory (0x0e ∷ 0x00 ∷ 0x00 ∷ 0x00 ∷ []) ++ one_entry) ≡ Ok 28
 
+-- mistake: `last_link_at` has a last link in a chain that breaks off
 -- a chain that ends with an error has no last link
 abbrev pub no_last : Type 0
 no_last = last_link_at Classic (one_directory (0x0e ∷ 0x00 ∷ 0x00 ∷ 0x00 ∷ []))

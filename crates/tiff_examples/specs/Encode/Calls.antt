@@ -37,6 +37,7 @@ three_long = is_long Classic (data_of (u16s (1 ∷ 2 ∷ 3 ∷ []))) ≡ true
 abbrev pub three_short : Type 0
 three_short = is_long Big (data_of (u16s (1 ∷ 2 ∷ 3 ∷ []))) ≡ false
 
+-- mistake: `is_long` needs one for a value that just fits
 abbrev pub two_short : Type 0
 two_short = is_long Classic (data_of (u16s (1 ∷ 2 ∷ []))) ≡ false
 
@@ -44,18 +45,22 @@ abbrev pub field_inline : Type 0
 field_inline = field_at Classic 99 (data_of (u16s (1 ∷ 2 ∷ [])))
     ≡ record { field_type = SHORT; count = 2; value = 1 ∷ 0 ∷ 2 ∷ 0 ∷ 0 ∷ 0 ∷ 0 ∷ 0 ∷ [] }
 
+-- mistake: `field_at` writes an offset of 4 bytes
 abbrev pub field_placed : Type 0
 field_placed = field_at Classic 258 (data_of (u16s (1 ∷ 2 ∷ 3 ∷ [])))
     ≡ record { field_type = SHORT; count = 3; value = 2 ∷ 1 ∷ 0 ∷ 0 ∷ 0 ∷ 0 ∷ 0 ∷ 0 ∷ [] }
 
+-- mistake: `filled_field` puts zeros before the bytes
 abbrev pub filled_two : Type 0
 filled_two = filled_field (7 ∷ 8 ∷ []) ≡ (7 ∷ 8 ∷ 0 ∷ 0 ∷ 0 ∷ 0 ∷ 0 ∷ 0 ∷ [])
 
+-- mistake: `data_in` keeps a ragged end
 -- five bytes contain two SHORT numbers
 abbrev pub ragged : Type 0
 ragged = data_in SHORT (1 ∷ 2 ∷ 3 ∷ 4 ∷ 5 ∷ [])
     ≡ record { field_type = SHORT; count = 2; bytes = 1 ∷ 2 ∷ 3 ∷ 4 ∷ [] }
 
+-- mistake: `buffer_data` takes no bytes
 abbrev pub buffered : Type 0
 buffered =
     buffer_data (buffer LittleEndian (1 ∷ 2 ∷ []))
@@ -65,16 +70,19 @@ buffered =
 abbrev pub offset_classic : Type 0
 offset_classic = offset_values Classic (5 ∷ []) ≡ u32s (5 ∷ [])
 
+-- mistake: `offset_values` writes LONG in BigTIFF
 abbrev pub offset_big : Type 0
 offset_big = (data_of (offset_values Big (5 ∷ []))).bytes ≡ (5 ∷ 0 ∷ 0 ∷ 0 ∷ 0 ∷ 0 ∷ 0 ∷ 0 ∷ [])
 
 -- ---- settings
 
+-- mistake: `with_predictor` sets nothing
 abbrev pub set_predictor : Type 0
 set_predictor =
     calls.with_predictor predictor.Horizontal (new_file Classic) ≡ record (new_file Classic)
     { predictor = predictor.Horizontal }
 
+-- mistake: `with_compression` sets nothing
 abbrev pub set_compression : Type 0
 set_compression =
     calls.with_compression Packbits (new_file Classic) ≡ record (new_file Classic)
@@ -82,11 +90,14 @@ set_compression =
 
 -- ---- directories
 
+-- mistake: `image_directory` has no parent
 -- a directory in a new file needs no padding, and the header links to it
 abbrev pub begun_directory : Type 0
 begun_directory =
     IsSeen (calls.image_directory (new_file Classic)) (Ok (new_directory (Some 4) true)) header
 
+-- mistake: `pad` appends no zeros
+-- mistake: `extra_directory` chains an extra directory
 -- a directory after 9 bytes needs three zeros; an extra one has no parent
 abbrev pub padded_directory : Type 0
 padded_directory =
@@ -104,6 +115,7 @@ stopped_extra = IsSeen (calls.extra_directory failed_file) (Err (UsageError Writ
 abbrev pub with_fields : OpenDirectory → List (ℕ × Field) → OpenDirectory
 with_fields d fields = record d { fields = from_entries fields }
 
+-- mistake: `write_tag` doesn't change the directory
 -- a tag with its value in the entry, a tag with its value at an offset, and a tag that is refused
 abbrev pub tag_short : Type 0
 tag_short =
@@ -147,6 +159,7 @@ tag_refused =
     calls.write_tag (new_directory None false) tag.Artist (text_data (0xe9 ∷ [])) (new_file Classic)
     ≡ record { answer = Err (FormatError InvalidTag); ops = []; next = new_file Classic }
 
+-- mistake: `placed_field` doesn't pass the value in
 -- the operations of a tag: append its bytes, and supply them for its field
 abbrev pub tag_ops : Type 0
 tag_ops =
@@ -157,6 +170,7 @@ tag_ops =
       bytes = 0x61 ∷ 0x62 ∷ 0x63 ∷ 0x64 ∷ 0x00 ∷ [];
     }) ∷ []
 
+-- mistake: `write_tag_buf` doesn't change the directory
 abbrev pub buf_tag : Type 0
 buf_tag =
     IsSeen (calls.write_tag_buf (new_directory None false) tag.BitsPerSample
@@ -169,6 +183,7 @@ buf_refused =
     (buffer BigEndian (0 ∷ 8 ∷ [])) (new_file Classic))
     (Err (UsageError ByteOrderMismatch)) header
 
+-- mistake: `with_field` sets the field under another tag number
 -- the later of two values for a tag is kept
 abbrev pub tag_again : Type 0
 tag_again =
@@ -187,6 +202,7 @@ abbrev pub entry_refused : Type 0
 entry_refused =
     IsSeen (calls.write_entry no_text (new_file Classic)) (Err (FormatError InvalidTag)) header
 
+-- mistake: `write_entry` is never refused
 abbrev pub entry_stopped : Type 0
 entry_stopped =
     IsSeen (calls.write_entry (Ok (data_of (u32s (5 ∷ [])))) failed_file)
@@ -197,6 +213,7 @@ entry_buf =
     IsSeen (calls.write_entry_buf (buffer LittleEndian (8 ∷ 0 ∷ [])) (new_file Classic))
     (Ok (short_field 8)) header
 
+-- mistake: `write_entry_buf` is never refused
 abbrev pub entry_buf_refused : Type 0
 entry_buf_refused =
     IsSeen (calls.write_entry_buf (buffer BigEndian []) failed_file) (Err (UsageError WriterFailed))
@@ -208,11 +225,14 @@ entry_bytes =
     (Ok (record { field_type = SHORT; count = 3; value = 8 ∷ 0 ∷ 0 ∷ 0 ∷ 0 ∷ 0 ∷ 0 ∷ 0 ∷ [] }))
     (header ++ (1 ∷ 2 ∷ 3 ∷ 4 ∷ 5 ∷ 6 ∷ []))
 
+-- mistake: `write_entry_bytes` is never refused
 abbrev pub entry_bytes_refused : Type 0
 entry_bytes_refused =
     IsSeen (calls.write_entry_bytes SHORT (1 ∷ 2 ∷ 3 ∷ []) (new_file Classic))
     (Err (UsageError (MismatchedEntryLength SHORT 3))) header
 
+-- mistake: `write_data` returns the offset after the bytes
+-- mistake: `write_data` writes nothing
 -- data is appended, and the call returns its offset
 abbrev pub data_offset : Type 0
 data_offset =
@@ -228,11 +248,13 @@ data_buf =
     IsSeen (calls.write_data_buf (buffer LittleEndian (1 ∷ 2 ∷ [])) (new_file Classic)) (Ok 8)
     (header ++ (1 ∷ 2 ∷ []))
 
+-- mistake: `write_data_buf` is never refused
 abbrev pub data_buf_refused : Type 0
 data_buf_refused =
     IsSeen (calls.write_data_buf (buffer BigEndian (1 ∷ 2 ∷ [])) (new_file Classic))
     (Err (UsageError ByteOrderMismatch)) header
 
+-- mistake: `extend_from` keeps the earlier fields
 -- given fields replace earlier ones
 abbrev pub extended : Type 0
 extended =
@@ -243,6 +265,7 @@ extended =
 abbrev pub extended_none : Type 0
 extended_none = calls.extend_from (new_directory None false) [] ≡ new_directory None false
 
+-- mistake: `set_parent` takes the offset for the link
 -- a parent is set by its link
 abbrev pub parent_set : Type 0
 parent_set =
@@ -267,6 +290,7 @@ first_finished =
     IsSeen (calls.finish one_field (new_file Classic)) (Ok (record { pointer = 8; link = 22 }))
     first_file
 
+-- mistake: `finish` sets the chain's link to the directory's offset
 abbrev pub first_chain : Type 0
 first_chain = (calls.finish one_field (new_file Classic)).next.chain ≡ 22
 
@@ -305,6 +329,8 @@ second_finished =
     ++ (0x00 ∷ 0x00 ∷ [])
     ++ (0x00 ∷ 0x00 ∷ 0x00 ∷ 0x00 ∷ []))
 
+-- mistake: `new_directory` chains every directory
+-- mistake: `finish` chains in every case
 abbrev pub second_chain : Type 0
 second_chain =
     (calls.finish (calls.set_parent (new_directory None false) (record { pointer = 8; link = 22 }))
@@ -315,6 +341,7 @@ abbrev pub not_written : Type 0
 not_written = calls.finish (new_directory (Some 1000) true) after_first
     ≡ record { answer = Err (UsageError ParentNotWritten); ops = []; next = after_first }
 
+-- mistake: `finish` exchanges link and offset
 -- the operations at the end of a directory, with a parent and without one
 abbrev pub finish_ops : Type 0
 finish_ops = (calls.finish one_field (new_file Classic)).ops ≡ Listed one_field.fields ∷ Linked 4 8
@@ -333,8 +360,10 @@ extra_offsets =
     ((256, long_field 100) ∷ (257, long_field 200) ∷ [])) (new_file Classic)).answer
     ≡ calls.new_offset Classic 8 2
 
+-- mistake: `new_offset` counts an entry too many
 abbrev pub new_offset_8 : Type 0
 new_offset_8 = calls.new_offset Classic 8 2 ≡ Ok (record { pointer = 8; link = 34 })
 
+-- mistake: `new_offset` is never refused
 abbrev pub new_offset_0 : Type 0
 new_offset_0 = calls.new_offset Classic 0 2 ≡ Err (UsageError ZeroIfdPointer)

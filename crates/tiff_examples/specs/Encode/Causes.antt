@@ -84,10 +84,12 @@ largest color =
 abbrev pub tiled : OpenImage
 tiled = record pixel { form = tiles_of 16 16 Chunky }
 
+-- mistake: `begin_cause` refuses none
 -- after a failed write, each call that writes returns that error, whatever else is wrong
 abbrev pub failed_begin : Type 0
 failed_begin = causes.begin_cause failed_file ≡ Some (UsageError WriterFailed)
 
+-- mistake: `unless_failed` tests a failed write after the other causes
 abbrev pub failed_tag : Type 0
 failed_tag = causes.write_tag_cause failed_file no_text ≡ Some (UsageError WriterFailed)
 
@@ -123,6 +125,7 @@ failed_strip = causes.write_strip_cause failed_file pixel 5 5 ≡ Some (UsageErr
 abbrev pub failed_write : Type 0
 failed_write = causes.write_image_data_cause failed_file pixel 0 ≡ Some (UsageError WriterFailed)
 
+-- mistake: `resolution_unit_cause` doesn't test for a failed write
 abbrev pub failed_unit : Type 0
 failed_unit = causes.resolution_unit_cause failed_file ≡ Some (UsageError WriterFailed)
 
@@ -136,6 +139,7 @@ begins = causes.begin_cause (new_file Classic) ≡ None
 abbrev pub tag_text : Type 0
 tag_text = causes.write_tag_cause (new_file Classic) no_text ≡ Some (FormatError InvalidTag)
 
+-- mistake: `write_tag_cause` tests neither count nor offset
 -- more values than a classic field can count, which BigTIFF can
 abbrev pub tag_count : Type 0
 tag_count = causes.write_tag_cause (new_file Classic) (Ok long_list) ≡ Some IntSizeError
@@ -157,6 +161,7 @@ abbrev pub tag_last : Type 0
 tag_last = (bytes : List ℕ) → length bytes ≡ 4294967295
     → causes.write_tag_cause (file_with Classic bytes) (Ok (data_of (u16s (1 ∷ 2 ∷ 3 ∷ [])))) ≡ None
 
+-- mistake: `field_cause` tests the offset of an inline value
 abbrev pub tag_inline : Type 0
 tag_inline = (bytes : List ℕ)
     → causes.write_tag_cause (file_with Classic bytes) (Ok (data_of (u16s (1 ∷ 2 ∷ [])))) ≡ None
@@ -165,6 +170,7 @@ tag_inline = (bytes : List ℕ)
 abbrev pub test_far : Type 0
 test_far = field_test Classic 4294967296 5 5 ≡ Some IntSizeError
 
+-- mistake: `field_test` tests the offset of an inline value
 abbrev pub test_inline : Type 0
 test_inline = field_test Classic 4294967296 4 4 ≡ None
 
@@ -177,6 +183,7 @@ buf_order = (bytes : List ℕ)
     → causes.write_buf_cause (file_with Classic bytes)
     (buffer BigEndian (1 ∷ 2 ∷ 3 ∷ 4 ∷ 5 ∷ 6 ∷ [])) ≡ Some (UsageError ByteOrderMismatch)
 
+-- mistake: `write_buf_cause` tests neither count nor offset
 abbrev pub buf_far : Type 0
 buf_far = (bytes : List ℕ) → length bytes ≡ 4294967296
     → causes.write_buf_cause (file_with Classic bytes)
@@ -185,6 +192,7 @@ buf_far = (bytes : List ℕ) → length bytes ≡ 4294967296
 abbrev pub buf_little : Type 0
 buf_little = causes.write_buf_cause (new_file Classic) (buffer LittleEndian (1 ∷ 2 ∷ [])) ≡ None
 
+-- mistake: `write_entry_bytes_cause` allows any length but 0
 -- three bytes aren't SHORT numbers, and six bytes are
 abbrev pub bytes_ragged : Type 0
 bytes_ragged = causes.write_entry_bytes_cause (new_file Classic) SHORT (1 ∷ 2 ∷ 3 ∷ [])
@@ -199,13 +207,17 @@ bytes_far = (bytes : List ℕ) → length bytes ≡ 4294967296
     → causes.write_entry_bytes_cause (file_with Classic bytes) SHORT (1 ∷ 2 ∷ 3 ∷ 4 ∷ 5 ∷ 6 ∷ [])
     ≡ Some IntSizeError
 
+-- mistake: `data_cause` has no cause
 -- data needs no count and no offset
 abbrev pub data_text : Type 0
 data_text = causes.write_data_cause (new_file Classic) no_text ≡ Some (FormatError InvalidTag)
 
+-- mistake: `write_data_cause` tests a count
 abbrev pub data_long : Type 0
 data_long = causes.write_data_cause (new_file Classic) (Ok long_list) ≡ None
 
+-- mistake: `order_cause` has no cause
+-- mistake: `write_data_buf_cause` doesn't test the byte order
 abbrev pub data_order : Type 0
 data_order =
     causes.write_data_buf_cause (new_file Classic) (buffer BigEndian [])
@@ -216,6 +228,7 @@ data_little = causes.write_data_buf_cause (new_file Classic) (buffer LittleEndia
 
 -- ---- the ends of directories
 
+-- mistake: `parent_cause` is off by one at the end
 -- a parent's link that ends where the directory begins, and one that ends one byte later
 abbrev pub parent_last : Type 0
 parent_last = causes.finish_cause (new_file Classic) (new_directory (Some 4) true) ≡ None
@@ -235,6 +248,7 @@ parent_past_big =
 abbrev pub test_parent : Type 0
 test_parent = end_test Classic 8 (new_directory (Some 5) false) ≡ Some (UsageError ParentNotWritten)
 
+-- mistake: `end_test` doesn't test the directory's offset
 abbrev pub test_end_far : Type 0
 test_end_far =
     end_test Classic 4294967296 (new_directory (Some 4294967293) false) ≡ Some IntSizeError
@@ -243,6 +257,7 @@ test_end_far =
 abbrev pub no_parent : Type 0
 no_parent = causes.finish_cause (new_file Classic) (new_directory None false) ≡ None
 
+-- mistake: `is_past_count` allows 65536 entries
 -- more entries than a classic directory can count are refused before the parent is checked; BigTIFF
 -- can count them
 abbrev pub many_entries : Type 0
@@ -253,6 +268,7 @@ abbrev pub many_entries_big : Type 0
 many_entries_big = (d : OpenDirectory) → len d.fields ≡ 65536 → entries d.fields ≡ []
     → causes.finish_cause (new_file Big) (record d { parent = None }) ≡ None
 
+-- mistake: `finish_cause` doesn't test the counts of entries
 -- a field with more values than a classic entry can count
 abbrev pub large_count : Type 0
 large_count = (d : OpenDirectory) → len d.fields ≡ 1
@@ -271,9 +287,11 @@ zero_pointer = causes.offset_cause Classic 0 3 ≡ Some (UsageError ZeroIfdPoint
 abbrev pub far_pointer : Type 0
 far_pointer = causes.offset_cause Classic 4294967296 0 ≡ Some IntSizeError
 
+-- mistake: `is_past` refuses numbers in BigTIFF too
 abbrev pub far_pointer_big : Type 0
 far_pointer_big = causes.offset_cause Big 4294967296 0 ≡ None
 
+-- mistake: `offset_cause` allows a link past 64 bits
 abbrev pub far_link : Type 0
 far_link = causes.offset_cause Big 18446744073709551608 0 ≡ Some (UsageError ZeroIfdPointer)
 
@@ -282,17 +300,20 @@ last_link = causes.offset_cause Big 18446744073709551607 0 ≡ None
 
 -- ---- images
 
+-- mistake: `new_image_cause` doesn't test the sides before the predictor
 -- a dimension of 0 is refused before the predictor is checked
 abbrev pub no_side : Type 0
 no_side =
     causes.new_image_cause (record (new_file Classic) { predictor = predictor.FloatingPoint }) gray
     0 5 ≡ Some (FormatError (InvalidDimensions 0 5))
 
+-- mistake: `predictor_cause` allows FloatingPoint
 abbrev pub floating : Type 0
 floating =
     causes.new_image_cause (record (new_file Classic) { predictor = predictor.FloatingPoint })
     gray_float 1 1 ≡ Some (UsageError PredictorUnavailable)
 
+-- mistake: `is_unpredicted` allows floats
 abbrev pub horizontal_float : Type 0
 horizontal_float =
     causes.new_image_cause (record (new_file Classic) { predictor = predictor.Horizontal })
@@ -321,6 +342,7 @@ extra_late = (extra : List ExtraSamples)
     → causes.extra_samples_cause (new_file Classic) written_pixel extra
     ≡ Some (UsageError ReconfiguredAfterImageWrite)
 
+-- mistake: `extra_samples_cause` allows 65536 samples
 abbrev pub extra_many : Type 0
 extra_many = (extra : List ExtraSamples) → length extra ≡ 65535
     → causes.extra_samples_cause (new_file Big) pixel extra ≡ Some IntSizeError
@@ -332,6 +354,8 @@ extra_one = causes.extra_samples_cause (new_file Classic) pixel (Unspecified ∷
 abbrev pub rows_zero : Type 0
 rows_zero = causes.rows_per_strip_cause (new_file Classic) pixel 0 ≡ Some (IoError InvalidInput)
 
+-- mistake: `is_begun` counts only from two strips on
+-- mistake: `rows_per_strip_cause` allows the call after a strip
 abbrev pub rows_late : Type 0
 rows_late =
     causes.rows_per_strip_cause (new_file Classic) written_pixel 2 ≡ Some (IoError InvalidInput)
@@ -339,6 +363,7 @@ rows_late =
 abbrev pub rows_two : Type 0
 rows_two = causes.rows_per_strip_cause (new_file Classic) pixel 2 ≡ None
 
+-- mistake: `resolution_cause` doesn't test the second offset
 -- two resolutions, of which the second is beyond four bytes, and one resolution at that offset
 abbrev pub resolutions_far : Type 0
 resolutions_far = (bytes : List ℕ) → length bytes ≡ 4294967288
@@ -348,6 +373,7 @@ abbrev pub resolution_last : Type 0
 resolution_last = (bytes : List ℕ) → length bytes ≡ 4294967288
     → causes.one_resolution_cause (file_with Classic bytes) ≡ None
 
+-- mistake: `one_resolution_cause` doesn't test the offset
 abbrev pub resolution_far : Type 0
 resolution_far = (bytes : List ℕ) → length bytes ≡ 4294967296
     → causes.one_resolution_cause (file_with Classic bytes) ≡ Some IntSizeError
@@ -362,6 +388,7 @@ count_one = next_strip_sample_count pixel ≡ 1
 abbrev pub count_none : Type 0
 count_none = next_strip_sample_count written_pixel ≡ 0
 
+-- mistake: `next_chunk_sample_count` has no largest number
 abbrev pub count_largest : Type 0
 count_largest = next_strip_sample_count (largest rgb) ≡ 18446744073709551615
 
@@ -371,6 +398,7 @@ count_short =
     next_strip_sample_count
     (record written_pixel { width = 5; height = 3; form = strips_of 5 2 Chunky }) ≡ 5
 
+-- mistake: `next_strip_sample_count` takes a tile for a strip
 -- an image in tiles has no next strip
 abbrev pub count_tile : Type 0
 count_tile = next_strip_sample_count tiled ≡ 0
@@ -387,6 +415,7 @@ strips_three = all_chunks (image_page (record pixel { height = 5; form = strips_
 abbrev pub strip_two : Type 0
 strip_two = causes.write_strip_cause (new_file Classic) pixel 2 2 ≡ Some (IoError InvalidData)
 
+-- mistake: `is_past_chunks` allows an empty chunk after the last
 abbrev pub strip_none_left : Type 0
 strip_none_left =
     causes.write_strip_cause (new_file Classic) written_pixel 0 0 ≡ Some (IoError InvalidData)
@@ -402,6 +431,7 @@ abbrev pub strip_stored_far : Type 0
 strip_stored_far =
     causes.write_strip_cause (new_file Classic) pixel 1 4294967296 ≡ Some IntSizeError
 
+-- mistake: `write_strip_cause` takes a tile for a strip
 -- an image in tiles takes no strip and no rows per strip
 abbrev pub strip_tile : Type 0
 strip_tile =
@@ -411,6 +441,7 @@ strip_tile =
 abbrev pub tile_whole : Type 0
 tile_whole = causes.write_chunk_cause (new_file Classic) tiled 256 256 ≡ None
 
+-- mistake: `rows_per_strip_cause` allows rows of tiles
 abbrev pub rows_tile : Type 0
 rows_tile = causes.rows_per_strip_cause (new_file Classic) tiled 2 ≡ Some (IoError InvalidInput)
 
@@ -419,6 +450,7 @@ rows_tile = causes.rows_per_strip_cause (new_file Classic) tiled 2 ≡ Some (IoE
 abbrev pub tiles_zero : Type 0
 tiles_zero = causes.tiles_cause (new_file Classic) pixel 0 16 ≡ Some (IoError InvalidInput)
 
+-- mistake: `tiles_cause` allows sides that aren't multiples of 16
 abbrev pub tiles_eight : Type 0
 tiles_eight = causes.tiles_cause (new_file Classic) pixel 16 8 ≡ Some (IoError InvalidInput)
 
@@ -430,6 +462,7 @@ tiles_late =
 abbrev pub tiles_fit : Type 0
 tiles_fit = causes.tiles_cause (new_file Classic) pixel 32 16 ≡ None
 
+-- mistake: `planar_cause` allows the call after a chunk
 abbrev pub planar_late : Type 0
 planar_late =
     causes.planar_cause (new_file Classic) written_pixel
@@ -438,6 +471,7 @@ planar_late =
 abbrev pub planar_fits : Type 0
 planar_fits = causes.planar_cause (new_file Classic) pixel ≡ None
 
+-- mistake: `write_chunk_cause` allows too many chunks
 -- more than 2^32 - 1 chunks, in 2 planes with strips of one row, are refused before the samples are
 -- counted
 abbrev pub many_chunks : Type 0
@@ -445,6 +479,7 @@ many_chunks = causes.write_chunk_cause (new_file Big)
     (record (largest gray) { extra = Unspecified ∷ []; form = strips_of 4294967295 1 Planar }) 0 0
     ≡ Some IntSizeError
 
+-- mistake: `write_image_data_cause` doesn't test for a product past 64 bits
 -- an image with more samples than a list can contain is refused before too few samples; too few
 -- samples
 abbrev pub image_large : Type 0
@@ -458,6 +493,7 @@ image_few =
 abbrev pub image_enough : Type 0
 image_enough = causes.write_image_data_cause (new_file Classic) pixel 2 ≡ None
 
+-- mistake: `write_image_data_cause` continues after a tile
 -- image data can't follow a tile, but can follow a strip
 abbrev pub image_tiled : Type 0
 image_tiled = causes.write_image_data_cause (new_file Classic) (with_chunk tiled 24 256) 1

@@ -48,6 +48,8 @@ new_pixel = record pixel { directory = with_fields (new_directory (Some 4) true)
 abbrev pub resolutions : List ℕ
 resolutions = one_to_one ++ one_to_one
 
+-- mistake: `write_tags` writes only the first tag
+-- mistake: `new_image` forgets the tags
 -- a new gray image appends both resolutions
 abbrev pub gray_begun : Type 0
 gray_begun =
@@ -67,21 +69,25 @@ no_side =
       next = new_file Classic;
     }
 
+-- mistake: `image_in` takes row bytes of one sample
 -- the rows per strip for rows of 300 bytes, and for packed data, across rows or row by row
 abbrev pub rows_300 : Type 0
 rows_300 = (image_in (new_file Classic) (new_directory None true) rgb 1 100 100).form
     ≡ strips_of 100 3334 Chunky
 
+-- mistake: `default_rows` takes packed for not packed
 abbrev pub rows_packed : Type 0
 rows_packed =
     (image_in (record (new_file Classic) { compression = Packbits }) (new_directory None true) rgb
     1 100 100).form ≡ strips_of 100 1 Chunky
 
+-- mistake: `default_rows` takes what is packed row by row for not packed
 abbrev pub rows_alone : Type 0
 rows_alone =
     (image_in (record (new_file Classic) { compression = PackbitsRows }) (new_directory None true)
     rgb 1 100 100).form ≡ strips_of 100 1 Chunky
 
+-- mistake: `first_tags` exchanges two
 -- the tags of a new image, in this order; YCbCr has a subsampling tag
 abbrev pub tags_gray : Type 0
 tags_gray =
@@ -94,6 +100,7 @@ tags_gray =
     ∷ (tag.XResolution, rationals ((1, 1) ∷ [])) ∷ (tag.YResolution, rationals ((1, 1) ∷ []))
     ∷ (tag.ResolutionUnit, units (unit.None ∷ [])) ∷ []
 
+-- mistake: `first_tags` writes no subsampling
 abbrev pub tags_ycbcr : Type 0
 tags_ycbcr =
     take 3 (drop 4
@@ -109,6 +116,7 @@ tags_ycbcr =
     ∷ (tag.ChromaSubsampling, u16s (1 ∷ 1 ∷ []))
     ∷ (tag.RowsPerStrip, u32s (1000000 ∷ [])) ∷ []
 
+-- mistake: `last_tags` takes lengths for offsets
 -- the tags at an image's end; with an extra sample the samples per pixel are written again
 abbrev pub tags_end : Type 0
 tags_end =
@@ -116,12 +124,15 @@ tags_end =
     ≡ (tag.BitsPerSample, u16s (8 ∷ [])) ∷ (tag.SampleFormat, formats (Uint ∷ []))
     ∷ (tag.StripOffsets, u32s (24 ∷ [])) ∷ (tag.StripByteCounts, u32s (1 ∷ [])) ∷ []
 
+-- mistake: `last_tags` forgets the bits of extra samples
+-- mistake: `last_tags` writes no tag again
 abbrev pub tags_extra : Type 0
 tags_extra =
     take 3 (calls.last_tags Big (record pixel { color = rgb; extra = Unspecified ∷ [] }))
     ≡ (tag.BitsPerSample, u16s (8 ∷ 8 ∷ 8 ∷ 8 ∷ [])) ∷ (tag.SamplesPerPixel, u16s (4 ∷ []))
     ∷ (tag.SampleFormat, formats (Uint ∷ Uint ∷ Uint ∷ Uint ∷ [])) ∷ []
 
+-- mistake: `extra_samples` adds to the earlier list
 -- extra samples replace earlier ones
 abbrev pub extra_set : Type 0
 extra_set =
@@ -137,6 +148,7 @@ extra_late =
     IsSeen (calls.extra_samples written_pixel [] (new_file Classic))
     (Err (UsageError ReconfiguredAfterImageWrite)) header
 
+-- mistake: `set_rows_per_strip` doesn't set the rows
 -- explicit rows per strip
 abbrev pub rows_set : Type 0
 rows_set = IsSeen (calls.set_rows_per_strip pixel 2 (new_file Classic))
@@ -149,6 +161,8 @@ abbrev pub rows_none : Type 0
 rows_none =
     IsSeen (calls.set_rows_per_strip pixel 0 (new_file Classic)) (Err (IoError InvalidInput)) header
 
+-- mistake: `resolution` doesn't change the directory
+-- mistake: `resolution` has no y
 -- the resolution unit and both resolutions, in this order
 abbrev pub resolved : Type 0
 resolved =
@@ -159,12 +173,14 @@ resolved =
     }))
     (header ++ (44 ∷ 1 ∷ 0 ∷ 0 ∷ 1 ∷ 0 ∷ 0 ∷ 0 ∷ 44 ∷ 1 ∷ 0 ∷ 0 ∷ 1 ∷ 0 ∷ 0 ∷ 0 ∷ []))
 
+-- mistake: `resolution` doesn't test the offset
 -- if the second resolution has no valid offset, nothing is written
 abbrev pub unresolved : Type 0
 unresolved = (bytes : List ℕ) → length bytes ≡ 4294967288
     → (calls.resolution pixel unit.Inch (300, 1) (file_with Classic bytes)).answer
     ≡ Err IntSizeError
 
+-- mistake: `x_resolution` sets another tag
 abbrev pub resolved_x : Type 0
 resolved_x =
     IsSeen (calls.x_resolution pixel (2, 1) (new_file Classic))
@@ -174,6 +190,7 @@ resolved_x =
     }))
     (header ++ (2 ∷ 0 ∷ 0 ∷ 0 ∷ 1 ∷ 0 ∷ 0 ∷ 0 ∷ []))
 
+-- mistake: `y_resolution` sets another tag
 abbrev pub resolved_y : Type 0
 resolved_y =
     IsSeen (calls.y_resolution pixel (2, 1) (new_file Classic))
@@ -191,6 +208,7 @@ abbrev pub stopped_y : Type 0
 stopped_y =
     IsSeen (calls.y_resolution pixel (2, 1) failed_file) (Err (UsageError WriterFailed)) header
 
+-- mistake: `resolution_unit` sets None in every case
 abbrev pub unit_set : Type 0
 unit_set = IsSeen (calls.resolution_unit pixel unit.Centimeter (new_file Classic))
     (Ok (record pixel {
@@ -227,6 +245,8 @@ two_pixels =
       form = strips_of 2 1 Chunky;
     }
 
+-- mistake: `all_samples` leaves out the extra ones
+-- mistake: `unpacked_chunk` takes 1 for the stride
 abbrev pub differenced : Type 0
 differenced =
     unpacked_chunk two_pixels (1 ∷ 2 ∷ 3 ∷ 9 ∷ 2 ∷ 4 ∷ 6 ∷ 9 ∷ [])
@@ -255,6 +275,7 @@ two_strips = record pixel { height = 3; form = strips_of 1 2 Chunky }
 abbrev pub strips_parted : Type 0
 strips_parted = parts_left two_strips (1 ∷ 2 ∷ 3 ∷ 4 ∷ []) ≡ (1 ∷ 2 ∷ []) ∷ (3 ∷ []) ∷ []
 
+-- mistake: `parts_left` counts from the image's first strip
 -- after the first strip, the second is taken from the front of the samples
 abbrev pub strips_after : Type 0
 strips_after = parts_left (with_chunk two_strips 8 2) (1 ∷ 2 ∷ 3 ∷ []) ≡ (1 ∷ []) ∷ []
@@ -266,10 +287,13 @@ strips_stored = AreStored two_strips ((1 ∷ 2 ∷ []) ∷ (3 ∷ []) ∷ []) ((
 abbrev pub one_stored : Type 0
 one_stored = AreStored two_strips ((1 ∷ 2 ∷ []) ∷ (3 ∷ []) ∷ []) ((1 ∷ 2 ∷ []) ∷ [])
 
+-- mistake: `AreStored` has bytes for a chunk that isn't there
 -- no bytes are stored for a strip that doesn't exist
 abbrev pub none_stored : Type 0
 none_stored = AreStored pixel ((7 ∷ []) ∷ []) ((7 ∷ []) ∷ [] ∷ []) → ⊥
 
+-- mistake: `with_chunk` puts the chunk before the others
+-- mistake: `write_chunks` takes the first for each
 abbrev pub strips_taken : Type 0
 strips_taken =
     IsSeen (calls.write_chunks two_strips ((1 ∷ 2 ∷ []) ∷ (3 ∷ []) ∷ [])
@@ -283,6 +307,7 @@ abbrev pub pixel_in_file : OpenImage
 pixel_in_file =
     record written_pixel { directory = with_fields (new_directory (Some 4) true) first_fields }
 
+-- mistake: `finish_image` names no strips
 abbrev pub pixel_finished : Type 0
 pixel_finished =
     IsSeen (calls.finish_image pixel_in_file
@@ -300,12 +325,14 @@ pixel_data =
     (file_with Classic (header ++ resolutions)))
     (Ok (record { pointer = 25; link = 195 })) gray_file
 
+-- mistake: `write_image_data` allows too few
 -- too few samples: nothing more is written
 abbrev pub pixel_few : Type 0
 pixel_few =
     IsSeen (calls.write_image_data new_pixel [] [] (new_file Classic)) (Err (IoError InvalidData))
     header
 
+-- mistake: `write_image` stores no strip
 -- the whole image of one pixel
 abbrev pub pixel_written : Type 0
 pixel_written =
@@ -339,6 +366,7 @@ packed_written =
     ((0xfd ∷ 1 ∷ []) ∷ (0xfd ∷ 2 ∷ []) ∷ []) packed_file).answer
     ≡ Ok (record { pointer = 44; link = 214 })
 
+-- mistake: `appends_chunk` takes the count of samples for the stored length
 abbrev pub packed_bytes : Type 0
 packed_bytes =
     take 20 (drop 24

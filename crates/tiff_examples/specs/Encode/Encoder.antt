@@ -37,6 +37,7 @@ begins_failed = failed ≡ machine.begun_file Classic [] 0 → ⊥
 abbrev pub too_far : Type 0
 too_far = is_too_far 4294967296 ≡ true
 
+-- mistake: `is_too_far` is off by one
 abbrev pub not_too_far : Type 0
 not_too_far = is_too_far 4294967295 ≡ false
 
@@ -59,10 +60,12 @@ abbrev pub not_cut : Type 0
 not_cut = (e : TiffError) (new : FileState) → new.failures ≡ 0
     → AppendIsCut (1 ∷ 2 ∷ []) e fresh new → ⊥
 
+-- mistake: `AppendIsCut` allows the other error (`torn_swapped` fails too)
 -- not a cut: another error, or all bytes written
 abbrev pub cut_swapped : Type 0
 cut_swapped = AppendIsCut (1 ∷ 2 ∷ []) OutOfMemory fresh cut_file → ⊥
 
+-- mistake: `AppendIsCut` allows that all was written
 abbrev pub cut_whole : Type 0
 cut_whole = AppendIsCut (1 ∷ []) (IoError Device) fresh cut_file → ⊥
 
@@ -91,6 +94,7 @@ HeaderIsCut = HeaderFails Classic (λ (w : Written). w.bytes) (λ w. w.failures)
 abbrev pub header_cut : Type 0
 header_cut = HeaderIsCut (IoError Device)
 
+-- mistake: `HeaderFails` allows any error
 abbrev pub header_not_cut : Type 0
 header_not_cut = HeaderIsCut IntSizeError → ⊥
 
@@ -101,6 +105,7 @@ placed = StandsAtEnd Classic (record at_end { bytes = header; at = 8 }) 4
 abbrev pub not_placed : Type 0
 not_placed = StandsAtEnd Classic at_end 4 → ⊥
 
+-- mistake: `file_with_bytes` puts the bytes in front
 abbrev pub grown_one : Type 0
 grown_one = file_with_bytes fresh (7 ∷ []) ≡ begun (header ++ (7 ∷ []))
 
@@ -108,6 +113,7 @@ grown_one = file_with_bytes fresh (7 ∷ []) ≡ begun (header ++ (7 ∷ []))
 abbrev pub listable : Type 0
 listable = IsListable Classic 256 (long_field 5)
 
+-- mistake: `IsListable` allows tag 65536
 abbrev pub not_listable : Type 0
 not_listable = IsListable Classic 65536 (long_field 5) → ⊥
 
@@ -115,5 +121,6 @@ not_listable = IsListable Classic 65536 (long_field 5) → ⊥
 abbrev pub leaves_header : Type 0
 leaves_header = LeavesHeader Classic header 4
 
+-- mistake: `LeavesHeader` doesn't test the link
 abbrev pub leaves_no_header : Type 0
 leaves_no_header = LeavesHeader Classic header 5 → ⊥

@@ -14,6 +14,7 @@ use Rattle.tiff_examples.specs.OneValue.{short_field, long_field}
 abbrev pub classic_header : Type 0
 classic_header = header_bytes Classic ≡ (0x49 ∷ 0x49 ∷ 0x2a ∷ 0x00 ∷ 0x00 ∷ 0x00 ∷ 0x00 ∷ 0x00 ∷ [])
 
+-- mistake: `header_bytes` has offsets of 4 bytes in BigTIFF
 abbrev pub big_header : Type 0
 big_header = header_bytes Big
     ≡ (0x49 ∷ 0x49 ∷ 0x2b ∷ 0x00 ∷ 0x08 ∷ 0x00 ∷ 0x00 ∷ 0x00 ∷ 0x00 ∷ 0x00 ∷ 0x00 ∷ 0x00 ∷ 0x00
@@ -25,6 +26,7 @@ abbrev pub classic_entry : Type 0
 classic_entry = entry_bytes Classic (258, short_field 8)
     ≡ (0x02 ∷ 0x01 ∷ 0x03 ∷ 0x00 ∷ 0x01 ∷ 0x00 ∷ 0x00 ∷ 0x00 ∷ 0x08 ∷ 0x00 ∷ 0x00 ∷ 0x00 ∷ [])
 
+-- mistake: `entry_bytes` writes a value field of 4 bytes in BigTIFF
 abbrev pub big_entry : Type 0
 big_entry =
     entry_bytes Big (256, long_field 5)
@@ -32,6 +34,7 @@ big_entry =
     ∷ 0x00 ∷ 0x00
     ∷ 0x00 ∷ 0x00 ∷ 0x00 ∷ 0x00 ∷ 0x00 ∷ [])
 
+-- mistake: `padding` appends 4 zeros for none
 -- zeros up to the next multiple of 4
 abbrev pub padding_8 : Type 0
 padding_8 = padding 8 ≡ []
@@ -42,6 +45,7 @@ padding_199 = padding 199 ≡ (0x00 ∷ [])
 abbrev pub padding_201 : Type 0
 padding_201 = padding 201 ≡ (0x00 ∷ 0x00 ∷ 0x00 ∷ [])
 
+-- mistake: `rows_per_strip` is one row off
 -- a strip has 333334 rows of 3 bytes, 3334 rows of 300 bytes, or 1 row of two million bytes
 abbrev pub rows_3 : Type 0
 rows_3 = rows_per_strip 3 ≡ 333334
@@ -61,6 +65,7 @@ two_fields =
     ++ (0x02 ∷ 0x01 ∷ 0x03 ∷ 0x00 ∷ 0x01 ∷ 0x00 ∷ 0x00 ∷ 0x00 ∷ 0x08 ∷ 0x00 ∷ 0x00 ∷ 0x00 ∷ [])
     ++ (0x00 ∷ 0x00 ∷ 0x00 ∷ 0x00 ∷ [])
 
+-- mistake: `directory_bytes` writes a link of 4 bytes in BigTIFF
 -- a directory without fields
 abbrev pub no_field : Type 0
 no_field = directory_bytes Big (from_entries [])

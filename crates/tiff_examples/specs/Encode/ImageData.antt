@@ -46,21 +46,25 @@ abbrev pub both_written : Type 0
 both_written =
     WritesChunks {A = ℕ} two_strips two_parts (Ok 0) (new_file Classic) both_file both_counted
 
+-- mistake: `WritesChunks` writes some of the chunks
 -- not all chunks are written if only the first strip is, or if other bytes are
 abbrev pub first_alone : Type 0
 first_alone =
     WritesChunks {A = ℕ} two_strips two_parts (Ok 0) (new_file Classic) first_file first_counted → ⊥
 
+-- mistake: `WritesChunks` allows any bytes
 abbrev pub other_bytes : Type 0
 other_bytes =
     WritesChunks {A = ℕ} two_strips two_parts (Ok 0) (new_file Classic)
     (file_with Classic (header ++ (1 ∷ 2 ∷ 4 ∷ []))) both_counted → ⊥
 
+-- mistake: `WritesChunks` doesn't compare the file
 -- each counted strip is written, and each written strip is counted
 abbrev pub only_counted : Type 0
 only_counted =
     WritesChunks {A = ℕ} two_strips two_parts (Ok 0) (new_file Classic) first_file both_counted → ⊥
 
+-- mistake: `WritesChunks` doesn't compare the image (`refused_counted` fails too)
 abbrev pub not_counted : Type 0
 not_counted =
     WritesChunks {A = ℕ} two_strips two_parts (Ok 0) (new_file Classic) both_file first_counted → ⊥
@@ -75,6 +79,7 @@ abbrev pub second_refused : Type 0
 second_refused =
     StopsWithin two_strips more_parts (IoError InvalidData) (new_file Classic) first_file
 
+-- mistake: `StopsWithin` keeps the bytes of a refused chunk
 abbrev pub refused_stands : Type 0
 refused_stands =
     StopsWithin two_strips more_parts (IoError InvalidData) (new_file Classic) more_file → ⊥
@@ -89,6 +94,7 @@ second_cut =
 abbrev pub second_wanting : Type 0
 second_wanting = StopsWithin two_strips two_parts OutOfMemory (new_file Classic) first_file
 
+-- mistake: `StopsWithin` allows out of memory after the last
 abbrev pub both_wanting : Type 0
 both_wanting = StopsWithin two_strips two_parts OutOfMemory (new_file Classic) both_file → ⊥
 
@@ -100,6 +106,7 @@ chunk_left =
     LeavesChunk {A = ℕ} calls.write_chunk pixel (7 ∷ []) (Ok 0) (new_file Classic)
     (file_with Classic (header ++ (7 ∷ []))) (with_chunk pixel 8 1) (header_model Classic)
 
+-- mistake: `LeavesChunk` allows any bytes
 -- the chunk contains no other sample, and is counted
 abbrev pub chunk_other : Type 0
 chunk_other =
@@ -107,11 +114,13 @@ chunk_other =
     (file_with Classic (header ++ (8 ∷ []))) (with_chunk pixel 8 1) (header_model Classic)
     → ⊥
 
+-- mistake: `LeavesChunk` doesn't compare the image (`chunk_counted` fails too)
 abbrev pub chunk_uncounted : Type 0
 chunk_uncounted =
     LeavesChunk {A = ℕ} calls.write_chunk pixel (7 ∷ []) (Ok 0) (new_file Classic)
     (file_with Classic (header ++ (7 ∷ []))) pixel (header_model Classic) → ⊥
 
+-- mistake: `LeavesChunk` allows any model
 -- the chunk leaves the header's link unchanged
 abbrev pub chunk_link : Type 0
 chunk_link =
@@ -132,6 +141,7 @@ chunk_refused =
     LeavesChunk {A = ℕ} calls.write_chunk pixel (7 ∷ 8 ∷ []) (Err (IoError InvalidData))
     (new_file Classic) (new_file Classic) pixel (header_model Classic)
 
+-- mistake: `LeavesChunk` lets a refusal change what the file contained
 abbrev pub chunk_changed : Type 0
 chunk_changed =
     LeavesChunk {A = ℕ} calls.write_chunk pixel (7 ∷ 8 ∷ []) (Err (IoError InvalidData))

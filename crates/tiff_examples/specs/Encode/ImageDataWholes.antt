@@ -40,6 +40,7 @@ data_refused = (e : TiffError)
     → LeavesData {A = ℕ} new_pixel [] (Err e) (new_file Classic) (new_file Classic)
     (header_model Classic)
 
+-- mistake: `LeavesData` lets a refusal change what the file contained
 abbrev pub data_changed : Type 0
 data_changed = (e : TiffError)
     → LeavesData {A = ℕ} new_pixel [] (Err e) (new_file Classic) changed_file (header_model Classic)
@@ -51,11 +52,13 @@ abbrev pub end_shown : Type 0
 end_shown =
     ShowsFinished {A = ℕ} pixel_in_file ((7 ∷ []) ∷ []) (Ok 0) after_strip.file after_end.file
 
+-- mistake: `ShowsFinished` compares no sample
 -- the file shows no other sample, and the last link of the chain isn't the header's any more
 abbrev pub end_other : Type 0
 end_other =
     ShowsFinished {A = ℕ} pixel_in_file ((8 ∷ []) ∷ []) (Ok 0) after_strip.file after_end.file → ⊥
 
+-- mistake: `ShowsFinished` doesn't compare the chain's link
 abbrev pub end_unchained : Type 0
 end_unchained =
     ShowsFinished {A = ℕ} pixel_in_file ((7 ∷ []) ∷ []) (Ok 0) after_strip.file
@@ -92,6 +95,7 @@ abbrev pub image_sideless : Type 0
 image_sideless = (samples : List ℕ) (new : FileState)
     → LeavesImage gray 1 0 5 samples (new_file Classic) new (header_model Classic) → ⊥
 
+-- mistake: `LeavesNewImage` lets a refusal change what the file contained
 abbrev pub image_changed : Type 0
 image_changed = (e : TiffError)
     → LeavesNewImage {A = ℕ} gray 1 1 1 (7 ∷ []) (Err e) (new_file Classic) changed_file

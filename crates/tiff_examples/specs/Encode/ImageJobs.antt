@@ -33,6 +33,7 @@ use Rattle.tiff_examples.specs.Encode.Jobs.{first, run_begun, drawn}
 abbrev pub uncalled : Type 0
 uncalled = jobs.IsNotCalled OutOfMemory first first
 
+-- mistake: `IsNotCalled` allows any error
 abbrev pub uncalled_fault : Type 0
 uncalled_fault = (new : FileAndModel) → jobs.IsNotCalled IntSizeError first new → ⊥
 
@@ -75,6 +76,7 @@ abbrev pub strip_unpacked : Type 0
 strip_unpacked =
     jobs.StripStep new_pixel (7 ∷ []) (Err OutOfMemory) after_begin after_begin new_pixel
 
+-- mistake: `StripStep` stores the strip without memory for it
 abbrev pub strip_half : Type 0
 strip_half = jobs.StripStep new_pixel (7 ∷ []) (Err OutOfMemory) after_begin after_strip new_pixel
     → ⊥
@@ -82,14 +84,17 @@ strip_half = jobs.StripStep new_pixel (7 ∷ []) (Err OutOfMemory) after_begin a
 abbrev pub strip_few : Type 0
 strip_few = jobs.StripStep pixel [] (Err (IoError InvalidData)) first first pixel
 
+-- mistake: `StripStep` returns out of memory before a wrong length
 abbrev pub strip_few_wanting : Type 0
 strip_few_wanting = (new : FileAndModel) (t : OpenImage)
     → jobs.StripStep pixel [] (Err OutOfMemory) first new t → ⊥
 
+-- mistake: `StripStep` ends as done without a strip
 abbrev pub strip_number : Type 0
 strip_number = (new : FileAndModel) (t : OpenImage)
     → jobs.StripStep pixel (7 ∷ []) (Ok (reply.Number 1)) first new t → ⊥
 
+-- mistake: `StripStep` stores as any bytes
 abbrev pub strip_other : Type 0
 strip_other =
     jobs.StripStep new_pixel (8 ∷ []) (Ok reply.Nothing) after_begin after_strip pixel_in_file → ⊥
@@ -125,6 +130,7 @@ abbrev pub resolved : Type 0
 resolved =
     jobs.Resolves pixel unit.Inch (300, 1) (Ok reply.Nothing) first after_resolution resolved_pixel
 
+-- mistake: `ResolvesInPart` sets the last ones
 -- an out-of-memory error after the unit, or a sink that fails there, which keeps the unit too
 abbrev pub resolved_part : Type 0
 resolved_part =
@@ -141,6 +147,7 @@ after_unit_failed =
       };
     }
 
+-- mistake: `Resolves` allows a first part only for out of memory
 abbrev pub resolved_failed : Type 0
 resolved_failed =
     jobs.Resolves pixel unit.Inch (300, 1) (Err (IoError Device)) first after_unit_failed unit_pixel
@@ -159,6 +166,7 @@ resolved_uncaused = (new : FileAndModel) (t : OpenImage)
 abbrev pub data_few : Type 0
 data_few = jobs.WritesDataIfFound pixel [] (Err (IoError InvalidData)) first first None
 
+-- mistake: `WritesData` returns out of memory before too few samples
 abbrev pub data_few_wanting : Type 0
 data_few_wanting = (new : FileAndModel) (offset : Option Offsets)
     → jobs.WritesData pixel [] (Err OutOfMemory) first new offset → ⊥
@@ -171,6 +179,7 @@ abbrev pub data_no_strip : Type 0
 data_no_strip = (new : FileAndModel) (offset : Option Offsets)
     → jobs.WritesData new_pixel (7 ∷ 8 ∷ []) (Err (IoError InvalidData)) after_begin new offset → ⊥
 
+-- mistake: `WritesData` stores all strips or none
 -- the first of two strips is written, and there is no memory for the other
 abbrev pub data_begun : Type 0
 data_begun =
@@ -204,11 +213,13 @@ data_done =
     jobs.WritesData new_pixel (7 ∷ 8 ∷ []) (Ok last.Nothing) after_begin after_data
     (Some page_offset)
 
+-- mistake: `WritesDataIfFound` ends as done without strips
 abbrev pub data_found : Type 0
 data_found =
     jobs.WritesDataIfFound new_pixel (7 ∷ 8 ∷ []) (Ok last.Nothing) after_begin after_data
     (Some page_offset)
 
+-- mistake: `ImageEnds` returns offsets from `finish`
 abbrev pub image_ended : Type 0
 image_ended =
     jobs.ImageEnds after_strip pixel_in_file iend.Finish (Ok last.Nothing) after_end
@@ -221,6 +232,8 @@ data_offsets = (new : FileAndModel) (offset : Option Offsets)
 
 -- ---- whole jobs
 
+-- mistake: `JobRan` leaves out a refused beginning
+-- mistake: `JobRan` exchanges the sides
 -- a dimension of 0: the image doesn't begin
 abbrev pub no_side_job : Type 0
 no_side_job = (j : ImageJob) (r : JobReply) → j.width ≡ 0 → j.height ≡ 5 → r.steps.items ≡ []
@@ -228,6 +241,7 @@ no_side_job = (j : ImageJob) (r : JobReply) → j.width ≡ 0 → j.height ≡ 5
     → jobs.JobRan run_begun (job.Image j) r
     (jobs.run_after_job run_begun first (Err (FormatError (InvalidDimensions 0 5))) [])
 
+-- mistake: `JobIsNotBegun` doesn't compare its result
 abbrev pub not_begun : Type 0
 not_begun = (r : JobReply) (new : Run) → r.last ≡ Ok last.Nothing
     → jobs.JobIsNotBegun (calls.new_image gray 1 0 5 (new_file Classic)) run_begun r new → ⊥
@@ -238,6 +252,7 @@ page_run =
     jobs.run_after_job run_begun after_end (Ok last.Nothing)
     (record { offset = 25; image = jobs.image_with pixel_in_file ((7 ∷ []) ∷ []) } ∷ [])
 
+-- mistake: `JobRan` forgets its image
 abbrev pub strip_job : Type 0
 strip_job = (j : ImageJob) (r : JobReply) (samples : List ℕ) → j.color ≡ name.Gray8 → j.width ≡ 1
     → j.height ≡ 1
@@ -245,6 +260,8 @@ strip_job = (j : ImageJob) (r : JobReply) (samples : List ℕ) → j.color ≡ n
     → r.steps.items ≡ Ok reply.Nothing ∷ [] → r.last ≡ Ok last.Nothing
     → jobs.JobRan run_begun (job.Image j) r page_run
 
+-- mistake: `subsampling_of` has another subsampling
+-- mistake: `RunShows` takes the height for the rows of a strip
 -- the file shows the image of the run
 abbrev pub page_shown : Type 0
 page_shown = jobs.RunShows page_run
@@ -256,6 +273,7 @@ data_images = record { offset = 25; image = jobs.image_with new_pixel ((7 ∷ []
 abbrev pub data_run : Run
 data_run = jobs.run_after_job run_begun after_data (Ok last.Nothing) data_images
 
+-- mistake: `ended_samples` keeps samples past the image's
 abbrev pub data_job : Type 0
 data_job = (j : ImageJob) (r : JobReply) (samples : List ℕ) → j.color ≡ name.Gray8 → j.width ≡ 1
     → j.height ≡ 1

@@ -65,6 +65,7 @@ failed_with told bytes =
 abbrev pub told : Type 0
 told = EndsAsDefined (gives {A = ℕ} 5 (new_file Classic)) (Ok 5) (new_file Classic)
 
+-- mistake: `EndsAsDefined` allows any result
 abbrev pub told_other : Type 0
 told_other = EndsAsDefined (gives {A = ℕ} 5 (new_file Classic)) (Ok 6) (new_file Classic) → ⊥
 
@@ -79,12 +80,14 @@ abbrev pub not_cut_off : Type 0
 not_cut_off = (e : TiffError) (new : FileState) → new.failures ≡ 0
     → IsCutOff three e (new_file Classic) new → ⊥
 
+-- mistake: `IsCutOff` allows another error than the sink's
 -- only the sink's error is returned, and none if everything is written
 abbrev pub swapped : Type 0
 swapped =
     IsCutOff three OutOfMemory (new_file Classic) (failed_with fault.Device (header ++ (1 ∷ [])))
     → ⊥
 
+-- mistake: `IsCutOff` allows that all was written
 abbrev pub cut_whole : Type 0
 cut_whole = (e : TiffError) (told : SinkFault)
     → IsCutOff three e (new_file Classic) (failed_with told (header ++ (1 ∷ 2 ∷ 3 ∷ []))) → ⊥
@@ -94,6 +97,7 @@ abbrev pub torn_off : Type 0
 torn_off = IsTornOff linked OutOfMemory (new_file Classic)
     (failed_with fault.OutOfMemory (0x49 ∷ 0x49 ∷ 0x2a ∷ 0x00 ∷ 0x08 ∷ 0x00 ∷ 0x00 ∷ 0x00 ∷ 1 ∷ []))
 
+-- mistake: `IsTornOff` lets a link be torn on a file that had failed
 abbrev pub not_torn_off : Type 0
 not_torn_off = (e : TiffError) (new : FileState) → IsTornOff linked e failed_file new → ⊥
 
@@ -111,6 +115,7 @@ after_torn = record {
       (record { offset = 8; fields = standing_fields Classic fields_5 })) 4 8;
 }
 
+-- mistake: `IsTornAway` loses the new directory if its link is torn
 abbrev pub torn_directory : Type 0
 torn_directory =
     jobs.IsTornAway (does (Listed fields_5 ∷ Linked 4 8 ∷ []) (new_file Classic)) (IoError Device)
@@ -127,6 +132,7 @@ not_wanting =
     IsShortOfMemory (does three (new_file Classic)) (IoError Device) (new_file Classic)
     (new_file Classic) → ⊥
 
+-- mistake: `IsShortOfMemory` returns out of memory before sides of 0
 -- a dimension of 0 is refused before memory is allocated
 abbrev pub wanting_caused : Type 0
 wanting_caused = (e : TiffError) (new : FileState)
@@ -143,6 +149,7 @@ ends_done =
     Ends (λ d. d) (calls.image_directory (new_file Classic)) (Ok (new_directory (Some 4) true))
     (new_file Classic) (new_file Classic)
 
+-- mistake: `Ends` allows any error
 abbrev pub ends_uncaused : Type 0
 ends_uncaused = (new : FileState)
     → Ends (λ d. d) (calls.image_directory (new_file Classic)) (Err IntSizeError) (new_file Classic)
@@ -154,6 +161,7 @@ silent_done =
     EndsSilently {X = ℕ} (does three (new_file Classic)) (Ok 9) (new_file Classic)
     (file_with Classic (header ++ (1 ∷ 2 ∷ 3 ∷ [])))
 
+-- mistake: `EndsSilently` allows any file where the call is done
 abbrev pub silent_short : Type 0
 silent_short =
     EndsSilently {X = ℕ} (does three (new_file Classic)) (Ok 9) (new_file Classic)
@@ -165,6 +173,7 @@ refused_caused =
     EndsRefused {X = ℕ} (answers {A = ℕ} (Err IntSizeError) (new_file Classic)) (Err IntSizeError)
     (new_file Classic) (new_file Classic)
 
+-- mistake: `EndsRefused` allows any error
 abbrev pub refused_other : Type 0
 refused_other = (new : FileState)
     → EndsRefused {X = ℕ} (answers {A = ℕ} (Err IntSizeError) (new_file Classic))
@@ -172,6 +181,7 @@ refused_other = (new : FileState)
 
 -- ---- fields that are taken over
 
+-- mistake: `Extends` keeps its own fields
 -- a given field replaces the directory's own field for the same tag
 abbrev pub taken_over : Type 0
 taken_over = (new : OpenDirectory)
@@ -179,6 +189,7 @@ taken_over = (new : OpenDirectory)
     (with_fields (new_directory None false) ((256, long_field 5) ∷ [])) new (Ok 0)
     → entries new.fields ≡ (256, long_field 6) ∷ []
 
+-- mistake: `Extends` allows any fields after out of memory
 -- with an out-of-memory error, no field is taken over without the fields before it
 abbrev pub taken_later : Type 0
 taken_later = (new : OpenDirectory)
@@ -188,6 +199,7 @@ taken_later = (new : OpenDirectory)
 
 -- ---- values of jobs
 
+-- mistake: `cut_to` cuts by bits
 -- samples are cut to the width of their numbers
 abbrev pub cut_byte : Type 0
 cut_byte = cut_to 1 (257 ∷ 255 ∷ []) ≡ (1 ∷ 255 ∷ [])
@@ -195,10 +207,12 @@ cut_byte = cut_to 1 (257 ∷ 255 ∷ []) ≡ (1 ∷ 255 ∷ [])
 abbrev pub cut_short : Type 0
 cut_short = cut_to 2 (257 ∷ 65536 ∷ []) ≡ (257 ∷ 0 ∷ [])
 
+-- mistake: `value_data` takes shorts for longs
 -- a list of scalars, wherever it is allocated; and a list of bytes
 abbrev pub shorts_given : Type 0
 shorts_given = (l : Vec ℕ) → value_data (value.U16 l) ≡ Ok (data_of (u16s l.items))
 
+-- mistake: `buffer_in` has no bytes
 abbrev pub buffer_given : Type 0
 buffer_given = (b : JobBuffer) → (buffer_in b).bytes ≡ b.bytes.items
 
@@ -211,9 +225,11 @@ run_begun = jobs.new_run Classic [] 0
 abbrev pub first : FileAndModel
 first = run_begun.standing
 
+-- mistake: `new_run` has a byte before the header
 abbrev pub starts : Type 0
 starts = (jobs.new_run Big [] 0).standing.file ≡ new_file Big
 
+-- mistake: `new_run` forgets earlier failures
 -- a run on a sink that contains a byte and failed before: the failures are added up
 abbrev pub starts_failed : Type 0
 starts_failed =
@@ -223,6 +239,7 @@ starts_failed =
 abbrev pub starts_empty : Type 0
 starts_empty = run_begun.images ≡ []
 
+-- mistake: `FileAndModel` forgets the model
 -- a step that doesn't change the directory: data is written at 8
 abbrev pub data_stepped : Type 0
 data_stepped =
@@ -233,6 +250,7 @@ data_stepped =
       model = with_region (header_model Classic) one_region;
     }) (new_directory None false)
 
+-- mistake: `Replies` replies another number
 -- a step that appends data doesn't return another offset
 abbrev pub data_other : Type 0
 data_other = (new : FileAndModel)
@@ -245,11 +263,13 @@ changes_nothing =
     jobs.Changes (gives (new_directory None true)) (new_directory None false) (Ok reply.Nothing)
     first first (new_directory None true)
 
+-- mistake: `Changes` replies a number for nothing
 abbrev pub changes_number : Type 0
 changes_number =
     jobs.Changes (gives (new_directory None true)) (new_directory None false) (Ok (reply.Number 8))
     first first (new_directory None true) → ⊥
 
+-- mistake: `FileAndModel` allows any error
 -- a call isn't refused without a cause
 abbrev pub changes_uncaused : Type 0
 changes_uncaused = (new : FileAndModel) (t : OpenDirectory)
@@ -267,6 +287,7 @@ extends_none =
     jobs.ExtendStep ((256, long_field 5) ∷ []) (new_directory None false) (Err OutOfMemory) first
     first (new_directory None false)
 
+-- mistake: `ExtendStep` allows any error
 abbrev pub extends_fault : Type 0
 extends_fault = (d : OpenDirectory)
     → jobs.ExtendStep [] (new_directory None false) (Err IntSizeError) first first d → ⊥
@@ -282,6 +303,7 @@ drawn_seven = record { image = written_pixel; samples = (7 ∷ []) ∷ [] }
 abbrev pub counted : Type 0
 counted = jobs.ImageStepped first drawn istep.NextStripSampleCount (Ok (reply.Number 1)) first drawn
 
+-- mistake: `ImageStepped` allows any reply for the count
 abbrev pub counted_other : Type 0
 counted_other =
     jobs.ImageStepped first drawn istep.NextStripSampleCount (Err OutOfMemory) first drawn → ⊥
@@ -300,6 +322,7 @@ one_step =
     jobs.AllStepped jobs.ImageStepped first drawn (istep.NextStripSampleCount ∷ [])
     (Ok (reply.Number 1) ∷ []) first drawn
 
+-- mistake: `AllStepped` allows a missing reply
 abbrev pub missing_reply : Type 0
 missing_reply =
     jobs.AllStepped jobs.ImageStepped first drawn (istep.NextStripSampleCount ∷ []) [] first drawn
@@ -311,10 +334,12 @@ missing_reply =
 abbrev pub two_offsets : List (Option Offsets)
 two_offsets = Some (record { pointer = 8; link = 22 }) ∷ None ∷ []
 
+-- mistake: `named_parent` counts from 1
 abbrev pub parent_named : Type 0
 parent_named =
     jobs.named_parent two_offsets (Some 0) ≡ Ok (Some (record { pointer = 8; link = 22 }))
 
+-- mistake: `named_parent` takes a refused job for none
 abbrev pub parent_refused : Type 0
 parent_refused = jobs.named_parent two_offsets (Some 1) ≡ Err (UsageError ParentNotWritten)
 
@@ -324,6 +349,7 @@ parent_later = jobs.named_parent two_offsets (Some 2) ≡ Err (UsageError Parent
 abbrev pub parent_none : Type 0
 parent_none = jobs.named_parent [] None ≡ Ok None
 
+-- mistake: `run_after_job` puts offsets in front
 -- a later job can link to an end with offsets, and not to an end without offsets
 abbrev pub ran_offsets : Type 0
 ran_offsets =
@@ -331,9 +357,11 @@ ran_offsets =
     []).offsets
     ≡ two_offsets ++ Some (record { pointer = 28; link = 30 }) ∷ []
 
+-- mistake: `run_after_job` has offsets of nothing
 abbrev pub ran_nothing : Type 0
 ran_nothing = (jobs.run_after_job run_begun first (Ok last.Nothing) []).offsets ≡ None ∷ []
 
+-- mistake: `with_parent` doesn't set the parent
 abbrev pub parented_22 : Type 0
 parented_22 =
     (jobs.with_parent (Some (record { pointer = 8; link = 22 }))
@@ -346,12 +374,15 @@ parented_none = jobs.with_parent None (new_directory (Some 4) true) ≡ new_dire
 abbrev pub later_run : Run
 later_run = record run_begun { offsets = two_offsets }
 
+-- mistake: `IsRefusedAtOnce` replies Ok
 abbrev pub parent_job : Type 0
 parent_job = (j : DirectoryJob) (r : JobReply) → j.parent ≡ Some 1 → r.steps.items ≡ []
     → r.last ≡ Err (UsageError ParentNotWritten)
     → jobs.JobRan later_run (job.Directory j) r
     (jobs.run_after_job later_run first (Err (UsageError ParentNotWritten)) [])
 
+-- mistake: `IsSet` doesn't change the setting
+-- mistake: `JobRan` leaves out a setting
 -- a setting
 abbrev pub packed_job : Type 0
 packed_job = (r : JobReply) → r.steps.items ≡ [] → r.last ≡ Ok last.Nothing
@@ -374,6 +405,7 @@ after_empty = record {
       4 8;
 }
 
+-- mistake: `DirectoryRan` keeps the run as it was before the job's end
 abbrev pub directory_job : Type 0
 directory_job = (j : DirectoryJob) (r : JobReply) → j.chained ≡ true → j.parent ≡ None
     → j.steps.items ≡ [] → j.end ≡ end.Finish
@@ -381,12 +413,15 @@ directory_job = (j : DirectoryJob) (r : JobReply) → j.chained ≡ true → j.p
     → jobs.JobRan run_begun (job.Directory j) r
     (jobs.run_after_job run_begun after_empty (Ok (last.Offsets 8 10)) [])
 
+-- mistake: `DirectoryEnds` replies nothing for offsets
+-- mistake: `DirectoryEnds` allows a silent finish
 -- the end `Finish` of a directory doesn't return `Nothing`
 abbrev pub extra_end : Type 0
 extra_end = (new : FileAndModel) (offset : Option Offsets)
     → jobs.DirectoryEnds first (new_directory (Some 1000) true) end.Finish (Ok last.Nothing) new
     offset → ⊥
 
+-- mistake: `DirectoryEnds` allows no refusal
 -- the end of a directory whose parent isn't in the file is refused, and has no offset
 abbrev pub lost_end : Type 0
 lost_end =
@@ -400,14 +435,17 @@ samples_all = jobs.ended_samples drawn_seven iend.Finish ≡ Some ((7 ∷ []) �
 abbrev pub samples_missing : Type 0
 samples_missing = jobs.ended_samples drawn iend.Discard ≡ None
 
+-- mistake: `ended_samples` doesn't cut the samples
 abbrev pub samples_given : Type 0
 samples_given = (samples : List ℕ) → samples ≡ 263 ∷ 8 ∷ []
     → jobs.ended_samples drawn (iend.WriteData samples) ≡ Some ((7 ∷ []) ∷ [])
 
+-- mistake: `samples_of_type` takes the highest byte first
 -- lent bytes are the numbers 263 and 8, the lowest byte of each first; a part of one is refused
 abbrev pub samples_lent : Type 0
 samples_lent = samples_of_type type.SHORT (7 ∷ 1 ∷ 8 ∷ 0 ∷ []) ≡ Ok (263 ∷ 8 ∷ [])
 
+-- mistake: `samples_of_type` fills up a part of a sample
 abbrev pub samples_left_over : Type 0
 samples_left_over = samples_of_type type.SHORT (7 ∷ 1 ∷ 8 ∷ [])
     ≡ Err (UsageError (MismatchedEntryLength type.SHORT 3))
@@ -422,6 +460,7 @@ image_format = (jobs.image_with written_pixel ((7 ∷ []) ∷ [])).page.format �
 abbrev pub width_tag : Type 0
 width_tag = jobs.is_page_tag 256 ≡ true
 
+-- mistake: `is_page_tag` takes any tag for a page tag
 abbrev pub artist_tag : Type 0
 artist_tag = jobs.is_page_tag 315 ≡ false
 
@@ -429,15 +468,18 @@ abbrev pub apart_step : Type 0
 apart_step = (v : JobValue) (r : StepReply)
     → jobs.is_apart (istep.Directory (step.WriteTag tag.Artist v)) (Ok r) ≡ true
 
+-- mistake: `is_apart` leaves out SampleFormat
 abbrev pub page_step : Type 0
 page_step = (v : JobValue) (r : StepReply)
     → jobs.is_apart (istep.Directory (step.WriteTag tag.SampleFormat v)) (Ok r) ≡ false
 
+-- mistake: `is_apart` counts a refused tag
 -- a refused tag isn't in the directory
 abbrev pub refused_step : Type 0
 refused_step = (v : JobValue) (e : TiffError)
     → jobs.is_apart (istep.Directory (step.WriteTag tag.SampleFormat v)) (Err e) ≡ true
 
+-- mistake: `is_apart` doesn't count fields of which some are in
 -- fields that are partly taken over may be in the directory
 abbrev pub extended_step : Type 0
 extended_step = (d : DirectoryRecord) (e : TiffError) → entries d.entries ≡ (256, long_field 5) ∷ []
@@ -447,6 +489,7 @@ extended_step = (d : DirectoryRecord) (e : TiffError) → entries d.entries ≡ 
 abbrev pub page_offset : Option Offsets
 page_offset = Some (record { pointer = 25; link = 195 })
 
+-- mistake: `job_images` shows tags that were written by hand
 abbrev pub shown_images : Type 0
 shown_images = (v : JobValue)
     → jobs.job_images (istep.Directory (step.WriteTag tag.SampleFormat v) ∷ [])
@@ -462,12 +505,15 @@ shown_image =
 abbrev pub no_jobs : Type 0
 no_jobs = jobs.JobsRun run_begun [] [] run_begun
 
+-- mistake: `JobsRun` allows a missing reply
 abbrev pub reply_missing : Type 0
 reply_missing = (new : Run) → jobs.JobsRun run_begun (job.Compression Packbits ∷ []) [] new → ⊥
 
+-- mistake: `RunStands` allows other bytes
 -- the model and the images of a run that begins: the header
 abbrev pub run_stands : Type 0
 run_stands = jobs.RunStands run_begun
 
+-- mistake: `RunShows` allows images that aren't in the run
 abbrev pub run_shows : Type 0
 run_shows = jobs.RunShows run_begun

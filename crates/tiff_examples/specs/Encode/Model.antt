@@ -32,12 +32,14 @@ header_stands = Stands Classic header (header_model Classic)
 abbrev pub cut_header : Type 0
 cut_header = (m : Model) → Stands Classic (take 7 header) m → ⊥
 
+-- mistake: `Stands` doesn't test the header's link
 -- if the header's link is 9, the file contains no model whose link is 0
 abbrev pub other_target : Type 0
 other_target =
     Stands Classic (0x49 ∷ 0x49 ∷ 0x2a ∷ 0x00 ∷ 0x09 ∷ 0x00 ∷ 0x00 ∷ 0x00 ∷ [])
     (header_model Classic) → ⊥
 
+-- mistake: `Stands` allows regions past the end
 -- a file doesn't contain a region that reaches past its end
 abbrev pub past_end : Type 0
 past_end =
@@ -54,6 +56,7 @@ directory_8 = record { offset = 8; fields = fields_5 }
 abbrev pub first_model : Model
 first_model = with_directory Classic (header_model Classic) directory_8
 
+-- mistake: `own_link` is after the count
 abbrev pub own_22 : Type 0
 own_22 = own_link Classic directory_8 ≡ 22
 
@@ -63,6 +66,7 @@ link_22 = IsLink Classic first_model 22
 abbrev pub link_4 : Type 0
 link_4 = IsLink Classic first_model 4
 
+-- mistake: `IsLink` allows any offset
 abbrev pub no_link : Type 0
 no_link = IsLink Classic (header_model Classic) 5 → ⊥
 
@@ -76,6 +80,7 @@ clear = IsClear Classic 4 8 1
 abbrev pub before : Type 0
 before = IsClear Classic 4 0 4
 
+-- mistake: `IsClear` allows a link that overlaps
 abbrev pub not_clear : Type 0
 not_clear = IsClear Classic 4 7 2 → ⊥
 
@@ -98,9 +103,11 @@ overlaid = (file : List ℕ)
 abbrev pub apart : Type 0
 apart = IsApart Classic header (header_model Classic) 4
 
+-- mistake: `IsApart` allows a link past the end
 abbrev pub not_apart : Type 0
 not_apart = IsApart Classic (take 7 header) (header_model Classic) 4 → ⊥
 
+-- mistake: `with_link` exchanges offset and target
 -- a link that is pointed to another offset; other links stay
 abbrev pub relinked_4 : Type 0
 relinked_4 = (with_link Classic (header_model Classic) 4 8).links 4 ≡ 8
@@ -108,6 +115,7 @@ relinked_4 = (with_link Classic (header_model Classic) 4 8).links 4 ≡ 8
 abbrev pub kept_22 : Type 0
 kept_22 = (with_link Classic (with_link Classic (header_model Classic) 22 5) 4 8).links 22 ≡ 5
 
+-- mistake: `with_directory` has a link that isn't 0
 -- the link of a new directory is 0, whatever its former value
 abbrev pub new_link : Type 0
 new_link =
@@ -125,25 +133,31 @@ abbrev pub grows_supplied : Type 0
 grows_supplied = (m : Model)
     → Grows m (with_supplied m (record { field = long_field 5; bytes = 5 ∷ 0 ∷ 0 ∷ 0 ∷ [] }))
 
+-- mistake: `Grows` loses regions
 abbrev pub shrinks : Type 0
 shrinks = Grows (with_region (header_model Classic) one_region) (header_model Classic) → ⊥
 
 -- ---- what a file shows
 
+-- mistake: `Shows` takes the sample of another column
 -- `gray_file` shows the gray pixel, and nothing else
 abbrev pub gray_shows : Type 0
 gray_shows = ShowsGray gray_file 1 1 (7 ∷ [])
 
+-- mistake: `Shows` compares no sample
 abbrev pub other_sample : Type 0
 other_sample = ShowsGray gray_file 1 1 (8 ∷ []) → ⊥
 
+-- mistake: `Shows` doesn't compare the page
 abbrev pub other_width : Type 0
 other_width = Shows Classic gray_file 25 (gray_image 2 1 (7 ∷ 7 ∷ [])) → ⊥
 
+-- mistake: `ShowsFirst` allows another kind
 -- `gray_file` isn't a BigTIFF file, and its first page is nowhere else
 abbrev pub other_kind : Type 0
 other_kind = (i : Image) → ShowsFirst Big gray_file i → ⊥
 
+-- mistake: `ShowsFirst` allows another offset
 abbrev pub other_offset : Type 0
 other_offset = (i : Image) (t : ShowsFirst Classic gray_file i) → t.offset ≡ 26 → ⊥
 
@@ -153,6 +167,7 @@ other_offset = (i : Image) (t : ShowsFirst Classic gray_file i) → t.offset ≡
 abbrev pub begun_classic : Type 0
 begun_classic = (begun_file Classic [] 0).chain ≡ 4
 
+-- mistake: `begun_file` doesn't find the link's offset after what the sink contained
 abbrev pub begun_big : Type 0
 begun_big = (begun_file Big (1 ∷ 2 ∷ []) 3).chain ≡ 10
 
@@ -166,12 +181,14 @@ six = 1 ∷ 2 ∷ 3 ∷ 4 ∷ 5 ∷ 6 ∷ []
 abbrev pub op_appended : Type 0
 op_appended = after_op Classic six (Appended (7 ∷ [])) ≡ (1 ∷ 2 ∷ 3 ∷ 4 ∷ 5 ∷ 6 ∷ 7 ∷ [])
 
+-- mistake: `after_op` exchanges offset and target
 abbrev pub op_linked : Type 0
 op_linked = after_op Classic six (Linked 1 258) ≡ (1 ∷ 2 ∷ 1 ∷ 0 ∷ 0 ∷ 6 ∷ [])
 
 abbrev pub op_supplied : Type 0
 op_supplied = after_op Classic six (Supplied (record { field = long_field 5; bytes = [] })) ≡ six
 
+-- mistake: `bytes_after` does the write operations in the reverse order
 -- operations take effect in their order: a link overwrites appended bytes
 abbrev pub ops_order : Type 0
 ops_order = bytes_after Classic [] (Appended six ∷ Linked 1 258 ∷ []) ≡ (1 ∷ 2 ∷ 1 ∷ 0 ∷ 0 ∷ 6 ∷ [])
@@ -179,6 +196,7 @@ ops_order = bytes_after Classic [] (Appended six ∷ Linked 1 258 ∷ []) ≡ (1
 abbrev pub ops_none : Type 0
 ops_none = bytes_after Classic six [] ≡ six
 
+-- mistake: `all_appended` appends in the reverse order
 abbrev pub appended_both : Type 0
 appended_both = all_appended Classic (Appended (1 ∷ []) ∷ Linked 4 8 ∷ Appended (2 ∷ 3 ∷ []) ∷ [])
     ≡ (1 ∷ 2 ∷ 3 ∷ [])
@@ -187,6 +205,8 @@ abbrev pub appended_none : Type 0
 appended_none =
     all_appended Classic (Supplied (record { field = long_field 5; bytes = 5 ∷ [] }) ∷ []) ≡ []
 
+-- mistake: `model_after` has a region one length too far
+-- mistake: `model_after` doesn't move the offsets on
 -- the model after the operations: each region is where it was appended
 abbrev pub model_regions : Type 0
 model_regions =
@@ -281,6 +301,7 @@ appending = AreAppending (Appended six ∷ Supplied supplied_one ∷ Listed fiel
 abbrev pub not_appending : Type 0
 not_appending = AreAppending (Appended six ∷ Linked 4 8 ∷ []) → ⊥
 
+-- mistake: `does` forgets write operations
 -- calls one after another: their operations are joined, and an error ends them
 abbrev pub joined : Type 0
 joined = ((do
@@ -304,6 +325,8 @@ broken_off = ((do
       next = file_with Classic (1 ∷ []);
     }
 
+-- mistake: `does` marks the encoder at an error
+-- mistake: `by_cause` does the call all the same
 abbrev pub caused : Type 0
 caused = (by_cause (Some IntSizeError) (does (Appended (1 ∷ []) ∷ [])) (new_file Classic))
     ≡ record { answer = Err IntSizeError; ops = []; next = new_file Classic }

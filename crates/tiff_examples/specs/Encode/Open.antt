@@ -44,6 +44,7 @@ behind_extra =
 
 -- ---- how samples are written
 
+-- mistake: `WritesDataBy` refuses with another error
 -- if there is a cause, it is returned and nothing is done
 abbrev pub data_refused : Type 0
 data_refused =
@@ -91,6 +92,7 @@ not_begun_wanting =
     ImageIsNotBegun {A = ℕ} (calls.new_image gray 1 1 1 (new_file Classic)) (Err OutOfMemory)
     (new_file Classic) (new_file Classic)
 
+-- mistake: `ImageIsNotBegun` returns Ok for an image that isn't begun
 abbrev pub not_begun_answered : Type 0
 not_begun_answered = (new : FileState)
     → ImageIsNotBegun {A = ℕ} (calls.new_image gray 1 0 5 (new_file Classic)) (Ok 0)
@@ -111,11 +113,13 @@ image_sideless = (samples : List ℕ) (new : FileState)
 abbrev pub held : Type 0
 held = HoldsEnded Classic after_end.model pixel_in_file ((7 ∷ []) ∷ []) 25
 
+-- mistake: `HoldsEnded` has samples of another number
 -- the image has one sample and a strip; a file with only a header holds no image
 abbrev pub held_more : Type 0
 held_more = (m : Model) (offset : ℕ) → HoldsEnded Classic m pixel_in_file ((7 ∷ 8 ∷ []) ∷ []) offset
     → ⊥
 
+-- mistake: `HoldsEnded` has no strip
 abbrev pub held_unwritten : Type 0
 held_unwritten = (m : Model) (samples : List (List ℕ)) (offset : ℕ)
     → HoldsEnded Classic m new_pixel samples offset → ⊥

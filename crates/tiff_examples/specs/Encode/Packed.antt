@@ -33,13 +33,16 @@ nine_bytes = image_samples nine ≡ 4
 abbrev pub nine_in_strip : Type 0
 nine_in_strip = next_chunk_sample_count nine ≡ 4
 
+-- mistake: `shown_page` keeps the columns as its width
 -- the page has nine pixels in a row, and its strip too
 abbrev pub nine_wide : Type 0
 nine_wide = (shown_page nine).width ≡ 9
 
+-- mistake: `shown_page` keeps the columns for its strips
 abbrev pub strip_wide : Type 0
 strip_wide = (shown_page nine).chunk_width ≡ 9
 
+-- mistake: `shown_page` keeps a depth of whole bytes
 abbrev pub one_deep : Type 0
 one_deep = (shown_page nine).depth ≡ 1
 
@@ -50,6 +53,7 @@ nine_page = record (shown_page nine) { offsets = 0 ∷ []; byte_counts = 4 ∷ [
 abbrev pub nine_gray : Type 0
 nine_gray = color_of nine_page ≡ Ok (Gray 1)
 
+-- mistake: `shown_columns` counts packed pixels one by one
 abbrev pub two_shown : Type 0
 two_shown = shown_columns nine_page (Gray 1) ≡ 2
 
@@ -60,6 +64,7 @@ bytes = 11 ∷ 128 ∷ 33 ∷ 0 ∷ []
 abbrev pub byte_beside : Type 0
 byte_beside = shown_at bytes nine_page (Gray 1) 1 0 0 ≡ 128
 
+-- mistake: `shown_at` takes the byte of another row
 abbrev pub byte_below : Type 0
 byte_below = shown_at bytes nine_page (Gray 1) 0 1 0 ≡ 33
 
@@ -72,6 +77,7 @@ no_extra =
     causes.extra_samples_cause (new_file Classic) nine (Unspecified ∷ [])
     ≡ Some (IoError InvalidInput)
 
+-- mistake: `is_not_whole` allows packed pixels
 abbrev pub no_differences : Type 0
 no_differences =
     causes.new_image_cause (record (new_file Classic) { predictor = predictor.Horizontal })

@@ -45,16 +45,19 @@ four_tiles = all_chunks (image_page tiled) ≡ 4
 abbrev pub first_count : Type 0
 first_count = next_chunk_sample_count tiled ≡ 256
 
+-- mistake: `chunk_rows` clips tiles at the edges
 abbrev pub last_count : Type 0
 last_count =
     next_chunk_sample_count (with_chunk (with_chunk (with_chunk tiled 24 256) 280 256) 536 256)
     ≡ 256
 
+-- mistake: `chunks_left` counts one more than there are
 abbrev pub no_count : Type 0
 no_count =
     next_chunk_sample_count
     (with_chunk (with_chunk (with_chunk (with_chunk tiled 24 256) 280 256) 536 256) 792 256) ≡ 0
 
+-- mistake: `cut_out` pads with the next row's samples
 -- `write_data` writes 16 to 19 and twelve zeros in the first row of tile 1, and 80 to 83 in that of
 -- tile 3
 abbrev pub tile_1 : Type 0
@@ -72,6 +75,7 @@ shown_here x y = sample_in (image_page tiled) (parts_left tiled numbers) x y 0
 abbrev pub shown_corner : Type 0
 shown_corner = shown_here 0 0 ≡ 0
 
+-- mistake: `sample_in` takes the image's column for the chunk's
 abbrev pub shown_edge : Type 0
 shown_edge = shown_here 19 0 ≡ 19
 
@@ -81,12 +85,14 @@ shown_below = shown_here 3 17 ≡ 87
 abbrev pub shown_last : Type 0
 shown_last = shown_here 19 19 ≡ 143
 
+-- mistake: `last_tags` takes strips for tiles
 -- the tags at the image's end
 abbrev pub tiled_tags : Type 0
 tiled_tags = calls.last_tags Classic (with_chunk (with_chunk tiled 24 256) 280 256)
     ≡ (tag.BitsPerSample, u16s (8 ∷ [])) ∷ (tag.SampleFormat, formats (Uint ∷ []))
     ∷ (tag.TileOffsets, u32s (24 ∷ 280 ∷ [])) ∷ (tag.TileByteCounts, u32s (256 ∷ 256 ∷ [])) ∷ []
 
+-- mistake: `tiles` keeps RowsPerStrip
 -- the call that sets tiles writes their dimensions, and removes the rows per strip
 abbrev pub tiles_set : Type 0
 tiles_set =
@@ -109,9 +115,11 @@ planar = record (image_in (new_file Classic) (new_directory None true) rgb 1 2 1
 abbrev pub three_planes : Type 0
 three_planes = all_chunks (image_page planar) ≡ 3
 
+-- mistake: `row_samples` counts all samples in a separate plane
 abbrev pub plane_count : Type 0
 plane_count = next_chunk_sample_count planar ≡ 2
 
+-- mistake: `is_in_order` counts planes as in order
 -- each strip has the samples of one plane
 abbrev pub planes : Type 0
 planes = parts_left planar (1 ∷ 2 ∷ 3 ∷ 4 ∷ 5 ∷ 6 ∷ []) ≡ (1 ∷ 4 ∷ []) ∷ (2 ∷ 5 ∷ []) ∷ (3 ∷ 6 ∷ [])
@@ -140,6 +148,7 @@ planar_tags = calls.last_tags Classic (with_chunk (with_chunk (with_chunk planar
     ∷ (tag.StripOffsets, u32s (24 ∷ 26 ∷ 28 ∷ [])) ∷ (tag.StripByteCounts, u32s (2 ∷ 2 ∷ 2 ∷ []))
     ∷ []
 
+-- mistake: `planar` forgets the planes
 abbrev pub planar_set : Type 0
 planar_set =
     IsSeen (calls.planar (image_in (new_file Classic) (new_directory None true) rgb 1 2 1)

@@ -42,11 +42,13 @@ abbrev pub unit_alone : Type 0
 unit_alone =
     StopsInPart none_set three_fields OutOfMemory (new_file Classic) (new_file Classic) unit_set
 
+-- mistake: `StopsInPart` allows that all are written (`none_stopped` fails too)
 -- there is no error if all fields are written, and none is left out before a written one
 abbrev pub all_stopped : Type 0
 all_stopped = (e : TiffError) (new : FileState)
     → StopsInPart none_set three_fields e (new_file Classic) new all_set → ⊥
 
+-- mistake: `StopsInPart` allows one that isn't the first
 abbrev pub left_out : Type 0
 left_out = (e : TiffError) (new : FileState)
     → StopsInPart none_set three_fields e (new_file Classic) new x_set → ⊥
@@ -68,6 +70,7 @@ abbrev pub resolving_failed : Type 0
 resolving_failed =
     StopsResolving pixel unit.Inch (300, 1) (UsageError WriterFailed) failed_file failed_file pixel
 
+-- mistake: `StopsResolving` sets the unit in a refused call
 -- the unit isn't set after a failed sink or without an offset for the second resolution, and never
 -- are all fields set
 abbrev pub resolving_refused : Type 0
@@ -82,6 +85,7 @@ abbrev pub resolving_all : Type 0
 resolving_all = (e : TiffError) (new : FileState)
     → StopsResolving pixel unit.Inch (300, 1) e (new_file Classic) new resolved_pixel → ⊥
 
+-- mistake: `StopsResolving` changes the image otherwise
 -- setting the resolution changes nothing else of the image
 abbrev pub resolving_chunk : Type 0
 resolving_chunk = (e : TiffError) (new : FileState) (now : OpenImage) → length now.chunks ≡ 1

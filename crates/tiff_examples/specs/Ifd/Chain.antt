@@ -25,6 +25,8 @@ one_alone =
     chain Classic LittleEndian gray_file 25
     ≡ record { offsets = 25 ∷ []; end = None }
 
+-- mistake: `chain` loses the rest
+-- mistake: `chain` goes no step
 -- two directories, of which the second has no next one
 abbrev pub two_linked : Type 0
 two_linked =
@@ -39,6 +41,8 @@ from_second =
     (two_directories (0x06 ∷ 0x00 ∷ 0x00 ∷ 0x00 ∷ []) (0x00 ∷ 0x00 ∷ 0x00 ∷ 0x00 ∷ [])) 6
     ≡ record { offsets = 6 ∷ []; end = None }
 
+-- mistake: `enter_at` leaves out the offset itself
+-- mistake: `chain` loses the error
 -- a first directory that links to itself isn't entered
 abbrev pub to_itself : Type 0
 to_itself =
@@ -54,6 +58,8 @@ second_to_itself =
     (two_directories (0x06 ∷ 0x00 ∷ 0x00 ∷ 0x00 ∷ []) (0x06 ∷ 0x00 ∷ 0x00 ∷ 0x00 ∷ [])) 0
     ≡ record { offsets = 0 ∷ []; end = Some (FormatError CycleInOffsets) }
 
+-- mistake: `unless_met` doesn't test the link (`to_itself` fails too)
+-- mistake: `chain` forgets the offsets that it has met
 -- the second directory links back to the first, at 1
 abbrev pub back : Type 0
 back =
@@ -61,6 +67,7 @@ back =
     (0xee ∷ two_directories (0x07 ∷ 0x00 ∷ 0x00 ∷ 0x00 ∷ []) (0x01 ∷ 0x00 ∷ 0x00 ∷ 0x00 ∷ [])) 1
     ≡ record { offsets = 1 ∷ []; end = Some (FormatError CycleInOffsets) }
 
+-- mistake: `link_from` reads the directory at 0 in every case
 -- the next offset is past the end
 abbrev pub next_past_end : Type 0
 next_past_end =
@@ -129,6 +136,7 @@ both =
     (two_directories (0x06 ∷ 0x00 ∷ 0x00 ∷ 0x00 ∷ []) (0x00 ∷ 0x00 ∷ 0x00 ∷ 0x00 ∷ []))) []
     (Some 0) (0 ∷ 6 ∷ [])
 
+-- mistake: `AreEntered` allows any offset
 -- the second of two directories isn't entered first
 abbrev pub not_the_second : Type 0
 not_the_second =
@@ -137,6 +145,7 @@ not_the_second =
     (two_directories (0x06 ∷ 0x00 ∷ 0x00 ∷ 0x00 ∷ []) (0x00 ∷ 0x00 ∷ 0x00 ∷ 0x00 ∷ []))) []
     (Some 0) (6 ∷ []) → ⊥
 
+-- mistake: `IsChain` allows an offset that isn't the next one
 -- both directories are a chain without an error; without a next offset the chain is empty
 abbrev pub a_chain : Type 0
 a_chain =
@@ -144,6 +153,7 @@ a_chain =
     (two_directories (0x06 ∷ 0x00 ∷ 0x00 ∷ 0x00 ∷ []) (0x00 ∷ 0x00 ∷ 0x00 ∷ 0x00 ∷ []))) []
     (Some 0) (0 ∷ 6 ∷ []) None
 
+-- mistake: `IsChain` allows no end at a link of 0
 abbrev pub no_chain : Type 0
 no_chain =
     IsChain (link_from Classic LittleEndian (0x00 ∷ 0x00 ∷ 0x00 ∷ 0x00 ∷ 0x00 ∷ 0x00 ∷ [])) [] None
@@ -154,6 +164,7 @@ abbrev pub none_longest : Type 0
 none_longest =
     IsLongest Classic LittleEndian [] 0 []
 
+-- mistake: `IsLongest` takes the shortest
 -- the first of two directories isn't the longest list
 abbrev pub one_not_longest : Type 0
 one_not_longest =
@@ -166,15 +177,19 @@ abbrev pub offsets_apart : Type 0
 offsets_apart =
     AreApart (0x00 ∷ 0x00 ∷ 0x00 ∷ 0x00 ∷ 0x00 ∷ 0x00 ∷ 0x00 ∷ []) (0 ∷ 6 ∷ [])
 
+-- mistake: `AreApart` allows an offset twice
 -- a repeated offset, and an offset past the end
 abbrev pub offset_twice : Type 0
 offset_twice =
     AreApart (0x00 ∷ 0x00 ∷ 0x00 ∷ 0x00 ∷ 0x00 ∷ 0x00 ∷ 0x00 ∷ []) (0 ∷ 0 ∷ []) → ⊥
 
+-- mistake: `AreApart` allows the end of the file
 abbrev pub offset_past_end : Type 0
 offset_past_end =
     AreApart (0x00 ∷ 0x00 ∷ 0x00 ∷ 0x00 ∷ 0x00 ∷ 0x00 ∷ 0x00 ∷ []) (7 ∷ []) → ⊥
 
+-- mistake: `IsNew` takes a link that closes a cycle for new
+-- mistake: `Inserts` doesn't record a link that is accepted
 -- the link from 8 to 20 is accepted
 abbrev pub first_link : Type 0
 first_link =
@@ -185,12 +200,16 @@ abbrev pub same_link : Type 0
 same_link =
     Inserts (accepted ((8, Some 20) ∷ [])) 8 (Some 20) (Ok false) (accepted ((8, Some 20) ∷ []))
 
+-- mistake: `HasAnother` takes the same link for another
 -- a link from 8 to 30 contradicts the link from 8 to 20
 abbrev pub other_link : Type 0
 other_link =
     Inserts (accepted ((8, Some 20) ∷ [])) 8 (Some 30) (Err (FormatError CycleInOffsets))
     (accepted ((8, Some 20) ∷ []))
 
+-- mistake: `Goes` goes against the links
+-- mistake: `Closes` goes from where the link begins to where it leads
+-- mistake: `IsNew` allows that the link's offset has a link
 -- a link from 20 to 8 closes a cycle
 abbrev pub closing_link : Type 0
 closing_link =
@@ -203,6 +222,7 @@ last_link =
     Inserts (accepted ((8, Some 20) ∷ [])) 20 None (Ok true)
     (accepted ((20, None) ∷ (8, Some 20) ∷ []))
 
+-- mistake: `link_target` takes 0 for an offset like others
 -- the link from 20 to offset 0 is the same as to none
 abbrev pub zero_link : Type 0
 zero_link =
@@ -215,6 +235,7 @@ second_parent =
     Inserts (accepted ((20, None) ∷ (8, Some 20) ∷ [])) 30 (Some 20) (Ok true)
     (accepted ((30, Some 20) ∷ (20, None) ∷ (8, Some 20) ∷ []))
 
+-- mistake: `Goes` lets no offset reach itself
 -- a link from 40 to 40 closes a cycle of one
 abbrev pub own_link : Type 0
 own_link =

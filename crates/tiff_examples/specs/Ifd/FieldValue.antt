@@ -25,6 +25,7 @@ no_values =
     (of LONG 0 (0xff ∷ 0xff ∷ 0xff ∷ 0xff ∷ 0x00 ∷ 0x00
     ∷ 0x00 ∷ 0x00 ∷ [])) ≡ Ok (list none)
 
+-- mistake: `numbers` makes a list of one number
 -- one SHORT, in both byte orders
 abbrev pub one_short : Type 0
 one_short =
@@ -45,6 +46,7 @@ one_long =
     (of LONG 1 (0x40 ∷ 0x42 ∷ 0x0f ∷ 0x00 ∷ 0x00 ∷ 0x00 ∷ 0x00 ∷ 0x00
     ∷ [])) ≡ Ok (unsigned 1000000)
 
+-- mistake: `item` reads UNDEFINED as a LONG
 abbrev pub one_undefined : Type 0
 one_undefined =
     field_value Classic LittleEndian [] unlimited (of UNDEFINED 1 (0xff ∷ 0x00 ∷ 0x00 ∷ 0x00 ∷ 0x00
@@ -69,6 +71,7 @@ one_byte =
     (of BYTE 1 (0x01 ∷ 0x00 ∷ 0x00 ∷ 0x00 ∷ 0x00 ∷ 0x00 ∷ 0x00
     ∷ 0x00 ∷ [])) ≡ Ok (byte 1)
 
+-- mistake: `inline_item` keeps a BYTE as a byte
 abbrev pub two_bytes : Type 0
 two_bytes =
     field_value Classic LittleEndian [] unlimited
@@ -84,6 +87,7 @@ two_signed_bytes =
     ∷ 0x00 ∷ []))
     ≡ Ok (list (more (signed (negsuc 0)) (more (signed (pos 2)) none)))
 
+-- mistake: `list_item` widens the numbers elsewhere too
 -- five bytes at an offset are bytes
 abbrev pub five_bytes : Type 0
 five_bytes =
@@ -92,6 +96,8 @@ five_bytes =
     ∷ 0x00 ∷ 0x00 ∷ 0x00 ∷ 0x00 ∷ 0x00 ∷ 0x00 ∷ 0x00 ∷ []))
     ≡ Ok (list (more (byte 1) (more (byte 2) (more (byte 3) (more (byte 4) (more (byte 5) none))))))
 
+-- mistake: `is_zero` takes a space for a zero
+-- mistake: `without_zeros` keeps the zeros at the front
 -- a text of three characters in the entry, of which the first and the last are zeros: A
 abbrev pub text_a : Type 0
 text_a = field_value Classic LittleEndian [] unlimited
@@ -111,6 +117,8 @@ text_empty =
     (of ASCII 1 (0x00 ∷ 0x00 ∷ 0x00 ∷ 0x00 ∷ 0x00 ∷ 0x00
     ∷ 0x00 ∷ 0x00 ∷ [])) ≡ Ok (ascii [])
 
+-- mistake: `inline_text` doesn't test the last byte
+-- mistake: `value_from` reads texts in the entry as those elsewhere
 -- a text in the entry without a zero at its end, and one that isn't ASCII
 abbrev pub text_open : Type 0
 text_open =
@@ -118,12 +126,14 @@ text_open =
     (of ASCII 2 (0x41 ∷ 0x42 ∷ 0x00 ∷ 0x00 ∷ 0x00 ∷ 0x00 ∷ 0x00
     ∷ 0x00 ∷ [])) ≡ Err (FormatError InvalidTag)
 
+-- mistake: `is_ascii_byte` takes each byte below 256 for ASCII
 abbrev pub text_not_ascii : Type 0
 text_not_ascii =
     field_value Classic LittleEndian [] unlimited
     (of ASCII 3 (0xc3 ∷ 0xa4 ∷ 0x00 ∷ 0x00 ∷ 0x00 ∷ 0x00 ∷ 0x00
     ∷ 0x00 ∷ [])) ≡ Err (FormatError InvalidTag)
 
+-- mistake: `placed_text` doesn't cut at a zero
 -- a text at an offset ends before its first zero
 abbrev pub text_cut : Type 0
 text_cut =
@@ -132,6 +142,7 @@ text_cut =
     ∷ 0x00 ∷ 0x00 ∷ 0x00 ∷ 0x00 ∷ 0x00 ∷ 0x00 ∷ []))
     ≡ Ok (ascii (0x41 ∷ 0x42 ∷ []))
 
+-- mistake: `placed_text` allows ASCII alone
 -- a text at an offset needs no zero, and may be UTF-8
 abbrev pub text_utf8 : Type 0
 text_utf8 =
@@ -156,6 +167,7 @@ text_limit =
     ∷ 0x00 ∷ 0x00 ∷ 0x00 ∷ 0x00 ∷ 0x00 ∷ 0x00 ∷ []))
     ≡ Err LimitsExceeded
 
+-- mistake: `items` reads each value one byte after the one before
 -- three SHORTs at an offset: three values of 32 bytes fit into 96 bytes, and not into 95
 abbrev pub three_shorts : Type 0
 three_shorts =
@@ -164,6 +176,7 @@ three_shorts =
     ∷ 0x00 ∷ 0x00 ∷ 0x00 ∷ 0x00 ∷ 0x00 ∷ 0x00 ∷ 0x00 ∷ []))
     ≡ Ok (list (more (short 1) (more (short 2) (more (short 3) none))))
 
+-- mistake: `is_allowed` counts 16 bytes for a value
 abbrev pub list_limit : Type 0
 list_limit =
     field_value Classic LittleEndian (0x01 ∷ 0x00 ∷ 0x02 ∷ 0x00 ∷ 0x03 ∷ 0x00 ∷ []) (limited 95)
@@ -171,6 +184,7 @@ list_limit =
     ∷ 0x00 ∷ 0x00 ∷ 0x00 ∷ 0x00 ∷ 0x00 ∷ 0x00 ∷ 0x00 ∷ []))
     ≡ Err LimitsExceeded
 
+-- mistake: `placed_value` tests the end of the source before the limit
 -- the limit is checked before the end of the file
 abbrev pub limit_first : Type 0
 limit_first =
@@ -185,6 +199,7 @@ past_end =
     ∷ 0x00 ∷ []))
     ≡ Err (IoError UnexpectedEof)
 
+-- mistake: `is_allowed` limits a single value
 -- one number of eight bytes is at an offset in a classic file; it has no limit
 abbrev pub long8_placed : Type 0
 long8_placed =
@@ -228,12 +243,14 @@ three_numbers =
     ∷ 0x00 ∷ 0x00 ∷ 0x00 ∷ 0x00 ∷ 0x00 ∷ 0x00 ∷ 0x00 ∷ []))
     ≡ Ok (1 ∷ 2 ∷ 3 ∷ [])
 
+-- mistake: `field_numbers` takes one number elsewhere in the file for no list
 abbrev pub one_number : Type 0
 one_number =
     field_numbers Classic LittleEndian (0x00 ∷ 0x00 ∷ 0x00 ∷ 0x00 ∷ 0x01 ∷ 0x00 ∷ 0x00 ∷ 0x00
     ∷ []) (limited 0) (of LONG8 1 (0x00 ∷ 0x00 ∷ 0x00 ∷ 0x00 ∷ 0x00 ∷ 0x00 ∷ 0x00 ∷ 0x00 ∷ []))
     ≡ Ok (4294967296 ∷ [])
 
+-- mistake: `placed_numbers` limits the number of bytes
 -- the limit for numbers is that for values
 abbrev pub numbers_limit : Type 0
 numbers_limit =

@@ -54,26 +54,31 @@ abbrev pub enters_second : Type 0
 enters_second =
     walk.Enters Classic LittleEndian three_file one_entered (linking (Some 20)) two_entered
 
+-- mistake: `Enters` puts the offset before the others
 abbrev pub enters_in_front : Type 0
 enters_in_front =
     walk.Enters Classic LittleEndian three_file one_entered (linking (Some 20))
     (record { offsets = 14 ∷ 8 ∷ []; next = Some 20 }) → ⊥
 
+-- mistake: `Enters` allows any directory
 -- a step returns no other directory, and leaves no other next offset
 abbrev pub enters_other : Type 0
 enters_other = (after : Walked)
     → walk.Enters Classic LittleEndian three_file one_entered (linking None) after → ⊥
 
+-- mistake: `Enters` keeps the old link
 abbrev pub enters_same_link : Type 0
 enters_same_link =
     walk.Enters Classic LittleEndian three_file one_entered (linking (Some 20))
     (record two_entered { next = Some 14 }) → ⊥
 
+-- mistake: `Enters` doesn't test the directory's link
 -- a second directory that links back isn't entered, nor is a third one that is cut off
 abbrev pub enters_back : Type 0
 enters_back = (directory : DirectoryRecord) (after : Walked)
     → walk.Enters Classic LittleEndian back_file one_entered directory after → ⊥
 
+-- mistake: `NextIsRefused` forgets the offsets
 abbrev pub back_refused : Type 0
 back_refused =
     walk.NextIsRefused Classic LittleEndian back_file one_entered (FormatError CycleInOffsets)
@@ -81,11 +86,13 @@ back_refused =
 abbrev pub cut_refused : Type 0
 cut_refused = walk.NextIsRefused Classic LittleEndian cut_file two_entered (IoError UnexpectedEof)
 
+-- mistake: `NextIsRefused` allows any error
 -- the second of three directories isn't refused, nor is a missing next offset
 abbrev pub second_refused : Type 0
 second_refused = (e : TiffError) → walk.NextIsRefused Classic LittleEndian three_file one_entered e
     → ⊥
 
+-- mistake: `NextIsRefused` allows any offset
 abbrev pub none_refused : Type 0
 none_refused = (e : TiffError) → walk.NextIsRefused Classic LittleEndian three_file all_entered e
     → ⊥
@@ -98,6 +105,7 @@ step_first = Steps three_file none_entered (Ok (Some (linking (Some 14)))) one_e
 abbrev pub step_last : Type 0
 step_last = Steps three_file all_entered (Ok None) all_entered
 
+-- mistake: `WalkSteps` allows none at any time
 abbrev pub step_early : Type 0
 step_early = Steps three_file two_entered (Ok None) two_entered → ⊥
 
@@ -105,6 +113,7 @@ step_early = Steps three_file two_entered (Ok None) two_entered → ⊥
 abbrev pub step_back : Type 0
 step_back = Steps back_file one_entered (Err (FormatError CycleInOffsets)) one_entered
 
+-- mistake: `WalkSteps` ends the walk at an error
 abbrev pub step_back_ends : Type 0
 step_back_ends =
     Steps back_file one_entered (Err (FormatError CycleInOffsets))
@@ -128,14 +137,17 @@ begins_one = Begins three_file one_entered
 abbrev pub begins_all : Type 0
 begins_all = Begins three_file all_entered
 
+-- mistake: `ChainBegins` continues as if no offset was entered
 -- the chain begins before a directory that links back
 abbrev pub begins_back : Type 0
 begins_back = Begins back_file one_entered
 
+-- mistake: `ChainBegins` allows any offsets
 -- the chain doesn't begin with the second directory, or with one offset without the link after it
 abbrev pub begins_second : Type 0
 begins_second = Begins three_file (record { offsets = 14 ∷ []; next = Some 20 }) → ⊥
 
+-- mistake: `ChainBegins` doesn't ask that the chain continues
 abbrev pub begins_ended : Type 0
 begins_ended = Begins three_file (record one_entered { next = None }) → ⊥
 
@@ -143,6 +155,7 @@ begins_ended = Begins three_file (record one_entered { next = None }) → ⊥
 abbrev pub ends_all : Type 0
 ends_all = Ends three_file all_entered None
 
+-- mistake: `ChainEnds` doesn't compare the offsets
 abbrev pub ends_early : Type 0
 ends_early = Ends three_file two_entered None → ⊥
 
@@ -150,6 +163,7 @@ ends_early = Ends three_file two_entered None → ⊥
 abbrev pub ends_back : Type 0
 ends_back = Ends back_file one_entered (Some (FormatError CycleInOffsets))
 
+-- mistake: `ChainEnds` doesn't compare the end
 abbrev pub ends_plain : Type 0
 ends_plain = Ends back_file one_entered None → ⊥
 
@@ -159,6 +173,7 @@ ends_plain = Ends back_file one_entered None → ⊥
 abbrev pub before_entry : Walked
 before_entry = record { offsets = []; next = Some 0 }
 
+-- mistake: `NextReadable` asks also where there is no next offset
 -- without a next offset, no bytes are needed
 abbrev pub none_needed : Type 0
 none_needed = walk.NextReadable nothing Classic LittleEndian all_entered
@@ -167,23 +182,28 @@ none_needed = walk.NextReadable nothing Classic LittleEndian all_entered
 abbrev pub whole_needed : Type 0
 whole_needed = walk.NextReadable (one_entry ((0, 18) ∷ [])) Classic LittleEndian before_entry
 
+-- mistake: `NextReadable` asks for no bytes
 abbrev pub whole_needed_link : Type 0
 whole_needed_link = walk.NextReadable (one_entry ((0, 14) ∷ [])) Classic LittleEndian before_entry
     → ⊥
 
+-- mistake: `NextReadable` asks for its count and link alone
 abbrev pub whole_needed_entry : Type 0
 whole_needed_entry =
     walk.NextReadable (one_entry ((0, 2) ∷ (14, 4) ∷ [])) Classic LittleEndian before_entry → ⊥
 
+-- mistake: `NextLinkReadable` asks for its entries too
 -- passing the next directory needs its count and its link, but not its entry
 abbrev pub link_needed : Type 0
 link_needed =
     walk.NextLinkReadable (one_entry ((0, 2) ∷ (14, 4) ∷ [])) Classic LittleEndian before_entry
 
+-- mistake: `NextLinkReadable` asks for no bytes
 abbrev pub link_needed_all : Type 0
 link_needed_all = walk.NextLinkReadable (one_entry ((0, 14) ∷ [])) Classic LittleEndian before_entry
     → ⊥
 
+-- mistake: `NextLinkReadable` asks also where there is no next offset
 abbrev pub no_link_needed : Type 0
 no_link_needed = walk.NextLinkReadable nothing Classic LittleEndian all_entered
 
@@ -191,10 +211,12 @@ no_link_needed = walk.NextLinkReadable nothing Classic LittleEndian all_entered
 abbrev pub two_of_three : SourceRecord
 two_of_three = record { bytes = three_file; readable = Some ((8, 12) ∷ []) }
 
+-- mistake: `WayReadable` asks for all directories
 -- the way to the second directory needs the first two directories; the way to the third needs the
 -- third too
 abbrev pub way_to_second : Type 0
 way_to_second = walk.WayReadable two_of_three Classic LittleEndian 8 1
 
+-- mistake: `WayReadable` asks for one directory fewer
 abbrev pub way_to_third : Type 0
 way_to_third = walk.WayReadable two_of_three Classic LittleEndian 8 2 → ⊥

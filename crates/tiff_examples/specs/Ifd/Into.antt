@@ -11,6 +11,8 @@ abbrev pub u8_byte : Type 0
 u8_byte =
     into_u8 (byte 8) ≡ Ok 8
 
+-- mistake: `wrong_type` returns another error
+-- mistake: `into_u8` accepts a SHORT
 abbrev pub u8_short : Type 0
 u8_short =
     into_u8 (short 8) ≡ Err (FormatError InvalidTypeForTag)
@@ -20,6 +22,7 @@ abbrev pub i8_minus_two : Type 0
 i8_minus_two =
     into_i8 (signed_byte (negsuc 1)) ≡ Ok (negsuc 1)
 
+-- mistake: `into_i8` accepts a BYTE
 abbrev pub i8_byte : Type 0
 i8_byte =
     into_i8 (byte 8) ≡ Err (FormatError InvalidTypeForTag)
@@ -33,10 +36,12 @@ abbrev pub i16_least : Type 0
 i16_least =
     into_i16 (signed_big (negsuc 32767)) ≡ Ok (negsuc 32767)
 
+-- mistake: `into_i16` doesn't test a LONG
 abbrev pub i16_too_great : Type 0
 i16_too_great =
     into_i16 (signed (pos 32768)) ≡ Err IntSizeError
 
+-- mistake: `in_signed_range` lets a number one below the least fit
 abbrev pub i16_too_small : Type 0
 i16_too_small =
     into_i16 (signed_big (negsuc 32768)) ≡ Err IntSizeError
@@ -55,6 +60,7 @@ abbrev pub i32_least : Type 0
 i32_least =
     into_i32 (signed_big (negsuc 2147483647)) ≡ Ok (negsuc 2147483647)
 
+-- mistake: `into_i32` doesn't test an SLONG8
 abbrev pub i32_too_great : Type 0
 i32_too_great =
     into_i32 (signed_big (pos 2147483648)) ≡ Err IntSizeError
@@ -68,6 +74,7 @@ abbrev pub i64_least : Type 0
 i64_least =
     into_i64 (signed_big (negsuc 9223372036854775807)) ≡ Ok (negsuc 9223372036854775807)
 
+-- mistake: `into_i64` accepts a LONG8
 abbrev pub i64_long : Type 0
 i64_long =
     into_i64 (unsigned_big 8) ≡ Err (FormatError InvalidTypeForTag)
@@ -77,6 +84,7 @@ abbrev pub f32_one : Type 0
 f32_one =
     into_f32 (float 0x3F800000) ≡ Ok 0x3F800000
 
+-- mistake: `into_f32` accepts a DOUBLE
 abbrev pub f32_double : Type 0
 f32_double =
     into_f32 (double 0x3FF0000000000000) ≡ Err (FormatError InvalidTypeForTag)
@@ -85,6 +93,7 @@ abbrev pub f64_one : Type 0
 f64_one =
     into_f64 (double 0x3FF0000000000000) ≡ Ok 0x3FF0000000000000
 
+-- mistake: `into_f64` accepts a FLOAT
 abbrev pub f64_float : Type 0
 f64_float =
     into_f64 (float 0x3F800000) ≡ Err (FormatError InvalidTypeForTag)
@@ -98,6 +107,7 @@ abbrev pub pointer_big : Type 0
 pointer_big =
     into_ifd_pointer (ifd_big 4294967296) ≡ Ok 4294967296
 
+-- mistake: `into_ifd_pointer` accepts a LONG8
 abbrev pub pointer_long8 : Type 0
 pointer_long8 =
     into_ifd_pointer (unsigned_big 8) ≡ Err (FormatError InvalidTypeForTag)
@@ -107,6 +117,7 @@ abbrev pub string_a : Type 0
 string_a =
     into_string (ascii (0x41 ∷ [])) ≡ Ok (0x41 ∷ [])
 
+-- mistake: `into_string` accepts a BYTE
 abbrev pub string_byte : Type 0
 string_byte =
     into_string (byte 0x41) ≡ Err (FormatError InvalidTypeForTag)
@@ -116,6 +127,7 @@ abbrev pub u8s_list : Type 0
 u8s_list =
     into_u8_vec (list (more (byte 1) (more (byte 2) none))) ≡ Ok (1 ∷ 2 ∷ [])
 
+-- mistake: `into_u8_vec` doesn't accept one BYTE
 abbrev pub u8s_one : Type 0
 u8s_one =
     into_u8_vec (byte 7) ≡ Ok (7 ∷ [])
@@ -131,6 +143,7 @@ abbrev pub u32s_list : Type 0
 u32s_list =
     into_u32_vec (list (more (short 8) (more (ifd_big 9) none))) ≡ Ok (8 ∷ 9 ∷ [])
 
+-- mistake: `into_u32_vec` doesn't test a LONG8, nor a denominator (`u32s_rational_big` fails too)
 abbrev pub u32s_too_great : Type 0
 u32s_too_great =
     into_u32_vec (unsigned_big 4294967296) ≡ Err IntSizeError
@@ -162,6 +175,7 @@ abbrev pub f32s_list : Type 0
 f32s_list =
     into_f32_vec (list (more (float 1) (more (float 2) none))) ≡ Ok (1 ∷ 2 ∷ [])
 
+-- mistake: `into_f32_vec` doesn't accept one number
 abbrev pub f32s_one : Type 0
 f32s_one =
     into_f32_vec (float 1) ≡ Ok (1 ∷ [])
@@ -174,6 +188,7 @@ abbrev pub f64s_one : Type 0
 f64s_one =
     into_f64_vec (double 1) ≡ Ok (1 ∷ [])
 
+-- mistake: `into_f64_vec` converts items by `into_f32`
 abbrev pub f64s_floats : Type 0
 f64s_floats =
     into_f64_vec (list (more (double 1) (more (float 2) none)))
@@ -185,6 +200,7 @@ pointers =
     into_ifd_vec (list (more (unsigned 8) (more (ifd 9) (more (ifd_big 10) none))))
     ≡ Ok (8 ∷ 9 ∷ 10 ∷ [])
 
+-- mistake: `into_ifd_vec` doesn't accept one offset
 abbrev pub pointers_one : Type 0
 pointers_one =
     into_ifd_vec (ifd 8) ≡ Ok (8 ∷ [])
@@ -194,6 +210,8 @@ pointers_long8 =
     into_ifd_vec (list (more (unsigned 8) (more (unsigned_big 9) none)))
     ≡ Err (FormatError InvalidTypeForTag)
 
+-- mistake: `each_joined` joins the lists in the other order
+-- mistake: `into_i32_vec` doesn't accept a list
 -- within a list, a signed rational gives two numbers, and another number one
 abbrev pub i32s_list : Type 0
 i32s_list =
@@ -204,6 +222,7 @@ abbrev pub i32s_empty : Type 0
 i32s_empty =
     into_i32_vec (list none) ≡ Ok []
 
+-- mistake: `single_number` lists the number twice
 abbrev pub i32s_one : Type 0
 i32s_one =
     into_i32_vec (signed_byte (negsuc 0)) ≡ Ok (negsuc 0 ∷ [])
@@ -212,10 +231,12 @@ abbrev pub i32s_rational : Type 0
 i32s_rational =
     into_i32_vec (srational (pos 1) (negsuc 1)) ≡ Ok (pos 1 ∷ negsuc 1 ∷ [])
 
+-- mistake: `into_i32_vec` doesn't test a large rational
 abbrev pub i32s_too_great : Type 0
 i32s_too_great =
     into_i32_vec (srational_big (pos 1) (pos 2147483648)) ≡ Err IntSizeError
 
+-- mistake: `both_numbers` lists the denominator first
 abbrev pub i32s_big_fits : Type 0
 i32s_big_fits =
     into_i32_vec (srational_big (pos 1) (negsuc 2)) ≡ Ok (pos 1 ∷ negsuc 2 ∷ [])
@@ -241,6 +262,8 @@ abbrev pub i64s_rational : Type 0
 i64s_rational =
     into_i64_vec (srational_big (pos 1) (pos 2147483648)) ≡ Ok (pos 1 ∷ pos 2147483648 ∷ [])
 
+-- mistake: `into_i64_vec` doesn't accept a rational item
+-- mistake: `into_i64_vec` doesn't accept a list
 abbrev pub i64s_list : Type 0
 i64s_list =
     into_i64_vec (list (more (signed_big (negsuc 0)) (more (srational (pos 1) (pos 2)) none)))

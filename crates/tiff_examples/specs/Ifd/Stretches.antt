@@ -9,10 +9,12 @@ use Rattle.tiff_base.specs.Field.{Field}
 use Rattle.tiff_base.specs.SourceAndSink.{SourceRecord}
 use Rattle.tiff_ifd.specs.Stretches.{header_len, LinkReadable, DirectoryReadable, FieldReadable, TagReadable}
 
+-- mistake: `header_len` asks for 16 bytes of a classic file
 -- the length of a header, by its version: classic, BigTIFF, and unknown
 abbrev pub header_of_classic : Type 0
 header_of_classic = header_len (0x49 ∷ 0x49 ∷ 0x2a ∷ 0x00 ∷ []) ≡ 8
 
+-- mistake: `header_len` asks for 8 bytes of a BigTIFF file
 abbrev pub header_of_big : Type 0
 header_of_big = header_len (0x4d ∷ 0x4d ∷ 0x00 ∷ 0x2b ∷ []) ≡ 16
 
@@ -28,9 +30,11 @@ one_entry stretches = record { bytes = 0x01 ∷ 0x00 ∷ []; readable = Some str
 abbrev pub whole_directory : Type 0
 whole_directory = DirectoryReadable (one_entry ((0, 18) ∷ [])) Classic LittleEndian 0
 
+-- mistake: `DirectoryReadable` reads a directory without its link
 abbrev pub directory_with_link : Type 0
 directory_with_link = DirectoryReadable (one_entry ((0, 14) ∷ [])) Classic LittleEndian 0 → ⊥
 
+-- mistake: `LinkReadable` asks for the entries to read a link
 -- following a chain needs the count and the link, and no byte between them
 abbrev pub link_alone : Type 0
 link_alone = LinkReadable (one_entry ((0, 2) ∷ (14, 4) ∷ [])) Classic LittleEndian 0
@@ -48,16 +52,19 @@ shorts count =
 abbrev pub nothing : SourceRecord
 nothing = one_entry []
 
+-- mistake: `FieldReadable` asks for bytes of a value in its entry
 -- two SHORTs are in the entry, and three are at an offset
 abbrev pub value_in_entry : Type 0
 value_in_entry = FieldReadable nothing Classic LittleEndian (shorts 2)
 
+-- mistake: `FieldReadable` asks for none of a value elsewhere
 abbrev pub value_elsewhere : Type 0
 value_elsewhere = FieldReadable nothing Classic LittleEndian (shorts 3) → ⊥
 
 abbrev pub value_there : Type 0
 value_there = FieldReadable (one_entry ((8, 6) ∷ [])) Classic LittleEndian (shorts 3)
 
+-- mistake: `TagReadable` asks for a tag that isn't there
 -- a missing tag needs no bytes
 abbrev pub tag_missing : Type 0
 tag_missing =

@@ -28,6 +28,7 @@ u16_fits = into_u16 (unsigned 65535) ≡ Ok 65535
 abbrev pub u16_too_great : Type 0
 u16_too_great = into_u16 (unsigned_big 65536) ≡ Err IntSizeError
 
+-- mistake: `into_u16` accepts an IFD
 -- a directory offset isn't a number of two bytes, nor is a signed number
 abbrev pub u16_offset : Type 0
 u16_offset = into_u16 (ifd 8) ≡ Err (FormatError InvalidTypeForTag)
@@ -35,6 +36,7 @@ u16_offset = into_u16 (ifd 8) ≡ Err (FormatError InvalidTypeForTag)
 abbrev pub u16_signed : Type 0
 u16_signed = into_u16 (signed (pos 8)) ≡ Err (FormatError InvalidTypeForTag)
 
+-- mistake: `into_u32` doesn't accept an IFD
 -- numbers of four bytes
 abbrev pub u32_offset : Type 0
 u32_offset = into_u32 (ifd 8) ≡ Ok 8
@@ -42,6 +44,7 @@ u32_offset = into_u32 (ifd 8) ≡ Ok 8
 abbrev pub u32_fits : Type 0
 u32_fits = into_u32 (unsigned_big 4294967295) ≡ Ok 4294967295
 
+-- mistake: `below_limit` lets the limit itself fit
 abbrev pub u32_too_great : Type 0
 u32_too_great = into_u32 (ifd_big 4294967296) ≡ Err IntSizeError
 
@@ -52,6 +55,7 @@ u32_list = into_u32 (list (more (short 8) none)) ≡ Err (FormatError InvalidTyp
 abbrev pub u64_fits : Type 0
 u64_fits = into_u64 (unsigned_big 18446744073709551615) ≡ Ok 18446744073709551615
 
+-- mistake: `into_u64` accepts a rational
 abbrev pub u64_rational : Type 0
 u64_rational = into_u64 (rational 1 1) ≡ Err (FormatError InvalidTypeForTag)
 
@@ -65,9 +69,11 @@ u16s_empty = into_u16_vec (list none) ≡ Ok []
 abbrev pub u16s_one : Type 0
 u16s_one = into_u16_vec (short 8) ≡ Ok (8 ∷ [])
 
+-- mistake: `into_u16_vec` accepts one LONG
 abbrev pub u16s_long : Type 0
 u16s_long = into_u16_vec (unsigned 8) ≡ Err (FormatError InvalidTypeForTag)
 
+-- mistake: `each_item` returns the last error
 -- the error is that of the first item that fails
 abbrev pub first_too_great : Type 0
 first_too_great =
@@ -83,6 +89,7 @@ first_mistyped =
 abbrev pub u64s_list : Type 0
 u64s_list = into_u64_vec (list (more (unsigned 8) (more (ifd_big 9) none))) ≡ Ok (8 ∷ 9 ∷ [])
 
+-- mistake: `into_u64_vec` gives one number for a rational
 abbrev pub u64s_rational : Type 0
 u64s_rational = into_u64_vec (rational 72 1) ≡ Ok (72 ∷ 1 ∷ [])
 
@@ -104,6 +111,7 @@ told ds = record {
   value = λ tag. Ok (value_at ds (tag_number tag));
 }
 
+-- mistake: `find` finds no value of a tag that is there
 -- ImageWidth is found, and ImageLength isn't
 abbrev pub width_found : Type 0
 width_found = find into_u32 (told ((256, short 5) ∷ [])) tag.ImageWidth ≡ Ok (Some 5)
@@ -120,13 +128,16 @@ width_text =
 abbrev pub otherwise_1 : Type 0
 otherwise_1 = find_or into_u16 (told []) tag.Compression 1 ≡ Ok 1
 
+-- mistake: `find_or` returns the default in every case
 abbrev pub otherwise_unused : Type 0
 otherwise_unused = find_or into_u16 (told ((259, short 5) ∷ [])) tag.Compression 1 ≡ Ok 5
 
+-- mistake: `require` returns the error in every case
 -- a required tag
 abbrev pub width_required : Type 0
 width_required = require into_u32 (told ((256, short 5) ∷ [])) tag.ImageWidth ≡ Ok 5
 
+-- mistake: `require` returns another error
 abbrev pub length_required : Type 0
 length_required =
     require into_u32 (told ((256, short 5) ∷ [])) tag.ImageLength
@@ -141,6 +152,7 @@ some_fields =
     ∷ (273, of LONG 2 (0x00 ∷ 0x00 ∷ 0x00 ∷ 0x00 ∷ 0x00 ∷ 0x00 ∷ 0x00 ∷ 0x00 ∷ []))
     ∷ []
 
+-- mistake: `look_up_in` finds no fields
 -- a list in its entry
 abbrev pub list_read : Type 0
 list_read =
@@ -164,6 +176,7 @@ single_missing =
     (look_in Classic LittleEndian [] unlimited (last_of_each some_fields)).value tag.ImageLength
     ≡ Ok None
 
+-- mistake: `look_up_in` looks up the wrong number
 abbrev pub has_width : Type 0
 has_width =
     (look_in Classic LittleEndian [] unlimited (last_of_each some_fields)).has tag.ImageWidth ≡ true
@@ -191,18 +204,22 @@ three_shorts stretches = record {
 abbrev pub value_readable : Type 0
 value_readable = ValueReadable (three_shorts ((8, 6) ∷ [])) tag.BitsPerSample
 
+-- mistake: `ValueReadable` asks for no values
 abbrev pub value_unreadable : Type 0
 value_unreadable = ValueReadable (three_shorts ((8, 5) ∷ [])) tag.BitsPerSample → ⊥
 
+-- mistake: `ValueReadable` asks for those of another tag
 -- a tag other than BitsPerSample needs no bytes
 abbrev pub other_readable : Type 0
 other_readable = ValueReadable (three_shorts []) tag.ImageWidth
 
+-- mistake: `AsksForTag` allows a device error in no case
 -- a look-up may return a device error only if the values aren't readable
 abbrev pub value_asked : Type 0
 value_asked =
     AsksForTag {X = ℕ} (three_shorts ((8, 5) ∷ [])) tag.BitsPerSample (Err (IoError Device))
 
+-- mistake: `AsksForTag` allows a device error in every case
 abbrev pub value_asked_alone : Type 0
 value_asked_alone =
     AsksForTag {X = ℕ} (three_shorts ((8, 6) ∷ [])) tag.BitsPerSample (Err (IoError Device)) → ⊥

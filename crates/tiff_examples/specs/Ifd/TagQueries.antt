@@ -45,6 +45,8 @@ abbrev pub width_fits : Type 0
 width_fits =
     find_unsigned 65536 (told ((256, unsigned 65535) ∷ [])) tag.ImageWidth ≡ Ok (Some 65535)
 
+-- mistake: `fit` cuts a number to the limit
+-- mistake: `find_unsigned` doesn't test a number that is too large
 -- a number at the limit doesn't fit the wanted type
 abbrev pub width_too_great : Type 0
 width_too_great =
@@ -67,6 +69,8 @@ widths_fit =
     find_unsigned_vec 256 (told ((256, list (more (short 8) (more (short 255) none))) ∷ []))
     tag.ImageWidth ≡ Ok (Some (8 ∷ 255 ∷ []))
 
+-- mistake: `fitted_numbers` tests the first number alone
+-- mistake: `find_unsigned_vec` doesn't test a number that is too large
 abbrev pub widths_too_great : Type 0
 widths_too_great =
     find_unsigned_vec 256 (told ((256, list (more (short 8) (more (short 256) none))) ∷ []))
@@ -83,6 +87,8 @@ abbrev pub widths_none : Type 0
 widths_none =
     find_unsigned_vec 256 (told []) tag.ImageWidth ≡ Ok None
 
+-- mistake: `get_unsigned` returns another error
+-- mistake: `get_unsigned` returns any number
 -- a required tag
 abbrev pub width_got : Type 0
 width_got =
@@ -112,6 +118,7 @@ abbrev pub tag_42113 : Type 0
 tag_42113 =
     tag_of 42113 ≡ tag.GdalNodata
 
+-- mistake: `tag_of` names ChromaPositioning for 532
 abbrev pub tag_531 : Type 0
 tag_531 =
     tag_of 531 ≡ tag.ChromaPositioning
@@ -133,6 +140,7 @@ three_items =
     ∷ Ok (tag.BitsPerSample, list (more (short 8) (more (short 8) none)))
     ∷ Err (IoError UnexpectedEof) ∷ []
 
+-- mistake: `tag_items` gives each item the same tag
 -- an item follows an error; entries may be in any order
 abbrev pub fault_between : Type 0
 fault_between =
@@ -144,6 +152,7 @@ abbrev pub no_items : Type 0
 no_items =
     tag_items Classic LittleEndian [] unlimited (last_of_each []) ≡ []
 
+-- mistake: `unlimited` allows no bytes
 -- the raw bytes of two LONGs at 8
 abbrev pub raw_longs : Type 0
 raw_longs =
@@ -169,6 +178,7 @@ raw_limit =
     (of SHORT 1 (0x00 ∷ 0x08 ∷ 0x00 ∷ 0x00 ∷ 0x00 ∷ 0x00 ∷ 0x00 ∷ 0x00 ∷ []))
     ≡ Err LimitsExceeded
 
+-- mistake: `buffer_of` refuses the limit itself
 abbrev pub raw_at_limit : Type 0
 raw_at_limit =
     buffer_of Classic BigEndian [] (limited 2)
@@ -195,6 +205,7 @@ raw_too_many =
     (of RATIONAL (2 ^ 61) (0x08 ∷ 0x00 ∷ 0x00 ∷ 0x00 ∷ 0x00 ∷ 0x00 ∷ 0x00 ∷ 0x00 ∷ []))
     ≡ Err LimitsExceeded
 
+-- mistake: `refused_buffer` empties the buffer for a limit too
 -- a buffer keeps its content after a limit error, and has no values after another error
 abbrev pub held : Type 0
 held =
@@ -216,6 +227,7 @@ part_at_4 =
     (of LONG 2 (0x08 ∷ 0x00 ∷ 0x00 ∷ 0x00 ∷ 0x00 ∷ 0x00 ∷ 0x00 ∷ 0x00 ∷ [])) 3 4
     ≡ Ok (0x01 ∷ 0x00 ∷ 0x00 ∷ [])
 
+-- mistake: `part_of_field` reads past the value's end
 -- two LONGs from their last byte on, and from their end on
 abbrev pub part_at_7 : Type 0
 part_at_7 =
@@ -254,6 +266,7 @@ part_of_none =
     part_of_field Classic LittleEndian []
     (of LONG 2 (0x08 ∷ 0x00 ∷ 0x00 ∷ 0x00 ∷ 0x00 ∷ 0x00 ∷ 0x00 ∷ 0x00 ∷ [])) 0 0 ≡ Ok []
 
+-- mistake: `part_of_field` doesn't test an offset past 2^64
 -- an offset past 2^64
 abbrev pub part_past_u64 : Type 0
 part_past_u64 =
@@ -268,6 +281,7 @@ part_at_last =
     (of LONG8 2 (0xff ∷ 0xff ∷ 0xff ∷ 0xff ∷ 0xff ∷ 0xff ∷ 0xff ∷ 0xff ∷ [])) 3 0
     ≡ Err (IoError UnexpectedEof)
 
+-- mistake: `part_of_field` doesn't test the end of the value first
 -- the end of the value is checked before the offset
 abbrev pub part_end_first : Type 0
 part_end_first =

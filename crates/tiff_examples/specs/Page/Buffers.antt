@@ -20,6 +20,7 @@ use Rattle.tiff_examples.specs.Page.Pixels.{limits}
 abbrev pub long_strip : PageRecord
 long_strip = record gray_page { chunk_height = 1000000 }
 
+-- mistake: `chunk_dimensions` clips the sides to the image
 abbrev pub long_dimensions : Type 0
 long_dimensions = chunk_dimensions long_strip ≡ (4, 1000000)
 
@@ -29,6 +30,7 @@ tile_dimensions = chunk_dimensions planar_tiles ≡ (16, 16)
 abbrev pub long_data : Type 0
 long_data = chunk_data_dimensions long_strip 0 ≡ (4, 3)
 
+-- mistake: `chunk_data_dimensions` doesn't clip the width
 -- the corner of the second plane; an index past all planes is that of a chunk of the first plane
 abbrev pub corner_data : Type 0
 corner_data = chunk_data_dimensions planar_tiles 7 ≡ (4, 4)
@@ -40,9 +42,11 @@ past_data = chunk_data_dimensions planar_tiles 9 ≡ (4, 16)
 abbrev pub strips_of_plane : Type 0
 strips_of_plane = strip_count (record gray_page { chunk_height = 2 }) ≡ Ok 2
 
+-- mistake: `all_chunks` counts the strips of one plane
 abbrev pub strips_of_planes : Type 0
 strips_of_planes = strip_count (record rgb_page { chunk_height = 2; planar = Planar }) ≡ Ok 6
 
+-- mistake: `strip_count` is off by one at the largest `u32`
 -- the largest number of rows per strip, for an image of one row, and of two
 abbrev pub most_rows : Type 0
 most_rows = strip_count (record gray_page { height = 1; chunk_height = 4294967295 }) ≡ Ok 1
@@ -51,6 +55,7 @@ abbrev pub too_many_rows : Type 0
 too_many_rows = strip_count (record gray_page { height = 2; chunk_height = 4294967295 })
     ≡ Err IntSizeError
 
+-- mistake: `strip_count` tests the size before the kind
 -- tiles aren't strips, whatever their height; strips aren't tiles
 abbrev pub no_strips : Type 0
 no_strips =
@@ -60,6 +65,7 @@ no_strips =
 abbrev pub tiles_of_planes : Type 0
 tiles_of_planes = tile_count planar_tiles ≡ Ok 8
 
+-- mistake: `tile_count` exchanges expected and actual
 abbrev pub no_tiles : Type 0
 no_tiles = tile_count gray_page ≡ Err (UsageError (InvalidChunkType Tile Strip))
 
@@ -75,10 +81,13 @@ of_bytes len row planes complete = record {
   complete_len = complete;
 }
 
+-- mistake: `all_planes` has the length of all planes (`planar_unit` fails too)
+-- mistake: `image_buffer_layout` has a chunk for the image
 -- the layouts of an image with two planes, and with three
 abbrev pub two_planes : Type 0
 two_planes = image_buffer_layout planar_tiles ≡ Ok (of_bytes 400 20 2 800)
 
+-- mistake: `planes` counts one plane in a planar page (`two_planes` fails too)
 abbrev pub three_planes : Type 0
 three_planes =
     image_buffer_layout (record rgb_page {
@@ -104,6 +113,7 @@ of_12_bits =
 abbrev pub void_page : PageRecord
 void_page = record gray_page { format = format.Void }
 
+-- mistake: `type_known` takes bytes for a page without a number type
 abbrev pub void_image : Type 0
 void_image =
     image_buffer_layout void_page
@@ -134,13 +144,17 @@ largest_image =
     image_buffer_layout largest_page
     ≡ Ok (of_bytes 18446744065119617025 4294967295 1 18446744065119617025)
 
+-- mistake: `planes_layout` doesn't test the planes (`too_many_bytes` of `Page/PixelCalls` fails
+--   too)
 abbrev pub largest_planes : Type 0
 largest_planes = image_buffer_layout (record largest_page { samples = 2; planar = Planar })
     ≡ Err LimitsExceeded
 
+-- mistake: `rounded_size` allows up to 2^64
 abbrev pub largest_chunk : Type 0
 largest_chunk = image_chunk_buffer_layout largest_page 0 ≡ Err LimitsExceeded
 
+-- mistake: `image_chunk_buffer_layout` tests all planes
 -- a chunk's buffer contains one of two planes with the largest dimensions: the error is that of the
 -- number type
 abbrev pub largest_void : Type 0
@@ -157,9 +171,11 @@ half_bytes =
 abbrev pub half_image : Type 0
 half_image = image_buffer_layout half_bytes ≡ Err (UnsupportedError MisalignedTileBoundaries)
 
+-- mistake: `whole_chunks` refuses a single chunk of half bytes
 abbrev pub half_tile : Type 0
 half_tile = image_chunk_buffer_layout half_bytes 0 ≡ Ok (of_bytes 120 8 1 120)
 
+-- mistake: `rounded_size` doesn't round
 -- a sample of three bytes is returned in four
 abbrev pub rounded_up : Type 0
 rounded_up =
@@ -178,13 +194,17 @@ rounded_up =
 abbrev pub planar_chunk : Type 0
 planar_chunk = image_chunk_buffer_layout planar_tiles 3 ≡ Ok (of_bytes 16 4 1 16)
 
+-- mistake: `image_coding_unit_layout` has one plane of a planar page
 abbrev pub planar_unit : Type 0
 planar_unit = image_coding_unit_layout planar_tiles 3 ≡ Ok (of_bytes 16 4 2 32)
 
+-- mistake: `chunks_of_plane` counts the chunks of all planes (`chunk_7` of `Page/Layout` fails too)
+-- mistake: `unit_fault` is off by one (`unit_past` of `Page/PixelCalls` fails too)
 -- there are four coding units, from 0 to 3
 abbrev pub unit_4 : Type 0
 unit_4 = image_coding_unit_layout planar_tiles 4 ≡ Err (UsageError (InvalidCodingUnit 4 4))
 
+-- mistake: `unit_from` tests the unit before the layout (`unit_too_long` fails too)
 -- layout errors and too many bytes are checked before the index of a coding unit
 abbrev pub unit_of_no_color : Type 0
 unit_of_no_color =
@@ -196,6 +216,7 @@ unit_too_long =
     image_coding_unit_layout (record largest_page { samples = 2; planar = Planar }) 1
     ≡ Err LimitsExceeded
 
+-- mistake: `unit_from` tests the unit in a chunky page
 -- with chunky samples a coding unit is a chunk, and its index isn't checked
 abbrev pub chunky_unit : Type 0
 chunky_unit = image_coding_unit_layout gray_page 9 ≡ Ok (of_bytes 12 4 1 12)
@@ -211,6 +232,7 @@ void_chunky_unit =
     image_coding_unit_layout void_page 0
     ≡ Err (UnsupportedError (UnsupportedSampleFormat (format.Void ∷ [])))
 
+-- mistake: `resized_samples` has one plane
 -- zeros for three bytes as 2-byte numbers; all planes count
 abbrev pub two_zeros : Type 0
 two_zeros =
@@ -223,6 +245,7 @@ too_many_zeros =
     resized_samples (record (of_bytes 1 1 3 3) { sample_type = Some type.U16 }) (limits 3 0)
     ≡ Err LimitsExceeded
 
+-- mistake: `resized_samples` tests the limit before the number type
 -- a missing number type is refused before the limit is checked
 abbrev pub zeros_of_none : Type 0
 zeros_of_none =

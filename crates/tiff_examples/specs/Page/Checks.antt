@@ -26,12 +26,14 @@ one a = list (more a none)
 abbrev pub two : PlainValue → PlainValue → PlainValue
 two a b = list (more a (more b none))
 
+-- mistake: `sides` allows a height of 0
 -- a height of 0; the height is read before a width of 0 is refused
 abbrev pub height_0 : Type 0
 height_0 =
     page_of (told ((257, short 0) ∷ gray_tags ++ strip_tags))
     ≡ Err (FormatError (InvalidDimensions 4 0))
 
+-- mistake: `size_in` tests the width before it reads the height
 abbrev pub width_0_no_height : Type 0
 width_0_no_height =
     page_of (told ((256, short 0) ∷ [])) ≡ Err (FormatError (RequiredTagNotFound tag.ImageLength))
@@ -74,6 +76,7 @@ format_9 =
     page_of (told ((339, short 9) ∷ gray_tags ++ strip_tags))
     ≡ Ok (record gray_page { format = format.Unknown 9 })
 
+-- mistake: `depth_in` tests for a mixture before the range
 -- depths: one that doesn't fit before too many, too many before different ones, none, and zeros
 abbrev pub wide_depth_first : Type 0
 wide_depth_first =
@@ -95,6 +98,7 @@ depths_0 =
     page_of (told ((277, short 2) ∷ (258, two (short 0) (short 0)) ∷ gray_tags ++ strip_tags))
     ≡ Err (UnsupportedError (InconsistentBitsPerSample (0 ∷ 0 ∷ [])))
 
+-- mistake: `one_depth` refuses one depth for all
 -- one depth for two samples, and the largest depth
 abbrev pub depth_255 : Type 0
 depth_255 =
@@ -139,6 +143,7 @@ wide_subsampling =
     page_of (told ((530, unsigned 65536) ∷ gray_tags ++ strip_tags))
     ≡ Err (FormatError (InvalidTagValueType tag.ChromaSubsampling))
 
+-- mistake: `number_pair` exchanges the two
 abbrev pub subsampling_1_2 : Type 0
 subsampling_1_2 =
     page_of (told ((530, two (short 1) (short 2)) ∷ gray_tags ++ strip_tags))
@@ -146,12 +151,14 @@ subsampling_1_2 =
       subsampling = (1, 2);
     })
 
+-- mistake: `chunk_kind` allows a strip tag beside tiles
 -- the tags of tiles together with a tag of strips
 abbrev pub tiles_and_counts : Type 0
 tiles_and_counts =
     page_of (told ((324, unsigned 8) ∷ (325, unsigned 8) ∷ (279, unsigned 8) ∷ gray_tags))
     ≡ Err (FormatError StripTileTagConflict)
 
+-- mistake: `strips_in` compares the lists before it reads the rows
 -- rows per strip that aren't a number are refused before lists of different lengths
 abbrev pub rows_first : Type 0
 rows_first =
@@ -159,11 +166,13 @@ rows_first =
     ((278, list none) ∷ (279, two (unsigned 8) (unsigned 4)) ∷ gray_tags ++ strip_tags))
     ≡ Err (FormatError InvalidTypeForTag)
 
+-- mistake: `chunks_counted` allows fewer byte counts
 abbrev pub unequal_lists : Type 0
 unequal_lists =
     page_of (told ((279, two (unsigned 8) (unsigned 4)) ∷ gray_tags ++ strip_tags))
     ≡ Err (FormatError InconsistentSizesEncountered)
 
+-- mistake: `chunk_count` forgets the planes (`tiles_open` of `Page/Layout` fails too)
 -- one strip for each plane
 abbrev pub two_planes : Type 0
 two_planes =
@@ -176,6 +185,7 @@ two_planes =
       byte_counts = 12 ∷ 12 ∷ [];
     })
 
+-- mistake: `tiles_in` tests the width before it reads the length
 -- tiles with width 0 are refused after their length is read, and before the offsets are
 abbrev pub tile_no_length : Type 0
 tile_no_length =
@@ -243,6 +253,7 @@ cmyk_three =
     color_of (record cmyk_page { samples = 3 })
     ≡ Err (UnsupportedError (InterpretationWithBits meaning.CMYK (8 ∷ 8 ∷ 8 ∷ [])))
 
+-- mistake: `ycbcr` counts the extra samples
 -- YCbCr with three samples and an extra one, and with four; Lab; white as 0; another Lab
 abbrev pub ycbcr_extra : Type 0
 ycbcr_extra =
@@ -261,6 +272,7 @@ ycbcr_four =
 abbrev pub lab_color : Type 0
 lab_color = color_of (record rgb_page { interpretation = meaning.IccLab }) ≡ Ok (color.Lab 8)
 
+-- mistake: `color_of` finds no color where white is 0
 abbrev pub white_color : Type 0
 white_color =
     color_of (record gray_page { interpretation = meaning.WhiteIsZero }) ≡ Ok (color.Gray 8)
@@ -280,12 +292,15 @@ bits_32 = sample_type_of (record gray_page { depth = 32 }) ≡ Ok type.U32
 abbrev pub bits_33 : Type 0
 bits_33 = sample_type_of (record gray_page { depth = 33 }) ≡ Ok type.U64
 
+-- mistake: `of_depth` is off by one at 16
+-- mistake: `sample_type_of` takes signed for unsigned (`signed_64` fails too)
 abbrev pub signed_16 : Type 0
 signed_16 = sample_type_of (record gray_page { depth = 16; format = format.Int }) ≡ Ok type.I16
 
 abbrev pub signed_64 : Type 0
 signed_64 = sample_type_of (record gray_page { depth = 64; format = format.Int }) ≡ Ok type.I64
 
+-- mistake: `float_of` rounds smaller depths up
 abbrev pub float_8 : Type 0
 float_8 =
     sample_type_of (record gray_page { format = format.IEEEFP })
@@ -294,6 +309,7 @@ float_8 =
 abbrev pub float_64 : Type 0
 float_64 = sample_type_of (record gray_page { depth = 64; format = format.IEEEFP }) ≡ Ok type.F64
 
+-- mistake: `size_of` gives a half four bytes
 abbrev pub half_size : Type 0
 half_size = size_of type.F16 ≡ 2
 
@@ -314,11 +330,13 @@ long_first =
       chunk_height = 4294967295;
     }) 4294967295 (2 ^ 32) ≡ Err LimitsExceeded
 
+-- mistake: `layout_of` exchanges two errors
 abbrev pub half_bytes_first : Type 0
 half_bytes_first =
     layout_of (record rgb_page { interpretation = meaning.YCbCr; depth = 4; chunk_width = 3 }) 4 3
     ≡ Err (UnsupportedError MisalignedTileBoundaries)
 
+-- mistake: `whole_chroma` tests one direction
 -- chroma that is subsampled in one direction, and a compression method that decodes subsampled
 -- chroma
 abbrev pub chroma_1_2 : Type 0
@@ -326,6 +344,7 @@ chroma_1_2 =
     layout_of (record rgb_page { interpretation = meaning.YCbCr; subsampling = (1, 2) }) 4 3
     ≡ Err (UnsupportedError ChromaSubsampling)
 
+-- mistake: `jpeg_alone` refuses that method
 abbrev pub chroma_jpeg : Type 0
 chroma_jpeg =
     layout_of (record rgb_page { interpretation = meaning.YCbCr; method = method.ModernJPEG }) 4 3

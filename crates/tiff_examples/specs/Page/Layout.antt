@@ -49,9 +49,15 @@ gray_page = record {
   byte_counts = 12 ∷ [];
 }
 
+-- mistake: `method_in` has another default
+-- mistake: `format_in` has another default
+-- mistake: `planar_in` has no default
+-- mistake: `subsampling_in` has another default
+-- mistake: `strips_in` has one row by default
 abbrev pub gray_opens : Type 0
 gray_opens = page_of (told (gray_tags ++ strip_tags)) ≡ Ok gray_page
 
+-- mistake: `depth_in` has another default
 -- without a depth tag a sample has one bit
 abbrev pub no_depth : Type 0
 no_depth =
@@ -66,6 +72,7 @@ lzw_opens =
     page_of (told ((259, short 5) ∷ gray_tags ++ strip_tags))
     ≡ Ok (record gray_page { method = method.LZW })
 
+-- mistake: `parts` rounds down (`chunk_3` fails too)
 -- two strips, of two rows and of one row
 abbrev pub two_strips : Type 0
 two_strips =
@@ -104,6 +111,9 @@ abbrev pub tile_tags : List (ℕ × PlainValue)
 tile_tags = (277, short 2) ∷ (284, short 2) ∷ (322, short 16) ∷ (323, short 16) ∷ (324, eight)
     ∷ (325, eight_counts) ∷ []
 
+-- mistake: `planes_of` counts one plane in a planar page
+-- mistake: `chunks_in` reads tiles as strips (`large_tile` of `Page/Checks` fails too)
+-- mistake: `page_of` forgets the planes (`two_planes` of `Page/Checks` fails too)
 abbrev pub tiles_open : Type 0
 tiles_open =
     page_of (told ((256, short 20) ∷ (257, short 20) ∷ (258, short 8) ∷ (262, short 1) ∷ tile_tags))
@@ -134,11 +144,13 @@ interpretation_7 =
     page_of (told ((262, short 7) ∷ gray_tags ++ strip_tags))
     ≡ Err (UnsupportedError UnknownInterpretation)
 
+-- mistake: `interpretation_in` takes black as 0 if the interpretation is missing
 abbrev pub no_interpretation : Type 0
 no_interpretation =
     page_of (told ((256, short 4) ∷ (257, short 3) ∷ strip_tags))
     ≡ Err (UnsupportedError UnknownInterpretation)
 
+-- mistake: `some_samples` allows 0 samples
 -- 0 samples per pixel
 abbrev pub samples_0 : Type 0
 samples_0 =
@@ -151,6 +163,8 @@ too_many_extra =
     page_of (told ((338, list (more (short 0) (more (short 1) none))) ∷ gray_tags ++ strip_tags))
     ≡ Err (FormatError InconsistentSizesEncountered)
 
+-- mistake: `within_samples` refuses as many extra samples as samples
+-- mistake: `extra_in` counts an unknown extra sample as alpha
 -- an extra sample with the unknown meaning 9 is unspecified
 abbrev pub extra_9 : Type 0
 extra_9 =
@@ -158,12 +172,14 @@ extra_9 =
       extra = extra.Unspecified ∷ [];
     })
 
+-- mistake: `one_format` takes the first of several formats
 -- two different sample formats
 abbrev pub two_formats : Type 0
 two_formats =
     page_of (told ((339, list (more (short 1) (more (short 3) none))) ∷ gray_tags ++ strip_tags))
     ≡ Err (UnsupportedError (UnsupportedSampleFormat (format.Uint ∷ format.IEEEFP ∷ [])))
 
+-- mistake: `one_format` allows an empty list
 -- an empty list of sample formats, and a format above two bytes
 abbrev pub no_format : Type 0
 no_format =
@@ -175,6 +191,7 @@ wide_format =
     page_of (told ((339, unsigned 65537) ∷ gray_tags ++ strip_tags))
     ≡ Err (FormatError (InvalidTagValueType tag.SampleFormat))
 
+-- mistake: `same_depth` allows a depth of 0
 -- a depth of 0, a depth above one byte, and two depths for one sample
 abbrev pub depth_0 : Type 0
 depth_0 =
@@ -199,6 +216,8 @@ mixed_depths =
     ++ strip_tags))
     ≡ Err (UnsupportedError (InconsistentBitsPerSample (8 ∷ 16 ∷ [])))
 
+-- mistake: `predictor_from` returns another error
+-- mistake: `page_of` exchanges two checks
 -- the predictor 4 is refused before the planar configuration 3
 abbrev pub predictor_4 : Type 0
 predictor_4 =
@@ -229,6 +248,7 @@ abbrev pub half_strips : Type 0
 half_strips =
     page_of (told ((273, unsigned 8) ∷ gray_tags)) ≡ Err (FormatError StripTileTagConflict)
 
+-- mistake: `some_rows` allows 0 rows
 -- 0 rows per strip
 abbrev pub rows_0 : Type 0
 rows_0 =
@@ -256,15 +276,18 @@ sides p i = ((rect p i).width, (rect p i).height)
 abbrev pub chunk_0 : Type 0
 chunk_0 = sides planar_tiles 0 ≡ (16, 16)
 
+-- mistake: `across` rounds down (`chunk_7` fails too)
 abbrev pub chunk_1 : Type 0
 chunk_1 = sides planar_tiles 1 ≡ (4, 16)
 
+-- mistake: `rect_at` doesn't clip the last row
 abbrev pub chunk_2 : Type 0
 chunk_2 = sides planar_tiles 2 ≡ (16, 4)
 
 abbrev pub chunk_3 : Type 0
 chunk_3 = sides planar_tiles 3 ≡ (4, 4)
 
+-- mistake: `rect` doesn't reduce the index to its plane
 -- chunk 7 is the corner of the second plane
 abbrev pub chunk_7 : Type 0
 chunk_7 = rect planar_tiles 7 ≡ record { plane = 1; x = 16; y = 16; width = 4; height = 4 }
@@ -281,13 +304,17 @@ abbrev pub rgb_alpha : Type 0
 rgb_alpha = color_of (record rgb_page { samples = 4; extra = extra.UnassociatedAlpha ∷ [] })
     ≡ Ok (color.RGBA 8)
 
+-- mistake: `first_is_alpha` takes another meaning (`rgb_alpha` fails too)
+-- mistake: `photometric` counts the extra samples
 abbrev pub rgb_other : Type 0
 rgb_other = color_of (record rgb_page { samples = 4; extra = extra.Unspecified ∷ [] })
     ≡ Ok (color.RGB 8)
 
+-- mistake: `rgb` refuses four samples
 abbrev pub rgb_four : Type 0
 rgb_four = color_of (record rgb_page { samples = 4 }) ≡ Ok (color.RGBA 8)
 
+-- mistake: `no_color` lists one depth
 -- RGB with two samples has no color type, nor has a palette
 abbrev pub rgb_two : Type 0
 rgb_two =
@@ -303,16 +330,19 @@ palette_color =
 abbrev pub gray_color : Type 0
 gray_color = color_of gray_page ≡ Ok (color.Gray 8)
 
+-- mistake: `gray` doesn't count the extra samples
 abbrev pub gray_extra : Type 0
 gray_extra =
     color_of (record gray_page { samples = 2; extra = extra.UnassociatedAlpha ∷ [] })
     ≡ Ok (color.Multiband 8 2)
 
+-- mistake: `cmyk` allows three samples (`cmyk_three` of `Page/Checks` fails too)
 -- CMYK with five samples, and Lab with signed numbers
 abbrev pub cmyk_five : Type 0
 cmyk_five = color_of (record rgb_page { interpretation = meaning.CMYK; samples = 5 })
     ≡ Ok (color.CMYKA 8)
 
+-- mistake: `lab` allows signed Lab
 abbrev pub lab_signed : Type 0
 lab_signed =
     color_of (record rgb_page { interpretation = meaning.IccLab; format = format.Int })
@@ -346,6 +376,8 @@ abbrev pub gray_layout : Type 0
 gray_layout =
     layout_of gray_page 4 3 ≡ Ok (record { color = color.Gray 8; row_bytes = 4; plane_stride = 12 })
 
+-- mistake: `row_bits` counts every sample as a byte
+-- mistake: `row_bytes` rounds down
 abbrev pub layout_4_bits : Type 0
 layout_4_bits =
     layout_of (record gray_page { depth = 4 }) 3 2 ≡ Ok (record {
@@ -358,6 +390,7 @@ abbrev pub chunky_layout : Type 0
 chunky_layout =
     layout_of rgb_page 4 3 ≡ Ok (record { color = color.RGB 8; row_bytes = 12; plane_stride = 36 })
 
+-- mistake: `samples_in_chunk` counts all samples in a planar row
 abbrev pub planar_layout : Type 0
 planar_layout =
     layout_of (record rgb_page { planar = Planar }) 4 3
@@ -369,6 +402,8 @@ layout_no_color =
     layout_of (record rgb_page { samples = 2 }) 4 3
     ≡ Err (UnsupportedError (InterpretationWithBits meaning.RGB (8 ∷ 8 ∷ [])))
 
+-- mistake: `wide` has no limit
+-- mistake: `layout_of` doesn't test the stored height
 abbrev pub layout_too_long : Type 0
 layout_too_long =
     layout_of (record gray_page { depth = 255; chunk_height = 4294967295 }) 4294967295 1

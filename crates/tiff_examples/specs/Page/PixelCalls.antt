@@ -58,6 +58,9 @@ second_plane = 5 ∷ 5 ∷ 6 ∷ 5 ∷ 5 ∷ 6 ∷ 7 ∷ 7 ∷ 8 ∷ []
 abbrev pub plane_read : Type 0
 plane_read = image_of tiles LittleEndian two_planes unlimited ≡ Ok (bytes first_plane)
 
+-- mistake: `number_size` doubles the number of bytes
+-- mistake: `chunk_of_pixel` interleaves the planes (`chunk_of_plane` fails too)
+-- mistake: `fill_buffer` places one plane (`unit_read` fails too)
 -- a slice of 20 bytes takes both planes, and two of its bytes stay
 abbrev pub both_planes : Type 0
 both_planes =
@@ -70,12 +73,15 @@ only_plane =
     read_image_bytes tiles LittleEndian two_planes unlimited (replicate 17 170)
     ≡ Ok (first_plane ++ replicate 8 170)
 
+-- mistake: `planes_used` counts more planes than there are
 -- a slice of 27 bytes takes no third plane
 abbrev pub no_third_plane : Type 0
 no_third_plane =
     read_image_bytes tiles LittleEndian two_planes unlimited (replicate 27 170)
     ≡ Ok (first_plane ++ second_plane ++ replicate 9 170)
 
+-- mistake: `room_fault` exchanges the two numbers
+-- mistake: `read_image_bytes` tests no room
 -- a slice of 8 bytes takes no plane, whatever errors the chunks have
 abbrev pub no_room : Type 0
 no_room =
@@ -91,11 +97,13 @@ two_faults = record two_planes {
   byte_counts = 4 ∷ 4 ∷ 4 ∷ 4 ∷ 9 ∷ 4 ∷ 4 ∷ 4 ∷ [];
 }
 
+-- mistake: `part_fault` goes plane after plane
 abbrev pub first_chunk_first : Type 0
 first_chunk_first =
     read_image_bytes tiles LittleEndian two_faults (limits 99 8) (replicate 18 170)
     ≡ Err LimitsExceeded
 
+-- mistake: `image_part` takes the first chunk alone
 abbrev pub plane_not_read : Type 0
 plane_not_read =
     read_image_bytes tiles LittleEndian two_faults (limits 99 8) (replicate 17 170)
@@ -108,6 +116,7 @@ too_many_bytes =
     unlimited []
     ≡ Err LimitsExceeded
 
+-- mistake: `image_of` doesn't test the planes (`planes_told` of `Page/Pixels` fails too)
 abbrev pub image_planes : Type 0
 image_planes =
     image_of [] LittleEndian
@@ -137,6 +146,7 @@ void =
     image_of gray_file LittleEndian (record pixel_page { format = format.Void }) unlimited
     ≡ Err (UnsupportedError (UnsupportedSampleFormat (format.Void ∷ [])))
 
+-- mistake: `bytes_with_region` puts zeros into the gap (`both_planes` fails too)
 -- a tile in a buffer with rows two bytes apart, and the image with rows four bytes apart: bytes
 -- outside the rows stay
 abbrev pub tile_placed : Type 0
@@ -158,11 +168,13 @@ image_placed =
 abbrev pub planes : List ℕ
 planes = 1 ∷ 4 ∷ 2 ∷ 5 ∷ 3 ∷ 6 ∷ []
 
+-- mistake: `read_image_to_buffer` refuses as many bytes as the limit
 abbrev pub all_planes_read : Type 0
 all_planes_read =
     read_image_to_buffer planes LittleEndian planar_row (limits 6 99)
     ≡ Ok (of_bytes 2 2 3 6, bytes planes)
 
+-- mistake: `read_image_to_buffer` doesn't fall back to one plane
 abbrev pub first_plane_read : Type 0
 first_plane_read =
     read_image_to_buffer planes LittleEndian planar_row (limits 5 99)
@@ -172,6 +184,7 @@ abbrev pub no_plane_read : Type 0
 no_plane_read =
     read_image_to_buffer planes LittleEndian planar_row (limits 1 99) ≡ Err LimitsExceeded
 
+-- mistake: `limit_fault` rounds down (`too_many_zeros` of `Page/Buffers` fails too)
 -- three bytes are within the limit, and two 2-byte numbers aren't
 abbrev pub within_but_more : Type 0
 within_but_more =
@@ -189,10 +202,12 @@ third_plane_unread =
     read_image_to_buffer (take 5 planes) LittleEndian planar_row (limits 5 99)
     ≡ Ok (of_bytes 2 2 3 6, bytes (1 ∷ 4 ∷ []))
 
+-- mistake: `chunk_region` takes the first plane for each
 -- chunks of the second plane, and a chunk past the list
 abbrev pub chunk_of_plane : Type 0
 chunk_of_plane = read_chunk tiles LittleEndian two_planes unlimited 5 ≡ Ok (bytes (6 ∷ 6 ∷ []))
 
+-- mistake: `chunk_part` takes the errors of the first chunk (`tile_cut` fails too)
 abbrev pub chunk_past_list : Type 0
 chunk_past_list =
     read_chunk tiles LittleEndian two_planes unlimited 8
@@ -217,11 +232,13 @@ dropped_read =
     read_chunk (1 ∷ 2 ∷ 3 ∷ 9 ∷ 1 ∷ 2 ∷ 3 ∷ 0 ∷ []) LittleEndian dropped_row unlimited 0
     ≡ Ok (bytes (1 ∷ 2 ∷ 3 ∷ 2 ∷ 4 ∷ 6 ∷ []))
 
+-- mistake: `needs_whole_rows` needs less than the whole row where samples are dropped
 abbrev pub dropped_cut : Type 0
 dropped_cut =
     read_chunk (1 ∷ 2 ∷ 3 ∷ 9 ∷ 1 ∷ 2 ∷ 3 ∷ []) LittleEndian dropped_row unlimited 0
     ≡ Err (IoError UnexpectedEof)
 
+-- mistake: `read_chunk` doesn't clip the chunk
 -- the last row of a tile that the right edge cuts needs one byte
 abbrev pub tile_read : Type 0
 tile_read =
@@ -251,11 +268,13 @@ float_read =
     read_chunk float_file LittleEndian float_tiles unlimited 1
     ≡ Ok (record { sample_type = type.F16; numbers = 0x3c00 ∷ [] })
 
+-- mistake: `needs_whole_rows` needs less than the whole row with byte planes
 abbrev pub float_cut : Type 0
 float_cut =
     read_chunk (take 7 float_file) LittleEndian float_tiles unlimited 1
     ≡ Err (IoError UnexpectedEof)
 
+-- mistake: `form_fault` tests the method before the limit
 -- the limit of a chunk's bytes is checked before the method, the limit of samples before both, and
 -- the number type first
 abbrev pub bytes_before_method : Type 0
@@ -268,6 +287,7 @@ method_unread =
     read_chunk [] LittleEndian (record (row_page 2) { method = method.LZW }) (limits 2 99) 0
     ≡ Err (UnsupportedError (UnsupportedCompressionMethod method.LZW))
 
+-- mistake: `samples` tests the chunks first
 abbrev pub type_before_limit : Type 0
 type_before_limit =
     read_chunk [] LittleEndian (record (row_page 2) { format = format.Void }) (limits 0 0) 0
@@ -283,6 +303,7 @@ planes_before_type =
     }) unlimited 0
     ≡ Err LimitsExceeded
 
+-- mistake: `read_chunk_bytes` reads as many planes as there is room for
 -- a chunk is written to a slice as one plane, though there is room for two
 abbrev pub chunk_in_slice : Type 0
 chunk_in_slice =
@@ -300,6 +321,7 @@ chunk_no_room =
     read_chunk_bytes tiles LittleEndian two_planes unlimited 8 (replicate 3 170)
     ≡ Err (UsageError (InsufficientOutputBufferSize 4 3))
 
+-- mistake: `room_fault` refuses just enough
 abbrev pub void_in_slice : Type 0
 void_in_slice =
     read_chunk_bytes (7 ∷ 8 ∷ []) LittleEndian (record (row_page 2) {
@@ -340,12 +362,14 @@ wide_tile_short =
     read_chunk_to_buffer (range_with_len 0 256) LittleEndian wide_tiles unlimited 1 3
     ≡ Err (UsageError (InsufficientOutputRowStride 4 3))
 
+-- mistake: `stride_fault` refuses rows that touch
 -- rows without gaps
 abbrev pub no_gaps : Type 0
 no_gaps =
     read_chunk_to_buffer tiled_file LittleEndian tiled_page unlimited 0 2
     ≡ Ok (bytes (1 ∷ 2 ∷ 4 ∷ 5 ∷ []))
 
+-- mistake: `read_chunk_to_buffer` tests the number type before the stride
 -- a stride of 0 is refused before too many bytes, and those before a missing number type
 abbrev pub short_stride : Type 0
 short_stride =
@@ -359,6 +383,7 @@ long_stride =
     unlimited 1 (2 ^ 63)
     ≡ Err LimitsExceeded
 
+-- mistake: `read_chunk_to_buffer` takes the clipped height
 -- a stride is tested with the stored height of a chunk, not with its height in the image
 abbrev pub long_stride_of_last : Type 0
 long_stride_of_last =
@@ -384,6 +409,7 @@ odd_stride =
     3
     ≡ Ok (record { sample_type = type.U16; numbers = 0x0201 ∷ 0 ∷ [] })
 
+-- mistake: `read_coding_unit_bytes` reads one plane
 -- a coding unit contains the chunk of each plane
 abbrev pub unit_read : Type 0
 unit_read =
@@ -395,6 +421,7 @@ unit_of_one_plane =
     read_coding_unit_bytes tiles LittleEndian two_planes unlimited 1 (replicate 3 170)
     ≡ Ok (2 ∷ 2 ∷ 170 ∷ [])
 
+-- mistake: `packed_byte` forgets the plane (`planar_4_bits` of `Page/Pixels` fails too)
 -- a coding unit of samples of 4 bits
 abbrev pub unit_of_4_bits : Type 0
 unit_of_4_bits =
@@ -409,6 +436,7 @@ unit_of_4_bits =
     unlimited 0 (replicate 3 170)
     ≡ Ok (0x12 ∷ 0x34 ∷ 170 ∷ [])
 
+-- mistake: `read_coding_unit_bytes` tests the room before the unit
 -- a coding unit past the last is refused before the room is checked, and too many bytes before it
 abbrev pub unit_past : Type 0
 unit_past =

@@ -51,6 +51,7 @@ pixel_page = record {
 abbrev pub pixel_shown : Type 0
 pixel_shown = shown_sample gray_file LittleEndian pixel_page 0 0 0 ≡ 7
 
+-- mistake: `shown_number` is off by one
 abbrev pub pixel_inverted : Type 0
 pixel_inverted =
     shown_sample gray_file LittleEndian (record pixel_page { interpretation = meaning.WhiteIsZero })
@@ -76,16 +77,21 @@ image_bytes file order p shade =
 abbrev pub rgb_row : PageRecord
 rgb_row = record (row_page 2) { interpretation = meaning.RGB; samples = 3 }
 
+-- mistake: `tabulate` goes one too far
 abbrev pub rgb_bytes : Type 0
 rgb_bytes =
     image_bytes (0x01 ∷ 0x02 ∷ 0x03 ∷ 0x04 ∷ 0x05 ∷ 0x06 ∷ []) LittleEndian rgb_row (color.RGB 8)
     ≡ (0x01 ∷ 0x02 ∷ 0x03 ∷ 0x04 ∷ 0x05 ∷ 0x06 ∷ [])
 
+-- mistake: `in_row` counts sample by sample
 -- the green sample of the second pixel
 abbrev pub rgb_sample : Type 0
 rgb_sample = shown_sample (0x01 ∷ 0x02 ∷ 0x03 ∷ 0x04 ∷ 0x05 ∷ 0x06 ∷ []) LittleEndian rgb_row 1 0 1
     ≡ 5
 
+-- mistake: `summed_number` leaves out the first (`rows_of_differences` fails too)
+-- mistake: `number_by` undoes no predictor
+-- mistake: `region_byte` takes 8 bits as they are stored
 -- two RGB pixels as differences
 abbrev pub rgb_horizontal : Type 0
 rgb_horizontal =
@@ -113,6 +119,9 @@ rgb_dropped =
     }) (color.RGB 8)
     ≡ (0x01 ∷ 0x02 ∷ 0x03 ∷ 0x02 ∷ 0x04 ∷ 0x06 ∷ [])
 
+-- mistake: `summed_byte` leaves out the byte itself
+-- mistake: `joined_number` joins in the order of the file
+-- mistake: `number_by` undoes one predictor for the other
 -- differences of two 2-byte numbers in byte planes, the most significant bytes first
 abbrev pub byte_planes : Type 0
 byte_planes =
@@ -124,6 +133,9 @@ byte_planes =
     }) (color.Gray 16)
     ≡ (0x00 ∷ 0x3c ∷ 0x00 ∷ 0x3c ∷ [])
 
+-- mistake: `width_of` gives the width of two bytes (`wide_read` fails too)
+-- mistake: `row_number` reads little-endian in every case (`big_second` of `Page/Row` fails too)
+-- mistake: `number_byte` has the greatest byte first
 -- a 2-byte number of a big-endian file is returned in little-endian order
 abbrev pub big_endian_bytes : Type 0
 big_endian_bytes =
@@ -140,6 +152,7 @@ big_endian_horizontal =
     }) (color.Gray 16)
     ≡ (0xff ∷ 0x00 ∷ 0x00 ∷ 0x01 ∷ [])
 
+-- mistake: `packed_byte` inverts by the depth
 -- three samples of 4 bits with white as 0: whole bytes are inverted
 abbrev pub inverted_4_bits : Type 0
 inverted_4_bits =
@@ -189,6 +202,12 @@ tiled_file =
     (0x01 ∷ 0x02 ∷ 0x04 ∷ 0x05 ∷ 0x03 ∷ 0xee ∷ 0x06 ∷ 0xee ∷ 0x07 ∷ 0x08 ∷ 0xee ∷ 0xee ∷ 0x09 ∷ 0xee
     ∷ 0xee ∷ 0xee ∷ [])
 
+-- mistake: `stored_row_bytes` takes rows of the image, not of the tile
+-- mistake: `chunk_data` takes the first chunk for each
+-- mistake: `stored_row` takes rows as long as the clipped tile
+-- mistake: `stored_number` takes the first row for each
+-- mistake: `shown_sample` takes positions of the image, not of the tile
+-- mistake: `image_region` has the height of a chunk
 abbrev pub tiled_bytes : Type 0
 tiled_bytes =
     image_bytes tiled_file LittleEndian tiled_page (color.Gray 8)
@@ -206,6 +225,7 @@ in_gap =
     byte_at tiled_file LittleEndian tiled_page (color.Gray 8) (image_region tiled_page) 4 1 3
     ≡ None
 
+-- mistake: `byte_at` has a plane too many
 -- a byte past the only plane
 abbrev pub past_plane : Type 0
 past_plane =
@@ -219,6 +239,8 @@ corner =
     1 0
     ≡ Some 9
 
+-- mistake: `byte_at` puts the padding of a tile into the gap (`tile_placed` of `Page/PixelCalls`
+--   fails too)
 abbrev pub corner_gap : Type 0
 corner_gap =
     byte_at tiled_file LittleEndian tiled_page (color.Gray 8) (chunk_region tiled_page 3) 4
@@ -231,21 +253,25 @@ abbrev pub planar_row : PageRecord
 planar_row =
     record rgb_row { planar = Planar; offsets = 0 ∷ 2 ∷ 4 ∷ []; byte_counts = 2 ∷ 2 ∷ 2 ∷ [] }
 
+-- mistake: `stored_samples` counts all samples in a planar chunk (`third_plane` fails too)
 abbrev pub first_plane : Type 0
 first_plane =
     image_bytes (0x01 ∷ 0x04 ∷ 0x02 ∷ 0x05 ∷ 0x03 ∷ 0x06 ∷ []) LittleEndian planar_row (color.RGB 8)
     ≡ (0x01 ∷ 0x04 ∷ [])
 
+-- mistake: `planar_or` is the wrong way round
 abbrev pub third_plane : Type 0
 third_plane =
     byte_at (0x01 ∷ 0x04 ∷ 0x02 ∷ 0x05 ∷ 0x03 ∷ 0x06 ∷ []) LittleEndian planar_row (color.RGB 8)
     (image_region planar_row) 2 3 5
     ≡ Some 6
 
+-- mistake: `numbers_in` reads big-endian
 -- numbers of two bytes each; the last is filled up with zeros
 abbrev pub two_numbers : Type 0
 two_numbers = numbers_in 2 (0x00 ∷ 0x3c ∷ 0x01 ∷ 0x02 ∷ []) ≡ 0x3c00 ∷ 0x0201 ∷ []
 
+-- mistake: `numbers_in` drops the last one
 abbrev pub filled_up : Type 0
 filled_up = numbers_in 2 (0x01 ∷ 0x02 ∷ 0x03 ∷ []) ≡ 0x0201 ∷ 3 ∷ []
 
@@ -270,6 +296,7 @@ no_samples = image_of gray_file LittleEndian pixel_page (limits 0 1) ≡ Err Lim
 abbrev pub no_chunk_bytes : Type 0
 no_chunk_bytes = image_of gray_file LittleEndian pixel_page (limits 1 0) ≡ Err LimitsExceeded
 
+-- mistake: `data_by_method` cuts plain data at the byte count
 -- a byte count of 0 isn't checked if the strip isn't packed
 abbrev pub count_0 : Type 0
 count_0 =
@@ -281,6 +308,7 @@ abbrev pub pixel_cut : Type 0
 pixel_cut =
     image_of (take 24 gray_file) LittleEndian pixel_page unlimited ≡ Err (IoError UnexpectedEof)
 
+-- mistake: `is_short` refuses just enough
 -- a page of 4 by 3 pixels at 8 needs a file of 20 bytes
 abbrev pub just_enough : Type 0
 just_enough =
@@ -291,6 +319,9 @@ abbrev pub one_missing : Type 0
 one_missing =
     image_of (replicate 19 1) LittleEndian gray_page unlimited ≡ Err (IoError UnexpectedEof)
 
+-- mistake: `needed_of_row` needs the padding of the last row (`tile_read` of `Page/PixelCalls`
+--   fails too)
+-- mistake: `needed_bytes` needs the stored height
 -- the last tile lacks bytes that aren't shown, and then a pixel
 abbrev pub tile_padding : Type 0
 tile_padding =
@@ -313,6 +344,7 @@ packed_cut =
     }) unlimited
     ≡ Err (IoError UnexpectedEof)
 
+-- mistake: `decoded_samples` takes bytes for numbers
 -- numbers of two bytes
 abbrev pub wide_read : Type 0
 wide_read =
@@ -320,12 +352,14 @@ wide_read =
     (limits 4 99)
     ≡ Ok (record { sample_type = type.U16; numbers = 0x0102 ∷ 0x0304 ∷ [] })
 
+-- mistake: `limit_fault` counts samples as bytes
 -- two 2-byte numbers don't fit into three bytes
 abbrev pub wide_limit : Type 0
 wide_limit = image_of (0x01 ∷ 0x02 ∷ 0x03 ∷ 0x04 ∷ []) BigEndian (record (row_page 2) {
   depth = 16;
 }) (limits 3 99) ≡ Err LimitsExceeded
 
+-- mistake: `image_of` tests the limit before the number type (`type_told` fails too)
 -- the number type is checked before the limit, and the limit of samples before the method
 abbrev pub type_first : Type 0
 type_first =
@@ -342,15 +376,19 @@ lzw =
     image_of [] LittleEndian (record (row_page 2) { method = method.LZW }) unlimited
     ≡ Err (UnsupportedError (UnsupportedCompressionMethod method.LZW))
 
+-- mistake: `form_fault` is off by one at the end of the list
 -- errors of a chunk: an index past the list
 abbrev pub past_list : Type 0
 past_list =
     form_fault pixel_page unlimited (color.Gray 8) 1
     ≡ Err (FormatError InconsistentSizesEncountered)
 
+-- mistake: `fail_if` is the wrong way round (`past_list` fails too)
 abbrev pub no_fault : Type 0
 no_fault = form_fault pixel_page unlimited (color.Gray 8) 0 ≡ Ok tt
 
+-- mistake: `is_byte_multiple` allows 12 bits
+-- mistake: `depth_fault` has "or" in place of "and" (`rgb_4` fails too)
 -- a depth of 12 bits
 abbrev pub depth_12 : Type 0
 depth_12 =
@@ -363,12 +401,14 @@ rgb_4 =
     form_fault (record rgb_row { depth = 4 }) unlimited (color.RGB 4) 0
     ≡ Err (UnsupportedError (UnsupportedColorType (color.RGB 4)))
 
+-- mistake: `refuse_predictor` allows differences of few bits
 abbrev pub horizontal_4 : Type 0
 horizontal_4 =
     form_fault (record pixel_page { depth = 4; predictor = predictor.Horizontal }) unlimited
     (color.Gray 4) 0
     ≡ Err (UnsupportedError (HorizontalPredictor (color.Gray 4)))
 
+-- mistake: `is_float` allows every format
 -- byte planes of integers, and of one byte
 abbrev pub planes_of_uint : Type 0
 planes_of_uint =
@@ -376,6 +416,7 @@ planes_of_uint =
     (color.Gray 16) 0
     ≡ Err (UnsupportedError (FloatingPointPredictor (color.Gray 16)))
 
+-- mistake: `predictor_fault` allows a float of a byte
 abbrev pub planes_of_byte : Type 0
 planes_of_byte =
     form_fault (record pixel_page {
@@ -384,6 +425,7 @@ planes_of_byte =
     }) unlimited (color.Gray 8) 0
     ≡ Err (UnsupportedError (FloatingPointPredictor (color.Gray 8)))
 
+-- mistake: `can_invert` inverts floats (`white_first` fails too)
 -- floating point, and gray of three bits, can't be inverted
 abbrev pub white_float : Type 0
 white_float =
@@ -395,6 +437,7 @@ white_float =
     (color.Gray 16) 0
     ≡ Err (UnsupportedError UnknownInterpretation)
 
+-- mistake: `can_invert` inverts three bits
 abbrev pub white_3_bits : Type 0
 white_3_bits =
     form_fault (record pixel_page { depth = 3; interpretation = meaning.WhiteIsZero }) unlimited
@@ -438,6 +481,7 @@ abbrev pub samples_first : Type 0
 samples_first = image_of [] LittleEndian (record gray_page { method = method.LZW }) (limits 11 12)
     ≡ Err LimitsExceeded
 
+-- mistake: `image_of` drops the chunk's errors (`white_told` fails too)
 abbrev pub bytes_told : Type 0
 bytes_told = image_of [] LittleEndian two_bytes (limits 24 11) ≡ Err LimitsExceeded
 
@@ -463,6 +507,9 @@ rows_of_differences =
     }) (color.Gray 8)
     ≡ (1 ∷ 2 ∷ 1 ∷ 2 ∷ [])
 
+-- mistake: `summed_byte` adds each byte to the one before it (`byte_summed` of `Page/Row` fails
+--   too)
+-- mistake: `joined_number` takes parts without the samples
 -- byte planes of two samples: each byte is added to the one two bytes before it, in both byte
 -- orders
 abbrev pub byte_planes_of_two : Type 0
@@ -507,6 +554,7 @@ planar_4_bits =
     (image_region planar_4_page) 1 2 1
     ≡ Some 0x34
 
+-- mistake: `data_by_method` doesn't cut packed data there
 -- a PackBits strip is cut at its byte count
 abbrev pub packed_within : Type 0
 packed_within =
@@ -526,18 +574,21 @@ list_first =
     form_fault (record pixel_page { depth = 12 }) unlimited (color.Gray 12) 1
     ≡ Err (FormatError InconsistentSizesEncountered)
 
+-- mistake: `form_fault` tests the predictor before the depth
 abbrev pub depth_first : Type 0
 depth_first =
     form_fault (record pixel_page { depth = 12; predictor = predictor.FloatingPoint }) unlimited
     (color.Gray 12) 0
     ≡ Err (UnsupportedError (UnsupportedColorType (color.Gray 12)))
 
+-- mistake: `is_supported_color` allows Lab
 -- Lab is a color type that isn't read
 abbrev pub lab_8 : Type 0
 lab_8 =
     form_fault (record rgb_row { interpretation = meaning.IccLab }) unlimited (color.Lab 8) 0
     ≡ Err (UnsupportedError (UnsupportedColorType (color.Lab 8)))
 
+-- mistake: `is_gray` refuses several samples of few bits
 -- several samples of 4 bits are read, but not as byte planes
 abbrev pub multiband_4 : Type 0
 multiband_4 =
@@ -550,6 +601,7 @@ planes_of_4 =
     (color.Gray 4) 0
     ≡ Err (UnsupportedError (FloatingPointPredictor (color.Gray 4)))
 
+-- mistake: `is_number` refuses signed numbers
 -- differences of signed numbers, and of samples without a number type; the predictor is checked
 -- before the limit
 abbrev pub horizontal_int : Type 0
@@ -558,6 +610,7 @@ horizontal_int =
     unlimited (color.Gray 8) 0
     ≡ Ok tt
 
+-- mistake: `predictor_fault` tests no format
 abbrev pub horizontal_void : Type 0
 horizontal_void =
     form_fault (record pixel_page { format = format.Void; predictor = predictor.Horizontal })
@@ -574,6 +627,7 @@ planes_of_float =
     }) unlimited (color.Gray 16) 0
     ≡ Ok tt
 
+-- mistake: `form_fault` refuses as many bytes as the limit
 -- a chunk with as many bytes as the limit, and with one more
 abbrev pub bytes_within : Type 0
 bytes_within = form_fault pixel_page (limits 0 1) (color.Gray 8) 0 ≡ Ok tt
@@ -581,6 +635,7 @@ bytes_within = form_fault pixel_page (limits 0 1) (color.Gray 8) 0 ≡ Ok tt
 abbrev pub bytes_past : Type 0
 bytes_past = form_fault pixel_page (limits 0 0) (color.Gray 8) 0 ≡ Err LimitsExceeded
 
+-- mistake: `method_fault` refuses PackBits
 -- a PackBits chunk has no form error, and a fax chunk has one, which is found before white as 0 is
 -- checked
 abbrev pub packed_form : Type 0
@@ -596,6 +651,7 @@ method_first =
     }) unlimited (color.Multiband 8 2) 0
     ≡ Err (UnsupportedError (UnsupportedCompressionMethod method.Fax4))
 
+-- mistake: `inversion_fault` refuses no page
 -- several samples can't be inverted, and 4-bit samples can; this is checked before too little data
 abbrev pub white_several : Type 0
 white_several =
@@ -609,12 +665,14 @@ white_4_bits =
     (color.Gray 4) 0
     ≡ Ok tt
 
+-- mistake: `chunk_fault` tests for too few data before the rest
 abbrev pub white_first : Type 0
 white_first =
     image_of [] LittleEndian
     (record pixel_page { format = format.Int; interpretation = meaning.WhiteIsZero }) unlimited
     ≡ Err (UnsupportedError UnknownInterpretation)
 
+-- mistake: `each_below` returns the last error
 -- the error of the first chunk is returned; the second has another one
 abbrev pub first_chunk : Type 0
 first_chunk =

@@ -28,6 +28,7 @@ use Rattle.tiff_examples.specs.Page.PixelCalls.{two_planes}
 abbrev pub between : ℕ → ℕ → SourceRecord
 between from end = record { bytes = []; readable = Some ((from, end - from) ∷ []) }
 
+-- mistake: `ChunkReadable` asks for the counted bytes of plain data
 -- a pixel at 24 needs one byte, whatever its byte count is
 abbrev pub pixel_needs : Type 0
 pixel_needs =
@@ -43,11 +44,13 @@ packed_needs =
     ChunkReadable (between 24 123)
     (record pixel_page { method = method.PackBits; byte_counts = 99 ∷ [] }) (color.Gray 8) 0
 
+-- mistake: `ChunkReadable` asks for the needed bytes of packed data
 abbrev pub packed_needs_all : Type 0
 packed_needs_all =
     ChunkReadable (between 24 122)
     (record pixel_page { method = method.PackBits; byte_counts = 99 ∷ [] }) (color.Gray 8) 0 → ⊥
 
+-- mistake: `ChunkReadable` asks for the padding of a tile (`corner_tile_needs` fails too)
 -- a tile of two by two bytes that the right edge cuts: the last byte isn't needed; that both edges
 -- cut: one byte is needed
 abbrev pub cut_tile_needs : Type 0
@@ -60,28 +63,34 @@ corner_tile_needs = ChunkReadable (between 12 13) two_planes (color.Gray 8) 3
 abbrev pub plane_needs : Type 0
 plane_needs = PartReadable (between 0 13) two_planes (color.Gray 8) (image_part two_planes 1 3)
 
+-- mistake: `PartReadable` asks for no bytes
 abbrev pub plane_needs_last : Type 0
 plane_needs_last = PartReadable (between 0 12) two_planes (color.Gray 8) (image_part two_planes 1 3)
     → ⊥
 
+-- mistake: `PartReadable` asks for the first plane alone
 -- a chunk of two planes needs its bytes in the second plane
 abbrev pub unit_needs_second : Type 0
 unit_needs_second =
     PartReadable (between 0 28) two_planes (color.Gray 8) (chunk_part two_planes 3 2 1) → ⊥
 
+-- mistake: `most_of_image` counts the chunks in place of their rows
 -- a plane of 3 by 3 bytes in tiles of 2 by 2 needs at most 3 rows of 2 bytes in two tiles side by
 -- side
 abbrev pub plane_costs : Type 0
 plane_costs = most_of_image two_planes 1 ≡ 12
 
+-- mistake: `most_of_chunk` leaves out chunks side by side
 -- a tile in each of two planes needs at most 2 rows of 2 bytes in each plane
 abbrev pub unit_costs : Type 0
 unit_costs = most_of_chunk two_planes 3 2 ≡ 8
 
+-- mistake: `most_of_image` takes the counted bytes of plain data
 -- a PackBits plane of four tiles needs at most 4 bytes per tile, the byte count
 abbrev pub packed_plane_costs : Type 0
 packed_plane_costs = most_of_image (record two_planes { method = method.PackBits }) 1 ≡ 16
 
+-- mistake: `most_of_chunk` takes the first plane's count alone
 abbrev pub packed_unit_costs : Type 0
 packed_unit_costs =
     most_of_chunk (record two_planes { method = method.PackBits; byte_counts = 1 ∷ 2 ∷ 3 ∷ 4 ∷ 5 ∷ 6 ∷ 7 ∷ 8 ∷ [] }) 1 2
@@ -91,9 +100,11 @@ packed_unit_costs =
 abbrev pub three_from_five : Type 0
 three_from_five = StoredReadable (between 5 8) (Plain 5) 3
 
+-- mistake: `StoredReadable` asks for fewer bytes
 abbrev pub not_two_of_three : Type 0
 not_two_of_three = StoredReadable (between 5 7) (Plain 5) 3 → ⊥
 
+-- mistake: `StoredReadable` asks for something after the end
 -- after the end of the data no bytes are needed
 abbrev pub nothing_behind : Type 0
 nothing_behind = StoredReadable (between 0 0) Ended 3
@@ -135,6 +146,8 @@ checks_placed = Checks (between 8 20) placed_fields
 abbrev pub checks_placed_all : Type 0
 checks_placed_all = Checks (between 8 19) placed_fields → ⊥
 
+-- mistake: `page_tag_numbers` has a text or a profile too
+-- mistake: `PageReadable` asks for a text or a profile too
 -- a profile isn't read
 abbrev pub checks_profile : Type 0
 checks_profile = Checks (between 0 0) profile_fields
@@ -150,6 +163,10 @@ abbrev pub side_tags : List Tag
 side_tags =
     tag.ImageWidth ∷ tag.ImageLength ∷ tag.RowsPerStrip ∷ tag.TileWidth ∷ tag.TileLength ∷ []
 
+-- mistake: `page_tag_numbers` leaves out a tag that the checks read (`checks_samples`,
+--   `checks_chunks` fail too)
+-- mistake: `PageReadable` leaves out a tag that the checks read (`checks_samples`, `checks_chunks`
+--   fail too)
 abbrev pub checks_sides : Type 0
 checks_sides = AreChecked side_tags
 
@@ -180,10 +197,12 @@ tags_of source fields = record {
   limits = unlimited;
 }
 
+-- mistake: `AsksForPage` allows a device error in no case
 -- the checks may return a device error only if the values aren't readable
 abbrev pub checks_asked : Type 0
 checks_asked = AsksForPage {X = ℕ} (tags_of (between 8 19) placed_fields) (Err (IoError Device))
 
+-- mistake: `AsksForPage` allows a device error in every case
 abbrev pub checks_asked_alone : Type 0
 checks_asked_alone =
     AsksForPage {X = ℕ} (tags_of (between 8 20) placed_fields) (Err (IoError Device)) → ⊥

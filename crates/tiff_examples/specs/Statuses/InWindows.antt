@@ -12,13 +12,16 @@ use Rattle.tiff_examples.specs.Base.Windows.{fourth, front, of_five, seen, stret
 abbrev pub disorder : Windows
 disorder = of_five (fourth ∷ front ∷ [])
 
+-- mistake: `SeenTells` refuses windows in disorder as another error
 -- they are refused as an invalid input, and the call leaves what a refused call leaves
 abbrev pub refused : Type 0
 refused = SeenTells disorder 12 (stretch 0 0) (Unit {0}) ⊥
 
+-- mistake: `SeenTells` accepts windows in disorder
 abbrev pub disorder_told : Type 0
 disorder_told = SeenTells disorder 0 (stretch 0 0) (Unit {0}) (Unit {0}) → ⊥
 
+-- mistake: `SeenTells` lets a call that refuses windows change what is passed in
 abbrev pub disorder_stays : Type 0
 disorder_stays = SeenTells disorder 12 (stretch 0 0) ⊥ (Unit {0}) → ⊥
 
@@ -26,28 +29,35 @@ disorder_stays = SeenTells disorder 12 (stretch 0 0) ⊥ (Unit {0}) → ⊥
 abbrev pub wanted : Type 0
 wanted = SeenTells seen bytes_wanted (stretch 2 1) (Unit {0}) ⊥
 
+-- mistake: `bytes_wanted` wants bytes that a window has
 abbrev pub wanted_seen : Type 0
 wanted_seen = SeenTells seen bytes_wanted (stretch 1 2) (Unit {0}) ⊥ → ⊥
 
+-- mistake: `SeenTells` tells nothing, and wants nothing
 abbrev pub wanted_done : Type 0
 wanted_done = SeenTells seen 0 (stretch 2 1) (Unit {0}) ⊥ → ⊥
 
+-- mistake: `SeenTells` lets a call that wants bytes change what is passed in
 abbrev pub wanted_stays : Type 0
 wanted_stays = SeenTells seen bytes_wanted (stretch 2 1) ⊥ ⊥ → ⊥
 
+-- mistake: `SeenTells` tells nothing of windows in order
 -- or what the call on the whole file tells, with any status and stretch
 abbrev pub told : Type 0
 told = SeenTells seen 0 (stretch 1 2) ⊥ (Unit {0})
 
+-- mistake: `copied` clears the rest of the slice
 -- two bytes are copied into a slice of three, or an error is returned
 abbrev pub two_copied : Type 0
 two_copied =
     copied (Ok (0x0a ∷ 0x0b ∷ [])) (0x01 ∷ 0x02 ∷ 0x03 ∷ [])
     ≡ Ok (2, 0x0a ∷ 0x0b ∷ 0x03 ∷ [])
 
+-- mistake: `copied` takes an error for no bytes
 abbrev pub none_copied : Type 0
 none_copied = copied (Err LimitsExceeded) (0x01 ∷ []) ≡ Err LimitsExceeded
 
+-- mistake: `no_tag` tells of another tag
 -- the error of a tag that isn't there has that tag
 abbrev pub no_width : Type 0
 no_width = no_tag 256 ≡ FormatError (RequiredTagNotFound tag.ImageWidth)
@@ -58,10 +68,12 @@ one_tag =
     0x49 ∷ 0x49 ∷ 0x2a ∷ 0x00 ∷ 0x08 ∷ 0x00 ∷ 0x00 ∷ 0x00 ∷ 0x01 ∷ 0x00 ∷ 0x00 ∷ 0x01 ∷ 0x03 ∷ 0x00 ∷ 0x01
     ∷ 0x00 ∷ 0x00 ∷ 0x00 ∷ 0x07 ∷ 0x00 ∷ 0x00 ∷ 0x00 ∷ 0x00 ∷ 0x00 ∷ 0x00 ∷ 0x00 ∷ []
 
+-- mistake: `tag_bytes` takes another tag
 -- the bytes of its tag, from the first and from the second on
 abbrev pub width_bytes : Type 0
 width_bytes = tag_bytes one_tag 0 256 0 (0x01 ∷ 0x02 ∷ 0x03 ∷ []) ≡ Ok (2, 0x07 ∷ 0x00 ∷ 0x03 ∷ [])
 
+-- mistake: `tag_bytes` copies from the first byte on
 abbrev pub second_byte : Type 0
 second_byte = tag_bytes one_tag 0 256 1 (0x01 ∷ 0x02 ∷ []) ≡ Ok (1, 0x00 ∷ 0x02 ∷ [])
 
@@ -85,5 +97,6 @@ width_listed = list_tags one_tag 0 (blank ∷ []) ≡ Ok (1, width ∷ [])
 abbrev pub width_counted : Type 0
 width_counted = list_tags one_tag 0 [] ≡ Ok (1, [])
 
+-- mistake: `list_tags` tells of the first page in place of another
 abbrev pub page_past : Type 0
 page_past = list_tags one_tag 1 (blank ∷ []) ≡ Err (FormatError ImageFileDirectoryNotFound)

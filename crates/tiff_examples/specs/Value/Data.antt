@@ -24,11 +24,13 @@ abbrev pub one_i8 : Type 0
 one_i8 =
     data_of (i8s (negsuc 1 ∷ [])) ≡ record { field_type = t.SBYTE; count = 1; bytes = (0xfe ∷ []) }
 
+-- mistake: `data_by` takes the count of bytes
 abbrev pub two_u16 : Type 0
 two_u16 =
     data_of (u16s (258 ∷ 3 ∷ []))
     ≡ record { field_type = t.SHORT; count = 2; bytes = (0x02 ∷ 0x01 ∷ 0x03 ∷ 0x00 ∷ []) }
 
+-- mistake: `signed_le` takes one byte of a signed number
 abbrev pub one_i16 : Type 0
 one_i16 =
     data_of (i16s (negsuc 1 ∷ []))
@@ -136,6 +138,7 @@ in_planes =
     data_of (planars (planar.Planar ∷ []))
     ≡ record { field_type = t.SHORT; count = 1; bytes = (0x02 ∷ 0x00 ∷ []) }
 
+-- mistake: `data_of` takes the enums as BYTE
 abbrev pub horizontal : Type 0
 horizontal =
     data_of (predictors (predictor.Horizontal ∷ []))
@@ -156,6 +159,7 @@ unspecified =
     data_of (extras (extra.Unspecified ∷ []))
     ≡ record { field_type = t.SHORT; count = 1; bytes = (0x00 ∷ 0x00 ∷ []) }
 
+-- mistake: `text_data` doesn't count the zero
 -- texts, with an appended zero
 abbrev pub abcd : Type 0
 abcd =
@@ -175,10 +179,12 @@ abbrev pub not_ascii : Type 0
 not_ascii =
     text_data (0x61 ∷ 0x80 ∷ []) ≡ Err (FormatError InvalidTag)
 
+-- mistake: `text_data` takes a zero for a letter
 abbrev pub with_zero : Type 0
 with_zero =
     text_data (0x61 ∷ 0x00 ∷ 0x62 ∷ []) ≡ Err (FormatError InvalidTag)
 
+-- mistake: `turned_units` loses a ragged end
 -- the bytes of each SHORT are reversed, and an incomplete one stays
 abbrev pub three_bytes : Type 0
 three_bytes =
@@ -188,6 +194,7 @@ abbrev pub shorts_back : Type 0
 shorts_back =
     convert t.SHORT BigEndian (0x02 ∷ 0x01 ∷ 0x03 ∷ []) LittleEndian ≡ (0x01 ∷ 0x02 ∷ 0x03 ∷ [])
 
+-- mistake: `convert` reverses the bytes if both orders are the same
 -- a conversion to the same byte order changes nothing
 abbrev pub same_order : Type 0
 same_order =
@@ -204,6 +211,8 @@ long_and_more =
     convert t.LONG LittleEndian (0x01 ∷ 0x02 ∷ 0x03 ∷ 0x04 ∷ 0x05 ∷ 0x06 ∷ 0x07 ∷ []) BigEndian
     ≡ (0x04 ∷ 0x03 ∷ 0x02 ∷ 0x01 ∷ 0x05 ∷ 0x06 ∷ 0x07 ∷ [])
 
+-- mistake: `unit_size` reverses a rational as 8 bytes
+-- mistake: `turned_numbers` leaves half of a rational as it is
 -- a RATIONAL is converted as two numbers
 abbrev pub rational : Type 0
 rational =
@@ -220,6 +229,7 @@ double =
     convert t.DOUBLE LittleEndian (0x01 ∷ 0x02 ∷ 0x03 ∷ 0x04 ∷ 0x05 ∷ 0x06 ∷ 0x07 ∷ 0x08 ∷ [])
     BigEndian ≡ (0x08 ∷ 0x07 ∷ 0x06 ∷ 0x05 ∷ 0x04 ∷ 0x03 ∷ 0x02 ∷ 0x01 ∷ [])
 
+-- mistake: `buffer_count` counts the bytes
 -- the number of values in a buffer, without an incomplete one
 abbrev pub short_count : Type 0
 short_count =
@@ -240,10 +250,12 @@ abbrev pub empty_count : Type 0
 empty_count =
     buffer_count (empty_buffer t.LONG) ≡ 0
 
+-- mistake: `empty_buffer` has big-endian bytes
 abbrev pub empty_longs : Type 0
 empty_longs =
     empty_buffer t.LONG ≡ record { order = LittleEndian; data_type = t.LONG; bytes = [] }
 
+-- mistake: `buffer_from` has big-endian bytes
 -- a buffer of a value that is written
 abbrev pub from_short : Type 0
 from_short =
@@ -253,6 +265,7 @@ from_short =
       bytes = 0x02 ∷ 0x01 ∷ [];
     }
 
+-- mistake: `in_byte_order` keeps the bytes
 -- a buffer in the other byte order, and in its own
 abbrev pub ordered_short : Type 0
 ordered_short =
