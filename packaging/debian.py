@@ -1,4 +1,8 @@
-"""Packages for Debian, as debhelper would make them of the same files, by Python alone and objdump and nm."""
+"""Packages for Debian, as debhelper would make them of the same files, by Python alone and objdump and nm.
+
+`make dist` runs where the kit is, which may be another system. lintian finds no error in them; it warns that no bug of
+Debian's is closed, since they aren't uploaded there.
+"""
 import hashlib
 import lzma
 import re

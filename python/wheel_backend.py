@@ -1,5 +1,8 @@
 """Builds the wheel, with the shared library inside, by Python's standard library alone.
 
+setuptools would need the package wheel, which a fresh environment has not, and puts the time of the
+build into the file. The tag is `py3-none`, since ctypes needs no ABI of an interpreter.
+
 `pyproject.toml` names this module as its backend, so pip calls it; `make dist` calls it too. Dates are
 fixed, so the same files give the same bytes.
 """

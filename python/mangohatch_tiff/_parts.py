@@ -175,7 +175,10 @@ class Source:
         _, row, column = self.grid.place(chunk)
         rows, wide = self.grid.rows_from(row), self.grid.columns_from(column)
         raw = numpy.empty((rows, self.form.row_bytes(wide)), numpy.uint8)
-        self.read_chunks(Run(chunk, 1), raw)
+        if self.stored:
+            self.stored.read_chunks(self.grid, Run(chunk, 1), raw)
+        else:
+            self.planned.read([(chunk, raw.nbytes)], raw)
         return self.form.natural(raw, wide)
 
     def chunks(self, run: Run) -> Iterator[tuple[tuple[int, int, int], NDArray[Any]]]:

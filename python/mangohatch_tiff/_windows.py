@@ -1,4 +1,7 @@
-"""Files that aren't in memory: of their bytes, those that calls want are fetched from a source."""
+"""Files that aren't in memory: of their bytes, those that calls want are fetched from a source.
+
+They are fetched in pages of one grid, so windows never overlap, and threads share what is kept.
+"""
 from __future__ import annotations
 
 import os

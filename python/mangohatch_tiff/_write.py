@@ -69,7 +69,10 @@ class Settings:
 
 
 def ambiguous(shape: tuple[int, ...]) -> ValueError:
-    """Returns the error of an array that may be one image in color or several in gray."""
+    """Returns the error of an array that may be one image in color or several in gray.
+
+    tifffile up to 2023 takes such arrays for RGB, and later versions for gray pages.
+    """
     return ValueError(
         f"an array of shape {shape} is RGB or several gray pages: say photometric='rgb' or "
         "photometric='minisblack'"

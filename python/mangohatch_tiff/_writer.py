@@ -17,7 +17,8 @@ if TYPE_CHECKING:
     from ._new_pages import NewPage
     from ._write import Settings
 
-# Pages wait until they have so many bytes, and are written together.
+# Pages wait until they have so many bytes, and are written together, since each call walks along
+# the chain.
 WAITING = 1 << 24
 # tifffile's other parameters, each with the value that asks for nothing.
 OPENED = {name: OTHERS[name] for name in ("byteorder", "imagej", "ome", "shaped")}

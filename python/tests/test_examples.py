@@ -1,6 +1,8 @@
 """The examples over the package."""
 from __future__ import annotations
 
+import io
+import json
 import os
 import re
 import subprocess
@@ -10,7 +12,7 @@ from pathlib import Path
 import numpy
 import pytest
 import tifffile
-from conftest import samples
+from conftest import EXIF, raw_file, samples
 
 import mangohatch_tiff as mt
 
@@ -124,3 +126,63 @@ def test_scanned_pages(tmp_path: Path) -> None:
     ramp = numpy.arange(40)[:, None] + numpy.arange(50)
     pages = [(ramp + page).astype("u1") for page in (0, 1, 2, 0, 1)]
     numpy.testing.assert_array_equal(tifffile.imread(path), numpy.stack(pages))
+
+
+def test_metadata(tmp_path: Path) -> None:
+    """Each tag of each directory is a line, also of the page that the library refuses."""
+    file, _ = raw_file()
+    path = tmp_path / "raw.tif"
+    path.write_bytes(file)
+    lines = [json.loads(line) for line in run("metadata.py", path).splitlines()]
+    with tifffile.TiffFile(io.BytesIO(file)) as tif:
+        first = tif.pages[0]
+        pages = [first, *first.pages, tif.pages[1]]
+        for page in pages:
+            found = [line for line in lines if line["directory"] == page.offset]
+            assert [line["tag"] for line in found] == sorted(tag.code for tag in page.tags)
+            assert [line["count"] for line in found] == [page.tags[line["tag"]].count for line in found]
+    assert {line["by"] for line in lines if "by" in line} == {330, 34665}
+    exif = {line["tag"]: line for line in lines if line.get("by") == 34665}
+    assert exif.keys() == EXIF.keys() and not any("error" in line for line in lines)
+    assert exif[33434]["value"] == [1, 250] and exif[37380]["value"] == [-1, 3]
+    assert exif[36867]["value"] == "2026:11:28 23:59:59" and exif[37500]["value"].endswith("..")
+    assert exif[42034]["value"] == [24, 1, 70, 1, 28, 10, 28, 10]
+    (maker,) = (line for line in lines if line["tag"] == 271)
+    assert (maker["name"], maker["type"], maker["value"]) == ("Make", "ASCII", "a maker")
+
+
+def test_metadata_of_what_is_broken(tmp_path: Path) -> None:
+    """Values that the file lacks, and a directory, are lines with their errors."""
+    file, _ = raw_file()
+    path = tmp_path / "raw.tif"
+    path.write_bytes(file[:-20])
+    assert '"error": "UNEXPECTED_EOF"' in run("metadata.py", path)
+    path.write_bytes(file[: -len(file) // 10])
+    assert "DIRECTORY_ERROR" in run("metadata.py", path)
+
+
+WORDS = (1, 1, 0, 4, 1024, 0, 1, 1, 1025, 0, 1, 1, 1026, 34737, 8, 0, 3072, 0, 1, 32633)
+
+
+@pytest.mark.parametrize("is_point", [False, True])
+def test_geo_raster(is_point: bool, tmp_path: Path) -> None:
+    """Keys are told, and a window lies where the raster has it."""
+    image, path, made = samples((300, 400), "u2"), tmp_path / "map.tif", tmp_path / "window.tif"
+    words = (*WORDS[:11], 1 + is_point, *WORDS[12:])
+    tags = [(34735, "H", len(words), words, True), (34737, "s", 0, "a place|", True)]
+    tags += [(33550, "d", 3, (10.0, 5.0, 0.0), True)]
+    tags += [(33922, "d", 6, (0.0, 0.0, 0.0, 500000.0, 900000.0, 0.0), True)]
+    tifffile.imwrite(path, image, photometric="minisblack", tile=(64, 64), extratags=tags)
+    told = run("geo_raster.py", path)
+    assert "GTModelTypeGeoKey = 1 (projected)\n" in told and "EPSG: 32633\n" in told
+    assert "GTCitationGeoKey = 'a place'\n" in told
+    # the middle of the pixel in row 100 and column 200
+    half = 0.0 if is_point else 0.5
+    x, y = 500000 + 10 * (200 + half), 900000 - 5 * (100 + half)
+    told = run("geo_raster.py", path, x, y, 64, made)
+    assert "pixel: row 100, column 200\n" in told and "window: (64, 64) uint16" in told
+    with mt.TiffFile(path) as tif, mt.TiffFile(made) as cut:
+        page, window = tif.pages[0], cut.pages[0]
+        numpy.testing.assert_array_equal(window.asarray(), image[68:132, 168:232])
+        numpy.testing.assert_allclose(window.geo.transform, page.geo.transform_at(68, 168))
+        assert window.geo.keys == page.geo.keys

@@ -170,9 +170,10 @@ FACTS += ["dataoffsets", "databytecounts", "is_inverted", "resolution", "colorma
 
 
 def assert_tags_alike(whole: mt.Tags, ranged: mt.Tags) -> None:
-    """Compares the tags of a directory."""
-    assert whole.keys() == ranged.keys()
-    for code, tag in whole.items():
+    """Compares the tags of a directory; of more than a hundred, the values of some."""
+    told = [[(tag.code, tag.dtype, tag.count) for tag in tags] for tags in (whole, ranged)]
+    assert told[0] == told[1]
+    for code, tag in whole.items()[:: 1 + len(whole) // 100]:
         other = ranged[code]
         assert (tag.dtype, tag.count) == (other.dtype, other.count)
         assert alike(outcome(lambda: tag.value), outcome(lambda: other.value)), code
