@@ -1,6 +1,6 @@
 """The words of the program tiffpage, for what the second road answers: of `list`, of `check`, of `tags`, and of the replies that `calls` prints.
 
-CALLING.md and tests/commands have these words. An error has a text, and a form as Rust's `Debug` prints it.
+docs/TIFFPAGE.md and tests/commands have these words. An error has a text, and a form as Rust's `Debug` prints it.
 """
 import second_road as road
 
