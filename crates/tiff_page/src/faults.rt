@@ -150,10 +150,9 @@ pub fn limit_fault(limits: &Limits, size: usize, bytes: usize) -> TiffResult<()>
     Ok(())
 }
 
-/// Returns how many decompressed bytes the image needs of a chunk: its rows up to the last one, and
-/// as much of that as is output.
+// Returns how many decompressed bytes the image needs of a chunk.
 #[tactic(auto, using(crate::proofs::Requests::rows_fit, crate::proofs::Requests::bytes_few))]
-pub fn needed_bytes(page: &Page, color: ColorType, index: u32) -> u128
+fn needed_bytes(page: &Page, color: ColorType, index: u32) -> u128
     ensures value { result ≡ pixels.needed_bytes (view.page page.now) color index }
     ensures few { result < 2 ^ 89 }
 {

@@ -374,9 +374,8 @@ pub fn needs_whole_rows(page: &Page, color: ColorType) -> bool
         || samples_in_chunk(page, color) < stored_samples(page)
 }
 
-/// Returns how many bytes of a stored row are read to output `len` bytes of it: all of them if the
-/// output needs whole stored rows.
-pub fn needed_of_row(page: &Page, color: ColorType, len: usize) -> usize
+// Returns how many bytes of a stored row are read to output `len` bytes.
+pub(crate) fn needed_of_row(page: &Page, color: ColorType, len: usize) -> usize
     requires { len < 2 ^ 56 }
     ensures value { result ≡ pixels.needed_of_row (view.page page.now) color len }
     ensures few { result < 2 ^ 56 }

@@ -44,9 +44,8 @@ use tiff_base::error::{TiffResult, UsageError};
 use tiff_base::io::Source;
 use tiff_ifd::limits::Limits;
 
-/// Returns `InsufficientOutputBufferSize` if a slice of `provided` bytes has fewer than the `needed`
-/// bytes.
-pub fn room_fault(provided: usize, needed: usize) -> TiffResult<()>
+// Returns `InsufficientOutputBufferSize` if a slice has no room for one plane.
+fn room_fault(provided: usize, needed: usize) -> TiffResult<()>
     ensures answer { Gives (λ _. tt) result (calls.room_fault provided needed) }
     ensures room { IfOk result (λ _. needed ≤ provided) }
 {
