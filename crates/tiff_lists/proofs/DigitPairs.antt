@@ -1,10 +1,9 @@
 -- Pairs of digits that are read one after another.
 use Rattle.std.proofs.Common.{◌≡◌, ℕ, ◌<◌, ◌+◌, List, [], ◌∷◌, ◌++◌, length, take, drop, get_or, ap, sym, ◌∙◌, refl, arith, append_assoc, append-nil, slice_index, ◌≤◌, ◌-◌, Option, None, Some}
-use Rattle.std.specs.Prelude.{◌==◌, ◌/◌, ◌%◌, ◌*◌, ◌&&◌, Bool, true, suc, false, flat_map, codes}
+use Rattle.std.specs.Prelude.{◌==◌, ◌/◌, ◌%◌, ◌*◌, ◌&&◌, Bool, true, suc, false, flat_map}
 use Rattle.std.specs.Fmt.{digit_glyph}
 use Rattle.std.specs.Bool.{then_some}
 use Rattle.std.specs.Option.{option_and_then, option_map}
-use Rattle.std.specs.Str.{bytes_eq}
 use Rattle.std.proofs.lemmas.Bool.Decides.{nat_tests}
 use Rattle.std.proofs.lemmas.List.{flat_map_more, take_all, take_more}
 use Rattle.tiff_lists.specs.Digits.{bytes_in, digit, pair_byte, pairs, two_digits}

@@ -1,5 +1,5 @@
 -- Lists that are read item by item, and errors that are passed on.
-use Rattle.std.proofs.Common.{◌≡◌, ℕ, ◌<◌, ◌≤◌, ◌+◌, List, [], ◌∷◌, length, drop, get_or, ap, sym, ◌∙◌, Option, None, Some, refl, false}
+use Rattle.std.proofs.Common.{◌≡◌, ℕ, ◌<◌, ◌≤◌, ◌+◌, List, length, drop, get_or, ap, sym, ◌∙◌, Option, None, Some, refl, false}
 use Rattle.std.specs.Prelude.{◌==◌, Result, Ok, Err}
 use Rattle.std.specs.List.{slice_split}
 use Rattle.std.specs.Option.{option_and_then}
@@ -26,6 +26,11 @@ one_more step s all n x h =
 pub passed_on : {A B C D : Type 0} (v : A → B) (w : C → D) (part : Option B) (whole : Option D) (e : ParseError) → Reads v part (Err e) → (part ≡ None → whole ≡ None) → Reads w whole (Err e)
 passed_on v w part whole Form h k = k h
 passed_on v w part whole OutOfMemory h k = tt
+
+-- Nothing is spelled where the form is refused.
+pub form_refused : {A B : Type 0} (v : A → B) (o : Option B) (e : ParseError) → Reads v o (Err e) → e ≡ Form → o ≡ None
+form_refused v o Form h same = h
+form_refused v o OutOfMemory h same = absurd (cc (same))
 
 -- A step that fails.
 pub stopped : {S A : Type 0} (step : S → A → Option S) (s : S) (all : List A) (n : ℕ) (x : A) (whole : Option S) → (n < length all) × (x ≡ get_or all n x)

@@ -1,6 +1,9 @@
 pub mod Digits
+pub mod Jobs
 pub mod Line
 pub mod Numbers
+pub mod Samples
 pub mod Stands
+pub mod Steps
 pub mod Told
 pub mod Values

@@ -1,5 +1,5 @@
 -- What a single word stands for.
-use Rattle.std.specs.Prelude.{ℕ, ℤ, ◌+◌, ◌*◌, ◌^◌, List, Option, None, Some, codes, length, if◌then◌else◌, nat_le, nat_lt, is_nan, to_bits}
+use Rattle.std.specs.Prelude.{ℕ, ◌+◌, ◌*◌, ◌^◌, List, Option, None, Some, codes, length, if◌then◌else◌, nat_le, nat_lt, is_nan, to_bits}
 use Rattle.std.specs.Float.{binary32, binary64}
 use Rattle.std.specs.Option.{option_and_then, option_map}
 use Rattle.std.specs.Str.{bytes_eq}

@@ -1,12 +1,12 @@
 -- The values and the entries that jobs write, as words.
-use Rattle.std.specs.Prelude.{ℕ, ◌==◌, List, [], map, length, Option, None, Some, codes, string_bytes, if◌then◌else◌}
+use Rattle.std.specs.Prelude.{ℕ, ◌==◌, List, map, length, Option, None, Some, codes, string_bytes, if◌then◌else◌}
 use Rattle.std.specs.FinMap.{empty, insert}
 use Rattle.std.specs.Int.{to_be_bytes, w64}
 use Rattle.std.specs.Option.{option_map}
 use Rattle.std.specs.Str.{bytes_eq}
 use Rattle.tiff_base.specs.Buffer.{BufferRecord}
-use Rattle.tiff_base.specs.Field.{DirectoryRecord, Field}
-use Rattle.tiff_base.specs.Tags.{tag_of, type_of}
+use Rattle.tiff_base.specs.Field.{DirectoryRecord}
+use Rattle.tiff_base.specs.Tags.{extra_of, format_of, interpretation_of, method_of, planar_of, predictor_of, tag_of, type_of, unit_of}
 use Rattle.tiff_base.specs.declared.tags.«Type».{«Type»}
 use Rattle.tiff_base.specs.declared.tags.Tag.{Tag}
 use Rattle.tiff_value.specs.Data.{Scalars}
@@ -16,8 +16,8 @@ use Rattle.tiff_encode.specs.declared.encoder.script.JobValue.{JobValue}
 use Rattle.tiff_encode.specs.declared.encoder.script.JobValue.TheVariants as v
 use Rattle.tiff_lists.specs.Digits.{bytes_in}
 use Rattle.tiff_lists.specs.Line.{◌>>=◌, after_all, before, behind, first_word, has, items, words_behind, words_of}
-use Rattle.tiff_lists.specs.Numbers.{magnitude, number, unsigned}
-use Rattle.tiff_lists.specs.Stands.{fraction, ifd, ifd8, numbered, order, signed_fraction}
+use Rattle.tiff_lists.specs.Numbers.{magnitude, number, signed, unsigned}
+use Rattle.tiff_lists.specs.Stands.{bits32, bits64, fraction, ifd, ifd8, numbered, order, signed_fraction}
 
 -- ---- values
 
@@ -67,6 +67,50 @@ place_value name words =
     else (if bytes_eq name (codes "srational")
     then several (λ l. scalars.srationals (map (λ r. (r.n, r.d)) l)) signed_fraction words
     else None)))
+
+-- a value of what numbers stand for
+unfoldable pub named_value : List ℕ → List ℕ → Option ValueData
+named_value name words =
+    if bytes_eq name (codes "method")
+    then several scalars.methods (numbered (λ n. Some (method_of n))) words
+    else (if bytes_eq name (codes "interpretation")
+    then several scalars.interpretations (numbered interpretation_of) words
+    else (if bytes_eq name (codes "planar")
+    then several scalars.planars (numbered planar_of) words
+    else (if bytes_eq name (codes "predictor")
+    then several scalars.predictors (numbered predictor_of) words
+    else (if bytes_eq name (codes "unit") then several scalars.units (numbered unit_of) words
+    else (if bytes_eq name (codes "format")
+    then several scalars.formats (numbered (λ n. Some (format_of n))) words
+    else (if bytes_eq name (codes "extra") then several scalars.extras (numbered extra_of) words
+    else place_value name words))))))
+
+-- a value of numbers of 32 or 64 bits
+unfoldable pub wide_value : List ℕ → List ℕ → Option ValueData
+wide_value name words =
+    if bytes_eq name (codes "u32") then several scalars.u32s (unsigned 32) words
+    else (if bytes_eq name (codes "i32") then several scalars.i32s (signed 32) words
+    else (if bytes_eq name (codes "u64") then several scalars.u64s magnitude words
+    else (if bytes_eq name (codes "i64") then several scalars.i64s (signed 64) words
+    else (if bytes_eq name (codes "f32")
+    then several (λ l. scalars.bits32s (map (λ b. b.0) l)) bits32 words
+    else (if bytes_eq name (codes "f64")
+    then several (λ l. scalars.bits64s (map (λ b. b.0) l)) bits64 words
+    else named_value name words)))))
+
+-- a value of any type, or a text
+abbrev pub value_of : List ℕ → List ℕ → Option ValueData
+value_of name words =
+    if bytes_eq name (codes "text") then Some (Text words)
+    else (if bytes_eq name (codes "u8") then several scalars.u8s (unsigned 8) words
+    else (if bytes_eq name (codes "i8") then several scalars.i8s (signed 8) words
+    else (if bytes_eq name (codes "u16") then several scalars.u16s (unsigned 16) words
+    else (if bytes_eq name (codes "i16") then several scalars.i16s (signed 16) words
+    else wide_value name words))))
+
+-- the value that words stand for: the name of a type, and a word for each scalar, or the text
+unfoldable pub value : List ℕ → Option ValueData
+value words = value_of (first_word words) (words_behind words)
 
 -- ---- bytes and entries
 

@@ -1,11 +1,10 @@
 //! The values that jobs write, and the fields of directories, as words.
 
 ghost use Rattle.std.specs.Prelude.{◌≡◌, List, ℕ};
-ghost use Rattle.std.specs.Option.{option_map};
 ghost use Rattle.tiff_base.specs.declared.tags.«Type».{«Type»};
 ghost use Rattle.tiff_base.specs.declared.tags.Tag.{Tag};
 ghost use Rattle.tiff_lists.specs.Line.{Reads};
-ghost use Rattle.tiff_lists.specs.Values.{buffer, buffer_held, field_bytes, fields, parted, place_value, tagged, typed, value_held, with_field};
+ghost use Rattle.tiff_lists.specs.Values.{buffer, buffer_held, field_bytes, fields, named_value, parted, place_value, tagged, typed, value, value_held, wide_value, with_field};
 
 use crate::numbers::number;
 use crate::words::{ParseError, digits_of, first_word, list_of, parts, read};
@@ -29,7 +28,10 @@ fn place_value(alloc: Global, name: &str, words: &str) -> Result<JobValue, Parse
 }
 
 // A value of what numbers stand for, as a compression method or a predictor.
-fn named_value(alloc: Global, name: &str, words: &str) -> Result<JobValue, ParseError> {
+#[tactic(auto, unfolding(crate::specs::Values::named_value))]
+fn named_value(alloc: Global, name: &str, words: &str) -> Result<JobValue, ParseError>
+    ensures { Reads value_held (named_value name.now words.now) result }
+{
     match name {
         "method" => Ok(JobValue::CompressionMethod(list_of(alloc, words)?)),
         "interpretation" => Ok(JobValue::PhotometricInterpretation(list_of(alloc, words)?)),
@@ -43,7 +45,10 @@ fn named_value(alloc: Global, name: &str, words: &str) -> Result<JobValue, Parse
 }
 
 // A value of numbers of 32 or 64 bits.
-fn wide_value(alloc: Global, name: &str, words: &str) -> Result<JobValue, ParseError> {
+#[tactic(auto, unfolding(crate::specs::Values::wide_value))]
+fn wide_value(alloc: Global, name: &str, words: &str) -> Result<JobValue, ParseError>
+    ensures { Reads value_held (wide_value name.now words.now) result }
+{
     match name {
         "u32" => Ok(JobValue::U32(list_of(alloc, words)?)),
         "i32" => Ok(JobValue::I32(list_of(alloc, words)?)),
@@ -57,7 +62,10 @@ fn wide_value(alloc: Global, name: &str, words: &str) -> Result<JobValue, ParseE
 
 /// The value that words stand for: the name of a type, and a word for each number; or `text`, and
 /// the text. Words that aren't so: `Form`.
-pub fn value_of(alloc: Global, words: &str) -> Result<JobValue, ParseError> {
+#[tactic(auto, unfolding(crate::specs::Values::value))]
+pub fn value_of(alloc: Global, words: &str) -> Result<JobValue, ParseError>
+    ensures { Reads value_held (value words.now) result }
+{
     let (name, words) = first_word(words);
     match name {
         "text" => Ok(JobValue::Text(String::from_str(alloc, words)?)),

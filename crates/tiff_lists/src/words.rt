@@ -1,6 +1,6 @@
 //! Single words of a line: numbers, and what numbers and names stand for.
 
-ghost use Rattle.std.specs.Prelude.{◌≡◌, ◌<◌, ℕ, List, MatchOption, MatchResult, None, Option, Some, false, true};
+ghost use Rattle.std.specs.Prelude.{◌≡◌, ◌<◌, ℕ, List, MatchOption, None, Option, Some, false, true};
 ghost use Rattle.std.specs.Float.{binary32, binary64};
 ghost use Rattle.std.specs.Float.Parse.{parse_float};
 ghost use Rattle.std.specs.Option.{option_map};
