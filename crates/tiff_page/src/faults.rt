@@ -182,28 +182,10 @@ fn reach<R: Source>(source: &mut R, at: u64, len: u128) -> TiffResult<()>
     read_exact_at(source, last, &mut [0u8; 1])
 }
 
-// Returns `IoError(UnexpectedEof)` if the source has too few of the `count` bytes of PackBits data
-// at offset `at` for `needed` decompressed bytes. Two bytes of PackBits data decompress to at most
-// 128 bytes.
-#[tactic(auto, using(crate::proofs::Requests::counted_few, crate::proofs::Requests::counted_all, crate::proofs::Requests::least_few))]
-fn reach_packed<R: Source>(source: &mut R, at: u64, count: u64, needed: u128) -> TiffResult<()>
-    requires few { needed < 2 ^ 89 }
-    ensures kept { IsKept R.told R.failures result source.old source.new }
-    ensures answer { AnswersWithoutMemory (λ _. tt) result (spec.fail_if
-        (nat_lt (min count (length (R.told source.old).bytes - at)) (div_ceil needed 64))
-        (tiff.IoError io.UnexpectedEof)) (R.failures source.old) (R.failures source.new) }
-    ensures asked { AsksOnly (AreReadable (R.told source.old) at count) result }
-{
-    let least = needed.div_ceil(64);
-    if u128::from(count) < least {
-        return Err(TiffError::IoError(IoKind::UnexpectedEof));
-    }
-    reach(source, at, least)
-}
-
 /// Returns the first error of a chunk, as far as it is found before memory is allocated for its
 /// samples: an error of `form_fault`, or `IoError(UnexpectedEof)` if the source has too few
 /// bytes for what the chunk's data take at least. Reads at most one byte.
+#[tactic(auto, using(crate::proofs::Requests::counted_few, crate::proofs::Requests::counted_all, crate::proofs::Requests::least_few))]
 pub(crate) fn early_fault<R: Source>(
     page: &Page,
     limits: &Limits,
@@ -222,8 +204,13 @@ pub(crate) fn early_fault<R: Source>(
     form_fault(page, limits, color, chunk)?;
     let at = page.offsets.get(chunk);
     let needed = needed_bytes(page, color, index);
-    if is_packed(page.method) {
-        return reach_packed(source, at, page.byte_counts.get(chunk), needed);
+    if !is_packed(page.method) {
+        return reach(source, at, needed);
     }
-    reach(source, at, needed)
+    // Two bytes of PackBits data decompress to at most 128 bytes.
+    let least = needed.div_ceil(64);
+    if u128::from(page.byte_counts.get(chunk)) < least {
+        return Err(TiffError::IoError(IoKind::UnexpectedEof));
+    }
+    reach(source, at, least)
 }

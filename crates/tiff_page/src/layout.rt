@@ -386,28 +386,6 @@ pub(crate) fn needed_of_row(page: &Page, color: ColorType, len: usize) -> usize
     len
 }
 
-fn is_whole_chroma(page: &Page, color: ColorType) -> TiffResult<()>
-    ensures { Gives (λ _. color) result (spec.whole_chroma (view.page page.now) color) }
-{
-    match color {
-        ColorType::YCbCr(_) if page.subsampling != (1, 1) => match page.method {
-            CompressionMethod::ModernJPEG => Ok(()),
-            _ => Err(TiffUnsupportedError::ChromaSubsampling.into()),
-        },
-        _ => Ok(()),
-    }
-}
-
-fn check_whole_chunks(page: &Page, color: ColorType, width: u32) -> TiffResult<()>
-    ensures { Gives (λ _. color) result (spec.whole_chunks (view.page page.now) color width) }
-{
-    let across = (u64::from(width) + u64::from(page.chunk_width) - 1) / u64::from(page.chunk_width);
-    if across > 1 && row_bits(page, color, page.chunk_width) % 8 != 0 {
-        return Err(TiffUnsupportedError::MisalignedTileBoundaries.into());
-    }
-    Ok(())
-}
-
 pub fn checked_byte_count(a: usize, b: usize) -> TiffResult<usize>
     ensures { Gives (λ n. n) result (spec.wide (a * b)) }
 {
@@ -434,8 +412,16 @@ pub fn layout_of(page: &Page, alloc: Global, width: u32, height: u32) -> TiffRes
     let row_bytes = (row_bits(page, color, width) + 7) / 8;
     checked_byte_count(row_bytes, page.chunk_height as usize)?;
     let plane_stride = checked_byte_count(row_bytes, height as usize)?;
-    check_whole_chunks(page, color, width)?;
-    is_whole_chroma(page, color)?;
+    let across = (u64::from(width) + u64::from(page.chunk_width) - 1) / u64::from(page.chunk_width);
+    if across > 1 && row_bits(page, color, page.chunk_width) % 8 != 0 {
+        return Err(TiffUnsupportedError::MisalignedTileBoundaries.into());
+    }
+    if matches!(color, ColorType::YCbCr(_))
+        && page.subsampling != (1, 1)
+        && page.method != CompressionMethod::ModernJPEG
+    {
+        return Err(TiffUnsupportedError::ChromaSubsampling.into());
+    }
     Ok(PlaneLayout {
         color,
         row_bytes,

@@ -135,21 +135,6 @@ fn add_u64(row: &mut [u8], from: usize, to: usize)
     row[at..at + 8].copy_from_slice(&sum.to_le_bytes());
 }
 
-// Adds number `from` of a row to number `to`, modulo 256 to the power of `size`.
-fn add_number(row: &mut [u8], from: usize, to: usize, size: usize)
-    requires size { IsSize size }
-    requires before { from < to }
-    requires within { (to + 1) * size ≤ length row.old }
-    ensures { AddsNumber size row.old from to row.new }
-{
-    match size {
-        1 => add_byte(row, from, to),
-        2 => add_u16(row, from, to),
-        4 => add_u32(row, from, to),
-        _ => add_u64(row, from, to),
-    }
-}
-
 // Adds to each number of a row the one before it of the same sample. If `size` and `stored` are
 // constants, the loop is compiled for these.
 #[inline(always)]
@@ -160,7 +145,12 @@ fn sum_numbers(row: &mut [u8], size: usize, stored: usize)
 {
     let count = row.len() / size;
     for k in stored..count {
-        add_number(row, k - stored, k, size);
+        match size {
+            1 => add_byte(row, k - stored, k),
+            2 => add_u16(row, k - stored, k),
+            4 => add_u32(row, k - stored, k),
+            _ => add_u64(row, k - stored, k),
+        }
     }
 }
 
