@@ -9,10 +9,11 @@ use Rattle.tiff_base.specs.declared.error.TiffError.TheVariants.{FormatError, Un
 use Rattle.tiff_base.specs.declared.io.IoKind.TheVariants.{UnexpectedEof, InvalidData, InvalidInput, WriteZero, Device}
 use Rattle.tiff_base.specs.declared.tags.IfdPointer.{IfdPointer}
 use Rattle.tiff_base.specs.Answers.{◌>>=◌, Answers}
+use Rattle.tiff_base.specs.Directory.{directory_at}
 use Rattle.tiff_base.specs.Field.{DirectoryRecord}
 use Rattle.tiff_page.specs.Page.{PageRecord}
 use Rattle.tiff_decode.specs.Machine.{Decoding, Outcome, Follows, GivesOutcome}
-use Rattle.tiff_decode.specs.Outcome.{chain_of, page_in, seek_to_image}
+use Rattle.tiff_decode.specs.Outcome.{chain_of, page_in, seek_to_image, show_directory, show_outcome, with_page}
 use Rattle.tiff_laws.specs.Pages.{Arrives, PageAnswers, SameFile, WalkSeeks, page_at}
 use Rattle.tiff_laws.proofs.Listed.{take_next}
 use Rattle.tiff_pages.specs.declared.pages.PageList.{PageList}
@@ -108,6 +109,92 @@ pub same_then : (d new last : Decoding) (number : ℕ) (entered : Answer) → Ar
 same_then d new last number entered a e =
     let P : Decoding → Type 0 = λ x. SameFile d x × (x.failures ≡ d.failures) in
     subst P (sym e) (a.0.along.same, a.1)
+
+-- ---- a page that is shown
+
+-- The page at an offset is shown, of the same file.
+abbrev ShowsPage : Decoding → Decoding → ℕ → Type 0
+ShowsPage old new offset = (page_at old offset ≡ Ok new.state.page) × SameFile old new
+
+abbrev page_result : PageRecord → Result PageRecord TiffError
+page_result page = Ok page
+
+shown_page : (old new : Decoding) (offset : ℕ) (u : Unit {0}) (directory : DirectoryRecord) (page : Result PageRecord TiffError)
+    → directory_at old.kind old.order old.bytes offset ≡ Ok directory
+    → page_in old.kind old.order old.bytes old.state.limits directory ≡ page → (with_page old.state directory page).answer ≡ Ok u
+    → new ≡ record old { state = (with_page old.state directory page).next } → ShowsPage old new offset
+shown_page old new offset u directory (Err e) r q a n = absurd (cc)
+shown_page old new offset u directory (Ok page) r q a n = (
+  ap (λ (x : Result DirectoryRecord TiffError). x >>= page_in old.kind old.order old.bytes old.state.limits) r ∙ q
+      ∙ ap page_result (sym (ap (λ (d : Decoding). d.state.page) n)),
+  record {
+    bytes = ap (λ (d : Decoding). d.bytes) n;
+    kind = ap (λ (d : Decoding). d.kind) n;
+    order = ap (λ (d : Decoding). d.order) n;
+    first = ap (λ (d : Decoding). d.first) n;
+    limits = ap (λ (d : Decoding). d.state.limits) n;
+  },
+)
+
+shown_directory : (old new : Decoding) (offset : ℕ) (u : Unit {0}) (read : Result DirectoryRecord TiffError)
+    → directory_at old.kind old.order old.bytes offset ≡ read → (show_outcome old read).answer ≡ Ok u
+    → new ≡ record old { state = (show_outcome old read).next } → ShowsPage old new offset
+shown_directory old new offset u (Err e) r a n = absurd (cc)
+shown_directory old new offset u (Ok directory) r a n = shown_page old new offset u directory (page_in old.kind old.order old.bytes old.state.limits directory) r refl a n
+
+shown_here : (place : IfdPointer) (u : Unit {0}) (old new : Decoding) → Follows (λ x. x) (show_directory old place) (Ok u) old new → ShowsPage old new place.0
+unfolding show_directory
+shown_here place u old new h = shown_directory old new place.0 u (directory_at old.kind old.order old.bytes place.0) refl h.answer h.at
+
+-- The image of a page that is shown was read.
+pub image_shown : (old new last : Decoding) (place : IfdPointer) (u : Unit {0}) (answer shown : Answer) (r image : Result ImageSum TiffError)
+    → (shown ≡ answer) × IsOfFile answer → shown ≡ Ok u → Follows (λ x. x) (show_directory old place) answer old new
+    → ReadsPage (λ s. s) (image_sum new new.state.page) r new last → (image ≡ r) × IsOfFile r
+    → record { place = place; image = image } ≡ check_at old place.0
+image_shown old new last place u answer shown r image k t h reads told =
+    let P : Answer → Type 0 = λ x. Follows (λ y. y) (show_directory old place) x old new in
+    let s = shown_here place u old new (subst P (sym k.0 ∙ t) h) in
+    let is : (page_at old place.0 >>= image_sum old) ≡ image =
+    ap (λ (p : Result PageRecord TiffError). p >>= image_sum old) s.0 ∙ sym (sum_of_file old new new.state.page s.1)
+    ∙ given_is r (image_sum new new.state.page) new.failures last.failures told.1 reads.answer ∙ sym told.0 in
+    λ i. record { place = place; image = sym is i }
+
+abbrev the_error : TiffError → Answer
+the_error e = Err e
+
+abbrev page_error : TiffError → Result PageRecord TiffError
+page_error e = Err e
+
+same_fault : (f e : TiffError) → the_error f ≡ the_error e → f ≡ e
+same_fault f e h = cc
+
+fault_page : (old : Decoding) (offset : ℕ) (e : TiffError) (directory : DirectoryRecord) (page : Result PageRecord TiffError)
+    → directory_at old.kind old.order old.bytes offset ≡ Ok directory
+    → page_in old.kind old.order old.bytes old.state.limits directory ≡ page → (with_page old.state directory page).answer ≡ Err e
+    → page_at old offset ≡ Err e
+fault_page old offset e directory (Ok page) r q a = absurd (cc)
+fault_page old offset e directory (Err f) r q a =
+    ap (λ (x : Result DirectoryRecord TiffError). x >>= page_in old.kind old.order old.bytes old.state.limits) r ∙ q ∙ ap page_error (same_fault f e a)
+
+fault_directory : (old : Decoding) (offset : ℕ) (e : TiffError) (read : Result DirectoryRecord TiffError)
+    → directory_at old.kind old.order old.bytes offset ≡ read → (show_outcome old read).answer ≡ Err e → page_at old offset ≡ Err e
+fault_directory old offset e (Err f) r a =
+    ap (λ (x : Result DirectoryRecord TiffError). x >>= page_in old.kind old.order old.bytes old.state.limits) r ∙ ap page_error (same_fault f e a)
+fault_directory old offset e (Ok directory) r a = fault_page old offset e directory (page_in old.kind old.order old.bytes old.state.limits directory) r refl a
+
+fault_here : (place : IfdPointer) (e : TiffError) (old new : Decoding) → GivesOutcome (Err e) (show_directory old place) old new → page_at old place.0 ≡ Err e
+unfolding show_directory
+fault_here place e old new h = fault_directory old place.0 e (directory_at old.kind old.order old.bytes place.0) refl h.answer
+
+-- The page at an offset has an error.
+pub fault_shown : (old new : Decoding) (place : IfdPointer) (e : TiffError) (answer shown : Answer) (image : Result ImageSum TiffError)
+    → (shown ≡ answer) × IsOfFile answer → shown ≡ Err e → Follows (λ x. x) (show_directory old place) answer old new → image ≡ Err e
+    → record { place = place; image = image } ≡ check_at old place.0
+fault_shown old new place e answer shown image k t h is =
+    let P : Answer → Type 0 = λ x. GivesOutcome x (show_directory old place) old new in
+    let g = fault_here place e old new (subst P (sym k.0 ∙ t) (of_file (show_directory old place) answer old new k.1 h)) in
+    let same : image ≡ (page_at old place.0 >>= image_sum old) = is ∙ sym (ap (λ (p : Result PageRecord TiffError). p >>= image_sum old) g) in
+    λ i. record { place = place; image = same i }
 
 -- ---- one after another
 

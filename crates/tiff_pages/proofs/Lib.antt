@@ -11,3 +11,4 @@ mod Rooted
 mod Stepped
 pub mod Planned
 pub mod PlanOf
+pub mod SeenFiles

@@ -10,18 +10,18 @@ use Rattle.tiff_pages.specs.Check.{ReadsPage}
 
 -- What a call that reads pixels follows is a read of the page.
 pub reads_page : {X Y : Type 0} (view : X → Y) (a : Result Y TiffError) (r : Result X TiffError) (d new : Decoding) → Follows view (stays d a) r d new → ReadsPage view a r d new
-reads_page view a (Ok x) d new h = record { answer = h.answer; stays = λ k. h.at }
-reads_page view a (Err OutOfMemory) d new h = record { answer = tt; stays = λ k. absurd (cc) }
-reads_page view a (Err (IoError Device)) d new h = record { answer = h.grew; stays = λ k. absurd (cc) }
-reads_page view a (Err (IoError UnexpectedEof)) d new h = record { answer = h.answer; stays = λ k. h.at }
-reads_page view a (Err (IoError InvalidData)) d new h = record { answer = h.answer; stays = λ k. h.at }
-reads_page view a (Err (IoError InvalidInput)) d new h = record { answer = h.answer; stays = λ k. h.at }
-reads_page view a (Err (IoError WriteZero)) d new h = record { answer = h.answer; stays = λ k. h.at }
-reads_page view a (Err (FormatError x)) d new h = record { answer = h.answer; stays = λ k. h.at }
-reads_page view a (Err (UnsupportedError x)) d new h = record { answer = h.answer; stays = λ k. h.at }
-reads_page view a (Err LimitsExceeded) d new h = record { answer = h.answer; stays = λ k. h.at }
-reads_page view a (Err IntSizeError) d new h = record { answer = h.answer; stays = λ k. h.at }
-reads_page view a (Err (UsageError x)) d new h = record { answer = h.answer; stays = λ k. h.at }
+reads_page view a (Ok x) d new h = record { answer = h.answer; stays = λ k. h.at; readable = ap (λ (e : Decoding). e.readable) h.at }
+reads_page view a (Err OutOfMemory) d new h = record { answer = tt; stays = λ k. absurd (cc); readable = ap (λ (e : Decoding). e.readable) h.1 }
+reads_page view a (Err (IoError Device)) d new h = record { answer = h.grew; stays = λ k. absurd (cc); readable = ap (λ (e : Decoding). e.readable) h.at.stands }
+reads_page view a (Err (IoError UnexpectedEof)) d new h = record { answer = h.answer; stays = λ k. h.at; readable = ap (λ (e : Decoding). e.readable) h.at }
+reads_page view a (Err (IoError InvalidData)) d new h = record { answer = h.answer; stays = λ k. h.at; readable = ap (λ (e : Decoding). e.readable) h.at }
+reads_page view a (Err (IoError InvalidInput)) d new h = record { answer = h.answer; stays = λ k. h.at; readable = ap (λ (e : Decoding). e.readable) h.at }
+reads_page view a (Err (IoError WriteZero)) d new h = record { answer = h.answer; stays = λ k. h.at; readable = ap (λ (e : Decoding). e.readable) h.at }
+reads_page view a (Err (FormatError x)) d new h = record { answer = h.answer; stays = λ k. h.at; readable = ap (λ (e : Decoding). e.readable) h.at }
+reads_page view a (Err (UnsupportedError x)) d new h = record { answer = h.answer; stays = λ k. h.at; readable = ap (λ (e : Decoding). e.readable) h.at }
+reads_page view a (Err LimitsExceeded) d new h = record { answer = h.answer; stays = λ k. h.at; readable = ap (λ (e : Decoding). e.readable) h.at }
+reads_page view a (Err IntSizeError) d new h = record { answer = h.answer; stays = λ k. h.at; readable = ap (λ (e : Decoding). e.readable) h.at }
+reads_page view a (Err (UsageError x)) d new h = record { answer = h.answer; stays = λ k. h.at; readable = ap (λ (e : Decoding). e.readable) h.at }
 
 -- An error of a read is the error of what follows it.
 pub read_refused : {X X' Y Y' : Type 0} (view : X → Y) (view' : X' → Y') (a : Result Y TiffError) (f : Y → Result Y' TiffError) (e : TiffError) (d new : Decoding)
@@ -29,6 +29,7 @@ pub read_refused : {X X' Y Y' : Type 0} (view : X → Y) (view' : X' → Y') (a 
 read_refused view view' a f e d new h = record {
   answer = cause_along e (λ w. w) (λ x. x) (λ g. ap (λ r. r >>= f) g) h.answer;
   stays = h.stays;
+  readable = h.readable;
 }
 
 then_answers : {X Y : Type 0} (view : X → Y) (r : Result X TiffError) (given given' : Result Y TiffError) (m n : ℕ) → given' ≡ given → AnswersWithoutSource view r given → Answers view r given' m n
@@ -41,4 +42,5 @@ pub read_then : {X X' Y Y' : Type 0} (view : X → Y) (view' : X' → Y') (a : R
 read_then view view' a f x r d new h t = record {
   answer = then_answers view' r (f (view x)) (a >>= f) d.failures new.failures (ap (λ y. y >>= f) h.answer) t;
   stays = λ k. h.stays tt;
+  readable = h.readable;
 }

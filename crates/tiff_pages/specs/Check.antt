@@ -71,8 +71,9 @@ are_well checks = list_all (λ check. is_ok check.image) checks
 -- ---- a read of the decoder's page
 
 -- A read returns the given result, seen by `view`, unless memory is out or the device fails; except
--- for these two, it leaves all as it was.
+-- for these two, it leaves all as it was, and it always leaves what can be read.
 pub record ReadsPage {X Y : Type 0} (view : X → Y) (given : Result Y TiffError)
     (result : Result X TiffError) (old new : Decoding) : Type 0 where
   pub answer : Answers view result given old.failures new.failures
   pub stays : IsOfFile result → new ≡ old
+  pub readable : new.readable ≡ old.readable

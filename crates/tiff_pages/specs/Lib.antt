@@ -4,3 +4,4 @@ pub mod Check
 pub mod Listed
 pub mod Tree
 pub mod Plan
+pub mod OfFile

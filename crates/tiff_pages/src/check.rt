@@ -91,6 +91,26 @@ fn image_sum<R: Source>(alloc: Global, decoder: &mut Decoder<R>) -> TiffResult<I
     Ok(sum_of(&image))
 }
 
+/// Reads the page of the directory at an offset whole, inside or outside the chain. The check has the
+/// sum of its bytes, in all its planes, or its first error under the decoder's limits. Its only errors
+/// are `OutOfMemory` and an error of the device, `IoError(Device)`.
+pub fn check_shown<R: Source>(
+    alloc: Global,
+    decoder: &mut Decoder<R>,
+    place: IfdPointer,
+) -> TiffResult<PageCheck>
+    ensures check { IfOk result (λ check. check ≡ check_at decoder.old place.0) }
+    ensures readable { decoder.new.readable ≡ decoder.old.readable }
+    ensures refused { IfErr result (λ e. IsCause (Unit {0}) (decoder.old.failures < decoder.new.failures) e ⊥) }
+{
+    let shown = file_answer(decoder.show_directory(place))?;
+    let image = match shown {
+        Ok(()) => file_answer(image_sum(alloc, decoder))?,
+        Err(fault) => Err(fault),
+    };
+    Ok(PageCheck { place, image })
+}
+
 // The page with this number in the chain, read whole.
 fn check_page<R: Source>(
     alloc: Global,

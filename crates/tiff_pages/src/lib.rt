@@ -7,4 +7,5 @@ pub mod check;
 pub mod lines;
 pub mod pages;
 pub mod plan;
+pub mod seen;
 pub mod tree;

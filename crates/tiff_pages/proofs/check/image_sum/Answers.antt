@@ -19,4 +19,5 @@ returns g c =
     record {
       answer = ap (λ (r : Result (List ℕ) TiffError). r >>= λ b. Ok (sum_of b)) c.in_ok-image.ensures.answer ∙ ap (λ (s : ImageSum). Ok s) (sym sum);
       stays = c.in_ok-image.ensures.stays;
+      readable = c.in_ok-image.ensures.readable;
     }
