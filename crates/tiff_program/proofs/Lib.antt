@@ -10,3 +10,5 @@ mod Visits
 mod Words
 pub mod Steps
 pub mod Refused
+pub mod Parted
+pub mod InParts

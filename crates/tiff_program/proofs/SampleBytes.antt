@@ -13,7 +13,8 @@ use Rattle.tiff_decode.specs.Machine.{Decoding}
 use Rattle.tiff_decode.specs.Opened.{opened_of}
 use Rattle.tiff_decode.specs.Outcome.{seek_to_image}
 use Rattle.tiff_decode.specs.Result.{bytes_of}
-use Rattle.tiff_program.specs.AtPage.{AnswersUnder, in_file_under, page_decoder, under}
+use Rattle.tiff_pages.specs.OfFile.{under}
+use Rattle.tiff_program.specs.AtPage.{AnswersUnder, in_file_under, page_decoder}
 use Rattle.tiff_program.specs.Samples.{page_image, sample_bytes}
 
 -- samples of one byte are their bytes

@@ -9,8 +9,8 @@ use Rattle.tiff_pages.specs.Check.{ReadsPage}
 -- What a call that reads nothing follows is a read of the page.
 pub tells_page : {X Y : Type 0} (wanting : Type 0) (view : X → Y) (a : Result Y TiffError) (r : Result X TiffError) (d new : Decoding)
     → FollowsWithoutSourceBut wanting view (stays d a) r d new → ReadsPage view a r d new
-tells_page wanting view a (Ok x) d new h = record { answer = h.0; stays = λ k. h.1 }
-tells_page wanting view a (Err e) d new h = record { answer = cause_along e (λ w. tt) (λ f. absurd f) (λ g. g) h.0; stays = λ k. h.1 }
+tells_page wanting view a (Ok x) d new h = record { answer = h.0; stays = λ k. h.1; readable = ap (λ (e : Decoding). e.readable) h.1 }
+tells_page wanting view a (Err e) d new h = record { answer = cause_along e (λ w. tt) (λ f. absurd f) (λ g. g) h.0; stays = λ k. h.1; readable = ap (λ (x : Decoding). x.readable) h.1 }
 
 also : {X Y Y' : Type 0} (view : X → Y') (a : Result Y TiffError) (f : Y → Result Y' TiffError) (y : Y) (r : Result X TiffError) (m n : ℕ)
     → a ≡ Ok y → Answers view r (f y) m n → Answers view r (a >>= f) m n
@@ -26,4 +26,5 @@ reads_more view view' a g x r d mid new h t =
     record {
       answer = also view' a (g d) (view x) r d.failures new.failures h.answer then.answer;
       stays = then.stays;
+      readable = then.readable;
     }

@@ -2,8 +2,8 @@
 use Rattle.std.proofs.Common.{◌≡◌, List, ℕ, Ok, Err, Result, refl, sym, ap, subst}
 use Rattle.std.specs.Result.{IsErrAnd, result_and, result_map_both}
 use Rattle.tiff_base.specs.declared.error.TiffError.{TiffError}
-use Rattle.tiff_program.specs.declared.program.Failure.{Failure}
-use Rattle.tiff_program.specs.declared.program.Failure.TheVariants as failure
+use Rattle.tiff_program.specs.declared.failure.Failure.{Failure}
+use Rattle.tiff_program.specs.declared.failure.Failure.TheVariants as failure
 use Rattle.tiff_pages.specs.declared.lines.Lines.{Lines}
 use Rattle.tiff_program.specs.Commands.{Gives}
 use Rattle.tiff_program.specs.Files.{Makes, Then}

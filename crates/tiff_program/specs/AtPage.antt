@@ -7,8 +7,9 @@ use Rattle.tiff.specs.Answers.{Answers, AnswersBut, ◌>>=◌}
 use Rattle.tiff.specs.Machine.{Decoding}
 use Rattle.tiff.specs.DefaultLimits.{default_limits}
 use Rattle.tiff.specs.Opened.{opened_of}
-use Rattle.tiff.specs.Outcome.{seek_to_image, set_limits}
+use Rattle.tiff.specs.Outcome.{seek_to_image}
 use Rattle.tiff_ifd.specs.declared.limits.Limits.{Limits}
+use Rattle.tiff_pages.specs.OfFile.{under}
 
 -- the decoder at the page with this number
 abbrev pub page_decoder : Decoding → ℕ → Decoding
@@ -52,10 +53,6 @@ abbrev pub limits_for : Option ℕ → Limits
 limits_for None = default_limits
 limits_for (Some bytes) =
     record default_limits { decoding_buffer_size = bytes; intermediate_buffer_size = bytes }
-
--- the decoder under limits, for the next calls
-abbrev pub under : Limits → Decoding → Decoding
-under limits d = record d { state = (set_limits d limits).next }
 
 -- the given result under limits at the page of a file with this number, or the first error
 abbrev pub in_file_under : {Y : Type 0} → (Decoding → Result Y TiffError) → Limits → List ℕ → ℕ

@@ -5,7 +5,7 @@ use Rattle.tiff.specs.Answers.{◌>>=◌}
 use Rattle.tiff.specs.Opened.{opened_of}
 use Rattle.tiff_ifd.specs.declared.limits.Limits.{Limits}
 use Rattle.tiff_pages.specs.Check.{Checks, are_well, checks_of}
-use Rattle.tiff_program.specs.AtPage.{under}
+use Rattle.tiff_pages.specs.OfFile.{under}
 
 -- the checks of the pages of a file under limits, or the error of its header
 abbrev pub checks_under : Limits → List ℕ → Result Checks TiffError

@@ -1,5 +1,5 @@
 -- What each command does with files, and what it returns: its lines, or its failure.
-use Rattle.std.specs.Prelude.{◌≡◌, ◌⊎◌, ◌||◌, ℕ, ◌+◌, min, ◌-◌, ◌^◌, Bool, true, false, List, [], Option, None, Some, Result, Ok, Err, MatchResult, codes, option_map, string_bytes, take, if◌then◌else◌, ◌==◌}
+use Rattle.std.specs.Prelude.{◌≡◌, ◌⊎◌, ◌||◌, ℕ, ◌+◌, min, ◌-◌, ◌^◌, Bool, true, false, List, [], Option, None, Some, Result, Ok, Err, MatchResult, codes, map, option_map, string_bytes, take, if◌then◌else◌, ◌==◌}
 use Rattle.std.specs.List.{count_by, list_any}
 use Rattle.std.specs.Str.{IsUtf8}
 use Rattle.std.specs.Str.Lossy.{utf8_valid_len}
@@ -19,18 +19,20 @@ use Rattle.tiff_encode.specs.declared.encoder.script.Job.TheVariants as job
 use Rattle.tiff_append.specs.declared.last_link.LastLink.{LastLink}
 use Rattle.tiff_append.specs.declared.sink.Addition.{Addition}
 use Rattle.tiff_append.specs.LastLink.{last_link}
+use Rattle.tiff_lists.specs.Jobs.{job_held, jobs_spelled}
 use Rattle.tiff_pages.specs.declared.lines.Lines.{Lines}
 use Rattle.tiff_uses.specs.GrayFile.{AnswersGray}
 use Rattle.tiff_program.specs.declared.command.Command.{Command}
 use Rattle.tiff_program.specs.declared.command.Command.TheVariants as command
 use Rattle.tiff_program.specs.declared.jobs.Written.{Written}
-use Rattle.tiff_program.specs.declared.program.Failure.{Failure}
-use Rattle.tiff_program.specs.declared.program.Failure.TheVariants as failure
+use Rattle.tiff_program.specs.declared.failure.Failure.{Failure}
+use Rattle.tiff_program.specs.declared.failure.Failure.TheVariants as failure
 use Rattle.tiff_program.specs.AtPage.{AnswersIn, AnswersUnder, limits_for}
 use Rattle.tiff_program.specs.Check.{told_under}
 use Rattle.tiff_program.specs.Directories.{told_of_directories}
-use Rattle.tiff_program.specs.Files.{Appends, Compares, Makes, Reads, Then, Writes}
+use Rattle.tiff_program.specs.Files.{Appends, Compares, Makes, Measures, Reads, Then, Writes}
 use Rattle.tiff_program.specs.Listing.{listing}
+use Rattle.tiff_program.specs.Parts.{SeesBy}
 use Rattle.tiff_program.specs.Samples.{plane_bytes, sample_bytes}
 use Rattle.tiff_program.specs.View.{picture}
 use Rattle.tiff_program.specs.Wrote.{Wrote, WroteBehind}
@@ -73,10 +75,16 @@ AnswersBehind place file jobs answer = MatchResult answer
     (λ r. WroteBehind place.kind file place.at jobs r.0 r.1.well × (r.1.end ≡ None))
     (λ e. e ≡ OutOfMemory)
 
--- A list of calls or of jobs: some items; or the number of a line that is none, or memory is out.
-abbrev pub Lists : {A : Type 0} → (ℕ → Failure) → Result A Failure → Type 0
-Lists none (Ok items) = Unit {0}
-Lists none (Err e) = (e ≡ failure.Tiff OutOfMemory) ⊎ ((line : ℕ) × (e ≡ none line))
+-- A list of calls: some calls; or the number of a line that is none, or memory is out.
+abbrev pub AreCalls : Result (List Call) Failure → Type 0
+AreCalls (Ok calls) = Unit {0}
+AreCalls (Err e) = (e ≡ failure.Tiff OutOfMemory) ⊎ ((line : ℕ) × (e ≡ failure.NoCall line))
+
+-- The jobs that a text spells; or the number of its first line that spells none, or memory is out.
+abbrev pub AreJobs : List ℕ → Result (List Job) Failure → Type 0
+AreJobs text (Ok jobs) = jobs_spelled text ≡ Ok (map job_held jobs)
+AreJobs text (Err e) = (e ≡ failure.Tiff OutOfMemory)
+    ⊎ ((line : ℕ) × (jobs_spelled text ≡ Err line) × (e ≡ failure.NoJob line))
 
 -- These replies are made to calls of a file's decoder, which is opened at its first page; or the
 -- first error of that.
@@ -127,11 +135,11 @@ module _ {F : Type 0} (reads : F → List ℕ → Result (List ℕ) TiffError �
 
   -- The calls that standard input lists.
   abbrev pub ListsCalls : F → Result (List Call) Failure → F → Type 0
-  ListsCalls = Then ReadsText (λ text. Rests (Lists (λ line. failure.NoCall line)))
+  ListsCalls = Then ReadsText (λ text. Rests AreCalls)
 
   -- The jobs that standard input lists.
   abbrev pub ListsJobs : F → Result (List Job) Failure → F → Type 0
-  ListsJobs = Then ReadsText (λ text. Rests (Lists (λ line. failure.NoJob line)))
+  ListsJobs = Then ReadsText (λ text. Rests (AreJobs text))
 
   -- `tags`: the input is read, and the entries of a page printed.
   abbrev pub Tags : Bor (List ℕ) → ℕ → F → Result Lines Failure → F → Type 0
@@ -154,6 +162,26 @@ module _ {F : Type 0} (reads : F → List ℕ → Result (List ℕ) TiffError �
   abbrev pub Calls : Bor (List ℕ) → F → Result Lines Failure → F → Type 0
   Calls input = Then (Reads reads input) (λ file. Then ListsCalls (λ calls.
       Then (Makes (RepliesTo file calls)) (λ text. Prints text)))
+
+-- ---- steps that read a long file by parts, and another one whole; `measures` and `reads_part` say
+-- what its length may be told to be, and what a read of a part may return
+
+module _ {F : Type 0} (reads : F → List ℕ → Result (List ℕ) TiffError → F → Type 0)
+    (measures : F → List ℕ → Result (Option ℕ) TiffError → F → Type 0)
+    (reads_part : F → List ℕ → ℕ → ℕ → Result (List ℕ) TiffError → F → Type 0)
+    (seen : List ℕ) where
+  -- Lines of a file, by its length if it is read by parts. What is told by parts is told of this
+  -- file, which can be any, if they are its.
+  abbrev pub TellsBy : (List ℕ → Result (Bool × Option TiffError) TiffError) → Bor (List ℕ)
+      → Option ℕ → F → Result Lines Failure → F → Type 0
+  TellsBy told input None = Tells reads told input
+  TellsBy told input (Some len) = SeesBy reads_part input len seen (λ answer.
+      AnswersWithoutSource (λ lines. (lines.well, lines.end)) answer (told seen))
+
+  -- `directories` and `check`: the length of the input is asked for, and it is read.
+  abbrev pub TellsLong : (List ℕ → Result (Bool × Option TiffError) TiffError) → Bor (List ℕ) → F
+      → Result Lines Failure → F → Type 0
+  TellsLong told input = Then (Measures measures input) (TellsBy told input)
 
 -- ---- steps that write; `writes` says what a write may return
 
@@ -225,7 +253,10 @@ module _ {F : Type 0} (reads : F → List ℕ → Result (List ℕ) TiffError �
 module _ {F : Type 0} (reads : F → List ℕ → Result (List ℕ) TiffError → F → Type 0)
     (writes : F → List ℕ → List ℕ → Result (Unit {0}) TiffError → F → Type 0)
     (appends : F → List ℕ → List ℕ → ℕ → List ℕ → Result (Unit {0}) TiffError → F → Type 0)
-    (compares : F → List ℕ → List ℕ → Result Bool TiffError → F → Type 0) where
+    (compares : F → List ℕ → List ℕ → Result Bool TiffError → F → Type 0)
+    (measures : F → List ℕ → Result (Option ℕ) TiffError → F → Type 0)
+    (reads_part : F → List ℕ → ℕ → ℕ → Result (List ℕ) TiffError → F → Type 0)
+    (seen : List ℕ) where
   -- What a command does with files, and what it returns.
   abbrev pub Does : Command → F → Result Lines Failure → F → Type 0
   Does (command.Gray output width height input) = Grays reads writes output width height input
@@ -234,8 +265,10 @@ module _ {F : Type 0} (reads : F → List ℕ → Result (List ℕ) TiffError �
   Does (command.View input page output) = Views reads writes compares input page output
   Does (command.Tags input page) = Tags reads input page
   Does (command.List input) = TellsSome reads input
-  Does (command.Directories input) = Tells reads told_of_directories input
-  Does (command.Check input limit) = Tells reads (told_under (limits_for limit)) input
+  Does (command.Directories input) =
+      TellsLong reads measures reads_part seen told_of_directories input
+  Does (command.Check input limit) =
+      TellsLong reads measures reads_part seen (told_under (limits_for limit)) input
   Does (command.Calls input) = Calls reads input
   Does (command.Jobs output kind keep_going) = Jobs reads writes output kind keep_going
   Does (command.Append file) = AppendsJobs reads appends file

@@ -1,10 +1,10 @@
 -- What calls of files give, one after another, and what a step of a command returns.
-use Rattle.std.specs.Prelude.{◌≡◌, ◌⊎◌, ℕ, Bool, true, false, List, Result, Ok, Err, codes}
+use Rattle.std.specs.Prelude.{◌≡◌, ◌⊎◌, ℕ, Bool, true, false, List, Option, None, Some, Result, Ok, Err, codes, if◌then◌else◌, nat_lt}
 use Rattle.std.specs.Result.{result_map_both}
 use Rattle.tiff_base.specs.declared.error.TiffError.{TiffError}
 use Rattle.tiff_base.specs.declared.error.TiffError.TheVariants.{OutOfMemory}
-use Rattle.tiff_program.specs.declared.program.Failure.{Failure}
-use Rattle.tiff_program.specs.declared.program.Failure.TheVariants as failure
+use Rattle.tiff_program.specs.declared.failure.Failure.{Failure}
+use Rattle.tiff_program.specs.declared.failure.Failure.TheVariants as failure
 use denote.Ref.{Bor}
 
 -- the failure of a file: the one that names it, except where memory is out
@@ -40,8 +40,25 @@ pub record Makes {F A : Type 0} (given : Result A TiffError → Type 0) (old : F
   pub is : result ≡ result_map_both (λ x. x) (λ e. failure.Tiff e) answer
   pub files : new ≡ old
 
+-- the most bytes of a file that is read whole, where parts of it could be read
+abbrev pub most_whole : ℕ
+most_whole = 67108864
+
+-- the length of a file that is read by parts; none for one that is read whole
+abbrev pub in_parts : Option ℕ → Option ℕ
+in_parts None = None
+in_parts (Some len) = if nat_lt most_whole len then Some len else None
+
 -- files are those of a type F
 module _ {F : Type 0} where
+  -- A look at the length of a file, whether it is read by parts; `measures` says what length it may be
+  -- told to have, with the files before and behind it.
+  abbrev pub Measures : (F → List ℕ → Result (Option ℕ) TiffError → F → Type 0) → Bor (List ℕ) → F
+      → Result (Option ℕ) Failure → F → Type 0
+  Measures measures name old result new = (answer : Result (Option ℕ) TiffError)
+      × measures old name.now answer new
+      × (result ≡ result_map_both in_parts (failure_of (failure.Read name)) answer)
+
   -- A read of a file; `reads` says what it may return, with the files before and behind it.
   abbrev pub Reads : (F → List ℕ → Result (List ℕ) TiffError → F → Type 0) → Bor (List ℕ) → F
       → Result (List ℕ) Failure → F → Type 0

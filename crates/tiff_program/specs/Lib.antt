@@ -11,3 +11,4 @@ pub mod View
 pub mod Words
 pub mod Wrote
 pub mod Status
+pub mod Parts

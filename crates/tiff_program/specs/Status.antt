@@ -5,8 +5,8 @@ use Rattle.std.specs.Str.{bytes_eq}
 use Rattle.tiff_base.specs.declared.error.TiffError.{TiffError}
 use Rattle.tiff_pages.specs.declared.lines.Lines.{Lines}
 use Rattle.tiff_program.specs.declared.command.Command.{Command}
-use Rattle.tiff_program.specs.declared.program.Failure.{Failure}
-use Rattle.tiff_program.specs.declared.program.Failure.TheVariants as failure
+use Rattle.tiff_program.specs.declared.failure.Failure.{Failure}
+use Rattle.tiff_program.specs.declared.failure.Failure.TheVariants as failure
 use Rattle.tiff_program.specs.Commands.{Does}
 use Rattle.tiff_program.specs.Words.{AskFor, output_of}
 
@@ -58,11 +58,15 @@ module _ {O E : Type 0} (printed : O → Option (List ℕ)) (told : E → Option
   RefusesWords out new_out err new_err status = (new_out ≡ out)
       × ((status ≡ 1) ⊎ ((status ≡ 2) × Appends (told err) (told new_err) usage))
 
-  -- files are those of a type F, whose calls these relations describe
+  -- files are those of a type F, whose calls these relations describe; `seen` is a file, of which
+  -- parts may be read
   module _ {F : Type 0} (reads : F → List ℕ → Result (List ℕ) TiffError → F → Type 0)
       (writes : F → List ℕ → List ℕ → Result (Unit {0}) TiffError → F → Type 0)
       (appends : F → List ℕ → List ℕ → ℕ → List ℕ → Result (Unit {0}) TiffError → F → Type 0)
-      (compares : F → List ℕ → List ℕ → Result Bool TiffError → F → Type 0) where
+      (compares : F → List ℕ → List ℕ → Result Bool TiffError → F → Type 0)
+      (measures : F → List ℕ → Result (Option ℕ) TiffError → F → Type 0)
+      (reads_part : F → List ℕ → ℕ → ℕ → Result (List ℕ) TiffError → F → Type 0)
+      (seen : List ℕ) where
     -- What the words of a command line do with files and with the streams, and the status. Words
     -- that ask for no command, and no words, leave all files.
     abbrev pub Runs : List (List ℕ) → F → F → O → O → E → E → ℕ → Type 0
@@ -72,5 +76,5 @@ module _ {O E : Type 0} (printed : O → Option (List ℕ)) (told : E → Option
         ((new_files ≡ files) × ((command : Command) → ¬ AskFor (word ∷ words) command)
         × RefusesWords out new_out err new_err status)
         ⊎ ((command : Command) × (outcome : Result Lines Failure) × AskFor (word ∷ words) command
-        × Does reads writes appends compares command files outcome new_files
+        × Does reads writes appends compares measures reads_part seen command files outcome new_files
         × Ends (is_stream (output_of command)) outcome out new_out err new_err status)

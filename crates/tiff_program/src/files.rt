@@ -1,6 +1,6 @@
-//! Files, read and written whole.
+//! Files, read whole or by parts, and written whole.
 
-ghost use Rattle.std.specs.Prelude.{◌≡◌, ◌⊎◌, ℕ, Bool, IfOk, List, Result, codes, false};
+ghost use Rattle.std.specs.Prelude.{◌≡◌, ◌⊎◌, ℕ, Bool, IfOk, List, Option, Result, codes, false, length};
 ghost use Rattle.std.specs.Result.{result_map_both};
 ghost use Rattle.tiff_base.specs.declared.error.TiffError.{TiffError};
 
@@ -11,6 +11,12 @@ use tiff::TiffResult;
 pub trait Files {
     /// What a read of a name may return, with the files before and after it.
     ghost reads: { Self → List ℕ → Result (List ℕ) TiffError → Self → Type 0 } = { λ _ _ _ _. Unit {0} };
+
+    /// What length a name may be told to have.
+    ghost measures: { Self → List ℕ → Result (Option ℕ) TiffError → Self → Type 0 } = { λ _ _ _ _. Unit {0} };
+
+    /// What a read of a part by a name may return: of so many bytes from an offset on.
+    ghost reads_part: { Self → List ℕ → ℕ → ℕ → Result (List ℕ) TiffError → Self → Type 0 } = { λ _ _ _ _ _ _. Unit {0} };
 
     /// What a write of bytes by a name may return.
     ghost writes: { Self → List ℕ → List ℕ → Result (Unit {0}) TiffError → Self → Type 0 } = { λ _ _ _ _ _. Unit {0} };
@@ -26,6 +32,18 @@ pub trait Files {
     fn read(&mut self, name: &str) -> TiffResult<Vec<u8>>
         ensures { reads self.old name.now (result_map_both (λ bytes. bytes.items) (λ e. e) result)
             self.new };
+
+    /// How many bytes a file has, if parts of it can be read; `None` for one that can only be read
+    /// whole, as standard input, `-`.
+    fn len(&mut self, name: &str) -> TiffResult<Option<u64>>
+        ensures { measures self.old name.now result self.new };
+
+    /// `len` bytes of a file, from the offset `at` on. If the file has fewer there, that is an error of
+    /// the file.
+    fn read_at(&mut self, name: &str, at: u64, len: u64) -> TiffResult<Vec<u8>>
+        ensures gives { reads_part self.old name.now at len
+            (result_map_both (λ bytes. bytes.items) (λ e. e) result) self.new }
+        ensures all { IfOk result (λ bytes. length bytes.items ≡ len) };
 
     /// Makes a file of these bytes; for the name `-` writes them to standard output.
     fn write(&mut self, name: &str, bytes: &[u8]) -> TiffResult<()>

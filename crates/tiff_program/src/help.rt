@@ -5,7 +5,7 @@ use tiff::TiffResult;
 use tiff_lists::VERSION;
 
 /// Each command with its words, and what it does; and the words of a list of jobs. The header for C
-/// and CALLING.md repeat the latter.
+/// and docs/TIFFPAGE.md repeat the latter.
 pub const HELP: &str = "tiffpage: TIFF and BigTIFF pages
 
   gray OUT W H IN        writes the bytes of IN as one gray page of W by H samples
@@ -31,6 +31,7 @@ pub const HELP: &str = "tiffpage: TIFF and BigTIFF pages
 
 IN is a file, or - for standard input. OUT is a file, or - for standard output; then jobs prints the replies on standard error.
 gray and raw replace IN where OUT is the same file.
+directories and check read only parts of a file of more than 64 MiB; if it changes meanwhile, their lines may be those of no file.
 
 A list of jobs has one of these in each line, with one space between words:
   # ANYTHING             a comment, as is an empty line

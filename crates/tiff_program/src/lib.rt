@@ -6,11 +6,15 @@
 pub mod calls;
 mod command;
 mod crc;
+mod failure;
 pub mod files;
 mod help;
+mod in_parts;
 pub mod jobs;
+mod links;
 pub mod list;
 pub mod listing;
+mod parts;
 mod png;
 pub mod program;
 mod replies;

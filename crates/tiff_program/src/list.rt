@@ -2,9 +2,10 @@
 
 ghost use Rattle.tiff.specs.Answers.{AnswersBut};
 ghost use Rattle.tiff_pages.specs.Check.{checks_in};
+ghost use Rattle.tiff_pages.specs.OfFile.{tree_of};
 ghost use Rattle.tiff_pages.specs.Tree.{directories_in};
 ghost use Rattle.tiff_program.specs.Check.{checks_under, told_under};
-ghost use Rattle.tiff_program.specs.Directories.{told_of_directories, tree_of_file};
+ghost use Rattle.tiff_program.specs.Directories.{told_of_directories};
 
 use std::alloc::Global;
 use tiff::TiffResult;
@@ -43,7 +44,7 @@ pub fn file_check(alloc: Global, file: Vec<u8>, limits: Limits) -> TiffResult<Li
 /// Lists the directories of a file, as [`directories`] does; or returns the error of the file's
 /// header. A first directory that is refused is listed as others are.
 pub fn list_tree(alloc: Global, file: Vec<u8>) -> TiffResult<DirectoryList>
-    ensures { AnswersBut (Unit {0}) (Unit {0}) directories_in result (tree_of_file file.items) }
+    ensures { AnswersBut (Unit {0}) (Unit {0}) directories_in result (tree_of file.items) }
 {
     let mut decoder = Decoder::open(alloc, MemorySource::new(file))?;
     directories(&mut decoder)

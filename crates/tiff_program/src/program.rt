@@ -5,26 +5,27 @@ ghost use Rattle.std.specs.List.{list_any};
 ghost use Rattle.std.specs.Result.{result_map_both};
 ghost use Rattle.std.specs.Io.KnownBytes as known;
 ghost use Rattle.tiff_program.specs.declared.command.Command.{Command};
-ghost use Rattle.tiff_program.specs.declared.program.Failure.TheVariants as failure;
+ghost use Rattle.tiff_program.specs.declared.failure.Failure.TheVariants as failure;
 ghost use Rattle.tiff_program.specs.AtPage.{AnswersUnder, limits_for};
 ghost use Rattle.tiff_program.specs.Check.{told_under};
-ghost use Rattle.tiff_program.specs.Commands.{Adds, AppendsJobs, AreLines, AreText, Calls, Does, Grays, Jobs, ListsCalls, ListsJobs, Raws, ReadsInput, ReadsText, Tags, Tells, TellsSome, Views, WritesKept, WritesOutput, is_page, line_after, page_or_none, samples_of};
+ghost use Rattle.tiff_program.specs.Commands.{Adds, AppendsJobs, AreLines, AreText, Calls, Does, Grays, Jobs, ListsCalls, ListsJobs, Raws, ReadsInput, ReadsText, Tags, Tells, TellsLong, TellsSome, Views, WritesKept, WritesOutput, is_page, line_after, page_or_none, samples_of};
 ghost use Rattle.tiff_program.specs.Directories.{told_of_directories};
-ghost use Rattle.tiff_program.specs.Files.{Appends, Compares, Reads, Writes};
-ghost use Rattle.tiff_program.specs.Status.{Ends, PrintsLines, Runs, is_stream, status_of};
+ghost use Rattle.tiff_program.specs.Files.{Appends, Compares, Measures, Reads, Writes};
+ghost use Rattle.tiff_program.specs.Status.{Ends, PrintsLines, Runs, is_stream};
 ghost use Rattle.tiff_program.specs.Words.{AskFor};
 
 use crate::calls::replies_to;
 use crate::command::{Command, parse};
+use crate::failure::Failure;
 use crate::files::Files;
 use crate::help::{HELP, version_line};
+use crate::in_parts::{check_in_parts, directories_in_parts};
 use crate::jobs::{Written, append_by, write_by};
 use crate::list::{file_check, file_directories, file_list};
 use crate::listing::page_tags;
 use crate::samples::{page_planes, page_samples};
 use crate::view::page_picture;
 use std::alloc::Global;
-use std::fmt;
 use std::io::Write;
 use tiff::decoder::Limits;
 use tiff::decoder::script::Call;
@@ -33,70 +34,11 @@ use tiff::tags::FileKind;
 use tiff::{TiffError, TiffResult};
 use tiff_append::last_link::last_link;
 use tiff_append::sink::Addition;
+use tiff_base::windows::SeenFile;
 use tiff_lists::call::calls_of;
 use tiff_lists::jobs::jobs_of;
 use tiff_pages::lines::Lines;
 use tiff_uses::gray_file;
-
-/// Why a command failed.
-#[derive(Drop)]
-enum Failure<'a> {
-    Read(&'a str),
-    Write(&'a str),
-
-    /// The output is the file of the input.
-    WriteInput(&'a str),
-    Tiff(TiffError),
-
-    /// The line with this number is no call.
-    NoCall(usize),
-
-    /// The line with this number is no job.
-    NoJob(usize),
-
-    /// The line with this number is not UTF-8.
-    NoText(usize),
-
-    /// A list of jobs has no image and no directory.
-    NoPage,
-}
-
-impl fmt::Display for Failure<'_> {
-    fn fmt<W: fmt::Write>(&self, f: &mut fmt::Formatter<W>) -> fmt::Result {
-        match self {
-            Failure::Read(name) => write!(f, "cannot read {name}"),
-            Failure::Write(name) => write!(f, "cannot write {name}"),
-            Failure::WriteInput(name) => write!(f, "cannot write {name}: it is the input"),
-            Failure::Tiff(fault) => write!(f, "{fault}"),
-            Failure::NoCall(number) => write!(f, "line {number} is no call"),
-            Failure::NoJob(number) => write!(f, "line {number} is no job"),
-            Failure::NoText(number) => write!(f, "line {number} is not UTF-8"),
-            Failure::NoPage => write!(f, "the list has no image and no directory"),
-        }
-    }
-}
-
-impl<'a> From<TiffError> for Failure<'a> {
-    ghost use Rattle.tiff_program.specs.declared.program.Failure.TheVariants as failure;
-
-    ghost from_gives = { λ fault f. f ≡ failure.Tiff fault };
-
-    fn from(fault: TiffError) -> Failure<'a> {
-        Failure::Tiff(fault)
-    }
-}
-
-impl Failure<'_> {
-    // The status with which the program ends after a failure.
-    fn status(&self) -> u8
-        ensures { result ≡ status_of self.now }
-    {
-        match self {
-            Failure::NoCall(_) | Failure::NoJob(_) | Failure::NoText(_) | Failure::NoPage => 2,
-            _ => 1,
-        }
-    }
-}
 
 // All bytes of a file.
 fn read<'a, F: Files>(files: &mut F, name: &'a str) -> Result<Vec<u8>, Failure<'a>>
@@ -441,8 +383,19 @@ fn list_pages<'a, F: Files>(
     Ok(file_list(alloc, file)?)
 }
 
-// The directories of a file that the chain and the tags reach, one line for each.
-fn list_directories<'a, F: Files>(
+// The length of a file that is to be read by parts; `None` for one that is to be read whole.
+fn len_in_parts<'a, F: Files>(files: &mut F, name: &'a str) -> Result<Option<u64>, Failure<'a>>
+    ensures { Measures F.measures name.entry files.old result files.new }
+{
+    match files.len(name) {
+        Ok(len) => Ok(len.filter(|len| *len > MOST_WHOLE)),
+        Err(TiffError::OutOfMemory) => Err(Failure::Tiff(TiffError::OutOfMemory)),
+        Err(_) => Err(Failure::Read(name)),
+    }
+}
+
+// The directories of a file that is read whole, one line for each.
+fn whole_directories<'a, F: Files>(
     alloc: Global,
     input: &'a str,
     files: &mut F,
@@ -453,17 +406,49 @@ fn list_directories<'a, F: Files>(
     Ok(file_directories(alloc, file)?)
 }
 
+// The directories of a file that the chain and the tags reach, one line for each.
+fn list_directories<'a, F: Files, S: SeenFile>(
+    alloc: Global,
+    input: &'a str,
+    files: &mut F,
+) -> Result<Lines, Failure<'a>>
+    ensures { TellsLong F.reads F.measures F.reads_part S.bytes told_of_directories input.entry files.old
+        result files.new }
+{
+    match len_in_parts(files, input)? {
+        Some(len) => directories_in_parts::<S, F>(alloc, input, len, files),
+        None => whole_directories(alloc, input, files),
+    }
+}
+
+// The pages of a file that is read whole, each read whole, one line for each.
+fn check_whole<'a, F: Files>(
+    alloc: Global,
+    input: &'a str,
+    limits: Limits,
+    files: &mut F,
+) -> Result<Lines, Failure<'a>>
+    ensures { Tells F.reads (told_under limits) input.entry files.old result files.new }
+{
+    let file = read(files, input)?;
+    Ok(file_check(alloc, file, limits)?)
+}
+
 // The pages of a file, each read whole, one line for each.
-fn check_pages<'a, F: Files>(
+fn check_pages<'a, F: Files, S: SeenFile>(
     alloc: Global,
     input: &'a str,
     limit: Option<usize>,
     files: &mut F,
 ) -> Result<Lines, Failure<'a>>
-    ensures { Tells F.reads (told_under (limits_for limit)) input.entry files.old result files.new }
+    ensures { TellsLong F.reads F.measures F.reads_part S.bytes (told_under (limits_for limit)) input.entry
+        files.old result files.new }
 {
-    let file = read(files, input)?;
-    Ok(file_check(alloc, file, limits_for(limit))?)
+    let limits = limits_for(limit);
+    match len_in_parts(files, input)? {
+        Some(len) => check_in_parts::<S, F>(alloc, input, len, &limits, files),
+        None => check_whole(alloc, input, limits, files),
+    }
 }
 
 // Lines without an error.
@@ -499,12 +484,13 @@ fn told_version<'a>(alloc: Global) -> Result<Lines, Failure<'a>>
 }
 
 // Does what a command asks for, and returns what to print.
-fn execute<'a, F: Files>(
+fn execute<'a, F: Files, S: SeenFile>(
     alloc: Global,
     command: Command<'a>,
     files: &mut F,
 ) -> Result<Lines, Failure<'a>>
-    ensures { Does F.reads F.writes F.appends F.compares command.entry files.old result files.new }
+    ensures { Does F.reads F.writes F.appends F.compares F.measures F.reads_part S.bytes command.entry
+        files.old result files.new }
 {
     match command {
         Command::Gray {
@@ -527,8 +513,8 @@ fn execute<'a, F: Files>(
         } => write_picture(alloc, input, page, output, files),
         Command::Tags { input, page } => list_page(alloc, input, page, files),
         Command::List { input } => list_pages(alloc, input, files),
-        Command::Directories { input } => list_directories(alloc, input, files),
-        Command::Check { input, limit } => check_pages(alloc, input, limit, files),
+        Command::Directories { input } => list_directories::<F, S>(alloc, input, files),
+        Command::Check { input, limit } => check_pages::<F, S>(alloc, input, limit, files),
         Command::Calls { input } => call_replies(alloc, input, files),
         Command::Jobs {
             output,
@@ -552,6 +538,9 @@ fn is_stream(output: Option<&str>) -> bool
 }
 
 const USAGE: &str = "usage: tiffpage gray|raw|tags|list ..\n";
+
+// The most bytes of a file that is read whole, where parts of it could be read.
+const MOST_WHOLE: u64 = 67_108_864;
 
 // The name of the standard streams.
 const STREAM: &str = "-";
@@ -653,7 +642,11 @@ fn print_outcome<O: Write, E: Write>(
 /// The replies to all jobs are printed, also if a job is refused; the file of the jobs is made if
 /// none is refused, or if the words have `--keep-going`. If that file is `-`, standard output, the
 /// replies are printed on `err`.
-pub fn run<F: Files, O: Write, E: Write>(
+///
+/// The directories and the check of a file of more than 64 MiB are told by parts of it, of which as few
+/// are read as are needed; so are they of any file that these are parts of. Only the contract sees
+/// that file, `S`: any will do.
+pub fn run<F: Files, O: Write, E: Write, S: SeenFile>(
     alloc: Global,
     words: &[String],
     files: &mut F,
@@ -663,8 +656,8 @@ pub fn run<F: Files, O: Write, E: Write>(
     ensures status { result ≤ 2 }
     ensures asked { result ≡ 0 → (words.now ≡ [])
         ⊎ ((command : Command) × AskFor (map string_bytes words.now) command) }
-    ensures runs { Runs O.contents E.contents F.reads F.writes F.appends F.compares
-        (map string_bytes words.now) files.old files.new out.old out.new err.old err.new result }
+    ensures runs { Runs O.contents E.contents F.reads F.writes F.appends F.compares F.measures
+        F.reads_part S.bytes (map string_bytes words.now) files.old files.new out.old out.new err.old err.new result }
 {
     if words.is_empty() {
         return u8::from(!print_text(alloc, USAGE, out, err));
@@ -677,6 +670,6 @@ pub fn run<F: Files, O: Write, E: Write>(
         };
     };
     let is_aside = is_stream(command.output());
-    let outcome = execute(alloc, command, files);
+    let outcome = execute::<F, S>(alloc, command, files);
     print_outcome(alloc, outcome, is_aside, out, err)
 }

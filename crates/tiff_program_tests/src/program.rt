@@ -1,6 +1,9 @@
 //! What the program `tiffpage` does, over files in memory.
 
+ghost use Rattle.std.specs.Prelude.{◌≡◌, IfOk, length};
+
 use std::alloc::Global;
+use std::marker::Brand;
 use std::test::Fail;
 use tiff::io::IoKind;
 use tiff::{TiffError, TiffResult};
@@ -26,6 +29,23 @@ const UNWRITABLE: &str = "FULL";
 
 const UNREADABLE: &str = "LOCKED";
 
+// The file that has zeros behind its bytes, up to a length.
+const HOLED: &str = "HOLED";
+
+const HOLED_LEN: u64 = 67_108_870;
+
+// `len` bytes from an offset on, with zeros behind those that are there.
+fn filled(alloc: Global, bytes: &[u8], at: u64, len: u64) -> TiffResult<Vec<u8>>
+    ensures { IfOk result (λ part. length part.items ≡ len) }
+{
+    let mut part = Vec::new(alloc);
+    for i in 0..len {
+        let place = usize::try_from(at.saturating_add(i)).unwrap_or(usize::MAX);
+        part.push(bytes.get(place).copied().unwrap_or(0))?;
+    }
+    Ok(part)
+}
+
 impl Files for MemoryFiles {
     fn read(&mut self, name: &str) -> TiffResult<Vec<u8>> {
         if name == UNREADABLE {
@@ -37,6 +57,20 @@ impl Files for MemoryFiles {
             }
         }
         Err(TiffError::IoError(IoKind::Device))
+    }
+
+    fn len(&mut self, name: &str) -> TiffResult<Option<u64>> {
+        let bytes = self.read(name)?;
+        Ok(match name {
+            "-" => None,
+            HOLED => Some(HOLED_LEN),
+            _ => Some(bytes.len() as u64),
+        })
+    }
+
+    fn read_at(&mut self, name: &str, at: u64, len: u64) -> TiffResult<Vec<u8>> {
+        let bytes = self.read(name)?;
+        filled(self.alloc, &bytes, at, len)
     }
 
     fn write(&mut self, name: &str, bytes: &[u8]) -> TiffResult<()> {
@@ -91,11 +125,12 @@ const ONE: [u8; 199] = [
 
 // Files that are others with one byte changed: the name, the other, the place of the byte, and its
 // value. LONG is ONE with six zeros behind it.
-const CHANGED: [(&str, &str, usize, u8); 4] = [
+const CHANGED: [(&str, &str, usize, u8); 5] = [
     ("EMPTY", "ONE", 151, 0), // the count of YResolution
     ("PAST", "ONE", 155, 255), // where its value is
     ("LINKED", "LONG", 195, 199), // the link, to a directory without entries
     ("CYCLE", "LINKED", 201, 25), // its link, to the first directory
+    (HOLED, "ONE", 198, 4), // the link, to 67108864
 ];
 
 // What standard input has, and command lines, each with what it prints, standard error behind `2> `,
@@ -166,6 +201,20 @@ status 0
 $ tiffpage list CYCLE
 0 25 1x1 Gray8 1 strip 1
 2> error: format error: file contained a cycle in the list of IFDs
+status 1
+$ tiffpage directories HOLED
+25 - 14 1x1 Gray8 1 strip 1
+67108864 - 0 error: format error: required tag `ImageWidth` not found
+status 0
+$ tiffpage check HOLED
+0 25 ok 1 00080008
+1 67108864 error: format error: required tag `ImageWidth` not found
+status 1
+$ tiffpage check ONE
+0 25 ok 1 00080008
+status 0
+$ tiffpage check LOCKED
+2> error: cannot read LOCKED
 status 1
 $ tiffpage tags ONE
 2> usage: tiffpage gray|raw|tags|list ..
@@ -260,7 +309,7 @@ fn answer(alloc: Global, files: &mut MemoryFiles, line: &str) -> TiffResult<Stri
     let words = words_of(alloc, line)?;
     let mut out = Vec::new(alloc);
     let mut err = Vec::new(alloc);
-    let status = run(alloc, words.as_slice(), files, &mut out, &mut err);
+    let status = run::<_, _, _, Brand>(alloc, words.as_slice(), files, &mut out, &mut err);
     let (out, err) = (String::from_utf8(out)?, String::from_utf8(err)?);
     let mark = if err.is_empty() { "" } else { "2> " };
     Ok(format!(in alloc; "{out}{mark}{err}status {status}\n")?)
@@ -317,7 +366,13 @@ fn streams_that_are_full_are_an_error(rt: HostRuntime) -> Result<(), Fail> {
         let words = words_of(rt.alloc(), line)?;
         let (mut out_room, mut err_room) = ([0u8; 5], [0u8; 5]);
         let (mut out, mut err) = (out_room.as_mut_slice(), err_room.as_mut_slice());
-        let status = run(rt.alloc(), words.as_slice(), &mut files, &mut out, &mut err);
+        let status = run::<_, _, _, Brand>(
+            rt.alloc(),
+            words.as_slice(),
+            &mut files,
+            &mut out,
+            &mut err,
+        );
         assert_eq!(rt; status, 1);
     }
     Ok(())

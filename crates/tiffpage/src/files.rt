@@ -1,5 +1,7 @@
 //! The files of the machine.
 
+ghost use Rattle.std.specs.Prelude.{◌≡◌, IfOk, length};
+
 use std::fs;
 use std::fs::{File, Metadata, OpenFile, OpenOptions, Permissions};
 use std::io::{self, ErrorKind, Input, Read, Seek, SeekFrom, Write};
@@ -34,6 +36,32 @@ fn fault(kind: ErrorKind) -> TiffError {
 fn input<R: AllocGlobal + Input>(rt: &R) -> io::Result<Vec<u8>> {
     let mut bytes = Vec::new(rt.alloc());
     rt.reader().read_to_end(&mut bytes)?;
+    Ok(bytes)
+}
+
+// How many bytes a file has, if parts of it can be read, as of a plain file; `None` of a pipe, a device
+// or a folder.
+fn len_of<R: Machine>(rt: &R, name: &str) -> io::Result<Option<u64>> {
+    let found = fs::metadata(rt, name)?;
+    if found.is_file() {
+        Ok(Some(found.len()))
+    } else {
+        Ok(None)
+    }
+}
+
+// `len` bytes of a file, from an offset on. A file that has fewer there, as one that became shorter, is
+// refused.
+fn part<R: Machine + AllocGlobal>(rt: &R, name: &str, at: u64, len: u64) -> io::Result<Vec<u8>>
+    ensures { IfOk result (λ bytes. length bytes.items ≡ len) }
+{
+    let mut file = File::open(rt, name)?;
+    file.seek(SeekFrom::Start(at))?;
+    let mut bytes = Vec::new(rt.alloc());
+    file.take(len).read_to_end(&mut bytes)?;
+    if bytes.len() as u64 != len {
+        return Err(io::Error::from(ErrorKind::UnexpectedEof));
+    }
     Ok(bytes)
 }
 
@@ -159,6 +187,20 @@ impl<R: Machine + AllocGlobal + Input, O: Write + Drop> Files for MachineFiles<'
             fs::read(self.rt, name)
         };
         read.map_err(|e| fault(e.kind()))
+    }
+
+    fn len(&mut self, name: &str) -> TiffResult<Option<u64>> {
+        if name == "-" {
+            return Ok(None);
+        }
+        len_of(self.rt, name).map_err(|e| fault(e.kind()))
+    }
+
+    fn read_at(&mut self, name: &str, at: u64, len: u64) -> TiffResult<Vec<u8>> {
+        match part(self.rt, name, at, len) {
+            Ok(bytes) => Ok(bytes),
+            Err(e) => Err(fault(e.kind())),
+        }
     }
 
     fn write(&mut self, name: &str, bytes: &[u8]) -> TiffResult<()> {

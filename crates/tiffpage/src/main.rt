@@ -8,6 +8,7 @@ mod words;
 
 use files::MachineFiles;
 use std::io;
+use std::marker::Brand;
 use std::process::ExitCode;
 use tiff_program::program::run;
 use words::words;
@@ -23,6 +24,12 @@ fn main(rt: HostRuntime) -> io::Result<ExitCode> {
     let mut files = MachineFiles::new(&rt, rt.stdout());
     let mut out = rt.stdout();
     let mut err = rt.stderr();
-    let status = run(rt.alloc(), words.as_slice(), &mut files, &mut out, &mut err);
+    let status = run::<_, _, _, Brand>(
+        rt.alloc(),
+        words.as_slice(),
+        &mut files,
+        &mut out,
+        &mut err,
+    );
     Ok(ExitCode::from(status))
 }

@@ -1,13 +1,11 @@
-use Rattle.tiff_program.proofs.Steps.{goes, makes, refuses, stops}
+use Rattle.tiff_program.proofs.Steps.{goes, stops}
 use Rattle.tiff_program.proofs.program.check_pages.Goals as goal
 
-pub returns-in_err-file : goal.returns-in_err-file
-returns-in_err-file g c = stops _ _ _ _ _ _ c.in_err-file.ensures c.from_residual.ensures.1
+pub returns-in_err-len : goal.returns-in_err-len
+returns-in_err-len g c = stops _ _ _ _ _ _ c.in_err-len.ensures c.from_residual.ensures.1
 
-pub returns-in_err-file_check : goal.returns-in_err-file_check
-returns-in_err-file_check g c = goes _ _ _ _ _ _ _ c.in_ok-file.ensures
-    (refuses _ _ _ _ (rw c.limits_for.ensures at c.in_err-file_check.ensures) c.from_residual-in_err-file_check.ensures.1)
+pub returns-in-Some : goal.returns-in-Some
+returns-in-Some g c = goes _ _ _ _ _ _ _ c.in_ok-len.ensures (rw (c.in-Some.is, ← c.limits_for-limits.ensures) c.check_in_parts.ensures)
 
-pub returns : goal.returns
-returns g c = goes _ _ _ _ _ _ _ c.in_ok-file.ensures
-    (makes _ _ _ (rw c.limits_for.ensures at c.in_ok-file_check.ensures))
+pub returns-in-None : goal.returns-in-None
+returns-in-None g c = goes _ _ _ _ _ _ _ c.in_ok-len.ensures (rw (c.in-None.is, ← c.limits_for-limits.ensures) c.check_whole.ensures)

@@ -1,13 +1,11 @@
-use Rattle.tiff_program.proofs.Steps.{goes, makes, refuses, stops}
+use Rattle.tiff_program.proofs.Steps.{goes, stops}
 use Rattle.tiff_program.proofs.program.list_directories.Goals as goal
 
-pub returns-in_err-file : goal.returns-in_err-file
-returns-in_err-file g c = stops _ _ _ _ _ _ c.in_err-file.ensures c.from_residual.ensures.1
+pub returns-in_err-len : goal.returns-in_err-len
+returns-in_err-len g c = stops _ _ _ _ _ _ c.in_err-len.ensures c.from_residual.ensures.1
 
-pub returns-in_err-file_directories : goal.returns-in_err-file_directories
-returns-in_err-file_directories g c = goes _ _ _ _ _ _ _ c.in_ok-file.ensures
-    (refuses _ _ _ _ c.in_err-file_directories.ensures c.from_residual-in_err-file_directories.ensures.1)
+pub returns-in-Some : goal.returns-in-Some
+returns-in-Some g c = goes _ _ _ _ _ _ _ c.in_ok-len.ensures (rw c.in-Some.is c.directories_in_parts.ensures)
 
-pub returns : goal.returns
-returns g c = goes _ _ _ _ _ _ _ c.in_ok-file.ensures
-    (makes _ _ _ c.in_ok-file_directories.ensures)
+pub returns-in-None : goal.returns-in-None
+returns-in-None g c = goes _ _ _ _ _ _ _ c.in_ok-len.ensures (rw c.in-None.is c.whole_directories.ensures)
