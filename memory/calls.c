@@ -2,7 +2,7 @@
 
      calls FILE ..
 
-   makes those that read on the first three pages of each file, tiff_append_pages behind each file, tiff_write_image on images of all colors,
+   makes those that read on the first three pages of each file, tiff_append_pages behind each file, tiff_write_image and tiff_image_frame on images of all colors,
    methods, predictors and kinds of files, and tiff_write_jobs on two lists of jobs. A refused request has to be answered TIFF_OUT_OF_MEMORY,
    with nothing written into the answer but as mangohatch_tiff.h says, or, where the call does without it, as at first; no block may be left behind; and the call that is made again has to answer what it answered at first. It prints a
    line for each call; what isn't as it has to be stands on standard error, and the status is 1 then. */
@@ -19,6 +19,7 @@ int dprintf(int to, const char *form, ...);
 void *malloc(size_t size);
 void free(void *at);
 void *memset(void *to, int byte, size_t len);
+void *memcpy(void *to, const void *from, size_t len);
 int memcmp(const void *one, const void *other, size_t len);
 unsigned alarm(unsigned seconds);
 
@@ -219,6 +220,20 @@ static tiff_status write_image(const struct input *on, struct answer *to) {
     return tiff_write_image(&on->image, on->file, on->len, to->bytes, on->size, &to->number);
 }
 
+/* The parts of the file one behind the other: where memory is short, they are others of the same file. */
+static tiff_status image_frame(const struct input *on, struct answer *to) {
+    static uint8_t around[ROOM];
+    struct tiff_frame frame;
+    tiff_status status = tiff_image_frame(&on->image, on->file, on->len, around, on->size, &frame);
+    if (status != TIFF_DONE && status != TIFF_INSUFFICIENT_OUTPUT_BUFFER_SIZE) return status;
+    to->number = frame.front + frame.samples + frame.behind;
+    if (status != TIFF_DONE) return status;
+    memcpy(to->bytes, around, frame.front);
+    memcpy(to->bytes + frame.front, on->file, frame.samples);
+    memcpy(to->bytes + frame.front + frame.samples, around + frame.front, frame.behind);
+    return status;
+}
+
 /* a page with a tag of one's own, and one that is refused */
 static tiff_status write_jobs(const struct input *on, struct answer *to) {
     static const char jobs[] = "image Gray8 2 1\nwrite_tag 270 text words\nwrite_data 1 2\n";
@@ -295,7 +310,10 @@ static const struct call readers[] = {
     {"tiff_byte_order", ALL, byte_order},
     {"tiff_fault_text", ALL, fault_text},
 };
-static const struct call writer = {"tiff_write_image", ALL, write_image};
+static const struct call writers[] = {
+    {"tiff_write_image", ALL, write_image},
+    {"tiff_image_frame", ALL, image_frame},
+};
 static const struct call job_writers[] = {
     {"tiff_write_jobs", BUT_END, write_jobs},
     {"tiff_write_jobs (refused)", BUT_END, refused_jobs},
@@ -406,20 +424,20 @@ static void try_pages(const struct call *call, const char *name) {
 }
 
 /* An image of 5 by 3 pixels, in a buffer with room and in one without. */
-static void try_image(struct tiff_image image) {
+static void try_image(const struct call *writer, struct tiff_image image) {
     static uint8_t samples[5 * 3 * 4 * 8];
     for (size_t at = 0; at < sizeof samples; at++) samples[at] = (uint8_t)(at / 3);
     for (size_t size = 0; size <= ROOM; size += ROOM) {
         struct input on = {.name = "an image", .file = samples, .len = sizeof samples, .image = image, .size = size};
-        try_call(&writer, &on);
+        try_call(writer, &on);
     }
 }
 
-static void try_color(uint32_t color) {
+static void try_color(const struct call *writer, uint32_t color) {
     for (uint16_t version = TIFF_CLASSIC; version <= TIFF_BIG; version++)
         for (uint16_t predictor = TIFF_NO_PREDICTOR; predictor <= TIFF_HORIZONTAL; predictor++) {
-            try_image((struct tiff_image){color, 5, 3, version, TIFF_UNCOMPRESSED, predictor});
-            try_image((struct tiff_image){color, 5, 3, version, TIFF_PACKBITS, predictor});
+            try_image(writer, (struct tiff_image){color, 5, 3, version, TIFF_UNCOMPRESSED, predictor});
+            try_image(writer, (struct tiff_image){color, 5, 3, version, TIFF_PACKBITS, predictor});
         }
 }
 
@@ -428,7 +446,7 @@ static _Bool is_color(uint32_t color) {
     static const uint8_t sample;
     struct input on = {
         .name = "an image", .file = &sample, .len = 1, .image = {color, 1, 1, TIFF_CLASSIC, TIFF_UNCOMPRESSED, TIFF_NO_PREDICTOR}};
-    return made(&writer, &on, &got, 0, 0) != TIFF_INVALID_INPUT;
+    return made(&writers[0], &on, &got, 0, 0) != TIFF_INVALID_INPUT;
 }
 
 /* Jobs, in a buffer with room and in one without. */
@@ -447,11 +465,13 @@ int main(int argc, char **argv) {
         for (int at = 1; at < argc; at++) try_pages(&readers[call], argv[at]);
         tell(&readers[call]);
     }
-    /* each color, and the first number that is none */
-    uint32_t color = TIFF_GRAY8;
-    do try_color(color);
-    while (is_color(color++));
-    tell(&writer);
+    for (size_t call = 0; call < sizeof writers / sizeof *writers; call++) {
+        /* each color, and the first number that is none */
+        uint32_t color = TIFF_GRAY8;
+        do try_color(&writers[call], color);
+        while (is_color(color++));
+        tell(&writers[call]);
+    }
     for (size_t call = 0; call < sizeof job_writers / sizeof *job_writers; call++) {
         try_jobs(&job_writers[call]);
         tell(&job_writers[call]);

@@ -36,8 +36,8 @@ DESCRIPTION
     A call that returns TIFF_DONE has written its result. A call that returns any other status
     leaves a struct or a number as it was; what it leaves in a buffer of bytes is not specified.
     tiff_list_pages, tiff_list_directories, tiff_list_tags, tiff_tag_numbers, tiff_tag_floats,
-    tiff_tag_text, tiff_rewrite_chunk, tiff_write_image, tiff_write_jobs, tiff_write_pages and tiff_append_pages specify
-    more.
+    tiff_tag_text, tiff_rewrite_chunk, tiff_write_image, tiff_image_frame, tiff_write_jobs,
+    tiff_write_pages and tiff_append_pages specify more.
 
     A file may claim any size: call tiff_page_layout and judge its result before you allocate for
     an image. The calls that read pixels have no limit for the size of a chunk in the file: they
@@ -69,7 +69,7 @@ LINKING
 #ifndef MANGOHATCH_TIFF_H
 #define MANGOHATCH_TIFF_H
 
-#define MANGOHATCH_TIFF_VERSION 6
+#define MANGOHATCH_TIFF_VERSION 7
 
 /* A PAGE that is the directory at an offset of the file. */
 #define TIFF_AT(offset) ((size_t)(offset) | (size_t)1 << 63)
@@ -625,6 +625,27 @@ struct tiff_image {
    kind can't hold, TIFF_INT_SIZE_ERROR; and at last a BUFFER that is too short. */
 tiff_status tiff_write_image(const struct tiff_image *image, const uint8_t *samples, size_t samples_len, uint8_t *buffer, size_t size,
                              size_t *len);
+
+/* How many bytes a file of one image has before the samples that were passed, how many these have,
+   and how many it has behind them. */
+struct tiff_frame {
+    size_t front;
+    size_t samples;
+    size_t behind;
+};
+
+/* As tiff_write_image, but without a copy of SAMPLES: puts into BUFFER, of SIZE bytes, only the bytes
+   of the file before SAMPLES and, behind these, those behind SAMPLES. *FRAME is how many there are:
+   the file is the first FRAME->front bytes of BUFFER, then the first FRAME->samples bytes of SAMPLES,
+   then the next FRAME->behind bytes of BUFFER. A BUFFER of 4096 bytes is enough for an image of a few
+   strips; each strip takes 8 bytes, or 16 in a BigTIFF file.
+
+   With a compression or a predictor, if SAMPLES aren't exactly those of the image, or if memory is
+   short, FRAME->samples and FRAME->behind are 0, and BUFFER gets the whole file.
+
+   Errors are those of tiff_write_image, as is what they leave. */
+tiff_status tiff_image_frame(const struct tiff_image *image, const uint8_t *samples, size_t samples_len, uint8_t *buffer, size_t size,
+                             struct tiff_frame *frame);
 
 /* Where a list of jobs was refused, counted from 1: at a line that is no job, or at a job that had
    an error. 0 is none. */

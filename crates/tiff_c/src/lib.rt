@@ -19,13 +19,13 @@ ghost use Rattle.tiff_statuses.specs.Plan as plans;
 ghost use Rattle.tiff_statuses.specs.Plan.{ReadsPage};
 ghost use Rattle.tiff_statuses.specs.Rewrite as rewriting;
 ghost use Rattle.tiff_statuses.specs.Status.{StatusIs, StatusPuts, StatusTells};
+ghost use Rattle.tiff_statuses.specs.Texts.{PutsSomeText};
 ghost use Rattle.tiff_statuses.specs.Values as values;
 ghost use Rattle.tiff_statuses.specs.Writer as writer;
 ghost use Rattle.tiff_statuses.specs.Writer.{IsShown};
 
 use std::alloc::Global;
 use tiff_base::windows::{Stretch, Windows};
-use tiff_statuses::VERSION;
 use tiff_statuses::appended::Appended;
 use tiff_statuses::calls::{Chunks, Color, FieldSize, Layout, PageSamples, Sides};
 use tiff_statuses::directories::ListedDirectory;
@@ -36,6 +36,7 @@ use tiff_statuses::pages::{NewPage, PagesEnd};
 use tiff_statuses::plan::PlannedPage;
 use tiff_statuses::rewrite::PlacedChunk;
 use tiff_statuses::writer::NewImage;
+use tiff_statuses::{FrameLengths, VERSION};
 
 /// Puts the width and the height of a page, in pixels, into `sides`. Returns 0, or the number of
 /// the error that refuses the file or the page. An error leaves `sides` as it was.
@@ -624,6 +625,27 @@ pub extern "C" fn tiff_write_image(
     tiff_statuses::write_image(alloc, image, samples, buffer, len)
 }
 
+/// As `tiff_write_image`, but puts into `buffer` only the bytes of the file before `samples` and
+/// behind them, one behind the other, and the lengths of the parts of the file into `frame`.
+/// Where the file doesn't have `samples` as they are, or where memory is short, all bytes of the file
+/// are put into `buffer`, and the lengths of the two other parts are 0. The errors are those of
+/// `tiff_write_image`; an error leaves `buffer` as it was, and `frame` too, unless only the buffer
+/// is too short.
+#[unsafe(no_mangle)]
+pub extern "C" fn tiff_image_frame(
+    alloc: Global,
+    image: &NewImage,
+    samples: &[u8],
+    buffer: &mut [u8],
+    frame: &mut FrameLengths,
+) -> u32
+    ensures answer { writer.FrameTells image.now samples.now result buffer.old buffer.new
+        frame.old frame.new }
+    ensures stays { (result ≡ 0) ⊎ (buffer.new ≡ buffer.old) }
+{
+    tiff_statuses::image_frame(alloc, image, samples, buffer, frame)
+}
+
 /// Writes the file of the jobs that the text `jobs` lists into `buffer`, puts how many bytes the
 /// file has into `len`, and puts where the list is refused into `end`. Returns 0, or the number of
 /// the first error: of the version, `TiffSignatureInvalid`; of a text that isn't UTF-8, or of its
@@ -639,7 +661,7 @@ pub extern "C" fn tiff_write_jobs(
     len: &mut usize,
     end: &mut JobsEnd,
 ) -> u32
-    ensures answer { JobsTell version result buffer.old buffer.new len.old len.new end.new }
+    ensures answer { JobsTell version jobs.now result buffer.old buffer.new len.old len.new end.new }
     ensures stays { (result ≡ 0) ⊎ (buffer.new ≡ buffer.old) }
 {
     tiff_statuses::write_jobs(alloc, version, jobs, buffer, len, end)
@@ -712,6 +734,8 @@ pub extern "C" fn tiff_version() -> u32
 /// Writes the text of a status into `buffer`, as much of it as fits, and returns how many bytes the
 /// whole text has. The text of a number that is no status says so.
 #[unsafe(no_mangle)]
-pub extern "C" fn tiff_fault_text(status: u32, buffer: &mut [u8]) -> usize {
+pub extern "C" fn tiff_fault_text(status: u32, buffer: &mut [u8]) -> usize
+    ensures { PutsSomeText result buffer.old buffer.new }
+{
     tiff_statuses::fault_text(status, buffer)
 }

@@ -1,5 +1,5 @@
 -- What C gets for an image that was written, and for jobs.
-use Rattle.std.proofs.Common.{◌≡◌, ℕ, ◌<◌, ◌≤◌, ◌⊎◌, inl, inr, List, ◌++◌, length, take, drop, Option, None, Some, Result, Ok, Err, refl, sym, ap, subst, ◌∙◌, lit<, arith}
+use Rattle.std.proofs.Common.{◌≡◌, ℕ, ◌<◌, ◌≤◌, ◌⊎◌, inl, inr, List, ◌++◌, length, take, drop, Option, None, Some, Result, Ok, Err, IfOk, refl, sym, ap, subst, ◌∙◌, lit<, arith}
 use Rattle.std.proofs.Math.Seq.{take-append_seam, drop-append_seam}
 use Rattle.tiff_base.specs.declared.error.TiffError.{TiffError}
 use Rattle.tiff_base.specs.declared.error.TiffError.TheVariants.{FormatError, UnsupportedError, IoError, UsageError, LimitsExceeded, IntSizeError, OutOfMemory}
@@ -12,6 +12,10 @@ use Rattle.tiff_base.specs.declared.error.UsageError.TheVariants.{InvalidChunkTy
 use Rattle.tiff_base.specs.declared.io.IoKind.{IoKind}
 use Rattle.tiff_base.specs.declared.io.IoKind.TheVariants.{UnexpectedEof, InvalidData, InvalidInput, WriteZero, Device}
 use Rattle.tiff_encode.specs.Shows.{ShowsFirst}
+use Rattle.tiff_decode.specs.NextState.{view_of_result}
+use Rattle.tiff_statuses.specs.declared.frame.FrameLengths.{FrameLengths}
+use Rattle.tiff_statuses.specs.declared.frame.NewFile.{NewFile}
+use Rattle.tiff_statuses.specs.Frame.{IsAround, file_of}
 use Rattle.tiff_statuses.specs.declared.jobs.Answer.{Answer}
 use Rattle.tiff_statuses.specs.declared.jobs.Answer.TheVariants.{NoJob, Ran}
 use Rattle.tiff_statuses.specs.declared.jobs.JobsEnd.{JobsEnd}
@@ -24,7 +28,7 @@ use Rattle.tiff_statuses.specs.declared.writer.Settings.{Settings}
 use Rattle.tiff_statuses.specs.Jobs.{AnswersKind, JobsTell, TellsAnswer, TellsRan}
 use Rattle.tiff_statuses.specs.Pages.{AnswersVersion, PagesTell, TellsPages}
 use Rattle.tiff_statuses.specs.Status.{fault_number, format_fault_number, unsupported_fault_number, usage_fault_number, io_fault_number}
-use Rattle.tiff_statuses.specs.Writer.{Delivers, IsShown, WriterTells, WritesBy, WritesBytes, WritesNew, image_by, kind_of, samples_from_bytes, settings_of}
+use Rattle.tiff_statuses.specs.Writer.{Delivers, DeliversParts, FrameTells, IsShown, WriterTells, WritesBy, WritesBytes, WritesNew, image_by, kind_of, samples_from_bytes, settings_of}
 
 -- No error has the number 0.
 some_format : (e : TiffFormatError) → 0 < format_fault_number e
@@ -158,12 +162,33 @@ pub told_kept : (image : NewImage) (bytes : List ℕ) (answer : Result (List ℕ
     → WritesNew image bytes answer → Delivers answer status old new len_old len_new → (status ≡ 0) ⊎ (new ≡ old)
 told_kept image bytes answer status old new len_old len_new w d = kept answer status old new len_old len_new d
 
+-- ---- the parts of a file around samples
+
+-- What C gets for an image around its samples.
+pub told_around : (image : NewImage) (bytes : List ℕ) (answer : Result NewFile TiffError) (status : ℕ) (old new : List ℕ) (len_old len_new : FrameLengths)
+    → WritesNew image bytes (view_of_result file_of answer) → IfOk answer (λ file. IsAround bytes file)
+    → ((samples : List ℕ) → IfOk answer (λ file. IsAround samples file) → DeliversParts (view_of_result file_of answer) samples status old new len_old len_new)
+    → FrameTells image bytes status old new len_old len_new
+told_around image bytes answer status old new len_old len_new w around d = (view_of_result file_of answer, (w, d bytes around))
+
+kept_parts : (answer : Result (List ℕ) TiffError) (bytes : List ℕ) (status : ℕ) (old new : List ℕ) (len_old len_new : FrameLengths)
+    → DeliversParts answer bytes status old new len_old len_new → (status ≡ 0) ⊎ (new ≡ old)
+kept_parts (Ok file) bytes status old new len_old len_new (is, (all, inl put)) = inl put.1.0
+kept_parts (Ok file) bytes status old new len_old len_new (is, (all, inr none_put)) = inr none_put.1.1
+kept_parts (Err e) bytes status old new len_old len_new d = inr d.1.0
+
+pub kept_around : (bytes : List ℕ) (answer : Result NewFile TiffError) (status : ℕ) (old new : List ℕ) (len_old len_new : FrameLengths)
+    → IfOk answer (λ file. IsAround bytes file)
+    → ((samples : List ℕ) → IfOk answer (λ file. IsAround samples file) → DeliversParts (view_of_result file_of answer) samples status old new len_old len_new)
+    → (status ≡ 0) ⊎ (new ≡ old)
+kept_around bytes answer status old new len_old len_new around d = kept_parts (view_of_result file_of answer) bytes status old new len_old len_new (d bytes around)
+
 -- ---- the file of jobs
 
 -- What C gets for jobs.
-pub told_jobs : (version : ℕ) (answer : Result Answer TiffError) (status : ℕ) (old new : List ℕ) (len_old len_new : ℕ) (end : JobsEnd)
-    → AnswersKind (kind_of version) answer → TellsAnswer answer status old new len_old len_new end → JobsTell version status old new len_old len_new end
-told_jobs version answer status old new len_old len_new end a t = (answer, (a, t))
+pub told_jobs : (version : ℕ) (text : List ℕ) (answer : Result Answer TiffError) (status : ℕ) (old new : List ℕ) (len_old len_new : ℕ) (end : JobsEnd)
+    → AnswersKind (kind_of version) text answer → TellsAnswer answer status old new len_old len_new end → JobsTell version text status old new len_old len_new end
+told_jobs version text answer status old new len_old len_new end a t = (answer, (a, t))
 
 kept_ran : (file : List ℕ) (refused : Option (ℕ × ℕ)) (status : ℕ) (old new : List ℕ) (len_old len_new : ℕ) (end : JobsEnd)
     → TellsRan file refused status old new len_old len_new end → (status ≡ 0) ⊎ (new ≡ old)

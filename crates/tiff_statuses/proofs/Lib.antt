@@ -6,6 +6,7 @@ pub mod Delivered
 pub mod Listed
 mod Ranges
 mod FirstFault
+mod JobsListed
 pub mod Filled
 pub mod Planes
 mod FrameFront
@@ -21,3 +22,4 @@ pub mod ToldBehind
 mod Plans
 mod Rewritten
 mod SeenFiles
+mod Parts

@@ -1,5 +1,6 @@
 -- What C gets for a list of jobs: the file that the jobs leave, or where the list was refused.
 use Rattle.std.specs.Prelude.{◌≡◌, ℕ, ◌+◌, ◌-◌, ◌==◌, ◌++◌, Bool, not, List, [], ◌∷◌, map, position, slice_get, if◌then◌else◌, Option, None, Some, Result, Ok, Err}
+use Rattle.std.specs.Str.{is_utf8}
 use Rattle.tiff_base.specs.declared.error.TiffError.{TiffError}
 use Rattle.tiff_base.specs.declared.error.TiffError.TheVariants.{FormatError, IoError, OutOfMemory}
 use Rattle.tiff_base.specs.declared.error.TiffFormatError.TheVariants.{TiffSignatureInvalid}
@@ -9,6 +10,7 @@ use Rattle.tiff_encode.specs.declared.encoder.script.Job.{Job}
 use Rattle.tiff_encode.specs.declared.encoder.script.JobReply.{JobReply}
 use Rattle.tiff_encode.specs.declared.encoder.script.StepReply.{StepReply}
 use Rattle.tiff_encode.specs.Jobs.{LeavesJobs}
+use Rattle.tiff_lists.specs.Jobs.{JobData, job_held, jobs_spelled}
 use Rattle.tiff_statuses.specs.declared.jobs.Answer.{Answer}
 use Rattle.tiff_statuses.specs.declared.jobs.Answer.TheVariants.{NoJob, Ran}
 use Rattle.tiff_statuses.specs.declared.jobs.JobsEnd.{JobsEnd}
@@ -60,11 +62,17 @@ pub record RanJobs (kind : FileKind) (jobs : List Job) (file : List ℕ) (refuse
   pub refused_is : refused ≡ first_refused 1 replies
   pub step_is : step ≡ refused_step replies refused
 
--- The answer to a text of jobs: a line of it is no job, or all its jobs were run. CALLING.md
--- describes which lines are jobs; no clause does.
-abbrev pub AnswersJobs : FileKind → Answer → Type 0
-AnswersJobs kind (NoJob line) = Unit {0}
-AnswersJobs kind (Ran ran) = (jobs : List Job) × RanJobs kind jobs ran.file.items ran.refused ran.step
+-- The jobs that bytes spell, or the number, from 1, of the first line that spells none; 0 for bytes
+-- that are no text. docs/TIFFPAGE.md has the words of lists of jobs.
+abbrev pub jobs_in : List ℕ → Result (List JobData) ℕ
+jobs_in bytes = if is_utf8 bytes then jobs_spelled bytes else Err 0
+
+-- The answer to a text of jobs: the first line that spells none, or the jobs that it spells were
+-- run.
+abbrev pub AnswersJobs : FileKind → List ℕ → Answer → Type 0
+AnswersJobs kind text (NoJob line) = jobs_in text ≡ Err line
+AnswersJobs kind text (Ran ran) = (jobs : List Job) × (jobs_in text ≡ Ok (map job_held jobs))
+    × RanJobs kind jobs ran.file.items ran.refused ran.step
 
 -- ---- what C gets
 
@@ -96,15 +104,15 @@ TellsAnswer (Err e) status old new len_old len_new end = (status ≡ fault_numbe
 
 -- the answer to a text of jobs for a file of this kind, or out of memory; without a kind, the
 -- version is an error
-abbrev pub AnswersKind : Option FileKind → Result Answer TiffError → Type 0
-AnswersKind None answer = answer ≡ Err (FormatError TiffSignatureInvalid)
-AnswersKind (Some kind) (Ok answer) = AnswersJobs kind answer
-AnswersKind (Some kind) (Err e) = e ≡ OutOfMemory
+abbrev pub AnswersKind : Option FileKind → List ℕ → Result Answer TiffError → Type 0
+AnswersKind None text answer = answer ≡ Err (FormatError TiffSignatureInvalid)
+AnswersKind (Some kind) text (Ok answer) = AnswersJobs kind text answer
+AnswersKind (Some kind) text (Err e) = e ≡ OutOfMemory
 
--- the status, the buffer, the length and the end that C gets for jobs and the version in the header
--- of their file
-abbrev pub JobsTell : ℕ → ℕ → List ℕ → List ℕ → ℕ → ℕ → JobsEnd → Type 0
-JobsTell version status old new len_old len_new end =
+-- the status, the buffer, the length and the end that C gets for a text of jobs and the version in
+-- the header of their file
+abbrev pub JobsTell : ℕ → List ℕ → ℕ → List ℕ → List ℕ → ℕ → ℕ → JobsEnd → Type 0
+JobsTell version text status old new len_old len_new end =
     (answer : Result Answer TiffError)
-    × (AnswersKind (kind_of version) answer
+    × (AnswersKind (kind_of version) text answer
     × TellsAnswer answer status old new len_old len_new end)

@@ -14,3 +14,4 @@ pub mod Appended
 pub mod Plan
 pub mod Rewrite
 pub mod InWindows
+pub mod Texts

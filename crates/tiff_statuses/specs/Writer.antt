@@ -1,5 +1,5 @@
 -- What the library writes for an image that C passes: a file, or the first error.
-use Rattle.std.specs.Prelude.{◌≡◌, ◌⊎◌, ℕ, ◌<◌, ◌≤◌, ◌*◌, ◌^◌, ◌==◌, ◌++◌, List, [], length, take, drop, slice_get, if◌then◌else◌, false, Option, None, Some, Result, Ok, Err, IfOk}
+use Rattle.std.specs.Prelude.{◌≡◌, ◌⊎◌, ℕ, ◌+◌, ◌<◌, ◌≤◌, ◌*◌, ◌^◌, ◌==◌, ◌++◌, List, [], length, take, drop, slice_get, if◌then◌else◌, false, Option, None, Some, Result, Ok, Err, IfOk}
 use Rattle.tiff_base.specs.declared.error.TiffError.{TiffError}
 use Rattle.tiff_base.specs.declared.error.TiffError.TheVariants.{FormatError, UnsupportedError, IoError, UsageError, OutOfMemory}
 use Rattle.tiff_base.specs.declared.error.TiffFormatError.TheVariants.{TiffSignatureInvalid, UnknownPredictor}
@@ -23,6 +23,7 @@ use Rattle.tiff_encode.specs.Calls.{image_in, new_directory}
 use Rattle.tiff_encode.specs.Shows.{Image, ShowsFirst}
 use Rattle.tiff_encode.specs.ImageData.{WritesImage, image_of_samples}
 use Rattle.tiff_encode.specs.JobSamples.{samples_of_type}
+use Rattle.tiff_statuses.specs.declared.frame.FrameLengths.{FrameLengths}
 use Rattle.tiff_statuses.specs.declared.writer.NewImage.{NewImage}
 use Rattle.tiff_statuses.specs.declared.writer.Settings.{Settings}
 use Rattle.tiff_decode.specs.NextState.{view_of_result}
@@ -122,16 +123,18 @@ WritesNew image bytes answer = WritesBy (settings_of image) image.width image.he
 
 -- ---- what C gets
 
+-- the status of a buffer that is too short
+abbrev pub too_short : ℕ → ℕ → ℕ
+too_short needed provided =
+    fault_number (UsageError (InsufficientOutputBufferSize needed provided))
+
 -- A file is put at the front of a buffer if it fits, and the rest of the buffer stays; else the
 -- whole buffer stays.
 abbrev pub Puts : List ℕ → ℕ → List ℕ → List ℕ → Type 0
 Puts file status old new =
     ((length file ≤ length old) × ((status ≡ 0) × (new ≡ file ++ drop (length file) old)))
     ⊎ ((length old < length file)
-    × ((status
-    ≡ fault_number
-    (UsageError (InsufficientOutputBufferSize (length file) (length old))))
-    × (new ≡ old)))
+    × ((status ≡ too_short (length file) (length old)) × (new ≡ old)))
 
 -- The length of a file is delivered, whether the file fits or not. For an error, the number of the
 -- error is delivered alone.
@@ -146,6 +149,43 @@ abbrev pub WriterTells : NewImage → List ℕ → ℕ → List ℕ → List ℕ
 WriterTells image bytes status old new len_old len_new =
     (answer : Result (List ℕ) TiffError)
     × (WritesNew image bytes answer × Delivers answer status old new len_old len_new)
+
+-- ---- what C gets around its samples
+
+-- the bytes of a buffer and the samples that were passed, as the parts of a file
+abbrev pub joined_parts : FrameLengths → List ℕ → List ℕ → List ℕ
+joined_parts len samples buffer = take len.front buffer
+    ++ (take len.samples samples ++ take len.behind (drop len.front buffer))
+
+-- The parts of a file that aren't samples are put at the front of a buffer, one behind the other, if
+-- they fit, and the rest of the buffer stays; else the whole buffer stays.
+abbrev pub PutsParts : List ℕ → List ℕ → ℕ → List ℕ → List ℕ → FrameLengths → Type 0
+PutsParts file samples status old new len =
+    ((len.front + len.behind ≤ length old)
+    × ((status ≡ 0)
+    × ((joined_parts len samples new ≡ file)
+    × (drop (len.front + len.behind) new ≡ drop (len.front + len.behind) old))))
+    ⊎ ((length old < len.front + len.behind)
+    × ((status ≡ too_short (len.front + len.behind) (length old)) × (new ≡ old)))
+
+-- The lengths of the parts of a file are delivered, whether these fit or not. For an error, the
+-- number of the error is delivered alone.
+abbrev pub DeliversParts : Result (List ℕ) TiffError → List ℕ → ℕ → List ℕ → List ℕ → FrameLengths
+    → FrameLengths → Type 0
+DeliversParts (Ok file) samples status old new len_old len_new =
+    (len_new.front + (len_new.samples + len_new.behind) ≡ length file)
+    × (((len_new.samples ≡ 0) ⊎ (len_new.samples ≡ length samples))
+    × PutsParts file samples status old new len_new)
+DeliversParts (Err e) samples status old new len_old len_new = (status ≡ fault_number e)
+    × ((new ≡ old) × (len_new ≡ len_old))
+
+-- the status, the buffer and the lengths that C gets for an image around whose samples it writes a
+-- file
+abbrev pub FrameTells : NewImage → List ℕ → ℕ → List ℕ → List ℕ → FrameLengths → FrameLengths
+    → Type 0
+FrameTells image samples status old new len_old len_new =
+    (answer : Result (List ℕ) TiffError)
+    × (WritesNew image samples answer × DeliversParts answer samples status old new len_old len_new)
 
 -- ---- what follows of it
 

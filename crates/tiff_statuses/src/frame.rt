@@ -225,6 +225,29 @@ impl Frame<'_> {
         buffer[begin..end].copy_from_slice(self.samples);
         buffer[end..all].copy_from_slice(&self.behind);
     }
+
+    // Puts the bytes before the samples and those behind them at the front of a buffer.
+    fn put_around(&self, buffer: &mut [u8])
+        requires { length self.now.front.items + length self.now.behind.items ≤ length buffer.old }
+        ensures { buffer.new ≡ self.now.front.items ++ (self.now.behind.items
+            ++ drop (length self.now.front.items + length self.now.behind.items) buffer.old) }
+    {
+        let begin = self.front.len();
+        let all = begin + self.behind.len();
+        buffer[..begin].copy_from_slice(&self.front);
+        buffer[begin..all].copy_from_slice(&self.behind);
+    }
+}
+
+/// How many bytes a file of one image has before samples that are elsewhere in memory, how many
+/// these have, and how many it has behind them. A file without such samples has all bytes before
+/// them.
+#[derive(Clone, Copy, Debug, PartialEq, Eq)]
+#[repr(C)]
+pub struct FrameLengths {
+    pub front: usize,
+    pub samples: usize,
+    pub behind: usize,
 }
 
 /// A file that was written.
@@ -237,7 +260,7 @@ pub enum NewFile<'a> {
 }
 
 impl NewFile<'_> {
-    ghost use Rattle.tiff_statuses.specs.Frame.{file_of};
+    ghost use Rattle.tiff_statuses.specs.Frame.{behind_of, file_of, front_of, samples_of};
 
     /// Returns the length of the file.
     pub fn len(&self) -> usize
@@ -246,6 +269,39 @@ impl NewFile<'_> {
         match self {
             NewFile::Whole(file) => file.len(),
             NewFile::Around(frame) => frame.len(),
+        }
+    }
+
+    /// Returns how long the parts of the file are.
+    pub fn lengths(&self) -> FrameLengths
+        ensures front { result.front ≡ length (front_of self.now) }
+        ensures samples { result.samples ≡ length (samples_of self.now) }
+        ensures behind { result.behind ≡ length (behind_of self.now) }
+        ensures few { result.front + result.behind < 2 ^ 63 }
+    {
+        match self {
+            NewFile::Whole(file) => FrameLengths {
+                front: file.len(),
+                samples: 0,
+                behind: 0,
+            },
+            NewFile::Around(frame) => FrameLengths {
+                front: frame.front.len(),
+                samples: frame.samples.len(),
+                behind: frame.behind.len(),
+            },
+        }
+    }
+
+    /// Puts the bytes that aren't elsewhere in memory at the front of a buffer.
+    pub fn put_around(&self, buffer: &mut [u8])
+        requires { length (front_of self.now) + length (behind_of self.now) ≤ length buffer.old }
+        ensures { buffer.new ≡ front_of self.now ++ (behind_of self.now
+            ++ drop (length (front_of self.now) + length (behind_of self.now)) buffer.old) }
+    {
+        match self {
+            NewFile::Whole(file) => buffer[..file.len()].copy_from_slice(file),
+            NewFile::Around(frame) => frame.put_around(buffer),
         }
     }
 }

@@ -1,7 +1,9 @@
 //! The file of a list of jobs, which C passes as lines of text.
 
-ghost use Rattle.std.specs.Prelude.{◌≡◌, map, position, IfErr, MatchResult};
-ghost use Rattle.tiff_statuses.specs.Jobs.{AnswersJobs, AnswersKind, RanJobs, TellsAnswer, TellsRan, first_refused, first_status, is_refused, job_status, refused_step};
+ghost use Rattle.std.specs.Prelude.{◌≡◌, map, position, MatchResult};
+ghost use Rattle.std.specs.Result.{result_map_both};
+ghost use Rattle.tiff_lists.specs.Jobs.{job_held};
+ghost use Rattle.tiff_statuses.specs.Jobs.{AnswersJobs, AnswersKind, RanJobs, TellsAnswer, TellsRan, first_refused, first_status, is_refused, job_status, jobs_in, refused_step};
 ghost use Rattle.tiff_statuses.specs.Status as status;
 ghost use Rattle.tiff_statuses.specs.Writer as writer;
 
@@ -149,8 +151,11 @@ pub fn run(alloc: Global, kind: FileKind, jobs: &[Job<'_>]) -> TiffResult<Ran>
 
 // The jobs that a text lists; or the number of its first line that is no job, and 0 where the text
 // isn't UTF-8.
+#[tactic(auto, using(crate::proofs::JobsListed::of_text, crate::proofs::JobsListed::of_no_text))]
 fn listed(alloc: Global, text: &[u8]) -> TiffResult<Result<Vec<Job<'static>>, usize>>
-    ensures { IfErr result (λ e. e ≡ TiffError.OutOfMemory) }
+    ensures { MatchResult result (λ listed. jobs_in text.now
+        ≡ result_map_both (λ jobs. map job_held jobs.items) (λ line. line) listed)
+        (λ e. e ≡ TiffError.OutOfMemory) }
 {
     match str::from_utf8(text) {
         Ok(text) => Ok(jobs_of(alloc, text)?),
@@ -160,7 +165,7 @@ fn listed(alloc: Global, text: &[u8]) -> TiffResult<Result<Vec<Job<'static>>, us
 
 /// Runs the jobs that a text lists, unless a line of it is no job. Its only error is `OutOfMemory`.
 pub fn run_listed(alloc: Global, kind: FileKind, text: &[u8]) -> TiffResult<Answer>
-    ensures { MatchResult result (AnswersJobs kind) (λ e. e ≡ TiffError.OutOfMemory) }
+    ensures { MatchResult result (AnswersJobs kind text.now) (λ e. e ≡ TiffError.OutOfMemory) }
 {
     match listed(alloc, text)? {
         Ok(jobs) => Ok(Answer::Ran(run(alloc, kind, &jobs)?)),
@@ -212,7 +217,7 @@ pub fn tell(
 /// Runs the jobs that a text lists for a file whose header has this version. Its errors: a version
 /// that is none, `TiffSignatureInvalid`; `OutOfMemory`.
 pub fn run_version(alloc: Global, version: u16, text: &[u8]) -> TiffResult<Answer>
-    ensures { AnswersKind (writer.kind_of version) result }
+    ensures { AnswersKind (writer.kind_of version) text.now result }
 {
     match kind_of(version) {
         Some(kind) => run_listed(alloc, kind, text),

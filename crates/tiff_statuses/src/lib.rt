@@ -20,10 +20,12 @@ ghost use Rattle.tiff_statuses.specs.Plan as plans;
 ghost use Rattle.tiff_statuses.specs.Plan.{ReadsPage};
 ghost use Rattle.tiff_statuses.specs.Rewrite as rewriting;
 ghost use Rattle.tiff_statuses.specs.Status.{StatusIs, StatusPuts, StatusTells};
+ghost use Rattle.tiff_statuses.specs.Texts.{PutsSomeText};
 ghost use Rattle.tiff_statuses.specs.Values as values;
 ghost use Rattle.tiff_statuses.specs.Writer as writer;
 ghost use Rattle.tiff_statuses.specs.Writer.{IsShown};
 
+pub use crate::frame::FrameLengths;
 use std::alloc::Global;
 pub use tiff_lists::VERSION;
 
@@ -56,8 +58,8 @@ use crate::list::{ListedPage, list_into};
 use crate::pages::{NewPage, PagesEnd, run_pages, tell_pages};
 use crate::plan::PlannedPage;
 use crate::rewrite::PlacedChunk;
-use crate::status::{done, given, text_of};
-use crate::writer::{NewImage, deliver, write_new};
+use crate::status::{done, given, put_part, text_of};
+use crate::writer::{NewImage, deliver, deliver_around, write_new};
 
 /// Puts the width and the height of a page, in pixels, into `sides`. Returns 0, or the number of
 /// the error that refuses the file or the page. An error leaves `sides` as it was.
@@ -480,6 +482,29 @@ pub fn write_image(
     deliver(write_new(alloc, image, samples), buffer, len)
 }
 
+/// As `write_image`, but puts into `buffer` only the bytes of the file before `samples` and behind
+/// them, one behind the other, and the lengths of the parts of the file into `frame`: the file has
+/// `frame.front` bytes of `buffer`, then `samples`, then `frame.behind` bytes of `buffer`. Where
+/// the file doesn't have `samples` as they are, since they are compressed or are differences, or
+/// since there are more than those of the image, or where memory is short, `frame.samples` and
+/// `frame.behind` are 0, and all bytes of the file are put into `buffer`. The errors are those of
+/// `write_image`; an error leaves `buffer` as it was, and `frame` too, unless only the buffer is
+/// too short.
+#[tactic(auto, using(crate::proofs::Delivered::told_around, crate::proofs::Delivered::kept_around))]
+pub fn image_frame(
+    alloc: Global,
+    image: &NewImage,
+    samples: &[u8],
+    buffer: &mut [u8],
+    frame: &mut FrameLengths,
+) -> u32
+    ensures answer { writer.FrameTells image.now samples.now result buffer.old buffer.new
+        frame.old frame.new }
+    ensures stays { (result ≡ 0) ⊎ (buffer.new ≡ buffer.old) }
+{
+    deliver_around(write_new(alloc, image, samples), buffer, frame)
+}
+
 /// Writes the file of the jobs that the text `jobs` lists into `buffer`, puts how many bytes the
 /// file has into `len`, and puts where the list is refused into `end`. Returns 0, or the number of
 /// the first error: of the version, `TiffSignatureInvalid`; of a text that isn't UTF-8, or of its
@@ -495,7 +520,7 @@ pub fn write_jobs(
     len: &mut usize,
     end: &mut JobsEnd,
 ) -> u32
-    ensures answer { JobsTell version result buffer.old buffer.new len.old len.new end.new }
+    ensures answer { JobsTell version jobs.now result buffer.old buffer.new len.old len.new end.new }
     ensures stays { (result ≡ 0) ⊎ (buffer.new ≡ buffer.old) }
 {
     tell(run_version(alloc, version, jobs), buffer, len, end)
@@ -566,9 +591,8 @@ pub fn version() -> u32
 
 /// Writes the text of a status into `buffer`, as much of it as fits, and returns how many bytes the
 /// whole text has. The text of a number that is no status says so.
-pub fn fault_text(status: u32, buffer: &mut [u8]) -> usize {
-    let text = text_of(status).as_bytes();
-    let n = text.len().min(buffer.len());
-    buffer[..n].copy_from_slice(&text[..n]);
-    text.len()
+pub fn fault_text(status: u32, buffer: &mut [u8]) -> usize
+    ensures { PutsSomeText result buffer.old buffer.new }
+{
+    put_part(text_of(status), buffer)
 }

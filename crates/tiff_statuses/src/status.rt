@@ -1,6 +1,6 @@
 //! The number and the text of each error.
 
-ghost use Rattle.std.specs.Prelude.{◌≡◌, IfOk, OnErr};
+ghost use Rattle.std.specs.Prelude.{◌≡◌, ◌++◌, IfOk, OnErr, drop, length, take};
 ghost use Rattle.tiff_statuses.specs.Status as spec;
 
 use tiff_base::error::{TiffError, TiffFormatError, TiffResult, TiffUnsupportedError, UsageError};
@@ -378,4 +378,16 @@ pub fn text_of(number: u32) -> &'static str {
         }
     }
     "no such status"
+}
+
+/// Puts a text at the front of a buffer, as much of it as fits, and returns how many bytes the whole
+/// text has.
+pub fn put_part(text: &str, buffer: &mut [u8]) -> usize
+    ensures len { result ≡ length text.now }
+    ensures text { buffer.new ≡ take (length buffer.old) text.now ++ drop (length text.now) buffer.old }
+{
+    let bytes = text.as_bytes();
+    let n = bytes.len().min(buffer.len());
+    buffer[..n].copy_from_slice(&bytes[..n]);
+    bytes.len()
 }

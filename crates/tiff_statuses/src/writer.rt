@@ -1,17 +1,17 @@
 //! A file of one image, whose parameters and samples C passes.
 
-ghost use Rattle.std.specs.Prelude.{◌≡◌, ◌*◌, ◌^◌, ◌<◌, length, map, slice_get, MatchResult, MatchOption, IfOk, IfSome, Ok, OnOk, replicate, true};
+ghost use Rattle.std.specs.Prelude.{◌≡◌, ◌*◌, ◌^◌, ◌<◌, ℕ, List, length, map, slice_get, MatchResult, MatchOption, IfOk, IfSome, Ok, OnOk, replicate, true};
 ghost use Rattle.tiff_encode.specs.declared.encoder.settings.Compression.TheVariants.{Uncompressed};
 ghost use Rattle.tiff_base.specs.Types.{type_size};
 ghost use Rattle.tiff_value.specs.ColorType.{columns_of, sample_number};
 ghost use Rattle.tiff_value.specs.ColorTypes.{color_types};
 ghost use Rattle.tiff_decode.specs.NextState.{view_of_result};
 ghost use Rattle.tiff_statuses.specs.Writer as writer;
-ghost use Rattle.tiff_statuses.specs.Frame.{file_of};
-ghost use Rattle.tiff_statuses.specs.Writer.{AreKept, Delivers, IsBegun, Puts, WritesImageFile, WritesBytes, WritesNew};
+ghost use Rattle.tiff_statuses.specs.Frame.{IsAround, file_of};
+ghost use Rattle.tiff_statuses.specs.Writer.{AreKept, Delivers, DeliversParts, IsBegun, Puts, WritesImageFile, WritesBytes, WritesNew};
 ghost use Rattle.tiff_statuses.specs.Zeros.{HasZeros, IsNewImage, WritesZeros};
 
-use crate::frame::{FrameSink, NewFile, front_len};
+use crate::frame::{FrameLengths, FrameSink, NewFile, front_len};
 use crate::status::{Status, fault_number};
 use std::alloc::{AllocError, Global};
 use tiff_base::error::{TiffError, TiffFormatError, TiffResult, TiffUnsupportedError, UsageError};
@@ -279,8 +279,9 @@ fn write_around<'a, K: TiffKind, C: NamedColorType>(
 ) -> Option<NewFile<'a>>
     requires kind { settings.now.kind ≡ K.kind }
     requires named { settings.now.color ≡ C.name }
-    ensures { IfSome result (λ file. WritesBytes settings.now image.now.width image.now.height
+    ensures written { IfSome result (λ file. WritesBytes settings.now image.now.width image.now.height
         (writer.samples_from_bytes settings.now.color bytes.now) (Ok (file_of file))) }
+    ensures around { IfSome result (λ file. IsAround bytes.now file) }
 {
     if !are_kept::<C>(settings, image, bytes.len()) {
         return None;
@@ -309,9 +310,10 @@ fn write_samples<'a, K: TiffKind, C: NamedColorType>(
     requires named { settings.now.color ≡ C.name }
     requires made { writer.samples_from_bytes settings.now.color bytes.now
         ≡ Ok (map (sample_number (type_size C.Inner.value_type) C.Inner.bits) samples.now) }
-    ensures { WritesBytes settings.now image.now.width image.now.height
+    ensures written { WritesBytes settings.now image.now.width image.now.height
         (writer.samples_from_bytes settings.now.color bytes.now)
         (view_of_result file_of result) }
+    ensures around { IfOk result (λ file. IsAround bytes.now file) }
 {
     let file = write_whole::<K, C>(alloc, settings, image, samples)?;
     Ok(NewFile::Whole(file))
@@ -327,9 +329,10 @@ fn write_color<'a, K: TiffKind, C: NamedColorType>(
 ) -> TiffResult<NewFile<'a>>
     requires kind { settings.now.kind ≡ K.kind }
     requires named { settings.now.color ≡ C.name }
-    ensures { WritesBytes settings.now image.now.width image.now.height
+    ensures written { WritesBytes settings.now image.now.width image.now.height
         (writer.samples_from_bytes settings.now.color bytes.now)
         (view_of_result file_of result) }
+    ensures around { IfOk result (λ file. IsAround bytes.now file) }
 {
     if let Some(file) = write_around::<K, C>(alloc, settings, image, bytes) {
         return Ok(file);
@@ -360,14 +363,15 @@ struct WritesColor;
 impl<'a> ColorVisitor<(), GivenImage<'a>, TiffResult<NewFile<'a>>> for WritesColor {
     ghost use Rattle.std.specs.Prelude.{◌≡◌};
     ghost use Rattle.tiff_decode.specs.NextState.{view_of_result};
-    ghost use Rattle.tiff_statuses.specs.Frame.{file_of};
+    ghost use Rattle.tiff_statuses.specs.Frame.{IsAround, file_of};
     ghost use Rattle.tiff_statuses.specs.Writer.{WritesBytes, samples_from_bytes};
 
     ghost takes = { λ name _ given. given.settings.color ≡ name };
 
     ghost visits = { λ _ _ given answer _. WritesBytes given.settings given.image.width given.image.height
         (samples_from_bytes given.settings.color given.bytes.now)
-        (view_of_result file_of answer) };
+        (view_of_result file_of answer)
+        × IfOk answer (λ file. IsAround given.bytes.now file) };
 
     fn visit<C: NamedColorType>(_none: &mut (), given: GivenImage<'a>) -> TiffResult<NewFile<'a>> {
         let GivenImage {
@@ -391,7 +395,8 @@ impl<'a> ColorVisitor<(), GivenImage<'a>, TiffResult<NewFile<'a>>> for WritesCol
 /// `UnknownPredictor`; of a part of a sample that is left over, `MismatchedEntryLength`;
 /// `OutOfMemory`; or of the encoder's `write_image`.
 pub fn write_new<'a>(alloc: Global, image: &NewImage, bytes: &'a [u8]) -> TiffResult<NewFile<'a>>
-    ensures { WritesNew image.now bytes.now (view_of_result file_of result) }
+    ensures written { WritesNew image.now bytes.now (view_of_result file_of result) }
+    ensures around { IfOk result (λ file. IsAround bytes.now file) }
 {
     let settings = settings_of(image)?;
     let given = GivenImage {
@@ -403,16 +408,21 @@ pub fn write_new<'a>(alloc: Global, image: &NewImage, bytes: &'a [u8]) -> TiffRe
     by_name::<_, _, _, WritesColor>(settings.color, &mut (), given)
 }
 
+// The status of a buffer that is too short.
+fn too_short(needed: usize, provided: usize) -> u32
+    ensures { result ≡ writer.too_short needed provided }
+{
+    let fault = UsageError::InsufficientOutputBufferSize { needed, provided };
+    fault_number(&TiffError::UsageError(fault))
+}
+
 // Puts a file at the front of a buffer if the file fits; else the buffer stays. Returns the status.
 fn put(file: &NewFile<'_>, buffer: &mut [u8]) -> u32
     ensures { Puts (file_of file.now) result buffer.old buffer.new }
 {
     let needed = file.len();
     if buffer.len() < needed {
-        return fault_number(&TiffError::UsageError(UsageError::InsufficientOutputBufferSize {
-            needed,
-            provided: buffer.len(),
-        }));
+        return too_short(needed, buffer.len());
     }
     match file {
         NewFile::Whole(file) => buffer[..needed].copy_from_slice(file),
@@ -432,6 +442,33 @@ pub fn deliver(answer: TiffResult<NewFile<'_>>, buffer: &mut [u8], len: &mut usi
         Ok(file) => {
             *len = file.len();
             put(&file, buffer)
+        }
+        Err(fault) => fault_number(&fault),
+    }
+}
+
+/// Puts the parts of a file that aren't samples elsewhere in memory at the front of a buffer, one
+/// behind the other, if they fit, and the lengths of its parts into `lengths` in any case. Returns
+/// the status: 0, or the number of the error of `answer`, or of `InsufficientOutputBufferSize`. For
+/// an error of `answer`, `buffer` and `lengths` stay.
+pub fn deliver_around(
+    answer: TiffResult<NewFile<'_>>,
+    buffer: &mut [u8],
+    lengths: &mut FrameLengths,
+) -> u32
+    ensures { (samples : List ℕ) → IfOk answer.entry (λ file. IsAround samples file)
+        → DeliversParts (view_of_result file_of answer.entry) samples result buffer.old buffer.new
+        lengths.old lengths.new }
+{
+    match answer {
+        Ok(file) => {
+            *lengths = file.lengths();
+            let needed = lengths.front + lengths.behind;
+            if buffer.len() < needed {
+                return too_short(needed, buffer.len());
+            }
+            file.put_around(buffer);
+            Status::Done as u32
         }
         Err(fault) => fault_number(&fault),
     }

@@ -24,7 +24,7 @@ use pages::print_all_pages;
 use std::io;
 use tags::{BITS_PER_SAMPLE, print_entries, print_tags, print_values};
 use windows::print_windows;
-use written::{AT, DIRECTORY, print_too_long, write};
+use written::{AT, DIRECTORY, print_frames, print_too_long, write};
 
 fn print_page(rt: &HostRuntime, file: &[u8], page: usize) -> io::Result<()> {
     print_sides(rt, file, page)?;
@@ -73,6 +73,7 @@ pub fn print_calls(rt: &HostRuntime) -> io::Result<()> {
     let mut len = 0;
     let status = write(rt, &mut buffer, &mut len);
     println!(rt; "write_image: {status}, {len}")?;
+    print_frames(rt)?;
     let file = &buffer[..len.min(300)];
     print_pages(rt, file)?;
     print_claim(rt)?;

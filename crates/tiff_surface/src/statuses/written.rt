@@ -1,6 +1,7 @@
 //! The file that the calls are made on, which `write_image` writes.
 
 use std::io;
+use tiff_statuses::FrameLengths;
 use tiff_statuses::writer::NewImage;
 
 /// A page that is the directory at an offset has this number plus the offset.
@@ -32,4 +33,21 @@ pub fn print_too_long(rt: &HostRuntime) -> io::Result<()> {
     let mut len = 0;
     let status = write(rt, &mut buffer, &mut len);
     println!(rt; "write_image into 100 bytes: {status}, {len}")
+}
+
+// Prints the result of writing what the file has around its samples into a buffer.
+fn print_frame(rt: &HostRuntime, buffer: &mut [u8]) -> io::Result<()> {
+    let mut frame = FrameLengths {
+        front: 7,
+        samples: 7,
+        behind: 7,
+    };
+    let status = tiff_statuses::image_frame(rt.alloc(), &IMAGE, &SAMPLES, buffer, &mut frame);
+    println!(rt; "image_frame: {status}, {frame:?}")
+}
+
+/// Prints the results of writing what the file has around its samples, with room for it and without.
+pub fn print_frames(rt: &HostRuntime) -> io::Result<()> {
+    print_frame(rt, &mut [0u8; 300])?;
+    print_frame(rt, &mut [0u8; 100])
 }

@@ -7,8 +7,8 @@ use Rattle.tiff_statuses.specs.Writer.{AreKept}
 use Rattle.tiff_statuses.proofs.FrameWritten.{around_written}
 use Rattle.tiff_statuses.proofs.writer.write_around.Goals as goal
 
-pub returns : goal.returns
-returns g c =
+pub returns-clause-written : goal.returns-clause-written
+returns-clause-written g c =
     let s = c.args.settings.now in
     let image = c.args.image.now in
     let bytes = c.args.bytes.now in
@@ -24,3 +24,6 @@ returns g c =
     (g.met.C.NamedColorType.named ∙ ap color_type (sym c.requires.named)) (ap type_size (g.met.C.NamedColorType.in_memory ∙ ap inner_type (sym c.requires.named)))
     c.in-Ok.ensures wide tall kept c.type_inv.bytes c.in_ok-frame.frame (frame_told sink) c.into_inner-sink.ensures.bytes short
     (subst (λ n. IsFrameOf (frame_told sink) n bytes c.in_ok-frame.frame) c.front_len.ensures c.in_ok-frame.ensures)
+
+pub returns-clause-around : goal.returns-clause-around
+returns-clause-around g c = (c.in_ok-frame.ensures).samples_are
