@@ -118,7 +118,7 @@ impl<'a> Expected<'a> {
             }
         }
         push_line(&mut text, "discard")?;
-        let Ok(run) = run_text(alloc, self.list.big, &text, Manner::plain(Appetite::All))? else {
+        let Ok(run) = run_text(alloc, self.list.start, &text, Manner::plain(Appetite::All))? else {
             return Ok(replies);
         };
         for reply in run.text.as_str().lines().skip(from) {

@@ -6,10 +6,19 @@ use crate::sink::ScriptedSink;
 use std::alloc::{AllocError, Global};
 use tiff_base::error::TiffResult;
 use tiff_decode::reply::refusal_text;
-use tiff_encode::encoder::script::Job;
-use tiff_encode::encoder::{TiffKindBig, TiffKindStandard};
+use tiff_encode::encoder::script::{Job, run_jobs_in};
+use tiff_encode::encoder::{TiffEncoder, TiffKind, TiffKindBig, TiffKindStandard};
 use tiff_lists::jobs::jobs_of;
-use tiff_lists::replies::run_told;
+use tiff_lists::replies::{lines_of_jobs, run_told};
+
+/// Where a list of jobs writes: a new classic or BigTIFF file; or behind a file of this kind, whose
+/// last link is at an offset.
+#[derive(Clone, Copy, Drop)]
+pub struct Start<'a> {
+    pub big: bool,
+    pub file: &'a [u8],
+    pub link: Option<u64>,
+}
 
 /// The results of a run of jobs.
 #[derive(Drop)]
@@ -33,32 +42,50 @@ impl JobRun {
     }
 }
 
-// Runs jobs in a classic or a BigTIFF file.
-fn run_kind(
+// Runs jobs behind the file of a sink, whose last link is at an offset.
+fn run_behind<K: TiffKind>(
     alloc: Global,
-    big: bool,
+    sink: ScriptedSink,
+    link: u64,
+    jobs: &[Job<'_>],
+) -> TiffResult<(ScriptedSink, String)> {
+    let mut encoder = TiffEncoder::<ScriptedSink, K>::append_to(alloc, sink, link)?;
+    let mut replies = Vec::new(alloc);
+    run_jobs_in(&mut encoder, jobs, &mut replies)?;
+    let lines = lines_of_jobs(alloc, &replies)?;
+    Ok((encoder.into_inner(), lines))
+}
+
+// Runs jobs in a file of the kind `K`.
+fn run_kind<K: TiffKind>(
+    alloc: Global,
+    link: Option<u64>,
     sink: ScriptedSink,
     jobs: &[Job<'_>],
 ) -> TiffResult<(ScriptedSink, String)> {
-    if big {
-        run_told::<ScriptedSink, TiffKindBig>(alloc, sink, jobs)
-    } else {
-        run_told::<ScriptedSink, TiffKindStandard>(alloc, sink, jobs)
+    match link {
+        Some(link) => run_behind::<K>(alloc, sink, link, jobs),
+        None => run_told::<ScriptedSink, K>(alloc, sink, jobs),
     }
 }
 
-/// Runs jobs over an empty sink with this manner, in a classic or a BigTIFF file. The sink records
+/// Runs jobs over a sink with this manner, which has the file that they begin with. The sink records
 /// as much as `kept` says.
 pub fn run_over(
     alloc: Global,
-    big: bool,
+    start: Start<'_>,
     jobs: &[Job<'_>],
     manner: Manner,
     kept: Kept,
 ) -> Result<JobRun, AllocError> {
-    let record = Record::new(alloc, kept)?;
-    let sink = ScriptedSink::new(Vec::new(alloc), manner, record.shared()?);
-    let (text, handed_back) = match run_kind(alloc, big, sink, jobs) {
+    let record = Record::new(alloc, kept, start.file)?;
+    let sink = ScriptedSink::new(start.file.to_vec(alloc)?, manner, record.shared()?);
+    let run = if start.big {
+        run_kind::<TiffKindBig>(alloc, start.link, sink, jobs)
+    } else {
+        run_kind::<TiffKindStandard>(alloc, start.link, sink, jobs)
+    };
+    let (text, handed_back) = match run {
         Ok((sink, lines)) => (lines, Some(sink.into_vec())),
         Err(fault) => (refusal_text(alloc, &fault)?, None),
     };
@@ -69,26 +96,26 @@ pub fn run_over(
     })
 }
 
-/// Runs the jobs of a text over an empty sink with this manner, in a classic or a BigTIFF file. Or
+/// Runs the jobs of a text over a sink with this manner, which has the file that they begin with. Or
 /// returns the number, from 1, of the first line that is no job.
 pub fn run_text(
     alloc: Global,
-    big: bool,
+    start: Start<'_>,
     text: &str,
     manner: Manner,
 ) -> Result<Result<JobRun, usize>, AllocError> {
     match jobs_of(alloc, text)? {
-        Ok(jobs) => Ok(Ok(run_over(alloc, big, &jobs, manner, Kept::Counts)?)),
+        Ok(jobs) => Ok(Ok(run_over(alloc, start, &jobs, manner, Kept::Counts)?)),
         Err(number) => Ok(Err(number)),
     }
 }
 
-/// A list of jobs in a classic or a BigTIFF file, the lines that describe the jobs, and the reply
+/// A list of jobs, the file that they begin with, the lines that describe the jobs, and the reply
 /// lines where nothing fails.
 #[derive(Clone, Copy, Drop)]
 pub struct JobList<'a> {
     pub alloc: Global,
-    pub big: bool,
+    pub start: Start<'a>,
     pub jobs: &'a [Job<'a>],
     pub told: &'a [String],
     pub answered: &'a [String],
@@ -97,7 +124,7 @@ pub struct JobList<'a> {
 impl<'a> JobList<'a> {
     /// Runs all jobs over a sink with this manner. The sink records as much as `kept` says.
     pub fn run(&self, manner: Manner, kept: Kept) -> Result<JobRun, AllocError> {
-        run_over(self.alloc, self.big, self.jobs, manner, kept)
+        run_over(self.alloc, self.start, self.jobs, manner, kept)
     }
 
     /// Runs the first `count` jobs over a sink with this manner, and counts the sink's calls.
@@ -105,7 +132,7 @@ impl<'a> JobList<'a> {
         let count = count.min(self.jobs.len());
         run_over(
             self.alloc,
-            self.big,
+            self.start,
             &self.jobs[..count],
             manner,
             Kept::Counts,

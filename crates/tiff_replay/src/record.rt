@@ -34,13 +34,13 @@ pub struct Recorded {
 }
 
 impl Recorded {
-    // No call yet.
-    fn none(alloc: Global, kept: Kept) -> Self {
+    // No call yet, of a sink that has a file.
+    fn none(alloc: Global, kept: Kept, file: Vec<u8>) -> Self {
         Recorded {
             calls: 0,
-            len: 0,
+            len: file.len() as u64,
             writes: Vec::new(alloc),
-            file: Vec::new(alloc),
+            file,
             kept,
         }
     }
@@ -77,9 +77,10 @@ pub struct Record {
 }
 
 impl Record {
-    /// An empty record.
-    pub fn new(alloc: Global, kept: Kept) -> Result<Self, AllocError> {
-        let shared = Rc::new(alloc, RefCell::new(Recorded::none(alloc, kept)))?;
+    /// A record without calls, of a sink that has a file.
+    pub fn new(alloc: Global, kept: Kept, file: &[u8]) -> Result<Self, AllocError> {
+        let recorded = Recorded::none(alloc, kept, file.to_vec(alloc)?);
+        let shared = Rc::new(alloc, RefCell::new(recorded))?;
         Ok(Record { alloc, shared })
     }
 
@@ -111,11 +112,10 @@ impl Record {
 
     /// Takes out the record so far.
     pub fn take(&self) -> Recorded {
+        let none = Recorded::none(self.alloc, Kept::Counts, Vec::new(self.alloc));
         match self.shared.try_borrow_mut() {
-            Ok(mut recorded) => {
-                mem::replace(&mut *recorded, Recorded::none(self.alloc, Kept::Counts))
-            }
-            Err(_) => Recorded::none(self.alloc, Kept::Counts),
+            Ok(mut recorded) => mem::replace(&mut *recorded, none),
+            Err(_) => none,
         }
     }
 }

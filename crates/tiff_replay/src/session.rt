@@ -190,6 +190,17 @@ impl Session {
         }
     }
 
+    // Begins a list of jobs, if a line does so. Returns whether it does.
+    fn begin_list(&mut self, line: &str) -> Result<bool, AllocError> {
+        match line {
+            "jobs" | "jobs big" => self.writer.begin(line == "jobs big"),
+            "jobs behind" => self.writer.begin_behind()?,
+            _ => return Ok(false),
+        }
+        self.listing = true;
+        Ok(true)
+    }
+
     /// The reply to a line that opens a file, makes a call, or ends a list of jobs, which then
     /// runs. A comment, a line within a list of jobs, and `without failures` have no reply.
     pub fn reply(
@@ -207,9 +218,7 @@ impl Session {
             self.trying = false;
             return Ok(None);
         }
-        if line == "jobs" || line == "jobs big" {
-            self.listing = true;
-            self.writer.begin(line == "jobs big");
+        if self.begin_list(line)? {
             return Ok(None);
         }
         Ok(Some(self.call_line(rt, line)?))

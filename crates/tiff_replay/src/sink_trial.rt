@@ -6,7 +6,7 @@ ghost use Rattle.std.specs.Prelude.{◌<◌};
 use crate::call_count::{failed_text, step_of};
 use crate::expected::Expected;
 use crate::job_lines::told_lines;
-use crate::job_list::{JobList, JobRun, run_over};
+use crate::job_list::{JobList, JobRun, Start, run_over};
 use crate::manner::{Appetite, Manner};
 use crate::record::{Kept, put};
 use crate::sums::Sums;
@@ -101,7 +101,7 @@ impl<'a> Trials<'a> {
     ) -> Result<Option<String>, AllocError>
         requires { 0 < step }
     {
-        let mut before = Vec::new(self.list.alloc);
+        let mut before = self.list.start.file.to_vec(self.list.alloc)?;
         let mut call = 0u64;
         for written in &run.recorded.writes {
             call = call.saturating_add(1);
@@ -161,20 +161,20 @@ fn try_appetites(
 }
 
 /// The report on the jobs of a text over sinks that take fewer bytes than offered, and over sinks
-/// that fail, in a classic or a BigTIFF file.
+/// that fail. The jobs begin with a file.
 pub fn tried(
     alloc: Global,
-    big: bool,
+    start: Start<'_>,
     text: &str,
     jobs: &[Job<'_>],
     sums: &mut Sums,
 ) -> Result<String, AllocError> {
-    let good = run_over(alloc, big, jobs, Manner::plain(Appetite::All), Kept::File)?;
+    let good = run_over(alloc, start, jobs, Manner::plain(Appetite::All), Kept::File)?;
     let told = told_lines(alloc, text)?;
     let answered = told_lines(alloc, &good.text)?;
     let list = JobList {
         alloc,
-        big,
+        start,
         jobs,
         told: &told,
         answered: &answered,

@@ -1,11 +1,13 @@
 //! Lists of jobs, and the files that they write.
 
-use crate::job_list::{JobRun, run_text};
+use crate::job_list::{JobRun, Start, run_text};
 use crate::manner::Manner;
 use crate::sink_trial::tried;
 use crate::sums::Sums;
 use std::alloc::{AllocError, Global};
 use std::fmt::Write;
+use tiff_append::last_link::last_link;
+use tiff_base::tags::FileKind;
 use tiff_lists::digits::digits_text;
 use tiff_lists::jobs::jobs_of;
 
@@ -15,6 +17,10 @@ pub struct Writer {
     alloc: Global,
     list: String,
     big: bool,
+    // The file behind which the jobs go on, and the offset of its last link. Without one, they write
+    // a new file.
+    file: Vec<u8>,
+    link: Option<u64>,
     // The bytes written by the run at the list's end, and the bytes written last.
     first: Vec<u8>,
     last: Vec<u8>,
@@ -54,15 +60,40 @@ impl Writer {
             alloc,
             list: String::new(alloc),
             big: false,
+            file: Vec::new(alloc),
+            link: None,
             first: Vec::new(alloc),
             last: Vec::new(alloc),
         }
     }
 
-    /// Begins a list.
+    /// Begins a list that writes a new file.
     pub fn begin(&mut self, big: bool) {
         self.list = String::new(self.alloc);
         self.big = big;
+        self.file = Vec::new(self.alloc);
+        self.link = None;
+    }
+
+    /// Begins a list that goes on behind the file written last. If that has no last link, the list
+    /// writes a new file.
+    pub fn begin_behind(&mut self) -> Result<(), AllocError> {
+        self.begin(false);
+        if let Ok(place) = last_link(self.alloc, &self.last) {
+            self.big = place.kind == FileKind::Big;
+            self.file = self.last.clone()?;
+            self.link = Some(place.at);
+        }
+        Ok(())
+    }
+
+    // The file that the jobs of the list begin with.
+    fn start(&self) -> Start<'_> {
+        Start {
+            big: self.big,
+            file: &self.file,
+            link: self.link,
+        }
     }
 
     /// Adds a line to the list. `extend_from_tags FIRST LAST FIELD` means `extend_from` with the
@@ -104,7 +135,7 @@ impl Writer {
         let Some(manner) = Manner::of_words(words) else {
             return String::from_str(self.alloc, "no such sink");
         };
-        match run_text(self.alloc, self.big, &self.list, manner)? {
+        match run_text(self.alloc, self.start(), &self.list, manner)? {
             Ok(run) => self.told(run),
             Err(number) => format!(in self.alloc; "line {number} is no job"),
         }
@@ -121,7 +152,7 @@ impl Writer {
     /// fail, if each of its lines is a job.
     pub fn tried(&self, sums: &mut Sums) -> Result<Option<String>, AllocError> {
         match jobs_of(self.alloc, &self.list)? {
-            Ok(jobs) => Ok(Some(tried(self.alloc, self.big, &self.list, &jobs, sums)?)),
+            Ok(jobs) => Ok(Some(tried(self.alloc, self.start(), &self.list, &jobs, sums)?)),
             Err(_) => Ok(None),
         }
     }
