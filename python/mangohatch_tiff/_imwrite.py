@@ -97,23 +97,24 @@ def holds_some(file: Target | None) -> bool:
     return os.path.exists(file) and os.stat(file).st_size > 0
 
 
-def deliver(file: Target | None, data: memoryview) -> bytes | None:
+def deliver(file: Target | None, parts: list[memoryview]) -> bytes | None:
     """Writes the bytes of a file at a path or into an open file, or returns them."""
     if file is None:
-        return bytes(data)
+        return b"".join(parts)
     if isinstance(file, (str, os.PathLike)):
         with open(file, "wb", buffering=0) as made:
-            write_all(made, data)
+            write_all(made, parts)
     else:
-        write_all(file, data)
+        write_all(file, parts)
     return None
 
 
-def write_all(file: BinaryIO | io.RawIOBase, data: memoryview) -> None:
-    """Writes bytes into an open file, which may take a part at a time."""
-    while data:
-        written = file.write(data)
-        data = data[len(data) if written is None else written :]
+def write_all(file: BinaryIO | io.RawIOBase, parts: list[memoryview]) -> None:
+    """Writes bytes into an open file, which may take some of them at a time."""
+    for data in parts:
+        while data:
+            written = file.write(data)
+            data = data[len(data) if written is None else written :]
 
 
 def settings_of(

@@ -308,6 +308,12 @@ class Image(Structure):
     ]
 
 
+class Frame(Structure):
+    """How many bytes a file has before the samples passed in, of these, and behind them."""
+
+    _fields_ = [("front", c_size_t), ("samples", c_size_t), ("behind", c_size_t)]
+
+
 class JobsEnd(Structure):
     """Where a list of jobs was refused: the number of a line or a job, from 1; 0 is none."""
 
@@ -537,9 +543,7 @@ TAG_FLOATS = _declare(
 )
 TAG_TEXT = _declare("tiff_tag_text", *_PAGE, c_uint16, *_BYTES, POINTER(c_size_t))
 LIST_TAGS = _declare("tiff_list_tags", *_PAGE, *_ENTRIES)
-WRITE_IMAGE = _declare(
-    "tiff_write_image", POINTER(Image), *_BYTES, *_BYTES, POINTER(c_size_t)
-)
+IMAGE_FRAME = _declare("tiff_image_frame", POINTER(Image), *_BYTES, *_BYTES, POINTER(Frame))
 WRITE_JOBS = _declare(
     "tiff_write_jobs", c_uint16, *_BYTES, *_BYTES, POINTER(c_size_t), POINTER(JobsEnd)
 )

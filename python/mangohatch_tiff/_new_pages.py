@@ -1,7 +1,7 @@
 """Pages as the library writes them, with their tags. It needs numpy.
 
-`_write_pages` is the one place that writes arrays: by tiff_write_image where that is enough, since
-it allocates less, and by tiff_write_pages for everything else.
+`_write_pages` is the one place that writes arrays: by tiff_image_frame where that is enough, since
+it doesn't copy the samples, and by tiff_write_pages for everything else.
 """
 from __future__ import annotations
 
@@ -16,6 +16,7 @@ from ._jobs import BIG, CLASSIC
 from ._library import (
     Appended,
     Fraction,
+    Frame,
     Image,
     PagesEnd,
     PagesError,
@@ -115,6 +116,11 @@ class NewPage:
         chosen = stored.tile or stored.rowsperstrip or stored.planar or stored.extra
         return not (chosen or self.tags or self.resolution)
 
+    @property
+    def is_kept(self) -> bool:
+        """Whether the bytes of the samples are in the file as they are, if the page is plain."""
+        return self.layout.method == 1 and self.layout.predictor == 1
+
 
 def room_of(page: NewPage) -> int:
     """Returns room for a page in a file, in most cases enough: for whole chunks, not packed."""
@@ -165,18 +171,18 @@ def page_to_write(page: NewPage) -> PageToWrite:
 
 
 class Written(NamedTuple):
-    """What a call returns that writes a file: where the file is, and where pages were refused."""
+    """What a call returns that writes a file: its parts, the room it takes, and what is refused."""
 
     status: int
-    file: NDArray[numpy.uint8]
-    length: int
+    parts: list[memoryview]
+    room: int
     end: PagesEnd
 
 
 def write_image_into(size: int, page: NewPage, version: int) -> Written:
-    """Writes a file of one plain page into a new buffer."""
+    """Writes a file of one plain page, of which a new buffer gets what isn't the samples as such."""
     samples, (height, width) = page.samples, page.sides
-    file, length = numpy.empty(size, numpy.uint8), c_size_t()
+    around, frame = numpy.empty(size, numpy.uint8), Frame()
     image = Image(
         color=COLORS[page.color],
         width=width,
@@ -185,10 +191,14 @@ def write_image_into(size: int, page: NewPage, version: int) -> Written:
         method=page.layout.method,
         predictor=page.layout.predictor,
     )
-    status = _library.WRITE_IMAGE(
-        byref(image), samples.ctypes.data, samples.nbytes, file.ctypes.data, size, byref(length)
+    status = _library.IMAGE_FRAME(
+        byref(image), samples.ctypes.data, samples.nbytes, around.ctypes.data, size, byref(frame)
     )
-    return Written(status, file, length.value, PagesEnd(page=1))
+    room = frame.front + frame.behind
+    parts = [around[: frame.front].data, around[frame.front : room].data]
+    if frame.samples:
+        parts.insert(1, samples.reshape(-1).view(numpy.uint8).data)
+    return Written(status, parts, room, PagesEnd(page=1))
 
 
 def write_pages_into(size: int, pages: list[NewPage], version: int) -> Written:
@@ -198,28 +208,28 @@ def write_pages_into(size: int, pages: list[NewPage], version: int) -> Written:
     status = _library.WRITE_PAGES(
         version, given, len(pages), file.ctypes.data, size, byref(length), byref(end)
     )
-    return Written(status, file, length.value, end)
+    return Written(status, [file[: length.value].data], length.value, end)
 
 
-def _write_pages(pages: list[NewPage], big: bool) -> memoryview:
-    """Returns the bytes of a file of pages. One that is longer than its room takes two calls.
+def _write_pages(pages: list[NewPage], big: bool) -> list[memoryview]:
+    """Returns the bytes of a file of pages, in parts. One that is longer than its room takes two calls.
 
     A page that is refused raises `PagesError`.
     """
-    version, room = BIG if big else CLASSIC, sum(map(room_of, pages))
+    version, single = BIG if big else CLASSIC, len(pages) == 1 and pages[0].is_plain
 
     def write(size: int) -> Written:
-        if len(pages) == 1 and pages[0].is_plain:
+        if single:
             return write_image_into(size, pages[0], version)
         return write_pages_into(size, pages, version)
 
-    made = write(room)
+    made = write(AROUND_SAMPLES if single and pages[0].is_kept else sum(map(room_of, pages)))
     if made.status == Status.INSUFFICIENT_OUTPUT_BUFFER_SIZE:
-        made = write(made.length)
+        made = write(made.room)
     if made.status:
         page = made.end.page - 1 if made.end.page else None
         raise PagesError(made.status, page, made.end.field)
-    return made.file[: made.length].data
+    return made.parts
 
 
 class Added(NamedTuple):

@@ -344,8 +344,8 @@ def judge_shape(pages: list[NewPage]) -> None:
         raise UnsupportedError("imwrite: metadata of several images of a few bytes")
 
 
-def file_of(data: ArrayLike, big: bool | None, settings: Settings) -> memoryview:
-    """Returns the bytes of a file whose pages are an array."""
+def file_of(data: ArrayLike, big: bool | None, settings: Settings) -> list[memoryview]:
+    """Returns the bytes of a file whose pages are an array, in parts."""
     pages = pages_of(data, settings)
     if settings.has_shape:
         judge_shape(pages)

@@ -124,14 +124,14 @@ class TiffWriter(Closing):
             return
         with self._held() as data:
             end, added = len(data), _append_pages(data, pages)
-        self._write(end, added.data)
+        self._write(end, [added.data])
         self._sync()
-        self._write(added.link_place, memoryview(added.link))
+        self._write(added.link_place, [memoryview(added.link)])
 
-    def _write(self, place: int, data: memoryview) -> None:
+    def _write(self, place: int, parts: list[memoryview]) -> None:
         """Writes bytes at a place of the TIFF file."""
         self._file.seek(self._start + place)
-        write_all(self._file, data)
+        write_all(self._file, parts)
         self._file.flush()
 
     def _sync(self) -> None:

@@ -77,7 +77,7 @@ PAGES = {
 def assert_same(pages: list[NewPage], big: bool) -> None:
     """Compares the file of pages with that of their jobs."""
     jobs = "\n".join(job for page in pages for job in jobs_of(page))
-    assert bytes(_new_pages._write_pages(pages, big)) == mt.write_jobs(None, jobs, big=big)
+    assert b"".join(_new_pages._write_pages(pages, big)) == mt.write_jobs(None, jobs, big=big)
 
 
 @pytest.mark.parametrize("name", PAGES)
