@@ -48,7 +48,7 @@ pub record Lines : Type 0 where
   pub image_steps : List ImageStepData
 
 -- what a list of the code holds
-abbrev pub lines_held : JobList → Lines
+unfoldable pub lines_held : JobList → Lines
 lines_held list = record {
   jobs = map job_held list.jobs.items;
   begun = list.begun;
@@ -70,7 +70,7 @@ begins s begun = record s { begun = Some begun }
 -- ---- the beginning of a job
 
 -- a directory, whose parent may stand behind its name
-abbrev pub directory_begun : Bool → List ℕ → Option Begun
+unfoldable pub directory_begun : Bool → List ℕ → Option Begun
 directory_begun chained words =
     if bytes_eq words (codes "") then Some (Directory chained None)
     else option_map (λ n. Directory chained (Some n)) (magnitude words)
@@ -80,7 +80,7 @@ image_of color width height =
     record { color = color; width = width; height = height; samples = written color width height }
 
 -- an image: its color type, its width and its height
-abbrev pub image_begun : List ℕ → Option Begun
+unfoldable pub image_begun : List ℕ → Option Begun
 image_begun words = do
   named ← color (first_word words)
   sides ← pair (unsigned 32) (unsigned 32) (words_behind words)
@@ -127,7 +127,7 @@ with_image s image ends = with_job (record s { begun = None; image_steps = [] })
     (OfImage image.color image.width image.height s.image_steps ends)
 
 -- how samples are written after a step
-abbrev pub samples_after : SampleWords → ImageStepData → SampleWords
+unfoldable pub samples_after : SampleWords → ImageStepData → SampleWords
 samples_after w (Plain (i.Tiles width height)) = tiled w width height
 samples_after w (Extra extra) = extended w (length extra)
 samples_after w step = w
@@ -154,7 +154,7 @@ end_of_image w name words =
     else Some None))
 
 -- a resolution for each axis: three steps
-abbrev pub with_resolutions : Lines → List ℕ → List ℕ → List ℕ → Option Lines
+unfoldable pub with_resolutions : Lines → List ℕ → List ℕ → List ℕ → Option Lines
 with_resolutions s unit_word x_word y_word = do
   unit ← numbered unit_of unit_word
   x ← fraction x_word

@@ -45,18 +45,18 @@ pixel_of color = record {
 }
 
 -- the samples of an image of these sides, whose columns are pixels or bytes of packed pixels
-abbrev pub written : ColorTypeName → ℕ → ℕ → SampleWords
+unfoldable pub written : ColorTypeName → ℕ → ℕ → SampleWords
 written color width height = record {
   pixel = pixel_of (color_type color);
   columns = columns_of (color_type color) width * height;
 }
 
 -- the same in tiles, which may be larger than the image
-abbrev pub tiled : SampleWords → ℕ → ℕ → SampleWords
+unfoldable pub tiled : SampleWords → ℕ → ℕ → SampleWords
 tiled w width height = record w { columns = max w.columns (width * height) }
 
 -- the same with so many more samples in each pixel
-abbrev pub extended : SampleWords → ℕ → SampleWords
+unfoldable pub extended : SampleWords → ℕ → SampleWords
 extended w count =
     record w { pixel = record w.pixel { samples = min (w.pixel.samples + count) (2 ^ 64 - 1) } }
 
@@ -67,7 +67,7 @@ most w = max (w.columns * w.pixel.samples) 1
 -- ---- samples
 
 -- a sample; one with a sign keeps it in all 64 bits, and of a floating-point number it is the bits
-abbrev pub sample : SampleType → List ℕ → Option ℕ
+unfoldable pub sample : SampleType → List ℕ → Option ℕ
 sample U8 word = unsigned 8 word
 sample U16 word = unsigned 16 word
 sample U32 word = unsigned 32 word
@@ -93,7 +93,7 @@ sign_of F64 = None
 sign_of signed = Some (2 ^ 63)
 
 -- a range from one sample to another, unless it falls
-abbrev pub range_of : SampleType → List ℕ → List ℕ → Option SampleRange
+unfoldable pub range_of : SampleType → List ℕ → List ℕ → Option SampleRange
 range_of type first last = do
   sign ← sign_of type
   a ← sample type first
@@ -111,7 +111,7 @@ behind_point [] = None
 behind_point (c ∷ rest) = if c == point then Some rest else None
 
 -- both ends of a range, as `0` and `255` of `0..255`
-abbrev pub range_ends : List ℕ → Option (List ℕ × List ℕ)
+unfoldable pub range_ends : List ℕ → Option (List ℕ × List ℕ)
 range_ends word =
     if has point word
     then option_map (λ last. (before point word, last)) (behind_point (behind point word))

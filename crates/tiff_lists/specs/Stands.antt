@@ -33,10 +33,10 @@ float_bits format bits word =
     (parse_float format word)
 
 -- the bits of a number of 32 or 64 bits
-abbrev pub bits32 : List ℕ → Option Bits32
+unfoldable pub bits32 : List ℕ → Option Bits32
 bits32 word = option_map (λ n. record { 0 = n }) (float_bits binary32 (unsigned 32) word)
 
-abbrev pub bits64 : List ℕ → Option Bits64
+unfoldable pub bits64 : List ℕ → Option Bits64
 bits64 word = option_map (λ n. record { 0 = n }) (float_bits binary64 magnitude word)
 
 -- the offset of a directory, of 32 or 64 bits
@@ -60,7 +60,7 @@ fraction_of n d = if nat_lt n (2 ^ 32) then Some (record { n = n; d = d }) else 
 
 -- The fraction that a decimal number is, with nine digits behind its point at most: `72.5` is
 -- 725/10.
-abbrev pub decimal : List ℕ → List ℕ → Option Rational
+unfoldable pub decimal : List ℕ → List ℕ → Option Rational
 decimal whole digits =
     if nat_le (length digits) 9 then (do
       w ← number 10 whole
@@ -73,7 +73,7 @@ abbrev pub denominator : List ℕ → List ℕ
 denominator word = if has slash word then behind slash word else codes "1"
 
 -- a fraction, as `300/1`, `300` or `72.5`
-abbrev pub fraction : List ℕ → Option Rational
+unfoldable pub fraction : List ℕ → Option Rational
 fraction word =
     if has point word then decimal (before point word) (behind point word)
     else (do
@@ -82,7 +82,7 @@ fraction word =
       Some (record { n = n; d = d }))
 
 -- a fraction of numbers with a sign, as `-1/3`
-abbrev pub signed_fraction : List ℕ → Option SRational
+unfoldable pub signed_fraction : List ℕ → Option SRational
 signed_fraction word = do
   n ← signed 32 (before slash word)
   d ← signed 32 (denominator word)
@@ -91,20 +91,20 @@ signed_fraction word = do
 -- ---- names
 
 -- the byte order that a word is
-abbrev pub order : List ℕ → Option ByteOrder
+unfoldable pub order : List ℕ → Option ByteOrder
 order word =
     if bytes_eq word (codes "little") then Some LittleEndian
     else (if bytes_eq word (codes "big") then Some BigEndian else None)
 
 -- the compression that a word is
-abbrev pub compression : List ℕ → Option Compression
+unfoldable pub compression : List ℕ → Option Compression
 compression word =
     if bytes_eq word (codes "uncompressed") then Some Uncompressed
     else (if bytes_eq word (codes "packbits") then Some PackbitsRows
     else (if bytes_eq word (codes "packbits-chunks") then Some Packbits else None))
 
 -- of inks
-abbrev pub color_of_inks : List ℕ → Option ColorTypeName
+unfoldable pub color_of_inks : List ℕ → Option ColorTypeName
 color_of_inks word =
     if bytes_eq word (codes "CMYK8") then Some names.CMYK8
     else (if bytes_eq word (codes "CMYK16") then Some names.CMYK16
@@ -116,7 +116,7 @@ color_of_inks word =
     else None))))))
 
 -- with alpha
-abbrev pub color_with_alpha : List ℕ → Option ColorTypeName
+unfoldable pub color_with_alpha : List ℕ → Option ColorTypeName
 color_with_alpha word =
     if bytes_eq word (codes "RGBA8") then Some names.RGBA8
     else (if bytes_eq word (codes "RGBA16") then Some names.RGBA16
@@ -127,7 +127,7 @@ color_with_alpha word =
     else color_of_inks word)))))
 
 -- of red, green and blue
-abbrev pub color_of_colors : List ℕ → Option ColorTypeName
+unfoldable pub color_of_colors : List ℕ → Option ColorTypeName
 color_of_colors word =
     if bytes_eq word (codes "RGB8") then Some names.RGB8
     else (if bytes_eq word (codes "RGB16") then Some names.RGB16
@@ -139,7 +139,7 @@ color_of_colors word =
     else color_with_alpha word))))))
 
 -- the color type that a word is the name of
-abbrev pub color : List ℕ → Option ColorTypeName
+unfoldable pub color : List ℕ → Option ColorTypeName
 color word =
     if bytes_eq word (codes "Gray8") then Some names.Gray8
     else (if bytes_eq word (codes "Gray16") then Some names.Gray16

@@ -55,6 +55,16 @@ tag_buffer_step words = do
   buffer ← buffer tag.1
   Some (WriteTagBuf tag.0 buffer)
 
+-- the step of a name of entries or fields, and the words behind it
+unfoldable pub entry_step : List ℕ → List ℕ → Option DirectoryStepData
+entry_step name words =
+    if bytes_eq name (codes "write_entry") then option_map WriteEntry (value words)
+    else (if bytes_eq name (codes "write_entry_buf") then option_map WriteEntryBuf (buffer words)
+    else (if bytes_eq name (codes "write_entry_bytes")
+    then option_map (λ t. WriteEntryBytes t.0 t.1) (typed words)
+    else (if bytes_eq name (codes "extend_from") then option_map ExtendFrom (fields words)
+    else None)))
+
 -- the step that a name and the words behind it are
 unfoldable pub directory_step : List ℕ → List ℕ → Option DirectoryStepData
 directory_step name words =
@@ -62,12 +72,7 @@ directory_step name words =
     else (if bytes_eq name (codes "write_tag_buf") then tag_buffer_step words
     else (if bytes_eq name (codes "write_data") then option_map WriteData (value words)
     else (if bytes_eq name (codes "write_data_buf") then option_map WriteDataBuf (buffer words)
-    else (if bytes_eq name (codes "write_entry") then option_map WriteEntry (value words)
-    else (if bytes_eq name (codes "write_entry_buf") then option_map WriteEntryBuf (buffer words)
-    else (if bytes_eq name (codes "write_entry_bytes")
-    then option_map (λ t. WriteEntryBytes t.0 t.1) (typed words)
-    else (if bytes_eq name (codes "extend_from") then option_map ExtendFrom (fields words)
-    else None)))))))
+    else entry_step name words)))
 
 -- ---- steps of an image
 

@@ -119,7 +119,7 @@ abbrev pub buffer_held : JobBuffer → BufferRecord
 buffer_held b = record { order = b.order; data_type = b.data_type; bytes = b.bytes.items }
 
 -- a type, a byte order and bytes
-abbrev pub buffer : List ℕ → Option BufferRecord
+unfoldable pub buffer : List ℕ → Option BufferRecord
 buffer words = do
   type ← numbered type_of (first_word words)
   byte_order ← order (first_word (words_behind words))
@@ -127,14 +127,14 @@ buffer words = do
   Some (record { order = byte_order; data_type = type; bytes = bytes })
 
 -- a type and bytes
-abbrev pub typed : List ℕ → Option («Type» × List ℕ)
+unfoldable pub typed : List ℕ → Option («Type» × List ℕ)
 typed words = do
   type ← numbered type_of (first_word words)
   bytes ← bytes_in (words_behind words)
   Some (type, bytes)
 
 -- a tag, and the words behind it
-abbrev pub tagged : List ℕ → Option (Tag × List ℕ)
+unfoldable pub tagged : List ℕ → Option (Tag × List ℕ)
 tagged words = option_map (λ tag. (tag, words_behind words))
     (numbered (λ n. Some (tag_of n)) (first_word words))
 
@@ -142,11 +142,11 @@ abbrev pub colon : ℕ
 colon = 58
 
 -- both parts of `a:b`
-abbrev pub parted : List ℕ → Option (List ℕ × List ℕ)
+unfoldable pub parted : List ℕ → Option (List ℕ × List ℕ)
 parted word = if has colon word then Some (before colon word, behind colon word) else None
 
 -- the eight bytes that sixteen digits are
-abbrev pub field_bytes : List ℕ → Option (List ℕ)
+unfoldable pub field_bytes : List ℕ → Option (List ℕ)
 field_bytes digits =
     if length digits == 16 then option_map (to_be_bytes w64) (number 16 digits) else None
 

@@ -3,7 +3,7 @@
 ghost use Rattle.std.specs.Prelude.{◌≡◌, ◌++◌, ◌∷◌, [], ℕ, List, None, Option, Some, IfOk, if◌then◌else◌, is_none, map};
 ghost use Rattle.std.specs.Option.{option_map};
 ghost use Rattle.std.specs.Result.{result_map_both};
-ghost use Rattle.tiff_lists.specs.Jobs.{are_three, begin, directory_begun, directory_line, end_of_image, image_begun, image_line, image_step_line, job_held, job_line, jobs_spelled, lines_held, no_lines, samples_after, says_nothing, with_directory, with_directory_step, with_image, with_image_step, with_job, with_line, with_resolutions, with_step};
+ghost use Rattle.tiff_lists.specs.Jobs.{are_three, begin, begins, directory_begun, directory_line, end_of_image, image_begun, image_line, image_step_line, job_held, job_line, jobs_spelled, lines_held, no_lines, samples_after, says_nothing, with_directory, with_directory_step, with_image, with_image_step, with_job, with_line, with_resolutions, with_step};
 ghost use Rattle.tiff_lists.specs.Line.{Reads, first_word, words_behind};
 ghost use Rattle.tiff_lists.specs.Steps.{directory_step_held, image_step_held};
 
@@ -47,6 +47,7 @@ struct JobList {
 }
 
 // The beginning of a directory, whose parent may stand behind its name.
+#[tactic(auto, unfolding(crate::specs::Jobs::directory_begun))]
 fn directory_begun(chained: bool, words: &str) -> Result<Begun, ParseError>
     ensures { Reads (λ b. b) (directory_begun chained words.now) result }
 {
@@ -58,6 +59,7 @@ fn directory_begun(chained: bool, words: &str) -> Result<Begun, ParseError>
 }
 
 // The beginning of an image: its color type, its width and its height.
+#[tactic(auto, unfolding(crate::specs::Jobs::image_begun))]
 fn image_begun(words: &str) -> Result<Begun, ParseError>
     ensures { Reads (λ b. b) (image_begun words.now) result }
 {
@@ -73,6 +75,7 @@ fn image_begun(words: &str) -> Result<Begun, ParseError>
 }
 
 // How samples are written after a step of an image.
+#[tactic(auto, unfolding(crate::specs::Jobs::samples_after))]
 fn samples_after(samples: SampleWords, step: &ImageStep<'_>) -> SampleWords
     ensures { result ≡ samples_after samples (image_step_held step.now) }
 {
@@ -122,6 +125,7 @@ fn taken<T: Drop>(alloc: Global, items: &mut Vec<T>) -> Vec<T>
 
 impl JobList {
     // A list without jobs.
+    #[tactic(auto, unfolding(crate::specs::Jobs::lines_held))]
     fn new(alloc: Global) -> Self
         ensures { lines_held result ≡ no_lines }
     {
@@ -134,8 +138,16 @@ impl JobList {
         }
     }
 
+    // A job begins.
+    #[tactic(auto, unfolding(crate::specs::Jobs::lines_held))]
+    fn start(&mut self, begun: Begun)
+        ensures { lines_held self.new ≡ begins (lines_held self.old) begun }
+    {
+        self.begun = Some(begun);
+    }
+
     // Puts a job behind the others.
-    #[tactic(auto, using(std::proofs::lemmas::List::map_push))]
+    #[tactic(auto, using(std::proofs::lemmas::List::map_push), unfolding(crate::specs::Jobs::lines_held))]
     fn put_job(&mut self, job: Job<'static>) -> Result<(), ParseError>
         ensures { Reads (λ _. lines_held self.new)
             (Some (with_job (lines_held self.old) (job_held job.entry))) result }
@@ -144,7 +156,7 @@ impl JobList {
     }
 
     // Puts a step of the directory behind the others.
-    #[tactic(auto, using(std::proofs::lemmas::List::map_push))]
+    #[tactic(auto, using(std::proofs::lemmas::List::map_push), unfolding(crate::specs::Jobs::lines_held))]
     fn put_directory_step(&mut self, step: DirectoryStep) -> Result<(), ParseError>
         ensures { Reads (λ _. lines_held self.new)
             (Some (with_directory_step (lines_held self.old) (directory_step_held step))) result }
@@ -153,7 +165,7 @@ impl JobList {
     }
 
     // Puts a step of the image behind the others.
-    #[tactic(auto, using(std::proofs::lemmas::List::map_push))]
+    #[tactic(auto, using(std::proofs::lemmas::List::map_push), unfolding(crate::specs::Jobs::lines_held))]
     fn put_image_step(&mut self, step: ImageStep<'static>) -> Result<(), ParseError>
         ensures { Reads (λ _. lines_held self.new)
             (Some (with_step (lines_held self.old) (image_step_held step.entry))) result }
@@ -171,15 +183,15 @@ impl JobList {
             "predictor" => self.put_job(Job::Predictor(read(words)?)),
             "compression" => self.put_job(Job::Compression(read(words)?)),
             "directory" => {
-                self.begun = Some(directory_begun(true, words)?);
+                self.start(directory_begun(true, words)?);
                 Ok(())
             }
             "extra_directory" => {
-                self.begun = Some(directory_begun(false, words)?);
+                self.start(directory_begun(false, words)?);
                 Ok(())
             }
             "image" => {
-                self.begun = Some(image_begun(words)?);
+                self.start(image_begun(words)?);
                 Ok(())
             }
             _ => Err(ParseError::Form),
@@ -187,6 +199,7 @@ impl JobList {
     }
 
     // Ends a directory, and puts its job behind the others.
+    #[tactic(auto, unfolding(crate::specs::Jobs::lines_held))]
     fn end_directory(
         &mut self,
         chained: bool,
@@ -229,6 +242,7 @@ impl JobList {
     }
 
     // Ends an image, and puts its job behind the others.
+    #[tactic(auto, unfolding(crate::specs::Jobs::lines_held))]
     fn end_image(&mut self, image: BegunImage, end: ImageEnd<'static>) -> Result<(), ParseError>
         ensures { Reads (λ _. lines_held self.new)
             (Some (with_image (lines_held self.old) image end.entry)) result }
@@ -253,7 +267,7 @@ impl JobList {
         ensures { Reads (λ _. lines_held self.new)
             (Some (with_image_step (lines_held self.old) image (image_step_held step.entry))) result }
     {
-        self.begun = Some(Begun::Image(BegunImage {
+        self.start(Begun::Image(BegunImage {
             samples: samples_after(image.samples, &step),
             ..image
         }));
@@ -261,6 +275,7 @@ impl JobList {
     }
 
     // Puts the three steps of a resolution that is given for each axis behind the others.
+    #[tactic(auto, unfolding(crate::specs::Jobs::with_resolutions))]
     fn add_resolutions(&mut self, unit: &str, x: &str, y: &str) -> Result<(), ParseError>
         ensures { Reads (λ _. lines_held self.new)
             (with_resolutions (lines_held self.old) unit.now x.now y.now) result }
@@ -345,7 +360,7 @@ impl JobList {
     }
 
     // Reads the next line, outside or inside of a job.
-    #[tactic(auto, unfolding(crate::specs::Jobs::with_line))]
+    #[tactic(auto, unfolding(crate::specs::Jobs::with_line, crate::specs::Jobs::lines_held))]
     fn take(&mut self, line: &str) -> Result<(), ParseError>
         ensures { Reads (λ _. lines_held self.new)
             (with_line (lines_held self.old) line.now) result }

@@ -42,6 +42,7 @@ impl SampleType {
     }
 
     // The sample that a word stands for. A sample of a signed type keeps its sign in all 64 bits.
+    #[tactic(auto, unfolding(crate::specs::Samples::sample))]
     fn sample(self, word: &str) -> Option<u64>
         ensures { result ≡ sample self word.now }
     {
@@ -167,6 +168,7 @@ fn push_ascending(samples: &mut Vec<u64>, range: SampleRange) -> Result<(), Pars
 }
 
 // Both ends of a range, as `0` and `255` of `0..255`; `None` if a word is no range.
+#[tactic(auto, unfolding(crate::specs::Samples::range_ends))]
 fn range_ends(word: &str) -> Option<(&str, &str)>
     ensures { option_map {U = List ℕ × List ℕ} (λ ends. (ends.0.now, ends.1.now)) result
         ≡ range_ends word.now }
@@ -187,6 +189,7 @@ impl SampleWords {
     /// The samples of an image of these sides. A word stands for as many samples at most as the
     /// image has, and always for one. Pixels of fewer than 8 bits are bytes of packed pixels, and a
     /// row begins with a new byte.
+    #[tactic(auto, unfolding(crate::specs::Samples::written))]
     pub fn new(color: ColorTypeName, width: u32, height: u32) -> Self
         ensures { result ≡ written color width height }
     {
@@ -198,6 +201,7 @@ impl SampleWords {
     }
 
     /// The same in tiles of these sides: a word may stand for a tile that is larger than the image.
+    #[tactic(auto, unfolding(crate::specs::Samples::tiled))]
     pub fn with_tiles(self, width: u32, height: u32) -> Self
         ensures { result ≡ tiled self width height }
     {
@@ -208,6 +212,7 @@ impl SampleWords {
     }
 
     /// The same with so many more samples in each pixel.
+    #[tactic(auto, unfolding(crate::specs::Samples::extended))]
     pub fn with_extra_samples(self, count: usize) -> Self
         ensures { result ≡ extended self count }
     {
@@ -229,6 +234,7 @@ impl SampleWords {
     }
 
     // The range from one sample to another; `None` if it falls, and of floating-point numbers.
+    #[tactic(auto, unfolding(crate::specs::Samples::range_of))]
     fn range(self, first: &str, last: &str) -> Option<SampleRange>
         ensures range { result ≡ range_of self.pixel.sample first.now last.now }
         ensures rises { IfSome result (λ r. r.first ≤ r.last) }

@@ -3,13 +3,30 @@
 ghost use Rattle.std.specs.Prelude.{◌≡◌};
 ghost use Rattle.std.specs.Option.{option_map};
 ghost use Rattle.tiff_lists.specs.Line.{Reads};
-ghost use Rattle.tiff_lists.specs.Steps.{directory_step, directory_step_held, image_step, image_step_held, inner_step, is_setting, other_step, plain_step, setting_step};
+ghost use Rattle.tiff_lists.specs.Steps.{directory_step, directory_step_held, entry_step, image_step, image_step_held, inner_step, is_setting, other_step, plain_step, setting_step};
 
 use crate::samples::SampleWords;
 use crate::values::{buffer_of, directory_of, tagged, typed_bytes, value_of};
 use crate::words::{ParseError, list_of, pair_of, read};
 use std::alloc::Global;
 use tiff_encode::encoder::script::{DirectoryStep, ImageStep, JobSamples};
+
+// The step of a directory that writes an entry or sets fields.
+#[tactic(auto, unfolding(crate::specs::Steps::entry_step))]
+fn entry_step_of(alloc: Global, name: &str, words: &str) -> Result<DirectoryStep, ParseError>
+    ensures { Reads directory_step_held (entry_step name.now words.now) result }
+{
+    match name {
+        "write_entry" => Ok(DirectoryStep::WriteEntry(value_of(alloc, words)?)),
+        "write_entry_buf" => Ok(DirectoryStep::WriteEntryBuf(buffer_of(alloc, words)?)),
+        "write_entry_bytes" => {
+            let (data_type, bytes) = typed_bytes(alloc, words)?;
+            Ok(DirectoryStep::WriteEntryBytes(data_type, bytes))
+        }
+        "extend_from" => Ok(DirectoryStep::ExtendFrom(directory_of(alloc, words)?)),
+        _ => Err(ParseError::Form),
+    }
+}
 
 /// The step of a directory that a name and the words behind it stand for. Words that aren't so:
 /// `Form`.
@@ -32,14 +49,7 @@ pub fn directory_step_of(
         }
         "write_data" => Ok(DirectoryStep::WriteData(value_of(alloc, words)?)),
         "write_data_buf" => Ok(DirectoryStep::WriteDataBuf(buffer_of(alloc, words)?)),
-        "write_entry" => Ok(DirectoryStep::WriteEntry(value_of(alloc, words)?)),
-        "write_entry_buf" => Ok(DirectoryStep::WriteEntryBuf(buffer_of(alloc, words)?)),
-        "write_entry_bytes" => {
-            let (data_type, bytes) = typed_bytes(alloc, words)?;
-            Ok(DirectoryStep::WriteEntryBytes(data_type, bytes))
-        }
-        "extend_from" => Ok(DirectoryStep::ExtendFrom(directory_of(alloc, words)?)),
-        _ => Err(ParseError::Form),
+        _ => entry_step_of(alloc, name, words),
     }
 }
 

@@ -79,6 +79,7 @@ pub fn value_of(alloc: Global, words: &str) -> Result<JobValue, ParseError>
 
 /// The bytes that words stand for: the number of a type, the byte order `little` or `big`, and the
 /// bytes as hexadecimal digits. Words that aren't so: `Form`.
+#[tactic(auto, unfolding(crate::specs::Values::buffer))]
 pub fn buffer_of(alloc: Global, words: &str) -> Result<JobBuffer, ParseError>
     ensures { Reads buffer_held (buffer words.now) result }
 {
@@ -92,6 +93,7 @@ pub fn buffer_of(alloc: Global, words: &str) -> Result<JobBuffer, ParseError>
 }
 
 // The eight bytes that sixteen hexadecimal digits are.
+#[tactic(auto, unfolding(crate::specs::Values::field_bytes))]
 fn field_bytes(digits: &str) -> Option<[u8; 8]>
     ensures { result ≡ field_bytes digits.now }
 {
@@ -102,6 +104,7 @@ fn field_bytes(digits: &str) -> Option<[u8; 8]>
 }
 
 // Both parts of `a:b`.
+#[tactic(auto, unfolding(crate::specs::Values::parted))]
 fn parted(word: &str) -> Result<(&str, &str), ParseError>
     ensures { Reads {B = List ℕ × List ℕ} (λ p. (p.0.now, p.1.now)) (parted word.now) result }
 {
@@ -140,6 +143,7 @@ pub fn directory_of(alloc: Global, words: &str) -> Result<Directory, ParseError>
 }
 
 /// The tag whose number is the first word, and the words behind it. Another word: `Form`.
+#[tactic(auto, unfolding(crate::specs::Values::tagged))]
 pub fn tagged(words: &str) -> Result<(Tag, &str), ParseError>
     ensures { Reads {B = Tag × List ℕ} (λ t. (t.0, t.1.now)) (tagged words.now) result }
 {
@@ -149,6 +153,7 @@ pub fn tagged(words: &str) -> Result<(Tag, &str), ParseError>
 
 /// The type whose number is the first word, and the bytes that the second word is as hexadecimal
 /// digits. Words that aren't so: `Form`.
+#[tactic(auto, unfolding(crate::specs::Values::typed))]
 pub fn typed_bytes(alloc: Global, words: &str) -> Result<(Type, Vec<u8>), ParseError>
     ensures { Reads {B = «Type» × List ℕ} (λ t. (t.0, t.1.items)) (typed words.now) result }
 {

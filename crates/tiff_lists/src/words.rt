@@ -152,6 +152,7 @@ fn float64(word: &str) -> Option<f64>
 impl FromWord for Bits32 {
     ghost meaning = { bits32 };
 
+    #[tactic(auto, unfolding(crate::specs::Stands::bits32))]
     fn from_word(word: &str) -> Option<Bits32> {
         if is_hexadecimal(word) {
             return Some(Bits32(u32::from_word(word)?));
@@ -167,6 +168,7 @@ impl FromWord for Bits32 {
 impl FromWord for Bits64 {
     ghost meaning = { bits64 };
 
+    #[tactic(auto, unfolding(crate::specs::Stands::bits64))]
     fn from_word(word: &str) -> Option<Bits64> {
         if is_hexadecimal(word) {
             return Some(Bits64(u64::from_word(word)?));
@@ -277,6 +279,7 @@ pub fn parts(word: &str, at: char) -> Option<(&str, &str)>
 }
 
 // The fraction that a decimal number is: `72.5` is 725/10.
+#[tactic(auto, unfolding(crate::specs::Stands::decimal))]
 fn decimal(whole: &str, digits: &str) -> Option<Rational>
     ensures { result ≡ decimal whole.now digits.now }
 {
@@ -295,6 +298,7 @@ fn decimal(whole: &str, digits: &str) -> Option<Rational>
 impl FromWord for Rational {
     ghost meaning = { fraction };
 
+    #[tactic(auto, unfolding(crate::specs::Stands::fraction))]
     fn from_word(word: &str) -> Option<Rational> {
         if let Some((whole, digits)) = parts(word, '.') {
             return decimal(whole, digits);
@@ -310,6 +314,7 @@ impl FromWord for Rational {
 impl FromWord for SRational {
     ghost meaning = { signed_fraction };
 
+    #[tactic(auto, unfolding(crate::specs::Stands::signed_fraction))]
     fn from_word(word: &str) -> Option<SRational> {
         let (n, d) = parts(word, '/').unwrap_or((word, "1"));
         Some(SRational {
@@ -322,6 +327,7 @@ impl FromWord for SRational {
 impl FromWord for ByteOrder {
     ghost meaning = { order };
 
+    #[tactic(auto, unfolding(crate::specs::Stands::order))]
     fn from_word(word: &str) -> Option<ByteOrder> {
         match word {
             "little" => Some(ByteOrder::LittleEndian),
@@ -334,6 +340,7 @@ impl FromWord for ByteOrder {
 impl FromWord for Compression {
     ghost meaning = { compression };
 
+    #[tactic(auto, unfolding(crate::specs::Stands::compression))]
     fn from_word(word: &str) -> Option<Compression> {
         match word {
             "uncompressed" => Some(Compression::Uncompressed),
@@ -345,6 +352,7 @@ impl FromWord for Compression {
 }
 
 // The color type of inks that a word is the name of.
+#[tactic(auto, unfolding(crate::specs::Stands::color_of_inks))]
 fn color_of_inks(word: &str) -> Option<ColorTypeName>
     ensures { result ≡ color_of_inks word.now }
 {
@@ -361,6 +369,7 @@ fn color_of_inks(word: &str) -> Option<ColorTypeName>
 }
 
 // The color type with alpha or of inks that a word is the name of.
+#[tactic(auto, unfolding(crate::specs::Stands::color_with_alpha))]
 fn color_with_alpha(word: &str) -> Option<ColorTypeName>
     ensures { result ≡ color_with_alpha word.now }
 {
@@ -376,6 +385,7 @@ fn color_with_alpha(word: &str) -> Option<ColorTypeName>
 }
 
 // The color type of red, green and blue, of these with alpha or of inks that a word is the name of.
+#[tactic(auto, unfolding(crate::specs::Stands::color_of_colors))]
 fn color_of_colors(word: &str) -> Option<ColorTypeName>
     ensures { result ≡ color_of_colors word.now }
 {
@@ -394,6 +404,7 @@ fn color_of_colors(word: &str) -> Option<ColorTypeName>
 impl FromWord for ColorTypeName {
     ghost meaning = { color };
 
+    #[tactic(auto, unfolding(crate::specs::Stands::color))]
     fn from_word(word: &str) -> Option<ColorTypeName> {
         match word {
             "Gray8" => Some(ColorTypeName::Gray8),

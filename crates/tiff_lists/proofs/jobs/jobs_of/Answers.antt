@@ -21,7 +21,7 @@ returns-in-Err-Form c =
     line_refused c.loop-line.number _ _ _ _ _ t c.loop-line.invariant (form_refused {A = Unit {0}} (λ _. lines_held c.take.new.self) _ _ c.in-Err-Form.ensures c.in-Err-Form.field-0-is)
 
 pub returns : goal.returns
-unfolding jobs_spelled
+unfolding jobs_spelled lines_held
 returns c =
     let e = YieldsList-end (YieldsList-from_lines {s = c.into_iter-line-iterator.result} c.args.text.now (cc)) c.loop-line.yielded _ c.loop-line.yielded_by _ _ c.in-None.is c.next.ensures.steps in
     let all = (all_read (λ jobs. map job_held jobs.items) c.loop-line.number (lines_held c.loop-line.list) (lines c.args.text.now) (length c.loop-line.yielded) _ c.all.result (omega (arith, e.1)) c.loop-line.invariant c.all.ensures) in
