@@ -93,19 +93,34 @@ fn push_item(text: &mut String, number: usize, item: &PageItem) -> Result<(), Al
     text.push_str("\n")
 }
 
-/// Lists the pages of a decoder's file, one line for each. Its errors are those of `pages`:
-/// `OutOfMemory`, and `IoError(Device)`.
-pub fn list_lines<R: Source>(alloc: Global, decoder: &mut Decoder<R>) -> TiffResult<Lines> {
-    let PageList { pages, end } = pages(decoder)?;
+// The lines of pages, one for each.
+fn page_text(alloc: Global, pages: &[PageItem]) -> Result<String, AllocError> {
     let mut text = String::new(alloc);
     for (number, item) in pages.iter().enumerate() {
         push_item(&mut text, number, item)?;
     }
+    Ok(text)
+}
+
+/// A line for each page of a list, and the error by which the chain ends. The lines are well. The
+/// only error is `OutOfMemory`.
+pub fn lines_of_pages(alloc: Global, listed: PageList) -> TiffResult<Lines>
+    ensures { MatchResult result (λ lines. (lines.well ≡ true) × (lines.end ≡ listed.end))
+        (λ e. e ≡ TiffError.OutOfMemory) }
+{
+    let PageList { pages, end } = listed;
+    let text = page_text(alloc, &pages)?;
     Ok(Lines {
         text,
         end,
         well: true,
     })
+}
+
+/// Lists the pages of a decoder's file, one line for each. Its errors are those of `pages`:
+/// `OutOfMemory`, and `IoError(Device)`.
+pub fn list_lines<R: Source>(alloc: Global, decoder: &mut Decoder<R>) -> TiffResult<Lines> {
+    lines_of_pages(alloc, pages(decoder)?)
 }
 
 // Appends how many bytes an image has, and their sum as eight hexadecimal digits.

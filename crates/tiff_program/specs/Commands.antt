@@ -31,6 +31,7 @@ use Rattle.tiff_program.specs.AtPage.{AnswersIn, AnswersUnder, limits_for}
 use Rattle.tiff_program.specs.Check.{told_under}
 use Rattle.tiff_program.specs.Directories.{told_of_directories}
 use Rattle.tiff_program.specs.Files.{Appends, Compares, Makes, Measures, Reads, Then, Writes}
+use Rattle.tiff_program.specs.List.{told_of_list}
 use Rattle.tiff_program.specs.Listing.{listing}
 use Rattle.tiff_program.specs.Parts.{SeesBy}
 use Rattle.tiff_program.specs.Samples.{plane_bytes, sample_bytes}
@@ -147,16 +148,13 @@ module _ {F : Type 0} (reads : F → List ℕ → Result (List ℕ) TiffError �
       Then (Makes (λ answer. AnswersIn (λ t. t) listing answer file page)) (λ text.
       Prints text))
 
-  -- Lines of a file that is read: whether all was done, and how the chain ends, are given.
+  -- `list`, and others of a file that is read whole: whether all was done, and how the chain ends,
+  -- are given.
   abbrev pub Tells : (List ℕ → Result (Bool × Option TiffError) TiffError) → Bor (List ℕ) → F
       → Result Lines Failure → F → Type 0
   Tells told input = Then (Reads reads input) (λ file.
       Makes (λ answer. AnswersBut (Unit {0}) (Unit {0}) (λ lines. (lines.well, lines.end)) answer
       (told file)))
-
-  -- `list`: the input is read, and some lines are printed, or there is some error.
-  abbrev pub TellsSome : Bor (List ℕ) → F → Result Lines Failure → F → Type 0
-  TellsSome input = Then (Reads reads input) (λ file. Makes (λ answer. Unit {0}))
 
   -- `calls`: the input is read, then the calls, which are made, and the replies printed.
   abbrev pub Calls : Bor (List ℕ) → F → Result Lines Failure → F → Type 0
@@ -264,7 +262,7 @@ module _ {F : Type 0} (reads : F → List ℕ → Result (List ℕ) TiffError �
       Raws reads writes input page output planes limit
   Does (command.View input page output) = Views reads writes compares input page output
   Does (command.Tags input page) = Tags reads input page
-  Does (command.List input) = TellsSome reads input
+  Does (command.List input) = Tells reads told_of_list input
   Does (command.Directories input) =
       TellsLong reads measures reads_part seen told_of_directories input
   Does (command.Check input limit) =

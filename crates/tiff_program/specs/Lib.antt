@@ -3,6 +3,7 @@ pub mod Check
 pub mod Commands
 pub mod Directories
 pub mod Files
+pub mod List
 pub mod Listing
 pub mod Replied
 pub mod Png

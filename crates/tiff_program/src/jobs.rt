@@ -104,6 +104,7 @@ pub fn write_by(
 /// Runs jobs one after another behind a file, whose last link `last_link` found, and returns what
 /// they write, if no reply is an error, with a line for each reply, also to a job that is refused.
 /// Its only error is `OutOfMemory`: for the replies, the link or the lines.
+#[tactic(auto, using(tiff_append::proofs::Behind::out_of_memory))]
 pub fn append_by(
     alloc: Global,
     file: &[u8],

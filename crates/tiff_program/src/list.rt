@@ -3,23 +3,37 @@
 ghost use Rattle.tiff.specs.Answers.{AnswersBut};
 ghost use Rattle.tiff_pages.specs.Check.{checks_in};
 ghost use Rattle.tiff_pages.specs.OfFile.{tree_of};
+ghost use Rattle.tiff_pages.specs.Pages.{pages_in};
 ghost use Rattle.tiff_pages.specs.Tree.{directories_in};
 ghost use Rattle.tiff_program.specs.Check.{checks_under, told_under};
 ghost use Rattle.tiff_program.specs.Directories.{told_of_directories};
+ghost use Rattle.tiff_program.specs.List.{pages_from_first, told_of_list};
 
 use std::alloc::Global;
 use tiff::TiffResult;
 use tiff::decoder::{Decoder, Limits};
 use tiff::io::MemorySource;
 use tiff_pages::check::{FileCheck, check_pages};
-use tiff_pages::lines::{Lines, lines_of_checks, lines_of_directories, list_lines};
+use tiff_pages::lines::{Lines, lines_of_checks, lines_of_directories, lines_of_pages};
+use tiff_pages::pages::{PageList, pages};
 use tiff_pages::tree::{DirectoryList, directories};
 
-/// Lists the pages of a file, as [`list_lines`] does; or returns the error of the file's header, or
-/// of its first page.
-pub fn file_list(alloc: Global, file: Vec<u8>) -> TiffResult<Lines> {
+/// Lists the pages of a file that is opened at its first page, as [`pages`] does; or returns the
+/// error of the file's header, or of its first page.
+pub fn list_from_first(alloc: Global, file: Vec<u8>) -> TiffResult<PageList>
+    ensures { AnswersBut (Unit {0}) (Unit {0}) pages_in result (pages_from_first file.items) }
+{
     let mut decoder = Decoder::new(alloc, MemorySource::new(file))?;
-    list_lines(alloc, &mut decoder)
+    pages(&mut decoder)
+}
+
+/// Lists the pages of a file, and returns a line for each; or returns the error of the file's header,
+/// or of its first page.
+pub fn file_list(alloc: Global, file: Vec<u8>) -> TiffResult<Lines>
+    ensures { AnswersBut (Unit {0}) (Unit {0}) (λ lines. (lines.well, lines.end)) result
+        (told_of_list file.items) }
+{
+    lines_of_pages(alloc, list_from_first(alloc, file)?)
 }
 
 /// Checks the pages of a file under limits, as [`check_pages`] does; or returns the error of the

@@ -8,8 +8,9 @@ ghost use Rattle.tiff_program.specs.declared.command.Command.{Command};
 ghost use Rattle.tiff_program.specs.declared.failure.Failure.TheVariants as failure;
 ghost use Rattle.tiff_program.specs.AtPage.{AnswersUnder, limits_for};
 ghost use Rattle.tiff_program.specs.Check.{told_under};
-ghost use Rattle.tiff_program.specs.Commands.{Adds, AppendsJobs, AreLines, AreText, Calls, Does, Grays, Jobs, ListsCalls, ListsJobs, Raws, ReadsInput, ReadsText, Tags, Tells, TellsLong, TellsSome, Views, WritesKept, WritesOutput, is_page, line_after, page_or_none, samples_of};
+ghost use Rattle.tiff_program.specs.Commands.{Adds, AppendsJobs, AreLines, AreText, Calls, Does, Grays, Jobs, ListsCalls, ListsJobs, Raws, ReadsInput, ReadsText, Tags, Tells, TellsLong, Views, WritesKept, WritesOutput, is_page, line_after, page_or_none, samples_of};
 ghost use Rattle.tiff_program.specs.Directories.{told_of_directories};
+ghost use Rattle.tiff_program.specs.List.{told_of_list};
 ghost use Rattle.tiff_program.specs.Files.{Appends, Compares, Measures, Reads, Writes};
 ghost use Rattle.tiff_program.specs.Status.{Ends, PrintsLines, Runs, is_stream};
 ghost use Rattle.tiff_program.specs.Words.{AskFor};
@@ -377,7 +378,7 @@ fn list_pages<'a, F: Files>(
     input: &'a str,
     files: &mut F,
 ) -> Result<Lines, Failure<'a>>
-    ensures { TellsSome F.reads input.entry files.old result files.new }
+    ensures { Tells F.reads told_of_list input.entry files.old result files.new }
 {
     let file = read(files, input)?;
     Ok(file_list(alloc, file)?)
