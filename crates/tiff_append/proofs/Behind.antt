@@ -1,19 +1,19 @@
 -- A file with a new link and more bytes behind it.
-use Rattle.std.proofs.Common.{◌≡◌, ℕ, ◌+◌, ◌-◌, ◌≤◌, List, [], ◌++◌, length, take, drop, Ok, ap, sym, ◌∙◌, subst, arith, append-nil, length-append, length-drop}
+use Rattle.std.proofs.Common.{◌≡◌, ◌⊎◌, inl, inr, ℕ, ◌+◌, ◌-◌, ◌≤◌, List, [], ◌++◌, length, take, drop, Ok, ap, sym, ◌∙◌, subst, arith, append-nil, append_assoc, length-append, length-drop}
 use Rattle.std.proofs.lemmas.List.{drop-drop, drop_at, take_all, take-append-drop, length-take-le}
+use Rattle.tiff_base.specs.declared.error.TiffError.{TiffError}
+use Rattle.tiff_base.specs.declared.error.TiffError.TheVariants.{OutOfMemory}
 use Rattle.tiff_base.specs.declared.tags.FileKind.{FileKind}
 use Rattle.tiff_base.specs.SourceAndSink.{Overwrites, exactly_at, put}
 use Rattle.tiff_encode.specs.declared.encoder.script.Job.{Job}
 use Rattle.tiff_encode.specs.declared.encoder.script.JobReply.{JobReply}
-use Rattle.tiff_encode.specs.Appending.{continued_file}
+use Rattle.tiff_encode.specs.Appending.{Continues}
 use Rattle.tiff_encode.specs.FileBytes.{offset_len}
-use Rattle.tiff_encode.specs.Machine.{FileState}
-use Rattle.tiff_encode.specs.Running.{JobsMove}
 use Rattle.tiff_encode.proofs.FormerBytes.{put_past, put_over}
 use Rattle.tiff_encode.proofs.Running.Behind.{jobs_continue}
 use Rattle.tiff_encode.proofs.Slices.{exact_append, exact_put_here, length_put, ok_inj}
 use Rattle.tiff_append.specs.declared.sink.Addition.{Addition}
-use Rattle.tiff_append.specs.Behind.{IsAddedTo, RunsBehind, added_to}
+use Rattle.tiff_append.specs.Behind.{IsAddedTo, RefusesLink, RunsAt, RunsBehind, added_to}
 
 -- the length of such a file
 pub length_added : (file : List ℕ) (q : ℕ) (link more : List ℕ) → q + length link ≤ length file → length (added_to file q link more) ≡ length file + length more
@@ -79,19 +79,48 @@ same_added q file other over link more mine bytes fit as_long as_wide here there
     let behind : more ≡ mine = sym m ∙ n in
     here ∙ (λ i. added_to file q (same i) (behind i))
 
--- what jobs leave behind a file, of the bytes of the sink
-pub ran_behind : (kind : FileKind) (file told : List ℕ) (failures q : ℕ) (jobs : List Job) (earlier all : List JobReply) (last : FileState) (left : List ℕ) (a : Addition)
-    → q + offset_len kind ≤ length file → told ≡ file → JobsMove jobs earlier all (continued_file kind told failures q) last → left ≡ last.bytes
-    → IsAddedTo left (length file) q (offset_len kind) a → RunsBehind kind file q jobs earlier all a.link.items a.more.items
-ran_behind kind file told failures q jobs earlier all last left a room same moves is added =
-    let Moves : List ℕ → Type 0 = λ b. JobsMove jobs earlier all (continued_file kind b failures q) last in
-    let here : Moves file = subst Moves same moves in
-    let c = jobs_continue kind file failures q jobs earlier all last room here in
+-- a file that continues a former one, and a file of its length with a new link and more bytes behind it: these are the former file's
+pub gathered : (kind : FileKind) (q : ℕ) (file told : List ℕ) (a : Addition) → q + offset_len kind ≤ length file → Continues kind q file told
+    → IsAddedTo told (length file) q (offset_len kind) a → (told ≡ added_to file q a.link.items a.more.items) × (length a.link.items ≡ offset_len kind)
+gathered kind q file told a room c added =
+    let fit : q + length c.over ≤ length file = omega (arith, c.whole, room) in (
+      same_added q file added.file c.over a.link.items c.more a.more.items told fit added.len_is (added.size_is ∙ sym c.whole) c.bytes added.whole,
+      added.size_is,
+    )
+
+-- A file that goes on at a link behind a former file's bytes continues the former file too.
+pub goes_on : (kind : FileKind) (q slot : ℕ) (file told left : List ℕ) → q + offset_len kind ≤ length file → length file ≤ slot → Continues kind q file told
+    → Continues kind slot told left → Continues kind q file left
+goes_on kind q slot file told left room behind c d =
     let fit : q + length c.over ≤ length file = omega (arith, c.whole, room) in
     record {
-      failures = failures;
-      last = last;
-      moves = here;
-      whole = same_added q file added.file c.over a.link.items c.more a.more.items last.bytes fit added.len_is (added.size_is ∙ sym c.whole) c.bytes (sym is ∙ added.whole);
-      width = added.size_is;
+      over = c.over;
+      whole = c.whole;
+      more = put c.more (slot - length file) d.over ++ d.more;
+      bytes =
+          d.bytes
+          ∙ ap (λ l. put l slot d.over ++ d.more) c.bytes
+          ∙ ap (λ l. l ++ d.more) (past_added file q c.over c.more slot d.over fit behind)
+          ∙ append_assoc (put file q c.over) (put c.more (slot - length file) d.over) d.more;
     }
+
+-- what jobs leave continues the bytes that they go on behind
+pub continues : (kind : FileKind) (told : List ℕ) (q : ℕ) (jobs : List Job) (earlier all : List JobReply) (left : List ℕ) → RunsAt kind told q jobs earlier all left
+    → Continues kind q told left
+continues kind told q jobs earlier all left r =
+    subst (Continues kind q told) (sym r.left_is) (jobs_continue kind told r.failures q jobs earlier all r.last r.within r.moves)
+
+-- what jobs leave behind a file, of the bytes of the sink
+pub ran_behind : (kind : FileKind) (file told : List ℕ) (q : ℕ) (jobs : List Job) (earlier all : List JobReply) (left : List ℕ) (a : Addition) → told ≡ file
+    → RunsAt kind told q jobs earlier all left → IsAddedTo left (length file) q (offset_len kind) a
+    → RunsBehind kind file q jobs earlier all a.link.items a.more.items
+ran_behind kind file told q jobs earlier all left a same runs added =
+    let Runs : List ℕ → Type 0 = λ b. RunsAt kind b q jobs earlier all left in
+    let here : RunsAt kind file q jobs earlier all left = subst Runs same runs in
+    let g = gathered kind q file left a here.within (continues kind file q jobs earlier all left here) added in
+    record { runs = subst (RunsAt kind file q jobs earlier all) g.0 here; width = g.1 }
+
+-- The only error of a link that is within the file is that of memory.
+pub out_of_memory : (len q size : ℕ) (e : TiffError) → q + size ≤ len → RefusesLink len q size e → e ≡ OutOfMemory
+out_of_memory len q size e here (inl refused) = absurd (omega (arith, here, refused.0))
+out_of_memory len q size e here (inr refused) = refused.1

@@ -1,5 +1,5 @@
 -- The last link of a file is that of the last directory of its chain, and is within the file.
-use Rattle.std.proofs.Common.{◌≡◌, ℕ, ◌+◌, ◌-◌, ◌<◌, ◌≤◌, List, [], ◌∷◌, length, Option, Some, None, Result, Ok, Err, refl, ap, sym, ◌∙◌, subst, arith}
+use Rattle.std.proofs.Common.{◌≡◌, ℕ, ◌+◌, ◌-◌, ◌≤◌, List, [], ◌∷◌, length, Option, Some, None, Result, Ok, Err, refl, ap, sym, ◌∙◌, subst, arith}
 use Rattle.std.proofs.lemmas.Bool.{ne_eqb}
 use Rattle.std.proofs.lemmas.Option.{slice_get_within}
 use Rattle.std.specs.Prelude.{IfSome, IsOk, slice_get}
@@ -62,9 +62,6 @@ module _ (kind : FileKind) (file : List ℕ) (first : ℕ) (w : Walked) where
   ended last e h =
       let Told : Option ℕ → Result (Option ℕ) TiffError = λ o. Ok o in
       ap last_in e ∙ ap Told (last_of w.offsets ∙ sym h)
-
-  pub cut : (e : TiffError) → ChainEnds kind LittleEndian file first w (Some e) → last_in (chain kind LittleEndian file first) ≡ Err e
-  cut e h = ap last_in h
 
   reads : ChainBegins kind LittleEndian file first w → (last : Option ℕ) → last_or None w.offsets ≡ last → IfSome last (λ p. IsOk (link_from kind LittleEndian file p))
   reads b None h = tt

@@ -1,2 +1,3 @@
 mod LastLink
-mod Behind
+pub mod Added
+pub mod Behind

@@ -1,3 +1,5 @@
 pub mod LastLink
 pub mod Unkept
+pub mod Added
+pub mod Source
 pub mod Behind

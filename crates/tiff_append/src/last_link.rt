@@ -1,11 +1,12 @@
 //! The last link of a file, where an encoder goes on behind it.
 
-ghost use Rattle.std.specs.Prelude.{◌≡◌, ◌+◌, ◌≤◌, length, IfOk, IfSome, IsOk};
+ghost use Rattle.std.specs.Prelude.{◌≡◌, ◌+◌, ◌≤◌, ◌<◌, length, IfErr, IfOk, IfSome, IsOk, None, Some};
 ghost use Rattle.tiff_base.specs.declared.tags.ByteOrder.TheVariants.{LittleEndian};
-ghost use Rattle.tiff_base.specs.Answers.{AnswersWithoutSource, Gives};
+ghost use Rattle.tiff_base.specs.Answers.{AnswersWithoutSource, Gives, IsCause, IsKept};
 ghost use Rattle.tiff_base.specs.Directory.{count_width, entry_len, offset_width};
 ghost use Rattle.tiff_base.specs.Number.{number_at};
 ghost use Rattle.tiff_ifd.specs.Chain.{chain, link_from};
+ghost use Rattle.tiff_ifd.specs.IfdChainWalk.{ChainBegins, ChainEnds};
 ghost use Rattle.tiff_encode.specs.FileBytes.{count_len, offset_len};
 ghost use Rattle.tiff_encode.specs.LongerChain.{last_link_at, link_offset_at};
 ghost use Rattle.tiff_encode.specs.Model.{header_link};
@@ -13,7 +14,7 @@ ghost use Rattle.tiff_append.specs.LastLink.{is_unlinked, kind_by, last_in, last
 
 use std::alloc::Global;
 use tiff_base::error::{TiffError, TiffFormatError, TiffResult, UsageError};
-use tiff_base::io::SliceSource;
+use tiff_base::io::{SliceSource, Source};
 use tiff_base::read::{read_u16_at, read_u64_at};
 use tiff_base::tags::{ByteOrder, FileKind};
 use tiff_ifd::decode::read_link_at;
@@ -38,8 +39,8 @@ pub fn link_size(kind: FileKind) -> usize
     }
 }
 
-// The offset of the header's link.
-fn header_link(kind: FileKind) -> u64
+/// The offset of the header's link, in bytes from the start of the file.
+pub fn header_link(kind: FileKind) -> u64
     ensures { result ≡ header_link kind }
 {
     match kind {
@@ -48,8 +49,8 @@ fn header_link(kind: FileKind) -> u64
     }
 }
 
-// The number of bytes of the number of entries of a directory, and of an entry.
-fn entry_sizes(kind: FileKind) -> (u64, u64)
+/// The number of bytes of the number of entries of a directory, and of an entry.
+pub fn entry_sizes(kind: FileKind) -> (u64, u64)
     ensures count { result.0 ≡ count_len kind }
     ensures entry { result.1 ≡ entry_len kind }
 {
@@ -170,23 +171,41 @@ fn link_of(file: &[u8], kind: FileKind, offset: u64) -> TiffResult<u64>
     Ok(offset + first + entry * count)
 }
 
+/// Enters all directories of the chain of a little-endian file, from its first one on. Errors: the
+/// one by which the chain ends; `OutOfMemory`; `IoError(Device)`.
+#[tactic(auto, using(crate::proofs::LastLink::none_there))]
+pub fn walk_all<R: Source>(
+    alloc: Global,
+    source: &mut R,
+    kind: FileKind,
+    first: u64,
+) -> TiffResult<IfdChainWalk>
+    ensures kept { IsKept R.told R.failures result source.old source.new }
+    ensures begins { IfOk result (ChainBegins kind LittleEndian (R.told source.old).bytes first) }
+    ensures ends { IfOk result (λ walk. ChainEnds kind LittleEndian (R.told source.old).bytes first walk None) }
+    ensures cut { IfErr result
+        (λ e. IsCause (Unit {0}) (R.failures source.old < R.failures source.new) e
+        ((chain kind LittleEndian (R.told source.old).bytes first).end ≡ Some e)) }
+{
+    let mut walk = IfdChainWalk::new(alloc, first);
+    let order = ByteOrder::LittleEndian;
+    let beyond = walk.offset_of(source, kind, order, usize::MAX)?;
+    let _entered = walk.len();
+    match beyond {
+        None => Ok(walk),
+        Some(_) => unreachable!(),
+    }
+}
+
 // Enters all directories of the chain of a file, from its first one on, and returns the offset of
 // the last one, if there is one.
-#[tactic(auto, using(crate::proofs::LastLink::cut, crate::proofs::LastLink::none_there))]
 fn last_directory(alloc: Global, file: &[u8], kind: FileKind, first: u64) -> TiffResult<Option<u64>>
     ensures answer { AnswersWithoutSource (λ x. x) result (last_in (chain kind LittleEndian file.now first)) }
     ensures reads { IfOk result (λ offset. IfSome offset
         (λ p. IsOk (link_from kind LittleEndian file.now p))) }
 {
-    let mut source = SliceSource::new(file);
-    let mut walk = IfdChainWalk::new(alloc, first);
-    let order = ByteOrder::LittleEndian;
-    let beyond = walk.offset_of(&mut source, kind, order, usize::MAX)?;
-    let _entered = walk.len();
-    match beyond {
-        None => Ok(walk.last()),
-        Some(_) => unreachable!(),
-    }
+    let walk = walk_all(alloc, &mut SliceSource::new(file), kind, first)?;
+    Ok(walk.last())
 }
 
 // The offset of the last link of a little-endian file of this kind.

@@ -5,4 +5,5 @@
 pub mod last_link;
 pub mod run;
 pub mod sink;
+pub mod source;
 pub mod unkept;

@@ -3,9 +3,11 @@
 ghost use Rattle.std.specs.Prelude.{◌≡◌, ◌+◌, ◌^◌, ◌≤◌, ◌<◌, ◌++◌, length, None, Some, IfErr, IfOk, IfSome, OnErr, OnOk};
 ghost use Rattle.tiff_base.specs.SourceAndSink.{put};
 
+use crate::source::AddedSource;
 use crate::unkept::Unkept;
 use std::alloc::Global;
-use tiff_base::io::{ByteRun, Sink, SinkFault};
+use tiff_base::error::{TiffError, TiffResult};
+use tiff_base::io::{ByteRun, IoKind, Sink, SinkFault};
 
 /// What is written behind a file: the new bytes of its last link, and the bytes behind the file.
 #[derive(Drop)]
@@ -56,18 +58,24 @@ fn overwrite_in(items: &mut Vec<u8>, from: usize, bytes: &[u8])
 
 impl<'a> BehindSink<'a> {
     ghost use Rattle.tiff_base.specs.SourceAndSink.{Appends, Overwrites};
-    ghost use Rattle.tiff_append.specs.Behind.{IsAddedTo, behind_told};
+    ghost use Rattle.tiff_append.specs.Behind.{IsAddedTo, RefusesLink, behind_told};
+    ghost use Rattle.tiff_append.specs.Source.{added_bytes};
 
     /// Makes a sink that contains a file, of which the `size` bytes at an offset are the link that it
-    /// overwrites. Its only error is `OutOfMemory`.
+    /// overwrites. Errors: `IoError(InvalidInput)` if the link isn't within the file; `OutOfMemory`.
     #[tactic(auto, using(crate::proofs::Behind::first_added))]
-    pub fn new(alloc: Global, file: &'a [u8], at: usize, size: usize) -> Result<Self, SinkFault>
-        requires { at + size ≤ length file.now }
+    pub fn new(alloc: Global, file: &'a [u8], at: usize, size: usize) -> TiffResult<Self>
         ensures told { IfOk result (λ s. behind_told s ≡ file.now) }
-        ensures err { IfErr result (λ e. e ≡ SinkFault.OutOfMemory) }
+        ensures within { IfOk result (λ _. at + size ≤ length file.now) }
+        ensures err { IfErr result (RefusesLink (length file.now) at size) }
     {
+        if file.len() < at || file.len() - at < size {
+            return Err(TiffError::IoError(IoKind::InvalidInput));
+        }
         let mut link = Vec::new(alloc);
-        grow(&mut link, &file[at..at + size])?;
+        if grow(&mut link, &file[at..at + size]).is_err() {
+            return Err(TiffError::OutOfMemory);
+        }
         Ok(BehindSink {
             file,
             at,
@@ -95,6 +103,13 @@ impl<'a> BehindSink<'a> {
             return None;
         }
         Some(Addition { link, more })
+    }
+
+    /// A source of the bytes of the sink, which lends them.
+    pub fn source(&self) -> AddedSource<'_>
+        ensures { added_bytes result ≡ behind_told self.now }
+    {
+        AddedSource::new(self.file, self.at, &self.link, &self.more)
     }
 
     // Appends bytes behind the file.

@@ -1,4 +1,4 @@
-use Rattle.std.proofs.Common.{◌+◌, ◌-◌, ◌≤◌, length, arith}
+use Rattle.std.proofs.Common.{◌≤◌, length, arith}
 use Rattle.tiff_append.proofs.Behind.{length_added, over_written, past_written}
 use Rattle.tiff_append.proofs.sink.BehindSink.change.Goals as goal
 
