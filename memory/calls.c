@@ -155,12 +155,17 @@ static tiff_status seen_chunk(const struct tiff_windows *seen, const struct inpu
     return tiff_read_planned_chunk_in(seen, &on->plan, 0, to->bytes, ROOM, &to->wanted);
 }
 
+static tiff_status seen_chunks(const struct tiff_windows *seen, const struct input *on, struct answer *to) {
+    return tiff_read_planned_chunks_in(seen, &on->plan, 0, 2, to->bytes, ROOM, &to->wanted);
+}
+
 static tiff_status list_pages_in(const struct input *on, struct answer *to) { return by_windows(on, seen_pages, to); }
 static tiff_status list_directories_in(const struct input *on, struct answer *to) { return by_windows(on, seen_directories, to); }
 static tiff_status list_tags_in(const struct input *on, struct answer *to) { return by_windows(on, seen_tags, to); }
 static tiff_status tag_bytes_in(const struct input *on, struct answer *to) { return by_windows(on, seen_bytes, to); }
 static tiff_status page_plan_in(const struct input *on, struct answer *to) { return by_windows(on, seen_plan, to); }
 static tiff_status planned_chunk_in(const struct input *on, struct answer *to) { return by_windows(on, seen_chunk, to); }
+static tiff_status planned_chunks_in(const struct input *on, struct answer *to) { return by_windows(on, seen_chunks, to); }
 
 static tiff_status two_chunks(const struct input *on, struct answer *to) {
     return tiff_read_chunks(on->file, on->len, on->page, 0, 2, to->bytes, ROOM);
@@ -251,8 +256,8 @@ static tiff_status pages_into(const struct input *on, struct answer *to, uint16_
     static const uint16_t none[1];
     const struct tiff_new_tag tag = {270, 2, sizeof words, words, sizeof words};
     const struct tiff_new_page pages[] = {
-        {TIFF_GRAY8, 2, 1, 0, 0, 0, TIFF_UNCOMPRESSED, TIFF_NO_PREDICTOR, TIFF_CHUNKY, TIFF_NO_RESOLUTION, {0, 1}, {0, 1}, none, 0, &tag, 0, samples, 2},
-        {TIFF_GRAY8, 2, 2, 0, 16, 16, method, TIFF_NO_PREDICTOR, TIFF_CHUNKY, TIFF_INCH, {300, 1}, {300, 1}, none, 0, &tag, 1, samples, 4},
+        {TIFF_GRAY8, 2, 1, 0, 0, 0, TIFF_UNCOMPRESSED, TIFF_NO_PREDICTOR, TIFF_CHUNKY, TIFF_NO_RESOLUTION, {0, 1}, {0, 1}, none, 0, &tag, 0, samples, 2, 0},
+        {TIFF_GRAY8, 2, 2, 0, 16, 16, method, TIFF_NO_PREDICTOR, TIFF_CHUNKY, TIFF_INCH, {300, 1}, {300, 1}, none, 0, &tag, 1, samples, 4, 1},
     };
     if (behind) return tiff_append_pages(on->file, on->len, pages, 2, to->bytes, ROOM, &to->appended);
     return tiff_write_pages(on->image.version, pages, 2, to->bytes, on->size, &to->number, &to->pages_end);
@@ -293,6 +298,7 @@ static const struct call readers[] = {
     {"tiff_tag_bytes_in", BUT_BYTES, tag_bytes_in},
     {"tiff_page_plan_in", ALL, page_plan_in},
     {"tiff_read_planned_chunk_in", BUT_BYTES, planned_chunk_in},
+    {"tiff_read_planned_chunks_in", BUT_BYTES, planned_chunks_in},
     {"tiff_append_pages", BUT_APPENDED, append_pages},
     {"tiff_page_sides (of an offset)", ALL, sides_at},
     {"tiff_read_coding_unit_bytes", BUT_BYTES, unit_bytes},

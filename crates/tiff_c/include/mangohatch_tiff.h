@@ -69,7 +69,7 @@ LINKING
 #ifndef MANGOHATCH_TIFF_H
 #define MANGOHATCH_TIFF_H
 
-#define MANGOHATCH_TIFF_VERSION 7
+#define MANGOHATCH_TIFF_VERSION 8
 
 /* A PAGE that is the directory at an offset of the file. */
 #define TIFF_AT(offset) ((size_t)(offset) | (size_t)1 << 63)
@@ -542,6 +542,10 @@ tiff_status tiff_page_plan_in(const struct tiff_windows *seen, size_t page, stru
 /* As tiff_read_planned_chunk. */
 tiff_status tiff_read_planned_chunk_in(const struct tiff_windows *seen, const struct tiff_page_plan *plan, uint32_t chunk, uint8_t *buffer, size_t size, struct tiff_stretch *wanted);
 
+/* As tiff_read_planned_chunks. Each answer that wants more reads the chunks before it again, so fetch
+   the bytes of all of them at once. */
+tiff_status tiff_read_planned_chunks_in(const struct tiff_windows *seen, const struct tiff_page_plan *plan, uint32_t first, uint32_t count, uint8_t *buffer, size_t size, struct tiff_stretch *wanted);
+
 /* How to write an image: its color type; its width and its height, in pixels; the version in the
    header of its file; the values of its tags Compression and Predictor. */
 enum {
@@ -756,7 +760,9 @@ struct tiff_new_tag {
    alpha. TAGS are the caller's own. One of them replaces what the call set before it under the same
    number; BitsPerSample, SampleFormat and the places of strips or tiles are set behind them.
    SAMPLES are the samples row by row from the top, those of a pixel side by side, also of a planar
-   page, each with its lowest byte first. */
+   page, each with its lowest byte first. PARENT is 0 for a page in the file's chain of directories,
+   or the number, counted from 1, of an earlier page: then that page's tag SubIFDs (330) lists this
+   one, behind earlier pages with the same PARENT. */
 enum {
     TIFF_CHUNKY = 1,
     TIFF_PLANAR = 2,
@@ -785,6 +791,7 @@ struct tiff_new_page {
     size_t tags_len;
     const uint8_t *samples;
     size_t samples_len;
+    size_t parent;
 };
 
 /* Where a list of pages was refused: the number of the page, counted from 1, and its field. 0 is
@@ -800,6 +807,7 @@ enum {
     TIFF_FIELD_TAGS = 7,
     TIFF_FIELD_SAMPLES = 8,
     TIFF_FIELD_LAYOUT = 9, /* the strips or tiles */
+    TIFF_FIELD_PARENT = 10,
 };
 struct tiff_pages_end {
     size_t page;
@@ -807,9 +815,9 @@ struct tiff_pages_end {
 };
 
 /* Writes a file of COUNT pages into BUFFER, of SIZE bytes; *LEN is how many bytes the file has. The
-   pages are in the file's chain of directories, in their order. VERSION is TIFF_CLASSIC or TIFF_BIG.
-   The bytes of BUFFER behind the file stay. It is the file that tiff_write_jobs writes for these
-   jobs of each page:
+   pages without a PARENT are in the file's chain of directories, in their order. VERSION is
+   TIFF_CLASSIC or TIFF_BIG. The bytes of BUFFER behind the file stay. Of pages without a PARENT it is
+   the file that tiff_write_jobs writes for these jobs of each page:
 
        predictor PREDICTOR
        compression METHOD
@@ -821,7 +829,11 @@ struct tiff_pages_end {
        resolution RESOLUTION_UNIT X_RESOLUTION Y_RESOLUTION
                                         unless the unit is TIFF_NO_RESOLUTION
        write_tag_buf NUMBER BUFFER      for each of TAGS
+       write_tag_buf 330 BUFFER         with a zero for each page that has this one as its PARENT
        write_data SAMPLES
+
+   The pages with a PARENT are written behind those, in their order: the jobs of each go on behind the
+   file at its zero, which they overwrite, as those of tiff_append_pages do at the last link.
 
    A BUFFER that is too short: TIFF_INSUFFICIENT_OUTPUT_BUFFER_SIZE, and *LEN is set all the same. So
    a first call with a SIZE of 0 returns the length. Any status but TIFF_DONE leaves BUFFER as it
@@ -832,18 +844,20 @@ struct tiff_pages_end {
    written: a color type that is none, TIFF_INVALID_INPUT; a method that this library doesn't write,
    TIFF_UNSUPPORTED_COMPRESSION_METHOD; a predictor that is none, TIFF_UNKNOWN_PREDICTOR; a PLANAR
    that is none, TIFF_UNKNOWN_PLANAR_CONFIGURATION; a unit that is none, and an extra sample that is
-   none, TIFF_INVALID_INPUT; of TAGS, a type that is none, TIFF_UNSUPPORTED_DATA_TYPE, and values_len
-   that is not as many bytes as COUNT values have, TIFF_MISMATCHED_ENTRY_LENGTH; samples_len that is
-   no whole number of samples, TIFF_MISMATCHED_ENTRY_LENGTH. Then, with the number of the first such
-   page in END->page, the first error of that page. With 0 in END->field: a side of 0,
-   TIFF_INVALID_DIMENSIONS; the predictors that tiff_write_image refuses; too few samples,
-   TIFF_INVALID_DATA; a file that its kind can't hold, TIFF_INT_SIZE_ERROR. With TIFF_FIELD_LAYOUT:
-   sides of tiles that are 0 or no multiples of 16, and ROWS_PER_STRIP beside tiles,
-   TIFF_INVALID_INPUT. With the field of what is set: TIFF_INT_SIZE_ERROR. At last a BUFFER that is
-   too short, with 0 in both.
+   none, TIFF_INVALID_INPUT; of TAGS, a type that is none, TIFF_UNSUPPORTED_DATA_TYPE, values_len
+   that is not as many bytes as COUNT values have, TIFF_MISMATCHED_ENTRY_LENGTH, and SubIFDs of a page
+   that is a PARENT, TIFF_INVALID_INPUT; samples_len that is no whole number of samples,
+   TIFF_MISMATCHED_ENTRY_LENGTH; a PARENT that is no earlier page, TIFF_INVALID_INPUT. Then, with the
+   number of the first such page in END->page, of those of the chain and then of the others, the first
+   error of that page. With 0 in END->field: a side of 0, TIFF_INVALID_DIMENSIONS; the predictors that
+   tiff_write_image refuses; too few samples, TIFF_INVALID_DATA; a file that its kind can't hold,
+   TIFF_INT_SIZE_ERROR. With TIFF_FIELD_LAYOUT: sides of tiles that are 0 or no multiples of 16, and
+   ROWS_PER_STRIP beside tiles, TIFF_INVALID_INPUT. With the field of what is set: TIFF_INT_SIZE_ERROR.
+   At last a BUFFER that is too short, with 0 in both.
 
-   The call allocates the file, the bytes of TAGS, and the samples of one page at a time if they
-   have more than one byte or a sign. */
+   The call allocates the file, the bytes of TAGS, the samples of one page at a time if they have more
+   than one byte or a sign, and a few numbers for each page; of pages with a PARENT also the offsets of
+   all pages, and the directory of one PARENT at a time. */
 tiff_status tiff_write_pages(uint16_t version, const struct tiff_new_page *pages, size_t count, uint8_t *buffer, size_t size, size_t *len,
                              struct tiff_pages_end *end);
 
@@ -868,8 +882,9 @@ struct tiff_appended {
 
    Between the two, and if the first is torn, the file has its former pages: only the second makes
    the chain go on behind them. So the first has to be on the disk (fsync) before the second. The
-   pages are jobs as those of tiff_write_pages, and their parameters are the same. The file has a
-   directory, or it has none yet and its header links to 0. The bytes of BUFFER behind those stay.
+   pages are jobs as those of tiff_write_pages, and their parameters are the same; a PARENT is one of
+   these pages, and none of the former ones. The file has a directory, or it has none yet and its
+   header links to 0. The bytes of BUFFER behind those stay.
 
    A BUFFER that is too short: TIFF_INSUFFICIENT_OUTPUT_BUFFER_SIZE, and *APPENDED is set all the
    same, so a first call with a SIZE of 0 returns the length. Any status but TIFF_DONE leaves BUFFER
@@ -881,8 +896,7 @@ struct tiff_appended {
    of tiff_write_pages, in its order, with the page and the field in APPENDED->end.
 
    The call allocates the bytes to append, 8 bytes for the link, the offsets of the directories of
-   FILE, the bytes of TAGS, and the samples of one page at a time if they have more than one byte or
-   a sign. */
+   FILE, and what tiff_write_pages allocates besides its file. */
 tiff_status tiff_append_pages(const uint8_t *file, size_t len, const struct tiff_new_page *pages, size_t count, uint8_t *buffer, size_t size,
                               struct tiff_appended *appended);
 

@@ -6,20 +6,22 @@
 
 ghost use Rattle.std.specs.Prelude.{◌≡◌, ◌⊎◌, length, ℕ, List};
 ghost use Rattle.tiff_base.specs.Windows.{AreWindowsOf};
+ghost use Rattle.tiff_pages.specs.OfFile.{list_of, tree_of};
 ghost use Rattle.tiff_statuses.specs.Appended.{AppendTells};
 ghost use Rattle.tiff_statuses.specs.Calls as calls;
-ghost use Rattle.tiff_statuses.specs.Directories.{TreeTells, tree_of};
+ghost use Rattle.tiff_statuses.specs.Directories.{TreeTells};
 ghost use Rattle.tiff_statuses.specs.Entries.{list_tags};
 ghost use Rattle.tiff_statuses.specs.InWindows as in_windows;
 ghost use Rattle.tiff_statuses.specs.InWindows.{SeenTells};
 ghost use Rattle.tiff_statuses.specs.Jobs.{JobsTell};
-ghost use Rattle.tiff_statuses.specs.List.{ListTells, list_of};
+ghost use Rattle.tiff_statuses.specs.List.{ListTells};
 ghost use Rattle.tiff_statuses.specs.Pages.{PagesTell};
 ghost use Rattle.tiff_statuses.specs.Plan as plans;
 ghost use Rattle.tiff_statuses.specs.Plan.{ReadsPage};
 ghost use Rattle.tiff_statuses.specs.Rewrite as rewriting;
 ghost use Rattle.tiff_statuses.specs.Status.{StatusIs, StatusPuts, StatusTells};
-ghost use Rattle.tiff_statuses.specs.Texts.{PutsSomeText};
+ghost use Rattle.tiff_statuses.specs.Texts.{PutsText};
+ghost use Rattle.tiff_statuses.specs.Texts as texts;
 ghost use Rattle.tiff_statuses.specs.Values as values;
 ghost use Rattle.tiff_statuses.specs.Writer as writer;
 ghost use Rattle.tiff_statuses.specs.Writer.{IsShown};
@@ -553,6 +555,27 @@ pub extern "C" fn tiff_read_planned_chunk_in(
     tiff_statuses::read_planned_chunk_in(alloc, seen, plan, chunk, buffer, wanted)
 }
 
+/// Reads `count` chunks, from the number `first` on, into `buffer`, one behind the other, by the plan
+/// of their page, as `tiff_read_planned_chunks` does, of a file of which the caller has the windows
+/// `seen`. It returns `BytesWanted` and refuses windows as `tiff_list_pages_in` does. What an error
+/// leaves in `buffer` is not specified.
+#[unsafe(no_mangle)]
+pub extern "C" fn tiff_read_planned_chunks_in(
+    alloc: Global,
+    seen: &Windows<'_>,
+    plan: &PlannedPage,
+    first: u32,
+    count: u32,
+    buffer: &mut [u8],
+    wanted: &mut Stretch,
+) -> u32
+    ghost file: { List ℕ }
+    ensures { AreWindowsOf file seen.now → SeenTells seen.now result wanted.new (Unit {0})
+        (StatusTells (plans.read_planned_chunks file plan.now first count buffer.old) result buffer.new) }
+{
+    tiff_statuses::read_planned_chunks_in(alloc, seen, plan, first, count, buffer, wanted)
+}
+
 /// Puts the entries of the directory of a page of a file of which the caller has the windows `seen`
 /// into `entries`, as many as fit, and how many there are into `count`. Whether that directory is a
 /// page isn't asked, also for the number of a page of the chain; else as `tiff_list_tags`. It returns
@@ -735,7 +758,7 @@ pub extern "C" fn tiff_version() -> u32
 /// whole text has. The text of a number that is no status says so.
 #[unsafe(no_mangle)]
 pub extern "C" fn tiff_fault_text(status: u32, buffer: &mut [u8]) -> usize
-    ensures { PutsSomeText result buffer.old buffer.new }
+    ensures { PutsText (texts.text_of status) result buffer.old buffer.new }
 {
     tiff_statuses::fault_text(status, buffer)
 }

@@ -23,10 +23,11 @@ use Rattle.tiff_statuses.specs.declared.pages.NewPage.{NewPage}
 use Rattle.tiff_statuses.specs.declared.pages.PagesAnswer.{PagesAnswer}
 use Rattle.tiff_statuses.specs.declared.pages.PagesAnswer.TheVariants.{Ran as pages_ran, Refused as pages_refused}
 use Rattle.tiff_statuses.specs.declared.pages.PagesEnd.{PagesEnd}
+use Rattle.tiff_statuses.specs.declared.pages.RefusedPage.{RefusedPage}
 use Rattle.tiff_statuses.specs.declared.writer.NewImage.{NewImage}
 use Rattle.tiff_statuses.specs.declared.writer.Settings.{Settings}
 use Rattle.tiff_statuses.specs.Jobs.{AnswersKind, JobsTell, TellsAnswer, TellsRan}
-use Rattle.tiff_statuses.specs.Pages.{AnswersVersion, PagesTell, TellsPages}
+use Rattle.tiff_statuses.specs.Pages.{AnswersVersion, PagesTell, TellsPages, TellsWritten}
 use Rattle.tiff_statuses.specs.Status.{fault_number, format_fault_number, unsupported_fault_number, usage_fault_number, io_fault_number}
 use Rattle.tiff_statuses.specs.Writer.{Delivers, DeliversParts, FrameTells, IsShown, WriterTells, WritesBy, WritesBytes, WritesNew, image_by, kind_of, samples_from_bytes, settings_of}
 
@@ -208,8 +209,13 @@ pub told_pages : (version : ℕ) (pages : List NewPage) (answer : Result PagesAn
     → AnswersVersion (kind_of version) pages answer → TellsPages answer status old new len_old len_new end → PagesTell version pages status old new len_old len_new end
 told_pages version pages answer status old new len_old len_new end a t = (answer, (a, t))
 
+kept_written : (file : List ℕ) (refused : Option RefusedPage) (status : ℕ) (old new : List ℕ) (len_old len_new : ℕ) (end : PagesEnd)
+    → TellsWritten file refused status old new len_old len_new end → (status ≡ 0) ⊎ (new ≡ old)
+kept_written file None status old new len_old len_new end t = kept (Ok file) status old new len_old len_new t.0
+kept_written file (Some page) status old new len_old len_new end t = inr t.1.0.0
+
 pub kept_pages : (answer : Result PagesAnswer TiffError) (status : ℕ) (old new : List ℕ) (len_old len_new : ℕ) (end : PagesEnd)
     → TellsPages answer status old new len_old len_new end → (status ≡ 0) ⊎ (new ≡ old)
-kept_pages (Ok (pages_ran ran field)) status old new len_old len_new end (at, (t, e)) = kept_ran ran.file.items ran.refused status old new len_old len_new at t
+kept_pages (Ok (pages_ran ran)) status old new len_old len_new end t = kept_written ran.file.items ran.refused status old new len_old len_new end t
 kept_pages (Ok (pages_refused page refusal)) status old new len_old len_new end t = inr t.1.0.0
 kept_pages (Err e) status old new len_old len_new end t = inr t.1.0.0

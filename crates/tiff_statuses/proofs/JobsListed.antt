@@ -1,9 +1,9 @@
 -- The jobs that bytes spell.
 use Rattle.std.proofs.Common.{◌≡◌, ℕ, List, refl}
-use Rattle.std.specs.Prelude.{Bool, true, false, Result, Err, if◌then◌else◌}
+use Rattle.std.specs.Prelude.{Bool, true, false, Err, if◌then◌else◌}
 use Rattle.std.specs.Str.{IsUtf8, is_utf8}
 use Rattle.std.proofs.lemmas.Str.{IsUtf8-from_is_utf8, is_utf8-from_IsUtf8}
-use Rattle.tiff_lists.specs.Jobs.{JobData, jobs_spelled}
+use Rattle.tiff_lists.specs.Jobs.{jobs_spelled}
 use Rattle.tiff_statuses.specs.Jobs.{jobs_in}
 
 -- Bytes that are a text.

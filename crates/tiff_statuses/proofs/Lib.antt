@@ -17,7 +17,12 @@ mod FrameAlike
 mod BytesBack
 mod FrameZeros
 mod FrameWritten
-mod PagesMade
+pub mod PagesMade
+pub mod Counts
+pub mod ParentsRan
+pub mod BehindRan
+pub mod PagesRan
+pub mod Links
 pub mod ToldBehind
 mod Plans
 mod Rewritten

@@ -1,33 +1,6 @@
--- The pages and the directories of a file that lies in a slice.
-use Rattle.std.proofs.Common.{◌≡◌, ℕ, zero, suc, ◌+◌, ◌<◌, List, [], ◌∷◌, ◌++◌, length, map, take, drop, get_or, slice_set, Some, Result, Ok, ap, sym, ◌∙◌, subst, arith}
+-- Lists of which a slice holds as many items as fit.
+use Rattle.std.proofs.Common.{◌≡◌, ℕ, zero, suc, ◌+◌, ◌<◌, List, [], ◌∷◌, ◌++◌, length, map, take, drop, get_or, slice_set, Some, ap, sym, ◌∙◌, arith}
 use Rattle.std.specs.List.{slice_get}
-use Rattle.tiff_base.specs.declared.error.TiffError.{TiffError}
-use Rattle.tiff_base.specs.Answers.{◌>>=◌, Answers, AnswersWithoutSource}
-use Rattle.tiff_decode.specs.Machine.{Decoding}
-use Rattle.tiff_decode.specs.Opened.{opened_of}
-use Rattle.tiff_pages.specs.declared.pages.PageList.{PageList}
-use Rattle.tiff_pages.specs.declared.tree.DirectoryList.{DirectoryList}
-use Rattle.tiff_pages.specs.Pages.{pages_in, pages_of}
-use Rattle.tiff_pages.specs.Tree.{directories_in, directories_of}
-use Rattle.tiff_statuses.specs.Directories.{tree_of}
-use Rattle.tiff_statuses.specs.List.{list_of}
-use Rattle.tiff_statuses.proofs.Slices.{answer_here}
-
--- No read failed, so a result is that of the file.
-module _ {X Y : Type 0} (view : X → Y) (of : Decoding → Y) where
-  list_here : (file : List ℕ) (d : Decoding) (result : Result X TiffError) (before after : ℕ) → opened_of file 0 ≡ Ok d → Answers view result (Ok (of d)) before after
-      → before ≡ 0 → after ≡ 0 → AnswersWithoutSource view result (opened_of file 0 >>= λ x. Ok (of x))
-  list_here file d result before after h a b e =
-      let P : Result Y TiffError → Type 0 = λ g. AnswersWithoutSource view result g in
-      subst P (sym (ap (λ (r : Result Decoding TiffError). r >>= λ x. Ok (of x)) h)) (answer_here view (Ok (of d)) result before after a b e)
-
-pub pages_here : (file : List ℕ) (d : Decoding) (result : Result PageList TiffError) (before after : ℕ) → opened_of file 0 ≡ Ok d
-    → Answers pages_in result (Ok (pages_of d)) before after → before ≡ 0 → after ≡ 0 → AnswersWithoutSource pages_in result (list_of file)
-pages_here = list_here pages_in pages_of
-
-pub directories_here : (file : List ℕ) (d : Decoding) (result : Result DirectoryList TiffError) (before after : ℕ) → opened_of file 0 ≡ Ok d
-    → Answers directories_in result (Ok (directories_of d)) before after → before ≡ 0 → after ≡ 0 → AnswersWithoutSource directories_in result (tree_of file)
-directories_here = list_here directories_in directories_of
 
 -- ---- as many as there is room for
 

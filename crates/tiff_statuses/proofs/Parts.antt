@@ -1,13 +1,11 @@
 -- The parts of a file that aren't elsewhere in memory, put into a buffer one behind the other.
-use Rattle.std.proofs.Common.{◌≡◌, ℕ, ◌+◌, ◌≤◌, ◌⊎◌, inl, inr, List, [], ◌++◌, length, take, drop, Result, Ok, IfOk, refl, sym, ap, ap₂, subst, ◌∙◌, arith, length-append, append-nil, take_at, drop_at, drop-drop}
+use Rattle.std.proofs.Common.{◌≡◌, ℕ, ◌+◌, ◌≤◌, ◌⊎◌, inl, inr, List, ◌++◌, length, take, drop, Ok, refl, sym, ap, ap₂, subst, ◌∙◌, arith, length-append, append-nil, take_at, drop_at, drop-drop}
 use Rattle.std.proofs.lemmas.List.{take_all}
-use Rattle.tiff_base.specs.declared.error.TiffError.{TiffError}
-use Rattle.tiff_decode.specs.NextState.{view_of_result}
 use Rattle.tiff_statuses.specs.declared.frame.FrameLengths.{FrameLengths}
 use Rattle.tiff_statuses.specs.declared.frame.NewFile.{NewFile}
 use Rattle.tiff_statuses.specs.declared.frame.NewFile.TheVariants.{Around, Whole}
 use Rattle.tiff_statuses.specs.Frame.{IsAround, behind_of, file_of, front_of, samples_of}
-use Rattle.tiff_statuses.specs.Writer.{DeliversParts, PutsParts, joined_parts}
+use Rattle.tiff_statuses.specs.Writer.{DeliversParts, joined_parts}
 
 -- a file is its parts
 parts_of : (file : NewFile) → front_of file ++ (samples_of file ++ behind_of file) ≡ file_of file

@@ -22,7 +22,7 @@ use Rattle.tiff_base.specs.Answers.{◌>>=◌, Answers}
 use Rattle.tiff_base.specs.Directory.{directory_at}
 use Rattle.tiff_base.specs.Field.{DirectoryRecord, Field}
 use Rattle.tiff_base.specs.Header.{Header, header_at}
-use Rattle.tiff_base.specs.Tags.{method_number, method_of, format_number, format_of, type_number}
+use Rattle.tiff_base.specs.Tags.{method_number, method_of, format_number, format_of}
 use Rattle.tiff_base.specs.Named.{NamesComeBack, NumbersComeBack}
 use Rattle.tiff_base.proofs.Common.{bind_ok}
 use Rattle.tiff_ifd.specs.declared.limits.Limits.{Limits}

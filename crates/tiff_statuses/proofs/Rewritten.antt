@@ -1,5 +1,5 @@
 -- What a call without a value leaves, by its status.
-use Rattle.std.proofs.Common.{◌≡◌, ℕ, ◌+◌, ◌≤◌, List, ◌++◌, length, drop, Result, Ok, Err, OnErr, OnOk, refl, ap, sym, ◌∙◌}
+use Rattle.std.proofs.Common.{◌≡◌, ℕ, List, length, Result, Ok, Err, OnErr, OnOk, refl, ap, sym, ◌∙◌}
 use Rattle.tiff_base.specs.declared.error.TiffError.{TiffError}
 use Rattle.tiff_base.specs.Answers.{AnswersWithoutSource}
 use Rattle.tiff_base.specs.Answers.{◌>>=◌}
@@ -7,7 +7,7 @@ use Rattle.tiff_base.specs.SourceAndSink.{put}
 use Rattle.tiff_ifd.specs.Limits.{unlimited}
 use Rattle.tiff_pages.specs.declared.plan.PagePlan.{PagePlan}
 use Rattle.tiff_pages.specs.Plan.{read_planned}
-use Rattle.tiff_rewrite.specs.PlannedRewrite.{planned_fault, planned_place}
+use Rattle.tiff_rewrite.specs.PlannedRewrite.{planned_place}
 use Rattle.tiff_rewrite.proofs.ChunkPut.{first_passed}
 use Rattle.tiff_rewrite.proofs.PlannedShown.{plans_show_rewritten}
 use Rattle.tiff_statuses.specs.declared.plan.PlannedPage.{PlannedPage}

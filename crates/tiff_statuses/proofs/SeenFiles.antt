@@ -1,94 +1,15 @@
--- Lists of a file of which a caller has windows.
-use Rattle.std.proofs.Common.{◌≡◌, ◌∙◌, ◌⊎◌, ◌==◌, ℕ, ◌+◌, ◌≤◌, Bool, true, false, cond, List, ◌++◌, length, take, drop, Option, None, Some, IsSome, Result, Ok, Err, IfOk, refl, sym, ap, subst, arith, inl, inr}
+-- Calls on a file of which a caller has windows.
+use Rattle.std.proofs.Common.{◌≡◌, ◌∙◌, ◌⊎◌, ℕ, ◌≤◌, List, ◌++◌, length, take, drop, Option, None, Some, IsSome, Result, Ok, Err, IfOk, refl, sym, ap, subst, arith, inr}
 use Rattle.std.proofs.lemmas.Bool.{false≢true}
 use Rattle.std.proofs.lemmas.List.{length-take-le, take-append-drop}
-use Rattle.std.specs.Int.{w16}
 use Rattle.tiff_base.specs.declared.error.TiffError.{TiffError}
-use Rattle.tiff_base.specs.declared.error.TiffError.TheVariants.{FormatError, UnsupportedError, IoError, UsageError, LimitsExceeded, IntSizeError, OutOfMemory}
-use Rattle.tiff_base.specs.declared.io.IoKind.TheVariants.{UnexpectedEof, InvalidData, InvalidInput, WriteZero, Device}
-use Rattle.tiff_base.specs.Header.{order_at}
-use Rattle.tiff_base.specs.Number.{number_at}
-use Rattle.tiff_ifd.specs.Stretches.{HeaderReadable, header_len_of}
-use Rattle.tiff_base.specs.Answers.{◌>>=◌, Answers, AnswersBut, AnswersWithoutSource, AsksOnly, IsCause, IsNotDevice}
-use Rattle.tiff_base.specs.SourceAndSink.{AreReadable, SourceRecord, answers_for}
-use Rattle.tiff_decode.specs.Machine.{Decoding}
-use Rattle.tiff_decode.specs.Opened.{opened_of}
-use Rattle.tiff_pages.specs.declared.pages.PageList.{PageList}
-use Rattle.tiff_pages.specs.declared.tree.DirectoryList.{DirectoryList}
-use Rattle.tiff_pages.specs.Pages.{pages_in, pages_of}
-use Rattle.tiff_pages.specs.Tree.{directories_in, directories_of}
-use Rattle.tiff_statuses.specs.Directories.{tree_of}
-use Rattle.tiff_statuses.specs.List.{list_of}
+use Rattle.tiff_base.specs.Answers.{AnswersBut}
 use Rattle.tiff_base.specs.declared.windows.Stretch.{Stretch}
 use Rattle.tiff_base.specs.declared.windows.Windows.{Windows}
 use Rattle.tiff_statuses.specs.InWindows.{SeenTells, TellsBy, bytes_wanted, copied}
-use Rattle.tiff_base.specs.Windows.{AreWindowsOf, IsWanted, behind_windows, file_of, seen_by}
+use Rattle.tiff_base.specs.Windows.{AreWindowsOf, IsWanted, behind_windows, file_of}
 use Rattle.tiff_base.proofs.Causes.{cause_along}
 use Rattle.tiff_base.proofs.Seen.{same_file}
-use Rattle.tiff_statuses.proofs.Listed.{pages_here, directories_here}
-
-pages_unseen : (d : Decoding) → pages_of (record d { readable = None }) ≡ pages_of d
-pages_unseen d = refl
-
-directories_unseen : (d : Decoding) → directories_of (record d { readable = None }) ≡ directories_of d
-directories_unseen d = refl
-
-pub pages_seen : (file : List ℕ) (d : Decoding) (result : Result PageList TiffError) (before after : ℕ) → opened_of file 0 ≡ Ok (record d { readable = None })
-    → Answers pages_in result (Ok (pages_of d)) before after → before ≡ 0 → after ≡ 0 → AnswersWithoutSource pages_in result (list_of file)
-pages_seen file d result before after h a b e = pages_here file (record d { readable = None }) result before after h a b e
-
-pub directories_seen : (file : List ℕ) (d : Decoding) (result : Result DirectoryList TiffError) (before after : ℕ) → opened_of file 0 ≡ Ok (record d { readable = None })
-    → Answers directories_in result (Ok (directories_of d)) before after → before ≡ 0 → after ≡ 0 → AnswersWithoutSource directories_in result (tree_of file)
-directories_seen file d result before after h a b e = directories_here file (record d { readable = None }) result before after h a b e
-
--- what a source of the same windows wants
-pub wanted_seen : (file : List ℕ) (seen mine : Windows) (s : Stretch) → length file ≡ seen.len → length file ≡ mine.len
-    → (seen_by mine file).readable ≡ (seen_by seen file).readable → IsWanted mine s → IsWanted seen s
-wanted_seen file seen mine s l m e w = record {
-  some = w.some;
-  within = subst (λ n. s.offset + s.len ≤ n) (sym m ∙ l) w.within;
-  unseen = subst (λ r. answers_for r s.offset ≡ false) e w.unseen;
-}
-
--- ---- opening
-
-short : (b : Bool) → cond b 16 8 ≤ 16
-short true = omega arith
-short false = omega arith
-
-header_short : (r : Result ℕ TiffError) → header_len_of r ≤ 16
-header_short (Ok version) = short (version == 43)
-header_short (Err e) = omega arith
-
-pub header_readable : (source : SourceRecord) → AreReadable source 0 16 → HeaderReadable source
-header_readable source h k low high = h k low (omega (arith, high, header_short (order_at source.bytes >>= (λ order. number_at order w16 source.bytes 2))))
-
--- an error that isn't the device's
-not_device : (wanting failed : Type 0) (e : TiffError) (given : Type 0) → IsNotDevice e → IsCause wanting failed e given → IsCause wanting ⊥ e given
-not_device wanting failed OutOfMemory given n h = h
-not_device wanting failed (IoError Device) given n h = n
-not_device wanting failed (IoError UnexpectedEof) given n h = h
-not_device wanting failed (IoError InvalidData) given n h = h
-not_device wanting failed (IoError InvalidInput) given n h = h
-not_device wanting failed (IoError WriteZero) given n h = h
-not_device wanting failed (FormatError x) given n h = h
-not_device wanting failed (UnsupportedError x) given n h = h
-not_device wanting failed (UsageError x) given n h = h
-not_device wanting failed LimitsExceeded given n h = h
-not_device wanting failed IntSizeError given n h = h
-
-pub opened_seen : (file : List ℕ) (source : SourceRecord) (failed : ℕ) (fails : Type 0) (result : Result Decoding TiffError) → failed ≡ 0
-    → AnswersBut (Unit {0}) fails (λ (d : Decoding). record d { readable = None; failures = failed }) result (opened_of file failed)
-    → IfOk result (λ d. d.failures ≡ failed) → AsksOnly (HeaderReadable source) result → AreReadable source 0 16
-    → AnswersWithoutSource (λ (d : Decoding). record d { readable = None }) result (opened_of file 0)
-opened_seen file source failed fails (Ok d) z a f asks h =
-    subst (λ n. opened_of file n ≡ Ok (record d { readable = None; failures = n })) z a
-    ∙ ap (λ n. Ok (record d { readable = None; failures = n })) (sym z ∙ sym f)
-opened_seen file source failed fails (Err e) z a f asks h =
-    not_device (Unit {0}) fails e (opened_of file 0 ≡ Err e) (asks (header_readable source h))
-    (subst (λ n. IsCause (Unit {0}) fails e (opened_of file n ≡ Err e)) z a)
-
--- ---- the whole call
 
 in_order_by : (b : Option ℕ) (seen : Windows) (status : ℕ) (wanted : Stretch) (stays told : Type 0) → IsSome b
     → ((status ≡ bytes_wanted) × (IsWanted seen wanted × stays)) ⊎ told → TellsBy b seen status wanted stays told

@@ -1,11 +1,11 @@
 -- A decoder whose reads never fail: its results are those of the file, unless memory is out.
-use Rattle.std.proofs.Common.{◌≡◌, ℕ, ◌<◌, true, Result, Ok, Err, arith, OnOk}
+use Rattle.std.proofs.Common.{◌≡◌, ℕ, ◌<◌, true, Result, Ok, Err, ap, arith, OnOk}
 use Rattle.tiff_base.specs.declared.error.TiffError.{TiffError}
 use Rattle.tiff_base.specs.declared.error.TiffError.TheVariants.{FormatError, UnsupportedError, IoError, UsageError, LimitsExceeded, IntSizeError, OutOfMemory}
 use Rattle.tiff_base.specs.declared.io.IoKind.TheVariants.{UnexpectedEof, InvalidData, InvalidInput, WriteZero, Device}
 use Rattle.tiff_base.specs.Answers.{Answers, AnswersBut, AnswersWithoutMemory, AnswersWithoutSource}
 use Rattle.tiff_decode.specs.Outcome.{next_image}
-use Rattle.tiff_decode.specs.Machine.{Decoding, Follows, FollowsBut, Outcome, Refused}
+use Rattle.tiff_decode.specs.Machine.{Decoding, Follows, FollowsBut, Outcome, Refused, source_of}
 
 not_more : (m n : ℕ) → m ≡ 0 → n ≡ 0 → m < n → ⊥
 not_more m n a b h = omega (arith, a, b, h)
@@ -33,6 +33,24 @@ pub gone : {X Y : Type 0} → (view : X → Y) → (o : Outcome Y) → (result :
     → old.failures ≡ 0 → new.failures ≡ 0 → OnOk result (new ≡ record old { state = o.next })
 gone view o (Ok x) old new f a b = f.at
 gone view o (Err e) old new f a b = tt
+
+-- The source of a decoder is the same after a call.
+source_refused : {Y : Type 0} → (wanting : Type 0) (o : Outcome Y) → (e : TiffError) → (old new : Decoding) → Refused wanting e o old new → source_of new ≡ source_of old
+source_refused wanting o OutOfMemory old new r = ap source_of r.1
+source_refused wanting o (IoError Device) old new r = ap source_of r.at.stands
+source_refused wanting o (IoError UnexpectedEof) old new r = ap source_of r.at
+source_refused wanting o (IoError InvalidData) old new r = ap source_of r.at
+source_refused wanting o (IoError InvalidInput) old new r = ap source_of r.at
+source_refused wanting o (IoError WriteZero) old new r = ap source_of r.at
+source_refused wanting o (FormatError x) old new r = ap source_of r.at
+source_refused wanting o (UnsupportedError x) old new r = ap source_of r.at
+source_refused wanting o (UsageError x) old new r = ap source_of r.at
+source_refused wanting o LimitsExceeded old new r = ap source_of r.at
+source_refused wanting o IntSizeError old new r = ap source_of r.at
+
+pub source_stays : {X Y : Type 0} → (view : X → Y) → (o : Outcome Y) → (result : Result X TiffError) → (old new : Decoding) → Follows view o result old new → source_of new ≡ source_of old
+source_stays view o (Ok x) old new f = ap source_of f.at
+source_stays view o (Err e) old new f = source_refused (Unit {0}) o e old new f
 
 -- The result of a call that allocates only where there is a next page.
 pub next_here : (result : Result (Unit {0}) TiffError) → (old new : Decoding) → FollowsBut (old.state.more ≡ true) (λ x. x) (next_image old) result old new

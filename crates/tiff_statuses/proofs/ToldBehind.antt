@@ -1,5 +1,5 @@
 -- What C gets for pages behind a file.
-use Rattle.std.proofs.Common.{◌≡◌, ◌⊎◌, inl, inr, ℕ, List, Result, Ok, Err}
+use Rattle.std.proofs.Common.{◌≡◌, ◌⊎◌, inr, ℕ, List, Result, Ok, Err}
 use Rattle.tiff_base.specs.declared.error.TiffError.{TiffError}
 use Rattle.tiff_statuses.specs.declared.appended.Appended.{Appended}
 use Rattle.tiff_statuses.specs.declared.appended.BehindFile.{BehindFile}

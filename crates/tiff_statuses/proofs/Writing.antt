@@ -1,5 +1,5 @@
 -- A file that an encoder wrote into memory shows its image.
-use Rattle.std.proofs.Common.{◌≡◌, ℕ, ◌%◌, ◌<◌, ◌⊎◌, inl, inr, Bool, true, false, List, [], length, get_or, Fits, w8, arith, None, Some, Result, Ok, Err, refl, sym, ap, subst, ◌∙◌, lit<}
+use Rattle.std.proofs.Common.{◌≡◌, ℕ, ◌%◌, ◌<◌, ◌⊎◌, inl, inr, Bool, true, false, List, [], length, get_or, Fits, w8, None, Some, Result, Ok, Err, refl, sym, ap, subst, ◌∙◌, lit<}
 use Rattle.tiff_base.specs.declared.error.TiffError.{TiffError}
 use Rattle.std.specs.Prelude.{◌==◌, if◌then◌else◌}
 use Rattle.tiff_base.specs.declared.error.TiffError.TheVariants.{OutOfMemory, UsageError}

@@ -1,16 +1,17 @@
 -- Pages that C passes behind a file that is there: what the library writes, and what C gets.
-use Rattle.std.specs.Prelude.{◌≡◌, ◌⊎◌, ℕ, ◌==◌, List, [], map, if◌then◌else◌, Option, Result, Ok, Err}
+use Rattle.std.specs.Prelude.{◌≡◌, ◌⊎◌, ℕ, ◌==◌, List, [], length, if◌then◌else◌, Result, Ok, Err}
+use Rattle.std.specs.declared.alloc.Global.{Global}
+use Rattle.std.specs.declared.vec.Vec.{Vec}
 use Rattle.tiff_base.specs.declared.error.TiffError.{TiffError}
 use Rattle.tiff_base.specs.declared.error.TiffError.TheVariants.{OutOfMemory}
 use Rattle.tiff_base.specs.declared.tags.ByteOrder.TheVariants.{LittleEndian}
 use Rattle.tiff_base.specs.declared.tags.FileKind.{FileKind}
 use Rattle.tiff_base.specs.Directory.{offset_width}
 use Rattle.tiff_base.specs.Number.{number}
-use Rattle.tiff_encode.specs.declared.encoder.script.Job.{Job}
 use Rattle.tiff_encode.specs.declared.encoder.script.JobReply.{JobReply}
 use Rattle.tiff_encode.specs.FileBytes.{offset_len}
 use Rattle.tiff_append.specs.declared.last_link.LastLink.{LastLink}
-use Rattle.tiff_append.specs.Behind.{RunsBehind}
+use Rattle.tiff_append.specs.Behind.{RunsAt, added_to}
 use Rattle.tiff_append.specs.LastLink.{last_link}
 use Rattle.tiff_statuses.specs.declared.appended.Appended.{Appended}
 use Rattle.tiff_statuses.specs.declared.appended.BehindFile.{BehindFile}
@@ -18,41 +19,57 @@ use Rattle.tiff_statuses.specs.declared.pages.NewPage.{NewPage}
 use Rattle.tiff_statuses.specs.declared.pages.PagesAnswer.{PagesAnswer}
 use Rattle.tiff_statuses.specs.declared.pages.PagesAnswer.TheVariants.{Refused, Ran}
 use Rattle.tiff_statuses.specs.declared.pages.PagesEnd.{PagesEnd}
-use Rattle.tiff_statuses.specs.Jobs.{first_refused, refused_step}
-use Rattle.tiff_statuses.specs.Pages.{IsOutAt, TellsPages, job_view, jobs_of_pages, no_page, refused_field}
+use Rattle.tiff_statuses.specs.declared.pages.PagesJobs.{PagesJobs}
+use Rattle.tiff_statuses.specs.declared.pages.WrittenPages.{WrittenPages}
+use Rattle.tiff_statuses.specs.Pages.{IsOutAt, LeftPages, PagesGoOn, TellsPages, jobs_of_pages, no_page, pages_view, refused_in}
 use Rattle.tiff_statuses.specs.Status.{fault_number}
 
 -- ---- what is written
 
--- The jobs, run by `run_jobs_in` with an encoder that goes on behind a file, give the last link of
--- the file, at q, these bytes, and put more bytes behind the file; `refused` is the first of the
--- jobs that had an error, counted from 1, and `step` is the step that had it.
-pub record RanBehind (kind : FileKind) (file : List ℕ) (q : ℕ) (jobs : List Job)
-    (link more : List ℕ) (refused : Option (ℕ × ℕ)) (step : Option ℕ) : Type 0 where
+-- The jobs of the pages in the chain are run with an encoder that goes on behind a file at its last
+-- link, at q, and then the other pages, whose links are behind the file.
+pub record RanBehind (kind : FileKind) (file : List ℕ) (q : ℕ) (pages : PagesJobs)
+    (outcome : Result LeftPages TiffError) : Type 0 where
+  pub left : List ℕ
   pub replies : List JobReply
-  pub runs : RunsBehind kind file q jobs [] replies link more
-  pub refused_is : refused ≡ first_refused 1 replies
-  pub step_is : step ≡ refused_step replies refused
+  pub runs : RunsAt kind file q pages.chain.items [] replies left
+  pub goes_on : PagesGoOn kind (length file) q pages left
+      (refused_in pages.numbers.items pages.chain.items replies) outcome
 
--- The jobs of the pages were run behind a file, `target` is the number that its last link gets, and
--- `field` is that of the step that was refused; or the first page and field that are refused are
--- known, or at which memory was out, and no job was run.
-abbrev pub AnswersBehind : FileKind → List ℕ → ℕ → List NewPage → ℕ → PagesAnswer → Type 0
-AnswersBehind kind file q pages target (Ran ran field) =
-    (jobs : List Job) × ((link : List ℕ)
-    × ((jobs_of_pages pages ≡ Ok (map job_view jobs))
-    × (RanBehind kind file q jobs link ran.file.items ran.refused ran.step
+-- The bytes over the last link and behind the file, with the page that was refused, are an outcome
+-- of the pages; or memory is out, or the pages end by an error.
+abbrev pub EndsBehind : FileKind → List ℕ → ℕ → PagesJobs
+    → Result (Vec ℕ Global × WrittenPages) TiffError → Type 0
+EndsBehind kind file q pages (Ok (link, more)) = (length link.items ≡ offset_len kind)
+    × RanBehind kind file q pages (Ok (added_to file q link.items more.file.items, more.refused))
+EndsBehind kind file q pages (Err e) = (e ≡ OutOfMemory) ⊎ RanBehind kind file q pages (Err e)
+
+-- The jobs of the pages were run behind a file.
+abbrev pub RunsBehind : FileKind → List ℕ → ℕ → List NewPage → Result LeftPages TiffError → Type 0
+RunsBehind kind file q pages outcome = (jobs : PagesJobs)
+    × ((jobs_of_pages kind pages ≡ Ok (pages_view jobs)) × RanBehind kind file q jobs outcome)
+
+-- The jobs of the pages were run behind a file: they leave it with these bytes over its last link,
+-- which are the number `target`, and more bytes behind it. Or the first page and field that are
+-- refused are known, or at which memory was out, and no job was run.
+abbrev pub AnswersBehind : FileKind → List ℕ → ℕ → List NewPage → Result (ℕ × PagesAnswer) TiffError
+    → Type 0
+AnswersBehind kind file q pages (Ok (target, Ran ran)) = (link : List ℕ)
+    × ((length link ≡ offset_len kind)
     × ((target ≡ number LittleEndian (offset_width kind) link)
-    × (field ≡ refused_field jobs ran.refused ran.step)))))
-AnswersBehind kind file q pages target (Refused page refusal) =
-    IsOutAt refusal ⊎ (jobs_of_pages pages ≡ Err (page, refusal))
+    × RunsBehind kind file q pages (Ok (added_to file q link ran.file.items, ran.refused))))
+AnswersBehind kind file q pages (Ok (target, Refused page refusal)) =
+    IsOutAt refusal ⊎ (jobs_of_pages kind pages ≡ Err (page, refusal))
+AnswersBehind kind file q pages (Err e) = (e ≡ OutOfMemory) ⊎ RunsBehind kind file q pages (Err e)
 
 -- the answer to pages behind a file: behind its last link; or the error of the file, or out of
 -- memory
 abbrev pub AnswersAppend : List ℕ → List NewPage → Result BehindFile TiffError → Type 0
 AnswersAppend file pages (Ok b) = (last_link file ≡ Ok b.place)
-    × AnswersBehind b.place.kind file b.place.at pages b.target b.pages
-AnswersAppend file pages (Err e) = (e ≡ OutOfMemory) ⊎ (last_link file ≡ Err e)
+    × AnswersBehind b.place.kind file b.place.at pages (Ok (b.target, b.pages))
+AnswersAppend file pages (Err e) = (e ≡ OutOfMemory) ⊎ ((last_link file ≡ Err e)
+    ⊎ ((place : LastLink) × ((last_link file ≡ Ok place)
+    × AnswersBehind place.kind file place.at pages (Err e))))
 
 -- ---- what C gets
 

@@ -2,14 +2,12 @@
 use Rattle.std.specs.Prelude.{◌⊎◌, ℕ, List, map, Option, None, Some, Result, Ok, Err}
 use Rattle.tiff_base.specs.declared.error.TiffError.{TiffError}
 use Rattle.tiff_base.specs.declared.error.TiffError.TheVariants.{OutOfMemory}
-use Rattle.tiff_base.specs.Answers.{◌>>=◌}
 use Rattle.tiff_base.specs.Tags.{tag_number}
-use Rattle.tiff_decode.specs.Opened.{opened_of}
 use Rattle.tiff_pages.specs.declared.tree.DirectoryItem.{DirectoryItem}
 use Rattle.tiff_pages.specs.declared.tree.Found.{Found}
 use Rattle.tiff_pages.specs.declared.tree.Found.TheVariants.{Directory, DirectoryError, ValuesError, Met, TooDeep}
 use Rattle.tiff_pages.specs.declared.tree.NamedBy.{NamedBy}
-use Rattle.tiff_pages.specs.Tree.{Directories, directories_of}
+use Rattle.tiff_pages.specs.Tree.{Directories}
 use Rattle.tiff_statuses.specs.declared.directories.ListedDirectory.{ListedDirectory}
 use Rattle.tiff_statuses.specs.declared.list.ListedPage.{ListedPage}
 use Rattle.tiff_statuses.specs.List.{ListsAll, ListsNone, no_page, page_told}
@@ -61,12 +59,6 @@ directory_told item = record {
   status = found_status item.found;
   page = found_page item.place.0 item.found;
 }
-
--- the directories of a file, and how their chain ends; or the error of its header
-abbrev pub tree_of : List ℕ → Result Directories TiffError
-tree_of file = do
-  d ← opened_of file 0
-  Ok (directories_of d)
 
 -- what the call returns and leaves: all directories, or none since memory is out; or none for the
 -- error of the file

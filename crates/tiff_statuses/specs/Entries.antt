@@ -8,7 +8,7 @@ use Rattle.tiff_base.specs.declared.tags.FileKind.{FileKind}
 use Rattle.tiff_base.specs.Answers.{◌>>=◌}
 use Rattle.tiff_base.specs.Directory.{offset_width}
 use Rattle.tiff_base.specs.Field.{Field, DirectoryRecord}
-use Rattle.tiff_base.specs.Header.{Header, header_at}
+use Rattle.tiff_base.specs.Header.{header_at}
 use Rattle.tiff_base.specs.Tags.{type_number}
 use Rattle.tiff_base.specs.FieldBytes.{field_len, field_offset}
 use Rattle.tiff_statuses.specs.declared.entries.TagEntry.{TagEntry}

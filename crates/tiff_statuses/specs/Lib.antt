@@ -9,6 +9,7 @@ pub mod Frame
 pub mod Zeros
 pub mod Entries
 pub mod Pages
+pub mod Parents
 pub mod Directories
 pub mod Appended
 pub mod Plan

@@ -3,12 +3,10 @@ use Rattle.std.specs.Prelude.{◌≡◌, ◌⊎◌, ℕ, ◌++◌, List, drop, l
 use Rattle.tiff_base.specs.declared.color.ColorType.{ColorType}
 use Rattle.tiff_base.specs.declared.error.TiffError.{TiffError}
 use Rattle.tiff_base.specs.declared.error.TiffError.TheVariants.{OutOfMemory}
-use Rattle.tiff_base.specs.Answers.{◌>>=◌}
 use Rattle.tiff_base.specs.Tags.{method_number}
-use Rattle.tiff_decode.specs.Opened.{opened_of}
 use Rattle.tiff_pages.specs.declared.pages.PageFacts.{PageFacts}
 use Rattle.tiff_pages.specs.declared.pages.PageItem.{PageItem}
-use Rattle.tiff_pages.specs.Pages.{Pages, pages_of}
+use Rattle.tiff_pages.specs.Pages.{Pages}
 use Rattle.tiff_statuses.specs.declared.calls.Color.{Color}
 use Rattle.tiff_statuses.specs.declared.list.ListedPage.{ListedPage}
 use Rattle.tiff_statuses.specs.Calls.{chunk_number, color_by}
@@ -61,12 +59,6 @@ item_told item = page_told item.place.0 item.page
 -- a slice with as many of these items in front as fit; what is behind them stays
 abbrev pub filled : {A : Type 0} → List A → List A → List A
 filled items old = take (length old) items ++ drop (length items) old
-
--- the pages of a file, and how their chain ends; or the error of its header
-abbrev pub list_of : List ℕ → Result Pages TiffError
-list_of file = do
-  d ← opened_of file 0
-  Ok (pages_of d)
 
 -- the number of the error by which a chain ends; 0 for none
 abbrev pub end_status : Option TiffError → ℕ

@@ -1,24 +1,24 @@
 //! Pages behind a file that is there, whose parameters, tags and samples C passes.
 
-ghost use Rattle.std.specs.Prelude.{◌≡◌, ◌+◌, ◌≤◌, length, MatchResult};
-ghost use Rattle.tiff_base.specs.declared.error.TiffError.TheVariants.{OutOfMemory};
+ghost use Rattle.std.specs.Prelude.{◌≡◌, ◌+◌, ◌≤◌, length};
 ghost use Rattle.tiff_base.specs.declared.tags.ByteOrder.TheVariants.{LittleEndian};
 ghost use Rattle.tiff_base.specs.Directory.{offset_width};
 ghost use Rattle.tiff_base.specs.Number.{number};
 ghost use Rattle.tiff_encode.specs.FileBytes.{offset_len};
-ghost use Rattle.tiff_statuses.specs.Appended.{AnswersAppend, AnswersBehind, RanBehind, TellsAppended, appended_to};
+ghost use Rattle.tiff_statuses.specs.Appended.{AnswersAppend, AnswersBehind, EndsBehind, TellsAppended, appended_to};
 
-use crate::jobs::{Ran, let_go, ran_of};
-use crate::pages::{NO_PAGE, NewPage, PagesAnswer, PagesEnd, jobs_of, refused_field, tell_pages};
+use crate::pages::{
+    NO_PAGE, NewPage, PagesAnswer, PagesEnd, PagesJobs, WrittenPages, jobs_of, tell_pages,
+};
+use crate::parents::{Links, go_on, run_jobs_at};
 use crate::status::fault_number;
 use std::alloc::Global;
 use tiff_append::last_link::{LastLink, last_link, link_size};
-use tiff_append::run::run_behind;
-use tiff_append::sink::Addition;
-use tiff_base::error::TiffResult;
+use tiff_append::sink::{Addition, BehindSink};
+use tiff_base::error::{TiffError, TiffResult};
 use tiff_base::read::{u32_in, u64_in};
 use tiff_base::tags::{ByteOrder, FileKind};
-use tiff_encode::encoder::script::Job;
+use tiff_encode::encoder::{TiffKind, TiffKindBig, TiffKindStandard};
 
 /// What a file gets: how many bytes behind it; the offset of its last link, the number that the link
 /// gets, and of how many bytes, the lowest first; and where the list of pages was refused.
@@ -61,28 +61,64 @@ fn number_of(kind: FileKind, link: &[u8]) -> u64
     }
 }
 
-// Runs jobs behind a file, and returns the bytes of its last link, and what the jobs left behind it.
+// Runs the jobs of pages behind a file of the kind `K` whose last link is at an offset. Returns the
+// bytes of that link, and what the pages left behind the file.
+#[tactic(auto, using(tiff_append::proofs::Behind::out_of_memory, crate::proofs::BehindRan::fails_behind))]
+fn run_at_kind<K: TiffKind>(
+    alloc: Global,
+    file: &[u8],
+    at: u64,
+    jobs: &PagesJobs<'_>,
+) -> TiffResult<(Vec<u8>, WrittenPages)>
+    requires { at + offset_len K.kind ≤ length file.now }
+    ensures { EndsBehind K.kind file.now at jobs.now result }
+{
+    let kind = K::file_kind();
+    let (len, size) = (file.len(), link_size(kind));
+    let sink = BehindSink::new(alloc, file, at as usize, size)?;
+    let (sink, refused) = run_jobs_at::<BehindSink<'_>, K>(
+        alloc,
+        sink,
+        at,
+        &jobs.numbers,
+        &jobs.chain,
+    )?;
+    let links = Links {
+        kind,
+        first: at,
+        floor: len as u64,
+    };
+    let (sink, refused) = go_on::<BehindSink<'_>, K>(alloc, links, sink, refused, jobs)?;
+    match sink.into_addition(len, at as usize, size) {
+        Some(Addition { link, more }) => Ok((
+            link,
+            WrittenPages {
+                file: more,
+                refused,
+            },
+        )),
+        // The sink still has this file and this link; no contract says so.
+        None => Err(TiffError::OutOfMemory),
+    }
+}
+
+// Runs the jobs of pages behind a file.
 fn run_at(
     alloc: Global,
     file: &[u8],
     place: LastLink,
-    jobs: &[Job<'_>],
-) -> TiffResult<(Vec<u8>, Ran)>
+    jobs: &PagesJobs<'_>,
+) -> TiffResult<(Vec<u8>, WrittenPages)>
     requires { place.at + offset_len place.kind ≤ length file.now }
-    ensures { MatchResult result (λ r. RanBehind place.kind file.now place.at jobs.now r.0.items
-        r.1.file.items r.1.refused r.1.step) (λ e. e ≡ OutOfMemory) }
+    ensures { EndsBehind place.kind file.now place.at jobs.now result }
 {
-    let mut replies = Vec::new(alloc);
-    match run_behind(alloc, file, place, jobs, &mut replies) {
-        Ok(Addition { link, more }) => Ok((link, ran_of(more, replies))),
-        Err(fault) => {
-            let_go(replies);
-            Err(fault)
-        }
+    match place.kind {
+        FileKind::Classic => run_at_kind::<TiffKindStandard>(alloc, file, place.at, jobs),
+        FileKind::Big => run_at_kind::<TiffKindBig>(alloc, file, place.at, jobs),
     }
 }
 
-// Runs the jobs of pages behind a file, unless a page is refused. Its only error is `OutOfMemory`.
+// Runs the jobs of pages behind a file, unless a page is refused.
 fn run_pages_at(
     alloc: Global,
     file: &[u8],
@@ -90,21 +126,19 @@ fn run_pages_at(
     pages: &[NewPage<'_>],
 ) -> TiffResult<(u64, PagesAnswer)>
     requires { place.at + offset_len place.kind ≤ length file.now }
-    ensures { MatchResult result (λ r. AnswersBehind place.kind file.now place.at pages.now r.0 r.1)
-        (λ e. e ≡ OutOfMemory) }
+    ensures { AnswersBehind place.kind file.now place.at pages.now result }
 {
-    match jobs_of(alloc, pages) {
+    match jobs_of(alloc, place.kind, pages) {
         Ok(jobs) => {
-            let (link, ran) = run_at(alloc, file, place, &jobs)?;
-            let target = number_of(place.kind, &link);
-            let field = refused_field(&jobs, &ran);
-            Ok((target, PagesAnswer::Ran(ran, field)))
+            let (link, written) = run_at(alloc, file, place, &jobs)?;
+            Ok((number_of(place.kind, &link), PagesAnswer::Ran(written)))
         }
         Err((page, refusal)) => Ok((0, PagesAnswer::Refused(page, refusal))),
     }
 }
 
-/// Runs the jobs of pages behind a file. Returns the errors of `last_link`, or `OutOfMemory`.
+/// Runs the jobs of pages behind a file. Errors: those of `last_link`; `OutOfMemory`; the one of a
+/// parent's directory that can't be read.
 pub fn run_appended(alloc: Global, file: &[u8], pages: &[NewPage<'_>]) -> TiffResult<BehindFile>
     ensures { AnswersAppend file.now pages.now result }
 {

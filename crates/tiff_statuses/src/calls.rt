@@ -7,6 +7,7 @@ ghost use Rattle.tiff_base.specs.Color.{num_samples};
 ghost use Rattle.tiff_base.specs.declared.error.TiffError.TheVariants.{FormatError};
 ghost use Rattle.tiff_base.specs.declared.error.TiffFormatError.TheVariants.{RequiredTagNotFound};
 ghost use Rattle.tiff_ifd.specs.TagLookup.{ok_or_fault};
+ghost use Rattle.tiff_decode.specs.Machine.{source_of};
 ghost use Rattle.tiff_decode.specs.Opened.{opened_of};
 ghost use Rattle.tiff_decode.specs.Outcome as outcome;
 ghost use Rattle.tiff_decode.specs.Reader.{reader_of};
@@ -287,6 +288,7 @@ fn chunk_here(
     ensures answer { AnswersWithoutSource (λ _. buffer.new) result
         (outcome.read_chunk_bytes decoder.old chunk buffer.old).answer }
     ensures stays { OnOk result (decoder.new ≡ decoder.old) }
+    ensures source { source_of decoder.new ≡ source_of decoder.old }
 {
     never_failed(decoder);
     let answer = decoder.read_chunk_bytes(chunk, buffer);
@@ -312,6 +314,11 @@ pub fn chunk_bytes(
 
 impl ReadsChunks for Decoder<SliceSource<'_>> {
     ghost reading = { calls.page_reading };
+
+    ghost told = { source_of };
+
+    // No read of a slice fails.
+    ghost failures = { λ _. 0 };
 
     #[tactic(auto, unfolding(tiff_decode::specs::Outcome::image_chunk_buffer_layout))]
     fn len_of(&mut self, chunk: u32) -> TiffResult<usize> {

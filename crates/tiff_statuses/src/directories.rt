@@ -3,6 +3,7 @@
 ghost use Rattle.std.specs.Prelude.{◌≡◌, Result, map};
 ghost use Rattle.tiff_base.specs.declared.error.TiffError.{TiffError};
 ghost use Rattle.tiff_base.specs.Answers.{AnswersWithoutSource};
+ghost use Rattle.tiff_pages.specs.OfFile.{tree_of};
 ghost use Rattle.tiff_pages.specs.Tree.{Directories, directories_in};
 ghost use Rattle.tiff_statuses.specs.Directories as spec;
 ghost use Rattle.tiff_statuses.specs.List.{filled};
@@ -124,9 +125,9 @@ fn fill(out: &mut [ListedDirectory], items: &[DirectoryItem])
 }
 
 // Opens a file and lists its directories.
-#[tactic(auto, using(crate::proofs::Listed::directories_here))]
+#[tactic(auto, using(tiff_pages::proofs::SeenFiles::directories_here))]
 fn list_directories(alloc: Global, file: &[u8]) -> TiffResult<DirectoryList>
-    ensures { AnswersWithoutSource directories_in result (spec.tree_of file.now) }
+    ensures { AnswersWithoutSource directories_in result (tree_of file.now) }
 {
     let mut decoder = open(alloc, file)?;
     never_failed(&decoder);
@@ -162,7 +163,7 @@ pub fn tell_directories(
 /// the file isn't opened or memory is out, it returns the number of that error. `count` is then 0,
 /// and `out` is as it was.
 pub fn list_tree(alloc: Global, file: &[u8], out: &mut [ListedDirectory], count: &mut usize) -> u32
-    ensures { spec.TreeTells (spec.tree_of file.now) result out.old out.new count.new }
+    ensures { spec.TreeTells (tree_of file.now) result out.old out.new count.new }
 {
     *count = 0;
     tell_directories(list_directories(alloc, file), out, count)

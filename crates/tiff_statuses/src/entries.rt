@@ -28,8 +28,8 @@ pub struct TagEntry {
     pub in_place: u32,
 }
 
-// Whether the values of a field are in its entry.
-fn is_in_place(kind: FileKind, entry: &Entry) -> bool
+/// Whether the values of a field are in its entry.
+pub(crate) fn is_in_place(kind: FileKind, entry: &Entry) -> bool
     ensures { result ≡ spec.is_in_place kind entry.now }
 {
     let len = entry
@@ -41,9 +41,9 @@ fn is_in_place(kind: FileKind, entry: &Entry) -> bool
     }
 }
 
-// The offset of the values of a field that are elsewhere in the file; 0 for others.
+/// The offset of the values of a field that are elsewhere in the file; 0 for others.
 #[tactic(auto, unfolding(tiff_base::specs::Number::number))]
-fn values_at(kind: FileKind, order: ByteOrder, entry: &Entry) -> u64
+pub(crate) fn values_at(kind: FileKind, order: ByteOrder, entry: &Entry) -> u64
     ensures { result ≡ spec.values_at kind order entry.now }
 {
     if is_in_place(kind, entry) {

@@ -3,19 +3,14 @@
 ghost use Rattle.std.specs.Prelude.{◌≡◌, ◌⊎◌, ◌<◌, ◌≤◌, ◌^◌, ℕ, List, drop, length, take, None, Some, IfOk, IfSome, MatchResult, OnErr};
 ghost use Rattle.std.specs.FinMap.{get};
 ghost use Rattle.tiff_base.specs.Answers.{AnswersWithoutMemory, AnswersWithoutSource, Gives, IsKept};
-ghost use Rattle.tiff_base.specs.SourceAndSink.{AreReadable};
-ghost use Rattle.tiff_base.specs.Windows.{AreWindowsOf, IsWanted, seen_by};
+ghost use Rattle.tiff_base.specs.Windows.{AreWindowsOf, IsWanted};
 ghost use Rattle.tiff_ifd.specs.TagLookup.{ok_or_fault};
 ghost use Rattle.tiff_ifd.specs.TagQueries.{part_of_field};
-ghost use Rattle.tiff_decode.specs.Machine.{Decoding};
-ghost use Rattle.tiff_decode.specs.Opened.{opened_of};
-ghost use Rattle.tiff_pages.specs.Pages.{pages_in};
-ghost use Rattle.tiff_pages.specs.Plan.{read_planned};
-ghost use Rattle.tiff_pages.specs.Tree.{directories_in};
-ghost use Rattle.tiff_statuses.specs.Directories.{TreeTells, tree_of};
+ghost use Rattle.tiff_pages.specs.OfFile.{list_of, tree_of};
+ghost use Rattle.tiff_statuses.specs.Directories.{TreeTells};
 ghost use Rattle.tiff_statuses.specs.InWindows as spec;
 ghost use Rattle.tiff_statuses.specs.InWindows.{SeenTells};
-ghost use Rattle.tiff_statuses.specs.List.{ListTells, list_of};
+ghost use Rattle.tiff_statuses.specs.List.{ListTells};
 ghost use Rattle.tiff_statuses.specs.Plan as plans;
 ghost use Rattle.tiff_statuses.specs.Status.{StatusPuts, StatusTells};
 
@@ -23,8 +18,9 @@ use crate::directories::{ListedDirectory, tell_directories};
 use crate::entries::{TagEntry, entries_told};
 use crate::list::{ListedPage, tell_pages};
 use crate::plan::{
-    PageDirectory, PlannedPage, find_plan, found_numbers, page_directory, plan_from,
+    PageDirectory, PlannedPage, find_plan, found_numbers, page_directory, planned_by,
 };
+use crate::range::{ReadsChunks, chunks_from};
 use crate::status::{Status, done, given};
 use crate::values::fill;
 use std::alloc::Global;
@@ -35,85 +31,10 @@ use tiff_base::io::Source;
 use tiff_base::laws::numbers_come_back;
 use tiff_base::tags::Tag;
 use tiff_base::windows::{OrderedWindows, SeenFile, Stretch, WindowSource, Windows};
-use tiff_decode::decoder::Decoder;
 use tiff_ifd::field_reader::FieldReader;
 use tiff_ifd::limits::Limits;
-use tiff_pages::pages::{PageList, pages};
-use tiff_pages::plan::{PagePlan, PlanReader};
-use tiff_pages::tree::{DirectoryList, directories};
-
-// The most bytes of a header.
-const HEADER_LEN: u64 = 16;
-
-// A decoder before the first page of a file whose header the windows have.
-fn open_seen<'a, F: SeenFile>(
-    alloc: Global,
-    seen: &OrderedWindows<'a>,
-) -> TiffResult<Decoder<WindowSource<'a, F>>>
-    requires of { AreWindowsOf F.bytes seen.now.seen }
-    requires header { AreReadable (seen_by seen.now.seen F.bytes) 0 16 }
-    ensures answer { AnswersWithoutSource (λ (d : Decoding). record d { readable = None }) result
-        (opened_of F.bytes 0) }
-    ensures readable { IfOk result (λ d. d.readable ≡ (seen_by seen.now.seen F.bytes).readable) }
-    ensures failures { IfOk result (λ d. d.failures ≡ 0) }
-{
-    Decoder::open(alloc, WindowSource::<F>::new(seen))
-}
-
-// Returns an answer, or the bytes that were wanted for it.
-fn unless_wanted<T: Drop>(
-    answer: TiffResult<T>,
-    wanted: Option<Stretch>,
-) -> Result<TiffResult<T>, Stretch>
-    ensures { MatchResult result (λ told. (told ≡ answer) × (wanted ≡ None)) (λ s. wanted ≡ Some s) }
-{
-    match wanted {
-        Some(wanted) => Err(wanted),
-        None => Ok(answer),
-    }
-}
-
-// The pages of a file, or the bytes that they want of it.
-#[tactic(auto, using(crate::proofs::SeenFiles::pages_seen, crate::proofs::SeenFiles::wanted_seen))]
-fn pages_seen<F: SeenFile>(
-    alloc: Global,
-    seen: &OrderedWindows<'_>,
-) -> Result<TiffResult<PageList>, Stretch>
-    requires of { AreWindowsOf F.bytes seen.now.seen }
-    ensures { MatchResult result (λ listed. AnswersWithoutSource pages_in listed (list_of F.bytes))
-        (IsWanted seen.now.seen) }
-{
-    if let Some(wanted) = seen.wanted_of_front(HEADER_LEN) {
-        return Err(wanted);
-    }
-    let mut decoder = match open_seen::<F>(alloc, seen) {
-        Ok(decoder) => decoder,
-        Err(fault) => return Ok(Err(fault)),
-    };
-    let listed = pages(&mut decoder);
-    unless_wanted(listed, decoder.inner().wanted())
-}
-
-// The directories of a file, or the bytes that they want of it.
-#[tactic(auto, using(crate::proofs::SeenFiles::directories_seen, crate::proofs::SeenFiles::wanted_seen))]
-fn directories_seen<F: SeenFile>(
-    alloc: Global,
-    seen: &OrderedWindows<'_>,
-) -> Result<TiffResult<DirectoryList>, Stretch>
-    requires of { AreWindowsOf F.bytes seen.now.seen }
-    ensures { MatchResult result (λ listed. AnswersWithoutSource directories_in listed (tree_of F.bytes))
-        (IsWanted seen.now.seen) }
-{
-    if let Some(wanted) = seen.wanted_of_front(HEADER_LEN) {
-        return Err(wanted);
-    }
-    let mut decoder = match open_seen::<F>(alloc, seen) {
-        Ok(decoder) => decoder,
-        Err(fault) => return Ok(Err(fault)),
-    };
-    let listed = directories(&mut decoder);
-    unless_wanted(listed, decoder.inner().wanted())
-}
+use tiff_pages::plan::PagePlan;
+use tiff_pages::seen::{directories_seen, pages_seen, unless_wanted};
 
 // The directory of a page, or the bytes that are wanted for it.
 fn directory_seen<F: SeenFile>(
@@ -313,22 +234,6 @@ fn plan_seen<F: SeenFile>(
     unless_wanted(found, source.wanted())
 }
 
-// Reads a chunk into a slice by a plan, or returns the bytes that are wanted for it.
-fn chunk_seen<F: SeenFile>(
-    reader: &PlanReader<'_>,
-    seen: &OrderedWindows<'_>,
-    chunk: u32,
-    buffer: &mut [u8],
-) -> Result<TiffResult<()>, Stretch>
-    requires of { AreWindowsOf F.bytes seen.now.seen }
-    ensures { MatchResult result (λ told. AnswersWithoutSource (λ _. buffer.new) told
-        (read_planned F.bytes reader.now.plan.now reader.now.limits.now chunk buffer.old)) (IsWanted seen.now.seen) }
-{
-    let mut source = WindowSource::<F>::new(seen);
-    let read = reader.read_chunk_bytes(&mut source, chunk, buffer);
-    unless_wanted(read, source.wanted())
-}
-
 // Reads a chunk into a slice by the numbers of a plan, or returns the bytes that are wanted for it.
 #[tactic(auto, unfolding(crate::specs::Plan::read_planned_chunk))]
 fn planned_seen<F: SeenFile>(
@@ -342,17 +247,35 @@ fn planned_seen<F: SeenFile>(
     ensures { MatchResult result (λ told. AnswersWithoutSource (λ _. buffer.new) told
         (plans.read_planned_chunk F.bytes numbers.now chunk buffer.old)) (IsWanted seen.now.seen) }
 {
-    let plan = match plan_from(numbers) {
-        Ok(plan) => plan,
+    let mut chunks = match planned_by(alloc, WindowSource::<F>::new(seen), numbers) {
+        Ok(chunks) => chunks,
         Err(fault) => return Ok(Err(fault)),
     };
-    let limits = Limits::unlimited();
-    let reader = PlanReader {
-        alloc,
-        plan: &plan,
-        limits: &limits,
+    let read = chunks.read(chunk, buffer);
+    unless_wanted(read, chunks.source.wanted())
+}
+
+// Reads several chunks into a slice by the numbers of a plan, or returns the bytes that are wanted for
+// them.
+#[tactic(auto, unfolding(crate::specs::Plan::read_planned_chunks))]
+fn range_seen<F: SeenFile>(
+    alloc: Global,
+    seen: &OrderedWindows<'_>,
+    numbers: &PlannedPage,
+    first: u32,
+    count: u32,
+    buffer: &mut [u8],
+) -> Result<TiffResult<()>, Stretch>
+    requires of { AreWindowsOf F.bytes seen.now.seen }
+    ensures { MatchResult result (λ told. AnswersWithoutSource (λ _. buffer.new) told
+        (plans.read_planned_chunks F.bytes numbers.now first count buffer.old)) (IsWanted seen.now.seen) }
+{
+    let mut chunks = match planned_by(alloc, WindowSource::<F>::new(seen), numbers) {
+        Ok(chunks) => chunks,
+        Err(fault) => return Ok(Err(fault)),
     };
-    chunk_seen::<F>(&reader, seen, chunk, buffer)
+    let read = chunks_from(&mut chunks, first, count, buffer);
+    unless_wanted(read, chunks.source.wanted())
 }
 
 /// Puts the numbers of the plan of a page of a file of which the caller has windows into `plan`, as
@@ -403,6 +326,35 @@ pub fn read_planned_chunk_in(
         return Status::InvalidInput as u32;
     };
     match planned_seen::<Brand>(alloc, &windows, plan, chunk, buffer) {
+        Ok(read) => done(read),
+        Err(stretch) => {
+            *wanted = stretch;
+            Status::BytesWanted as u32
+        }
+    }
+}
+
+/// Reads several chunks by a plan, one behind the other, as `read_planned_chunks` does, of a file of
+/// which the caller has windows. If it wants bytes that no window has, it returns `BytesWanted` and
+/// puts their stretch into `wanted`. For windows in disorder it returns the number of
+/// `IoError(InvalidInput)`. What these leave in `buffer` is not specified.
+pub fn read_planned_chunks_in(
+    alloc: Global,
+    seen: &Windows<'_>,
+    plan: &PlannedPage,
+    first: u32,
+    count: u32,
+    buffer: &mut [u8],
+    wanted: &mut Stretch,
+) -> u32
+    ghost file: { List ℕ }
+    ensures { AreWindowsOf file seen.now → SeenTells seen.now result wanted.new (Unit {0})
+        (StatusTells (plans.read_planned_chunks file plan.now first count buffer.old) result buffer.new) }
+{
+    let Some(windows) = seen.in_order() else {
+        return Status::InvalidInput as u32;
+    };
+    match range_seen::<Brand>(alloc, &windows, plan, first, count, buffer) {
         Ok(read) => done(read),
         Err(stretch) => {
             *wanted = stretch;

@@ -109,15 +109,24 @@ fn refused_step(replies: &[JobReply], refused: Option<(usize, u32)>) -> Option<u
 /// that isn't generic.
 pub fn let_go<T: Drop>(_value: T) {}
 
-/// What jobs left that have these replies.
-pub fn ran_of(file: Vec<u8>, replies: Vec<JobReply>) -> Ran
-    ensures file { result.file.items ≡ file.items }
-    ensures refused { result.refused ≡ first_refused 1 replies.items }
-    ensures step { result.step ≡ refused_step replies.items result.refused }
+/// The first job that had an error, by these replies, and the step that had it.
+pub fn refused_of(replies: Vec<JobReply>) -> (Option<(usize, u32)>, Option<usize>)
+    ensures refused { result.0 ≡ first_refused 1 replies.items }
+    ensures step { result.1 ≡ refused_step replies.items result.0 }
 {
     let refused = first_refused(&replies);
     let step = refused_step(&replies, refused);
     let_go(replies);
+    (refused, step)
+}
+
+// What jobs left that have these replies.
+fn ran_of(file: Vec<u8>, replies: Vec<JobReply>) -> Ran
+    ensures file { result.file.items ≡ file.items }
+    ensures refused { result.refused ≡ first_refused 1 replies.items }
+    ensures step { result.step ≡ refused_step replies.items result.refused }
+{
+    let (refused, step) = refused_of(replies);
     Ran {
         file,
         refused,

@@ -9,18 +9,20 @@
 #![tactic(auto)]
 
 ghost use Rattle.std.specs.Prelude.{◌≡◌, ◌⊎◌, length};
+ghost use Rattle.tiff_pages.specs.OfFile.{list_of, tree_of};
 ghost use Rattle.tiff_statuses.specs.Appended.{AppendTells};
 ghost use Rattle.tiff_statuses.specs.Calls as calls;
-ghost use Rattle.tiff_statuses.specs.Directories.{TreeTells, tree_of};
+ghost use Rattle.tiff_statuses.specs.Directories.{TreeTells};
 ghost use Rattle.tiff_statuses.specs.Entries.{list_tags};
 ghost use Rattle.tiff_statuses.specs.Jobs.{JobsTell};
-ghost use Rattle.tiff_statuses.specs.List.{ListTells, list_of};
+ghost use Rattle.tiff_statuses.specs.List.{ListTells};
 ghost use Rattle.tiff_statuses.specs.Pages.{PagesTell};
 ghost use Rattle.tiff_statuses.specs.Plan as plans;
 ghost use Rattle.tiff_statuses.specs.Plan.{ReadsPage};
 ghost use Rattle.tiff_statuses.specs.Rewrite as rewriting;
 ghost use Rattle.tiff_statuses.specs.Status.{StatusIs, StatusPuts, StatusTells};
-ghost use Rattle.tiff_statuses.specs.Texts.{PutsSomeText};
+ghost use Rattle.tiff_statuses.specs.Texts.{PutsText};
+ghost use Rattle.tiff_statuses.specs.Texts as texts;
 ghost use Rattle.tiff_statuses.specs.Values as values;
 ghost use Rattle.tiff_statuses.specs.Writer as writer;
 ghost use Rattle.tiff_statuses.specs.Writer.{IsShown};
@@ -38,10 +40,12 @@ pub mod in_windows;
 pub mod jobs;
 pub mod list;
 pub mod pages;
+pub mod parents;
 pub mod plan;
 mod range;
 pub mod rewrite;
 mod status;
+mod texts;
 pub mod values;
 pub mod writer;
 
@@ -51,14 +55,15 @@ use crate::directories::{ListedDirectory, list_tree};
 use crate::entries::TagEntry;
 pub use crate::in_windows::{
     list_directories_in, list_pages_in, list_tags_in, page_plan_in, read_planned_chunk_in,
-    tag_bytes_in,
+    read_planned_chunks_in, tag_bytes_in,
 };
 use crate::jobs::{JobsEnd, run_version, tell};
 use crate::list::{ListedPage, list_into};
 use crate::pages::{NewPage, PagesEnd, run_pages, tell_pages};
 use crate::plan::PlannedPage;
 use crate::rewrite::PlacedChunk;
-use crate::status::{done, given, put_part, text_of};
+use crate::status::{done, given};
+use crate::texts::{put_part, text_of};
 use crate::writer::{NewImage, deliver, deliver_around, write_new};
 
 /// Puts the width and the height of a page, in pixels, into `sides`. Returns 0, or the number of
@@ -527,18 +532,22 @@ pub fn write_jobs(
 }
 
 /// Writes the file of these pages into `buffer`, puts how many bytes the file has into `len`, and
-/// puts where the list is refused into `end`. Returns 0, or the number of the first error: of the
-/// version, `TiffSignatureInvalid`; of the first page with a field that is refused, before any page
-/// is written; of the first page that the encoder refuses; of a buffer that is too short,
-/// `InsufficientOutputBufferSize`. The fields are refused in this order: the color type,
-/// `IoError(InvalidInput)`; the method, `UnsupportedCompressionMethod`; the predictor,
-/// `UnknownPredictor`; the planar configuration, `UnknownPlanarConfiguration`; the unit of the
-/// resolutions, `IoError(InvalidInput)`; an extra sample, `IoError(InvalidInput)`; a tag,
+/// puts where the list is refused into `end`. A page without a parent is in the file's chain of
+/// directories; any other one is in the tag SubIFDs of its parent, an earlier page (Adobe's technical
+/// note 1 on TIFF 6.0). Returns 0, or the number of the first error: of the version,
+/// `TiffSignatureInvalid`; of the first page with a field that is refused, before any page is
+/// written; of the first page that the encoder refuses, of those in the chain, and then of the
+/// others; of a buffer that is too short, `InsufficientOutputBufferSize`. The fields are refused in
+/// this order: the color type, `IoError(InvalidInput)`; the method, `UnsupportedCompressionMethod`;
+/// the predictor, `UnknownPredictor`; the planar configuration, `UnknownPlanarConfiguration`; the
+/// unit of the resolutions, `IoError(InvalidInput)`; an extra sample, `IoError(InvalidInput)`; a tag,
 /// `UnsupportedDataType` for its type and `MismatchedEntryLength` for bytes that are not as many
-/// values as it says; samples with a part of one left over, `MismatchedEntryLength`. An error leaves
-/// `buffer` as it was, and `len` too, unless only the buffer is too short. The call allocates the
-/// file, the bytes of the tags, and the samples of one page at a time if they have more than one
-/// byte or a sign.
+/// values as it says, and `IoError(InvalidInput)` for SubIFDs of a page that is a parent; samples
+/// with a part of one left over, `MismatchedEntryLength`; a parent that is no earlier page,
+/// `IoError(InvalidInput)`. An error leaves `buffer` as it was, and `len` too, unless only the buffer
+/// is too short. The call allocates the file, the bytes of the tags, and the samples of one page at a
+/// time if they have more than one byte or a sign. Where a page has a parent, the call allocates the
+/// offsets of the pages too, and the fields of a parent's directory at a time.
 #[tactic(auto, using(crate::proofs::Delivered::told_pages, crate::proofs::Delivered::kept_pages))]
 pub fn write_pages(
     alloc: Global,
@@ -592,7 +601,7 @@ pub fn version() -> u32
 /// Writes the text of a status into `buffer`, as much of it as fits, and returns how many bytes the
 /// whole text has. The text of a number that is no status says so.
 pub fn fault_text(status: u32, buffer: &mut [u8]) -> usize
-    ensures { PutsSomeText result buffer.old buffer.new }
+    ensures { PutsText (texts.text_of status) result buffer.old buffer.new }
 {
     put_part(text_of(status), buffer)
 }

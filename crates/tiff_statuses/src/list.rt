@@ -3,6 +3,7 @@
 ghost use Rattle.std.specs.Prelude.{◌≡◌, Result, map};
 ghost use Rattle.tiff_base.specs.declared.error.TiffError.{TiffError};
 ghost use Rattle.tiff_base.specs.Answers.{AnswersWithoutSource};
+ghost use Rattle.tiff_pages.specs.OfFile.{list_of};
 ghost use Rattle.tiff_pages.specs.Pages.{Pages, pages_in};
 ghost use Rattle.tiff_statuses.specs.List as list;
 ghost use Rattle.tiff_statuses.specs.Status as status;
@@ -128,9 +129,9 @@ fn fill(out: &mut [ListedPage], items: &[PageItem])
 }
 
 // Opens a file and lists its pages.
-#[tactic(auto, using(crate::proofs::Listed::pages_here))]
+#[tactic(auto, using(tiff_pages::proofs::SeenFiles::pages_here))]
 fn list_pages(alloc: Global, file: &[u8]) -> TiffResult<PageList>
-    ensures { AnswersWithoutSource pages_in result (list.list_of file.now) }
+    ensures { AnswersWithoutSource pages_in result (list_of file.now) }
 {
     let mut decoder = open(alloc, file)?;
     never_failed(&decoder);
@@ -171,7 +172,7 @@ pub fn tell_pages(listed: TiffResult<PageList>, out: &mut [ListedPage], count: &
 /// Returns the number of the error by which the chain ends, or 0. If the file isn't opened or
 /// memory is out, it returns the number of that error. `count` is then 0, and `out` is as it was.
 pub fn list_into(alloc: Global, file: &[u8], out: &mut [ListedPage], count: &mut usize) -> u32
-    ensures { list.ListTells (list.list_of file.now) result out.old out.new count.new }
+    ensures { list.ListTells (list_of file.now) result out.old out.new count.new }
 {
     *count = 0;
     tell_pages(list_pages(alloc, file), out, count)

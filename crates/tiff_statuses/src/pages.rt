@@ -1,23 +1,29 @@
 //! A file of several pages, whose parameters, tags and samples C passes.
 
-ghost use Rattle.std.specs.Prelude.{◌≡◌, ◌++◌, map, slice_get, MatchResult};
+ghost use Rattle.std.specs.List.{list_any};
+ghost use Rattle.std.specs.Prelude.{◌≡◌, ◌==◌, ◌++◌, ◌-◌, ◌+◌, ◌≤◌, ◌<◌, ◌∷◌, [], length, map, slice_get, take, MatchResult};
+ghost use Rattle.tiff_encode.specs.FileBytes.{offset_len};
 ghost use Rattle.tiff_statuses.specs.Pages as spec;
-ghost use Rattle.tiff_statuses.specs.Pages.{AnswersPages, AnswersVersion, IsOut, IsOutAt, Makes, TellsPages, appended, each, job_view, jobs_of_pages, settings_steps, step_view};
+ghost use Rattle.tiff_statuses.specs.Pages.{AnswersPages, AnswersVersion, IsOut, IsOutAt, Makes, TellsPages, appended, behind, each, job_view, jobs_of_pages, pages_view, settings_steps, step_view};
+ghost use Rattle.tiff_statuses.specs.Parents.{AreCounts, CountsBefore};
 ghost use Rattle.tiff_statuses.specs.Writer as writer;
 
-use crate::jobs::{JobsEnd, Ran, run, tell_ran};
+use crate::frame::NewFile;
+use crate::jobs::run;
+use crate::parents::{Links, go_on};
 use crate::status::fault_number;
-use crate::writer::{color_named, kind_of, packing_named, predictor_named};
+use crate::writer::{color_named, deliver, kind_of, packing_named, predictor_named};
 use std::alloc::Global;
+use tiff_append::last_link::{header_link, link_size};
 use tiff_base::error::{TiffError, TiffFormatError, TiffResult, TiffUnsupportedError, UsageError};
 use tiff_base::io::IoKind;
 use tiff_base::tags::{
     ByteOrder, ExtraSamples, FileKind, PlanarConfiguration, Predictor, ResolutionUnit, Tag, Type,
 };
-use tiff_encode::encoder::Compression;
 use tiff_encode::encoder::script::{
     DirectoryStep, ImageEnd, ImageJob, ImageStep, Job, JobBuffer, JobSamples,
 };
+use tiff_encode::encoder::{Compression, TiffKind, TiffKindBig, TiffKindStandard};
 use tiff_value::encoder::color_visitor::{ColorVisitor, by_name};
 use tiff_value::encoder::colortype::{ColorTypeName, NamedColorType};
 use tiff_value::encoder::tiff_value::{Rational, TiffValue};
@@ -45,8 +51,9 @@ pub struct Fraction {
 /// `ColorTypeName::ALL`; the width and the height in pixels; the rows of a strip, or 0; the width
 /// and the length of a tile, or 0 and 0; the values of the tags Compression, Predictor and
 /// PlanarConfiguration; the unit of the resolutions, or 0 for none, and both resolutions; the values
-/// of the tag ExtraSamples; the tags of the caller's own; and the samples, of each the lowest byte
-/// first, row by row, the samples of a pixel side by side.
+/// of the tag ExtraSamples; the tags of the caller's own; the samples, of each the lowest byte
+/// first, row by row, the samples of a pixel side by side; and 0 for a page in the chain of
+/// directories, or the number, from 1, of the earlier page whose tag SubIFDs lists the page.
 #[derive(Clone, Copy)]
 #[repr(C)]
 pub struct NewPage<'a> {
@@ -65,6 +72,7 @@ pub struct NewPage<'a> {
     pub extra_samples: &'a [u16],
     pub tags: &'a [NewTag<'a>],
     pub samples: &'a [u8],
+    pub parent: usize,
 }
 
 /// The field of a page that is refused. The numbers are those of `tiff_page_field` in
@@ -83,6 +91,8 @@ pub enum PageField {
     Samples = 8,
     /// The strips or tiles.
     Layout = 9,
+    /// The page whose tag SubIFDs lists the page.
+    Parent = 10,
 }
 
 /// Where a list of pages was refused: the number of the page, from 1, and the number of its field.
@@ -104,14 +114,57 @@ pub struct Refusal {
     pub fault: TiffError,
 }
 
+/// A page that was refused while pages were written: its number, from 1, its field, and the status.
+#[derive(Clone, Copy, Debug, PartialEq, Eq)]
+pub struct RefusedPage {
+    pub page: usize,
+    pub field: PageField,
+    pub status: u32,
+}
+
+/// What pages left that were written: their file, and the page that was refused.
+#[derive(Drop)]
+pub struct WrittenPages {
+    pub file: Vec<u8>,
+    pub refused: Option<RefusedPage>,
+}
+
 /// What came of a list of pages.
 #[derive(Drop)]
 pub enum PagesAnswer {
     /// The page of this number, from 1, is refused.
     Refused(usize, Refusal),
 
-    /// The jobs of the pages were run. The field is that of a step that was refused.
-    Ran(Ran, PageField),
+    /// The jobs of the pages were run.
+    Ran(WrittenPages),
+}
+
+/// A page with a parent: its number and that of its parent, both from 1; how many earlier pages have
+/// this parent; and its jobs.
+#[derive(Drop)]
+pub struct ChildJobs<'a> {
+    pub page: usize,
+    pub parent: usize,
+    pub index: usize,
+    pub jobs: Vec<Job<'a>>,
+}
+
+/// The jobs of pages: the numbers, from 1, of those in the chain of directories, and the jobs of
+/// these, three of each; and the pages with parents, in their order.
+#[derive(Drop)]
+pub struct PagesJobs<'a> {
+    pub numbers: Vec<usize>,
+    pub chain: Vec<Job<'a>>,
+    pub children: Vec<ChildJobs<'a>>,
+}
+
+/// Where a page is among others: its number, from 1; how many pages have it as their parent; and how
+/// many earlier pages have the same parent as the page.
+#[derive(Clone, Copy)]
+pub struct Place {
+    pub number: usize,
+    pub children: usize,
+    pub index: usize,
 }
 
 /// What a page names by numbers. Without a unit it has no resolutions.
@@ -242,6 +295,105 @@ fn add_tags(alloc: Global, tags: &[NewTag<'_>], steps: &mut Vec<ImageStep<'_>>) 
     Ok(())
 }
 
+// ---- parents
+
+// Counts the page at an index, by its parent, behind those before it. Returns how many of these have
+// the same parent. A parent without a count isn't counted.
+fn count_page(counts: &mut Vec<usize>, pages: &[NewPage<'_>], i: usize) -> usize
+    requires within { i < length pages.now }
+    requires counted { AreCounts counts.old.items (take i pages.now) }
+    ensures counted { AreCounts counts.new.items (take (i + 1) pages.now) }
+    ensures len { length counts.new.items ≡ length counts.old.items }
+    ensures result { CountsBefore (length counts.old.items) pages.now i result }
+{
+    let _most = pages.len();
+    let parent = pages[i].parent;
+    if parent < counts.len() {
+        let before = counts[parent];
+        counts[parent] = before + 1;
+        return before;
+    }
+    0
+}
+
+// A count for each number of a page, and for 0, all of them 0.
+fn no_counts(alloc: Global, pages: &[NewPage<'_>]) -> TiffResult<Vec<usize>>
+    ensures { MatchResult result (λ v. (length v.items ≡ length pages.now + 1)
+        × AreCounts v.items []) IsOut }
+{
+    Ok(vec![in alloc; 0usize; pages.len() + 1]?)
+}
+
+// How many of these pages have the page of each number as their parent.
+fn counts_of(alloc: Global, pages: &[NewPage<'_>]) -> TiffResult<Vec<usize>>
+    ensures { MatchResult result (λ v. (length v.items ≡ length pages.now + 1)
+        × AreCounts v.items pages.now) IsOut }
+{
+    let mut counts = no_counts(alloc, pages)?;
+    for i in 0..pages.len() {
+        let _before = count_page(&mut counts, pages, i);
+    }
+    Ok(counts)
+}
+
+// The type of the values of the tag SubIFDs.
+fn link_type(kind: FileKind) -> Type
+    ensures { result ≡ spec.link_type kind }
+{
+    match kind {
+        FileKind::Classic => Type::IFD,
+        FileKind::Big => Type::IFD8,
+    }
+}
+
+// The call that sets the tag SubIFDs to as many zeros as a page has children.
+fn link_step<'a>(alloc: Global, kind: FileKind, children: usize) -> TiffResult<ImageStep<'a>>
+    ensures { MatchResult result (λ s. step_view s ≡ spec.link_step kind children) IsOut }
+{
+    let Some(len) = children.checked_mul(link_size(kind)) else {
+        return Err(TiffError::OutOfMemory);
+    };
+    let buffer = JobBuffer {
+        data_type: link_type(kind),
+        order: ByteOrder::LittleEndian,
+        bytes: vec![in alloc; 0u8; len]?,
+    };
+    Ok(ImageStep::Directory(DirectoryStep::WriteTagBuf(Tag::SubIfd, buffer)))
+}
+
+// Whether SubIFDs is one of the caller's tags.
+fn has_links(tags: &[NewTag<'_>]) -> bool
+    ensures { result ≡ list_any (λ tag. tag.number == spec.sub_ifds) tags.now }
+{
+    tags.iter().any(|tag| tag.number == Tag::SubIfd.to_u16())
+}
+
+// Puts the call that sets the tag SubIFDs of a page behind the others, if the page has children.
+// `IoError(InvalidInput)` if it is one of the caller's tags.
+#[tactic(auto, using(crate::proofs::PagesMade::links_added))]
+fn add_links(
+    alloc: Global,
+    kind: FileKind,
+    children: usize,
+    tags: &[NewTag<'_>],
+    steps: &mut Vec<ImageStep<'_>>,
+) -> TiffResult<()>
+    ensures { Makes IsOut (λ _. map step_view steps.new.items) result
+        (spec.with_links kind children tags.now (map step_view steps.old.items)) }
+{
+    if children == 0 {
+        return Ok(());
+    }
+    if has_links(tags) {
+        return Err(TiffError::IoError(IoKind::InvalidInput));
+    }
+    let step = link_step(alloc, kind, children)?;
+    steps.push(step)?;
+    Ok(())
+}
+
+// ---- settings
+
 // Puts the calls that say how the chunks lie behind the others.
 fn add_layout(
     page: &NewPage<'_>,
@@ -340,14 +492,16 @@ fn samples_of<'a>(color: ColorTypeName, bytes: &'a [u8]) -> TiffResult<JobSample
 
 // ---- jobs
 
-// The image of a page.
+// The image of a page that has so many children.
 fn image_of<'a>(
     alloc: Global,
+    kind: FileKind,
+    children: usize,
     page: &NewPage<'a>,
     names: &PageNames,
 ) -> Result<ImageJob<'a>, Refusal>
     ensures { Makes IsOutAt (λ image. spec.image_view image image.end) result
-        (spec.page_image page.now names.now) }
+        (spec.page_image kind children page.now names.now) }
 {
     let extra = in_field(
         PageField::ExtraSamples,
@@ -355,6 +509,10 @@ fn image_of<'a>(
     )?;
     let mut steps = in_field(PageField::Whole, settings_of(alloc, page, names, extra))?;
     in_field(PageField::Tags, add_tags(alloc, page.tags, &mut steps))?;
+    in_field(
+        PageField::Tags,
+        add_links(alloc, kind, children, page.tags, &mut steps),
+    )?;
     let samples = in_field(PageField::Samples, samples_of(names.color, page.samples))?;
     Ok(ImageJob {
         color: names.color,
@@ -376,27 +534,150 @@ fn add_jobs<'a>(names: &PageNames, image: ImageJob<'a>, jobs: &mut Vec<Job<'a>>)
     Ok(())
 }
 
-// Puts the jobs of a page behind the others.
-fn add_page<'a>(alloc: Global, page: &NewPage<'a>, jobs: &mut Vec<Job<'a>>) -> Result<(), Refusal>
-    ensures { Makes IsOutAt (λ _. map job_view jobs.new.items) result
-        (appended (map job_view jobs.old.items) (spec.page_jobs page.now)) }
+// The jobs of a page that has so many children.
+fn page_jobs<'a>(
+    alloc: Global,
+    kind: FileKind,
+    children: usize,
+    page: &NewPage<'a>,
+) -> Result<Vec<Job<'a>>, Refusal>
+    ensures { Makes IsOutAt (λ v. map job_view v.items) result
+        (spec.page_jobs kind children page.now) }
 {
     let names = names_of(page)?;
-    let image = image_of(alloc, page, &names)?;
-    in_field(PageField::Whole, add_jobs(&names, image, jobs))
+    let image = image_of(alloc, kind, children, page, &names)?;
+    let mut jobs = Vec::new(alloc);
+    in_field(PageField::Whole, add_jobs(&names, image, &mut jobs))?;
+    Ok(jobs)
 }
 
-/// The jobs of pages; or the number of the first page that is refused, from 1, and its refusal.
-pub fn jobs_of<'a>(alloc: Global, pages: &[NewPage<'a>]) -> Result<Vec<Job<'a>>, (usize, Refusal)>
-    ensures { Makes (λ e. IsOutAt e.1) (λ v. map job_view v.items) result (jobs_of_pages pages.now) }
+// Puts a page of this number in the chain, with its jobs, behind the others.
+fn add_chained<'a>(number: usize, mut own: Vec<Job<'a>>, jobs: &mut PagesJobs<'a>) -> TiffResult<()>
+    ensures { MatchResult result (λ _. pages_view jobs.new ≡ spec.both (pages_view jobs.old)
+        (spec.chained number (map job_view own.entry.items))) IsOut }
 {
-    let mut jobs = Vec::new(alloc);
-    for (i, page) in pages.iter().enumerate() {
-        if let Err(refusal) = add_page(alloc, page, &mut jobs) {
+    jobs.numbers.push(number)?;
+    jobs.chain.append(&mut own)?;
+    Ok(())
+}
+
+// Puts a page with a parent behind the others.
+fn add_child<'a>(child: ChildJobs<'a>, jobs: &mut PagesJobs<'a>) -> TiffResult<()>
+    ensures { MatchResult result (λ _. pages_view jobs.new ≡ spec.both (pages_view jobs.old)
+        (spec.with_parent (spec.child_view child.entry))) IsOut }
+{
+    jobs.children.push(child)?;
+    Ok(())
+}
+
+// Puts a page with these jobs, whose parent is 0 or an earlier page, behind the others; else
+// `IoError(InvalidInput)`.
+fn add_placed<'a>(
+    place: Place,
+    parent: usize,
+    own: Vec<Job<'a>>,
+    jobs: &mut PagesJobs<'a>,
+) -> TiffResult<()>
+    ensures { Makes IsOut (λ _. pages_view jobs.new) result
+        (behind (pages_view jobs.old) (spec.placed place parent (map job_view own.entry.items))) }
+{
+    if parent == 0 {
+        return add_chained(place.number, own, jobs);
+    }
+    if parent >= place.number {
+        return Err(TiffError::IoError(IoKind::InvalidInput));
+    }
+    let child = ChildJobs {
+        page: place.number,
+        parent,
+        index: place.index,
+        jobs: own,
+    };
+    add_child(child, jobs)
+}
+
+// Puts the jobs of a page at its place behind the others.
+#[tactic(auto, using(crate::proofs::PagesMade::put_at, crate::proofs::PagesMade::not_put))]
+fn add_page<'a>(
+    alloc: Global,
+    kind: FileKind,
+    place: Place,
+    page: &NewPage<'a>,
+    jobs: &mut PagesJobs<'a>,
+) -> Result<(), Refusal>
+    ensures { Makes IsOutAt (λ _. pages_view jobs.new) result
+        (behind (pages_view jobs.old) (spec.page_in kind place page.now)) }
+{
+    let own = page_jobs(alloc, kind, place.children, page)?;
+    if let Err(fault) = add_placed(place, page.parent, own, jobs) {
+        return Err(Refusal {
+            field: PageField::Parent,
+            fault,
+        });
+    }
+    Ok(())
+}
+
+// Puts the jobs of pages behind the others; or returns the number of the first page that is refused,
+// from 1, and its refusal. `counts` are of all pages, and `seen` of none.
+fn add_pages<'a>(
+    alloc: Global,
+    kind: FileKind,
+    pages: &[NewPage<'a>],
+    counts: &[usize],
+    mut seen: Vec<usize>,
+) -> Result<PagesJobs<'a>, (usize, Refusal)>
+    requires counts { (length counts.now ≡ length pages.now + 1) × AreCounts counts.now pages.now }
+    requires seen { (length seen.items ≡ length pages.now + 1) × AreCounts seen.items [] }
+    ensures { Makes (λ e. IsOutAt e.1) (λ jobs. pages_view jobs) result
+        (jobs_of_pages kind pages.now) }
+{
+    let mut jobs = PagesJobs {
+        numbers: Vec::new(alloc),
+        chain: Vec::new(alloc),
+        children: Vec::new(alloc),
+    };
+    for i in 0..pages.len() {
+        let place = Place {
+            number: i + 1,
+            children: counts[i + 1],
+            index: count_page(&mut seen, pages, i),
+        };
+        if let Err(refusal) = add_page(alloc, kind, place, &pages[i], &mut jobs) {
             return Err((i + 1, refusal));
         }
     }
     Ok(jobs)
+}
+
+// Memory is out before a page is seen, which is told of the first one.
+fn out_of_memory() -> (usize, Refusal)
+    ensures { IsOutAt result.1 }
+{
+    let refusal = Refusal {
+        field: PageField::Whole,
+        fault: TiffError::OutOfMemory,
+    };
+    (1, refusal)
+}
+
+/// The jobs of pages of a file of a kind; or the number of the first page that is refused, from 1,
+/// and its refusal.
+pub fn jobs_of<'a>(
+    alloc: Global,
+    kind: FileKind,
+    pages: &[NewPage<'a>],
+) -> Result<PagesJobs<'a>, (usize, Refusal)>
+    ensures { Makes (λ e. IsOutAt e.1) (λ jobs. pages_view jobs) result
+        (jobs_of_pages kind pages.now) }
+{
+    let Ok(counts) = counts_of(alloc, pages) else {
+        return Err(out_of_memory());
+    };
+    let Ok(seen) = no_counts(alloc, pages) else {
+        return Err(out_of_memory());
+    };
+    add_pages(alloc, kind, pages, &counts, seen)
 }
 
 // ---- what was refused
@@ -430,40 +711,103 @@ fn field_in(jobs: &[Job<'_>], job: usize, step: usize) -> PageField
     }
 }
 
-/// The field of the step that was refused.
-pub fn refused_field(jobs: &[Job<'_>], ran: &Ran) -> PageField
-    ensures { result ≡ spec.refused_field jobs.now ran.now.refused ran.now.step }
+// The field of the step that was refused.
+fn refused_field(jobs: &[Job<'_>], refused: Option<(usize, u32)>, step: Option<usize>) -> PageField
+    ensures { result ≡ spec.refused_field jobs.now refused step }
 {
-    match (ran.refused, ran.step) {
+    match (refused, step) {
         (Some((job, _status)), Some(step)) => field_in(jobs, job.saturating_sub(1), step),
         _ => PageField::Whole,
     }
 }
 
+/// The page of the first job that had an error, with the step that had it: of pages with these
+/// numbers, and of their jobs, three of each.
+pub fn refused_page(
+    numbers: &[usize],
+    jobs: &[Job<'_>],
+    refused: Option<(usize, u32)>,
+    step: Option<usize>,
+) -> Option<RefusedPage>
+    ensures { result ≡ spec.refused_page numbers.now jobs.now refused step }
+{
+    let (job, status) = refused?;
+    let at = job.div_ceil(3).saturating_sub(1);
+    Some(RefusedPage {
+        page: numbers.get(at).copied().unwrap_or(0),
+        field: refused_field(jobs, refused, step),
+        status,
+    })
+}
+
 // ---- the file
 
-// Runs the jobs of pages, unless a page is refused. Its only error is `OutOfMemory`.
-fn run_kind(alloc: Global, kind: FileKind, pages: &[NewPage<'_>]) -> TiffResult<PagesAnswer>
-    ensures { MatchResult result (AnswersPages kind pages.now) (λ e. e ≡ TiffError.OutOfMemory) }
+// Runs the jobs of pages in a new file of the kind `K`.
+#[tactic(auto, using(crate::proofs::PagesRan::pages_ran, crate::proofs::PagesRan::pages_fail))]
+fn run_new<K: TiffKind>(alloc: Global, jobs: &PagesJobs<'_>) -> TiffResult<WrittenPages>
+    ensures { spec.EndsPages (spec.RanPages K.kind jobs.now) result }
 {
-    match jobs_of(alloc, pages) {
-        Ok(jobs) => {
-            let ran = run(alloc, kind, &jobs)?;
-            let field = refused_field(&jobs, &ran);
-            Ok(PagesAnswer::Ran(ran, field))
-        }
+    let kind = K::file_kind();
+    let ran = run(alloc, kind, &jobs.chain)?;
+    let refused = refused_page(&jobs.numbers, &jobs.chain, ran.refused, ran.step);
+    let links = Links {
+        kind,
+        first: header_link(kind),
+        floor: 0,
+    };
+    let (file, refused) = go_on::<Vec<u8>, K>(alloc, links, ran.file, refused, jobs)?;
+    Ok(WrittenPages { file, refused })
+}
+
+// Runs the jobs of pages in a new file of a kind.
+fn run_in(alloc: Global, kind: FileKind, jobs: &PagesJobs<'_>) -> TiffResult<WrittenPages>
+    ensures { spec.EndsPages (spec.RanPages kind jobs.now) result }
+{
+    match kind {
+        FileKind::Classic => run_new::<TiffKindStandard>(alloc, jobs),
+        FileKind::Big => run_new::<TiffKindBig>(alloc, jobs),
+    }
+}
+
+// Runs the jobs of pages, unless a page is refused.
+fn run_kind(alloc: Global, kind: FileKind, pages: &[NewPage<'_>]) -> TiffResult<PagesAnswer>
+    ensures { AnswersPages kind pages.now result }
+{
+    match jobs_of(alloc, kind, pages) {
+        Ok(jobs) => Ok(PagesAnswer::Ran(run_in(alloc, kind, &jobs)?)),
         Err((page, refusal)) => Ok(PagesAnswer::Refused(page, refusal)),
     }
 }
 
 /// Runs the jobs of pages for a file whose header has this version. Its errors: a version that is
-/// none, `TiffSignatureInvalid`; `OutOfMemory`.
+/// none, `TiffSignatureInvalid`; `OutOfMemory`; the one of a parent's directory that can't be read.
 pub fn run_pages(alloc: Global, version: u16, pages: &[NewPage<'_>]) -> TiffResult<PagesAnswer>
     ensures { AnswersVersion (writer.kind_of version) pages.now result }
 {
     match kind_of(version) {
         Some(kind) => run_kind(alloc, kind, pages),
         None => Err(TiffFormatError::TiffSignatureInvalid.into()),
+    }
+}
+
+// Puts the file of pages into `buffer` and its length into `len` if none was refused; else where the
+// list was refused into `end`. Returns the status.
+fn tell_written(pages: WrittenPages, buffer: &mut [u8], len: &mut usize, end: &mut PagesEnd) -> u32
+    ensures { spec.TellsWritten pages.file.items pages.refused result buffer.old buffer.new len.old
+        len.new end.new }
+{
+    match pages.refused {
+        None => {
+            *end = NO_PAGE;
+            deliver(Ok(NewFile::Whole(pages.file)), buffer, len)
+        }
+        Some(refused) => {
+            *end = PagesEnd {
+                page: refused.page,
+                field: refused.field as u32,
+            };
+            refused.status
+        }
     }
 }
 
@@ -481,15 +825,7 @@ pub fn tell_pages(
 {
     *end = NO_PAGE;
     match answer {
-        Ok(PagesAnswer::Ran(ran, field)) => {
-            let mut at = JobsEnd { line: 0, job: 0 };
-            let status = tell_ran(ran, buffer, len, &mut at);
-            *end = PagesEnd {
-                page: at.job.div_ceil(3),
-                field: field as u32,
-            };
-            status
-        }
+        Ok(PagesAnswer::Ran(pages)) => tell_written(pages, buffer, len, end),
         Ok(PagesAnswer::Refused(page, refusal)) => {
             *end = PagesEnd {
                 page,

@@ -378,55 +378,56 @@ pub fn page_plan(alloc: Global, file: &[u8], page: usize) -> TiffResult<PlannedP
 
 // ---- chunks
 
-// The chunks of a file in a slice, by a plan under limits.
+/// The chunks of a source, by a plan under limits.
 #[derive(Drop)]
-struct PlannedChunks<'a> {
+pub(crate) struct PlannedChunks<R: Source> {
+    pub source: R,
     alloc: Global,
-    file: &'a [u8],
     plan: PagePlan,
     limits: Limits,
 }
 
-impl PlannedChunks<'_> {
-    fn reader(&self) -> PlanReader<'_>
-        ensures plan { result.plan.now ≡ self.now.plan }
-        ensures limits { result.limits.now ≡ self.now.limits }
-    {
-        PlanReader {
+impl<R: Source> ReadsChunks for PlannedChunks<R> {
+    ghost reading = { λ p. spec.plan_reading (R.told p.source).bytes p.plan p.limits };
+
+    ghost told = { λ p. R.told p.source };
+
+    ghost failures = { λ p. R.failures p.source };
+
+    fn len_of(&mut self, chunk: u32) -> TiffResult<usize> {
+        let reader = PlanReader {
             alloc: self.alloc,
             plan: &self.plan,
             limits: &self.limits,
-        }
-    }
-}
-
-impl ReadsChunks for PlannedChunks<'_> {
-    ghost reading = { λ p. spec.plan_reading p.file.now p.plan p.limits };
-
-    fn len_of(&mut self, chunk: u32) -> TiffResult<usize> {
-        Ok(self.reader().chunk_buffer_layout(chunk)?.len)
+        };
+        Ok(reader.chunk_buffer_layout(chunk)?.len)
     }
 
     fn read(&mut self, chunk: u32, buffer: &mut [u8]) -> TiffResult<()> {
-        let mut source = SliceSource::new(self.file);
-        self.reader().read_chunk_bytes(&mut source, chunk, buffer)
+        let reader = PlanReader {
+            alloc: self.alloc,
+            plan: &self.plan,
+            limits: &self.limits,
+        };
+        reader.read_chunk_bytes(&mut self.source, chunk, buffer)
     }
 }
 
-// The chunks of a file by the numbers of a plan, under no limits.
-fn planned_by<'a>(
+/// The chunks of a source by the numbers of a plan, under no limits.
+pub(crate) fn planned_by<R: Source>(
     alloc: Global,
-    file: &'a [u8],
+    source: R,
     numbers: &PlannedPage,
-) -> TiffResult<PlannedChunks<'a>>
+) -> TiffResult<PlannedChunks<R>>
     ensures plan { AnswersWithoutSource (λ chunks. chunks.plan) result (spec.plan_from numbers.now) }
-    ensures file { IfOk result (λ chunks. chunks.file.now ≡ file.now) }
+    ensures source { IfOk result (λ chunks. chunks.source ≡ source) }
     ensures limits { IfOk result (λ chunks. chunks.limits ≡ unlimited) }
 {
+    let plan = plan_from(numbers)?;
     Ok(PlannedChunks {
+        source,
         alloc,
-        file,
-        plan: plan_from(numbers)?,
+        plan,
         limits: Limits::unlimited(),
     })
 }
@@ -447,7 +448,7 @@ pub fn planned_chunk(
     ensures { AnswersWithoutSource (λ _. buffer.new) result
         (spec.read_planned_chunk file.now plan.now chunk buffer.old) }
 {
-    planned_by(alloc, file, plan)?.read(chunk, buffer)
+    planned_by(alloc, SliceSource::new(file), plan)?.read(chunk, buffer)
 }
 
 /// Reads `count` chunks, from the number `first` on, into `buffer`, one behind the other, by the
@@ -468,5 +469,6 @@ pub fn planned_chunks(
     ensures { AnswersWithoutSource (λ _. buffer.new) result
         (spec.read_planned_chunks file.now plan.now first count buffer.old) }
 {
-    chunks_from(&mut planned_by(alloc, file, plan)?, first, count, buffer)
+    let mut chunks = planned_by(alloc, SliceSource::new(file), plan)?;
+    chunks_from(&mut chunks, first, count, buffer)
 }

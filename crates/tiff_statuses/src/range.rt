@@ -1,26 +1,37 @@
 //! Several chunks of a page in one slice, one behind the other.
 
 ghost use Rattle.std.specs.Prelude.{◌≡◌, ◌-◌, OnOk};
-ghost use Rattle.tiff_base.specs.Answers.{AnswersWithoutSource};
+ghost use Rattle.tiff_base.specs.Answers.{Answers, IsKept};
 ghost use Rattle.tiff_statuses.specs.Calls as calls;
-ghost use Rattle.tiff_statuses.specs.Calls.{ChunkReading};
 
 use tiff_base::error::{TiffResult, UsageError};
 
-// What reads the chunks of a page, each by its number.
+// What reads the chunks of a page from a source, each by its number.
 pub(crate) trait ReadsChunks {
+    ghost use Rattle.std.specs.Prelude.{ℕ};
+    ghost use Rattle.tiff_base.specs.SourceAndSink.{SourceRecord};
+    ghost use Rattle.tiff_statuses.specs.Calls.{ChunkReading};
+
     // How many bytes a chunk has, and a slice after a chunk was read into it.
     ghost reading: { Self → ChunkReading };
 
+    // The source, and the number of its reads that failed so far.
+    ghost told: { Self → SourceRecord };
+
+    ghost failures: { Self → ℕ };
+
     // Returns how many bytes a chunk has.
     fn len_of(&mut self, chunk: u32) -> TiffResult<usize>
-        ensures answer { AnswersWithoutSource (λ len. len) result ((reading self.old).len_of chunk) }
+        ensures kept { IsKept told failures result self.old self.new }
+        ensures answer { Answers (λ len. len) result ((reading self.old).len_of chunk)
+            (failures self.old) (failures self.new) }
         ensures stays { OnOk result (reading self.new ≡ reading self.old) };
 
     // Reads a chunk into a slice.
     fn read(&mut self, chunk: u32, buffer: &mut [u8]) -> TiffResult<()>
-        ensures answer { AnswersWithoutSource (λ _. buffer.new) result
-            ((reading self.old).read chunk buffer.old) }
+        ensures kept { IsKept told failures result self.old self.new }
+        ensures answer { Answers (λ _. buffer.new) result ((reading self.old).read chunk buffer.old)
+            (failures self.old) (failures self.new) }
         ensures stays { OnOk result (reading self.new ≡ reading self.old) };
 }
 
@@ -31,8 +42,10 @@ fn chunks_between<R: ReadsChunks>(
     end: u32,
     buffer: &mut [u8],
 ) -> TiffResult<()>
-    ensures { AnswersWithoutSource (λ _. buffer.new) result
-        (calls.chunks_in (R.reading chunks.old) (end - first) first buffer.old) }
+    ensures kept { IsKept R.told R.failures result chunks.old chunks.new }
+    ensures answer { Answers (λ _. buffer.new) result
+        (calls.chunks_in (R.reading chunks.old) (end - first) first buffer.old)
+        (R.failures chunks.old) (R.failures chunks.new) }
 {
     let mut at = 0;
     for chunk in first..end {
@@ -61,8 +74,10 @@ pub(crate) fn chunks_from<R: ReadsChunks>(
     count: u32,
     buffer: &mut [u8],
 ) -> TiffResult<()>
-    ensures { AnswersWithoutSource (λ _. buffer.new) result
-        (calls.chunks_from (R.reading chunks.old) first count buffer.old) }
+    ensures kept { IsKept R.told R.failures result chunks.old chunks.new }
+    ensures answer { Answers (λ _. buffer.new) result
+        (calls.chunks_from (R.reading chunks.old) first count buffer.old) (R.failures chunks.old)
+        (R.failures chunks.new) }
 {
     match first.checked_add(count) {
         Some(end) => chunks_between(chunks, first, end, buffer),

@@ -1,8 +1,8 @@
 //! The call that writes pages behind a file.
 
-use super::file::print_list;
+use super::file::{print_directories, print_list};
 use super::page::{print_pixels, print_sides};
-use super::pages::{GRAY, PAGES};
+use super::pages::{FAMILY, GRAY, PAGES};
 use std::io;
 use tiff_statuses::appended::Appended;
 use tiff_statuses::pages::{NewPage, PagesEnd};
@@ -97,6 +97,14 @@ fn print_version(rt: &HostRuntime, version: u16) -> io::Result<()> {
     print_pixels(rt, file, 3)
 }
 
+// Prints the directories of a file with a page, behind which pages with parents are appended.
+fn print_family(rt: &HostRuntime) -> io::Result<()> {
+    let mut file = [0u8; 2000];
+    let len = print_made(rt, 42, &[GRAY], &mut file)?;
+    let len = print_appended(rt, &mut file, len, &FAMILY)?;
+    print_directories(rt, &file[..len.min(2000)])
+}
+
 // Prints the answers for a short buffer, for pages that are refused behind one that is well, and for
 // a file whose directory links to itself.
 fn print_refused_pages(rt: &HostRuntime) -> io::Result<()> {
@@ -133,6 +141,7 @@ fn print_refused_files(rt: &HostRuntime) -> io::Result<()> {
 pub fn print_all_appended(rt: &HostRuntime) -> io::Result<()> {
     print_version(rt, 42)?;
     print_version(rt, 43)?;
+    print_family(rt)?;
     print_refused_pages(rt)?;
     print_refused_files(rt)
 }

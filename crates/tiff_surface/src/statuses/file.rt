@@ -59,6 +59,14 @@ pub fn print_tree(rt: &HostRuntime, file: &[u8]) -> io::Result<()> {
     println!(rt; "list_directories: {status}, {count}, {:?}", directories[0])
 }
 
+/// Prints a file's directories, with room for six.
+pub fn print_directories(rt: &HostRuntime, file: &[u8]) -> io::Result<()> {
+    let mut directories = [NO_DIRECTORY; 6];
+    let mut count = 0;
+    let status = tiff_statuses::list_directories(rt.alloc(), file, &mut directories, &mut count);
+    println!(rt; "list_directories: {status}, {count}, {directories:?}")
+}
+
 /// Prints the text of a status, as far as there is room for it.
 pub fn print_text(rt: &HostRuntime, status: u32) -> io::Result<()> {
     let mut text = [0u8; 8];

@@ -1,5 +1,6 @@
 //! The call that writes pages.
 
+use super::file::print_directories;
 use super::page::{print_parts, print_pixels, print_samples, print_sides};
 use super::tags::print_values;
 use std::io;
@@ -29,6 +30,7 @@ pub const GRAY: NewPage<'static> = NewPage {
     extra_samples: &[],
     tags: &[],
     samples: &[1, 2],
+    parent: 0,
 };
 
 const WORDS: NewTag<'static> = NewTag {
@@ -134,6 +136,43 @@ const FAILED: [NewPage<'static>; 4] = [
     },
 ];
 
+/// Two pages, and between them two in the SubIFDs of the first one, and one in those of the second of
+/// these.
+pub const FAMILY: [NewPage<'static>; 5] = [
+    GRAY,
+    NewPage { parent: 1, ..GRAY },
+    NewPage { parent: 1, ..GRAY },
+    NewPage { parent: 3, ..GRAY },
+    GRAY,
+];
+
+// SubIFDs of a caller's own.
+const LINK: NewTag<'static> = NewTag {
+    number: 330,
+    value_type: 13,
+    count: 1,
+    values: &[0, 0, 0, 0],
+};
+
+// A parent with SubIFDs of its own.
+const LINKED: [NewPage<'static>; 2] = [
+    NewPage {
+        tags: &[LINK],
+        ..GRAY
+    },
+    NewPage { parent: 1, ..GRAY },
+];
+
+// A page in SubIFDs that the encoder refuses.
+const FAILED_CHILD: [NewPage<'static>; 2] = [
+    GRAY,
+    NewPage {
+        height: 0,
+        parent: 1,
+        ..GRAY
+    },
+];
+
 // Writes pages into a buffer, prints the answer, and returns how long the file is.
 fn print_write(
     rt: &HostRuntime,
@@ -186,6 +225,23 @@ fn print_well(rt: &HostRuntime) -> io::Result<()> {
     print_written(rt, &buffer[..len.min(1000)])
 }
 
+// Prints the directories of pages with parents.
+fn print_family(rt: &HostRuntime, version: u16) -> io::Result<()> {
+    let mut buffer = [0u8; 2000];
+    let len = print_write(rt, version, &FAMILY, &mut buffer)?;
+    print_directories(rt, &buffer[..len.min(2000)])
+}
+
+// Prints the answers to a page that is its own parent, to a parent with SubIFDs of its own, and to a
+// page with a parent that the encoder refuses.
+fn print_orphans(rt: &HostRuntime) -> io::Result<()> {
+    print_second(rt, &NewPage { parent: 2, ..GRAY })?;
+    let mut buffer = [0u8; 600];
+    let _len = print_write(rt, 42, &LINKED, &mut buffer)?;
+    let _len = print_write(rt, 42, &FAILED_CHILD, &mut buffer)?;
+    Ok(())
+}
+
 /// Prints pages that are written, and each page that is refused.
 pub fn print_all_pages(rt: &HostRuntime) -> io::Result<()> {
     print_well(rt)?;
@@ -194,5 +250,8 @@ pub fn print_all_pages(rt: &HostRuntime) -> io::Result<()> {
     let _len = print_write(rt, 41, &PAGES, &mut short)?;
     let _len = print_write(rt, 42, &[], &mut short)?;
     print_seconds(rt, &REFUSED)?;
-    print_seconds(rt, &FAILED)
+    print_seconds(rt, &FAILED)?;
+    print_family(rt, 42)?;
+    print_family(rt, 43)?;
+    print_orphans(rt)
 }

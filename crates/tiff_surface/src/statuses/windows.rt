@@ -53,6 +53,21 @@ fn print_parts(rt: &HostRuntime, seen: &Windows<'_>) -> io::Result<()> {
     println!(rt; "read_planned_chunk_in: {status}, {chunk:?}, {wanted:?}")
 }
 
+// Prints what is read of so many chunks, from the first one on, of a file of which these windows are.
+fn print_range(rt: &HostRuntime, seen: &Windows<'_>, count: u32) -> io::Result<()> {
+    let (mut chunks, mut wanted) = ([0u8; 14], NOTHING);
+    let status = tiff_statuses::read_planned_chunks_in(
+        rt.alloc(),
+        seen,
+        &PLAN,
+        0,
+        count,
+        &mut chunks,
+        &mut wanted,
+    );
+    println!(rt; "read_planned_chunks_in 0 {count}: {status}, {chunks:?}, {wanted:?}")
+}
+
 // Prints the tags of page 0 of a file of which these windows are, and the bytes of BitsPerSample.
 fn print_tags(rt: &HostRuntime, seen: &Windows<'_>) -> io::Result<()> {
     let (mut entries, mut count) = ([NO_ENTRY], 9);
@@ -105,6 +120,8 @@ pub fn print_windows(rt: &HostRuntime, file: &[u8]) -> io::Result<()> {
         let seen = Windows { len, windows };
         print_lists(rt, &seen)?;
         print_parts(rt, &seen)?;
+        print_range(rt, &seen, 1)?;
+        print_range(rt, &seen, 2)?;
         print_tags(rt, &seen)?;
     }
     Ok(())

@@ -1,4 +1,5 @@
-use Rattle.tiff_statuses.specs.Directories.{TreeTells, tree_of}
+use Rattle.tiff_pages.specs.OfFile.{tree_of}
+use Rattle.tiff_statuses.specs.Directories.{TreeTells}
 use Rattle.tiff_base.specs.Windows.{file_of}
 use Rattle.tiff_statuses.proofs.SeenFiles.{of_order, tells_of}
 use Rattle.tiff_statuses.proofs.in_windows.list_directories_in.Goals as goal

@@ -1,4 +1,5 @@
-use Rattle.tiff_statuses.specs.List.{ListTells, list_of}
+use Rattle.tiff_pages.specs.OfFile.{list_of}
+use Rattle.tiff_statuses.specs.List.{ListTells}
 use Rattle.tiff_base.specs.Windows.{file_of}
 use Rattle.tiff_statuses.proofs.SeenFiles.{of_order, tells_of}
 use Rattle.tiff_statuses.proofs.in_windows.list_pages_in.Goals as goal

@@ -1,7 +1,4 @@
-use Rattle.std.proofs.Common.{Ok, refl, sym, ap, subst}
-use Rattle.tiff_decode.specs.NextState.{view_of_result}
-use Rattle.tiff_statuses.specs.Frame.{IsAround, file_of}
-use Rattle.tiff_statuses.specs.Writer.{DeliversParts}
+use Rattle.std.proofs.Common.{refl}
 use Rattle.tiff_statuses.proofs.Parts.{parts_put}
 use Rattle.tiff_statuses.proofs.writer.deliver_around.Goals as goal
 
