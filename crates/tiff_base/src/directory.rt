@@ -252,8 +252,8 @@ impl Directory {
         Some((*next, entry))
     }
 
-    /// Reserves memory for the field of a tag, if the directory has no such field. After that,
-    /// setting this field allocates nothing.
+    /// Reserves memory for the field of a tag, if the directory has no such field, so that setting
+    /// this field allocates nothing after it. No clause says how much memory is reserved.
     pub fn make_room(&mut self, tag: Tag) -> Result<(), AllocError>
         ensures { self.new ≡ self.old }
     {

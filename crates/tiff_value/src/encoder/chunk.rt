@@ -97,9 +97,9 @@ fn clear_for(rows: usize, row: usize, out: &mut Vec<u8>) -> TiffResult<()>
 }
 
 /// Replaces the contents of a list by the bytes packed by PackBits (TIFF 6.0 section 9). It
-/// reserves room for the largest possible number of packed bytes. The list then takes no further
-/// memory for another chunk of as many bytes. The only error is `OutOfMemory`, after which the list
-/// may contain anything.
+/// reserves room for the largest possible number of packed bytes first, so that the list takes no
+/// further memory for another chunk of as many bytes; no clause says how much room it has. The only
+/// error is `OutOfMemory`, after which the list may contain anything.
 pub fn pack_chunk(bytes: &[u8], out: &mut Vec<u8>) -> TiffResult<()>
     ensures { MatchResult result (λ _. IsPacked bytes.now out.new.items)
         (λ e. e ≡ TiffError.OutOfMemory) }
