@@ -142,6 +142,7 @@ class PageField(IntEnum):
     TAGS = 7
     SAMPLES = 8
     LAYOUT = 9
+    PARENT = 10
 
 
 COMPRESSION, UNCOMPRESSED = 259, 1
@@ -366,6 +367,7 @@ class PageToWrite(Structure):
         ("tags_len", c_size_t),
         ("samples", c_void_p),
         ("samples_len", c_size_t),
+        ("parent", c_size_t),
     ]
 
 

@@ -89,7 +89,8 @@ class NewPage:
 
     The samples have rows, columns and the samples of a pixel; of packed pixels, rows, the bytes of
     a row and 1, and `columns` is how many pixels a row has. The resolution is the unit, and two
-    fractions along a row and along a column.
+    fractions along a row and along a column. A SubIFD has the number of its page, which comes before
+    it in the list, as `parent`; pages are numbered from 1.
     """
 
     color: tuple[str, str]
@@ -98,6 +99,7 @@ class NewPage:
     tags: tuple[NewTag, ...] = ()
     resolution: tuple[int, tuple[int, int], tuple[int, int]] | None = None
     columns: int | None = None
+    parent: int = 0
 
     @property
     def sides(self) -> tuple[int, int]:
@@ -167,6 +169,7 @@ def page_to_write(page: NewPage) -> PageToWrite:
         tags_len=len(page.tags),
         samples=page.samples.ctypes.data,
         samples_len=page.samples.nbytes,
+        parent=page.parent,
     )
 
 

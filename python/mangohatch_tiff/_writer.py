@@ -1,7 +1,9 @@
 """Files of which pages are written one after another, and files on disk that get more pages."""
 from __future__ import annotations
 
+import operator
 import os
+from dataclasses import replace
 from typing import TYPE_CHECKING, Any
 
 from . import _directory, _library
@@ -23,7 +25,7 @@ WAITING = 1 << 24
 # tifffile's other parameters, each with the value that asks for nothing.
 OPENED = {name: OTHERS[name] for name in ("byteorder", "imagej", "ome", "shaped")}
 WRITTEN = {name: value for name, value in OTHERS.items() if name not in OPENED}
-WRITTEN |= {"subifds": (None, 0), "rowsperslice": (None,)}
+WRITTEN |= {"rowsperslice": (None,)}
 
 
 class TiffWriter(Closing):
@@ -44,6 +46,8 @@ class TiffWriter(Closing):
     ) -> None:
         judge_others(others, "TiffWriter", OPENED)
         self._pages: list[NewPage] = []
+        # How many arrays of SubIFDs are to come, and the numbers of the waiting pages that get them.
+        self._levels, self._parents = 0, range(0)
         self._big = bigtiff
         self._owned = isinstance(file, (str, os.PathLike))
         if isinstance(file, (str, os.PathLike)):
@@ -77,8 +81,11 @@ class TiffWriter(Closing):
         """Returns the bytes of the file, for a `with` block."""
         return Held(self._file, self._start)
 
-    def write(self, data: ArrayLike, **settings: Any) -> None:
+    def write(self, data: ArrayLike, *, subifds: int | None = None, **settings: Any) -> None:
         """Writes an array as pages. The parameters are those of `imwrite`, of these pages alone.
+
+        The pages of the next `subifds` arrays become SubIFDs of these pages, as the levels of a
+        pyramid do: each has as many pages, and each page goes below the one of its index.
 
         Errors are those of `imwrite`, before anything of this array is written; those that the
         library tells may come with a later array, or by `close`: an error of a page, as
@@ -89,22 +96,40 @@ class TiffWriter(Closing):
         known = {name: settings.pop(name) for name in [*settings] if name in WRITTEN}
         judge_others(known, "write", WRITTEN)
         array = numpy.asarray(data)
-        self._add(array, settings_of(array, **settings))
+        self._add(array, settings_of(array, **settings), operator.index(subifds or 0))
 
-    def _add(self, array: NDArray[Any], settings: Settings) -> None:
+    def _add(self, array: NDArray[Any], settings: Settings, levels: int = 0) -> None:
         """Writes the pages of an array, or lets them wait."""
         from ._write import judge_shape, pages_of
 
         pages = pages_of(array, settings)
         if settings.has_shape:
             judge_shape(pages)
+        pages = self._placed(pages, levels)
         waiting = self._pages + pages
-        if sum(page.samples.nbytes for page in waiting) < WAITING or not self._can_append:
+        size = sum(page.samples.nbytes for page in waiting)
+        # SubIFDs are written by the same call as their pages.
+        if self._levels or size < WAITING or not self._can_append:
             # The caller may change its array before these pages are written.
             self._pages += [page.copied() for page in pages]
             return
         self._pages = waiting
         self._flush()
+
+    def _placed(self, pages: list[NewPage], levels: int) -> list[NewPage]:
+        """Returns pages as SubIFDs of those that wait for some; or begins to wait for some."""
+        if levels < 0:
+            raise ValueError(f"subifds={levels}")
+        if not self._levels:
+            first = len(self._pages) + 1
+            self._levels, self._parents = levels, range(first, first + len(pages))
+            return pages
+        if levels:
+            raise UnsupportedError("write: subifds of SubIFDs")
+        if len(pages) != len(self._parents):
+            raise ValueError(f"{len(pages)} pages as SubIFDs of {len(self._parents)}")
+        self._levels -= 1
+        return [replace(page, parent=number) for page, number in zip(pages, self._parents)]
 
     @property
     def _can_append(self) -> bool:

@@ -221,13 +221,10 @@ def test_a_generator_of_tiles() -> None:
     numpy.testing.assert_array_equal(tifffile.imread("temp.tif"), data)
 
 
-def test_pyramids() -> None:
-    """They are read, and not written."""
+@pytest.mark.parametrize("writer", [TiffWriter, tifffile.TiffWriter])
+def test_pyramids(writer) -> None:
     data = numpy.random.randint(0, 255, (512, 512, 3), "uint8")
-    with TiffWriter("temp.tif", bigtiff=True) as tif:
-        with pytest.raises(mt.UnsupportedError, match="subifds"):
-            tif.write(data, subifds=2, photometric="rgb", tile=(128, 128))
-    with tifffile.TiffWriter("temp.tif", bigtiff=True) as tif:
+    with writer("temp.tif", bigtiff=True) as tif:
         tif.write(data, subifds=2, photometric="rgb", tile=(128, 128))
         for mag in (2, 4):
             tif.write(data[::mag, ::mag], subfiletype=1, photometric="rgb", tile=(128, 128))

@@ -1,14 +1,19 @@
 """Files of which pages are written one after another, and files that get more pages."""
 from __future__ import annotations
 
+import ctypes
+import ctypes.util
 import inspect
 import io
+import os
+import struct
 from pathlib import Path
 
 import numpy
 import pytest
 import tifffile
 from conftest import samples
+from PIL import Image
 
 import mangohatch_tiff as mt
 from mangohatch_tiff import _writer
@@ -86,7 +91,7 @@ def test_what_is_refused(tmp_path: Path) -> None:
     with pytest.raises(TypeError, match="bigTiff"):
         mt.TiffWriter(path, bigTiff=True)
     with mt.TiffWriter(path) as writer:
-        for given in ({"subifds": 2}, {"contiguous": True}, {"returnoffset": True}):
+        for given in ({"contiguous": True}, {"returnoffset": True}):
             with pytest.raises(mt.UnsupportedError, match=[*given][0]):
                 writer.write(samples((3, 4), "u1"), **given)
         with pytest.raises(TypeError, match="colour"):
@@ -101,7 +106,7 @@ def test_parameters_of_tifffile_are_known() -> None:
     opened = set(inspect.signature(tifffile.TiffWriter.__init__).parameters) - {"self", "file"}
     assert opened == set(_writer.OPENED) | {"bigtiff", "append"}
     written = set(inspect.signature(tifffile.TiffWriter.write).parameters) - {"self", "data"}
-    ours = set(inspect.signature(mt.imwrite).parameters)
+    ours = set(inspect.signature(mt.imwrite).parameters) | set(inspect.signature(mt.TiffWriter.write).parameters)
     assert written <= ours | set(_writer.WRITTEN)
 
 
@@ -217,3 +222,97 @@ def test_many_pages(tmp_path: Path, monkeypatch) -> None:
         for image in stack:
             writer.write(image)
     numpy.testing.assert_array_equal(mt.imread(path), stack)
+
+
+def assert_levels(file: bytes, before: int, stack: numpy.ndarray) -> None:
+    """Compares the levels of a pyramid, and the page behind it, also by tifffile."""
+    ours, theirs = mt.TiffFile(file), tifffile.TiffFile(io.BytesIO(file))
+    assert len(ours) == len(theirs.pages) == before + len(stack) + 1
+    for index, image in enumerate(stack):
+        page, other = ours.pages[before + index], theirs.pages[before + index]
+        numpy.testing.assert_array_equal(page.asarray(), image)
+        numpy.testing.assert_array_equal(other.asarray(), image)
+        places = page.tags["SubIFDs"].value
+        assert list(places) == list(other.subifds) and len(places) == 2
+        for step, place, level in zip((2, 4), places, other.pages):
+            numpy.testing.assert_array_equal(ours.page_at(place).asarray(), image[::step, ::step])
+            numpy.testing.assert_array_equal(level.asarray(), image[::step, ::step])
+    numpy.testing.assert_array_equal(ours.pages[-1].asarray(), WRITTEN[0][0])
+
+
+@pytest.mark.parametrize("bigtiff", [False, True])
+@pytest.mark.parametrize("waiting", [0, 1 << 24])
+def test_subifds(bigtiff: bool, waiting: int, tmp_path: Path, monkeypatch) -> None:
+    monkeypatch.setattr(_writer, "WAITING", waiting)
+    path, stack = tmp_path / "levels.tif", samples((3, 32, 48), "u2")
+
+    def write(writer: mt.TiffWriter) -> None:
+        writer.write(stack, subifds=2, tile=(16, 16), photometric="minisblack")
+        for step in (2, 4):
+            writer.write(stack[:, ::step, ::step], subfiletype=1, photometric="minisblack")
+        writer.write(WRITTEN[0][0])
+
+    with mt.TiffWriter(path, bigtiff=bigtiff) as writer:
+        write(writer)
+    assert_levels(path.read_bytes(), 0, stack)
+    with mt.TiffWriter(path, append=True) as writer:
+        write(writer)
+    assert_levels(path.read_bytes(), 4, stack)
+
+
+def test_refused_subifds(tmp_path: Path) -> None:
+    path, stack = tmp_path / "levels.tif", STACK
+    with mt.TiffWriter(path) as writer:
+        writer.write(stack, subifds=2)
+        with pytest.raises(ValueError, match="4 pages as SubIFDs of 5"):
+            writer.write(stack[:4], photometric="minisblack")
+        with pytest.raises(mt.UnsupportedError, match="subifds of SubIFDs"):
+            writer.write(stack, subifds=1)
+        writer.write(stack)
+    # the second array never came
+    assert [len(page.tags["SubIFDs"].value) for page in tifffile.TiffFile(path).pages] == [1] * 5
+    with mt.TiffWriter(path) as writer, pytest.raises(ValueError, match="subifds=-1"):
+        writer.write(stack, subifds=-1)
+
+
+def read_by_libtiff(file: Path, place: int, like: numpy.ndarray) -> numpy.ndarray:
+    """Returns the image of the directory at an offset, which is in strips, as libtiff reads it."""
+    library = ctypes.CDLL(ctypes.util.find_library("tiff"))
+    library.TIFFOpen.restype, library.TIFFReadEncodedStrip.restype = ctypes.c_void_p, ctypes.c_ssize_t
+    tif = ctypes.c_void_p(library.TIFFOpen(os.fsencode(file), b"r"))
+    assert library.TIFFSetSubDirectory(tif, ctypes.c_uint64(place)) == 1
+    image, read = numpy.zeros_like(like), 0
+    for strip in range(library.TIFFNumberOfStrips(tif)):
+        rest = ctypes.c_void_p(image.ctypes.data + read)
+        size = library.TIFFReadEncodedStrip(tif, ctypes.c_uint32(strip), rest, ctypes.c_ssize_t(image.nbytes - read))
+        assert size > 0
+        read += size
+    library.TIFFClose(tif)
+    assert read == image.nbytes
+    return image
+
+
+def read_by_pillow(file: bytes, place: int, bigtiff: bool) -> numpy.ndarray:
+    """Returns the image of the directory at an offset, to which the header of a copy links, as Pillow reads it."""
+    copy = bytearray(file)
+    struct.pack_into(*("<Q", copy, 8) if bigtiff else ("<I", copy, 4), place)
+    with Image.open(io.BytesIO(copy)) as image:
+        return numpy.asarray(image)
+
+
+@pytest.mark.parametrize("compression", [None, "packbits"])
+@pytest.mark.parametrize("dtype", ["u1", "u2", "f4"])
+@pytest.mark.parametrize("bigtiff", [False, True])
+def test_others_read_subifds(bigtiff: bool, dtype: str, compression: str | None, tmp_path: Path) -> None:
+    path, stack = tmp_path / "levels.tif", samples((2, 40, 24), dtype)
+    with mt.TiffWriter(path, bigtiff=bigtiff) as writer:
+        writer.write(stack, subifds=2, compression=compression, rowsperstrip=7)
+        for step in (2, 4):
+            writer.write(stack[:, ::step, ::step], subfiletype=1, compression=compression, rowsperstrip=3)
+    ours, file = mt.TiffFile(path), path.read_bytes()
+    for index, image in enumerate(stack):
+        for step, place in zip((2, 4), ours.pages[index].tags["SubIFDs"].value):
+            level = numpy.ascontiguousarray(image[::step, ::step])
+            if ctypes.util.find_library("tiff"):
+                numpy.testing.assert_array_equal(read_by_libtiff(path, place, level), level)
+            numpy.testing.assert_array_equal(read_by_pillow(file, place, bigtiff), level)

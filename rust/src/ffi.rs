@@ -192,6 +192,7 @@ mod c {
         pub(super) tags_len: usize,
         pub(super) samples: *const u8,
         pub(super) samples_len: usize,
+        pub(super) parent: usize,
     }
 
     /// `struct tiff_pages_end`.
@@ -549,6 +550,7 @@ impl NewPage {
             tags_len: tags.len(),
             samples: self.samples.as_ptr(),
             samples_len: self.samples.len(),
+            parent: 0,
         }
     }
 
@@ -695,7 +697,7 @@ mod tests {
         assert_eq!((size_of::<ListedPage>(), align_of::<ListedPage>()), (56, 8));
         assert_eq!((size_of::<c::Image>(), align_of::<c::Image>()), (20, 4));
         assert_eq!((size_of::<c::NewTag>(), size_of::<c::PagesEnd>()), (32, 16));
-        assert_eq!((size_of::<c::NewPage>(), align_of::<c::NewPage>()), (96, 8));
+        assert_eq!((size_of::<c::NewPage>(), align_of::<c::NewPage>()), (104, 8));
     }
 
     #[test]
