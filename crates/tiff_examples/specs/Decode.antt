@@ -2,6 +2,7 @@
 pub mod Outcome
 pub mod Machine
 pub mod OutcomeQueries
+pub mod OutcomePixels
 pub mod Steps
 pub mod Reader
 pub mod Asked

@@ -1,2 +1,3 @@
 -- Worked examples of the definitions of `tiff_statuses`.
 pub mod InWindows
+pub mod Parents

@@ -4,6 +4,7 @@
 pub mod asked;
 pub mod machine;
 pub mod outcome;
+pub mod outcome_pixels;
 pub mod outcome_queries;
 pub mod reader;
 pub mod steps;

@@ -1,4 +1,4 @@
-//! Worked examples of calls of decoders that move nothing.
+//! Worked examples of calls of decoders that return the tags of a page.
 #![tactic(auto, using(crate::proofs::OfDecode::OutcomeQueries::worked), unfolding(tiff::proofs::OnLiterals::tiff_on_literals))]
 
 ghost use Rattle.tiff_examples.specs.Decode.OutcomeQueries as s;
@@ -22,19 +22,4 @@ pub fn fields()
     ensures { s.field_got × s.field_none × s.buffer_found × s.buffer_none × s.slice_from_4
         × s.slice_from_8 ×
         s.slice_none }
-{}
-
-/// A decoder's facts about its page.
-pub fn facts()
-    ensures { s.sides × s.sides_wide × s.color × s.no_color × s.strips × s.strips_of_tiles
-        × s.tiles_of_strips ×
-        s.tiles × s.image_laid × s.image_unlaid × s.chunk_laid × s.chunk_unlaid × s.unit_laid × s.unit_past }
-{}
-
-/// Pixels of a page.
-pub fn pixels()
-    ensures { s.image_read × s.image_cut × s.image_limited × s.buffer_read × s.buffer_cut
-        × s.slice_read ×
-        s.slice_short × s.chunk_read × s.chunk_past × s.chunk_slice × s.chunk_slice_short × s.chunk_apart ×
-        s.chunk_stride × s.unit_read × s.unit_absent }
 {}
