@@ -11,7 +11,7 @@ use Rattle.tiff_statuses.specs.declared.pages.NewTag.{NewTag}
 use Rattle.tiff_statuses.specs.declared.pages.PageField.TheVariants as field
 use Rattle.tiff_statuses.specs.declared.pages.Place.{Place}
 use Rattle.tiff_statuses.specs.declared.pages.Refusal.{Refusal}
-use Rattle.tiff_statuses.specs.Pages.{◌>>=◌, IsOutAt, PageJob, PageStep, PagesView, at_page, behind, both, in_field, jobs_from, link_step, no_jobs, page_in, page_jobs, place_in, placed, step_view, sub_ifds, with_links}
+use Rattle.tiff_statuses.specs.Pages.{◌>>=◌, IsOutAt, IsOutIn, PageJob, PageStep, PagesView, at_page, behind, both, in_field, jobs_from, link_step, no_jobs, page_in, page_jobs, place_in, placed, step_view, sub_ifds, with_links}
 
 pub drop_here : {A : Type 0} (xs : List A) (i : ℕ) (d : A) → i < length xs → drop i xs ≡ get_or xs i d ∷ drop (i + 1) xs
 drop_here [] i d h = absurd (omega arith)
@@ -145,6 +145,6 @@ module _ (kind : FileKind) (pages : List NewPage) (told : Result PagesView (ℕ 
     page_made next h = here ∙ made (i + 1) Own Rest done next (ap (λ (r : Result PagesView Refusal). behind done r) (sym so) ∙ h)
 
     -- A page is refused, or memory is out.
-    pub page_refused : (e : Refusal) → IsOutAt e ⊎ (behind done Made ≡ Err e) → IsOutAt e ⊎ (told ≡ Err (i + 1, e))
-    page_refused e (inl out) = inl out
+    pub page_refused : (e : Refusal) → IsOutAt e ⊎ (behind done Made ≡ Err e) → IsOutIn pages (i + 1, e) ⊎ (told ≡ Err (i + 1, e))
+    page_refused e (inl out) = inl (out, (omega arith, omega (arith, more)))
     page_refused e (inr h) = inr (here ∙ refused (i + 1) Own Rest done e (ap (λ (r : Result PagesView Refusal). behind done r) (sym so) ∙ h))

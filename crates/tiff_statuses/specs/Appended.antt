@@ -21,7 +21,7 @@ use Rattle.tiff_statuses.specs.declared.pages.PagesAnswer.TheVariants.{Refused, 
 use Rattle.tiff_statuses.specs.declared.pages.PagesEnd.{PagesEnd}
 use Rattle.tiff_statuses.specs.declared.pages.PagesJobs.{PagesJobs}
 use Rattle.tiff_statuses.specs.declared.pages.WrittenPages.{WrittenPages}
-use Rattle.tiff_statuses.specs.Pages.{IsOutAt, LeftPages, PagesGoOn, TellsPages, jobs_of_pages, no_page, pages_view, refused_in}
+use Rattle.tiff_statuses.specs.Pages.{LeftPages, PagesGoOn, RefusesPages, TellsPages, jobs_of_pages, no_page, pages_view, refused_in}
 use Rattle.tiff_statuses.specs.Status.{fault_number}
 
 -- ---- what is written
@@ -50,8 +50,8 @@ RunsBehind kind file q pages outcome = (jobs : PagesJobs)
     × ((jobs_of_pages kind pages ≡ Ok (pages_view jobs)) × RanBehind kind file q jobs outcome)
 
 -- The jobs of the pages were run behind a file: they leave it with these bytes over its last link,
--- which are the number `target`, and more bytes behind it. Or the first page and field that are
--- refused are known, or at which memory was out, and no job was run.
+-- which are the number `target`, and more bytes behind it. Or a page was refused, and no job was
+-- run.
 abbrev pub AnswersBehind : FileKind → List ℕ → ℕ → List NewPage → Result (ℕ × PagesAnswer) TiffError
     → Type 0
 AnswersBehind kind file q pages (Ok (target, Ran ran)) = (link : List ℕ)
@@ -59,7 +59,7 @@ AnswersBehind kind file q pages (Ok (target, Ran ran)) = (link : List ℕ)
     × ((target ≡ number LittleEndian (offset_width kind) link)
     × RunsBehind kind file q pages (Ok (added_to file q link ran.file.items, ran.refused))))
 AnswersBehind kind file q pages (Ok (target, Refused page refusal)) =
-    IsOutAt refusal ⊎ (jobs_of_pages kind pages ≡ Err (page, refusal))
+    RefusesPages kind pages page refusal
 AnswersBehind kind file q pages (Err e) = (e ≡ OutOfMemory) ⊎ RunsBehind kind file q pages (Err e)
 
 -- the answer to pages behind a file: behind its last link; or the error of the file, or out of

@@ -1,5 +1,5 @@
 -- Pages that C passes: the jobs of the encoder that they stand for, and what C gets for them.
-use Rattle.std.specs.Prelude.{◌≡◌, ◌⊎◌, ℕ, ◌+◌, ◌-◌, ◌*◌, ◌==◌, ◌&&◌, ◌++◌, List, [], ◌∷◌, length, map, take, replicate, count_by, slice_get, slice_index, slice_set, nat_lt, nat_le, if◌then◌else◌, Option, None, Some, Result, Ok, Err}
+use Rattle.std.specs.Prelude.{◌≡◌, ◌⊎◌, ℕ, ◌+◌, ◌-◌, ◌*◌, ◌<◌, ◌≤◌, max, ◌==◌, ◌&&◌, ◌++◌, List, [], ◌∷◌, length, map, take, replicate, count_by, slice_get, slice_index, slice_set, nat_lt, nat_le, if◌then◌else◌, Option, None, Some, Result, Ok, Err}
 use Rattle.std.specs.FinMap.{entries, get}
 use Rattle.std.specs.Int.{div_ceil}
 use Rattle.std.specs.List.{list_any}
@@ -152,6 +152,10 @@ IsOut e = e ≡ OutOfMemory
 
 abbrev pub IsOutAt : Refusal → Type 0
 IsOutAt refusal = refusal.fault ≡ OutOfMemory
+
+-- Memory was out at a page of the list, which are counted from 1; before any was seen, at the first.
+abbrev pub IsOutIn : List NewPage → ℕ × Refusal → Type 0
+IsOutIn pages at = IsOutAt at.1 × ((0 < at.0) × (at.0 ≤ max 1 (length pages)))
 
 -- ---- the fields of a page
 
@@ -600,13 +604,17 @@ abbrev pub RunsPages : FileKind → List NewPage → Result LeftPages TiffError 
 RunsPages kind pages outcome = (jobs : PagesJobs)
     × ((jobs_of_pages kind pages ≡ Ok (pages_view jobs)) × RanPages kind jobs outcome)
 
--- The jobs of the pages were run; or the first page and field that are refused are known, or at
--- which memory was out, and no job was run. An error is that of memory, or of a parent's directory
--- that can't be read, which no clause excludes.
+-- A page of the list is refused before any job is run: the first one with an error, with its field;
+-- or the one at which memory was out.
+abbrev pub RefusesPages : FileKind → List NewPage → ℕ → Refusal → Type 0
+RefusesPages kind pages page refusal =
+    IsOutIn pages (page, refusal) ⊎ (jobs_of_pages kind pages ≡ Err (page, refusal))
+
+-- The jobs of the pages were run, or a page was refused, and no job was run. An error is that of
+-- memory, or of a parent's directory that can't be read, which no clause excludes.
 abbrev pub AnswersPages : FileKind → List NewPage → Result PagesAnswer TiffError → Type 0
 AnswersPages kind pages (Ok (Ran ran)) = RunsPages kind pages (Ok (ran.file.items, ran.refused))
-AnswersPages kind pages (Ok (Refused page refusal)) =
-    IsOutAt refusal ⊎ (jobs_of_pages kind pages ≡ Err (page, refusal))
+AnswersPages kind pages (Ok (Refused page refusal)) = RefusesPages kind pages page refusal
 AnswersPages kind pages (Err e) = (e ≡ OutOfMemory) ⊎ RunsPages kind pages (Err e)
 
 abbrev pub no_page : PagesEnd

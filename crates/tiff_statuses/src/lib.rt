@@ -33,6 +33,7 @@ pub use tiff_lists::VERSION;
 
 pub mod appended;
 pub mod calls;
+mod children;
 pub mod directories;
 pub mod entries;
 mod frame;

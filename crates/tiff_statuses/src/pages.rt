@@ -1,20 +1,20 @@
 //! A file of several pages, whose parameters, tags and samples C passes.
 
-ghost use Rattle.std.specs.List.{list_any};
-ghost use Rattle.std.specs.Prelude.{◌≡◌, ◌==◌, ◌++◌, ◌-◌, ◌+◌, ◌≤◌, ◌<◌, ◌∷◌, [], length, map, slice_get, take, MatchResult};
+ghost use Rattle.std.specs.Prelude.{◌≡◌, ◌++◌, ◌+◌, [], length, map, slice_get, MatchResult};
 ghost use Rattle.tiff_encode.specs.FileBytes.{offset_len};
 ghost use Rattle.tiff_statuses.specs.Pages as spec;
-ghost use Rattle.tiff_statuses.specs.Pages.{AnswersPages, AnswersVersion, IsOut, IsOutAt, Makes, TellsPages, appended, behind, each, job_view, jobs_of_pages, pages_view, settings_steps, step_view};
-ghost use Rattle.tiff_statuses.specs.Parents.{AreCounts, CountsBefore};
+ghost use Rattle.tiff_statuses.specs.Pages.{AnswersPages, AnswersVersion, IsOut, IsOutAt, IsOutIn, Makes, TellsPages, appended, behind, each, job_view, jobs_of_pages, pages_view, settings_steps, step_view};
+ghost use Rattle.tiff_statuses.specs.Parents.{AreCounts};
 ghost use Rattle.tiff_statuses.specs.Writer as writer;
 
+use crate::children::{add_links, count_page, counts_of, no_counts};
 use crate::frame::NewFile;
 use crate::jobs::run;
 use crate::parents::{Links, go_on};
 use crate::status::fault_number;
 use crate::writer::{color_named, deliver, kind_of, packing_named, predictor_named};
 use std::alloc::Global;
-use tiff_append::last_link::{header_link, link_size};
+use tiff_append::last_link::header_link;
 use tiff_base::error::{TiffError, TiffFormatError, TiffResult, TiffUnsupportedError, UsageError};
 use tiff_base::io::IoKind;
 use tiff_base::tags::{
@@ -295,103 +295,6 @@ fn add_tags(alloc: Global, tags: &[NewTag<'_>], steps: &mut Vec<ImageStep<'_>>) 
     Ok(())
 }
 
-// ---- parents
-
-// Counts the page at an index, by its parent, behind those before it. Returns how many of these have
-// the same parent. A parent without a count isn't counted.
-fn count_page(counts: &mut Vec<usize>, pages: &[NewPage<'_>], i: usize) -> usize
-    requires within { i < length pages.now }
-    requires counted { AreCounts counts.old.items (take i pages.now) }
-    ensures counted { AreCounts counts.new.items (take (i + 1) pages.now) }
-    ensures len { length counts.new.items ≡ length counts.old.items }
-    ensures result { CountsBefore (length counts.old.items) pages.now i result }
-{
-    let _most = pages.len();
-    let parent = pages[i].parent;
-    if parent < counts.len() {
-        let before = counts[parent];
-        counts[parent] = before + 1;
-        return before;
-    }
-    0
-}
-
-// A count for each number of a page, and for 0, all of them 0.
-fn no_counts(alloc: Global, pages: &[NewPage<'_>]) -> TiffResult<Vec<usize>>
-    ensures { MatchResult result (λ v. (length v.items ≡ length pages.now + 1)
-        × AreCounts v.items []) IsOut }
-{
-    Ok(vec![in alloc; 0usize; pages.len() + 1]?)
-}
-
-// How many of these pages have the page of each number as their parent.
-fn counts_of(alloc: Global, pages: &[NewPage<'_>]) -> TiffResult<Vec<usize>>
-    ensures { MatchResult result (λ v. (length v.items ≡ length pages.now + 1)
-        × AreCounts v.items pages.now) IsOut }
-{
-    let mut counts = no_counts(alloc, pages)?;
-    for i in 0..pages.len() {
-        let _before = count_page(&mut counts, pages, i);
-    }
-    Ok(counts)
-}
-
-// The type of the values of the tag SubIFDs.
-fn link_type(kind: FileKind) -> Type
-    ensures { result ≡ spec.link_type kind }
-{
-    match kind {
-        FileKind::Classic => Type::IFD,
-        FileKind::Big => Type::IFD8,
-    }
-}
-
-// The call that sets the tag SubIFDs to as many zeros as a page has children.
-fn link_step<'a>(alloc: Global, kind: FileKind, children: usize) -> TiffResult<ImageStep<'a>>
-    ensures { MatchResult result (λ s. step_view s ≡ spec.link_step kind children) IsOut }
-{
-    let Some(len) = children.checked_mul(link_size(kind)) else {
-        return Err(TiffError::OutOfMemory);
-    };
-    let buffer = JobBuffer {
-        data_type: link_type(kind),
-        order: ByteOrder::LittleEndian,
-        bytes: vec![in alloc; 0u8; len]?,
-    };
-    Ok(ImageStep::Directory(DirectoryStep::WriteTagBuf(Tag::SubIfd, buffer)))
-}
-
-// Whether SubIFDs is one of the caller's tags.
-fn has_links(tags: &[NewTag<'_>]) -> bool
-    ensures { result ≡ list_any (λ tag. tag.number == spec.sub_ifds) tags.now }
-{
-    tags.iter().any(|tag| tag.number == Tag::SubIfd.to_u16())
-}
-
-// Puts the call that sets the tag SubIFDs of a page behind the others, if the page has children.
-// `IoError(InvalidInput)` if it is one of the caller's tags.
-#[tactic(auto, using(crate::proofs::PagesMade::links_added))]
-fn add_links(
-    alloc: Global,
-    kind: FileKind,
-    children: usize,
-    tags: &[NewTag<'_>],
-    steps: &mut Vec<ImageStep<'_>>,
-) -> TiffResult<()>
-    ensures { Makes IsOut (λ _. map step_view steps.new.items) result
-        (spec.with_links kind children tags.now (map step_view steps.old.items)) }
-{
-    if children == 0 {
-        return Ok(());
-    }
-    if has_links(tags) {
-        return Err(TiffError::IoError(IoKind::InvalidInput));
-    }
-    let step = link_step(alloc, kind, children)?;
-    steps.push(step)?;
-    Ok(())
-}
-
 // ---- settings
 
 // Puts the calls that say how the chunks lie behind the others.
@@ -629,7 +532,7 @@ fn add_pages<'a>(
 ) -> Result<PagesJobs<'a>, (usize, Refusal)>
     requires counts { (length counts.now ≡ length pages.now + 1) × AreCounts counts.now pages.now }
     requires seen { (length seen.items ≡ length pages.now + 1) × AreCounts seen.items [] }
-    ensures { Makes (λ e. IsOutAt e.1) (λ jobs. pages_view jobs) result
+    ensures { Makes (IsOutIn pages.now) (λ jobs. pages_view jobs) result
         (jobs_of_pages kind pages.now) }
 {
     let mut jobs = PagesJobs {
@@ -652,7 +555,7 @@ fn add_pages<'a>(
 
 // Memory is out before a page is seen, which is told of the first one.
 fn out_of_memory() -> (usize, Refusal)
-    ensures { IsOutAt result.1 }
+    ensures { (result.0 ≡ 1) × IsOutAt result.1 }
 {
     let refusal = Refusal {
         field: PageField::Whole,
@@ -668,7 +571,7 @@ pub fn jobs_of<'a>(
     kind: FileKind,
     pages: &[NewPage<'a>],
 ) -> Result<PagesJobs<'a>, (usize, Refusal)>
-    ensures { Makes (λ e. IsOutAt e.1) (λ jobs. pages_view jobs) result
+    ensures { Makes (IsOutIn pages.now) (λ jobs. pages_view jobs) result
         (jobs_of_pages kind pages.now) }
 {
     let Ok(counts) = counts_of(alloc, pages) else {

@@ -1,6 +1,6 @@
 use Rattle.std.proofs.Common.{arith}
 use Rattle.tiff_statuses.proofs.Counts.{nothing, none_before, one_more, room, some_before}
-use Rattle.tiff_statuses.proofs.pages.count_page.Goals as goal
+use Rattle.tiff_statuses.proofs.children.count_page.Goals as goal
 
 pub overflow_add-before : goal.overflow_add-before
 overflow_add-before c =

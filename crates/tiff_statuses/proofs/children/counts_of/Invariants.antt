@@ -1,6 +1,6 @@
 use Rattle.std.proofs.Common.{◌≡◌, ◌+◌, length, take}
 use Rattle.tiff_statuses.specs.Parents.{AreCounts}
-use Rattle.tiff_statuses.proofs.pages.counts_of.Given as goal
+use Rattle.tiff_statuses.proofs.children.counts_of.Given as goal
 
 -- The counts so far are those of the pages so far.
 abbrev pub invariant-loop-i : goal.invariant-loop-i
