@@ -10,16 +10,46 @@ SLONG, SRATIONAL, FLOAT, DOUBLE, IFD, LONG8, SLONG8, IFD8 = 9, 10, 11, 12, 13, 1
 
 # The types: the name of each, how many numbers a value has, and their letter for `struct`.
 TYPES = {
-    BYTE: ("BYTE", 1, "B"), ASCII: ("ASCII", 1, "B"), SHORT: ("SHORT", 1, "H"), LONG: ("LONG", 1, "I"),
-    RATIONAL: ("RATIONAL", 2, "I"), SBYTE: ("SBYTE", 1, "b"), UNDEFINED: ("UNDEFINED", 1, "B"), SSHORT: ("SSHORT", 1, "h"),
-    SLONG: ("SLONG", 1, "i"), SRATIONAL: ("SRATIONAL", 2, "i"), FLOAT: ("FLOAT", 1, "f"), DOUBLE: ("DOUBLE", 1, "d"),
-    IFD: ("IFD", 1, "I"), LONG8: ("LONG8", 1, "Q"), SLONG8: ("SLONG8", 1, "q"), IFD8: ("IFD8", 1, "Q"),
+    BYTE: ("BYTE", 1, "B"),
+    ASCII: ("ASCII", 1, "B"),
+    SHORT: ("SHORT", 1, "H"),
+    LONG: ("LONG", 1, "I"),
+    RATIONAL: ("RATIONAL", 2, "I"),
+    SBYTE: ("SBYTE", 1, "b"),
+    UNDEFINED: ("UNDEFINED", 1, "B"),
+    SSHORT: ("SSHORT", 1, "h"),
+    SLONG: ("SLONG", 1, "i"),
+    SRATIONAL: ("SRATIONAL", 2, "i"),
+    FLOAT: ("FLOAT", 1, "f"),
+    DOUBLE: ("DOUBLE", 1, "d"),
+    IFD: ("IFD", 1, "I"),
+    LONG8: ("LONG8", 1, "Q"),
+    SLONG8: ("SLONG8", 1, "q"),
+    IFD8: ("IFD8", 1, "Q"),
 }
 # The types that BigTIFF adds.
 BIG_TYPES = (LONG8, SLONG8, IFD8)
 
-WIDTH, LENGTH, BITS, METHOD, MEANING, OFFSETS, SAMPLES, ROWS, COUNTS = 256, 257, 258, 259, 262, 273, 277, 278, 279
-PLANES, PREDICTOR, COLORS, TILE_WIDTH, TILE_LENGTH, TILE_OFFSETS, TILE_COUNTS = 284, 317, 320, 322, 323, 324, 325
+WIDTH, LENGTH, BITS, METHOD, MEANING, OFFSETS, SAMPLES, ROWS, COUNTS = (
+    256,
+    257,
+    258,
+    259,
+    262,
+    273,
+    277,
+    278,
+    279,
+)
+PLANES, PREDICTOR, COLORS, TILE_WIDTH, TILE_LENGTH, TILE_OFFSETS, TILE_COUNTS = (
+    284,
+    317,
+    320,
+    322,
+    323,
+    324,
+    325,
+)
 EXTRA, FORMAT, SUBSAMPLING, SUBIFDS, PRIVATE = 338, 339, 530, 330, 65000
 
 
@@ -51,10 +81,17 @@ class Form:
     def start(self, first):
         """Returns a header with the offset of the first directory."""
         mark = b"II" if self.order == "<" else b"MM"
-        return mark + (self.pack("HHHQ", 43, 8, 0, first) if self.big else self.pack("HI", 42, first))
+        return mark + (
+            self.pack("HHHQ", 43, 8, 0, first) if self.big else self.pack("HI", 42, first)
+        )
 
 
-LE, BE, BIG_LE, BIG_BE = Form("le", "<", False), Form("be", ">", False), Form("bigle", "<", True), Form("bigbe", ">", True)
+LE, BE, BIG_LE, BIG_BE = (
+    Form("le", "<", False),
+    Form("be", ">", False),
+    Form("bigle", "<", True),
+    Form("bigbe", ">", True),
+)
 CLASSIC, FORMS = [LE, BE], [LE, BE, BIG_LE, BIG_BE]
 
 
@@ -96,7 +133,9 @@ class Page:
         for chunk in self.chunks:
             offsets.append(len(data))
             data += chunk + b"\0" * (len(chunk) % 2)
-        for tag, kind, numbers in zip(self.lists, self.kinds, (offsets, [len(chunk) for chunk in self.chunks])):
+        for tag, kind, numbers in zip(
+            self.lists, self.kinds, (offsets, [len(chunk) for chunk in self.chunks])
+        ):
             if self.chunks and tag not in self.fields:
                 self.fields[tag] = Field(kind, numbers)
 
@@ -105,14 +144,20 @@ class Built:
     """A file, with the offsets of its directories, of its entries by page and tag, and of their values that don't stand in the entry."""
 
     def __init__(self):
-        self.data, self.directories, self.entries, self.values, self.links = bytearray(), [], {}, {}, []
+        self.data, self.directories, self.entries, self.values, self.links = (
+            bytearray(),
+            [],
+            {},
+            {},
+            [],
+        )
 
     def bytes(self):
         return bytes(self.data)
 
     def laid(self, at, over):
         """Returns the file with some bytes laid over its own."""
-        return bytes(self.data[:at] + over + self.data[at + len(over):])
+        return bytes(self.data[:at] + over + self.data[at + len(over) :])
 
 
 def add_entry(built, form, key, tag, field):
@@ -153,10 +198,10 @@ def build(form, pages, chain=None):
     for number, page in enumerate(pages):
         add_directory(built, form, number, page)
     chain = list(range(len(pages))) if chain is None else chain
-    built.data[:form.header] = form.start(built.directories[chain[0]])
+    built.data[: form.header] = form.start(built.directories[chain[0]])
     for here, there in zip(chain, chain[1:]):
         at = built.links[here]
-        built.data[at:at + form.offset] = form.at(built.directories[there])
+        built.data[at : at + form.offset] = form.at(built.directories[there])
     return built
 
 
@@ -180,7 +225,7 @@ def packed(data):
             out += run(data[at], end - at)
             at = end
         else:
-            plain += data[at:at + 1]
+            plain += data[at : at + 1]
             at += 1
     return out + literal(plain)
 
@@ -214,7 +259,15 @@ class Image:
     def __init__(self, width=5, height=4, **parts):
         self.width, self.height = width, height
         self.bits, self.samples, self.meaning, self.format, self.planes = 8, 1, 1, None, 1
-        self.method, self.predictor, self.rows, self.tile, self.extra, self.data, self.name = 1, None, None, None, None, None, ""
+        self.method, self.predictor, self.rows, self.tile, self.extra, self.data, self.name = (
+            1,
+            None,
+            None,
+            None,
+            None,
+            None,
+            "",
+        )
         # whether the rows of PackBits data are packed one by one, as TIFF 6.0 section 9 has it
         self.by_rows = False
         for part, value in parts.items():
@@ -238,14 +291,18 @@ class Image:
         if self.method != 32773:
             return data
         step = self.row_bytes() if self.by_rows else len(data)
-        return b"".join(packed(data[at:at + step]) for at in range(0, len(data), step))
+        return b"".join(packed(data[at : at + step]) for at in range(0, len(data), step))
 
     def chunks(self):
         """Returns the chunks of all planes, of given bytes or of bytes that depend on what the image is."""
-        sizes = [rows * self.row_bytes() for rows in self.chunk()[1]] * (self.samples if self.planes == 2 else 1)
+        sizes = [rows * self.row_bytes() for rows in self.chunk()[1]] * (
+            self.samples if self.planes == 2 else 1
+        )
         data, chunks = self.data, []
         if data is None:
-            data = noise(f"{self.name} {self.width} {self.height} {self.bits} {self.samples}", sum(sizes))
+            data = noise(
+                f"{self.name} {self.width} {self.height} {self.bits} {self.samples}", sum(sizes)
+            )
         for size in sizes:
             chunks.append(self.stored(data[:size]))
             data = data[size:]
@@ -254,12 +311,23 @@ class Image:
     def page(self):
         """Returns the page of the image, with the fields that TIFF 6.0 asks for and those that differ from the common values."""
         fields = {
-            WIDTH: Field(SHORT, [self.width]), LENGTH: Field(SHORT, [self.height]), BITS: Field(SHORT, [self.bits] * self.samples),
-            METHOD: Field(SHORT, [self.method]), MEANING: Field(SHORT, [self.meaning]), SAMPLES: Field(SHORT, [self.samples]),
-            282: Field(RATIONAL, [72, 1]), 283: Field(RATIONAL, [72, 1]), 296: Field(SHORT, [2]),
+            WIDTH: Field(SHORT, [self.width]),
+            LENGTH: Field(SHORT, [self.height]),
+            BITS: Field(SHORT, [self.bits] * self.samples),
+            METHOD: Field(SHORT, [self.method]),
+            MEANING: Field(SHORT, [self.meaning]),
+            SAMPLES: Field(SHORT, [self.samples]),
+            282: Field(RATIONAL, [72, 1]),
+            283: Field(RATIONAL, [72, 1]),
+            296: Field(SHORT, [2]),
         }
         if self.tile:
-            fields.update({TILE_WIDTH: Field(SHORT, [self.tile[0]]), TILE_LENGTH: Field(SHORT, [self.tile[1]])})
+            fields.update(
+                {
+                    TILE_WIDTH: Field(SHORT, [self.tile[0]]),
+                    TILE_LENGTH: Field(SHORT, [self.tile[1]]),
+                }
+            )
         else:
             fields[ROWS] = Field(SHORT, [self.rows or self.height])
         if self.planes == 2:
@@ -273,12 +341,19 @@ class Image:
         if self.meaning == 6:
             fields[SUBSAMPLING] = Field(SHORT, [1, 1])
         if self.meaning == 3:
-            fields[COLORS] = Field(SHORT, [n * 257 % 65536 for n in range(3 * 2 ** min(self.bits, 8))])
+            fields[COLORS] = Field(
+                SHORT, [n * 257 % 65536 for n in range(3 * 2 ** min(self.bits, 8))]
+            )
         lists = (TILE_OFFSETS, TILE_COUNTS) if self.tile else (OFFSETS, COUNTS)
         return Page(fields, self.chunks(), lists)
 
 
 def bare(width=3, height=2, chunk=None):
     """Returns a gray page of the fewest fields: the sides, the bits, the meaning, and one strip."""
-    fields = {WIDTH: Field(SHORT, [width]), LENGTH: Field(SHORT, [height]), BITS: Field(SHORT, [8]), MEANING: Field(SHORT, [1])}
+    fields = {
+        WIDTH: Field(SHORT, [width]),
+        LENGTH: Field(SHORT, [height]),
+        BITS: Field(SHORT, [8]),
+        MEANING: Field(SHORT, [1]),
+    }
     return Page(fields, [bytes(range(1, width * height + 1)) if chunk is None else chunk])

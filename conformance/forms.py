@@ -37,11 +37,19 @@ def stored_rows(file, page):
     for plane in range(page.samples if page.planar else 1):
         for j in range(page.chunks_of_plane):
             x, y, width, height = road.rect(page, j)
-            data, stored = road.chunk_data(file, page, plane * page.chunks_of_plane + j), page.stored_row_bytes
-            if len(data) < (height - 1) * stored + (width * page.stored_samples * page.depth + 7) // 8:
+            data, stored = (
+                road.chunk_data(file, page, plane * page.chunks_of_plane + j),
+                page.stored_row_bytes,
+            )
+            if (
+                len(data)
+                < (height - 1) * stored + (width * page.stored_samples * page.depth + 7) // 8
+            ):
                 return None
             for row in range(height):
-                numbers = road.numbers_of_row(file, page, data[row * stored:(row + 1) * stored], width)
+                numbers = road.numbers_of_row(
+                    file, page, data[row * stored : (row + 1) * stored], width
+                )
                 place_row(rows[y + row], page, plane, x, width, numbers)
     return rows
 
@@ -49,9 +57,9 @@ def stored_rows(file, page):
 def place_row(row, page, plane, x, width, numbers):
     """Puts the numbers of a row of a chunk into a row of the image."""
     if page.planar:
-        row[x * page.samples + plane:(x + width) * page.samples:page.samples] = numbers[:width]
+        row[x * page.samples + plane : (x + width) * page.samples : page.samples] = numbers[:width]
     else:
-        row[x * page.samples:(x + width) * page.samples] = numbers[:width * page.samples]
+        row[x * page.samples : (x + width) * page.samples] = numbers[: width * page.samples]
 
 
 def as_bytes(rows, size):
@@ -59,14 +67,14 @@ def as_bytes(rows, size):
 
 
 def mirrored(page, rows):
-    return [[2 ** page.depth - 1 - one for one in row] for row in rows]
+    return [[2**page.depth - 1 - one for one in row] for row in rows]
 
 
 def eight_bits(page, rows):
     """Returns samples as 8 bits of full range: those of fewer bits are stretched, and of others the highest bits are kept."""
     if page.depth > 8:
         return [[one >> page.depth - 8 for one in row] for row in rows]
-    top = 2 ** page.depth - 1
+    top = 2**page.depth - 1
     return [[(one * 255 + top // 2) // top for one in row] for row in rows]
 
 
@@ -82,30 +90,55 @@ def checksums(file, page, shown):
         return []
     forms = [(page.samples, size, rows)]
     if shown < page.samples:
-        forms.append((shown, size, [[one for at, one in enumerate(row) if at % page.samples < shown] for row in rows]))
+        forms.append(
+            (
+                shown,
+                size,
+                [[one for at, one in enumerate(row) if at % page.samples < shown] for row in rows],
+            )
+        )
     if page.format == 1 and page.depth != 8:
         forms += [(samples, 1, eight_bits(page, made)) for samples, _, made in forms]
     if page.meaning == "WhiteIsZero":
-        forms += [(samples, bytes_, mirrored(page, made) if bytes_ == size and made is rows else [[255 - one for one in row] for row in made]) for samples, bytes_, made in forms]
+        forms += [
+            (
+                samples,
+                bytes_,
+                (
+                    mirrored(page, made)
+                    if bytes_ == size and made is rows
+                    else [[255 - one for one in row] for row in made]
+                ),
+            )
+            for samples, bytes_, made in forms
+        ]
     return [[samples, bytes_, crc(as_bytes(made, bytes_))] for samples, bytes_, made in forms]
 
 
 def is_turned(page):
     """Returns whether some readers turn an image into other colors or numbers: they also divide colors by an associated alpha, or by one of which nothing is said."""
-    is_alpha = page.extra[:1] == [1] or page.meaning == "RGB" and page.samples > 3 and not page.extra
+    is_alpha = (
+        page.extra[:1] == [1] or page.meaning == "RGB" and page.samples > 3 and not page.extra
+    )
     return page.meaning in TURNED or is_alpha or page.format != 1
 
 
 def image_item(file, page):
     """Returns what reading an image gives: how many bytes it has as the library returns them, their Adler-32, the first of
-    them, the forms in which other readers return it, and whether some turn it into other colors or numbers."""
+    them, the forms in which other readers return it, and whether some turn it into other colors or numbers.
+    """
     try:
         data = words.whole(file, page)
     except road.Refused as fault:
         return {"error": words.form(fault)}
     _, shown = road.color_of(page)
-    return {"bytes": len(data), "adler32": f"{road.adler(data):08x}", "first": data[:FIRST].hex(), "forms": checksums(file, page, shown),
-            "turned": is_turned(page)}
+    return {
+        "bytes": len(data),
+        "adler32": f"{road.adler(data):08x}",
+        "first": data[:FIRST].hex(),
+        "forms": checksums(file, page, shown),
+        "turned": is_turned(page),
+    }
 
 
 def page_item(file, item):
@@ -115,10 +148,25 @@ def page_item(file, item):
         return {"offset": item.offset, "error": words.form(item.fault), "fields": fields}
     page = item.page
     return {
-        "offset": item.offset, "width": page.width, "height": page.height, "color": words.facts(page).split()[1], "samples": page.samples, "bits": page.depth,
-        "format": words.named(road.FORMATS, page.format), "meaning": page.meaning, "compression": page.method, "predictor": page.predictor,
-        "planes": page.samples if page.planar else 1, "chunks": {"kind": "tile" if page.tiled else "strip", "width": page.chunk_width, "height": page.chunk_height, "count": page.all_chunks},
-        "fields": fields, "image": image_item(file, page),
+        "offset": item.offset,
+        "width": page.width,
+        "height": page.height,
+        "color": words.facts(page).split()[1],
+        "samples": page.samples,
+        "bits": page.depth,
+        "format": words.named(road.FORMATS, page.format),
+        "meaning": page.meaning,
+        "compression": page.method,
+        "predictor": page.predictor,
+        "planes": page.samples if page.planar else 1,
+        "chunks": {
+            "kind": "tile" if page.tiled else "strip",
+            "width": page.chunk_width,
+            "height": page.chunk_height,
+            "count": page.all_chunks,
+        },
+        "fields": fields,
+        "image": image_item(file, page),
     }
 
 
@@ -128,4 +176,7 @@ def expected(data):
         file, items, end = road.opened(data)
     except road.Refused as fault:
         return {"error": words.form(fault)}
-    return {"pages": [page_item(file, item) for item in items], "end": words.form(end) if end else None}
+    return {
+        "pages": [page_item(file, item) for item in items],
+        "end": words.form(end) if end else None,
+    }

@@ -20,7 +20,10 @@ def program():
     for path in PROGRAMS:
         if path.is_file():
             return path
-    sys.exit("conformance: there is no program tiffpage yet: `./tiffpage --unproved help` builds it, within minutes")
+    sys.exit(
+        "conformance: there is no program tiffpage yet: `./tiffpage --unproved help` builds it,"
+        " within minutes"
+    )
 
 
 def limit():
@@ -31,10 +34,20 @@ def limit():
 def run(command, path, *rest, asked=""):
     """Runs a command of tiffpage on a file, and returns what it printed, what it printed as errors, and its status."""
     try:
-        ran = subprocess.run([program(), command, path, *rest], input=asked.encode(), capture_output=True, timeout=LONGEST, preexec_fn=limit)
+        ran = subprocess.run(
+            [program(), command, path, *rest],
+            input=asked.encode(),
+            capture_output=True,
+            timeout=LONGEST,
+            preexec_fn=limit,
+        )
     except subprocess.TimeoutExpired:
         return "", f"no end within {LONGEST} seconds", -1
-    return ran.stdout.decode("utf-8", errors="replace"), ran.stderr.decode("utf-8", errors="replace"), ran.returncode
+    return (
+        ran.stdout.decode("utf-8", errors="replace"),
+        ran.stderr.decode("utf-8", errors="replace"),
+        ran.returncode,
+    )
 
 
 def same_reply(call, ours, theirs):
@@ -64,12 +77,21 @@ def differences(path, whole):
         refused = ("", f"error: {words.text(fault)}\n", 1)
         asked = [("calls", refused, run("calls", path, asked="dimensions\n"))]
         if whole:
-            asked += [("list", refused, run("list", path)), ("check", check_of(data), run("check", path))]
+            asked += [
+                ("list", refused, run("list", path)),
+                ("check", check_of(data), run("check", path)),
+            ]
         return [one for one in asked if one[1] != one[2]]
     differ = differences_of_calls(path, found)
     if whole:
-        asked = [("list", words.list_words(*found), run("list", path)), ("check", words.check_words(*found), run("check", path))]
-        asked += [(f"tags {n}", words.tags_lines(found[0], found[1], n), run("tags", path, str(n))) for n in range(len(found[1]))]
+        asked = [
+            ("list", words.list_words(*found), run("list", path)),
+            ("check", words.check_words(*found), run("check", path)),
+        ]
+        asked += [
+            (f"tags {n}", words.tags_lines(found[0], found[1], n), run("tags", path, str(n)))
+            for n in range(len(found[1]))
+        ]
         differ += [one for one in asked if one[1] != one[2]]
     return differ
 

@@ -9,7 +9,13 @@ HERE = Path(__file__).resolve().parent
 FORKED = ("tifffile", "pillow", "gdal", "imagemagick")
 LIBTIFF = {"libtiff": [], "libtiff-scanlines": ["scanlines"]}
 # One processor for each reader, and as little memory as it can.
-QUIET = {"OMP_NUM_THREADS": "1", "OPENBLAS_NUM_THREADS": "1", "GDAL_NUM_THREADS": "1", "GDAL_PAM_ENABLED": "NO", "MAGICK_THREAD_LIMIT": "1"}
+QUIET = {
+    "OMP_NUM_THREADS": "1",
+    "OPENBLAS_NUM_THREADS": "1",
+    "GDAL_NUM_THREADS": "1",
+    "GDAL_PAM_ENABLED": "NO",
+    "MAGICK_THREAD_LIMIT": "1",
+}
 
 
 class Command:
@@ -22,7 +28,14 @@ class Command:
         """Reads a file; the outputs go to the two files. Returns the status of `waitpid`."""
         words = [word.replace("{}", str(path)) for word in self.words]
         with open(self.out, "wb") as out, open(self.errors, "wb") as errors:
-            ran = subprocess.Popen(words, stdin=subprocess.DEVNULL, stdout=out, stderr=errors, env={**os.environ, **QUIET}, preexec_fn=serve.limit)
+            ran = subprocess.Popen(
+                words,
+                stdin=subprocess.DEVNULL,
+                stdout=out,
+                stderr=errors,
+                env={**os.environ, **QUIET},
+                preexec_fn=serve.limit,
+            )
             return os.waitpid(ran.pid, 0)[1]
 
     def end(self):
@@ -34,8 +47,16 @@ class Forked:
 
     def __init__(self, name, out, errors):
         adapter = HERE / "adapters" / name
-        self.version = subprocess.run([adapter, "--version"], capture_output=True, text=True).stdout.strip()
-        self.ran = subprocess.Popen([adapter, "--serve", out, errors], stdin=subprocess.PIPE, stdout=subprocess.PIPE, text=True, env={**os.environ, **QUIET})
+        self.version = subprocess.run(
+            [adapter, "--version"], capture_output=True, text=True
+        ).stdout.strip()
+        self.ran = subprocess.Popen(
+            [adapter, "--serve", out, errors],
+            stdin=subprocess.PIPE,
+            stdout=subprocess.PIPE,
+            text=True,
+            env={**os.environ, **QUIET},
+        )
 
     def read(self, path):
         self.ran.stdin.write(f"{path}\n")
@@ -51,7 +72,9 @@ def libtiff(words, out, errors):
     """Compiles the program that reads by libtiff, and returns the reader."""
     program = Path(out).with_name("libtiff")
     subprocess.run(["cc", "-O2", "-o", program, HERE / "adapters/libtiff.c", "-ltiff"], check=True)
-    version = subprocess.run(["pkg-config", "--modversion", "libtiff-4"], capture_output=True, text=True).stdout.strip()
+    version = subprocess.run(
+        ["pkg-config", "--modversion", "libtiff-4"], capture_output=True, text=True
+    ).stdout.strip()
     return Command([str(program), "{}", *words], f"libtiff {version}", out, errors)
 
 

@@ -6,30 +6,136 @@ A value of a field is a pair of its kind and what it is; a list of values is `("
 import zlib
 from dataclasses import dataclass, field
 
-WIDTH, LENGTH, BITS, METHOD, MEANING, OFFSETS, SAMPLES, ROWS, COUNTS = 256, 257, 258, 259, 262, 273, 277, 278, 279
-PLANAR, PREDICTOR, TILE_WIDTH, TILE_LENGTH, TILE_OFFSETS, TILE_COUNTS, EXTRA, FORMAT, SUBSAMPLING = 284, 317, 322, 323, 324, 325, 338, 339, 530
+WIDTH, LENGTH, BITS, METHOD, MEANING, OFFSETS, SAMPLES, ROWS, COUNTS = (
+    256,
+    257,
+    258,
+    259,
+    262,
+    273,
+    277,
+    278,
+    279,
+)
+(
+    PLANAR,
+    PREDICTOR,
+    TILE_WIDTH,
+    TILE_LENGTH,
+    TILE_OFFSETS,
+    TILE_COUNTS,
+    EXTRA,
+    FORMAT,
+    SUBSAMPLING,
+) = (284, 317, 322, 323, 324, 325, 338, 339, 530)
 
 TAGS = {
-    254: "NewSubfileType", 255: "SubfileType", 256: "ImageWidth", 257: "ImageLength", 258: "BitsPerSample", 259: "Compression",
-    262: "PhotometricInterpretation", 263: "Threshholding", 264: "CellWidth", 265: "CellLength", 266: "FillOrder", 270: "ImageDescription", 271: "Make",
-    272: "Model", 273: "StripOffsets", 274: "Orientation", 277: "SamplesPerPixel", 278: "RowsPerStrip", 279: "StripByteCounts", 280: "MinSampleValue",
-    281: "MaxSampleValue", 282: "XResolution", 283: "YResolution", 284: "PlanarConfiguration", 288: "FreeOffsets", 289: "FreeByteCounts",
-    290: "GrayResponseUnit", 291: "GrayResponseCurve", 296: "ResolutionUnit", 305: "Software", 306: "DateTime", 315: "Artist", 316: "HostComputer",
-    317: "Predictor", 320: "ColorMap", 322: "TileWidth", 323: "TileLength", 324: "TileOffsets", 325: "TileByteCounts", 330: "SubIfd",
-    338: "ExtraSamples", 339: "SampleFormat", 340: "SMinSampleValue", 341: "SMaxSampleValue", 347: "JPEGTables", 530: "ChromaSubsampling",
-    531: "ChromaPositioning", 33432: "Copyright", 33550: "ModelPixelScaleTag", 33922: "ModelTiepointTag", 34264: "ModelTransformationTag",
-    34665: "ExifDirectory", 34675: "IccProfile", 34735: "GeoKeyDirectoryTag", 34736: "GeoDoubleParamsTag", 34737: "GeoAsciiParamsTag",
-    34853: "GpsDirectory", 36864: "ExifVersion", 42113: "GdalNodata",
+    254: "NewSubfileType",
+    255: "SubfileType",
+    256: "ImageWidth",
+    257: "ImageLength",
+    258: "BitsPerSample",
+    259: "Compression",
+    262: "PhotometricInterpretation",
+    263: "Threshholding",
+    264: "CellWidth",
+    265: "CellLength",
+    266: "FillOrder",
+    270: "ImageDescription",
+    271: "Make",
+    272: "Model",
+    273: "StripOffsets",
+    274: "Orientation",
+    277: "SamplesPerPixel",
+    278: "RowsPerStrip",
+    279: "StripByteCounts",
+    280: "MinSampleValue",
+    281: "MaxSampleValue",
+    282: "XResolution",
+    283: "YResolution",
+    284: "PlanarConfiguration",
+    288: "FreeOffsets",
+    289: "FreeByteCounts",
+    290: "GrayResponseUnit",
+    291: "GrayResponseCurve",
+    296: "ResolutionUnit",
+    305: "Software",
+    306: "DateTime",
+    315: "Artist",
+    316: "HostComputer",
+    317: "Predictor",
+    320: "ColorMap",
+    322: "TileWidth",
+    323: "TileLength",
+    324: "TileOffsets",
+    325: "TileByteCounts",
+    330: "SubIfd",
+    338: "ExtraSamples",
+    339: "SampleFormat",
+    340: "SMinSampleValue",
+    341: "SMaxSampleValue",
+    347: "JPEGTables",
+    530: "ChromaSubsampling",
+    531: "ChromaPositioning",
+    33432: "Copyright",
+    33550: "ModelPixelScaleTag",
+    33922: "ModelTiepointTag",
+    34264: "ModelTransformationTag",
+    34665: "ExifDirectory",
+    34675: "IccProfile",
+    34735: "GeoKeyDirectoryTag",
+    34736: "GeoDoubleParamsTag",
+    34737: "GeoAsciiParamsTag",
+    34853: "GpsDirectory",
+    36864: "ExifVersion",
+    42113: "GdalNodata",
 }
-METHODS = {1: "None", 2: "Huffman", 3: "Fax3", 4: "Fax4", 5: "LZW", 6: "JPEG", 7: "ModernJPEG", 8: "Deflate", 32773: "PackBits", 32946: "OldDeflate", 50000: "ZSTD", 50001: "WebP"}
-MEANINGS = {0: "WhiteIsZero", 1: "BlackIsZero", 2: "RGB", 3: "RGBPalette", 4: "TransparencyMask", 5: "CMYK", 6: "YCbCr", 8: "CIELab", 9: "IccLab", 10: "ItuLab"}
+METHODS = {
+    1: "None",
+    2: "Huffman",
+    3: "Fax3",
+    4: "Fax4",
+    5: "LZW",
+    6: "JPEG",
+    7: "ModernJPEG",
+    8: "Deflate",
+    32773: "PackBits",
+    32946: "OldDeflate",
+    50000: "ZSTD",
+    50001: "WebP",
+}
+MEANINGS = {
+    0: "WhiteIsZero",
+    1: "BlackIsZero",
+    2: "RGB",
+    3: "RGBPalette",
+    4: "TransparencyMask",
+    5: "CMYK",
+    6: "YCbCr",
+    8: "CIELab",
+    9: "IccLab",
+    10: "ItuLab",
+}
 PREDICTORS = {1: "None", 2: "Horizontal", 3: "FloatingPoint"}
 FORMATS = {1: "Uint", 2: "Int", 3: "IEEEFP", 4: "Void"}
 # The types of fields: the kind of value, its bytes, and how many of its bytes are one number.
 TYPES = {
-    1: ("Byte", 1, 1), 2: ("Byte", 1, 1), 3: ("Short", 2, 2), 4: ("Unsigned", 4, 4), 5: ("Rational", 8, 4), 6: ("SignedByte", 1, 1), 7: ("Byte", 1, 1),
-    8: ("SignedShort", 2, 2), 9: ("Signed", 4, 4), 10: ("SRational", 8, 4), 11: ("Float", 4, 4), 12: ("Double", 8, 8), 13: ("Ifd", 4, 4),
-    16: ("UnsignedBig", 8, 8), 17: ("SignedBig", 8, 8), 18: ("IfdBig", 8, 8),
+    1: ("Byte", 1, 1),
+    2: ("Byte", 1, 1),
+    3: ("Short", 2, 2),
+    4: ("Unsigned", 4, 4),
+    5: ("Rational", 8, 4),
+    6: ("SignedByte", 1, 1),
+    7: ("Byte", 1, 1),
+    8: ("SignedShort", 2, 2),
+    9: ("Signed", 4, 4),
+    10: ("SRational", 8, 4),
+    11: ("Float", 4, 4),
+    12: ("Double", 8, 8),
+    13: ("Ifd", 4, 4),
+    16: ("UnsignedBig", 8, 8),
+    17: ("SignedBig", 8, 8),
+    18: ("IfdBig", 8, 8),
 }
 SIGNED = (6, 8, 9, 10, 17)
 DEFAULT_LIMIT, CHUNK_LIMIT = 268435456, 134217728
@@ -69,7 +175,7 @@ def exactly_at(data, at, length):
     """Returns so many bytes at an offset; no bytes exist at each offset."""
     if length > max(len(data) - at, 0):
         raise end_of_file()
-    return data[at:at + length]
+    return data[at : at + length]
 
 
 def number(order, found):
@@ -79,6 +185,7 @@ def number(order, found):
 @dataclass
 class File:
     """The bytes of a file, and what its header says."""
+
     data: bytes
     order: str = "little"
     big: bool = False
@@ -116,6 +223,7 @@ def open_header(data):
 @dataclass
 class Field:
     """The type of a field, its count, and the eight bytes of its value field."""
+
     kind: int
     count: int
     value: bytes
@@ -139,11 +247,13 @@ def directory_at(file, at):
     link = file.number_at(first + entry_len * count, file.offset_width)
     fields = {}
     for place in range(first, first + entry_len * count, entry_len):
-        entry = file.data[place:place + entry_len]
+        entry = file.data[place : place + entry_len]
         kind = number(file.order, entry[2:4])
         if kind in TYPES:
-            value = entry[4 + file.offset_width:].ljust(8, b"\0")
-            fields[number(file.order, entry[:2])] = Field(kind, number(file.order, entry[4:4 + file.offset_width]), value)
+            value = entry[4 + file.offset_width :].ljust(8, b"\0")
+            fields[number(file.order, entry[:2])] = Field(
+                kind, number(file.order, entry[4 : 4 + file.offset_width]), value
+            )
     return Directory(dict(sorted(fields.items())), link)
 
 
@@ -167,17 +277,20 @@ def chain(file):
 
 
 def field_bytes(file, one):
-    if one.length >= 2 ** 64:
+    if one.length >= 2**64:
         raise limits_exceeded()
     if one.length <= file.offset_width:
-        return one.value[:one.length]
-    return exactly_at(file.data, number(file.order, one.value[:file.offset_width]), one.length)
+        return one.value[: one.length]
+    return exactly_at(file.data, number(file.order, one.value[: file.offset_width]), one.length)
 
 
 def item(file, kind, found):
     """Returns one value of a type."""
     name, _, width = TYPES[kind]
-    numbers = [int.from_bytes(found[at:at + width], file.order, signed=kind in SIGNED) for at in range(0, len(found), width)]
+    numbers = [
+        int.from_bytes(found[at : at + width], file.order, signed=kind in SIGNED)
+        for at in range(0, len(found), width)
+    ]
     return name, tuple(numbers) if len(numbers) > 1 else numbers[0]
 
 
@@ -205,17 +318,19 @@ def value_from(file, one, found, inline):
     if one.count == 1:
         return item(file, one.kind, found)
     size, read = TYPES[one.kind][1], inline_item if inline else item
-    return "list", [read(file, one.kind, found[at:at + size]) for at in range(0, len(found), size)]
+    return "list", [
+        read(file, one.kind, found[at : at + size]) for at in range(0, len(found), size)
+    ]
 
 
 def field_value(file, one, limit=DEFAULT_LIMIT):
     """Returns the value of a field, or its first error: the limit comes before the end of the file."""
     if one.count == 0:
         return "list", []
-    if one.length >= 2 ** 64:
+    if one.length >= 2**64:
         raise limits_exceeded()
     if one.length <= file.offset_width:
-        return value_from(file, one, one.value[:one.length], True)
+        return value_from(file, one, one.value[: one.length], True)
     allowed = one.count <= limit if one.kind == 2 else one.count == 1 or one.count <= limit // 32
     if not allowed:
         raise limits_exceeded()
@@ -246,7 +361,7 @@ def into_unsigned(bits, value):
     if kind in plain:
         return what
     if kind in tested:
-        return below(2 ** bits, what)
+        return below(2**bits, what)
     raise wrong_type()
 
 
@@ -313,10 +428,10 @@ def unpacked_runs(packed, early, wanted=None):
         header = packed[at]
         at += 1
         if header < 128:
-            out += packed[at:at + header + 1]
+            out += packed[at : at + header + 1]
             at += header + 1
         elif header > 128:
-            out += packed[at:at + 1] * (257 - header)
+            out += packed[at : at + 1] * (257 - header)
             at += 1
     return bytes(out)
 
@@ -395,7 +510,7 @@ def read_format(look, page):
     numbers = look.find(into_u64_vec, FORMAT)
     if numbers is None:
         return
-    fitted(FORMAT, 2 ** 16, numbers)
+    fitted(FORMAT, 2**16, numbers)
     if not numbers:
         raise format_error("InvalidTagValueType", FORMAT)
     if any(one != numbers[0] for one in numbers):
@@ -407,7 +522,7 @@ def read_depth(look, page):
     bits = look.find(into_u64_vec, BITS)
     if bits is None:
         return
-    fitted(BITS, 2 ** 8, bits)
+    fitted(BITS, 2**8, bits)
     if len(bits) not in (page.samples, 1) or not bits:
         raise format_error(*INCONSISTENT)
     if any(one != bits[0] for one in bits) or bits[0] == 0:
@@ -419,10 +534,12 @@ def read_arrangement(look, page):
     predictor = look.find(u16, PREDICTOR, 1)
     page.predictor = named(PREDICTORS, predictor, format_error("UnknownPredictor", predictor))
     planar = look.find(u16, PLANAR, 1)
-    page.planar = named({1: False, 2: True}, planar, format_error("UnknownPlanarConfiguration", planar))
+    page.planar = named(
+        {1: False, 2: True}, planar, format_error("UnknownPlanarConfiguration", planar)
+    )
     sizes = look.find(into_u64_vec, SUBSAMPLING)
     if sizes is not None:
-        fitted(SUBSAMPLING, 2 ** 16, sizes)
+        fitted(SUBSAMPLING, 2**16, sizes)
         if len(sizes) != 2:
             raise format_error("InvalidCountForTag", SUBSAMPLING, len(sizes))
         page.subsampling = tuple(sizes)
@@ -434,7 +551,9 @@ def read_chunks(look, page):
         raise format_error("StripTileTagConflict")
     page.tiled = has[2]
     if page.tiled:
-        page.chunk_width, page.chunk_height = look.require(u32, TILE_WIDTH), look.require(u32, TILE_LENGTH)
+        page.chunk_width, page.chunk_height = look.require(u32, TILE_WIDTH), look.require(
+            u32, TILE_LENGTH
+        )
         for tag, side in ((TILE_WIDTH, page.chunk_width), (TILE_LENGTH, page.chunk_height)):
             if side == 0:
                 raise format_error("InvalidTagValueType", tag)
@@ -444,7 +563,11 @@ def read_chunks(look, page):
         page.chunk_width, page.chunk_height = page.width, look.find(u32, ROWS, page.height)
         if page.chunk_height == 0:
             raise format_error(*INCONSISTENT)
-    if len(page.offsets) != len(page.counts) or len(page.offsets) != page.all_chunks or page.all_chunks >= 2 ** 32:
+    if (
+        len(page.offsets) != len(page.counts)
+        or len(page.offsets) != page.all_chunks
+        or page.all_chunks >= 2**32
+    ):
         raise format_error(*INCONSISTENT)
 
 
@@ -508,7 +631,7 @@ def row_bytes(page, shown, width):
 
 
 def wide(size):
-    if size >= 2 ** 64:
+    if size >= 2**64:
         raise limits_exceeded()
     return size
 
@@ -559,17 +682,26 @@ def form_fault(page, layout, chunk):
         raise limits_exceeded()
     if page.method not in (1, 32773):
         raise unsupported("UnsupportedCompressionMethod", page.method)
-    if page.meaning == "WhiteIsZero" and not (page.format == 1 and layout.color[0] == "Gray" and page.depth in (1, 2, 4, 8, 16, 32, 64)):
+    if page.meaning == "WhiteIsZero" and not (
+        page.format == 1 and layout.color[0] == "Gray" and page.depth in (1, 2, 4, 8, 16, 32, 64)
+    ):
         raise unsupported("UnknownInterpretation")
 
 
 def needs_whole_rows(page, layout):
-    return page.predictor == "FloatingPoint" or shown_in_chunk(page, layout.shown) < page.stored_samples
+    return (
+        page.predictor == "FloatingPoint"
+        or shown_in_chunk(page, layout.shown) < page.stored_samples
+    )
 
 
 def needed_bytes(page, layout, chunk):
     _, _, width, height = rect(page, chunk)
-    last = page.stored_row_bytes if needs_whole_rows(page, layout) else row_bytes(page, layout.shown, width)
+    last = (
+        page.stored_row_bytes
+        if needs_whole_rows(page, layout)
+        else row_bytes(page, layout.shown, width)
+    )
     return (height - 1) * page.stored_row_bytes + last
 
 
@@ -577,19 +709,19 @@ def chunk_data(file, page, chunk):
     """Returns the data of a chunk: plain data from its offset on, as far as its rows may reach, or what the counted bytes unpack to."""
     at, count = page.offsets[chunk], page.counts[chunk]
     if page.method == 1:
-        return file.data[at:at + page.stored_row_bytes * page.chunk_height]
-    return unpacked_runs(file.data[at:at + count], max(len(file.data) - at, 0) < count)
+        return file.data[at : at + page.stored_row_bytes * page.chunk_height]
+    return unpacked_runs(file.data[at : at + count], max(len(file.data) - at, 0) < count)
 
 
 def row_numbers(order, size, row):
-    return [number(order, row[at:at + size]) for at in range(0, len(row), size)]
+    return [number(order, row[at : at + size]) for at in range(0, len(row), size)]
 
 
 def summed(size, stored, row, order):
     """Returns the numbers of a row with the horizontal predictor, as sums."""
     numbers = row_numbers(order, size, row)
     for k in range(stored, len(numbers)):
-        numbers[k] = (numbers[k] + numbers[k - stored]) % 256 ** size
+        numbers[k] = (numbers[k] + numbers[k - stored]) % 256**size
     return numbers
 
 
@@ -605,11 +737,14 @@ def numbers_of_row(file, page, row, width):
     if page.depth < 8:
         length = (count * page.depth + 7) // 8
         bits = int.from_bytes(row[:length].ljust(length, b"\0"), "big")
-        return [bits >> (8 * length - page.depth * (k + 1)) & (2 ** page.depth - 1) for k in range(count)]
+        return [
+            bits >> (8 * length - page.depth * (k + 1)) & (2**page.depth - 1)
+            for k in range(count)
+        ]
     size = page.depth // 8
     if page.predictor == "FloatingPoint":
         return joined(size, page.stored_samples, page.chunk_width * page.stored_samples, row)
-    row = row[:count * size].ljust(count * size, b"\0")
+    row = row[: count * size].ljust(count * size, b"\0")
     if page.predictor == "Horizontal":
         return summed(size, page.stored_samples, row, file.order)
     return row_numbers(file.order, size, row)
@@ -624,9 +759,15 @@ def shown_row(file, page, layout, row, width):
     if page.depth < 8:
         length = row_bytes(page, layout.shown, width)
         return bytes(mirror(page, byte, 256) for byte in row.ljust(length, b"\0")[:length])
-    numbers, stored, shown = numbers_of_row(file, page, row, width), page.stored_samples, shown_in_chunk(page, layout.shown)
+    numbers, stored, shown = (
+        numbers_of_row(file, page, row, width),
+        page.stored_samples,
+        shown_in_chunk(page, layout.shown),
+    )
     kept = [numbers[pixel * stored + sample] for pixel in range(width) for sample in range(shown)]
-    return b"".join(mirror(page, one, 2 ** page.depth).to_bytes(page.depth // 8, "little") for one in kept)
+    return b"".join(
+        mirror(page, one, 2**page.depth).to_bytes(page.depth // 8, "little") for one in kept
+    )
 
 
 def limit_fault(size, length, limit):
@@ -665,9 +806,9 @@ def place_chunk(file, page, layout, plane, j, out):
     data, stored = chunk_data(file, page, plane * page.chunks_of_plane + j), page.stored_row_bytes
     left = x // page.chunk_width * row_bytes(page, layout.shown, page.chunk_width)
     for row in range(height):
-        shown = shown_row(file, page, layout, data[row * stored:(row + 1) * stored], width)
+        shown = shown_row(file, page, layout, data[row * stored : (row + 1) * stored], width)
         at = plane * layout.plane_stride + (y + row) * layout.row_bytes + left
-        out[at:at + len(shown)] = shown
+        out[at : at + len(shown)] = shown
 
 
 def read_whole(file, page, limit=DEFAULT_LIMIT):
@@ -683,6 +824,7 @@ def read_whole(file, page, limit=DEFAULT_LIMIT):
 @dataclass
 class Item:
     """A directory of the chain: its offset, its fields, and its page or why it has none."""
+
     offset: int
     directory: Directory
     page: Page = None

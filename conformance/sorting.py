@@ -9,14 +9,27 @@ import zlib
 
 from adapters import serve
 
-SAME, RIGHTLY, MAYBE, OPEN = "same", "refused, as it must be", "refused, as it may be", "read, where it's open"
-FORM, WRONGLY, ACCEPTED, OTHER = "read, not compared", "refused though valid", "read though it must be refused", "other samples"
+SAME, RIGHTLY, MAYBE, OPEN = (
+    "same",
+    "refused, as it must be",
+    "refused, as it may be",
+    "read, where it's open",
+)
+FORM, WRONGLY, ACCEPTED, OTHER = (
+    "read, not compared",
+    "refused though valid",
+    "read though it must be refused",
+    "other samples",
+)
 CRASH, LONG, MUCH = "crash", "too long", "too much memory"
 # The kinds of answers, those that are faults last.
 KINDS = [SAME, RIGHTLY, MAYBE, OPEN, FORM, WRONGLY, ACCEPTED, OTHER, CRASH, LONG, MUCH]
-EXPECTED, FAULTS = (SAME, RIGHTLY), KINDS[KINDS.index(WRONGLY):]
+EXPECTED, FAULTS = (SAME, RIGHTLY), KINDS[KINDS.index(WRONGLY) :]
 
-MEMORY = re.compile(r"MemoryError|[Oo]ut of memory|[Cc]annot allocate|bad_alloc|[Mm]emory allocation failed|cache resources exhausted|Unable to allocate")
+MEMORY = re.compile(
+    r"MemoryError|[Oo]ut of memory|[Cc]annot allocate|bad_alloc|[Mm]emory allocation failed|cache"
+    r" resources exhausted|Unable to allocate"
+)
 
 
 def pages_in(data):
@@ -70,7 +83,11 @@ def ended(status, said):
     if "ended by signal" in said:
         return CRASH
     failed = os.WEXITSTATUS(status) != 0
-    return MUCH if failed and (os.WEXITSTATUS(status) == serve.NO_MEMORY or MEMORY.search(said)) else None
+    return (
+        MUCH
+        if failed and (os.WEXITSTATUS(status) == serve.NO_MEMORY or MEMORY.search(said))
+        else None
+    )
 
 
 def kind_of(row, status, pages, said):

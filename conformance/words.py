@@ -4,28 +4,72 @@ docs/TIFFPAGE.md and tests/commands have these words. An error has a text, and a
 """
 import second_road as road
 
-KINDS = ["", "BYTE", "ASCII", "SHORT", "LONG", "RATIONAL", "SBYTE", "UNDEFINED", "SSHORT", "SLONG", "SRATIONAL", "FLOAT", "DOUBLE", "IFD", "", "", "LONG8", "SLONG8", "IFD8"]
+KINDS = [
+    "",
+    "BYTE",
+    "ASCII",
+    "SHORT",
+    "LONG",
+    "RATIONAL",
+    "SBYTE",
+    "UNDEFINED",
+    "SSHORT",
+    "SLONG",
+    "SRATIONAL",
+    "FLOAT",
+    "DOUBLE",
+    "IFD",
+    "",
+    "",
+    "LONG8",
+    "SLONG8",
+    "IFD8",
+]
 
 # The text of each error, by its name; {0} and {1} are what it says besides.
 TEXTS = {
-    "TiffSignatureNotFound": "TIFF signature not found", "TiffSignatureInvalid": "TIFF signature invalid",
-    "ImageFileDirectoryNotFound": "image file directory not found", "InconsistentSizesEncountered": "inconsistent sizes encountered",
-    "InvalidDimensions": "invalid dimensions: {0}x{1}", "InvalidTag": "image contains invalid tag",
-    "InvalidTagValueType": "tag `{0}` did not have the expected value type", "RequiredTagNotFound": "required tag `{0}` not found",
-    "UnknownPredictor": "unknown predictor “{0}” encountered", "UnknownPlanarConfiguration": "unknown planar configuration “{0}”",
-    "InvalidTypeForTag": "tag has invalid type", "InvalidCountForTag": "tag `{0}` with incorrect number of elements ({1}) encountered",
-    "StripTileTagConflict": "file should contain either (StripByteCounts and StripOffsets) or (TileByteCounts and TileOffsets), other combination was found",
-    "CycleInOffsets": "file contained a cycle in the list of IFDs", "SamplesPerPixelIsZero": "samples per pixel is zero",
-    "FloatingPointPredictor": "floating point predictor for {0} is unsupported", "HorizontalPredictor": "horizontal predictor for {0} is unsupported",
+    "TiffSignatureNotFound": "TIFF signature not found",
+    "TiffSignatureInvalid": "TIFF signature invalid",
+    "ImageFileDirectoryNotFound": "image file directory not found",
+    "InconsistentSizesEncountered": "inconsistent sizes encountered",
+    "InvalidDimensions": "invalid dimensions: {0}x{1}",
+    "InvalidTag": "image contains invalid tag",
+    "InvalidTagValueType": "tag `{0}` did not have the expected value type",
+    "RequiredTagNotFound": "required tag `{0}` not found",
+    "UnknownPredictor": "unknown predictor “{0}” encountered",
+    "UnknownPlanarConfiguration": "unknown planar configuration “{0}”",
+    "InvalidTypeForTag": "tag has invalid type",
+    "InvalidCountForTag": "tag `{0}` with incorrect number of elements ({1}) encountered",
+    "StripTileTagConflict": (
+        "file should contain either (StripByteCounts and StripOffsets) or (TileByteCounts and"
+        " TileOffsets), other combination was found"
+    ),
+    "CycleInOffsets": "file contained a cycle in the list of IFDs",
+    "SamplesPerPixelIsZero": "samples per pixel is zero",
+    "FloatingPointPredictor": "floating point predictor for {0} is unsupported",
+    "HorizontalPredictor": "horizontal predictor for {0} is unsupported",
     "InconsistentBitsPerSample": "inconsistent bits per sample: {0}",
-    "InterpretationWithBits": "Photometric interpretation {0} with bits per sample {1} is unsupported", "UnknownInterpretation": "unknown photometric interpretation",
-    "UnsupportedCompressionMethod": "compression method {0} is unsupported", "UnsupportedSampleDepth": "{0} samples per pixel is unsupported",
-    "UnsupportedSampleFormat": "sample format {0} is unsupported", "UnsupportedColorType": "color type {0} is unsupported",
-    "ChromaSubsampling": "chroma subsampling of YCbCr color is unsupported", "MisalignedTileBoundaries": "tile rows are not aligned to byte boundaries",
+    "InterpretationWithBits": (
+        "Photometric interpretation {0} with bits per sample {1} is unsupported"
+    ),
+    "UnknownInterpretation": "unknown photometric interpretation",
+    "UnsupportedCompressionMethod": "compression method {0} is unsupported",
+    "UnsupportedSampleDepth": "{0} samples per pixel is unsupported",
+    "UnsupportedSampleFormat": "sample format {0} is unsupported",
+    "UnsupportedColorType": "color type {0} is unsupported",
+    "ChromaSubsampling": "chroma subsampling of YCbCr color is unsupported",
+    "MisalignedTileBoundaries": "tile rows are not aligned to byte boundaries",
     "UnexpectedEof": "unexpected end of file",
 }
-FAMILIES = {"FormatError": "format error: ", "UnsupportedError": "unsupported error: ", "IoError": ""}
-WHOLE = {"LimitsExceeded": "decoder limits exceeded", "IntSizeError": "platform or format size limits exceeded"}
+FAMILIES = {
+    "FormatError": "format error: ",
+    "UnsupportedError": "unsupported error: ",
+    "IoError": "",
+}
+WHOLE = {
+    "LimitsExceeded": "decoder limits exceeded",
+    "IntSizeError": "platform or format size limits exceeded",
+}
 
 
 def named(names, one):
@@ -33,7 +77,11 @@ def named(names, one):
 
 
 def color(name, depth, samples):
-    return f"Multiband {{ bit_depth: {depth}, num_samples: {samples} }}" if name == "Multiband" else f"{name}({depth})"
+    return (
+        f"Multiband {{ bit_depth: {depth}, num_samples: {samples} }}"
+        if name == "Multiband"
+        else f"{name}({depth})"
+    )
 
 
 def parts(name, rest):
@@ -75,7 +123,15 @@ ESCAPES = {9: "\\t", 10: "\\n", 13: "\\r", 34: '\\"', 92: "\\\\", 0: "\\0"}
 
 def quoted(letters):
     """Returns a text in quotes, as `Debug` prints it."""
-    return '"' + "".join(ESCAPES.get(ord(letter)) or (letter if letter.isprintable() else f"\\u{{{ord(letter):x}}}") for letter in letters) + '"'
+    return (
+        '"'
+        + "".join(
+            ESCAPES.get(ord(letter))
+            or (letter if letter.isprintable() else f"\\u{{{ord(letter):x}}}")
+            for letter in letters
+        )
+        + '"'
+    )
 
 
 def value(one):
@@ -104,29 +160,39 @@ def layout_words(page, layout):
         kind = f"Some({letter}{8 * size})"
     except road.Refused:
         kind = "None"
-    return (f"BufferLayoutPreference {{ len: {layout.plane_stride}, sample_format: {named(road.FORMATS, page.format)}, sample_type: {kind}, "
-            f"row_stride: Some({layout.row_bytes}), planes: {layout.planes}, plane_stride: Some({layout.plane_stride}), "
-            f"complete_len: {layout.plane_stride * layout.planes} }}")
+    return (
+        f"BufferLayoutPreference {{ len: {layout.plane_stride}, sample_format:"
+        f" {named(road.FORMATS, page.format)}, sample_type: {kind}, row_stride:"
+        f" Some({layout.row_bytes}), planes: {layout.planes}, plane_stride:"
+        f" Some({layout.plane_stride}), complete_len: {layout.plane_stride * layout.planes} }}"
+    )
 
 
 def samples_words(page, found):
     """Returns the samples of an image as `Debug` prints them, behind the layout."""
     layout, _, data = found
     letter, size = road.sample_type_of(page)
-    numbers = [int.from_bytes(data[at:at + size], "little", signed=letter == "I") for at in range(0, len(data), size)]
+    numbers = [
+        int.from_bytes(data[at : at + size], "little", signed=letter == "I")
+        for at in range(0, len(data), size)
+    ]
     said = (f"Bits{8 * size}({one})" for one in numbers) if letter == "F" else map(str, numbers)
     return f"{layout_words(page, layout)}, {letter}{8 * size}([{', '.join(said)}])"
 
 
 def count_of(page):
     """Returns how many chunks a page has, as the call for its kind of chunks counts them."""
-    if not page.tiled and page.height + page.chunk_height - 1 >= 2 ** 32:
+    if not page.tiled and page.height + page.chunk_height - 1 >= 2**32:
         raise road.Refused("IntSizeError")
     return page.all_chunks
 
 
 def directory_words(directory):
-    entries = (f"{tag}: Entry {{ field_type: {KINDS[one.kind]}, count: {one.count}, value: {list(one.value)} }}" for tag, one in directory.fields.items())
+    entries = (
+        f"{tag}: Entry {{ field_type: {KINDS[one.kind]}, count: {one.count}, value:"
+        f" {list(one.value)} }}"
+        for tag, one in directory.fields.items()
+    )
     return f"Directory {{ entries: {{{', '.join(entries)}}}, next: {directory.next} }}"
 
 
@@ -154,9 +220,16 @@ def replies_of_page(file, number, item):
     yield "get_chunk_type", "Tile" if page.tiled else "Strip"
     yield "chunk_dimensions", f"({page.chunk_width}, {page.chunk_height})"
     yield "tile_count" if page.tiled else "strip_count", reply(lambda: count_of(page), str)
-    yield "image_buffer_layout", reply(lambda: road.planes_layout(page), lambda layout: layout_words(page, layout))
+    yield (
+        "image_buffer_layout",
+        reply(lambda: road.planes_layout(page), lambda layout: layout_words(page, layout)),
+    )
     yield "tag_iter", tags_words(file, item.directory)
-    yield "read_image_to_buffer", reply(lambda: road.read_whole(file, page), lambda found: samples_words(page, found)) + left_of(file, page)
+    yield (
+        "read_image_to_buffer",
+        reply(lambda: road.read_whole(file, page), lambda found: samples_words(page, found))
+        + left_of(file, page),
+    )
 
 
 def left_of(file, page):
@@ -166,7 +239,9 @@ def left_of(file, page):
 
 def calls(file, items, end):
     """Returns the calls that ask for all of a file, and their replies."""
-    pairs = [pair for number, item in enumerate(items) for pair in replies_of_page(file, number, item)]
+    pairs = [
+        pair for number, item in enumerate(items) for pair in replies_of_page(file, number, item)
+    ]
     last = end or road.format_error("ImageFileDirectoryNotFound")
     pairs.append((f"seek_to_image {len(items)}", refused(last)))
     return [call for call, _ in pairs], [said for _, said in pairs]
@@ -176,8 +251,15 @@ def list_words(file, items, end):
     """Returns what `list` prints, on its outputs, and its status."""
     lines = []
     for number, item in enumerate(items):
-        lines.append(f"{number} {item.offset} " + (f"error: {text(item.fault)}" if item.fault else facts(item.page)))
-    return "".join(f"{line}\n" for line in lines), f"error: {text(end)}\n" if end else "", 1 if end else 0
+        lines.append(
+            f"{number} {item.offset} "
+            + (f"error: {text(item.fault)}" if item.fault else facts(item.page))
+        )
+    return (
+        "".join(f"{line}\n" for line in lines),
+        f"error: {text(end)}\n" if end else "",
+        1 if end else 0,
+    )
 
 
 def facts(page):
@@ -190,7 +272,9 @@ def facts(page):
         count = str(count_of(page))
     except road.Refused:
         count = "?"
-    return f"{page.width}x{page.height} {said} {page.method} {'tile' if page.tiled else 'strip'} {count}"
+    return (
+        f"{page.width}x{page.height} {said} {page.method} {'tile' if page.tiled else 'strip'} {count}"
+    )
 
 
 def whole(file, page):

@@ -33,7 +33,9 @@ def read_tree(top):
         elif path.is_dir():
             found.append(folder(name))
         else:
-            found.append(file(name, path.read_bytes(), 0o755 if os.access(path, os.X_OK) else 0o644))
+            found.append(
+                file(name, path.read_bytes(), 0o755 if os.access(path, os.X_OK) else 0o644)
+            )
     return found
 
 
@@ -50,7 +52,11 @@ def tar(entries, date):
             member = tarfile.TarInfo(entry.name)
             member.mtime, member.mode, member.linkname = date, entry.mode, entry.link
             member.uname = member.gname = "root"
-            member.type = tarfile.SYMTYPE if entry.link else tarfile.DIRTYPE if entry.content is None else tarfile.REGTYPE
+            member.type = (
+                tarfile.SYMTYPE
+                if entry.link
+                else tarfile.DIRTYPE if entry.content is None else tarfile.REGTYPE
+            )
             member.size = len(entry.content or b"")
             archive.addfile(member, io.BytesIO(entry.content or b""))
     return room.getvalue()

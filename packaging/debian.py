@@ -19,7 +19,11 @@ SOURCE = "mangohatch-tiff"
 # The number of these packages among those of one version.
 REVISION = 1
 # The packages of the libraries that a program may name, in a version that is new enough for it.
-OWNERS = {"libc.so.6": "libc6 (>= {glibc})", "libm.so.6": "libc6 (>= {glibc})", "libgcc_s.so.1": "libgcc-s1 (>= 3.0)"}
+OWNERS = {
+    "libc.so.6": "libc6 (>= {glibc})",
+    "libm.so.6": "libc6 (>= {glibc})",
+    "libgcc_s.so.1": "libgcc-s1 (>= 3.0)",
+}
 
 
 def output(*words):
@@ -37,8 +41,14 @@ def library_records(library, package):
     """Returns what a package tells those that are built over its shared library: its name, and since when it has each of its names."""
     name, calls = library.name.split(".so.")
     first = f"{calls}.0"
-    names = sorted(line.split()[-1] for line in output("nm", "-D", "--defined-only", library).splitlines())
-    symbols = [f"{library.name} {package} #MINVER#", "* Build-Depends-Package: libmangohatch-tiff-dev", *(f" {it}@Base {first}" for it in names)]
+    names = sorted(
+        line.split()[-1] for line in output("nm", "-D", "--defined-only", library).splitlines()
+    )
+    symbols = [
+        f"{library.name} {package} #MINVER#",
+        "* Build-Depends-Package: libmangohatch-tiff-dev",
+        *(f" {it}@Base {first}" for it in names),
+    ]
     return {
         "shlibs": f"{name} {calls} {package} (>= {first})\n",
         "symbols": "\n".join(symbols) + "\n",
@@ -69,8 +79,8 @@ def kilobytes(files):
 def documents(package, release):
     """Returns the files that each package has: its history and the licence."""
     history = (
-        f"{SOURCE} ({release['version']}) unstable; urgency=medium\n\n  * Packed from the commit {release['commit']}.\n\n"
-        f" -- {release['maintainer']}  {formatdate(release['date'])}\n"
+        f"{SOURCE} ({release['version']}) unstable; urgency=medium\n\n  * Packed from the commit"
+        f" {release['commit']}.\n\n -- {release['maintainer']}  {formatdate(release['date'])}\n"
     )
     return [
         file(f"usr/share/doc/{package}/changelog.Debian.gz", packed(history.encode())),
@@ -102,21 +112,42 @@ def package(paragraph, stage, entries, release):
     """Returns the name of a package and its bytes: the files that the last line of its paragraph names, from the folder where all are installed."""
     paragraph, _, patterns = paragraph.strip().rpartition("\nFiles: ")
     name = re.match(r"Package: (\S+)", paragraph)[1]
-    chosen = [it for it in entries if it.content is not None and any(fnmatch(it.name, pattern) for pattern in patterns.split())]
+    chosen = [
+        it
+        for it in entries
+        if it.content is not None and any(fnmatch(it.name, pattern) for pattern in patterns.split())
+    ]
     programs = [stage / it.name for it in chosen if it.content.startswith(b"\x7fELF")]
     files = [*map(installed, chosen), *documents(name, release)]
     tree = with_parents(files)
     needed = [need for program in programs for need in needs(program)]
-    sums = [f"{hashlib.md5(it.content).hexdigest()}  {it.name}\n" for it in sorted(files) if not it.link]
-    records = {"control": control(paragraph, kilobytes(tree), needed, release), "md5sums": "".join(sums)}
+    sums = [
+        f"{hashlib.md5(it.content).hexdigest()}  {it.name}\n" for it in sorted(files) if not it.link
+    ]
+    records = {
+        "control": control(paragraph, kilobytes(tree), needed, release),
+        "md5sums": "".join(sums),
+    }
     for library in programs:
         if ".so." in library.name:
             records |= library_records(library, name)
-    parts = {"control": [folder("."), *(file(it, text.encode()) for it, text in records.items())], "data": tree}
-    members = [(f"{part}.tar.xz", lzma.compress(tar([under_dot(it) for it in held], release["date"]))) for part, held in parts.items()]
-    return f"{name}_{release['version']}_amd64.deb", ar([("debian-binary", b"2.0\n"), *members], release["date"])
+    parts = {
+        "control": [folder("."), *(file(it, text.encode()) for it, text in records.items())],
+        "data": tree,
+    }
+    members = [
+        (f"{part}.tar.xz", lzma.compress(tar([under_dot(it) for it in held], release["date"])))
+        for part, held in parts.items()
+    ]
+    return (
+        f"{name}_{release['version']}_amd64.deb",
+        ar([("debian-binary", b"2.0\n"), *members], release["date"]),
+    )
 
 
 def packages(stage, entries, release):
     """Returns the packages, by name, of the files that are installed in a folder."""
-    return dict(package(it, stage, entries, release) for it in filled(TEXTS / "control", release).split("\n\n"))
+    return dict(
+        package(it, stage, entries, release)
+        for it in filled(TEXTS / "control", release).split("\n\n")
+    )

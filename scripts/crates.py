@@ -25,10 +25,16 @@ def need_kit(head):
 
 def listed():
     """Returns each crate of crates.txt, lowest first, with the crates that it names."""
-    rows = [row.partition(":") for row in (ROOT / "crates.txt").read_text("utf-8").splitlines() if row.strip() and row[0] != "#"]
+    rows = [
+        row.partition(":")
+        for row in (ROOT / "crates.txt").read_text("utf-8").splitlines()
+        if row.strip() and row[0] != "#"
+    ]
     # a crate's name stands first; words such as `staticlib` may follow it
     names = [words.split()[0] for words, _, _ in rows]
-    return {name: [it for it in uses.split() if it in names] for name, (_, _, uses) in zip(names, rows)}
+    return {
+        name: [it for it in uses.split() if it in names] for name, (_, _, uses) in zip(names, rows)
+    }
 
 
 def below(crate, uses):
@@ -49,7 +55,9 @@ def checksum(files):
     """Returns a checksum of the names and the contents of files."""
     made = hashlib.sha256()
     for file in sorted(files):
-        made.update(f"{file.relative_to(ROOT)} {hashlib.sha256(file.read_bytes()).hexdigest()}\n".encode())
+        made.update(
+            f"{file.relative_to(ROOT)} {hashlib.sha256(file.read_bytes()).hexdigest()}\n".encode()
+        )
     return made.hexdigest()
 
 
@@ -60,7 +68,10 @@ def text_of(file):
 
 def parts():
     """Returns the rows of the table of docs/GATE.md that has processor seconds: what each is of, and its smaller numbers."""
-    rows = [[cell.strip() for cell in line.split("|")] for line in (ROOT / "docs/GATE.md").read_text("utf-8").splitlines()]
+    rows = [
+        [cell.strip() for cell in line.split("|")]
+        for line in (ROOT / "docs/GATE.md").read_text("utf-8").splitlines()
+    ]
     found = [(cells[1], re.findall(r"(?:^|, )(\d+)", cells[3])) for cells in rows if len(cells) > 4]
     return [(part, [int(it) for it in seconds]) for part, seconds in found if seconds]
 
@@ -73,7 +84,9 @@ def costs():
     """
     found = {}
     for part, seconds in parts():
-        names = re.findall(r"`(tiff\w*)`", part.partition(":")[0]) if part.startswith("`tiff") else []
+        names = (
+            re.findall(r"`(tiff\w*)`", part.partition(":")[0]) if part.startswith("`tiff") else []
+        )
         if names:
             found.update({name: (proof, 0) for name, proof in zip(names, seconds)})
             found[names[-1]] = seconds[len(names) - 1], sum(seconds[len(names) :])

@@ -45,15 +45,26 @@ def image_of(path: str, index: int = 0) -> Array:
     with TiffFile(path) as file:
         page = file.pages[index]
         chunks = normalize_chunks(sides_of(page), page.shape)
-        image: Array = map_blocks(read_block, path, index, page.axes, chunks=chunks, dtype=page.dtype)
+        image: Array = map_blocks(
+            read_block, path, index, page.axes, chunks=chunks, dtype=page.dtype
+        )
         return image
 
 
 def main() -> None:
     path = str(Path(sys.argv[1]).resolve())
-    with LocalCluster(n_workers=2, threads_per_worker=1, host="127.0.0.1", dashboard_address=None) as cluster, Client(cluster):
+    with LocalCluster(
+        n_workers=2, threads_per_worker=1, host="127.0.0.1", dashboard_address=None
+    ) as cluster, Client(cluster):
         image = image_of(path)
-        print(image.shape, image.dtype, "in", image.numblocks, "blocks:", image.sum(dtype="u8" if image.dtype.kind in "ub" else None).compute())
+        print(
+            image.shape,
+            image.dtype,
+            "in",
+            image.numblocks,
+            "blocks:",
+            image.sum(dtype="u8" if image.dtype.kind in "ub" else None).compute(),
+        )
 
 
 if __name__ == "__main__":

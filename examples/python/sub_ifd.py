@@ -14,7 +14,12 @@ def main() -> None:
         offsets = file.pages[0].tags["SubIFDs"].value
         preview = file.page_at(offsets[0])
         print(preview)
-        imwrite(sys.argv[2], preview.asarray(), photometric=preview.photometric, planarconfig=preview.planarconfig)
+        imwrite(
+            sys.argv[2],
+            preview.asarray(),
+            photometric=preview.photometric,
+            planarconfig=preview.planarconfig,
+        )
 
 
 if __name__ == "__main__":

@@ -18,7 +18,11 @@ try:
 except ImportError:
     numpy = None
 
-LIBRARY = ctypes.CDLL(os.environ.get("MANGOHATCH_TIFF_LIBRARY") or find_library("mangohatch_tiff") or sys.exit("the shared library is missing"))
+LIBRARY = ctypes.CDLL(
+    os.environ.get("MANGOHATCH_TIFF_LIBRARY")
+    or find_library("mangohatch_tiff")
+    or sys.exit("the shared library is missing")
+)
 GRAY, RGB = 0, 1
 GRAY8, RGB8 = 0, 10
 CLASSIC, BIG = 42, 43
@@ -40,8 +44,14 @@ class Layout(Structure):
 
 
 class Image(Structure):
-    _fields_ = [("color", c_uint32), ("width", c_uint32), ("height", c_uint32),
-                ("version", c_uint16), ("method", c_uint16), ("predictor", c_uint16)]
+    _fields_ = [
+        ("color", c_uint32),
+        ("width", c_uint32),
+        ("height", c_uint32),
+        ("version", c_uint16),
+        ("method", c_uint16),
+        ("predictor", c_uint16),
+    ]
 
 
 class TiffError(Exception):
@@ -61,7 +71,14 @@ PAGE_COLOR = declare("tiff_page_color", POINTER(Color))
 PAGE_LAYOUT = declare("tiff_page_layout", POINTER(Layout))
 READ_IMAGE = declare("tiff_read_image_bytes", ctypes.c_void_p, c_size_t)
 WRITE_IMAGE = LIBRARY.tiff_write_image
-WRITE_IMAGE.argtypes = [POINTER(Image), c_char_p, c_size_t, ctypes.c_void_p, c_size_t, POINTER(c_size_t)]
+WRITE_IMAGE.argtypes = [
+    POINTER(Image),
+    c_char_p,
+    c_size_t,
+    ctypes.c_void_p,
+    c_size_t,
+    POINTER(c_size_t),
+]
 WRITE_IMAGE.restype = c_uint32
 LIBRARY.tiff_fault_text.argtypes = [c_uint32, ctypes.c_void_p, c_size_t]
 LIBRARY.tiff_fault_text.restype = c_size_t
@@ -91,7 +108,9 @@ def read_image(file, page=0):
     return sides, color, pixels.raw[:size]
 
 
-def write_image(samples, width, height, color, version=CLASSIC, method=UNCOMPRESSED, predictor=NO_PREDICTOR):
+def write_image(
+    samples, width, height, color, version=CLASSIC, method=UNCOMPRESSED, predictor=NO_PREDICTOR
+):
     """Returns a file of an image of these samples: bytes, the lowest of each sample first, row by row and pixel by pixel."""
     image, length = Image(color, width, height, version, method, predictor), c_size_t()
     file = ctypes.create_string_buffer(1)
@@ -115,7 +134,9 @@ def main():
         sys.exit("not 8 bits of gray or RGB")
     if len(sys.argv) > 2:
         kind = RGB8 if color.kind == RGB else GRAY8
-        Path(sys.argv[2]).write_bytes(write_image(pixels, sides.width, sides.height, kind, method=PACKBITS))
+        Path(sys.argv[2]).write_bytes(
+            write_image(pixels, sides.width, sides.height, kind, method=PACKBITS)
+        )
         return
     if numpy:
         pixels = as_array(sides, color, pixels).tobytes()

@@ -23,7 +23,10 @@ SIDE = 1024
 def image_of(store: ZarrTiffStore) -> Array:
     """Returns the array of a store as a dask array, in blocks of whole chunks."""
     array = zarr.open(store, mode="r")
-    blocks = tuple(chunk * max(1, SIDE // chunk) if size > SIDE else size for chunk, size in zip(array.chunks, array.shape))
+    blocks = tuple(
+        chunk * max(1, SIDE // chunk) if size > SIDE else size
+        for chunk, size in zip(array.chunks, array.shape)
+    )
     image: Array = from_zarr(array, chunks=blocks)
     return image
 
@@ -31,8 +34,12 @@ def image_of(store: ZarrTiffStore) -> Array:
 def main() -> None:
     with imread(sys.argv[1], key=0, aszarr=True) as store:
         image = image_of(store)
-        with LocalCluster(n_workers=2, threads_per_worker=1, host="127.0.0.1", dashboard_address=None) as cluster, Client(cluster):
-            print(image.shape, image.dtype, "in", image.numblocks, "blocks:", image.mean().compute())
+        with LocalCluster(
+            n_workers=2, threads_per_worker=1, host="127.0.0.1", dashboard_address=None
+        ) as cluster, Client(cluster):
+            print(
+                image.shape, image.dtype, "in", image.numblocks, "blocks:", image.mean().compute()
+            )
 
 
 if __name__ == "__main__":

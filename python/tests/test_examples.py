@@ -140,7 +140,9 @@ def test_metadata(tmp_path: Path) -> None:
         for page in pages:
             found = [line for line in lines if line["directory"] == page.offset]
             assert [line["tag"] for line in found] == sorted(tag.code for tag in page.tags)
-            assert [line["count"] for line in found] == [page.tags[line["tag"]].count for line in found]
+            assert [line["count"] for line in found] == [
+                page.tags[line["tag"]].count for line in found
+            ]
     assert {line["by"] for line in lines if "by" in line} == {330, 34665}
     exif = {line["tag"]: line for line in lines if line.get("by") == 34665}
     assert exif.keys() == EXIF.keys() and not any("error" in line for line in lines)

@@ -78,7 +78,10 @@ def printed(command: str, path: Path) -> tuple[list[str], bool]:
     """Returns the lines of the program, each error without its text, and whether it ended well."""
     ran = subprocess.run([PROGRAM, command, str(path)], capture_output=True, text=True, check=False)
     assert ran.returncode in (0, 1), ran.stderr
-    return [re.sub(r"error: .*", "error", line) for line in ran.stdout.splitlines()], ran.returncode == 0
+    return (
+        [re.sub(r"error: .*", "error", line) for line in ran.stdout.splitlines()],
+        ran.returncode == 0,
+    )
 
 
 def altered(file: bytes, seed: str) -> list[bytes]:

@@ -106,7 +106,9 @@ def test_parameters_of_tifffile_are_known() -> None:
     opened = set(inspect.signature(tifffile.TiffWriter.__init__).parameters) - {"self", "file"}
     assert opened == set(_writer.OPENED) | {"bigtiff", "append"}
     written = set(inspect.signature(tifffile.TiffWriter.write).parameters) - {"self", "data"}
-    ours = set(inspect.signature(mt.imwrite).parameters) | set(inspect.signature(mt.TiffWriter.write).parameters)
+    ours = set(inspect.signature(mt.imwrite).parameters) | set(
+        inspect.signature(mt.TiffWriter.write).parameters
+    )
     assert written <= ours | set(_writer.WRITTEN)
 
 
@@ -126,11 +128,7 @@ def appended(before: bytes, waiting: int, path: Path, monkeypatch) -> bytes:
     return file
 
 
-BEFORE = {
-    "ours": {},
-    "ours, big": {"bigtiff": True},
-    "tifffile's": None,
-}
+BEFORE = {"ours": {}, "ours, big": {"bigtiff": True}, "tifffile's": None}
 
 
 @pytest.mark.parametrize("name", BEFORE)
@@ -278,13 +276,18 @@ def test_refused_subifds(tmp_path: Path) -> None:
 def read_by_libtiff(file: Path, place: int, like: numpy.ndarray) -> numpy.ndarray:
     """Returns the image of the directory at an offset, which is in strips, as libtiff reads it."""
     library = ctypes.CDLL(ctypes.util.find_library("tiff"))
-    library.TIFFOpen.restype, library.TIFFReadEncodedStrip.restype = ctypes.c_void_p, ctypes.c_ssize_t
+    library.TIFFOpen.restype, library.TIFFReadEncodedStrip.restype = (
+        ctypes.c_void_p,
+        ctypes.c_ssize_t,
+    )
     tif = ctypes.c_void_p(library.TIFFOpen(os.fsencode(file), b"r"))
     assert library.TIFFSetSubDirectory(tif, ctypes.c_uint64(place)) == 1
     image, read = numpy.zeros_like(like), 0
     for strip in range(library.TIFFNumberOfStrips(tif)):
         rest = ctypes.c_void_p(image.ctypes.data + read)
-        size = library.TIFFReadEncodedStrip(tif, ctypes.c_uint32(strip), rest, ctypes.c_ssize_t(image.nbytes - read))
+        size = library.TIFFReadEncodedStrip(
+            tif, ctypes.c_uint32(strip), rest, ctypes.c_ssize_t(image.nbytes - read)
+        )
         assert size > 0
         read += size
     library.TIFFClose(tif)
@@ -303,12 +306,16 @@ def read_by_pillow(file: bytes, place: int, bigtiff: bool) -> numpy.ndarray:
 @pytest.mark.parametrize("compression", [None, "packbits"])
 @pytest.mark.parametrize("dtype", ["u1", "u2", "f4"])
 @pytest.mark.parametrize("bigtiff", [False, True])
-def test_others_read_subifds(bigtiff: bool, dtype: str, compression: str | None, tmp_path: Path) -> None:
+def test_others_read_subifds(
+    bigtiff: bool, dtype: str, compression: str | None, tmp_path: Path
+) -> None:
     path, stack = tmp_path / "levels.tif", samples((2, 40, 24), dtype)
     with mt.TiffWriter(path, bigtiff=bigtiff) as writer:
         writer.write(stack, subifds=2, compression=compression, rowsperstrip=7)
         for step in (2, 4):
-            writer.write(stack[:, ::step, ::step], subfiletype=1, compression=compression, rowsperstrip=3)
+            writer.write(
+                stack[:, ::step, ::step], subfiletype=1, compression=compression, rowsperstrip=3
+            )
     ours, file = mt.TiffFile(path), path.read_bytes()
     for index, image in enumerate(stack):
         for step, place in zip((2, 4), ours.pages[index].tags["SubIFDs"].value):
