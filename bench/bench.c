@@ -63,7 +63,8 @@ static void read_file(struct load *l, const char *path) {
 }
 
 static void read_ours(struct load *l) {
-    if (tiff_read_image_bytes(l->file, l->len, 0, l->ours, l->size)) stop("refused by tiff_c", l->name);
+    if (tiff_read_image_bytes(l->file, l->len, 0, l->ours, l->size))
+        stop("refused by tiff_c", l->name);
 }
 
 static void read_theirs(struct load *l) {
@@ -71,7 +72,9 @@ static void read_theirs(struct load *l) {
 }
 
 /* From the file, as the others do; from what was read of a file that is shorter. */
-static void copy(struct load *l) { memcpy(l->theirs, l->len < l->size ? l->ours : l->file, l->size); }
+static void copy(struct load *l) {
+    memcpy(l->theirs, l->len < l->size ? l->ours : l->file, l->size);
+}
 
 /* Copies as many bytes as the image has, in the rows of its chunks, each to where it stands in the image. */
 static void copy_rows(struct load *l) {
@@ -79,7 +82,8 @@ static void copy_rows(struct load *l) {
     const uint8_t *from = l->file;
     for (size_t top = 0; top + band <= l->size; top += band)
         for (size_t left = 0; left < l->across; left++)
-            for (size_t y = 0; y < l->height; y++, from += l->row) memcpy(l->theirs + top + y * stride + left * l->row, from, l->row);
+            for (size_t y = 0; y < l->height; y++, from += l->row)
+                memcpy(l->theirs + top + y * stride + left * l->row, from, l->row);
 }
 
 static void open_ours(struct load *l) {
@@ -99,7 +103,8 @@ static void sides_by_ours(struct load *l) {
 }
 
 static void sides_by_theirs(struct load *l) {
-    if (!page_width_by_libtiff(l->file, l->len, (uint32_t)l->page)) stop("refused by libtiff", l->name);
+    if (!page_width_by_libtiff(l->file, l->len, (uint32_t)l->page))
+        stop("refused by libtiff", l->name);
 }
 
 /* Turns out of the caches what the work before left there, so that no work finds its bytes in them and another doesn't. */
@@ -124,7 +129,8 @@ static void print_opening(struct load *l) {
         best(&ours, open_ours, l);
         best(&theirs, open_theirs, l);
     }
-    printf("\n%s: %.2f microseconds; libtiff: %.2f\n", l->name, 1e6 * ours / OPENINGS, 1e6 * theirs / OPENINGS);
+    printf("\n%s: %.2f microseconds; libtiff: %.2f\n", l->name, 1e6 * ours / OPENINGS,
+           1e6 * theirs / OPENINGS);
 }
 
 static void print_page(struct load *l) {
@@ -145,46 +151,56 @@ static void chunks_by_ours(struct load *l) {
     struct tiff_chunks chunks;
     if (tiff_page_chunks(l->file, l->len, 0, &chunks)) stop("refused by tiff_c", l->name);
     for (uint32_t i = 0; i < chunks.count; i++)
-        if (tiff_read_chunk_bytes(l->file, l->len, 0, i, l->ours, l->size)) stop("refused by tiff_c", l->name);
+        if (tiff_read_chunk_bytes(l->file, l->len, 0, i, l->ours, l->size))
+            stop("refused by tiff_c", l->name);
 }
 
 static void planned_by_ours(struct load *l) {
     struct tiff_page_plan plan;
     struct tiff_chunks chunks;
-    if (tiff_page_chunks(l->file, l->len, 0, &chunks) || tiff_page_plan(l->file, l->len, 0, &plan)) stop("refused by tiff_c", l->name);
+    if (tiff_page_chunks(l->file, l->len, 0, &chunks) || tiff_page_plan(l->file, l->len, 0, &plan))
+        stop("refused by tiff_c", l->name);
     for (uint32_t i = 0; i < chunks.count; i++)
-        if (tiff_read_planned_chunk(l->file, l->len, &plan, i, l->ours, l->size)) stop("refused by tiff_c", l->name);
+        if (tiff_read_planned_chunk(l->file, l->len, &plan, i, l->ours, l->size))
+            stop("refused by tiff_c", l->name);
 }
 
 static void range_by_plan(struct load *l) {
     struct tiff_page_plan plan;
-    if (tiff_page_plan(l->file, l->len, 0, &plan) || tiff_read_planned_chunks(l->file, l->len, &plan, 0, (uint32_t)l->chunks, l->ours, l->size))
+    if (tiff_page_plan(l->file, l->len, 0, &plan) ||
+        tiff_read_planned_chunks(l->file, l->len, &plan, 0, (uint32_t)l->chunks, l->ours, l->size))
         stop("refused by tiff_c", l->name);
 }
 
 /* Chunks far from each other, as a viewer asks for them: some number, and that of the chunk at each. */
-static uint32_t some_chunk(const struct load *l, uint32_t at) { return at * 40503u % (uint32_t)l->chunks; }
+static uint32_t some_chunk(const struct load *l, uint32_t at) {
+    return at * 40503u % (uint32_t)l->chunks;
+}
 
 static void one_by_ours(struct load *l) {
     for (uint32_t i = 0; i < SOME; i++)
-        if (tiff_read_chunk_bytes(l->file, l->len, 0, some_chunk(l, i), l->ours, l->size)) stop("refused by tiff_c", l->name);
+        if (tiff_read_chunk_bytes(l->file, l->len, 0, some_chunk(l, i), l->ours, l->size))
+            stop("refused by tiff_c", l->name);
 }
 
 /* The plan is of an earlier call, as libtiff's file below is open. */
 static void one_by_plan(struct load *l) {
     for (uint32_t i = 0; i < SOME; i++)
-        if (tiff_read_planned_chunk(l->file, l->len, &l->plan, some_chunk(l, i), l->ours, l->size)) stop("refused by tiff_c", l->name);
+        if (tiff_read_planned_chunk(l->file, l->len, &l->plan, some_chunk(l, i), l->ours, l->size))
+            stop("refused by tiff_c", l->name);
 }
 
 static void one_by_theirs(struct load *l) {
     for (uint32_t i = 0; i < SOME; i++)
-        if (!chunk_by_libtiff(l->theirs_open, some_chunk(l, i), l->theirs)) stop("refused by libtiff", l->name);
+        if (!chunk_by_libtiff(l->theirs_open, some_chunk(l, i), l->theirs))
+            stop("refused by libtiff", l->name);
 }
 
 static void one_opened_by_theirs(struct load *l) {
     for (uint32_t i = 0; i < SOME; i++) {
         struct opened *opened = open_by_libtiff(l->file, l->len);
-        if (!opened || !chunk_by_libtiff(opened, some_chunk(l, i), l->theirs)) stop("refused by libtiff", l->name);
+        if (!opened || !chunk_by_libtiff(opened, some_chunk(l, i), l->theirs))
+            stop("refused by libtiff", l->name);
         close_by_libtiff(opened);
     }
 }
@@ -197,7 +213,8 @@ static void measure(struct load *l) {
     struct tiff_layout layout;
     struct tiff_sides sides;
     struct tiff_chunks chunks;
-    if (tiff_page_layout(l->file, l->len, 0, &layout) || tiff_page_sides(l->file, l->len, 0, &sides) ||
+    if (tiff_page_layout(l->file, l->len, 0, &layout) ||
+        tiff_page_sides(l->file, l->len, 0, &sides) ||
         tiff_page_chunks(l->file, l->len, 0, &chunks))
         stop("refused by tiff_c", l->name);
     l->size = layout.complete_len;
@@ -217,7 +234,9 @@ static void print_chunks(struct load *l) {
         best(&theirs, chunks_by_theirs, l);
         best(&whole, read_ours, l);
     }
-    printf("\n%s: %.2f milliseconds, by one call each; libtiff: %.2f; the whole image by one call: %.2f\n", l->name, 1e3 * ours, 1e3 * theirs, 1e3 * whole);
+    printf("\n%s: %.2f milliseconds, by one call each; libtiff: %.2f; the whole image by one call: "
+           "%.2f\n",
+           l->name, 1e3 * ours, 1e3 * theirs, 1e3 * whole);
 }
 
 static void print_planned(struct load *l) {
@@ -231,7 +250,8 @@ static void print_planned(struct load *l) {
         best(&range, range_by_plan, l);
         best(&whole, read_ours, l);
     }
-    printf("\n%s: %.2f milliseconds, by one call each and the plan of the page; libtiff: %.2f; all by one call and the plan: %.2f; the whole image: %.2f\n",
+    printf("\n%s: %.2f milliseconds, by one call each and the plan of the page; libtiff: %.2f; all "
+           "by one call and the plan: %.2f; the whole image: %.2f\n",
            l->name, 1e3 * ours, 1e3 * theirs, 1e3 * range, 1e3 * whole);
 }
 
@@ -244,7 +264,8 @@ static void print_one(struct load *l) {
     if (!l->theirs_open) stop("refused by libtiff", l->name);
     one_by_plan(l);
     one_by_theirs(l);
-    if (memcmp(l->ours, l->theirs, l->size / l->chunks)) stop("other bytes than libtiff's", l->name);
+    if (memcmp(l->ours, l->theirs, l->size / l->chunks))
+        stop("other bytes than libtiff's", l->name);
     double alone = 0, ours = 0, theirs = 0, opened = 0;
     for (int i = 0; i < ROUNDS; i++) {
         best(&alone, one_by_ours, l);
@@ -252,8 +273,10 @@ static void print_one(struct load *l) {
         best(&theirs, one_by_theirs, l);
         best(&opened, one_opened_by_theirs, l);
     }
-    printf("\n%s: %.2f microseconds by the plan, %.2f without it; libtiff: %.2f in an open file, %.2f with its opening\n", l->name, 1e6 * ours / SOME,
-           1e6 * alone / SOME, 1e6 * theirs / SOME, 1e6 * opened / SOME);
+    printf("\n%s: %.2f microseconds by the plan, %.2f without it; libtiff: %.2f in an open file, "
+           "%.2f with its opening\n",
+           l->name, 1e6 * ours / SOME, 1e6 * alone / SOME, 1e6 * theirs / SOME,
+           1e6 * opened / SOME);
     close_by_libtiff(l->theirs_open);
 }
 
@@ -265,7 +288,8 @@ static void print_reading(struct load *l) {
     for (int i = 0; i < ROUNDS; i++) {
         best(&ours, read_ours, l);
         if (l->both) best(&theirs, read_theirs, l);
-        if (i == 0 && l->both && memcmp(l->ours, l->theirs, l->size)) stop("other bytes than libtiff's", l->name);
+        if (i == 0 && l->both && memcmp(l->ours, l->theirs, l->size))
+            stop("other bytes than libtiff's", l->name);
         best(&copied, copy, l);
         if (l->len >= l->size) best(&by_rows, copy_rows, l);
     }
@@ -286,7 +310,8 @@ static void print_reading(struct load *l) {
 /* ---- writing */
 
 static void write_ours(struct work *w) {
-    if (tiff_write_image(&w->image, w->samples, w->len, w->ours, w->size, &w->our_len)) stop("refused by tiff_c", w->name);
+    if (tiff_write_image(&w->image, w->samples, w->len, w->ours, w->size, &w->our_len))
+        stop("refused by tiff_c", w->name);
 }
 
 static void write_theirs(struct work *w) {
@@ -322,16 +347,24 @@ static void match(struct work *w) {
     if (tiff_page_chunks(w->ours, w->our_len, 0, &chunks)) stop("refused by tiff_c", w->name);
     w->drawn.rows = chunks.height;
     write_theirs(w);
-    if (tiff_read_image_bytes(w->theirs, w->their_len, 0, back, w->len) || memcmp(back, w->samples, w->len)) stop("other samples in libtiff's file", w->name);
+    if (tiff_read_image_bytes(w->theirs, w->their_len, 0, back, w->len) ||
+        memcmp(back, w->samples, w->len))
+        stop("other samples in libtiff's file", w->name);
     memset(back, 0, w->len);
-    int read_so = w->differs ? !tiff_read_image_bytes(w->ours, w->our_len, 0, back, w->len) : by_libtiff(w->ours, w->our_len, back);
-    if (!read_so || memcmp(back, w->samples, w->len)) stop("other samples in tiff_c's file", w->name);
+    int read_so = w->differs ? !tiff_read_image_bytes(w->ours, w->our_len, 0, back, w->len)
+                             : by_libtiff(w->ours, w->our_len, back);
+    if (!read_so || memcmp(back, w->samples, w->len))
+        stop("other samples in tiff_c's file", w->name);
     free(back);
 }
 
 static void print_writing(const char *name, uint32_t color, struct drawn drawn, int differs) {
     struct work w = {.name = name, .drawn = drawn, .differs = differs};
-    w.image = (struct tiff_image){color, drawn.width, drawn.height, TIFF_CLASSIC, drawn.packed ? TIFF_PACKBITS : TIFF_UNCOMPRESSED,
+    w.image = (struct tiff_image){color,
+                                  drawn.width,
+                                  drawn.height,
+                                  TIFF_CLASSIC,
+                                  drawn.packed ? TIFF_PACKBITS : TIFF_UNCOMPRESSED,
                                   differs ? TIFF_HORIZONTAL : TIFF_NO_PREDICTOR};
     w.len = (size_t)drawn.width * drawn.height * drawn.samples * drawn.bits / 8;
     w.size = w.len + w.len / 64 + (1 << 20);
@@ -346,7 +379,8 @@ static void print_writing(const char *name, uint32_t color, struct drawn drawn, 
         best_work(&theirs, write_theirs, &w);
         best_work(&copied, copy_samples, &w);
     }
-    printf("| %s%s%s | %.0f | ", name, drawn.packed ? ", PackBits" : "", differs ? ", differences" : "", mega / ours);
+    printf("| %s%s%s | %.0f | ", name, drawn.packed ? ", PackBits" : "",
+           differs ? ", differences" : "", mega / ours);
     if (differs) printf("- | %.0f | - | ", mega / copied);
     else printf("%.0f | %.0f | %.2f | ", mega / theirs, mega / copied, theirs / ours);
     printf("%.2f | %zu | ", copied / ours, w.our_len);
@@ -358,19 +392,25 @@ static void print_writing(const char *name, uint32_t color, struct drawn drawn, 
 }
 
 static void print_writings(void) {
-    printf("\n| Written | tiff_c, MB/s | libtiff, MB/s | memcpy, MB/s | to libtiff | to memcpy | bytes of tiff_c's file | of libtiff's |\n"
+    printf("\n| Written | tiff_c, MB/s | libtiff, MB/s | memcpy, MB/s | to libtiff | to memcpy | "
+           "bytes of tiff_c's file | of libtiff's |\n"
            "|---|---|---|---|---|---|---|---|\n");
     for (uint32_t packed = 0; packed < 2; packed++)
         for (int differs = 0; differs < 2; differs++) {
-            print_writing("gray8", TIFF_GRAY8, (struct drawn){4096, 4096, 1, 8, packed, 0}, differs);
+            print_writing("gray8", TIFF_GRAY8, (struct drawn){4096, 4096, 1, 8, packed, 0},
+                          differs);
             print_writing("rgb8", TIFF_RGB8, (struct drawn){2048, 2048, 3, 8, packed, 0}, differs);
-            print_writing("rgb16", TIFF_RGB16, (struct drawn){2048, 1024, 3, 16, packed, 0}, differs);
-            if (!differs) print_writing("float32", TIFF_GRAY32_FLOAT, (struct drawn){2048, 2048, 1, 32, packed, 0}, differs);
+            print_writing("rgb16", TIFF_RGB16, (struct drawn){2048, 1024, 3, 16, packed, 0},
+                          differs);
+            if (!differs)
+                print_writing("float32", TIFF_GRAY32_FLOAT,
+                              (struct drawn){2048, 2048, 1, 32, packed, 0}, differs);
         }
 }
 
 int main(int argc, char **argv) {
-    printf("| Load | tiff_c, MB/s | libtiff, MB/s | memcpy, MB/s | memcpy by rows, MB/s | to libtiff | to memcpy | to rows | Same bytes |\n"
+    printf("| Load | tiff_c, MB/s | libtiff, MB/s | memcpy, MB/s | memcpy by rows, MB/s | to "
+           "libtiff | to memcpy | to rows | Same bytes |\n"
            "|---|---|---|---|---|---|---|---|---|\n");
     for (int i = 1; i + 2 < argc; i += 3) {
         struct load l = {.name = argv[i], .both = strcmp(argv[i + 2], "both") == 0};

@@ -11,7 +11,8 @@ struct memory {
 
 static tmsize_t read_some(thandle_t handle, void *out, tmsize_t size) {
     struct memory *m = handle;
-    size_t left = m->at < m->len ? m->len - m->at : 0, n = (size_t)size < left ? (size_t)size : left;
+    size_t left = m->at < m->len ? m->len - m->at : 0,
+           n = (size_t)size < left ? (size_t)size : left;
     memcpy(out, m->bytes + m->at, n);
     m->at += n;
     return (tmsize_t)n;
@@ -40,7 +41,8 @@ static void unmap_it(thandle_t handle, void *base, toff_t size) {}
 
 static TIFF *open_it(struct memory *m) {
     TIFFSetWarningHandler(NULL);
-    return TIFFClientOpen("bench", "r", m, read_some, write_none, seek, close_it, size_of, map_it, unmap_it);
+    return TIFFClientOpen("bench", "r", m, read_some, write_none, seek, close_it, size_of, map_it,
+                          unmap_it);
 }
 
 static int strips(TIFF *t, uint8_t *buffer) {
@@ -84,7 +86,8 @@ int by_libtiff(const uint8_t *file, size_t len, uint8_t *buffer) {
 }
 
 static int chunk(TIFF *t, uint32_t i, uint8_t *buffer) {
-    return (TIFFIsTiled(t) ? TIFFReadEncodedTile(t, i, buffer, -1) : TIFFReadEncodedStrip(t, i, buffer, -1)) >= 0;
+    return (TIFFIsTiled(t) ? TIFFReadEncodedTile(t, i, buffer, -1)
+                           : TIFFReadEncodedStrip(t, i, buffer, -1)) >= 0;
 }
 
 int chunks_by_libtiff(const uint8_t *file, size_t len, uint8_t *buffer) {
@@ -118,7 +121,9 @@ void close_by_libtiff(struct opened *opened) {
     free(opened);
 }
 
-int chunk_by_libtiff(struct opened *opened, uint32_t i, uint8_t *buffer) { return chunk(opened->t, i, buffer); }
+int chunk_by_libtiff(struct opened *opened, uint32_t i, uint8_t *buffer) {
+    return chunk(opened->t, i, buffer);
+}
 
 uint32_t page_width_by_libtiff(const uint8_t *file, size_t len, uint32_t page) {
     struct memory m = {file, len, 0};
@@ -130,7 +135,9 @@ uint32_t page_width_by_libtiff(const uint8_t *file, size_t len, uint32_t page) {
     return width;
 }
 
-uint32_t width_by_libtiff(const uint8_t *file, size_t len) { return page_width_by_libtiff(file, len, 0); }
+uint32_t width_by_libtiff(const uint8_t *file, size_t len) {
+    return page_width_by_libtiff(file, len, 0);
+}
 
 /* A file that is written: its room, and how much of that it has. */
 struct paper {
@@ -149,7 +156,8 @@ static tmsize_t write_some(thandle_t handle, void *in, tmsize_t size) {
 
 static tmsize_t read_back(thandle_t handle, void *out, tmsize_t size) {
     struct paper *p = handle;
-    size_t left = p->at < p->len ? p->len - p->at : 0, n = (size_t)size < left ? (size_t)size : left;
+    size_t left = p->at < p->len ? p->len - p->at : 0,
+           n = (size_t)size < left ? (size_t)size : left;
     memcpy(out, p->bytes + p->at, n);
     p->at += n;
     return (tmsize_t)n;
@@ -167,24 +175,30 @@ static void describe(TIFF *t, const struct drawn *image) {
     TIFFSetField(t, TIFFTAG_IMAGEWIDTH, image->width);
     TIFFSetField(t, TIFFTAG_IMAGELENGTH, image->height);
     TIFFSetField(t, TIFFTAG_BITSPERSAMPLE, image->bits);
-    TIFFSetField(t, TIFFTAG_SAMPLEFORMAT, image->bits == 32 ? SAMPLEFORMAT_IEEEFP : SAMPLEFORMAT_UINT);
+    TIFFSetField(t, TIFFTAG_SAMPLEFORMAT,
+                 image->bits == 32 ? SAMPLEFORMAT_IEEEFP : SAMPLEFORMAT_UINT);
     TIFFSetField(t, TIFFTAG_SAMPLESPERPIXEL, image->samples);
-    TIFFSetField(t, TIFFTAG_PHOTOMETRIC, image->samples == 3 ? PHOTOMETRIC_RGB : PHOTOMETRIC_MINISBLACK);
+    TIFFSetField(t, TIFFTAG_PHOTOMETRIC,
+                 image->samples == 3 ? PHOTOMETRIC_RGB : PHOTOMETRIC_MINISBLACK);
     TIFFSetField(t, TIFFTAG_PLANARCONFIG, PLANARCONFIG_CONTIG);
     TIFFSetField(t, TIFFTAG_COMPRESSION, image->packed ? COMPRESSION_PACKBITS : COMPRESSION_NONE);
     TIFFSetField(t, TIFFTAG_ROWSPERSTRIP, image->rows);
 }
 
-size_t write_by_libtiff(const struct drawn *image, const uint8_t *samples, uint8_t *buffer, size_t size) {
+size_t write_by_libtiff(const struct drawn *image, const uint8_t *samples, uint8_t *buffer,
+                        size_t size) {
     struct paper p = {buffer, size, 0, 0};
-    TIFF *t = TIFFClientOpen("bench", "wl", &p, read_back, write_some, seek_paper, close_it, size_of_paper, NULL, NULL);
+    TIFF *t = TIFFClientOpen("bench", "wl", &p, read_back, write_some, seek_paper, close_it,
+                             size_of_paper, NULL, NULL);
     if (!t) return 0;
     describe(t, image);
-    size_t row = (size_t)image->width * image->samples * image->bits / 8, whole = row * image->height, strip = row * image->rows;
+    size_t row = (size_t)image->width * image->samples * image->bits / 8,
+           whole = row * image->height, strip = row * image->rows;
     int well = 1;
     for (size_t i = 0; well && i * strip < whole; i++) {
         size_t left = whole - i * strip, n = left < strip ? left : strip;
-        well = TIFFWriteEncodedStrip(t, (uint32_t)i, (void *)(samples + i * strip), (tmsize_t)n) >= 0;
+        well =
+            TIFFWriteEncodedStrip(t, (uint32_t)i, (void *)(samples + i * strip), (tmsize_t)n) >= 0;
     }
     well = well && TIFFFlush(t);
     TIFFClose(t);

@@ -32,6 +32,7 @@ struct drawn {
 };
 
 /* Writes a file of an image into BUFFER, of SIZE bytes. Answers how many bytes it has, or 0 where it fails. */
-size_t write_by_libtiff(const struct drawn *image, const uint8_t *samples, uint8_t *buffer, size_t size);
+size_t write_by_libtiff(const struct drawn *image, const uint8_t *samples, uint8_t *buffer,
+                        size_t size);
 
 #endif

@@ -70,25 +70,37 @@ struct call {
     tiff_status (*make)(const struct input *on, struct answer *to);
 };
 
-static tiff_status page_count(const struct input *on, struct answer *to) { return tiff_page_count(on->file, on->len, &to->number); }
+static tiff_status page_count(const struct input *on, struct answer *to) {
+    return tiff_page_count(on->file, on->len, &to->number);
+}
 
-static tiff_status page_sides(const struct input *on, struct answer *to) { return tiff_page_sides(on->file, on->len, on->page, &to->sides); }
+static tiff_status page_sides(const struct input *on, struct answer *to) {
+    return tiff_page_sides(on->file, on->len, on->page, &to->sides);
+}
 
 static tiff_status image_bytes(const struct input *on, struct answer *to) {
     return tiff_read_image_bytes(on->file, on->len, on->page, to->bytes, ROOM);
 }
 
-static tiff_status page_layout(const struct input *on, struct answer *to) { return tiff_page_layout(on->file, on->len, on->page, &to->layout); }
+static tiff_status page_layout(const struct input *on, struct answer *to) {
+    return tiff_page_layout(on->file, on->len, on->page, &to->layout);
+}
 
-static tiff_status page_color(const struct input *on, struct answer *to) { return tiff_page_color(on->file, on->len, on->page, &to->color); }
+static tiff_status page_color(const struct input *on, struct answer *to) {
+    return tiff_page_color(on->file, on->len, on->page, &to->color);
+}
 
 static tiff_status page_samples(const struct input *on, struct answer *to) {
     return tiff_page_samples(on->file, on->len, on->page, &to->samples);
 }
 
-static tiff_status page_chunks(const struct input *on, struct answer *to) { return tiff_page_chunks(on->file, on->len, on->page, &to->chunks); }
+static tiff_status page_chunks(const struct input *on, struct answer *to) {
+    return tiff_page_chunks(on->file, on->len, on->page, &to->chunks);
+}
 
-static tiff_status list_pages(const struct input *on, struct answer *to) { return tiff_list_pages(on->file, on->len, to->pages, LISTED, &to->number); }
+static tiff_status list_pages(const struct input *on, struct answer *to) {
+    return tiff_list_pages(on->file, on->len, to->pages, LISTED, &to->number);
+}
 
 static tiff_status list_directories(const struct input *on, struct answer *to) {
     return tiff_list_directories(on->file, on->len, to->directories, LISTED, &to->number);
@@ -98,7 +110,9 @@ static tiff_status chunk_bytes(const struct input *on, struct answer *to) {
     return tiff_read_chunk_bytes(on->file, on->len, on->page, 0, to->bytes, ROOM);
 }
 
-static tiff_status page_plan(const struct input *on, struct answer *to) { return tiff_page_plan(on->file, on->len, on->page, &to->plan); }
+static tiff_status page_plan(const struct input *on, struct answer *to) {
+    return tiff_page_plan(on->file, on->len, on->page, &to->plan);
+}
 
 /* by the plan that the page has where no request is refused */
 static tiff_status planned_chunk(const struct input *on, struct answer *to) {
@@ -118,54 +132,79 @@ static tiff_status rewrite_chunk(const struct input *on, struct answer *to) {
     static const uint8_t zeros[ROOM];
     uint64_t pixels = (uint64_t)on->plan.chunk_width * on->plan.chunk_height;
     uint64_t count = pixels < ROOM ? pixels * on->plan.samples * (on->plan.bits / 8) : ROOM;
-    return tiff_rewrite_chunk(on->file, on->len, &on->plan, 0, zeros, count < ROOM ? count : ROOM, to->bytes, ROOM);
+    return tiff_rewrite_chunk(on->file, on->len, &on->plan, 0, zeros, count < ROOM ? count : ROOM,
+                              to->bytes, ROOM);
 }
 
 /* of a file that two windows have */
-static tiff_status by_windows(const struct input *on, tiff_status call(const struct tiff_windows *, const struct input *, struct answer *), struct answer *to) {
+static tiff_status by_windows(const struct input *on,
+                              tiff_status call(const struct tiff_windows *, const struct input *,
+                                               struct answer *),
+                              struct answer *to) {
     size_t half = on->len / 2;
     struct tiff_window windows[] = {{0, on->file, half}, {half, on->file + half, on->len - half}};
     struct tiff_windows seen = {on->len, windows, 2};
     return call(&seen, on, to);
 }
 
-static tiff_status seen_pages(const struct tiff_windows *seen, const struct input *on, struct answer *to) {
+static tiff_status seen_pages(const struct tiff_windows *seen, const struct input *on,
+                              struct answer *to) {
     (void)on;
     return tiff_list_pages_in(seen, to->pages, LISTED, &to->number, &to->wanted);
 }
 
-static tiff_status seen_directories(const struct tiff_windows *seen, const struct input *on, struct answer *to) {
+static tiff_status seen_directories(const struct tiff_windows *seen, const struct input *on,
+                                    struct answer *to) {
     (void)on;
     return tiff_list_directories_in(seen, to->directories, LISTED, &to->number, &to->wanted);
 }
 
-static tiff_status seen_tags(const struct tiff_windows *seen, const struct input *on, struct answer *to) {
+static tiff_status seen_tags(const struct tiff_windows *seen, const struct input *on,
+                             struct answer *to) {
     return tiff_list_tags_in(seen, on->page, to->entries, LISTED, &to->number, &to->wanted);
 }
 
-static tiff_status seen_bytes(const struct tiff_windows *seen, const struct input *on, struct answer *to) {
+static tiff_status seen_bytes(const struct tiff_windows *seen, const struct input *on,
+                              struct answer *to) {
     return tiff_tag_bytes_in(seen, on->page, 258, 0, to->bytes, ROOM, &to->number, &to->wanted);
 }
 
-static tiff_status seen_plan(const struct tiff_windows *seen, const struct input *on, struct answer *to) {
+static tiff_status seen_plan(const struct tiff_windows *seen, const struct input *on,
+                             struct answer *to) {
     return tiff_page_plan_in(seen, on->page, &to->plan, &to->wanted);
 }
 
-static tiff_status seen_chunk(const struct tiff_windows *seen, const struct input *on, struct answer *to) {
+static tiff_status seen_chunk(const struct tiff_windows *seen, const struct input *on,
+                              struct answer *to) {
     return tiff_read_planned_chunk_in(seen, &on->plan, 0, to->bytes, ROOM, &to->wanted);
 }
 
-static tiff_status seen_chunks(const struct tiff_windows *seen, const struct input *on, struct answer *to) {
+static tiff_status seen_chunks(const struct tiff_windows *seen, const struct input *on,
+                               struct answer *to) {
     return tiff_read_planned_chunks_in(seen, &on->plan, 0, 2, to->bytes, ROOM, &to->wanted);
 }
 
-static tiff_status list_pages_in(const struct input *on, struct answer *to) { return by_windows(on, seen_pages, to); }
-static tiff_status list_directories_in(const struct input *on, struct answer *to) { return by_windows(on, seen_directories, to); }
-static tiff_status list_tags_in(const struct input *on, struct answer *to) { return by_windows(on, seen_tags, to); }
-static tiff_status tag_bytes_in(const struct input *on, struct answer *to) { return by_windows(on, seen_bytes, to); }
-static tiff_status page_plan_in(const struct input *on, struct answer *to) { return by_windows(on, seen_plan, to); }
-static tiff_status planned_chunk_in(const struct input *on, struct answer *to) { return by_windows(on, seen_chunk, to); }
-static tiff_status planned_chunks_in(const struct input *on, struct answer *to) { return by_windows(on, seen_chunks, to); }
+static tiff_status list_pages_in(const struct input *on, struct answer *to) {
+    return by_windows(on, seen_pages, to);
+}
+static tiff_status list_directories_in(const struct input *on, struct answer *to) {
+    return by_windows(on, seen_directories, to);
+}
+static tiff_status list_tags_in(const struct input *on, struct answer *to) {
+    return by_windows(on, seen_tags, to);
+}
+static tiff_status tag_bytes_in(const struct input *on, struct answer *to) {
+    return by_windows(on, seen_bytes, to);
+}
+static tiff_status page_plan_in(const struct input *on, struct answer *to) {
+    return by_windows(on, seen_plan, to);
+}
+static tiff_status planned_chunk_in(const struct input *on, struct answer *to) {
+    return by_windows(on, seen_chunk, to);
+}
+static tiff_status planned_chunks_in(const struct input *on, struct answer *to) {
+    return by_windows(on, seen_chunks, to);
+}
 
 static tiff_status two_chunks(const struct input *on, struct answer *to) {
     return tiff_read_chunks(on->file, on->len, on->page, 0, 2, to->bytes, ROOM);
@@ -181,11 +220,17 @@ static tiff_status unit_bytes(const struct input *on, struct answer *to) {
     return tiff_read_coding_unit_bytes(on->file, on->len, on->page, 0, to->bytes, ROOM);
 }
 
-static tiff_status width_field(const struct input *on, struct answer *to) { return tiff_tag_field(on->file, on->len, on->page, 256, &to->field); }
+static tiff_status width_field(const struct input *on, struct answer *to) {
+    return tiff_tag_field(on->file, on->len, on->page, 256, &to->field);
+}
 
-static tiff_status width_number(const struct input *on, struct answer *to) { return tiff_tag_number(on->file, on->len, on->page, 256, &to->value); }
+static tiff_status width_number(const struct input *on, struct answer *to) {
+    return tiff_tag_number(on->file, on->len, on->page, 256, &to->value);
+}
 
-static tiff_status method_number(const struct input *on, struct answer *to) { return tiff_tag_number(on->file, on->len, on->page, 259, &to->value); }
+static tiff_status method_number(const struct input *on, struct answer *to) {
+    return tiff_tag_number(on->file, on->len, on->page, 259, &to->value);
+}
 
 static tiff_status bits_bytes(const struct input *on, struct answer *to) {
     return tiff_tag_bytes(on->file, on->len, on->page, 258, 0, to->bytes, ROOM, &to->number);
@@ -219,7 +264,9 @@ static tiff_status list_tags(const struct input *on, struct answer *to) {
     return tiff_list_tags(on->file, on->len, on->page, to->entries, LISTED, &to->number);
 }
 
-static tiff_status byte_order(const struct input *on, struct answer *to) { return tiff_byte_order(on->file, on->len, &to->order); }
+static tiff_status byte_order(const struct input *on, struct answer *to) {
+    return tiff_byte_order(on->file, on->len, &to->order);
+}
 
 static tiff_status write_image(const struct input *on, struct answer *to) {
     return tiff_write_image(&on->image, on->file, on->len, to->bytes, on->size, &to->number);
@@ -242,32 +289,79 @@ static tiff_status image_frame(const struct input *on, struct answer *to) {
 /* a page with a tag of one's own, and one that is refused */
 static tiff_status write_jobs(const struct input *on, struct answer *to) {
     static const char jobs[] = "image Gray8 2 1\nwrite_tag 270 text words\nwrite_data 1 2\n";
-    return tiff_write_jobs(on->image.version, (const uint8_t *)jobs, sizeof jobs - 1, to->bytes, on->size, &to->number, &to->end);
+    return tiff_write_jobs(on->image.version, (const uint8_t *)jobs, sizeof jobs - 1, to->bytes,
+                           on->size, &to->number, &to->end);
 }
 
 static tiff_status refused_jobs(const struct input *on, struct answer *to) {
     static const char jobs[] = "image Gray8 1 1\nwrite_data 7\nimage Gray8 0 1\nfinish\n";
-    return tiff_write_jobs(on->image.version, (const uint8_t *)jobs, sizeof jobs - 1, to->bytes, on->size, &to->number, &to->end);
+    return tiff_write_jobs(on->image.version, (const uint8_t *)jobs, sizeof jobs - 1, to->bytes,
+                           on->size, &to->number, &to->end);
 }
 
 /* two pages of which the second has a tag of one's own and tiles, and two of which the second is refused */
-static tiff_status pages_into(const struct input *on, struct answer *to, uint16_t method, _Bool behind) {
+static tiff_status pages_into(const struct input *on, struct answer *to, uint16_t method,
+                              _Bool behind) {
     static const uint8_t words[] = "words", samples[] = {1, 2, 3, 4};
     static const uint16_t none[1];
     const struct tiff_new_tag tag = {270, 2, sizeof words, words, sizeof words};
     const struct tiff_new_page pages[] = {
-        {TIFF_GRAY8, 2, 1, 0, 0, 0, TIFF_UNCOMPRESSED, TIFF_NO_PREDICTOR, TIFF_CHUNKY, TIFF_NO_RESOLUTION, {0, 1}, {0, 1}, none, 0, &tag, 0, samples, 2, 0},
-        {TIFF_GRAY8, 2, 2, 0, 16, 16, method, TIFF_NO_PREDICTOR, TIFF_CHUNKY, TIFF_INCH, {300, 1}, {300, 1}, none, 0, &tag, 1, samples, 4, 1},
+        {TIFF_GRAY8,
+         2,
+         1,
+         0,
+         0,
+         0,
+         TIFF_UNCOMPRESSED,
+         TIFF_NO_PREDICTOR,
+         TIFF_CHUNKY,
+         TIFF_NO_RESOLUTION,
+         {0, 1},
+         {0, 1},
+         none,
+         0,
+         &tag,
+         0,
+         samples,
+         2,
+         0},
+        {TIFF_GRAY8,
+         2,
+         2,
+         0,
+         16,
+         16,
+         method,
+         TIFF_NO_PREDICTOR,
+         TIFF_CHUNKY,
+         TIFF_INCH,
+         {300, 1},
+         {300, 1},
+         none,
+         0,
+         &tag,
+         1,
+         samples,
+         4,
+         1},
     };
-    if (behind) return tiff_append_pages(on->file, on->len, pages, 2, to->bytes, ROOM, &to->appended);
-    return tiff_write_pages(on->image.version, pages, 2, to->bytes, on->size, &to->number, &to->pages_end);
+    if (behind)
+        return tiff_append_pages(on->file, on->len, pages, 2, to->bytes, ROOM, &to->appended);
+    return tiff_write_pages(on->image.version, pages, 2, to->bytes, on->size, &to->number,
+                            &to->pages_end);
 }
 
-static tiff_status write_pages(const struct input *on, struct answer *to) { return pages_into(on, to, TIFF_PACKBITS, 0); }
+static tiff_status write_pages(const struct input *on, struct answer *to) {
+    return pages_into(on, to, TIFF_PACKBITS, 0);
+}
 
-static tiff_status refused_pages(const struct input *on, struct answer *to) { return pages_into(on, to, 5, 0); }
+static tiff_status refused_pages(const struct input *on, struct answer *to) {
+    return pages_into(on, to, 5, 0);
+}
 
-static tiff_status append_pages(const struct input *on, struct answer *to) { return pages_into(on, to, TIFF_PACKBITS, 1); }
+static tiff_status append_pages(const struct input *on, struct answer *to) {
+    return pages_into(on, to, TIFF_PACKBITS, 1);
+}
 
 static tiff_status fault_text(const struct input *on, struct answer *to) {
     (void)on;
@@ -332,12 +426,16 @@ static const struct call job_writers[] = {
 static size_t refused_at;
 static _Bool refuses_all;
 
-_Bool is_refused(void) { return refused_at && (counts->requests == refused_at || (refuses_all && counts->requests > refused_at)); }
+_Bool is_refused(void) {
+    return refused_at &&
+           (counts->requests == refused_at || (refuses_all && counts->requests > refused_at));
+}
 
 static struct answer pattern, good, got;
 
 /* Makes a call, with the request of this number refused, or none. */
-static tiff_status made(const struct call *call, const struct input *on, struct answer *to, size_t at, _Bool all) {
+static tiff_status made(const struct call *call, const struct input *on, struct answer *to,
+                        size_t at, _Bool all) {
     memset(to, PATTERN, sizeof *to);
     *counts = (struct counts){.peak = counts->peak};
     refused_at = at;
@@ -355,7 +453,8 @@ static _Bool stays(enum left left) {
     if (left == BUT_APPENDED) {
         /* of its bytes between the fields nothing is said */
         want.appended = got.appended;
-        if (got.appended.len || got.appended.link || got.appended.target || got.appended.width) return 0;
+        if (got.appended.len || got.appended.link || got.appended.target || got.appended.width)
+            return 0;
     }
     if (left == BUT_BYTES)
         for (size_t at = 0; at < ROOM; at++) want.bytes[at] = got.bytes[at];
@@ -365,29 +464,35 @@ static _Bool stays(enum left left) {
 static _Bool is_well = 1;
 static size_t made_calls, requests, refused, without, told;
 
-static void wrong(const struct call *call, const struct input *on, size_t at, _Bool all, const char *what, tiff_status status) {
+static void wrong(const struct call *call, const struct input *on, size_t at, _Bool all,
+                  const char *what, tiff_status status) {
     is_well = 0;
     if (++told > TOLD) return;
-    dprintf(2, "memory/run: %s of %s, page %zu, color %u, request %zu%s: %s (status %u)\n", call->name, on->name, on->page, on->image.color, at,
-            all ? " and all behind it" : "", what, status);
+    dprintf(2, "memory/run: %s of %s, page %zu, color %u, request %zu%s: %s (status %u)\n",
+            call->name, on->name, on->page, on->image.color, at, all ? " and all behind it" : "",
+            what, status);
 }
 
-static void refuse(const struct call *call, const struct input *on, tiff_status status, size_t at, _Bool all) {
+static void refuse(const struct call *call, const struct input *on, tiff_status status, size_t at,
+                   _Bool all) {
     tiff_status other = made(call, on, &got, at, all);
     _Bool is_same = other == status && memcmp(&good, &got, sizeof got) == 0;
     if (is_same && !all) without++;
-    else if (other != TIFF_OUT_OF_MEMORY) wrong(call, on, at, all, "it isn't answered out of memory", other);
+    else if (other != TIFF_OUT_OF_MEMORY)
+        wrong(call, on, at, all, "it isn't answered out of memory", other);
     else if (!stays(call->left)) wrong(call, on, at, all, "what has to stay is changed", other);
     if (counts->blocks) wrong(call, on, at, all, "a block is left behind", other);
     other = made(call, on, &got, 0, 0);
-    if (other != status || memcmp(&good, &got, sizeof got) != 0) wrong(call, on, at, all, "made again, it answers something else", other);
+    if (other != status || memcmp(&good, &got, sizeof got) != 0)
+        wrong(call, on, at, all, "made again, it answers something else", other);
 }
 
 static void try_call(const struct call *call, const struct input *on) {
     tiff_status status = made(call, on, &good, 0, 0);
     size_t last = counts->requests;
     if (counts->blocks) wrong(call, on, 0, 0, "a block is left behind", status);
-    if (memcmp(good.guard, pattern.guard, GUARD) != 0) wrong(call, on, 0, 0, "bytes behind the buffer are changed", status);
+    if (memcmp(good.guard, pattern.guard, GUARD) != 0)
+        wrong(call, on, 0, 0, "bytes behind the buffer are changed", status);
     for (size_t at = 1; at <= last; at++) {
         refuse(call, on, status, at, 0);
         refuse(call, on, status, at, 1);
@@ -398,8 +503,10 @@ static void try_call(const struct call *call, const struct input *on) {
 }
 
 static void tell(const struct call *call) {
-    dprintf(1, "%s: %zu calls, %zu requests refused in turn: %zu answered out of memory, %zu done without; peak %zu bytes\n", call->name, made_calls,
-            requests, requests - without, without, counts->peak);
+    dprintf(1,
+            "%s: %zu calls, %zu requests refused in turn: %zu answered out of memory, %zu done "
+            "without; peak %zu bytes\n",
+            call->name, made_calls, requests, requests - without, without, counts->peak);
     if (told) dprintf(2, "memory/run: %s: %zu faults\n", call->name, told);
     made_calls = requests = without = told = counts->peak = 0;
 }
@@ -434,7 +541,11 @@ static void try_image(const struct call *writer, struct tiff_image image) {
     static uint8_t samples[5 * 3 * 4 * 8];
     for (size_t at = 0; at < sizeof samples; at++) samples[at] = (uint8_t)(at / 3);
     for (size_t size = 0; size <= ROOM; size += ROOM) {
-        struct input on = {.name = "an image", .file = samples, .len = sizeof samples, .image = image, .size = size};
+        struct input on = {.name = "an image",
+                           .file = samples,
+                           .len = sizeof samples,
+                           .image = image,
+                           .size = size};
         try_call(writer, &on);
     }
 }
@@ -442,7 +553,8 @@ static void try_image(const struct call *writer, struct tiff_image image) {
 static void try_color(const struct call *writer, uint32_t color) {
     for (uint16_t version = TIFF_CLASSIC; version <= TIFF_BIG; version++)
         for (uint16_t predictor = TIFF_NO_PREDICTOR; predictor <= TIFF_HORIZONTAL; predictor++) {
-            try_image(writer, (struct tiff_image){color, 5, 3, version, TIFF_UNCOMPRESSED, predictor});
+            try_image(writer,
+                      (struct tiff_image){color, 5, 3, version, TIFF_UNCOMPRESSED, predictor});
             try_image(writer, (struct tiff_image){color, 5, 3, version, TIFF_PACKBITS, predictor});
         }
 }
@@ -450,8 +562,10 @@ static void try_color(const struct call *writer, uint32_t color) {
 /* Whether a number is that of a color type. No other number of this image is refused so. */
 static _Bool is_color(uint32_t color) {
     static const uint8_t sample;
-    struct input on = {
-        .name = "an image", .file = &sample, .len = 1, .image = {color, 1, 1, TIFF_CLASSIC, TIFF_UNCOMPRESSED, TIFF_NO_PREDICTOR}};
+    struct input on = {.name = "an image",
+                       .file = &sample,
+                       .len = 1,
+                       .image = {color, 1, 1, TIFF_CLASSIC, TIFF_UNCOMPRESSED, TIFF_NO_PREDICTOR}};
     return made(&writers[0], &on, &got, 0, 0) != TIFF_INVALID_INPUT;
 }
 

@@ -62,7 +62,9 @@ void rattle_dealloc(void *at) {
 
 static struct tried tried(void *at) { return (struct tried){at != NULL, at ? at : &nothing}; }
 
-struct tried rattle_alloc(size_t size, size_t align) { return tried(new_block(size, align)); }
+struct tried rattle_alloc(size_t size, size_t align) {
+    return tried(new_block(size, align));
+}
 
 struct tried rattle_realloc(void *at, size_t kept, size_t size, size_t align) {
     struct block *old = block_at(at);

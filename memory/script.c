@@ -10,7 +10,13 @@
 #include "heap.h"
 
 enum { SCRIPT = 0, OUTPUT = 1, COPIES = 3, LOG = 4 };
-enum { SEEK_CUR = 1, SEEK_END = 2, READ_PRIVATE = 1 | 2 << 16, WRITE_SHARED = 3 | (1 | 32) << 16, SYS_READ = 0 };
+enum {
+    SEEK_CUR = 1,
+    SEEK_END = 2,
+    READ_PRIVATE = 1 | 2 << 16,
+    WRITE_SHARED = 3 | (1 | 32) << 16,
+    SYS_READ = 0
+};
 
 char *getenv(const char *name);
 unsigned long strtoul(const char *digits, char **end, int base);
@@ -81,8 +87,9 @@ static _Bool copied(_Bool all) {
         return 1;
     }
     waitpid(copy, &status, 0);
-    dprintf(LOG, "%zu %d %ld %ld %d %zu %ld\n", counts->requests, all, (long)(line ? line - script : -1), lseek(OUTPUT, 0, SEEK_CUR), status,
-            shared->blocks, lseek(COPIES, 0, SEEK_CUR));
+    dprintf(LOG, "%zu %d %ld %ld %d %zu %ld\n", counts->requests, all,
+            (long)(line ? line - script : -1), lseek(OUTPUT, 0, SEEK_CUR), status, shared->blocks,
+            lseek(COPIES, 0, SEEK_CUR));
     return 0;
 }
 
@@ -93,7 +100,9 @@ _Bool is_refused(void) {
     return copied(0) || copied(1);
 }
 
-static _Bool begins(const char *words, size_t len) { return (size_t)(script_end - line) >= len && memcmp(line, words, len) == 0; }
+static _Bool begins(const char *words, size_t len) {
+    return (size_t)(script_end - line) >= len && memcmp(line, words, len) == 0;
+}
 
 /* The program's reads: of the script one line, or what there is room for of it. */
 long read(int file, void *buffer, size_t len) {

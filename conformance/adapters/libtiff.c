@@ -36,12 +36,14 @@ static uint64_t number(const uint8_t *row, size_t k, uint16_t bits) {
 }
 
 /* Puts the rows of a chunk into the image. */
-static void place(struct page *p, const uint8_t *data, size_t row_bytes, uint32_t x, uint32_t y, uint32_t rows, uint16_t plane) {
+static void place(struct page *p, const uint8_t *data, size_t row_bytes, uint32_t x, uint32_t y,
+                  uint32_t rows, uint16_t plane) {
     uint32_t wide = p->width - x < p->chunk_width ? p->width - x : p->chunk_width;
     for (uint32_t row = 0; row < rows && y + row < p->height; row++)
         for (size_t k = 0; k < (size_t)wide * p->stored; k++) {
             uint64_t value = number(data + row * row_bytes, k, p->bits);
-            size_t at = ((size_t)(y + row) * p->width + x + k / p->stored) * p->samples + plane + k % p->stored;
+            size_t at = ((size_t)(y + row) * p->width + x + k / p->stored) * p->samples + plane +
+                        k % p->stored;
             memcpy(p->rows + at * p->size, &value, p->size);
         }
 }
@@ -53,7 +55,8 @@ static int read_tiles(TIFF *tif, struct page *p) {
     for (uint16_t plane = 0; plane < (p->planar == 2 ? p->samples : 1); plane++)
         for (uint64_t y = 0; y < p->height; y += p->chunk_height)
             for (uint64_t x = 0; x < p->width; x += p->chunk_width) {
-                if (TIFFReadEncodedTile(tif, TIFFComputeTile(tif, x, y, 0, plane), data, size) < 0) return 0;
+                if (TIFFReadEncodedTile(tif, TIFFComputeTile(tif, x, y, 0, plane), data, size) < 0)
+                    return 0;
                 place(p, data, row_bytes, x, y, p->chunk_height, plane);
             }
     free(data);
@@ -67,7 +70,9 @@ static int read_strips(TIFF *tif, struct page *p) {
     for (uint16_t plane = 0; plane < (p->planar == 2 ? p->samples : 1); plane++)
         for (uint64_t y = 0; y < p->height; y += p->chunk_height) {
             uint32_t rows = p->height - y < p->chunk_height ? p->height - y : p->chunk_height;
-            if (TIFFReadEncodedStrip(tif, TIFFComputeStrip(tif, y, plane), data, row_bytes * rows) < 0) return 0;
+            if (TIFFReadEncodedStrip(tif, TIFFComputeStrip(tif, y, plane), data, row_bytes * rows) <
+                0)
+                return 0;
             place(p, data, row_bytes, 0, y, rows, plane);
         }
     free(data);
@@ -91,7 +96,9 @@ static int read_scanlines(TIFF *tif, struct page *p) {
 static int describe(TIFF *tif, struct page *p) {
     uint32_t rows = 0;
     memset(p, 0, sizeof *p);
-    if (!TIFFGetField(tif, TIFFTAG_IMAGEWIDTH, &p->width) || !TIFFGetField(tif, TIFFTAG_IMAGELENGTH, &p->height)) return 0;
+    if (!TIFFGetField(tif, TIFFTAG_IMAGEWIDTH, &p->width) ||
+        !TIFFGetField(tif, TIFFTAG_IMAGELENGTH, &p->height))
+        return 0;
     TIFFGetFieldDefaulted(tif, TIFFTAG_BITSPERSAMPLE, &p->bits);
     TIFFGetFieldDefaulted(tif, TIFFTAG_SAMPLESPERPIXEL, &p->samples);
     TIFFGetFieldDefaulted(tif, TIFFTAG_PLANARCONFIG, &p->planar);
@@ -105,7 +112,9 @@ static int describe(TIFF *tif, struct page *p) {
     }
     p->stored = p->planar == 2 ? 1 : p->samples;
     p->size = size_of(p->bits);
-    if (!p->width || !p->height || !p->samples || !p->bits || p->bits > 64 || !p->chunk_width || !p->chunk_height) return 0;
+    if (!p->width || !p->height || !p->samples || !p->bits || p->bits > 64 || !p->chunk_width ||
+        !p->chunk_height)
+        return 0;
     if ((double)p->width * p->height * p->samples * p->size > MOST) return 0;
     p->rows = calloc((size_t)p->width * p->height * p->samples, p->size);
     return p->rows != NULL;
@@ -119,7 +128,10 @@ int main(int count, char **words) {
     for (;;) {
         struct page p;
         if (!describe(tif, &p)) return 1;
-        if (!(p.tiled ? read_tiles(tif, &p) : by_scanlines ? read_scanlines(tif, &p) : read_strips(tif, &p))) return 1;
+        if (!(p.tiled        ? read_tiles(tif, &p)
+              : by_scanlines ? read_scanlines(tif, &p)
+                             : read_strips(tif, &p)))
+            return 1;
         printf("page %u %u %u %zu\n", p.width, p.height, p.samples, p.size);
         fwrite(p.rows, p.size, (size_t)p.width * p.height * p.samples, stdout);
         free(p.rows);

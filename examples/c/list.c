@@ -32,10 +32,11 @@ static void print_page(size_t number, const struct tiff_listed_page *page) {
     }
     printf("%" PRIu32 "x%" PRIu32 " ", page->width, page->height);
     if (page->color_status == TIFF_DONE)
-        printf("color %" PRIu32 " of %" PRIu32 " x %" PRIu32 " bits", page->color.kind, page->color.samples, page->color.bits);
-    else
-        printf("no color");
-    printf(", method %" PRIu32 ", %" PRIu32 " %s\n", page->method, page->count, page->chunk_kind == TIFF_TILES ? "tiles" : "strips");
+        printf("color %" PRIu32 " of %" PRIu32 " x %" PRIu32 " bits", page->color.kind,
+               page->color.samples, page->color.bits);
+    else printf("no color");
+    printf(", method %" PRIu32 ", %" PRIu32 " %s\n", page->method, page->count,
+           page->chunk_kind == TIFF_TILES ? "tiles" : "strips");
 }
 
 /* Returns the status of the program, and tells of what couldn't be written. The last bytes may reach standard output only as it is closed. */

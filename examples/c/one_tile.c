@@ -49,12 +49,14 @@ static int fetch(struct fetched *of, const struct tiff_stretch *wanted) {
     size_t at = 0, count = of->seen.count;
     while (at < count && of->windows[at].offset < wanted->offset) at++;
     uint64_t end = at < count ? of->windows[at].offset : of->seen.len;
-    uint64_t begin = wanted->offset / PAGE * PAGE, pages = (wanted->offset - begin + wanted->len - 1) / PAGE + 1;
+    uint64_t begin = wanted->offset / PAGE * PAGE,
+             pages = (wanted->offset - begin + wanted->len - 1) / PAGE + 1;
     if (pages < (end - begin) / PAGE + 1) end = begin + pages * PAGE;
     if (end > of->seen.len) end = of->seen.len;
 
     uint8_t *bytes = malloc((size_t)(end - begin));
-    struct tiff_window *windows = bytes ? realloc(of->windows, (count + 1) * sizeof *windows) : NULL;
+    struct tiff_window *windows =
+        bytes ? realloc(of->windows, (count + 1) * sizeof *windows) : NULL;
     if (windows) of->seen.windows = of->windows = windows;
     if (!windows || !read_at(of->file, begin, bytes, (size_t)(end - begin))) return free(bytes), 0;
     memmove(windows + at + 1, windows + at, (count - at) * sizeof *windows);
@@ -94,7 +96,8 @@ static size_t bytes_of(uint64_t columns, uint64_t samples, uint64_t bits, uint64
 
 int main(int argc, char **argv) {
     struct fetched of;
-    if (argc != 4 || !open_file(argv[1], &of)) return fprintf(stderr, "usage: one_tile FILE ROW COLUMN\n"), 2;
+    if (argc != 4 || !open_file(argv[1], &of))
+        return fprintf(stderr, "usage: one_tile FILE ROW COLUMN\n"), 2;
     uint64_t row = strtoull(argv[2], NULL, 10), column = strtoull(argv[3], NULL, 10);
 
     /* A call that wants bytes is made again once they are there. */
@@ -125,7 +128,8 @@ int main(int argc, char **argv) {
     } while (status == TIFF_INSUFFICIENT_OUTPUT_BUFFER_SIZE && samples < most);
     if (status) return refuse("tile", status);
     fwrite(tile, 1, size, stdout);
-    fprintf(stderr, "%u x %u pixels, by %zu requests\n", (unsigned)columns, (unsigned)rows, of.requests);
+    fprintf(stderr, "%u x %u pixels, by %zu requests\n", (unsigned)columns, (unsigned)rows,
+            of.requests);
     free(tile);
     close_file(&of);
     return close_output(0);

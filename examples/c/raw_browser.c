@@ -25,7 +25,8 @@ static uint8_t *read_file(const char *name, size_t *len) {
 static void print_fault(FILE *out, tiff_status status) {
     uint8_t text[160];
     size_t len = tiff_fault_text(status, text, sizeof text);
-    fprintf(out, " error: %.*s\n", (int)(len < sizeof text ? len : sizeof text), (const char *)text);
+    fprintf(out, " error: %.*s\n", (int)(len < sizeof text ? len : sizeof text),
+            (const char *)text);
 }
 
 /* A number of four bytes, in the order of the file. */
@@ -36,12 +37,14 @@ static uint32_t number_at(const uint8_t *bytes, uint32_t order) {
 }
 
 /* Prints fractions by their bytes: tiff_tag_numbers returns a single one without a sign, but not several or those with one. */
-static tiff_status print_fractions(const uint8_t *file, size_t len, size_t page, const struct tiff_tag_entry *tag) {
+static tiff_status print_fractions(const uint8_t *file, size_t len, size_t page,
+                                   const struct tiff_tag_entry *tag) {
     uint8_t bytes[8 * MOST];
     size_t count;
     uint32_t order;
     tiff_status status = tiff_byte_order(file, len, &order);
-    if (status == TIFF_DONE) status = tiff_tag_bytes(file, len, page, tag->number, 0, bytes, sizeof bytes, &count);
+    if (status == TIFF_DONE)
+        status = tiff_tag_bytes(file, len, page, tag->number, 0, bytes, sizeof bytes, &count);
     for (size_t i = 0; status == TIFF_DONE && i + 8 <= count; i += 8) {
         int64_t above = number_at(bytes + i, order), below = number_at(bytes + i + 4, order);
         if (tag->type == SRATIONAL) above = (int32_t)above, below = (int32_t)below;
@@ -50,7 +53,8 @@ static tiff_status print_fractions(const uint8_t *file, size_t len, size_t page,
     return status;
 }
 
-static tiff_status print_numbers(const uint8_t *file, size_t len, size_t page, const struct tiff_tag_entry *tag) {
+static tiff_status print_numbers(const uint8_t *file, size_t len, size_t page,
+                                 const struct tiff_tag_entry *tag) {
     uint64_t numbers[MOST];
     size_t count = 0;
     tiff_status status = tiff_tag_numbers(file, len, page, tag->number, numbers, MOST, &count);
@@ -58,17 +62,21 @@ static tiff_status print_numbers(const uint8_t *file, size_t len, size_t page, c
     return status;
 }
 
-static tiff_status print_text(const uint8_t *file, size_t len, size_t page, const struct tiff_tag_entry *tag) {
+static tiff_status print_text(const uint8_t *file, size_t len, size_t page,
+                              const struct tiff_tag_entry *tag) {
     uint8_t text[200];
     size_t count;
     tiff_status status = tiff_tag_text(file, len, page, tag->number, text, sizeof text, &count);
-    if (status == TIFF_DONE) printf(" %.*s", (int)(count < sizeof text ? count : sizeof text), (const char *)text);
+    if (status == TIFF_DONE)
+        printf(" %.*s", (int)(count < sizeof text ? count : sizeof text), (const char *)text);
     return status;
 }
 
-static tiff_status print_values(const uint8_t *file, size_t len, size_t page, const struct tiff_tag_entry *tag) {
+static tiff_status print_values(const uint8_t *file, size_t len, size_t page,
+                                const struct tiff_tag_entry *tag) {
     if (tag->type == ASCII) return print_text(file, len, page, tag);
-    if (tag->type == RATIONAL || tag->type == SRATIONAL) return print_fractions(file, len, page, tag);
+    if (tag->type == RATIONAL || tag->type == SRATIONAL)
+        return print_fractions(file, len, page, tag);
     return print_numbers(file, len, page, tag);
 }
 
@@ -77,7 +85,8 @@ static void print_tags(const uint8_t *file, size_t len, const struct tiff_listed
     struct tiff_tag_entry *tags = malloc((room + 1) * sizeof *tags);
     if (tags) tiff_list_tags(file, len, page, tags, room, &count);
     for (size_t i = 0; i < count && i < room; i++) {
-        printf("%*s%u, %" PRIu64 " of type %u:", (int)(2 * of->depth + 2), "", tags[i].number, tags[i].count, tags[i].type);
+        printf("%*s%u, %" PRIu64 " of type %u:", (int)(2 * of->depth + 2), "", tags[i].number,
+               tags[i].count, tags[i].type);
         tiff_status status = print_values(file, len, page, &tags[i]);
         if (status == TIFF_DONE) printf("\n");
         else print_fault(stdout, status);
@@ -91,8 +100,11 @@ static void print_directory(const struct tiff_listed_directory *of) {
     tiff_status status = of->found == TIFF_DIRECTORY ? of->page.status : of->status;
     if (of->found == TIFF_DIRECTORY) printf(", %" PRIu64 " tags", of->fields);
     if (status != TIFF_DONE) print_fault(stdout, status);
-    else if (of->found == TIFF_DIRECTORY) printf(", %" PRIu32 " x %" PRIu32 " pixels\n", of->page.width, of->page.height);
-    else printf(of->found == TIFF_DIRECTORY_MET ? ", which is listed elsewhere\n" : ", which is too deep\n");
+    else if (of->found == TIFF_DIRECTORY)
+        printf(", %" PRIu32 " x %" PRIu32 " pixels\n", of->page.width, of->page.height);
+    else
+        printf(of->found == TIFF_DIRECTORY_MET ? ", which is listed elsewhere\n"
+                                               : ", which is too deep\n");
 }
 
 /* The largest image of the list; one that can't be written has its error as its status. */
@@ -101,27 +113,33 @@ static struct tiff_listed_page *largest(struct tiff_listed_directory *listed, si
     for (size_t i = 0; i < count; i++) {
         struct tiff_listed_page *page = &listed[i].page;
         if (listed[i].found != TIFF_DIRECTORY || page->status != TIFF_DONE) continue;
-        if (!found || (uint64_t)page->width * page->height > (uint64_t)found->width * found->height) found = page;
+        if (!found || (uint64_t)page->width * page->height > (uint64_t)found->width * found->height)
+            found = page;
     }
     return found;
 }
 
 /* Writes an image, if it is gray or RGB of 8 bits and not in planes. */
-static tiff_status write_image(const uint8_t *file, size_t len, const struct tiff_listed_page *page, const char *name) {
+static tiff_status write_image(const uint8_t *file, size_t len, const struct tiff_listed_page *page,
+                               const char *name) {
     struct tiff_layout layout;
     tiff_status status = tiff_page_layout(file, len, TIFF_AT(page->offset), &layout);
     if (status != TIFF_DONE) return status;
-    if (page->color.kind > TIFF_RGB || page->color.bits != 8 || layout.len != layout.complete_len) return TIFF_UNSUPPORTED_COLOR_TYPE;
+    if (page->color.kind > TIFF_RGB || page->color.bits != 8 || layout.len != layout.complete_len)
+        return TIFF_UNSUPPORTED_COLOR_TYPE;
     uint8_t *image = malloc(layout.len + 1);
     if (!image) return TIFF_OUT_OF_MEMORY;
     status = tiff_read_image_bytes(file, len, TIFF_AT(page->offset), image, layout.len);
     FILE *out = status == TIFF_DONE ? fopen(name, "wb") : NULL;
     if (out) {
-        fprintf(out, "P%d\n%" PRIu32 " %" PRIu32 "\n255\n", page->color.kind == TIFF_RGB ? 6 : 5, page->width, page->height);
+        fprintf(out, "P%d\n%" PRIu32 " %" PRIu32 "\n255\n", page->color.kind == TIFF_RGB ? 6 : 5,
+                page->width, page->height);
         fwrite(image, 1, layout.len, out);
     }
     free(image);
-    return status != TIFF_DONE ? status : out && !ferror(out) && !fclose(out) ? TIFF_DONE : TIFF_DEVICE;
+    return status != TIFF_DONE                   ? status
+           : out && !ferror(out) && !fclose(out) ? TIFF_DONE
+                                                 : TIFF_DEVICE;
 }
 
 /* Returns the status of the program, and tells of what couldn't be written. The last bytes may reach standard output only as it is closed. */
@@ -142,12 +160,15 @@ int main(int argc, char **argv) {
     if (count) end = tiff_list_directories(file, len, listed, count, &count);
     for (size_t i = 0; i < count; i++) {
         print_directory(&listed[i]);
-        if (listed[i].found == TIFF_DIRECTORY && (listed[i].tag == EXIF || listed[i].tag == GPS)) print_tags(file, len, &listed[i]);
+        if (listed[i].found == TIFF_DIRECTORY && (listed[i].tag == EXIF || listed[i].tag == GPS))
+            print_tags(file, len, &listed[i]);
     }
     if (end != TIFF_DONE) print_fault(stderr, end);
 
     struct tiff_listed_page *page;
-    while ((page = largest(listed, count)) != NULL && (page->status = write_image(file, len, page, argv[2])) != TIFF_DONE) continue;
+    while ((page = largest(listed, count)) != NULL &&
+           (page->status = write_image(file, len, page, argv[2])) != TIFF_DONE)
+        continue;
     if (page) printf("the preview is that of @%" PRIu64 "\n", page->offset);
     else fprintf(stderr, "there is no preview that this program writes\n");
     free(listed);

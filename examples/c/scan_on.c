@@ -26,7 +26,8 @@ static int read_page(const char *name, struct tiff_new_page *page) {
     unsigned width, height, most;
     FILE *scan = fopen(name, "rb");
     if (!scan) return 0;
-    int is_gray = fscanf(scan, "P5 %u %u %u", &width, &height, &most) == 3 && most == 255 && getc(scan) != EOF;
+    int is_gray = fscanf(scan, "P5 %u %u %u", &width, &height, &most) == 3 && most == 255 &&
+                  getc(scan) != EOF;
     size_t len = is_gray ? (size_t)width * height : 0;
     uint8_t *samples = malloc(len + 1);
     int is_read = is_gray && samples && fread(samples, 1, len, scan) == len;
@@ -61,7 +62,8 @@ static int append_page(int file, const struct tiff_new_page *page) {
     static const uint8_t header[8] = {'I', 'I', 42};
     struct stat found;
     if (fstat(file, &found)) return 0;
-    if (found.st_size == 0 && (!write_at(file, header, sizeof header, 0) || fstat(file, &found))) return 0;
+    if (found.st_size == 0 && (!write_at(file, header, sizeof header, 0) || fstat(file, &found)))
+        return 0;
     size_t len = (size_t)found.st_size;
     const uint8_t *bytes = mmap(NULL, len, PROT_READ, MAP_SHARED, file, 0);
     if (bytes == MAP_FAILED) return 0;
@@ -69,13 +71,15 @@ static int append_page(int file, const struct tiff_new_page *page) {
     size_t size = page->samples_len + page->samples_len / 128 + (size_t)page->height * 10 + 4096;
     uint8_t *buffer = malloc(size);
     struct tiff_appended appended;
-    tiff_status status = buffer ? tiff_append_pages(bytes, len, page, 1, buffer, size, &appended) : TIFF_OUT_OF_MEMORY;
+    tiff_status status = buffer ? tiff_append_pages(bytes, len, page, 1, buffer, size, &appended)
+                                : TIFF_OUT_OF_MEMORY;
     munmap((void *)bytes, len);
     int is_written = status == TIFF_DONE ? 1 : refuse("refused", status);
     if (is_written) {
         uint8_t link[8];
         for (int i = 0; i < 8; i++) link[i] = (uint8_t)(appended.target >> 8 * i);
-        is_written = write_at(file, buffer, appended.len, found.st_size) && write_at(file, link, appended.width, (off_t)appended.link);
+        is_written = write_at(file, buffer, appended.len, found.st_size) &&
+                     write_at(file, link, appended.width, (off_t)appended.link);
     }
     free(buffer);
     return is_written;

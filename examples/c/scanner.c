@@ -17,17 +17,20 @@ static int refuse(const char *what, tiff_status status) {
 }
 
 /* Reads a PGM into a page, which keeps its samples and its name as a tag; returns 0 if it can't. */
-static int read_page(const char *name, unsigned dpi, struct tiff_new_page *page, struct tiff_new_tag *tag) {
+static int read_page(const char *name, unsigned dpi, struct tiff_new_page *page,
+                     struct tiff_new_tag *tag) {
     static const uint16_t no_samples[1];
     unsigned width, height, most;
     FILE *scan = fopen(name, "rb");
     if (!scan) return 0;
-    int is_gray = fscanf(scan, "P5 %u %u %u", &width, &height, &most) == 3 && most == 255 && getc(scan) != EOF;
+    int is_gray = fscanf(scan, "P5 %u %u %u", &width, &height, &most) == 3 && most == 255 &&
+                  getc(scan) != EOF;
     size_t len = is_gray ? (size_t)width * height : 0;
     uint8_t *samples = malloc(len + 1);
     int is_read = is_gray && samples && fread(samples, 1, len, scan) == len;
     fclose(scan);
-    *tag = (struct tiff_new_tag){IMAGE_DESCRIPTION, ASCII, strlen(name) + 1, (const uint8_t *)name, strlen(name) + 1};
+    *tag = (struct tiff_new_tag){IMAGE_DESCRIPTION, ASCII, strlen(name) + 1, (const uint8_t *)name,
+                                 strlen(name) + 1};
     *page = (struct tiff_new_page){
         .color = TIFF_GRAY8,
         .width = width,
@@ -77,6 +80,7 @@ int main(int argc, char **argv) {
     struct tiff_new_tag *tags = calloc(count, sizeof *tags);
     if (!pages || !tags) return refuse("pages", TIFF_OUT_OF_MEMORY);
     for (size_t n = 0; n < count; n++)
-        if (!read_page(argv[n + 2], dpi, &pages[n], &tags[n])) return fprintf(stderr, "cannot read %s as a PGM of 8 bits\n", argv[n + 2]), 1;
+        if (!read_page(argv[n + 2], dpi, &pages[n], &tags[n]))
+            return fprintf(stderr, "cannot read %s as a PGM of 8 bits\n", argv[n + 2]), 1;
     return write_pages(pages, count);
 }

@@ -12,7 +12,8 @@ static uint8_t *read_file(const char *name, size_t *len) {
     FILE *in = fopen(name, "rb");
     uint8_t *file = NULL;
     long size;
-    if (in && fseek(in, 0, SEEK_END) == 0 && (size = ftell(in)) > 0 && fseek(in, 0, SEEK_SET) == 0) {
+    if (in && fseek(in, 0, SEEK_END) == 0 && (size = ftell(in)) > 0 &&
+        fseek(in, 0, SEEK_SET) == 0) {
         *len = (size_t)size;
         file = malloc(*len);
         if (file && fread(file, 1, *len, in) != *len) {

@@ -7,16 +7,16 @@
 #include "mangohatch_tiff.h"
 
 /* A line for each step; 0..255 are the samples from 0 to 255. */
-static const char jobs[] =
-    "image Gray8 16 16\n"
-    "write_tag 270 text a ramp\n"
-    "write_tag 33550 f64 0.5*2 0\n"
-    "write_data 0..255\n";
+static const char jobs[] = "image Gray8 16 16\n"
+                           "write_tag 270 text a ramp\n"
+                           "write_tag 33550 f64 0.5*2 0\n"
+                           "write_data 0..255\n";
 
 static int refuse(tiff_status status, struct tiff_jobs_end end) {
     uint8_t text[80];
     size_t len = tiff_fault_text(status, text, sizeof text);
-    fprintf(stderr, "line %zu, job %zu: %.*s\n", end.line, end.job, (int)(len < sizeof text ? len : sizeof text), (char *)text);
+    fprintf(stderr, "line %zu, job %zu: %.*s\n", end.line, end.job,
+            (int)(len < sizeof text ? len : sizeof text), (char *)text);
     return 1;
 }
 
@@ -32,7 +32,8 @@ int main(void) {
     size_t len, size = 4096;
     uint8_t *file = malloc(size);
     if (!file) return fprintf(stderr, "out of memory\n"), 1;
-    tiff_status status = tiff_write_jobs(TIFF_CLASSIC, (const uint8_t *)jobs, strlen(jobs), file, size, &len, &end);
+    tiff_status status =
+        tiff_write_jobs(TIFF_CLASSIC, (const uint8_t *)jobs, strlen(jobs), file, size, &len, &end);
     if (status) return refuse(status, end);
     fwrite(file, 1, len, stdout);
     free(file);

@@ -49,13 +49,16 @@ int main(int argc, char **argv) {
 
     uint8_t *pixels = malloc(layout.len + 1);
     if (!pixels) return fprintf(stderr, "out of memory\n"), 1;
-    if ((status = tiff_read_image_bytes(file, len, 0, pixels, layout.len))) return refuse("image", status);
+    if ((status = tiff_read_image_bytes(file, len, 0, pixels, layout.len)))
+        return refuse("image", status);
 
     uint32_t step = sides.width >= 16 && sides.height >= 16 ? 4 : 1;
-    printf("P%d\n%u %u\n255\n", color.kind == TIFF_RGB ? 6 : 5, sides.width / step, sides.height / step);
+    printf("P%d\n%u %u\n255\n", color.kind == TIFF_RGB ? 6 : 5, sides.width / step,
+           sides.height / step);
     for (size_t y = 0; y < sides.height / step; y++)
         for (size_t x = 0; x < sides.width / step; x++)
-            fwrite(pixels + (y * step * sides.width + x * step) * color.samples, 1, color.samples, stdout);
+            fwrite(pixels + (y * step * sides.width + x * step) * color.samples, 1, color.samples,
+                   stdout);
     free(pixels);
     free(file);
     return close_output(0);

@@ -53,7 +53,8 @@ int main(int argc, char **argv) {
     size_t size = (size_t)((chunks.width * shown * samples.bits + 7) / 8 * chunks.height);
     uint8_t *tile = calloc(size + 1, 1);
     if (!tile) return fprintf(stderr, "out of memory\n"), 1;
-    if ((status = tiff_read_chunk_bytes(file, len, 0, number, tile, size))) return refuse("tile", status);
+    if ((status = tiff_read_chunk_bytes(file, len, 0, number, tile, size)))
+        return refuse("tile", status);
     fwrite(tile, 1, size, stdout);
     free(tile);
     free(file);

@@ -58,10 +58,13 @@ static uint32_t parts(uint32_t whole, uint32_t part) { return whole / part + (wh
 
 /* The sides of a tile, cut at the edges of the image. A number behind the last tile of a plane is that of the next plane. */
 static struct tiff_sides sides_of(const struct tiff_page_plan *plan, uint32_t tile) {
-    uint32_t across = parts(plan->width, plan->chunk_width), in_plane = tile % (across * parts(plan->height, plan->chunk_height));
-    uint32_t left = in_plane % across * plan->chunk_width, top = in_plane / across * plan->chunk_height;
+    uint32_t across = parts(plan->width, plan->chunk_width),
+             in_plane = tile % (across * parts(plan->height, plan->chunk_height));
+    uint32_t left = in_plane % across * plan->chunk_width,
+             top = in_plane / across * plan->chunk_height;
     uint32_t width = plan->width - left, height = plan->height - top;
-    return (struct tiff_sides){width < plan->chunk_width ? width : plan->chunk_width, height < plan->chunk_height ? height : plan->chunk_height};
+    return (struct tiff_sides){width < plan->chunk_width ? width : plan->chunk_width,
+                               height < plan->chunk_height ? height : plan->chunk_height};
 }
 
 static size_t bytes_of(const struct server *of, struct tiff_sides sides) {
@@ -70,7 +73,9 @@ static size_t bytes_of(const struct server *of, struct tiff_sides sides) {
 
 static void write_tile(const struct server *of, struct tiff_sides sides, const uint8_t *tile) {
     int is_picture = of->plan.bits == 8 && (of->samples == 1 || of->samples == 3);
-    if (is_picture) printf("P%d\n%" PRIu32 " %" PRIu32 "\n255\n", of->samples == 3 ? 6 : 5, sides.width, sides.height);
+    if (is_picture)
+        printf("P%d\n%" PRIu32 " %" PRIu32 "\n255\n", of->samples == 3 ? 6 : 5, sides.width,
+               sides.height);
     fwrite(tile, 1, bytes_of(of, sides), stdout);
 }
 
@@ -78,14 +83,17 @@ int main(int argc, char **argv) {
     struct server of;
     struct tiff_samples samples;
     tiff_status status;
-    if (argc != 2 || !(of.file = map_file(argv[1], &of.len))) return fprintf(stderr, "usage: tile_server FILE < NUMBERS > TILES\n"), 2;
+    if (argc != 2 || !(of.file = map_file(argv[1], &of.len)))
+        return fprintf(stderr, "usage: tile_server FILE < NUMBERS > TILES\n"), 2;
     double begin = microseconds();
     if ((status = tiff_page_plan(of.file, of.len, 0, &of.plan))) return refuse("plan", status);
-    if ((status = tiff_page_samples(of.file, of.len, 0, &samples))) return refuse("samples", status);
+    if ((status = tiff_page_samples(of.file, of.len, 0, &samples)))
+        return refuse("samples", status);
     of.samples = samples.planes > 1 ? 1 : samples.samples;
     double planned = microseconds() - begin, taken = 0;
 
-    size_t room = bytes_of(&of, sides_of(&of.plan, 0)), served = 0; /* no tile is larger than the first one */
+    size_t room = bytes_of(&of, sides_of(&of.plan, 0)),
+           served = 0; /* no tile is larger than the first one */
     uint8_t *tile = malloc(room + 1);
     if (!tile) return fprintf(stderr, "out of memory\n"), 1;
     for (uint32_t number; scanf("%" SCNu32, &number) == 1;) {
@@ -96,7 +104,8 @@ int main(int argc, char **argv) {
         write_tile(&of, sides_of(&of.plan, number), tile);
         served++;
     }
-    fprintf(stderr, "the plan took %.1f microseconds, and each of %zu tiles %.1f\n", planned, served, served ? taken / (double)served : 0);
+    fprintf(stderr, "the plan took %.1f microseconds, and each of %zu tiles %.1f\n", planned,
+            served, served ? taken / (double)served : 0);
     free(tile);
     return close_output(0);
 }

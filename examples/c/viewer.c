@@ -54,13 +54,16 @@ static int sample_at(const uint8_t *row, size_t at, uint32_t bits) {
     return (int)((row[at * bits / 8] >> (8 - bits - at * bits % 8) & most) * 255 / most);
 }
 
-static void write_thumbnail(const uint8_t *image, size_t row, struct tiff_sides sides, const struct tiff_samples *of) {
-    uint32_t longer = sides.width > sides.height ? sides.width : sides.height, step = (longer - 1) / SIDE + 1;
+static void write_thumbnail(const uint8_t *image, size_t row, struct tiff_sides sides,
+                            const struct tiff_samples *of) {
+    uint32_t longer = sides.width > sides.height ? sides.width : sides.height,
+             step = (longer - 1) / SIDE + 1;
     uint32_t width = (sides.width - 1) / step + 1, height = (sides.height - 1) / step + 1;
     printf("P%d\n%" PRIu32 " %" PRIu32 "\n255\n", of->samples == 3 ? 6 : 5, width, height);
     for (size_t y = 0; y < height; y++)
         for (size_t x = 0; x < width; x++)
-            for (size_t k = 0; k < of->samples; k++) putchar(sample_at(image + y * step * row, x * step * of->samples + k, of->bits));
+            for (size_t k = 0; k < of->samples; k++)
+                putchar(sample_at(image + y * step * row, x * step * of->samples + k, of->bits));
 }
 
 /* Shows a page, given by its number or as TIFF_AT of its offset. */
@@ -72,8 +75,10 @@ static tiff_status show(const uint8_t *file, size_t len, size_t page) {
     if (status == TIFF_DONE) status = tiff_page_samples(file, len, page, &samples);
     if (status == TIFF_DONE) status = tiff_page_layout(file, len, page, &layout);
     if (status != TIFF_DONE) return status;
-    int fits = samples.kind == TIFF_UNSIGNED_NUMBERS && (samples.bits == 16 || (samples.bits <= 8 && 8 % samples.bits == 0));
-    if (!fits || samples.planes > 1 || (samples.samples != 1 && samples.samples != 3)) return TIFF_UNSUPPORTED_COLOR_TYPE;
+    int fits = samples.kind == TIFF_UNSIGNED_NUMBERS &&
+               (samples.bits == 16 || (samples.bits <= 8 && 8 % samples.bits == 0));
+    if (!fits || samples.planes > 1 || (samples.samples != 1 && samples.samples != 3))
+        return TIFF_UNSUPPORTED_COLOR_TYPE;
     uint8_t *image = malloc(layout.len + 1);
     if (!image) return TIFF_OUT_OF_MEMORY;
     status = tiff_read_image_bytes(file, len, page, image, layout.len);
@@ -97,11 +102,13 @@ int main(int argc, char **argv) {
     if (!pages) return fprintf(stderr, "out of memory\n"), 1;
     if (count) end = tiff_list_pages(file, len, pages, count, &count);
     if (end) refuse("the pages end by an error", end);
-    fprintf(stderr, "the first page took %.1f milliseconds, and the list of %zu pages %.1f\n", first, count, milliseconds() - begin - first);
+    fprintf(stderr, "the first page took %.1f milliseconds, and the list of %zu pages %.1f\n",
+            first, count, milliseconds() - begin - first);
 
     for (; scanf("%zu", &number) == 1; shown++) {
         begin = milliseconds();
-        status = number < count ? show(file, len, TIFF_AT(pages[number].offset)) : TIFF_IMAGE_FILE_DIRECTORY_NOT_FOUND;
+        status = number < count ? show(file, len, TIFF_AT(pages[number].offset))
+                                : TIFF_IMAGE_FILE_DIRECTORY_NOT_FOUND;
         if (status) refuse("page", status);
         if (milliseconds() - begin > slowest) slowest = milliseconds() - begin;
     }

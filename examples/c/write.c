@@ -31,7 +31,8 @@ static int close_output(int status) {
 int main(void) {
     char kind;
     unsigned width, height, most;
-    if (scanf("P%c %u %u %u", &kind, &width, &height, &most) != 4 || (kind != '5' && kind != '6') || getchar() == EOF)
+    if (scanf("P%c %u %u %u", &kind, &width, &height, &most) != 4 || (kind != '5' && kind != '6') ||
+        getchar() == EOF)
         return fprintf(stderr, "usage: write < PGM or PPM > FILE\n"), 2;
 
     int wide = most > 255, rgb = kind == '6';
@@ -45,7 +46,8 @@ int main(void) {
     };
     size_t len = (size_t)width * height * (rgb ? 3 : 1) * (wide ? 2 : 1), file_len;
     uint8_t *samples = malloc(len + 1);
-    if (!samples || fread(samples, 1, len, stdin) != len) return fprintf(stderr, "too few samples\n"), 1;
+    if (!samples || fread(samples, 1, len, stdin) != len)
+        return fprintf(stderr, "too few samples\n"), 1;
     if (wide) swap_bytes(samples, len);
 
     /* How long is the file? */
@@ -54,7 +56,8 @@ int main(void) {
     if (status != TIFF_INSUFFICIENT_OUTPUT_BUFFER_SIZE) return refuse("length", status);
     uint8_t *file = malloc(file_len);
     if (!file) return fprintf(stderr, "out of memory\n"), 1;
-    if ((status = tiff_write_image(&image, samples, len, file, file_len, &file_len))) return refuse("image", status);
+    if ((status = tiff_write_image(&image, samples, len, file, file_len, &file_len)))
+        return refuse("image", status);
     fwrite(file, 1, file_len, stdout);
     free(file);
     free(samples);
