@@ -1,7 +1,9 @@
-/* Times tiff_c beside libtiff and memcpy. Its words are three for each file: a name, the file's path, and `both` where libtiff reads it
-   too, else `alone`. A name that begins with `open` times the opening alone, one that begins with `page`, as `page_9_of_ten`, how long it
-   takes to open the file and answer the sides of that page, or why there are none, one that begins with `each` the reading of all chunks, one
-   by one, one that begins with `planned` the same by the plan of the page, and one that begins with `one` the reading of one chunk among them all. Then it times writing, of images that it makes. */
+/* Times tiff_c beside libtiff and memcpy. It takes three arguments for each file: a name, the
+   file's path, and `both` where libtiff reads it too, else `alone`. The beginning of the name says
+   what is timed: `open` the opening alone; `page`, as in `page_9_of_ten`, the opening and the sides
+   of that page, or the error; `each` the reading of all chunks, one by one; `planned` the same by
+   the plan of the page; `one` the reading of one chunk among many; else the reading of the image.
+   Then it times writing, of images that it makes. */
 #include <stdio.h>
 #include <stdlib.h>
 #include <string.h>
@@ -17,7 +19,8 @@ struct load {
     uint8_t *file, *ours, *theirs;
     size_t len, size;
     int both;
-    /* the rows of chunks: how many bytes each has, how many chunks lie side by side, and how high they are */
+    /* the rows of chunks: how many bytes each has, how many chunks lie side by side, and how high
+       they are */
     size_t row, across, height, chunks;
     struct tiff_page_plan plan;
     struct opened *theirs_open;
@@ -44,7 +47,7 @@ static void stop(const char *what, const char *name) {
     exit(1);
 }
 
-static void *room(size_t size) {
+static void *allocated(size_t size) {
     void *bytes = malloc(size + 1);
     if (!bytes) stop("no memory", "bench");
     memset(bytes, 0, size + 1);
@@ -57,7 +60,7 @@ static void read_file(struct load *l, const char *path) {
     fseek(in, 0, SEEK_END);
     l->len = (size_t)ftell(in);
     rewind(in);
-    l->file = room(l->len);
+    l->file = allocated(l->len);
     if (fread(l->file, 1, l->len, in) != l->len) stop("cannot be read", path);
     fclose(in);
 }
@@ -71,12 +74,13 @@ static void read_theirs(struct load *l) {
     if (!by_libtiff(l->file, l->len, l->theirs)) stop("refused by libtiff", l->name);
 }
 
-/* From the file, as the others do; from what was read of a file that is shorter. */
+/* From the file, as the others do; if the file is shorter, from the bytes that were read. */
 static void copy(struct load *l) {
     memcpy(l->theirs, l->len < l->size ? l->ours : l->file, l->size);
 }
 
-/* Copies as many bytes as the image has, in the rows of its chunks, each to where it stands in the image. */
+/* Copies as many bytes as the image has, in the rows of its chunks, each to its place in the image.
+   */
 static void copy_rows(struct load *l) {
     size_t stride = l->row * l->across, band = stride * l->height;
     const uint8_t *from = l->file;
@@ -107,11 +111,12 @@ static void sides_by_theirs(struct load *l) {
         stop("refused by libtiff", l->name);
 }
 
-/* Turns out of the caches what the work before left there, so that no work finds its bytes in them and another doesn't. */
+/* Turns out of the caches what the work before left there, so that no work finds its bytes in them
+   and another doesn't. */
 static void sweep(void) {
     enum { SIZE = 96 << 20, LINE = 64 };
     static uint8_t *bytes;
-    if (!bytes) bytes = room(SIZE);
+    if (!bytes) bytes = allocated(SIZE);
     for (size_t i = 0; i < SIZE; i += LINE) bytes[i]++;
 }
 
@@ -172,7 +177,8 @@ static void range_by_plan(struct load *l) {
         stop("refused by tiff_c", l->name);
 }
 
-/* Chunks far from each other, as a viewer asks for them: some number, and that of the chunk at each. */
+/* Chunks far from each other, as a viewer reads them: any number, and the number of a chunk for it.
+   */
 static uint32_t some_chunk(const struct load *l, uint32_t at) {
     return at * 40503u % (uint32_t)l->chunks;
 }
@@ -226,8 +232,8 @@ static void measure(struct load *l) {
 
 static void print_chunks(struct load *l) {
     measure(l);
-    l->ours = room(l->size);
-    l->theirs = room(l->size);
+    l->ours = allocated(l->size);
+    l->theirs = allocated(l->size);
     double ours = 0, theirs = 0, whole = 0;
     for (int i = 0; i < ROUNDS; i++) {
         best(&ours, chunks_by_ours, l);
@@ -241,8 +247,8 @@ static void print_chunks(struct load *l) {
 
 static void print_planned(struct load *l) {
     measure(l);
-    l->ours = room(l->size);
-    l->theirs = room(l->size);
+    l->ours = allocated(l->size);
+    l->theirs = allocated(l->size);
     double ours = 0, theirs = 0, range = 0, whole = 0;
     for (int i = 0; i < ROUNDS; i++) {
         best(&ours, planned_by_ours, l);
@@ -257,8 +263,8 @@ static void print_planned(struct load *l) {
 
 static void print_one(struct load *l) {
     measure(l);
-    l->ours = room(l->size);
-    l->theirs = room(l->size);
+    l->ours = allocated(l->size);
+    l->theirs = allocated(l->size);
     if (tiff_page_plan(l->file, l->len, 0, &l->plan)) stop("refused by tiff_c", l->name);
     l->theirs_open = open_by_libtiff(l->file, l->len);
     if (!l->theirs_open) stop("refused by libtiff", l->name);
@@ -282,8 +288,8 @@ static void print_one(struct load *l) {
 
 static void print_reading(struct load *l) {
     measure(l);
-    l->ours = room(l->size);
-    l->theirs = room(l->size);
+    l->ours = allocated(l->size);
+    l->theirs = allocated(l->size);
     double ours = 0, theirs = 0, copied = 0, by_rows = 0, mega = (double)l->size / 1e6;
     for (int i = 0; i < ROUNDS; i++) {
         best(&ours, read_ours, l);
@@ -338,11 +344,12 @@ static void draw(struct work *w) {
     }
 }
 
-/* Has libtiff write strips of as many rows as tiff_c does, and each read what the other wrote. What libtiff writes without differences is read
-   as the same samples; it reads no differences where samples aren't compressed. */
+/* Has libtiff write strips of as many rows as tiff_c does, and each read what the other wrote. What
+   libtiff writes without differences is read as the same samples; it reads no differences where
+   samples aren't compressed. */
 static void match(struct work *w) {
     struct tiff_chunks chunks;
-    uint8_t *back = room(w->len);
+    uint8_t *back = allocated(w->len);
     write_ours(w);
     if (tiff_page_chunks(w->ours, w->our_len, 0, &chunks)) stop("refused by tiff_c", w->name);
     w->drawn.rows = chunks.height;
@@ -368,9 +375,9 @@ static void print_writing(const char *name, uint32_t color, struct drawn drawn, 
                                   differs ? TIFF_HORIZONTAL : TIFF_NO_PREDICTOR};
     w.len = (size_t)drawn.width * drawn.height * drawn.samples * drawn.bits / 8;
     w.size = w.len + w.len / 64 + (1 << 20);
-    w.samples = room(w.len);
-    w.ours = room(w.size);
-    w.theirs = room(w.size);
+    w.samples = allocated(w.len);
+    w.ours = allocated(w.size);
+    w.theirs = allocated(w.size);
     draw(&w);
     match(&w);
     double ours = 0, theirs = 0, copied = 0, mega = (double)w.len / 1e6;

@@ -139,7 +139,7 @@ uint32_t width_by_libtiff(const uint8_t *file, size_t len) {
     return page_width_by_libtiff(file, len, 0);
 }
 
-/* A file that is written: its room, and how much of that it has. */
+/* A file that is written: its capacity, and its length. */
 struct paper {
     uint8_t *bytes;
     size_t size, len, at;

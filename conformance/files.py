@@ -1,6 +1,8 @@
-"""How a TIFF file is put together byte by byte: numbers, fields, directories, chunks. No encoder is used.
+"""How a TIFF file is put together byte by byte: numbers, fields, directories, chunks. No encoder is
+used.
 
-TIFF 6.0 section 2 has the layout of a classic file, and the BigTIFF layout that of a file with 64-bit offsets.
+TIFF 6.0 section 2 has the layout of a classic file, and the BigTIFF layout that of a file with
+64-bit offsets.
 """
 import hashlib
 import struct
@@ -96,10 +98,11 @@ CLASSIC, FORMS = [LE, BE], [LE, BE, BIG_LE, BIG_BE]
 
 
 class Field:
-    """The type of a field and its numbers, or its bytes; where they aren't told by these, the count in its entry and the offset of its values."""
+    """The type of a field and its numbers, or its bytes; the count in its entry and the offset of
+    its values, if they don't follow from these."""
 
     def __init__(self, kind, numbers, count=None, at=None):
-        self.kind, self.numbers, self.told, self.at = kind, numbers, count, at
+        self.kind, self.numbers, self.entry_count, self.at = kind, numbers, count, at
 
     def bytes(self, form):
         if isinstance(self.numbers, bytes):
@@ -107,15 +110,17 @@ class Field:
         return form.pack(f"{len(self.numbers)}{TYPES[self.kind][2]}", *self.numbers)
 
     def count(self, form):
-        return len(self.bytes(form)) // size_of(self.kind) if self.told is None else self.told
+        return len(self.bytes(form)) // size_of(self.kind) if self.entry_count is None else self.entry_count
 
 
 class Page:
-    """The fields of a page by their tags, and its chunks, whose offsets and lengths go into the fields with two tags."""
+    """The fields of a page by their tags, and its chunks, whose offsets and lengths go into the
+    fields with two tags."""
 
     def __init__(self, fields, chunks=(), lists=(OFFSETS, COUNTS), kinds=(LONG, LONG)):
         self.fields, self.chunks, self.lists, self.kinds = dict(fields), list(chunks), lists, kinds
-        # the order of the tags in the directory, and entries behind those of the fields, if they aren't sorted by their tags
+        # the order of the tags in the directory, and entries behind those of the fields, if they
+        # aren't sorted by their tags
         self.tags, self.behind = None, []
 
     def with_fields(self, more):
@@ -141,7 +146,8 @@ class Page:
 
 
 class Built:
-    """A file, with the offsets of its directories, of its entries by page and tag, and of their values that don't stand in the entry."""
+    """A file, with the offsets of its directories, of its entries by page and tag, and of their
+    values that don't lie in the entry."""
 
     def __init__(self):
         self.data, self.directories, self.entries, self.values, self.links = (
@@ -192,7 +198,8 @@ def add_directory(built, form, number, page):
 
 
 def build(form, pages, chain=None):
-    """Returns a file of pages, which are linked in the order of these numbers of them, or one after another."""
+    """Returns a file of pages, which are linked in the order of these numbers of them, or one after
+    another."""
     built = Built()
     built.data += bytes(form.header)
     for number, page in enumerate(pages):
@@ -212,7 +219,8 @@ def noise(name, length):
 
 
 def packed(data):
-    """Returns PackBits data: runs of three equal bytes and more as runs, and the others as they are."""
+    """Returns PackBits data: runs of three equal bytes and more as runs, and the others as they
+    are."""
     out, plain, at = b"", b"", 0
     while at < len(data):
         end = at
@@ -294,7 +302,8 @@ class Image:
         return b"".join(packed(data[at : at + step]) for at in range(0, len(data), step))
 
     def chunks(self):
-        """Returns the chunks of all planes, of given bytes or of bytes that depend on what the image is."""
+        """Returns the chunks of all planes, of given bytes or of bytes that depend on what the
+        image is."""
         sizes = [rows * self.row_bytes() for rows in self.chunk()[1]] * (
             self.samples if self.planes == 2 else 1
         )
@@ -309,7 +318,8 @@ class Image:
         return chunks
 
     def page(self):
-        """Returns the page of the image, with the fields that TIFF 6.0 asks for and those that differ from the common values."""
+        """Returns the page of the image, with the fields that TIFF 6.0 requires and those that
+        differ from the common values."""
         fields = {
             WIDTH: Field(SHORT, [self.width]),
             LENGTH: Field(SHORT, [self.height]),

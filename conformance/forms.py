@@ -1,14 +1,16 @@
-"""What a reader is expected to find in a file: its pages, their fields, and checksums of their samples in each form in which readers return them."""
+"""What a reader is expected to find in a file: its pages, their fields, and checksums of their
+samples in each form in which readers return them."""
 import zlib
 
 import second_road as road
 import words
 
-# A field of more bytes than these is told by a checksum.
+# A field of more bytes than these is listed by a checksum.
 LONGEST = 64
-# How many bytes of an image are told as they are.
+# How many bytes of an image are listed as they are.
 FIRST = 64
-# The meanings of samples that readers turn into other colors. Numbers that are signed or floating some readers turn into their own range.
+# The meanings of samples that readers turn into other colors. Numbers that are signed or floating
+# some readers turn into their own range.
 TURNED = ("CMYK", "YCbCr", "CIELab", "IccLab", "ItuLab", "RGBPalette", "TransparencyMask")
 
 
@@ -21,7 +23,8 @@ def told_bytes(data):
 
 
 def field_item(file, tag, one):
-    """Returns a field: its tag, the number of its type, its count, and its bytes in the file's order or its error; and its value as the library prints it."""
+    """Returns a field: its tag, the number of its type, its count, and its bytes in the file's
+    order or its error; and its value as the library prints it."""
     try:
         if one.length > road.DEFAULT_LIMIT:
             raise road.limits_exceeded()
@@ -32,7 +35,8 @@ def field_item(file, tag, one):
 
 
 def stored_rows(file, page):
-    """Returns the stored numbers of each row of an image, pixel by pixel, with all samples, or None if not all of them are in the file."""
+    """Returns the stored numbers of each row of an image, pixel by pixel, with all samples, or None
+    if not all of them are in the file."""
     rows = [[0] * (page.width * page.samples) for _ in range(page.height)]
     for plane in range(page.samples if page.planar else 1):
         for j in range(page.chunks_of_plane):
@@ -71,7 +75,8 @@ def mirrored(page, rows):
 
 
 def eight_bits(page, rows):
-    """Returns samples as 8 bits of full range: those of fewer bits are stretched, and of others the highest bits are kept."""
+    """Returns samples as 8 bits of full range: those of fewer bits are stretched, and of others the
+    highest bits are kept."""
     if page.depth > 8:
         return [[one >> page.depth - 8 for one in row] for row in rows]
     top = 2**page.depth - 1
@@ -79,10 +84,12 @@ def eight_bits(page, rows):
 
 
 def checksums(file, page, shown):
-    """Returns the forms in which readers return an image: how many samples a pixel has, how many bytes a sample, and the CRC-32 of all, pixel by pixel.
+    """Returns the forms in which readers return an image: how many samples a pixel has, how many
+    bytes a sample, and the CRC-32 of all, pixel by pixel.
 
-    The first form is the samples as they are stored. If not all of them belong to the color, another one is those of the color alone; if 0 is white, others are
-    mirrored; and whole numbers that haven't 8 bits are also told as 8 bits.
+    The first form is the samples as they are stored. If not all of them belong to the color,
+    another one is those of the color alone; if 0 is white, others are mirrored; and whole numbers
+    of other than 8 bits are also listed as 8 bits.
     """
     _, size = road.sample_type_of(page)
     rows = stored_rows(file, page)
@@ -116,7 +123,8 @@ def checksums(file, page, shown):
 
 
 def is_turned(page):
-    """Returns whether some readers turn an image into other colors or numbers: they also divide colors by an associated alpha, or by one of which nothing is said."""
+    """Returns whether some readers turn an image into other colors or numbers: they also divide
+    colors by an associated alpha, or by one of an unspecified kind."""
     is_alpha = (
         page.extra[:1] == [1] or page.meaning == "RGB" and page.samples > 3 and not page.extra
     )
@@ -124,9 +132,9 @@ def is_turned(page):
 
 
 def image_item(file, page):
-    """Returns what reading an image gives: how many bytes it has as the library returns them, their Adler-32, the first of
-    them, the forms in which other readers return it, and whether some turn it into other colors or numbers.
-    """
+    """Returns what reading an image gives: how many bytes it has as the library returns them, their
+    Adler-32, the first of them, the forms in which other readers return it, and whether some turn
+    it into other colors or numbers."""
     try:
         data = words.whole(file, page)
     except road.Refused as fault:
@@ -171,7 +179,8 @@ def page_item(file, item):
 
 
 def expected(data):
-    """Returns what is expected of a file: the error of opening it, or its pages and the error that ends their chain."""
+    """Returns what is expected of a file: the error of opening it, or its pages and the error that
+    ends their chain."""
     try:
         file, items, end = road.opened(data)
     except road.Refused as fault:

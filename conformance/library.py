@@ -1,4 +1,5 @@
-"""What the library answers to a file, by its program tiffpage, and where the second road answers otherwise."""
+"""The library's replies for a file, by its program tiffpage, and where the second road's replies
+differ."""
 import resource
 import subprocess
 import sys
@@ -11,7 +12,8 @@ import words
 TOP = Path(__file__).resolve().parent.parent
 # The program as `./tiffpage --unproved help` keeps it, and as `./tiffpage help` does.
 PROGRAMS = [TOP / "out/trial/tiffpage", TOP / "crates/tiffpage/out/tiffpage"]
-# The processor seconds that it may take for a file, and those by the clock, of which a busy machine takes many more.
+# The processor seconds that it may take for a file, and those by the clock, of which a busy machine
+# takes many more.
 SECONDS, LONGEST = 60, 1800
 
 
@@ -31,12 +33,13 @@ def limit():
     resource.setrlimit(resource.RLIMIT_CPU, (SECONDS, SECONDS))
 
 
-def run(command, path, *rest, asked=""):
-    """Runs a command of tiffpage on a file, and returns what it printed, what it printed as errors, and its status."""
+def run(command, path, *rest, input=""):
+    """Runs a command of tiffpage on a file, and returns what it printed, what it printed as errors,
+    and its status."""
     try:
         ran = subprocess.run(
             [program(), command, path, *rest],
-            input=asked.encode(),
+            input=input.encode(),
             capture_output=True,
             timeout=LONGEST,
             preexec_fn=limit,
@@ -51,14 +54,16 @@ def run(command, path, *rest, asked=""):
 
 
 def same_reply(call, ours, theirs):
-    """Returns whether a reply of the library is the expected one; of a refused read, what its list has isn't specified."""
+    """Returns whether a reply of the library is the expected one; of a refused read, what its list
+    has isn't specified."""
     if call == "read_image_to_buffer" and ours.startswith("refused:"):
         return theirs == ours or theirs.startswith(f"{ours}, ")
     return theirs == ours
 
 
 def check_of(data):
-    """Returns what `check` prints of a file whose first page may be refused: it is opened by its header."""
+    """Returns what `check` prints of a file whose first page may be refused: it is opened by its
+    header."""
     try:
         return words.check_words(*road.opened_by_header(data))
     except road.Refused as fault:
@@ -66,44 +71,45 @@ def check_of(data):
 
 
 def differences(path, whole):
-    """Returns each difference of the two roads on a file: what was asked, what the second road says, and what the library does.
+    """Returns each difference of the two roads on a file: the call, the reply of the second road,
+    and the reply of the library.
 
-    The calls are asked for all of the file; with `whole`, `list`, `check` and `tags` are run too.
+    The calls read all of the file; with `whole`, `list`, `check` and `tags` are run too.
     """
     data = Path(path).read_bytes()
     try:
         found = road.opened(data)
     except road.Refused as fault:
         refused = ("", f"error: {words.text(fault)}\n", 1)
-        asked = [("calls", refused, run("calls", path, asked="dimensions\n"))]
+        calls = [("calls", refused, run("calls", path, input="dimensions\n"))]
         if whole:
-            asked += [
+            calls += [
                 ("list", refused, run("list", path)),
                 ("check", check_of(data), run("check", path)),
             ]
-        return [one for one in asked if one[1] != one[2]]
+        return [one for one in calls if one[1] != one[2]]
     differ = differences_of_calls(path, found)
     if whole:
-        asked = [
+        calls = [
             ("list", words.list_words(*found), run("list", path)),
             ("check", words.check_words(*found), run("check", path)),
         ]
-        asked += [
+        calls += [
             (f"tags {n}", words.tags_lines(found[0], found[1], n), run("tags", path, str(n)))
             for n in range(len(found[1]))
         ]
-        differ += [one for one in asked if one[1] != one[2]]
+        differ += [one for one in calls if one[1] != one[2]]
     return differ
 
 
 def differences_of_calls(path, found):
     """Returns each call on an opened file whose reply differs."""
-    asked, ours = words.calls(*found)
-    out, errors, status = run("calls", path, asked="".join(f"{call}\n" for call in asked))
+    calls, ours = words.calls(*found)
+    out, errors, status = run("calls", path, input="".join(f"{call}\n" for call in calls))
     theirs = out.split("\n")[:-1]
     if status != 0 or errors or len(theirs) != len(ours):
         return [("calls", ("".join(f"{one}\n" for one in ours), "", 0), (out, errors, status))]
-    return [one for one in zip(asked, ours, theirs) if not same_reply(*one)]
+    return [one for one in zip(calls, ours, theirs) if not same_reply(*one)]
 
 
 def differences_of_bytes(data, whole=False):

@@ -1,7 +1,9 @@
-"""A reader of TIFF files, written from the chapters docs/definitions/1-file.md to 4-decoder.md alone. It shares no code with the library.
+"""A reader of TIFF files, written from the chapters docs/definitions/1-file.md to 4-decoder.md
+alone. It shares no code with the library.
 
-Each function has the name of the definition that it follows, where there is one. An error is raised as `Refused`, with the words of the library's error.
-A value of a field is a pair of its kind and what it is; a list of values is `("list", [..])`.
+Each function has the name of the definition that it follows, where there is one. An error is raised
+as `Refused`, with the words of the library's error. A value of a field is a pair of its kind and
+what it is; a list of values is `("list", [..])`.
 """
 import zlib
 from dataclasses import dataclass, field
@@ -240,7 +242,8 @@ class Directory:
 
 
 def directory_at(file, at):
-    """Returns the directory at an offset: of several entries with one tag the last one, and none of an unknown type."""
+    """Returns the directory at an offset: of several entries with one tag the last one, and none of
+    an unknown type."""
     width, entry_len = (8, 20) if file.big else (2, 12)
     count = file.number_at(at, width)
     first = at + width
@@ -258,7 +261,8 @@ def directory_at(file, at):
 
 
 def chain(file):
-    """Returns the offsets of the chain, each with its directory, and the error that ends it, or None."""
+    """Returns the offsets of the chain, each with its directory, and the error that ends it, or
+    None."""
     met, next_one = [], file.first
     while next_one:
         try:
@@ -324,7 +328,8 @@ def value_from(file, one, found, inline):
 
 
 def field_value(file, one, limit=DEFAULT_LIMIT):
-    """Returns the value of a field, or its first error: the limit comes before the end of the file."""
+    """Returns the value of a field, or its first error: the limit comes before the end of the
+    file."""
     if one.count == 0:
         return "list", []
     if one.length >= 2**64:
@@ -422,7 +427,8 @@ def fitted(tag, limit, numbers):
 
 
 def unpacked_runs(packed, early, wanted=None):
-    """Returns what a PackBits list unpacks to; if only so many bytes are wanted, no more of them."""
+    """Returns what a PackBits list unpacks to; if only so many bytes are wanted, no more of
+    them."""
     out, at = bytearray(), 0
     while at < len(packed) and (wanted is None or len(out) < wanted):
         header = packed[at]
@@ -706,7 +712,8 @@ def needed_bytes(page, layout, chunk):
 
 
 def chunk_data(file, page, chunk):
-    """Returns the data of a chunk: plain data from its offset on, as far as its rows may reach, or what the counted bytes unpack to."""
+    """Returns the data of a chunk: plain data from its offset on, as far as its rows may reach, or
+    what the counted bytes unpack to."""
     at, count = page.offsets[chunk], page.counts[chunk]
     if page.method == 1:
         return file.data[at : at + page.stored_row_bytes * page.chunk_height]
@@ -726,13 +733,15 @@ def summed(size, stored, row, order):
 
 
 def joined(size, stored, count, row):
-    """Returns the numbers of a row with the byte-plane predictor: the sums of its bytes, of which a number has one in each part."""
+    """Returns the numbers of a row with the byte-plane predictor: the sums of its bytes, of which a
+    number has one in each part."""
     sums = summed(1, stored, row, "big")
     return [number("big", bytes(sums[j * count + k] for j in range(size))) for k in range(count)]
 
 
 def numbers_of_row(file, page, row, width):
-    """Returns the numbers of the first pixels of a stored row, with its predictor undone; at depths below 8 the samples as they are stored."""
+    """Returns the numbers of the first pixels of a stored row, with its predictor undone; at depths
+    below 8 the samples as they are stored."""
     count = width * page.stored_samples
     if page.depth < 8:
         length = (count * page.depth + 7) // 8
@@ -755,7 +764,8 @@ def mirror(page, value, limit):
 
 
 def shown_row(file, page, layout, row, width):
-    """Returns the bytes that are shown of a stored row: those of its first pixels, without the samples beyond the color."""
+    """Returns the bytes that are shown of a stored row: those of its first pixels, without the
+    samples beyond the color."""
     if page.depth < 8:
         length = row_bytes(page, layout.shown, width)
         return bytes(mirror(page, byte, 256) for byte in row.ljust(length, b"\0")[:length])
@@ -784,7 +794,8 @@ def chunk_is_short(file, page, layout, chunk):
 
 
 def read_planes(file, page, layout, planes, limit):
-    """Returns the bytes of some planes of an image as they are shown, one plane after another, or raises the first error."""
+    """Returns the bytes of some planes of an image as they are shown, one plane after another, or
+    raises the first error."""
     _, size = sample_type_of(page)
     limit_fault(size, layout.plane_stride * planes, limit)
     for j in range(page.chunks_of_plane):
@@ -812,7 +823,8 @@ def place_chunk(file, page, layout, plane, j, out):
 
 
 def read_whole(file, page, limit=DEFAULT_LIMIT):
-    """Returns the layout of an image, and the bytes of as many of its planes as the limit allows: all of them, or the first one."""
+    """Returns the layout of an image, and the bytes of as many of its planes as the limit allows:
+    all of them, or the first one."""
     layout = planes_layout(page)
     planes = layout.planes if layout.plane_stride * layout.planes <= limit else 1
     return layout, planes, read_planes(file, page, layout, planes, limit)
@@ -846,13 +858,15 @@ def pages_of(file):
 
 
 def opened_by_header(data):
-    """Returns a file with its pages and the end of its chain, whatever its first page is; or raises the error of its header."""
+    """Returns a file with its pages and the end of its chain, whatever its first page is; or raises
+    the error of its header."""
     file = open_header(data)
     return file, *pages_of(file)
 
 
 def opened(data):
-    """Returns a file with its pages and the end of its chain; or raises the error of its header, of its first directory, or of its first page."""
+    """Returns a file with its pages and the end of its chain; or raises the error of its header, of
+    its first directory, or of its first page."""
     file, items, end = opened_by_header(data)
     if not items:
         raise end

@@ -1,6 +1,7 @@
-"""How the answers of a reader are sorted, by what is expected of a file.
+"""Sorts the results of a reader, by what is expected of a file.
 
-A file is valid, which a reader has to read; or valid but unusual, which it may refuse; or must be refused; or may be refused, and then may be read in any way.
+A file is valid, which a reader has to read; or valid but unusual, which it may refuse; or must be
+refused; or may be refused, and then may be read in any way.
 """
 import os
 import re
@@ -22,7 +23,7 @@ FORM, WRONGLY, ACCEPTED, OTHER = (
     "other samples",
 )
 CRASH, LONG, MUCH = "crash", "too long", "too much memory"
-# The kinds of answers, those that are faults last.
+# The kinds of results, with the faults last.
 KINDS = [SAME, RIGHTLY, MAYBE, OPEN, FORM, WRONGLY, ACCEPTED, OTHER, CRASH, LONG, MUCH]
 EXPECTED, FAULTS = (SAME, RIGHTLY), KINDS[KINDS.index(WRONGLY) :]
 
@@ -33,8 +34,8 @@ MEMORY = re.compile(
 
 
 def pages_in(data):
-    """Returns the pages that an adapter wrote: of each its sides, the samples of a pixel, the bytes of a sample, and the CRC-32 of its samples; or None if that isn't
-    their form."""
+    """Returns the pages that an adapter wrote: of each its sides, the samples of a pixel, the bytes
+    of a sample, and the CRC-32 of its samples; or None if that isn't their form."""
     pages, at = [], 0
     while at < len(data):
         head = re.compile(rb"page (\d+) (\d+) (\d+) (\d+)\n").match(data, at)
@@ -50,7 +51,8 @@ def pages_in(data):
 
 
 def page_answer(expected, page):
-    """Returns how a page that was read fits an expected one: same, in a form that isn't compared, or with other samples."""
+    """Returns how a page that was read fits an expected one: same, in a form that isn't compared,
+    or with other samples."""
     width, height, samples, size, crc = page
     if (width, height) != (expected["width"], expected["height"]):
         return OTHER
@@ -74,7 +76,7 @@ def pages_answer(row, pages):
 
 
 def ended(status, said):
-    """Returns the kind of an answer by how the process ended: none if it ended by itself."""
+    """Returns the kind of a result by how the process ended: none if it ended by itself."""
     if os.WIFSIGNALED(status):
         ended_by = os.WTERMSIG(status)
         if ended_by in (signal.SIGXCPU, signal.SIGALRM, signal.SIGKILL):
@@ -91,7 +93,8 @@ def ended(status, said):
 
 
 def kind_of(row, status, pages, said):
-    """Returns the kind of an answer to a file: by how the process ended, with which pages, and what it said as errors."""
+    """Returns the kind of the result for a file: by how the process ended, the pages that it wrote,
+    and its error messages."""
     by_end = ended(status, said)
     if by_end:
         return by_end

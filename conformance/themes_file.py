@@ -1,4 +1,5 @@
-"""The themes of the suite that are about the file and its directories: header, cuts, chain, entries, numbers, texts, missing fields, limits, counts that wrap."""
+"""The themes of the suite that are about the file and its directories: header, cuts, chain,
+entries, numbers, texts, missing fields, limits, counts that wrap."""
 from files import (
     ASCII,
     BIG_BE,
@@ -238,7 +239,7 @@ def cut_bases():
 
 
 def first_directory(form):
-    """Returns a file whose strip stands behind the directory."""
+    """Returns a file whose strip lies behind the directory."""
     page = bare()
     strip, page.chunks = page.chunks[0], []
     page.fields.update({OFFSETS: Field(LONG, [0]), COUNTS: Field(LONG, [len(strip)])})
@@ -297,7 +298,8 @@ def chain_orders():
 
 
 def linked(form, links, count=4):
-    """Returns a file of some pages, with links that lead from directories by their numbers to offsets or directories."""
+    """Returns a file of some pages, with links that lead from directories by their numbers to
+    offsets or directories."""
     built = build(form, [small(n) for n in range(count)])
     for here, there in links.items():
         to = built.directories[there[0]] if isinstance(there, tuple) else there(built)

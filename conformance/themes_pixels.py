@@ -1,4 +1,5 @@
-"""The themes of the suite that are about samples: strips, tiles, planes, depths, colors, packed data, predictors, methods."""
+"""The themes of the suite that are about samples: strips, tiles, planes, depths, colors, packed
+data, predictors, methods."""
 from files import (
     BITS,
     BIG_LE,
@@ -41,7 +42,8 @@ MISFIT = "the fields don't fit each other, and the standard doesn't say which of
 
 
 def sort_of(form, baseline=True, reason=EXTENSION):
-    """Returns the class of an image in order, and why: one that isn't baseline, or is in a BigTIFF file, may be refused."""
+    """Returns the class of an image in order, and why: one that isn't baseline, or is in a BigTIFF
+    file, may be refused."""
     if form.big:
         return UNUSUAL, BIG
     return (VALID, BASELINE) if baseline else (UNUSUAL, reason)
@@ -480,7 +482,8 @@ def depths():
         yield from part()
 
 
-# The meanings of samples: the number, a name, how many samples they ask for, the section, and the depths of baseline images.
+# The meanings of samples: the number, a name, how many samples they need, the section, and the
+# depths of baseline images.
 MEANINGS = [
     (0, "white-is-zero", 1, "4", (1, 4, 8)),
     (1, "black-is-zero", 1, "4", (1, 4, 8)),
@@ -532,9 +535,9 @@ def color_extras():
                 for extra in lists + [[0] * (more - 1) + [2]] * (more > 1):
                     image = Image(3, 2, samples=count + more, meaning=meaning, extra=extra)
                     right = extra is not None and len(extra) == more and max(extra) < 3
-                    told = "none" if extra is None else "-".join(map(str, extra))
+                    listed = "none" if extra is None else "-".join(map(str, extra))
                     yield (
-                        f"extra-{name}-{more}-{told}-{form.name}",
+                        f"extra-{name}-{more}-{listed}-{form.name}",
                         build(form, [image.page()]).bytes(),
                         (
                             f"{count + more} samples a pixel of meaning {name}, and ExtraSamples is"
@@ -789,7 +792,8 @@ def packed_counts():
 
 
 def packed_images():
-    """Yields packed images of each depth, in strips and in tiles: the form, a name, the image, and its class if its rows are packed one by one."""
+    """Yields packed images of each depth, in strips and in tiles: the form, a name, the image, and
+    its class if its rows are packed one by one."""
     for form in FORMS:
         for bits in (1, 2, 4, 8, 16, 32, 64):
             for samples, meaning in ((1, 1), (3, 2)):
@@ -810,7 +814,8 @@ def packed_images():
 
 
 def told_of(image, how):
-    """Returns the line why a packed image is there, and the sections that it rests on: a row of a tile is packed as one of a strip."""
+    """Returns the line why a packed image is there, and the sections that it rests on: a row of a
+    tile is packed as one of a strip."""
     return (
         f"{image.samples} samples of {image.bits} bits, {how}",
         "TIFF 6.0 section 9" if image.tile is None else "TIFF 6.0 sections 9 and 15",

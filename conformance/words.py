@@ -1,6 +1,8 @@
-"""The words of the program tiffpage, for what the second road answers: of `list`, of `check`, of `tags`, and of the replies that `calls` prints.
+"""The words of the program tiffpage, for the results of the second road: of `list`, of `check`, of
+`tags`, and of the replies that `calls` prints.
 
-docs/TIFFPAGE.md and tests/commands have these words. An error has a text, and a form as Rust's `Debug` prints it.
+docs/TIFFPAGE.md and tests/commands have these words. An error has a text, and a form as Rust's
+`Debug` prints it.
 """
 import second_road as road
 
@@ -233,12 +235,13 @@ def replies_of_page(file, number, item):
 
 
 def left_of(file, page):
-    """Returns what `read_image_to_buffer` says of its list after an error: nothing is said of it here."""
+    """Returns what `read_image_to_buffer` says of its list after an error: nothing is said of it
+    here."""
     return ""
 
 
 def calls(file, items, end):
-    """Returns the calls that ask for all of a file, and their replies."""
+    """Returns the calls that read all of a file, and their replies."""
     pairs = [
         pair for number, item in enumerate(items) for pair in replies_of_page(file, number, item)
     ]

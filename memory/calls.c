@@ -1,15 +1,19 @@
-/* Makes the calls of tiff_c with each of their requests for memory refused in turn, alone and with all that follow, and then makes the call again.
+/* Makes the calls of tiff_c with each of their requests for memory refused in turn, alone and with
+   all that follow, and then makes the call again.
 
      calls FILE ..
 
-   makes those that read on the first three pages of each file, tiff_append_pages behind each file, tiff_write_image and tiff_image_frame on images of all colors,
-   methods, predictors and kinds of files, and tiff_write_jobs on two lists of jobs. A refused request has to be answered TIFF_OUT_OF_MEMORY,
-   with nothing written into the answer but as mangohatch_tiff.h says, or, where the call does without it, as at first; no block may be left behind; and the call that is made again has to answer what it answered at first. It prints a
-   line for each call; what isn't as it has to be stands on standard error, and the status is 1 then. */
+   makes those that read on the first three pages of each file, tiff_append_pages behind each file,
+   tiff_write_image and tiff_image_frame on images of all colors, methods, predictors and kinds of
+   files, and tiff_write_jobs on two lists of jobs. A call whose request was refused has to return
+   TIFF_OUT_OF_MEMORY, with nothing written into its result but as mangohatch_tiff.h says; or, if it
+   does without the memory, the first result. It may leave no block behind. The call that is made
+   again has to return the first result. The program prints a line for each call, and errors on
+   standard error; the status is 1 then. */
 #include "heap.h"
 #include "mangohatch_tiff.h"
 
-enum { PATTERN = 0x5a, ROOM = 2048, GUARD = 16, LISTED = 4, PAGES = 3, SECONDS = 300, TOLD = 10 };
+enum { PATTERN = 0x5a, ROOM = 2048, GUARD = 16, LISTED = 4, PAGES = 3, SECONDS = 300, SHOWN = 10 };
 
 int open(const char *name, int flags, ...);
 long read(int file, void *to, size_t len);
@@ -34,8 +38,8 @@ struct input {
     size_t size;
 };
 
-/* What it answers in, with bytes behind the buffer that are no call's. */
-struct answer {
+/* The results of a call, with bytes behind the buffer that no call may write. */
+struct result {
     struct tiff_sides sides;
     struct tiff_layout layout;
     struct tiff_color color;
@@ -60,75 +64,76 @@ struct answer {
     uint8_t guard[GUARD];
 };
 
-/* What a refusal leaves: all as it was; all but the bytes of the buffer; all but a count of 0; all but an end at no line, which may be at a job
-   that found no memory; all but the page and the field for which there was none, alone or with nothing to append. */
+/* What a refusal leaves: all as it was; all but the bytes of the buffer; all but a count of 0; all
+   but an end at no line, which may be at a job that found no memory; all but the page and the field
+   for which there was none, alone or with nothing to append. */
 enum left { ALL, BUT_BYTES, BUT_COUNT, BUT_END, BUT_PAGE, BUT_APPENDED };
 
 struct call {
     const char *name;
     enum left left;
-    tiff_status (*make)(const struct input *on, struct answer *to);
+    tiff_status (*make)(const struct input *on, struct result *to);
 };
 
-static tiff_status page_count(const struct input *on, struct answer *to) {
+static tiff_status page_count(const struct input *on, struct result *to) {
     return tiff_page_count(on->file, on->len, &to->number);
 }
 
-static tiff_status page_sides(const struct input *on, struct answer *to) {
+static tiff_status page_sides(const struct input *on, struct result *to) {
     return tiff_page_sides(on->file, on->len, on->page, &to->sides);
 }
 
-static tiff_status image_bytes(const struct input *on, struct answer *to) {
+static tiff_status image_bytes(const struct input *on, struct result *to) {
     return tiff_read_image_bytes(on->file, on->len, on->page, to->bytes, ROOM);
 }
 
-static tiff_status page_layout(const struct input *on, struct answer *to) {
+static tiff_status page_layout(const struct input *on, struct result *to) {
     return tiff_page_layout(on->file, on->len, on->page, &to->layout);
 }
 
-static tiff_status page_color(const struct input *on, struct answer *to) {
+static tiff_status page_color(const struct input *on, struct result *to) {
     return tiff_page_color(on->file, on->len, on->page, &to->color);
 }
 
-static tiff_status page_samples(const struct input *on, struct answer *to) {
+static tiff_status page_samples(const struct input *on, struct result *to) {
     return tiff_page_samples(on->file, on->len, on->page, &to->samples);
 }
 
-static tiff_status page_chunks(const struct input *on, struct answer *to) {
+static tiff_status page_chunks(const struct input *on, struct result *to) {
     return tiff_page_chunks(on->file, on->len, on->page, &to->chunks);
 }
 
-static tiff_status list_pages(const struct input *on, struct answer *to) {
+static tiff_status list_pages(const struct input *on, struct result *to) {
     return tiff_list_pages(on->file, on->len, to->pages, LISTED, &to->number);
 }
 
-static tiff_status list_directories(const struct input *on, struct answer *to) {
+static tiff_status list_directories(const struct input *on, struct result *to) {
     return tiff_list_directories(on->file, on->len, to->directories, LISTED, &to->number);
 }
 
-static tiff_status chunk_bytes(const struct input *on, struct answer *to) {
+static tiff_status chunk_bytes(const struct input *on, struct result *to) {
     return tiff_read_chunk_bytes(on->file, on->len, on->page, 0, to->bytes, ROOM);
 }
 
-static tiff_status page_plan(const struct input *on, struct answer *to) {
+static tiff_status page_plan(const struct input *on, struct result *to) {
     return tiff_page_plan(on->file, on->len, on->page, &to->plan);
 }
 
 /* by the plan that the page has where no request is refused */
-static tiff_status planned_chunk(const struct input *on, struct answer *to) {
+static tiff_status planned_chunk(const struct input *on, struct result *to) {
     return tiff_read_planned_chunk(on->file, on->len, &on->plan, 0, to->bytes, ROOM);
 }
 
-static tiff_status planned_chunks(const struct input *on, struct answer *to) {
+static tiff_status planned_chunks(const struct input *on, struct result *to) {
     return tiff_read_planned_chunks(on->file, on->len, &on->plan, 0, 2, to->bytes, ROOM);
 }
 
-static tiff_status chunk_place(const struct input *on, struct answer *to) {
+static tiff_status chunk_place(const struct input *on, struct result *to) {
     return tiff_chunk_place(on->file, on->len, &on->plan, 0, &to->place);
 }
 
 /* of samples that are zeros, as many as a whole chunk of whole bytes has */
-static tiff_status rewrite_chunk(const struct input *on, struct answer *to) {
+static tiff_status rewrite_chunk(const struct input *on, struct result *to) {
     static const uint8_t zeros[ROOM];
     uint64_t pixels = (uint64_t)on->plan.chunk_width * on->plan.chunk_height;
     uint64_t count = pixels < ROOM ? pixels * on->plan.samples * (on->plan.bits / 8) : ROOM;
@@ -139,8 +144,8 @@ static tiff_status rewrite_chunk(const struct input *on, struct answer *to) {
 /* of a file that two windows have */
 static tiff_status by_windows(const struct input *on,
                               tiff_status call(const struct tiff_windows *, const struct input *,
-                                               struct answer *),
-                              struct answer *to) {
+                                               struct result *),
+                              struct result *to) {
     size_t half = on->len / 2;
     struct tiff_window windows[] = {{0, on->file, half}, {half, on->file + half, on->len - half}};
     struct tiff_windows seen = {on->len, windows, 2};
@@ -148,132 +153,133 @@ static tiff_status by_windows(const struct input *on,
 }
 
 static tiff_status seen_pages(const struct tiff_windows *seen, const struct input *on,
-                              struct answer *to) {
+                              struct result *to) {
     (void)on;
     return tiff_list_pages_in(seen, to->pages, LISTED, &to->number, &to->wanted);
 }
 
 static tiff_status seen_directories(const struct tiff_windows *seen, const struct input *on,
-                                    struct answer *to) {
+                                    struct result *to) {
     (void)on;
     return tiff_list_directories_in(seen, to->directories, LISTED, &to->number, &to->wanted);
 }
 
 static tiff_status seen_tags(const struct tiff_windows *seen, const struct input *on,
-                             struct answer *to) {
+                             struct result *to) {
     return tiff_list_tags_in(seen, on->page, to->entries, LISTED, &to->number, &to->wanted);
 }
 
 static tiff_status seen_bytes(const struct tiff_windows *seen, const struct input *on,
-                              struct answer *to) {
+                              struct result *to) {
     return tiff_tag_bytes_in(seen, on->page, 258, 0, to->bytes, ROOM, &to->number, &to->wanted);
 }
 
 static tiff_status seen_plan(const struct tiff_windows *seen, const struct input *on,
-                             struct answer *to) {
+                             struct result *to) {
     return tiff_page_plan_in(seen, on->page, &to->plan, &to->wanted);
 }
 
 static tiff_status seen_chunk(const struct tiff_windows *seen, const struct input *on,
-                              struct answer *to) {
+                              struct result *to) {
     return tiff_read_planned_chunk_in(seen, &on->plan, 0, to->bytes, ROOM, &to->wanted);
 }
 
 static tiff_status seen_chunks(const struct tiff_windows *seen, const struct input *on,
-                               struct answer *to) {
+                               struct result *to) {
     return tiff_read_planned_chunks_in(seen, &on->plan, 0, 2, to->bytes, ROOM, &to->wanted);
 }
 
-static tiff_status list_pages_in(const struct input *on, struct answer *to) {
+static tiff_status list_pages_in(const struct input *on, struct result *to) {
     return by_windows(on, seen_pages, to);
 }
-static tiff_status list_directories_in(const struct input *on, struct answer *to) {
+static tiff_status list_directories_in(const struct input *on, struct result *to) {
     return by_windows(on, seen_directories, to);
 }
-static tiff_status list_tags_in(const struct input *on, struct answer *to) {
+static tiff_status list_tags_in(const struct input *on, struct result *to) {
     return by_windows(on, seen_tags, to);
 }
-static tiff_status tag_bytes_in(const struct input *on, struct answer *to) {
+static tiff_status tag_bytes_in(const struct input *on, struct result *to) {
     return by_windows(on, seen_bytes, to);
 }
-static tiff_status page_plan_in(const struct input *on, struct answer *to) {
+static tiff_status page_plan_in(const struct input *on, struct result *to) {
     return by_windows(on, seen_plan, to);
 }
-static tiff_status planned_chunk_in(const struct input *on, struct answer *to) {
+static tiff_status planned_chunk_in(const struct input *on, struct result *to) {
     return by_windows(on, seen_chunk, to);
 }
-static tiff_status planned_chunks_in(const struct input *on, struct answer *to) {
+static tiff_status planned_chunks_in(const struct input *on, struct result *to) {
     return by_windows(on, seen_chunks, to);
 }
 
-static tiff_status two_chunks(const struct input *on, struct answer *to) {
+static tiff_status two_chunks(const struct input *on, struct result *to) {
     return tiff_read_chunks(on->file, on->len, on->page, 0, 2, to->bytes, ROOM);
 }
 
-/* of the directory at an offset: the last byte of the first one that a classic file tells */
-static tiff_status sides_at(const struct input *on, struct answer *to) {
+/* of the directory at an offset: the last byte of the offset in the header of a classic file */
+static tiff_status sides_at(const struct input *on, struct result *to) {
     uint64_t offset = on->len < 8 ? 0 : on->file[0] == 'I' ? on->file[4] : on->file[7];
     return tiff_page_sides(on->file, on->len, TIFF_AT(offset), &to->sides);
 }
 
-static tiff_status unit_bytes(const struct input *on, struct answer *to) {
+static tiff_status unit_bytes(const struct input *on, struct result *to) {
     return tiff_read_coding_unit_bytes(on->file, on->len, on->page, 0, to->bytes, ROOM);
 }
 
-static tiff_status width_field(const struct input *on, struct answer *to) {
+static tiff_status width_field(const struct input *on, struct result *to) {
     return tiff_tag_field(on->file, on->len, on->page, 256, &to->field);
 }
 
-static tiff_status width_number(const struct input *on, struct answer *to) {
+static tiff_status width_number(const struct input *on, struct result *to) {
     return tiff_tag_number(on->file, on->len, on->page, 256, &to->value);
 }
 
-static tiff_status method_number(const struct input *on, struct answer *to) {
+static tiff_status method_number(const struct input *on, struct result *to) {
     return tiff_tag_number(on->file, on->len, on->page, 259, &to->value);
 }
 
-static tiff_status bits_bytes(const struct input *on, struct answer *to) {
+static tiff_status bits_bytes(const struct input *on, struct result *to) {
     return tiff_tag_bytes(on->file, on->len, on->page, 258, 0, to->bytes, ROOM, &to->number);
 }
 
-static tiff_status offset_bytes(const struct input *on, struct answer *to) {
+static tiff_status offset_bytes(const struct input *on, struct result *to) {
     return tiff_tag_bytes(on->file, on->len, on->page, 273, 1, to->bytes, 6, &to->number);
 }
 
-static tiff_status bits_numbers(const struct input *on, struct answer *to) {
+static tiff_status bits_numbers(const struct input *on, struct result *to) {
     return tiff_tag_numbers(on->file, on->len, on->page, 258, to->numbers, LISTED, &to->number);
 }
 
-static tiff_status offset_numbers(const struct input *on, struct answer *to) {
+static tiff_status offset_numbers(const struct input *on, struct result *to) {
     return tiff_tag_numbers(on->file, on->len, on->page, 273, to->numbers, LISTED, &to->number);
 }
 
-static tiff_status scale_floats(const struct input *on, struct answer *to) {
+static tiff_status scale_floats(const struct input *on, struct result *to) {
     return tiff_tag_floats(on->file, on->len, on->page, 33550, to->floats, LISTED, &to->number);
 }
 
-static tiff_status description_text(const struct input *on, struct answer *to) {
+static tiff_status description_text(const struct input *on, struct result *to) {
     return tiff_tag_text(on->file, on->len, on->page, 270, to->bytes, ROOM, &to->number);
 }
 
-static tiff_status software_text(const struct input *on, struct answer *to) {
+static tiff_status software_text(const struct input *on, struct result *to) {
     return tiff_tag_text(on->file, on->len, on->page, 305, to->bytes, ROOM, &to->number);
 }
 
-static tiff_status list_tags(const struct input *on, struct answer *to) {
+static tiff_status list_tags(const struct input *on, struct result *to) {
     return tiff_list_tags(on->file, on->len, on->page, to->entries, LISTED, &to->number);
 }
 
-static tiff_status byte_order(const struct input *on, struct answer *to) {
+static tiff_status byte_order(const struct input *on, struct result *to) {
     return tiff_byte_order(on->file, on->len, &to->order);
 }
 
-static tiff_status write_image(const struct input *on, struct answer *to) {
+static tiff_status write_image(const struct input *on, struct result *to) {
     return tiff_write_image(&on->image, on->file, on->len, to->bytes, on->size, &to->number);
 }
 
-/* The parts of the file one behind the other: where memory is short, they are others of the same file. */
-static tiff_status image_frame(const struct input *on, struct answer *to) {
+/* The parts of the file one behind the other: where memory is short, they are others of the same
+   file. */
+static tiff_status image_frame(const struct input *on, struct result *to) {
     static uint8_t around[ROOM];
     struct tiff_frame frame;
     tiff_status status = tiff_image_frame(&on->image, on->file, on->len, around, on->size, &frame);
@@ -287,20 +293,21 @@ static tiff_status image_frame(const struct input *on, struct answer *to) {
 }
 
 /* a page with a tag of one's own, and one that is refused */
-static tiff_status write_jobs(const struct input *on, struct answer *to) {
+static tiff_status write_jobs(const struct input *on, struct result *to) {
     static const char jobs[] = "image Gray8 2 1\nwrite_tag 270 text words\nwrite_data 1 2\n";
     return tiff_write_jobs(on->image.version, (const uint8_t *)jobs, sizeof jobs - 1, to->bytes,
                            on->size, &to->number, &to->end);
 }
 
-static tiff_status refused_jobs(const struct input *on, struct answer *to) {
+static tiff_status refused_jobs(const struct input *on, struct result *to) {
     static const char jobs[] = "image Gray8 1 1\nwrite_data 7\nimage Gray8 0 1\nfinish\n";
     return tiff_write_jobs(on->image.version, (const uint8_t *)jobs, sizeof jobs - 1, to->bytes,
                            on->size, &to->number, &to->end);
 }
 
-/* two pages of which the second has a tag of one's own and tiles, and two of which the second is refused */
-static tiff_status pages_into(const struct input *on, struct answer *to, uint16_t method,
+/* two pages of which the second has a tag of one's own and tiles, and two of which the second is
+   refused */
+static tiff_status pages_into(const struct input *on, struct result *to, uint16_t method,
                               _Bool behind) {
     static const uint8_t words[] = "words", samples[] = {1, 2, 3, 4};
     static const uint16_t none[1];
@@ -351,19 +358,19 @@ static tiff_status pages_into(const struct input *on, struct answer *to, uint16_
                             &to->pages_end);
 }
 
-static tiff_status write_pages(const struct input *on, struct answer *to) {
+static tiff_status write_pages(const struct input *on, struct result *to) {
     return pages_into(on, to, TIFF_PACKBITS, 0);
 }
 
-static tiff_status refused_pages(const struct input *on, struct answer *to) {
+static tiff_status refused_pages(const struct input *on, struct result *to) {
     return pages_into(on, to, 5, 0);
 }
 
-static tiff_status append_pages(const struct input *on, struct answer *to) {
+static tiff_status append_pages(const struct input *on, struct result *to) {
     return pages_into(on, to, TIFF_PACKBITS, 1);
 }
 
-static tiff_status fault_text(const struct input *on, struct answer *to) {
+static tiff_status fault_text(const struct input *on, struct result *to) {
     (void)on;
     to->number = tiff_fault_text(TIFF_OUT_OF_MEMORY, to->bytes, ROOM);
     return TIFF_DONE;
@@ -431,10 +438,10 @@ _Bool is_refused(void) {
            (counts->requests == refused_at || (refuses_all && counts->requests > refused_at));
 }
 
-static struct answer pattern, good, got;
+static struct result pattern, good, got;
 
 /* Makes a call, with the request of this number refused, or none. */
-static tiff_status made(const struct call *call, const struct input *on, struct answer *to,
+static tiff_status made(const struct call *call, const struct input *on, struct result *to,
                         size_t at, _Bool all) {
     memset(to, PATTERN, sizeof *to);
     *counts = (struct counts){.peak = counts->peak};
@@ -446,12 +453,12 @@ static tiff_status made(const struct call *call, const struct input *on, struct 
 }
 
 static _Bool stays(enum left left) {
-    struct answer want = pattern;
+    struct result want = pattern;
     if (left == BUT_COUNT) want.number = 0;
     if (left == BUT_END) want.end = (struct tiff_jobs_end){0, got.end.job};
     if (left == BUT_PAGE) want.pages_end = got.pages_end;
     if (left == BUT_APPENDED) {
-        /* of its bytes between the fields nothing is said */
+        /* the values of the bytes between its fields are not specified */
         want.appended = got.appended;
         if (got.appended.len || got.appended.link || got.appended.target || got.appended.width)
             return 0;
@@ -462,12 +469,12 @@ static _Bool stays(enum left left) {
 }
 
 static _Bool is_well = 1;
-static size_t made_calls, requests, refused, without, told;
+static size_t made_calls, requests, refused, without, shown;
 
 static void wrong(const struct call *call, const struct input *on, size_t at, _Bool all,
                   const char *what, tiff_status status) {
     is_well = 0;
-    if (++told > TOLD) return;
+    if (++shown > SHOWN) return;
     dprintf(2, "memory/run: %s of %s, page %zu, color %u, request %zu%s: %s (status %u)\n",
             call->name, on->name, on->page, on->image.color, at, all ? " and all behind it" : "",
             what, status);
@@ -479,12 +486,12 @@ static void refuse(const struct call *call, const struct input *on, tiff_status 
     _Bool is_same = other == status && memcmp(&good, &got, sizeof got) == 0;
     if (is_same && !all) without++;
     else if (other != TIFF_OUT_OF_MEMORY)
-        wrong(call, on, at, all, "it isn't answered out of memory", other);
+        wrong(call, on, at, all, "it doesn't return out of memory", other);
     else if (!stays(call->left)) wrong(call, on, at, all, "what has to stay is changed", other);
     if (counts->blocks) wrong(call, on, at, all, "a block is left behind", other);
     other = made(call, on, &got, 0, 0);
     if (other != status || memcmp(&good, &got, sizeof got) != 0)
-        wrong(call, on, at, all, "made again, it answers something else", other);
+        wrong(call, on, at, all, "made again, it returns something else", other);
 }
 
 static void try_call(const struct call *call, const struct input *on) {
@@ -502,13 +509,13 @@ static void try_call(const struct call *call, const struct input *on) {
     refused += 2 * last;
 }
 
-static void tell(const struct call *call) {
+static void report(const struct call *call) {
     dprintf(1,
             "%s: %zu calls, %zu requests refused in turn: %zu answered out of memory, %zu done "
             "without; peak %zu bytes\n",
             call->name, made_calls, requests, requests - without, without, counts->peak);
-    if (told) dprintf(2, "memory/run: %s: %zu faults\n", call->name, told);
-    made_calls = requests = without = told = counts->peak = 0;
+    if (shown) dprintf(2, "memory/run: %s: %zu errors\n", call->name, shown);
+    made_calls = requests = without = shown = counts->peak = 0;
 }
 
 /* == What the calls are made on */
@@ -536,7 +543,7 @@ static void try_pages(const struct call *call, const char *name) {
     free((void *)on.file);
 }
 
-/* An image of 5 by 3 pixels, in a buffer with room and in one without. */
+/* An image of 5 by 3 pixels, in a buffer that is long enough and in one that is too short. */
 static void try_image(const struct call *writer, struct tiff_image image) {
     static uint8_t samples[5 * 3 * 4 * 8];
     for (size_t at = 0; at < sizeof samples; at++) samples[at] = (uint8_t)(at / 3);
@@ -569,7 +576,7 @@ static _Bool is_color(uint32_t color) {
     return made(&writers[0], &on, &got, 0, 0) != TIFF_INVALID_INPUT;
 }
 
-/* Jobs, in a buffer with room and in one without. */
+/* Jobs, in a buffer that is long enough and in one that is too short. */
 static void try_jobs(const struct call *call) {
     for (uint16_t version = TIFF_CLASSIC; version <= TIFF_BIG; version++)
         for (size_t size = 0; size <= ROOM; size += ROOM) {
@@ -583,18 +590,18 @@ int main(int argc, char **argv) {
     alarm(SECONDS);
     for (size_t call = 0; call < sizeof readers / sizeof *readers; call++) {
         for (int at = 1; at < argc; at++) try_pages(&readers[call], argv[at]);
-        tell(&readers[call]);
+        report(&readers[call]);
     }
     for (size_t call = 0; call < sizeof writers / sizeof *writers; call++) {
         /* each color, and the first number that is none */
         uint32_t color = TIFF_GRAY8;
         do try_color(&writers[call], color);
         while (is_color(color++));
-        tell(&writers[call]);
+        report(&writers[call]);
     }
     for (size_t call = 0; call < sizeof job_writers / sizeof *job_writers; call++) {
         try_jobs(&job_writers[call]);
-        tell(&job_writers[call]);
+        report(&job_writers[call]);
     }
     dprintf(1, "tiff_c: %zu requests refused, each then made again\n", refused);
     return is_well ? 0 : 1;

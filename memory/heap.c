@@ -1,10 +1,11 @@
-/* The heap of a proved program, in the place of the kit's: it counts requests, blocks and bytes, and refuses what is_refused says.
-   Each block has its size in front of it. A block that grows moves, and what is new or freed holds no old bytes. */
+/* A heap for a proved program, in place of the kit's: it counts requests, blocks and bytes, and
+   refuses a request if is_refused returns so. Each block has its size in front of it. A block that
+   grows moves, and what is new or freed holds no old bytes. */
 #include "heap.h"
 
 enum { MARK = 0x0b10c, FREED = 0x0f2eed, FILLED = 4096 };
 
-/* What the kit's heap answers: whether there is a block, and where. */
+/* What the kit's heap returns: whether there is a block, and where. */
 struct tried {
     _Bool ok;
     void *at;

@@ -1,12 +1,16 @@
 /* Has a proved program run a script once for each request for memory, with that request refused.
 
-   The program's standard input is the script, one line a read; the script of a program that reads nothing is empty. At each request a copy of
-   the program, made by fork, goes on in which it is refused: alone, and in a second copy with all that follow. A copy is given the line that was
-   under way once more (of a list of jobs, all its lines), and then the rest. What copies write goes to descriptor 3, and a line on each to descriptor 4: the number of the request,
-   whether all that follow are refused too, where in the script its line stands (-1 if none was read), how long the output was, the copy's status as wait gives
-   it, the blocks that it left, and how much all copies have written. The last line is on the program itself: its requests, the blocks that it
-   left, and the peak of its bytes. In the environment, REFUSED_FROM says from which byte of the script on requests are refused, REFUSED_STEP of
-   which number each multiple is, and REFUSED_SECONDS how long a copy may take. */
+   The program's standard input is the script, one line a read; the script of a program that reads
+   nothing is empty. At each request a copy of the program, made by fork, goes on in which it is
+   refused: alone, and in a second copy with all that follow. A copy reads the line that was under
+   way once more (of a list of jobs, all its lines), and then the rest. What copies write goes to
+   descriptor 3, and a line on each to descriptor 4: the number of the request, whether all that
+   follow are refused too, the offset of its line in the script (-1 if none was read), how long the
+   output was, the copy's status as wait gives it, the blocks that it left, and how much all copies
+   have written. The last line is on the program itself: its requests, the blocks that it left, and
+   the peak of its bytes. In the environment, REFUSED_FROM is the byte of the script from which on
+   requests are refused, REFUSED_STEP the number whose multiples are refused, and REFUSED_SECONDS
+   how long a copy may take. */
 #include "heap.h"
 
 enum { SCRIPT = 0, OUTPUT = 1, COPIES = 3, LOG = 4 };
@@ -67,7 +71,8 @@ __attribute__((destructor)) static void end(void) {
     if (!is_copy) dprintf(LOG, "end %zu %zu %zu\n", counts->requests, counts->blocks, counts->peak);
 }
 
-/* In a copy: it writes elsewhere, counts where the program sees it, and is given again what was under way. */
+/* In a copy: it writes elsewhere, counts where the program sees it, and reads again the line that
+   was under way. */
 static void go_on(_Bool all) {
     is_copy = 1;
     refuses_all = all;
@@ -78,7 +83,7 @@ static void go_on(_Bool all) {
     alarm((unsigned)seconds);
 }
 
-/* Has a copy go on; answers in the copy whether it is one. */
+/* Makes a copy and has it go on; returns 1 in the copy, else 0. */
 static _Bool copied(_Bool all) {
     int status = 0, copy = fork();
     if (copy < 0) _exit(121);
@@ -104,7 +109,7 @@ static _Bool begins(const char *words, size_t len) {
     return (size_t)(script_end - line) >= len && memcmp(line, words, len) == 0;
 }
 
-/* The program's reads: of the script one line, or what there is room for of it. */
+/* The program's reads: of the script one line, or as much of it as the buffer holds. */
 long read(int file, void *buffer, size_t len) {
     if (file != SCRIPT) return syscall(SYS_READ, (long)file, buffer, len);
     if (next == script_end || len == 0) return 0;

@@ -1,9 +1,11 @@
-/* Reads each page of a TIFF file by libtiff, and writes what it found on standard output, in the form that conformance/README.md has.
+/* Reads each page of a TIFF file by libtiff, and writes what it found on standard output, in the
+   form that conformance/README.md has.
 
    cc -O2 -o libtiff libtiff.c -ltiff; ./libtiff FILE
 
-   A page whose strips or tiles have all samples of a pixel together is read by TIFFReadEncodedStrip or TIFFReadEncodedTile, plane by plane if it has several;
-   the words `scanlines` behind FILE read strips by TIFFReadScanline instead. Messages of libtiff go to standard error. */
+   A page whose strips or tiles have all samples of a pixel together is read by TIFFReadEncodedStrip
+   or TIFFReadEncodedTile, plane by plane if it has several; the words `scanlines` behind FILE read
+   strips by TIFFReadScanline instead. Messages of libtiff go to standard error. */
 #include <stdint.h>
 #include <stdio.h>
 #include <stdlib.h>
@@ -23,7 +25,8 @@ struct page {
 
 static size_t size_of(uint16_t bits) { return bits <= 8 ? 1 : bits <= 16 ? 2 : bits <= 32 ? 4 : 8; }
 
-/* Number k of a row of samples that libtiff decoded: in the byte order of the machine, or bits from the highest on. */
+/* Number k of a row of samples that libtiff decoded: in the byte order of the machine, or bits from
+   the highest on. */
 static uint64_t number(const uint8_t *row, size_t k, uint16_t bits) {
     uint64_t value = 0;
     if (bits == 8 || bits == 16 || bits == 32 || bits == 64) {
@@ -92,7 +95,8 @@ static int read_scanlines(TIFF *tif, struct page *p) {
     return 1;
 }
 
-/* Fills in the page of the current directory, with room for its samples; returns 0 if it has none, or too many. */
+/* Fills in the page of the current directory, with room for its samples; returns 0 if it has none,
+   or too many. */
 static int describe(TIFF *tif, struct page *p) {
     uint32_t rows = 0;
     memset(p, 0, sizeof *p);

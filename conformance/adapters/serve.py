@@ -1,7 +1,9 @@
-"""What the adapters of readers in Python have in common: each file is read in a process of its own, which a process with the reader's modules forks.
+"""What the adapters of readers in Python have in common: each file is read in a process of its own,
+which a process with the reader's modules forks.
 
   ADAPTER FILE                  reads a file, and writes its pages on standard output
-  ADAPTER --serve OUT ERRORS    reads names of files from standard input; a child reads each one under the limits, its outputs go to these two files, and a
+  ADAPTER --serve OUT ERRORS    reads names of files from standard input; a child
+                                reads each one under the limits, its outputs go to these two files, and a
                                 line says how it ended: the status of `waitpid`
   ADAPTER --version             prints the versions of the reader
 
@@ -18,7 +20,8 @@ NO_MEMORY = 9
 
 
 def limit():
-    """Limits this process: its processor seconds, the bytes that it asks for, how long it lasts, and the bytes of a file that it writes."""
+    """Limits this process: its processor seconds, the bytes that it allocates, how long it lasts,
+    and the bytes of a file that it writes."""
     resource.setrlimit(resource.RLIMIT_CPU, (SECONDS, SECONDS + 1))
     resource.setrlimit(resource.RLIMIT_DATA, (BYTES, BYTES))
     resource.setrlimit(resource.RLIMIT_FSIZE, (FILE_BYTES, FILE_BYTES))
@@ -27,7 +30,8 @@ def limit():
 
 
 def write(width, height, samples, size, data):
-    """Writes a page: its sides, the samples of a pixel, the bytes of a sample, and the samples, each with its lowest byte first."""
+    """Writes a page: its sides, the samples of a pixel, the bytes of a sample, and the samples,
+    each with its lowest byte first."""
     sys.stdout.buffer.write(f"page {width} {height} {samples} {size}\n".encode() + data)
 
 

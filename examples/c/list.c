@@ -1,5 +1,5 @@
-/* Lists the pages of a TIFF file: number, offset, sides, color, method, chunks; or why a page is refused. How the chain of pages ends, where it
-   ends by a fault, stands on standard error.
+/* Lists the pages of a TIFF file: number, offset, sides, color, method, chunks; or why a page is
+   refused. If the chain of pages ends by an error, that is printed on standard error.
      cc list.c -o list $(pkg-config --cflags --libs mangohatch_tiff)
      ./list page.tif */
 #include <inttypes.h>
@@ -39,7 +39,8 @@ static void print_page(size_t number, const struct tiff_listed_page *page) {
            page->chunk_kind == TIFF_TILES ? "tiles" : "strips");
 }
 
-/* Returns the status of the program, and tells of what couldn't be written. The last bytes may reach standard output only as it is closed. */
+/* Returns the status of the program, 1 if the output couldn't be written, which it then prints. The
+   last bytes may reach standard output only when it is closed. */
 static int close_output(int status) {
     if (!ferror(stdout) && !fclose(stdout)) return status;
     fprintf(stderr, "cannot write standard output\n");

@@ -1,8 +1,10 @@
-/* Writes one tile of the first page as its bytes, cut at the edges of the image: that of the first plane in which a pixel lies. The file
-   isn't read whole: of one of any size, the header, the directory, its lists of tiles and the tile are fetched, in pages of 64 KB.
+/* Writes one tile of the first page as its bytes, cut at the edges of the image: that of the first
+   plane in which a pixel lies. The file isn't read whole: of one of any size, the header, the
+   directory, its lists of tiles and the tile are fetched, in pages of 64 KB.
      cc one_tile.c -o one_tile $(pkg-config --cflags --libs mangohatch_tiff)
      ./one_tile map.tif 12000 34000 > tile.bytes
-   The numbers are the pixel's row and column. Any other read of a range goes in place of pread, as one over a network. */
+   The numbers are the pixel's row and column. Any other read of a range goes in place of pread, as
+   one over a network. */
 #define _POSIX_C_SOURCE 200809L
 #define _FILE_OFFSET_BITS 64
 #include <fcntl.h>
@@ -24,11 +26,11 @@ struct fetched {
 };
 
 static int open_file(const char *name, struct fetched *of) {
-    struct stat told;
+    struct stat found;
     of->file = open(name, O_RDONLY);
-    if (of->file < 0 || fstat(of->file, &told)) return 0;
+    if (of->file < 0 || fstat(of->file, &found)) return 0;
     of->windows = malloc(sizeof *of->windows);
-    of->seen = (struct tiff_windows){(uint64_t)told.st_size, of->windows, 0};
+    of->seen = (struct tiff_windows){(uint64_t)found.st_size, of->windows, 0};
     of->requests = 0;
     return of->windows != NULL;
 }
@@ -43,8 +45,8 @@ static int read_at(int file, uint64_t offset, uint8_t *bytes, size_t size) {
     return 1;
 }
 
-/* Fetches the pages of what a call wants, up to the next window, and adds them as one. Its first byte is in no window, so neither is
-   its page. */
+/* Fetches the pages of what a call wants, up to the next window, and adds them as one. Its first
+   byte is in no window, so neither is its page. */
 static int fetch(struct fetched *of, const struct tiff_stretch *wanted) {
     size_t at = 0, count = of->seen.count;
     while (at < count && of->windows[at].offset < wanted->offset) at++;
@@ -79,7 +81,8 @@ static int refuse(const char *what, tiff_status status) {
     return 1;
 }
 
-/* Returns the status of the program, and tells of what couldn't be written. The last bytes may reach standard output only as it is closed. */
+/* Returns the status of the program, 1 if the output couldn't be written, which it then prints. The
+   last bytes may reach standard output only when it is closed. */
 static int close_output(int status) {
     if (!ferror(stdout) && !fclose(stdout)) return status;
     fprintf(stderr, "cannot write standard output\n");
@@ -88,7 +91,8 @@ static int close_output(int status) {
 
 static uint64_t least(uint64_t a, uint64_t b) { return a < b ? a : b; }
 
-/* How many bytes rows of so many pixels have, each of whole bytes; where a file claims more than memory can have, as many as that. */
+/* How many bytes rows of so many pixels have, each of whole bytes; where a file claims more than
+   memory can have, as many as that. */
 static size_t bytes_of(uint64_t columns, uint64_t samples, uint64_t bits, uint64_t rows) {
     uint64_t row = (columns * samples * bits + 7) / 8;
     return row && rows > (SIZE_MAX - 1) / row ? SIZE_MAX - 1 : (size_t)(row * rows);
@@ -118,7 +122,8 @@ int main(int argc, char **argv) {
     uint8_t *tile = calloc(bytes_of(columns, most, plan.bits, rows) + 1, 1);
     if (!tile) return fprintf(stderr, "out of memory\n"), 1;
 
-    /* Extra samples may be left out: the tile has as many samples as the shortest buffer that isn't refused. */
+    /* Extra samples may be left out: the tile has as many samples as the shortest buffer that isn't
+       refused. */
     size_t size;
     uint64_t samples = 0;
     do {

@@ -1,5 +1,6 @@
-/* Browses a camera's raw file: prints all its directories as a tree, with the tags of those of Exif and GPS, and writes its largest preview as PGM or PPM:
-   the largest image of 8 bits a sample that the library reads. The image of the sensor, a color filter array, is refused, but not its tags.
+/* Browses a camera's raw file: prints all its directories as a tree, with the tags of those of Exif
+   and GPS, and writes its largest preview as PGM or PPM: the largest image of 8 bits a sample that
+   the library reads. The image of the sensor, a color filter array, is refused, but not its tags.
      cc raw_browser.c -o raw_browser $(pkg-config --cflags --libs mangohatch_tiff)
      ./raw_browser photo.dng preview.ppm */
 #include <inttypes.h>
@@ -36,7 +37,8 @@ static uint32_t number_at(const uint8_t *bytes, uint32_t order) {
     return number;
 }
 
-/* Prints fractions by their bytes: tiff_tag_numbers returns a single one without a sign, but not several or those with one. */
+/* Prints fractions by their bytes: tiff_tag_numbers returns a single one without a sign, but not
+   several or those with one. */
 static tiff_status print_fractions(const uint8_t *file, size_t len, size_t page,
                                    const struct tiff_tag_entry *tag) {
     uint8_t bytes[8 * MOST];
@@ -81,10 +83,10 @@ static tiff_status print_values(const uint8_t *file, size_t len, size_t page,
 }
 
 static void print_tags(const uint8_t *file, size_t len, const struct tiff_listed_directory *of) {
-    size_t page = TIFF_AT(of->offset), room = (size_t)of->fields, count = 0;
-    struct tiff_tag_entry *tags = malloc((room + 1) * sizeof *tags);
-    if (tags) tiff_list_tags(file, len, page, tags, room, &count);
-    for (size_t i = 0; i < count && i < room; i++) {
+    size_t page = TIFF_AT(of->offset), capacity = (size_t)of->fields, count = 0;
+    struct tiff_tag_entry *tags = malloc((capacity + 1) * sizeof *tags);
+    if (tags) tiff_list_tags(file, len, page, tags, capacity, &count);
+    for (size_t i = 0; i < count && i < capacity; i++) {
         printf("%*s%u, %" PRIu64 " of type %u:", (int)(2 * of->depth + 2), "", tags[i].number,
                tags[i].count, tags[i].type);
         tiff_status status = print_values(file, len, page, &tags[i]);
@@ -142,7 +144,8 @@ static tiff_status write_image(const uint8_t *file, size_t len, const struct tif
                                                  : TIFF_DEVICE;
 }
 
-/* Returns the status of the program, and tells of what couldn't be written. The last bytes may reach standard output only as it is closed. */
+/* Returns the status of the program, 1 if the output couldn't be written, which it then prints. The
+   last bytes may reach standard output only when it is closed. */
 static int close_output(int status) {
     if (!ferror(stdout) && !fclose(stdout)) return status;
     fprintf(stderr, "cannot write standard output\n");

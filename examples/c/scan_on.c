@@ -1,6 +1,7 @@
-/* Appends scanned pages, gray PGM images of 8 bits, one by one to a TIFF file, which may have pages already. The file is mapped and never
-   copied: memory for one page is all that is allocated, however many pages the file has. Each page is added by two writes, its bytes and then
-   the link to it, so a file that is torn between them has its former pages.
+/* Appends scanned pages, gray PGM images of 8 bits, one by one to a TIFF file, which may have pages
+   already. The file is mapped and never copied: memory for one page is all that is allocated,
+   however many pages the file has. Each page is added by two writes, its bytes and then the link to
+   it, so a file that is torn between them has its former pages.
      cc scan_on.c -o scan_on $(pkg-config --cflags --libs mangohatch_tiff)
      ./scan_on pages.tif page1.pgm page2.pgm */
 #include <fcntl.h>
@@ -67,7 +68,8 @@ static int append_page(int file, const struct tiff_new_page *page) {
     size_t len = (size_t)found.st_size;
     const uint8_t *bytes = mmap(NULL, len, PROT_READ, MAP_SHARED, file, 0);
     if (bytes == MAP_FAILED) return 0;
-    /* PackBits adds a byte to 128 bytes of a row at most, a row has a strip, and a strip 8 bytes in the directory's lists. */
+    /* PackBits adds a byte to 128 bytes of a row at most, a row has a strip, and a strip 8 bytes in
+       the directory's lists. */
     size_t size = page->samples_len + page->samples_len / 128 + (size_t)page->height * 10 + 4096;
     uint8_t *buffer = malloc(size);
     struct tiff_appended appended;

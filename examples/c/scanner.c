@@ -1,5 +1,6 @@
-/* Puts scanned pages, gray PGM images of 8 bits, into one TIFF file, packed by PackBits, with their resolution and a text each. A strip has
-   one row, as it has where no rows_per_strip is set: libtiff reads no packed strips of several rows by TIFFReadScanline.
+/* Puts scanned pages, gray PGM images of 8 bits, into one TIFF file, packed by PackBits, with their
+   resolution and a text each. A strip has one row, as it has where no rows_per_strip is set:
+   libtiff reads no packed strips of several rows by TIFFReadScanline.
      cc scanner.c -o scanner $(pkg-config --cflags --libs mangohatch_tiff)
      ./scanner 300 page1.pgm page2.pgm > pages.tif */
 #include <stdio.h>
@@ -50,7 +51,7 @@ static int read_page(const char *name, unsigned dpi, struct tiff_new_page *page,
     return is_read;
 }
 
-/* Writes the pages to standard output; a first call asks how long the file is. */
+/* Writes the pages to standard output; a first call returns how long the file is. */
 static int write_pages(const struct tiff_new_page *pages, size_t count) {
     uint8_t none;
     size_t len = 0;

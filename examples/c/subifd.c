@@ -1,5 +1,5 @@
-/* Writes the image of a SubIFD of a page as its bytes: of the first page, the first one that its tag SubIFDs (330) tells of. Cameras keep previews there,
-   which no page of the file links to.
+/* Writes the image of a SubIFD of a page as its bytes: of the first page, the first one that its
+   tag SubIFDs (330) lists. Cameras keep previews there, which no page of the file links to.
      cc subifd.c -o subifd $(pkg-config --cflags --libs mangohatch_tiff)
      ./subifd raw.dng > preview.bytes */
 #include <stdio.h>
@@ -51,7 +51,8 @@ static tiff_status write_image(const uint8_t *file, size_t len, uint64_t offset)
     return status;
 }
 
-/* Returns the status of the program, and tells of what couldn't be written. The last bytes may reach standard output only as it is closed. */
+/* Returns the status of the program, 1 if the output couldn't be written, which it then prints. The
+   last bytes may reach standard output only when it is closed. */
 static int close_output(int status) {
     if (!ferror(stdout) && !fclose(stdout)) return status;
     fprintf(stderr, "cannot write standard output\n");

@@ -1,4 +1,5 @@
-/* Writes a page of 16 by 16 gray pixels with two tags of one's own: a description, and the size of a pixel in a map's units (ModelPixelScale).
+/* Writes a page of 16 by 16 gray pixels with two tags of one's own: a description, and the size of
+   a pixel in a map's units (ModelPixelScale).
      cc tagged.c -o tagged $(pkg-config --cflags --libs mangohatch_tiff)
      ./tagged > page.tif */
 #include <stdio.h>
@@ -20,7 +21,8 @@ static int refuse(tiff_status status, struct tiff_jobs_end end) {
     return 1;
 }
 
-/* Returns the status of the program, and tells of what couldn't be written. The last bytes may reach standard output only as it is closed. */
+/* Returns the status of the program, 1 if the output couldn't be written, which it then prints. The
+   last bytes may reach standard output only when it is closed. */
 static int close_output(int status) {
     if (!ferror(stdout) && !fclose(stdout)) return status;
     fprintf(stderr, "cannot write standard output\n");

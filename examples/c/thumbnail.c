@@ -1,5 +1,5 @@
-/* Reads the first page of a TIFF file and writes it as PGM (gray) or PPM (RGB), of 8 bits a sample; one of 16 rows and columns or more,
-   in a quarter of its width and height.
+/* Reads the first page of a TIFF file and writes it as PGM (gray) or PPM (RGB), of 8 bits a sample;
+   one of 16 rows and columns or more, in a quarter of its width and height.
      cc thumbnail.c -o thumbnail $(pkg-config --cflags --libs mangohatch_tiff)
      ./thumbnail page.tif > page.pgm */
 #include <stdio.h>
@@ -25,7 +25,8 @@ static uint8_t *file_bytes(const char *name, size_t *len) {
     return bytes;
 }
 
-/* Returns the status of the program, and tells of what couldn't be written. The last bytes may reach standard output only as it is closed. */
+/* Returns the status of the program, 1 if the output couldn't be written, which it then prints. The
+   last bytes may reach standard output only when it is closed. */
 static int close_output(int status) {
     if (!ferror(stdout) && !fclose(stdout)) return status;
     fprintf(stderr, "cannot write standard output\n");

@@ -1,4 +1,5 @@
-/* Writes one tile of the first page as its bytes: that of the first plane in which a pixel lies. The others aren't read.
+/* Writes one tile of the first page as its bytes: that of the first plane in which a pixel lies.
+   The others aren't read.
      cc tile.c -o tile $(pkg-config --cflags --libs mangohatch_tiff)
      ./tile map.tif 12000 34000 > tile.bytes
    The numbers are the pixel's row and column. */
@@ -24,7 +25,8 @@ static int refuse(const char *what, tiff_status status) {
     return 1;
 }
 
-/* Returns the status of the program, and tells of what couldn't be written. The last bytes may reach standard output only as it is closed. */
+/* Returns the status of the program, 1 if the output couldn't be written, which it then prints. The
+   last bytes may reach standard output only when it is closed. */
 static int close_output(int status) {
     if (!ferror(stdout) && !fclose(stdout)) return status;
     fprintf(stderr, "cannot write standard output\n");

@@ -1,9 +1,10 @@
-/* Serves tiles of the first page of a file: reads their numbers from standard input, and writes each as PGM or PPM, if it is gray or RGB of 8 bits, or
-   else as its bytes. The file is mapped, and the plan of the page is taken once: a tile takes the same time however many there are.
+/* Serves tiles of the first page of a file: reads their numbers from standard input, and writes
+   each as PGM or PPM, if it is gray or RGB of 8 bits, or else as its bytes. The file is mapped, and
+   the plan of the page is taken once: a tile takes the same time however many there are.
      cc tile_server.c -o tile_server $(pkg-config --cflags --libs mangohatch_tiff)
      printf '%s\n' 17 4 9999 | ./tile_server map.tif > tiles.ppm
-   Tiles are counted from 0, row by row, in a page of planes those of the first plane first; at the edges of the image they are cut. How long they took
-   is told on standard error. */
+   Tiles are counted from 0, row by row, in a page of planes those of the first plane first; at the
+   edges of the image they are cut. The time that they took is printed on standard error. */
 #define _POSIX_C_SOURCE 200809L
 #include <fcntl.h>
 #include <inttypes.h>
@@ -17,10 +18,10 @@
 
 /* Maps a file into memory. It stays mapped until the program ends. */
 static const uint8_t *map_file(const char *name, size_t *len) {
-    struct stat told;
+    struct stat found;
     int file = open(name, O_RDONLY);
-    if (file < 0 || fstat(file, &told) || told.st_size == 0) return NULL;
-    *len = (size_t)told.st_size;
+    if (file < 0 || fstat(file, &found) || found.st_size == 0) return NULL;
+    *len = (size_t)found.st_size;
     void *bytes = mmap(NULL, *len, PROT_READ, MAP_PRIVATE, file, 0);
     close(file);
     return bytes == MAP_FAILED ? NULL : bytes;
@@ -33,7 +34,8 @@ static int refuse(const char *what, tiff_status status) {
     return 1;
 }
 
-/* Returns the status of the program, and tells of what couldn't be written. The last bytes may reach standard output only as it is closed. */
+/* Returns the status of the program, 1 if the output couldn't be written, which it then prints. The
+   last bytes may reach standard output only when it is closed. */
 static int close_output(int status) {
     if (!ferror(stdout) && !fclose(stdout)) return status;
     fprintf(stderr, "cannot write standard output\n");
@@ -46,7 +48,8 @@ static double microseconds(void) {
     return 1e6 * (double)now.tv_sec + (double)now.tv_nsec / 1e3;
 }
 
-/* What a server keeps: the mapped file, the plan of its page, and how many samples a pixel has in a tile. */
+/* What a server keeps: the mapped file, the plan of its page, and how many samples a pixel has in a
+   tile. */
 struct server {
     const uint8_t *file;
     size_t len;
@@ -56,7 +59,8 @@ struct server {
 
 static uint32_t parts(uint32_t whole, uint32_t part) { return whole / part + (whole % part != 0); }
 
-/* The sides of a tile, cut at the edges of the image. A number behind the last tile of a plane is that of the next plane. */
+/* The sides of a tile, cut at the edges of the image. A number behind the last tile of a plane is
+   that of the next plane. */
 static struct tiff_sides sides_of(const struct tiff_page_plan *plan, uint32_t tile) {
     uint32_t across = parts(plan->width, plan->chunk_width),
              in_plane = tile % (across * parts(plan->height, plan->chunk_height));
@@ -92,13 +96,13 @@ int main(int argc, char **argv) {
     of.samples = samples.planes > 1 ? 1 : samples.samples;
     double planned = microseconds() - begin, taken = 0;
 
-    size_t room = bytes_of(&of, sides_of(&of.plan, 0)),
+    size_t size = bytes_of(&of, sides_of(&of.plan, 0)),
            served = 0; /* no tile is larger than the first one */
-    uint8_t *tile = malloc(room + 1);
+    uint8_t *tile = malloc(size + 1);
     if (!tile) return fprintf(stderr, "out of memory\n"), 1;
     for (uint32_t number; scanf("%" SCNu32, &number) == 1;) {
         begin = microseconds();
-        status = tiff_read_planned_chunk(of.file, of.len, &of.plan, number, tile, room);
+        status = tiff_read_planned_chunk(of.file, of.len, &of.plan, number, tile, size);
         taken += microseconds() - begin;
         if (status) return refuse("tile", status);
         write_tile(&of, sides_of(&of.plan, number), tile);

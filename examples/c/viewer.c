@@ -1,8 +1,11 @@
-/* Shows pages of a file of many, as scans: reads their numbers, from 0, from standard input, and writes a thumbnail of each as PGM or PPM, of every kth
-   row and column. The first page is there before the list of pages is; then each page is read by its offset, and not by a walk along the pages before it.
+/* Shows pages of a file of many, as scans: reads their numbers, from 0, from standard input, and
+   writes a thumbnail of each as PGM or PPM, of every kth row and column. The first page is there
+   before the list of pages is; then each page is read by its offset, and not by a walk along the
+   pages before it.
      cc viewer.c -o viewer $(pkg-config --cflags --libs mangohatch_tiff)
      printf '%s\n' 9999 17 | ./viewer scans.tif > pages.ppm
-   The first page comes first. How many pages there are, and how long pages took, is told on standard error. */
+   The first page comes first. The number of pages and the time that pages took are printed on
+   standard error. */
 #define _POSIX_C_SOURCE 200809L
 #include <fcntl.h>
 #include <inttypes.h>
@@ -18,10 +21,10 @@ enum { SIDE = 128 }; /* the longer side of a thumbnail, at most */
 
 /* Maps a file into memory. It stays mapped until the program ends. */
 static const uint8_t *map_file(const char *name, size_t *len) {
-    struct stat told;
+    struct stat found;
     int file = open(name, O_RDONLY);
-    if (file < 0 || fstat(file, &told) || told.st_size == 0) return NULL;
-    *len = (size_t)told.st_size;
+    if (file < 0 || fstat(file, &found) || found.st_size == 0) return NULL;
+    *len = (size_t)found.st_size;
     void *bytes = mmap(NULL, *len, PROT_READ, MAP_PRIVATE, file, 0);
     close(file);
     return bytes == MAP_FAILED ? NULL : bytes;
@@ -34,7 +37,8 @@ static int refuse(const char *what, tiff_status status) {
     return 1;
 }
 
-/* Returns the status of the program, and tells of what couldn't be written. The last bytes may reach standard output only as it is closed. */
+/* Returns the status of the program, 1 if the output couldn't be written, which it then prints. The
+   last bytes may reach standard output only when it is closed. */
 static int close_output(int status) {
     if (!ferror(stdout) && !fclose(stdout)) return status;
     fprintf(stderr, "cannot write standard output\n");
@@ -47,7 +51,8 @@ static double milliseconds(void) {
     return 1e3 * (double)now.tv_sec + (double)now.tv_nsec / 1e6;
 }
 
-/* A sample of a row, as a number of 8 bits. Samples of fewer bits begin at the highest bit; those of 16 have their highest byte last. */
+/* A sample of a row, as a number of 8 bits. Samples of fewer bits begin at the highest bit; those
+   of 16 have their highest byte last. */
 static int sample_at(const uint8_t *row, size_t at, uint32_t bits) {
     if (bits == 16) return row[2 * at + 1];
     uint32_t most = (1u << bits) - 1;

@@ -1,4 +1,5 @@
-/* Reads a PGM (gray) or a PPM (RGB) of 8 or 16 bits a sample, and writes it as a TIFF file, packed by PackBits.
+/* Reads a PGM (gray) or a PPM (RGB) of 8 or 16 bits a sample, and writes it as a TIFF file, packed
+   by PackBits.
      cc write.c -o write $(pkg-config --cflags --libs mangohatch_tiff)
      ./write < page.pgm > page.tif */
 #include <stdio.h>
@@ -12,7 +13,8 @@ static int refuse(const char *what, tiff_status status) {
     return 1;
 }
 
-/* The samples of 16 bits of a PGM have their highest byte first; tiff_write_image wants the lowest. */
+/* The samples of 16 bits of a PGM have their highest byte first; tiff_write_image wants the lowest.
+   */
 static void swap_bytes(uint8_t *samples, size_t len) {
     for (size_t i = 0; i + 1 < len; i += 2) {
         uint8_t high = samples[i];
@@ -21,7 +23,8 @@ static void swap_bytes(uint8_t *samples, size_t len) {
     }
 }
 
-/* Returns the status of the program, and tells of what couldn't be written. The last bytes may reach standard output only as it is closed. */
+/* Returns the status of the program, 1 if the output couldn't be written, which it then prints. The
+   last bytes may reach standard output only when it is closed. */
 static int close_output(int status) {
     if (!ferror(stdout) && !fclose(stdout)) return status;
     fprintf(stderr, "cannot write standard output\n");
