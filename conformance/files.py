@@ -110,7 +110,9 @@ class Field:
         return form.pack(f"{len(self.numbers)}{TYPES[self.kind][2]}", *self.numbers)
 
     def count(self, form):
-        return len(self.bytes(form)) // size_of(self.kind) if self.entry_count is None else self.entry_count
+        if self.entry_count is not None:
+            return self.entry_count
+        return len(self.bytes(form)) // size_of(self.kind)
 
 
 class Page:

@@ -883,7 +883,8 @@ def predictors():
                         )
                         yield (
                             (
-                                f"{name}-{samples}x{bits}-{('unsigned', 'signed', 'float')[kind - 1]}-{form.name}"
+                                f"{name}-{samples}x{bits}"
+                                f"-{('unsigned', 'signed', 'float')[kind - 1]}-{form.name}"
                             ),
                             build(form, [image.page()]).bytes(),
                             f"{samples} samples of {bits} bits, stored with predictor {name}",
@@ -907,7 +908,8 @@ def predictors():
                 )
                 yield (
                     (
-                        f"chunks-{predictor}-{bits}-{planes}-{'tiles' if tile else 'strips'}-{form.name}"
+                        f"chunks-{predictor}-{bits}-{planes}"
+                        f"-{'tiles' if tile else 'strips'}-{form.name}"
                     ),
                     build(form, [image.page()]).bytes(),
                     f"three samples of {bits} bits with predictor {predictor}",

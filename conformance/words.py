@@ -276,7 +276,8 @@ def facts(page):
     except road.Refused:
         count = "?"
     return (
-        f"{page.width}x{page.height} {said} {page.method} {'tile' if page.tiled else 'strip'} {count}"
+        f"{page.width}x{page.height} {said} {page.method}"
+        f" {'tile' if page.tiled else 'strip'} {count}"
     )
 
 

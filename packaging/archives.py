@@ -1,4 +1,5 @@
-"""Archives whose bytes depend on nothing but their contents and one date: owners are root, and the order is that of names."""
+"""Archives whose bytes depend on nothing but their contents and one date: owners are root, and the
+order is that of names."""
 import gzip
 import io
 import os
@@ -24,7 +25,8 @@ def filled(path, facts):
 
 
 def read_tree(top):
-    """Returns all that lies below a folder, by names that begin there; a file that its owner may run, all may."""
+    """Returns all that lies below a folder, by names that begin there; a file that its owner may
+    run, all may."""
     found = []
     for path in top.rglob("*"):
         name = path.relative_to(top).as_posix()

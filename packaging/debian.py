@@ -1,7 +1,8 @@
-"""Packages for Debian, as debhelper would make them of the same files, by Python alone and objdump and nm.
+"""Packages for Debian, as debhelper would make them of the same files, by Python alone and objdump
+and nm.
 
-`make dist` runs where the kit is, which may be another system. lintian finds no error in them; it warns that no bug of
-Debian's is closed, since they aren't uploaded there.
+`make dist` runs where the kit is, which may be another system. lintian finds no error in them; it
+warns that no bug of Debian's is closed, since they aren't uploaded there.
 """
 import hashlib
 import lzma
@@ -38,7 +39,8 @@ def needs(program):
 
 
 def library_records(library, package):
-    """Returns what a package tells those that are built over its shared library: its name, and since when it has each of its names."""
+    """Returns the file symbols of a package, for packages that are built over its shared library:
+    the library's name, and for each of its symbols the version since which it is there."""
     name, calls = library.name.split(".so.")
     first = f"{calls}.0"
     names = sorted(
@@ -63,7 +65,8 @@ def with_parents(files):
 
 
 def installed(entry):
-    """Returns a file as Debian has it: pages of the manual are packed, and only commands may be run."""
+    """Returns a file as Debian has it: pages of the manual are packed, and only commands may be
+    run."""
     if fnmatch(entry.name, "usr/share/man/*/*"):
         return file(entry.name + ".gz", packed(entry.content))
     if entry.link:
@@ -72,7 +75,8 @@ def installed(entry):
 
 
 def kilobytes(files):
-    """Returns the size of files as Installed-Size counts it: each in whole kilobytes, a folder or a link as one."""
+    """Returns the size of files as Installed-Size counts it: each in whole kilobytes, a folder or a
+    link as one."""
     return sum(max(1, -(-len(it.content or b"") // 1024)) for it in files)
 
 
@@ -109,7 +113,8 @@ def under_dot(entry):
 
 
 def package(paragraph, stage, entries, release):
-    """Returns the name of a package and its bytes: the files that the last line of its paragraph names, from the folder where all are installed."""
+    """Returns the name of a package and its bytes: the files that the last line of its paragraph
+    names, from the folder where all are installed."""
     paragraph, _, patterns = paragraph.strip().rpartition("\nFiles: ")
     name = re.match(r"Package: (\S+)", paragraph)[1]
     chosen = [

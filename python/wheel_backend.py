@@ -3,8 +3,8 @@
 setuptools would need the package wheel, which a fresh environment has not, and puts the time of the
 build into the file. The tag is `py3-none`, since ctypes needs no ABI of an interpreter.
 
-`pyproject.toml` names this module as its backend, so pip calls it; `make dist` calls it too. Dates are
-fixed, so the same files give the same bytes.
+`pyproject.toml` names this module as its backend, so pip calls it; `make dist` calls it too. Dates
+are fixed, so the same files give the same bytes.
 """
 from __future__ import annotations
 
@@ -33,8 +33,9 @@ BUILT = HERE.parent / "out" / "c"
 LIBRARY = "libmangohatch_tiff.so"
 VARIABLE = "MANGOHATCH_TIFF_LIBRARY"
 
-MISSING = f"""The shared library {LIBRARY} is missing: build it by `make` at the top of the repository, where the
-Rattle kit is, or name it in the environment variable {VARIABLE}. Or install a wheel that was built elsewhere."""
+MISSING = f"""The shared library {LIBRARY} is missing: build it by `make` at the top of the repository,
+where the Rattle kit is, or name it in the environment variable {VARIABLE}. Or install a wheel that
+was built elsewhere."""
 
 # The oldest glibc for which pip knows a tag of a wheel.
 OLDEST_GLIBC = (2, 5)
@@ -62,7 +63,8 @@ def needed_glibc(program: bytes) -> tuple[int, int]:
 
 
 def tag_of(library: bytes) -> str:
-    """Returns the tag of a wheel for any Python 3 on the platforms where a library can be loaded."""
+    """Returns the tag of a wheel for any Python 3 on the platforms where a library can be
+    loaded."""
     major, minor = needed_glibc(library)
     return f"py3-none-manylinux_{major}_{minor}_{platform.machine()}"
 

@@ -9,7 +9,7 @@ ROOT = Path(__file__).resolve().parent.parent
 CRATES = ROOT / "crates"
 
 
-def tell(text):
+def report(text):
     print(text, file=sys.stderr, flush=True)
 
 
@@ -30,7 +30,7 @@ def listed():
         for row in (ROOT / "crates.txt").read_text("utf-8").splitlines()
         if row.strip() and row[0] != "#"
     ]
-    # a crate's name stands first; words such as `staticlib` may follow it
+    # a crate's name comes first; words such as `staticlib` may follow it
     names = [words.split()[0] for words, _, _ in rows]
     return {
         name: [it for it in uses.split() if it in names] for name, (_, _, uses) in zip(names, rows)
@@ -38,7 +38,8 @@ def listed():
 
 
 def below(crate, uses):
-    """Returns the crates that this one stands on, in the order in which rt builds them: each behind those that it uses."""
+    """Returns the crates below this one, in the order in which rt builds them: each behind those
+    that it uses."""
     found = []
     for used in uses[crate]:
         found += [it for it in [*below(used, uses), used] if it not in found]
@@ -62,12 +63,13 @@ def checksum(files):
 
 
 def text_of(file):
-    """Returns what stands in a file, or None if it isn't there."""
+    """Returns the text of a file, or None if there is no such file."""
     return file.read_text("utf-8") if file.is_file() else None
 
 
 def parts():
-    """Returns the rows of the table of docs/GATE.md that has processor seconds: what each is of, and its smaller numbers."""
+    """Returns the rows of the table of processor seconds in docs/GATE.md: the name of each row, and
+    its smaller numbers."""
     rows = [
         [cell.strip() for cell in line.split("|")]
         for line in (ROOT / "docs/GATE.md").read_text("utf-8").splitlines()
@@ -77,10 +79,11 @@ def parts():
 
 
 def costs():
-    """Returns the processor seconds of each crate, by the smaller numbers of the table in docs/GATE.md: those of its proof, and those of its
-    edits and its tests.
+    """Returns the processor seconds of each crate, by the smaller numbers of the table in
+    docs/GATE.md: those of its proof, and those of its edits and its tests.
 
-    A row names crates, and has the seconds of the proof of each, in the same order. Behind them are those of the last one's edits and tests.
+    A row names crates, and has the seconds of the proof of each, in the same order. Behind them are
+    those of the last one's edits and tests.
     """
     found = {}
     for part, seconds in parts():
@@ -99,7 +102,8 @@ def total():
 
 
 def chain():
-    """Returns the processor seconds of the longest chain of crates, of which each waits for the proof of the one before it."""
+    """Returns the processor seconds of the longest chain of crates, of which each waits for the
+    proof of the one before it."""
     uses, seconds, ends = listed(), costs(), {}
     for name in sorted(uses, key=lambda it: len(below(it, uses))):
         ends[name] = seconds[name][0] + max((ends[it] for it in uses[name]), default=0)

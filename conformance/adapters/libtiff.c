@@ -95,7 +95,7 @@ static int read_scanlines(TIFF *tif, struct page *p) {
     return 1;
 }
 
-/* Fills in the page of the current directory, with room for its samples; returns 0 if it has none,
+/* Fills in the page of the current directory, and allocates its samples; returns 0 if it has none,
    or too many. */
 static int describe(TIFF *tif, struct page *p) {
     uint32_t rows = 0;

@@ -2,8 +2,8 @@
 which a process with the reader's modules forks.
 
   ADAPTER FILE                  reads a file, and writes its pages on standard output
-  ADAPTER --serve OUT ERRORS    reads names of files from standard input; a child
-                                reads each one under the limits, its outputs go to these two files, and a
+  ADAPTER --serve OUT ERRORS    reads names of files from standard input. A child reads each file
+                                under the limits, with its outputs in OUT and ERRORS, and then a
                                 line says how it ended: the status of `waitpid`
   ADAPTER --version             prints the versions of the reader
 

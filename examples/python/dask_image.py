@@ -2,11 +2,12 @@
 
   python3 dask_image.py map.tif
 
-prints the sum of the samples of the first page, which two processes on this machine add up. No process reads the whole image: each block is read by the
-worker that needs it, which opens the file by its path for that block alone. Workers on other machines have to see the file at the same path. The array has
-the shape and the number type of the page, as `asarray` returns it: with samples apart, planes, rows and columns; of one bit a sample, bool; of a palette,
-indexes of the columns of `page.colormap`.
-It wants the package mangohatch_tiff, numpy, dask and distributed.
+prints the sum of the samples of the first page, which two processes on this machine add up. No
+process reads the whole image: each block is read by the worker that needs it, which opens the file
+by its path for that block alone. Workers on other machines have to see the file at the same path.
+The array has the shape and the number type of the page, as `asarray` returns it: with samples
+apart, planes, rows and columns; of one bit a sample, bool; of a palette, indexes of the columns of
+`page.colormap`. It wants the package mangohatch_tiff, numpy, dask and distributed.
 """
 from __future__ import annotations
 
@@ -31,11 +32,12 @@ def read_block(path: str, page: int, axes: str, block_info: Any = None) -> Any:
 
 
 def sides_of(page: TiffPage) -> tuple[int, ...]:
-    """Returns the sides of a block: as many whole strips or tiles side by side, and then one below the other, as it has room for."""
+    """Returns the sides of a block: as many whole strips or tiles as fit into it, side by side
+    first and then one below the other."""
     rows, columns = page.chunks[:2]
-    room = max(1, BLOCK // (page.samplesperpixel * page.dtype.itemsize))
-    across = max(1, min(-(-page.imagewidth // columns), room // (rows * columns)))
-    down = max(1, room // (rows * columns * across))
+    pixels = max(1, BLOCK // (page.samplesperpixel * page.dtype.itemsize))
+    across = max(1, min(-(-page.imagewidth // columns), pixels // (rows * columns)))
+    down = max(1, pixels // (rows * columns * across))
     sides = {"S": page.samplesperpixel, "Y": down * rows, "X": across * columns}
     return tuple(min(sides[axis], size) for axis, size in zip(page.axes, page.shape))
 

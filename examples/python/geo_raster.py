@@ -3,9 +3,9 @@
   python3 geo_raster.py map.tif
   python3 geo_raster.py map.tif 4321000 3210000 256 window.tif
 
-The numbers are x and y, in the units of the map, and how many rows and columns the window has, where
-the raster has them. The window is a raster of its own, with the same keys. It wants the package
-mangohatch_tiff, and numpy.
+The numbers are x and y, in the units of the map, and how many rows and columns the window has,
+where the raster has them. The window is a raster of its own, with the same keys. It wants the
+package mangohatch_tiff, and numpy.
 """
 from __future__ import annotations
 
@@ -25,7 +25,7 @@ MEANINGS = {
 TRANSFORMATION, KEYS, DOUBLES, TEXTS = 34264, 34735, 34736, 34737
 
 
-def tell(geo: Geo) -> None:
+def print_facts(geo: Geo) -> None:
     """Prints the keys, each with its number and what the number means, and the corner."""
     for name, value in geo.keys.items():
         meaning = MEANINGS.get(name, {}).get(value) if isinstance(value, int) else None
@@ -80,7 +80,7 @@ def main() -> None:
         geo = page.geo
         if geo is None:
             sys.exit("the page has no geographic tags")
-        tell(geo)
+        print_facts(geo)
         if len(sys.argv) > 2:
             x, y, size = float(sys.argv[2]), float(sys.argv[3]), int(sys.argv[4])
             column, row = to_raster(geo, x, y)

@@ -2,10 +2,10 @@
 
   python3 metadata.py photo.dng
 
-The directories are those of the chain, and those that tags name, as SubIFDs, Exif and GPS. A line is
-a tag: the offset of its directory, its number, name, type and count, and its value, or the error by
-which there is none. Bytes are hexadecimal, and of long values there is the start. A directory that
-can't be read is a line with its error. It wants the package mangohatch_tiff.
+The directories are those of the chain, and those that tags name, as SubIFDs, Exif and GPS. A line
+is a tag: the offset of its directory, its number, name, type and count, and its value, or the error
+by which there is none. Bytes are hexadecimal, and of long values there is the start. A directory
+that can't be read is a line with its error. It wants the package mangohatch_tiff.
 """
 from __future__ import annotations
 
@@ -20,7 +20,7 @@ MOST = 64
 
 
 def value_of(tags: Tags, tag: Tag) -> Any:
-    """Returns the value of a tag; of one whose meaning the package doesn't tell, what is stored."""
+    """Returns the value of a tag; the stored value if the package doesn't know its meaning."""
     try:
         return tag.value
     except UnsupportedError:
@@ -47,11 +47,11 @@ def as_json(value: Any) -> Any:
 def told_of(tags: Tags, tag: Tag) -> dict[str, Any]:
     """Returns a tag as JSON has it."""
     kind = getattr(tag.dtype, "name", tag.dtype)
-    told = {"tag": tag.code, "name": tag.name, "type": kind, "count": tag.count}
+    facts = {"tag": tag.code, "name": tag.name, "type": kind, "count": tag.count}
     try:
-        return {**told, "value": as_json(value_of(tags, tag))}
+        return {**facts, "value": as_json(value_of(tags, tag))}
     except TiffError as fault:
-        return {**told, "error": fault.status.name}
+        return {**facts, "error": fault.status.name}
 
 
 def lines_of(directory: Directory) -> list[dict[str, Any]]:

@@ -27,16 +27,16 @@ class RemoteFile:
     def __init__(self, url: str) -> None:
         self.url = url
         self.requests = self.fetched = 0
-        with urlopen(Request(url, method="HEAD")) as answer:
-            self.size = int(answer.headers["Content-Length"])
+        with urlopen(Request(url, method="HEAD")) as response:
+            self.size = int(response.headers["Content-Length"])
 
     def read_at(self, offset: int, size: int) -> bytes:
         """Returns so many bytes from an offset on."""
         asked = Request(self.url, headers={"Range": f"bytes={offset}-{offset + size - 1}"})
-        with urlopen(asked) as answer:
-            if answer.status != 206:
+        with urlopen(asked) as response:
+            if response.status != 206:
                 raise OSError(f"{self.url}: the server sends no ranges")
-            data: bytes = answer.read()
+            data: bytes = response.read()
         self.requests, self.fetched = self.requests + 1, self.fetched + len(data)
         return data
 
@@ -87,8 +87,8 @@ def read_tile(url: str, row: int, column: int, target: str) -> None:
         if not (0 <= row < page.imagelength and 0 <= column < page.imagewidth):
             sys.exit("there is no such pixel")
         array = page.read_chunk(tile_at(page, row, column))
-    told = f"{source.requests} requests, {source.fetched} of {source.size} bytes"
-    print(f"shape {array.shape}, {array.dtype}: {told}")
+    traffic = f"{source.requests} requests, {source.fetched} of {source.size} bytes"
+    print(f"shape {array.shape}, {array.dtype}: {traffic}")
     imwrite(target, array)
 
 

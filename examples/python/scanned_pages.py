@@ -3,8 +3,8 @@
   python3 scanned_pages.py scan.tif 50 3508 2480
 
 The numbers are how many pages come from the scanner, and the rows and columns of one; a gray ramp
-stands in for what it scans. After each page the file on disk is whole, and what was in it before
-isn't written anew, so the memory that it takes is that of one page. It wants the package
+takes the place of what it scans. After each page the file on disk is whole, and what was in it
+before isn't written anew, so the memory that it takes is that of one page. It wants the package
 mangohatch_tiff, and numpy.
 """
 import resource

@@ -1,4 +1,5 @@
-"""Writes the image of a SubIFD of a TIFF file's first page as a file of its own. Cameras keep previews there, which no page links to.
+"""Writes the image of a SubIFD of a TIFF file's first page as a file of its own. Cameras keep
+previews there, which no page links to.
 
   python3 sub_ifd.py raw.dng preview.tif
 

@@ -1,10 +1,11 @@
-"""Reads the first page of a TIFF file and writes it as PGM (gray) or PPM (RGB), of 8 bits a sample; or as a TIFF file packed by PackBits.
+"""Reads the first page of a TIFF file and writes it as PGM (gray) or PPM (RGB), of 8 bits a sample;
+or as a TIFF file packed by PackBits.
 
   python3 tiff.py page.tif > page.pgm
   python3 tiff.py page.tif packed.tif
 
-It calls the shared library by ctypes alone; the package `mangohatch_tiff` of the folder `python` does more. The library is the one that
-MANGOHATCH_TIFF_LIBRARY names, or the system's.
+It calls the shared library by ctypes alone; the package `mangohatch_tiff` of the folder `python`
+does more. The library is the one that MANGOHATCH_TIFF_LIBRARY names, or the system's.
 """
 import ctypes
 import os
@@ -92,17 +93,18 @@ def check(status):
         raise TiffError(text.raw[:length].decode())
 
 
-def asked(call, kind, file, page):
-    """Returns what a call tells of a page."""
-    answer = kind()
-    check(call(file, len(file), page, byref(answer)))
-    return answer
+def result_of(call, kind, file, page):
+    """Returns the struct that a call fills for a page."""
+    result = kind()
+    check(call(file, len(file), page, byref(result)))
+    return result
 
 
 def read_image(file, page=0):
     """Returns the sides and the color of a page, and the bytes of its image."""
-    sides, color = asked(PAGE_SIDES, Sides, file, page), asked(PAGE_COLOR, Color, file, page)
-    size = asked(PAGE_LAYOUT, Layout, file, page).complete_len
+    sides = result_of(PAGE_SIDES, Sides, file, page)
+    color = result_of(PAGE_COLOR, Color, file, page)
+    size = result_of(PAGE_LAYOUT, Layout, file, page).complete_len
     pixels = ctypes.create_string_buffer(size + 1)
     check(READ_IMAGE(file, len(file), page, pixels, size))
     return sides, color, pixels.raw[:size]
@@ -111,7 +113,8 @@ def read_image(file, page=0):
 def write_image(
     samples, width, height, color, version=CLASSIC, method=UNCOMPRESSED, predictor=NO_PREDICTOR
 ):
-    """Returns a file of an image of these samples: bytes, the lowest of each sample first, row by row and pixel by pixel."""
+    """Returns a file of an image of these samples: bytes, the lowest of each sample first, row by
+    row and pixel by pixel."""
     image, length = Image(color, width, height, version, method, predictor), c_size_t()
     file = ctypes.create_string_buffer(1)
     status = WRITE_IMAGE(byref(image), samples, len(samples), file, 0, byref(length))
@@ -123,7 +126,8 @@ def write_image(
 
 
 def as_array(sides, color, pixels):
-    """Returns the samples of a chunky page of 8 or 16 bits as an array of rows and columns, and of samples where there are several."""
+    """Returns the samples of a chunky page of 8 or 16 bits as an array of rows and columns, and of
+    samples where there are several."""
     shape = (sides.height, sides.width) + ((color.samples,) if color.samples > 1 else ())
     return numpy.frombuffer(pixels, dtype=f"<u{color.bits // 8}").reshape(shape)
 

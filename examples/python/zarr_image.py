@@ -1,10 +1,12 @@
-"""A page of a TIFF file as an array of zarr, of which dask reads the chunks: no code of the package is between them.
+"""A page of a TIFF file as an array of zarr, of which dask reads the chunks: no code of the package
+is between them.
 
   python3 zarr_image.py map.tif
 
-prints the mean of the samples of the first page, which two processes on this machine work out. A chunk of the array is a strip or a tile, and a block of
-dask has several. Each process opens the file by its path, which goes there in place of the store.
-It wants the package mangohatch_tiff, numpy, zarr, dask and distributed.
+prints the mean of the samples of the first page, which two processes on this machine work out. A
+chunk of the array is a strip or a tile, and a block of dask has several. Each process opens the
+file by its path, which goes there in place of the store. It wants the package mangohatch_tiff,
+numpy, zarr, dask and distributed.
 """
 from __future__ import annotations
 

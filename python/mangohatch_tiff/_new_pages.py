@@ -89,8 +89,8 @@ class NewPage:
 
     The samples have rows, columns and the samples of a pixel; of packed pixels, rows, the bytes of
     a row and 1, and `columns` is how many pixels a row has. The resolution is the unit, and two
-    fractions along a row and along a column. A SubIFD has the number of its page, which comes before
-    it in the list, as `parent`; pages are numbered from 1.
+    fractions along a row and along a column. A SubIFD has the number of its page, which comes
+    before it in the list, as `parent`; pages are numbered from 1.
     """
 
     color: tuple[str, str]
@@ -183,7 +183,8 @@ class Written(NamedTuple):
 
 
 def write_image_into(size: int, page: NewPage, version: int) -> Written:
-    """Writes a file of one plain page, of which a new buffer gets what isn't the samples as such."""
+    """Writes a file of one plain page, of which a new buffer gets what isn't the samples as
+    such."""
     samples, (height, width) = page.samples, page.sides
     around, frame = numpy.empty(size, numpy.uint8), Frame()
     image = Image(
@@ -215,7 +216,8 @@ def write_pages_into(size: int, pages: list[NewPage], version: int) -> Written:
 
 
 def _write_pages(pages: list[NewPage], big: bool) -> list[memoryview]:
-    """Returns the bytes of a file of pages, in parts. One that is longer than its room takes two calls.
+    """Returns the bytes of a file of pages, in parts. One that is longer than its room takes two
+    calls.
 
     A page that is refused raises `PagesError`.
     """

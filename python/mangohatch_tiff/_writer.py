@@ -46,7 +46,8 @@ class TiffWriter(Closing):
     ) -> None:
         judge_others(others, "TiffWriter", OPENED)
         self._pages: list[NewPage] = []
-        # How many arrays of SubIFDs are to come, and the numbers of the waiting pages that get them.
+        # How many arrays of SubIFDs are to come, and the numbers of the waiting pages that get
+        # them.
         self._levels, self._parents = 0, range(0)
         self._big = bigtiff
         self._owned = isinstance(file, (str, os.PathLike))

@@ -1,4 +1,5 @@
-"""The library's lists are those that `tiffpage` prints, over the repository's files, cut and changed."""
+"""The library's lists are those that `tiffpage` prints, over the repository's files, cut and
+changed."""
 from __future__ import annotations
 
 import os

@@ -296,7 +296,8 @@ def read_by_libtiff(file: Path, place: int, like: numpy.ndarray) -> numpy.ndarra
 
 
 def read_by_pillow(file: bytes, place: int, bigtiff: bool) -> numpy.ndarray:
-    """Returns the image of the directory at an offset, to which the header of a copy links, as Pillow reads it."""
+    """Returns the image of the directory at an offset, to which the header of a copy links, as
+    Pillow reads it."""
     copy = bytearray(file)
     struct.pack_into(*("<Q", copy, 8) if bigtiff else ("<I", copy, 4), place)
     with Image.open(io.BytesIO(copy)) as image:
