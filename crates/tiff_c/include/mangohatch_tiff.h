@@ -1,4 +1,4 @@
-/* mangohatch_tiff.h - pages of TIFF files, read from memory; files of one image, written into memory
+/* mangohatch_tiff.h - reads pages of TIFF files from memory, and writes TIFF files into memory
 
    Copyright (c) 2018 PistonDevelopers (the Rust crate `tiff`, whose names and behaviour this library ports)
    Copyright (c) 2026 Mangohatch
@@ -7,7 +7,7 @@
 DESCRIPTION
     A file is FILE, LEN bytes of the caller's memory that hold the whole file. No call copies FILE,
     and no call keeps anything: each call that reads opens the file anew, reads the header and the
-    directories up to the page that the caller asks for, and frees all memory that it allocated.
+    directories up to PAGE, and frees all memory that it allocated.
     tiff_read_planned_chunk, tiff_read_planned_chunks, tiff_chunk_place and tiff_rewrite_chunk alone
     read no header and no directory, but what a plan says instead.
     FILE must stay unchanged during a call. Several threads may call at once, also on the same
@@ -16,8 +16,8 @@ DESCRIPTION
 
     PAGE is the number of a page, counted from 0 along the file's chain of directories; or
     TIFF_AT(OFFSET), the directory at that offset of the file. That directory need not be in the
-    chain: it may be one of tiff_list_directories, as a SubIFD or a preview. A call with a number walks
-    along the chain up to that page. A call with an offset doesn't: to visit all pages by the
+    chain: it may be one of tiff_list_directories, as a SubIFD or a preview. A call with a number
+    walks along the chain up to that page. A call with an offset doesn't: to visit all pages by the
     offsets that tiff_list_pages returns takes time that grows with the number of pages.
 
     The calls that read a tag treat TIFF_AT(OFFSET) in another way: they read that directory alone,
@@ -25,13 +25,13 @@ DESCRIPTION
     refuse, as of a color filter array (PhotometricInterpretation 32803), or of Exif. With a
     number, they read the tags of that page, and refuse it as the other calls do.
 
-    Each other call that reads opens the file by its header and asks for no other page than PAGE. So it
-    returns the error of a header that is refused, and then the error of PAGE: for a number behind
-    the end of the chain, the error by which the chain ends, else
+    Each other call that reads opens the file by its header and checks no other page than PAGE. So
+    it returns the error of a header that is refused, and then the error of PAGE: for a number
+    behind the end of the chain, the error by which the chain ends, else
     TIFF_IMAGE_FILE_DIRECTORY_NOT_FOUND; for an offset where FILE ends within the directory,
     TIFF_UNEXPECTED_EOF; else the first error of the page. Any call that reads or writes a file but
-    tiff_byte_order may return TIFF_OUT_OF_MEMORY. The comment of each call names the errors that come behind these. Of
-    several errors a call returns the first one.
+    tiff_byte_order may return TIFF_OUT_OF_MEMORY. The comment of each call names the errors that
+    come behind these. Of several errors a call returns the first one.
 
     A call that returns TIFF_DONE has written its result. A call that returns any other status
     leaves a struct or a number as it was; what it leaves in a buffer of bytes is not specified.
@@ -39,15 +39,14 @@ DESCRIPTION
     tiff_tag_text, tiff_rewrite_chunk, tiff_write_image, tiff_image_frame, tiff_write_jobs,
     tiff_write_pages and tiff_append_pages specify more.
 
-    A file may claim any size: call tiff_page_layout and judge its result before you allocate for
-    an image. The calls that read pixels have no limit for the size of a chunk in the file: they
-    write into BUFFER, and allocate for one row alone, which is as long as a row in BUFFER or as
-    the bytes of that row that FILE was found to have, or for rows of up to 256 KB that are read at
-    once.
-    A page may have 8,388,608 chunks. A tag that tiff_tag_number, tiff_tag_numbers or
-    tiff_tag_floats reads may have as many values, and a text that tiff_tag_text reads 268,435,456
-    bytes. For more, a call returns TIFF_LIMITS_EXCEEDED. These calls allocate for all values of
-    the tag, as many as FILE was found to have.
+    A file may claim any size: call tiff_page_layout and check its result before you allocate for an
+    image. The calls that read pixels have no limit for the size of a chunk in the file: they write
+    into BUFFER, and allocate for one row alone, which is as long as a row in BUFFER or as the bytes
+    of that row that FILE was found to have, or for rows of up to 256 KB that are read at once. A
+    page may have 8,388,608 chunks. A tag that tiff_tag_number, tiff_tag_numbers or tiff_tag_floats
+    reads may have as many values, and a text that tiff_tag_text reads 268,435,456 bytes. For more,
+    a call returns TIFF_LIMITS_EXCEEDED. These calls allocate for all values of the tag, as many as
+    FILE was found to have.
 
 POINTERS
     No pointer may be null, not even with a length of 0, nor in a struct: pass the address of any
@@ -89,8 +88,8 @@ enum {
     TIFF_LIMITS_EXCEEDED = 1, /* decoder limits exceeded */
     TIFF_INT_SIZE_ERROR = 2, /* platform or format size limits exceeded */
     TIFF_OUT_OF_MEMORY = 3, /* out of memory */
-    TIFF_LATER_FAULT = 4, /* an error that has no number yet; no call returns it */
-    TIFF_BYTES_WANTED = 5, /* bytes of the file that no window has; only calls on windows return it */
+    TIFF_LATER_FAULT = 4, /* a fault that has no number yet; no call returns it */
+    TIFF_BYTES_WANTED = 5, /* bytes of the file are wanted; only calls on windows return it */
     /* the bytes */
     TIFF_UNEXPECTED_EOF = 10, /* unexpected end of file */
     TIFF_INVALID_DATA = 11, /* invalid data */
@@ -114,11 +113,12 @@ enum {
     TIFF_CYCLE_IN_OFFSETS = 33, /* file contained a cycle in the list of IFDs */
     TIFF_SAMPLES_PER_PIXEL_IS_ZERO = 34, /* samples per pixel is zero */
     TIFF_COMPRESSED_DATA_CORRUPT = 35, /* compressed data is corrupt */
-    /* the file asks for what is not supported */
+    /* the file needs what is not supported */
     TIFF_FLOATING_POINT_PREDICTOR = 40, /* floating point predictor is unsupported */
     TIFF_HORIZONTAL_PREDICTOR = 41, /* horizontal predictor is unsupported for this color */
     TIFF_INCONSISTENT_BITS_PER_SAMPLE = 42, /* inconsistent bits per sample */
-    TIFF_INTERPRETATION_WITH_BITS = 43, /* photometric interpretation with these bits per sample is unsupported */
+    TIFF_INTERPRETATION_WITH_BITS = 43, /* photometric interpretation with these bits per sample is
+                                           unsupported */
     TIFF_UNKNOWN_INTERPRETATION = 44, /* unknown photometric interpretation */
     TIFF_UNKNOWN_COMPRESSION_METHOD = 45, /* unknown compression method */
     TIFF_UNSUPPORTED_COMPRESSION_METHOD = 46, /* compression method is unsupported */
@@ -142,9 +142,11 @@ enum {
     TIFF_INSUFFICIENT_OUTPUT_BUFFER_SIZE = 67, /* the output buffer is not large enough */
     TIFF_INSUFFICIENT_OUTPUT_ROW_STRIDE = 68, /* the output row stride would alias rows */
     TIFF_ZERO_IFD_POINTER = 69, /* the offset 0 can not point to a valid IFD */
-    TIFF_RECONFIGURED_AFTER_IMAGE_WRITE = 70, /* encoder reconfigured after image writing has started */
+    TIFF_RECONFIGURED_AFTER_IMAGE_WRITE = 70, /* encoder reconfigured after image writing has
+                                                 started */
     TIFF_BYTE_ORDER_MISMATCH = 71, /* data of another byte order */
-    TIFF_MISMATCHED_ENTRY_LENGTH = 72, /* the length of data is not a multiple of the size of its type */
+    TIFF_MISMATCHED_ENTRY_LENGTH = 72, /* the length of data is not a multiple of the size of its
+                                          type */
     TIFF_PARENT_NOT_WRITTEN = 73, /* the parent's link lies outside what was written */
     TIFF_WRITER_FAILED = 74, /* an earlier write failed */
 };
@@ -171,7 +173,8 @@ tiff_status tiff_page_sides(const uint8_t *file, size_t len, size_t page, struct
    planes as fit whole into BUFFER. The bytes of BUFFER behind what the call reads stay. Errors, in
    this order: the first error of the page's color or its layout; a BUFFER shorter than one plane,
    TIFF_INSUFFICIENT_OUTPUT_BUFFER_SIZE; the first error of a chunk. */
-tiff_status tiff_read_image_bytes(const uint8_t *file, size_t len, size_t page, uint8_t *buffer, size_t size);
+tiff_status tiff_read_image_bytes(const uint8_t *file, size_t len, size_t page, uint8_t *buffer,
+                                  size_t size);
 
 /* How many bytes the image of a page has: LEN those of one plane, COMPLETE_LEN those of all planes.
    For a chunky page both are the same. tiff_page_layout puts them into *LAYOUT; it returns an error
@@ -180,7 +183,8 @@ struct tiff_layout {
     size_t len;
     size_t complete_len;
 };
-tiff_status tiff_page_layout(const uint8_t *file, size_t len, size_t page, struct tiff_layout *layout);
+tiff_status tiff_page_layout(const uint8_t *file, size_t len, size_t page,
+                             struct tiff_layout *layout);
 
 /* The color of a page: its kind, the bits of a sample, and how many samples a pixel shows.
    tiff_page_color puts them into *COLOR; a page that has no color,
@@ -224,7 +228,8 @@ struct tiff_samples {
     uint32_t planes;
     uint32_t inverted;
 };
-tiff_status tiff_page_samples(const uint8_t *file, size_t len, size_t page, struct tiff_samples *samples);
+tiff_status tiff_page_samples(const uint8_t *file, size_t len, size_t page,
+                              struct tiff_samples *samples);
 
 /* The chunks of a page, in all planes: their kind, how many there are, and the width and the height
    of one in pixels, before chunks at the edges of the image are cut. tiff_page_chunks puts them
@@ -239,7 +244,8 @@ struct tiff_chunks {
     uint32_t width;
     uint32_t height;
 };
-tiff_status tiff_page_chunks(const uint8_t *file, size_t len, size_t page, struct tiff_chunks *chunks);
+tiff_status tiff_page_chunks(const uint8_t *file, size_t len, size_t page,
+                             struct tiff_chunks *chunks);
 
 /* A page in a list of pages: the offset of its directory in the file, and its facts, as the calls
    on a page return them. For a page that is refused, STATUS is its first error, and all members
@@ -265,16 +271,17 @@ struct tiff_listed_page {
    ends by a link of 0, else the error by which the chain ends. If it lists nothing, *COUNT is 0
    and PAGES stays; it then returns the error of the header, that of a first directory that can't
    be read, or TIFF_OUT_OF_MEMORY. */
-tiff_status tiff_list_pages(const uint8_t *file, size_t len, struct tiff_listed_page *pages, size_t room, size_t *count);
+tiff_status tiff_list_pages(const uint8_t *file, size_t len, struct tiff_listed_page *pages,
+                            size_t room, size_t *count);
 
 /* A place where a directory is named: by a link of the chain, or by a value of a tag. OFFSET is
    that of the directory, for TIFF_AT(OFFSET). DEPTH is 0 in the chain, and TAG and PARENT are then
    0; else TAG is the number of the tag, PARENT the offset of the directory with that tag, and DEPTH
    one more than there. FOUND is what is found at OFFSET. Of a directory, FIELDS is how many tags it
-   has, and PAGE its page as tiff_list_pages lists it; a directory without an image, as that of Exif,
-   is refused as a page, which PAGE.STATUS then says. STATUS is the error by which the directory or
-   the values of TAG can't be read, else 0; for values, OFFSET is PARENT. Where FOUND isn't
-   TIFF_DIRECTORY, FIELDS and all members of PAGE are 0. */
+   has, and PAGE its page as tiff_list_pages lists it; a directory without an image, as that of
+   Exif, is refused as a page, which PAGE.STATUS then says. STATUS is the error by which the
+   directory or the values of TAG can't be read, else 0; for values, OFFSET is PARENT. Where FOUND
+   isn't TIFF_DIRECTORY, FIELDS and all members of PAGE are 0. */
 enum {
     TIFF_DIRECTORY = 0,
     TIFF_DIRECTORY_ERROR = 1,    /* the directory can't be read */
@@ -301,25 +308,29 @@ struct tiff_listed_directory {
    chain. A directory is listed once, nearest to the chain and then first in this order; elsewhere
    it is TIFF_DIRECTORY_MET. The deepest that is read has DEPTH 8. The elements of DIRECTORIES
    behind the list stay. *COUNT is how long the list is, even if ROOM is less; with a ROOM of 0 the
-   call just counts. It allocates for the whole list in each case. Tags have at most 1,048,576 values
-   in all: one with more than are left is TIFF_VALUES_ERROR with the STATUS TIFF_LIMITS_EXCEEDED. It
-   returns TIFF_DONE if the chain ends by a link of 0, else the error by which the chain ends. If it
-   lists nothing, *COUNT is 0 and DIRECTORIES stays; it then returns the error of the header, that of
-   a first directory that can't be read, or TIFF_OUT_OF_MEMORY. */
-tiff_status tiff_list_directories(const uint8_t *file, size_t len, struct tiff_listed_directory *directories, size_t room, size_t *count);
+   call just counts. It allocates for the whole list in each case. Tags have at most 1,048,576
+   values in all: one with more than are left is TIFF_VALUES_ERROR with the STATUS
+   TIFF_LIMITS_EXCEEDED. It returns TIFF_DONE if the chain ends by a link of 0, else the error by
+   which the chain ends. If it lists nothing, *COUNT is 0 and DIRECTORIES stays; it then returns the
+   error of the header, that of a first directory that can't be read, or TIFF_OUT_OF_MEMORY. */
+tiff_status tiff_list_directories(const uint8_t *file, size_t len,
+                                  struct tiff_listed_directory *directories, size_t room,
+                                  size_t *count);
 
 /* Reads the chunk with the number CHUNK, counted from 0, into BUFFER: as it is in the image, cut at
    its edges, and in one plane. The other bytes of BUFFER stay. Errors, in this order: the first
    error of the page's color or its layout; a BUFFER shorter than the chunk,
    TIFF_INSUFFICIENT_OUTPUT_BUFFER_SIZE; the first error of the chunk. */
-tiff_status tiff_read_chunk_bytes(const uint8_t *file, size_t len, size_t page, uint32_t chunk, uint8_t *buffer, size_t size);
+tiff_status tiff_read_chunk_bytes(const uint8_t *file, size_t len, size_t page, uint32_t chunk,
+                                  uint8_t *buffer, size_t size);
 
 /* Reads COUNT chunks from the number FIRST on into BUFFER, one behind the other, each as
    tiff_read_chunk_bytes reads it. The bytes of BUFFER behind them stay. The call opens the file
    once. Errors: FIRST + COUNT of 2^32 or more, TIFF_INVALID_CHUNK_INDEX; then, chunk by chunk,
    samples without a number type, as complex ones, TIFF_UNSUPPORTED_SAMPLE_FORMAT, and those of
    tiff_read_chunk_bytes, for the bytes of BUFFER that are left. */
-tiff_status tiff_read_chunks(const uint8_t *file, size_t len, size_t page, uint32_t first, uint32_t count, uint8_t *buffer, size_t size);
+tiff_status tiff_read_chunks(const uint8_t *file, size_t len, size_t page, uint32_t first,
+                             uint32_t count, uint8_t *buffer, size_t size);
 
 /* The plan of a page: what its tags define, without the lists of its chunks, which may be long.
    OFFSETS and BYTE_COUNTS say of both lists how many numbers they have, the eight bytes of the
@@ -358,20 +369,24 @@ struct tiff_page_plan {
     uint16_t offsets_type;
     uint16_t byte_counts_type;
 };
-tiff_status tiff_page_plan(const uint8_t *file, size_t len, size_t page, struct tiff_page_plan *plan);
+tiff_status tiff_page_plan(const uint8_t *file, size_t len, size_t page,
+                           struct tiff_page_plan *plan);
 
-/* Reads the chunk with the number CHUNK, counted from 0, into BUFFER, as tiff_read_chunk_bytes reads
-   it of the page that PLAN is of. The call opens no page, and reads of both lists the numbers of
-   this chunk alone: a chunk takes the same time however many the page has. Any *PLAN is safe. Errors
-   of a *PLAN that tiff_page_plan wrote for this FILE: those of tiff_read_chunk_bytes. Of any other,
-   in this order: a VERSION, TIFF_SIGNATURE_INVALID; an ORDER, TIFF_INVALID_INPUT; a PHOTOMETRIC,
-   TIFF_UNKNOWN_INTERPRETATION; a FIRST_EXTRA or more than 255 BITS, TIFF_INVALID_INPUT; a PREDICTOR,
-   TIFF_UNKNOWN_PREDICTOR; a PLANAR, TIFF_UNKNOWN_PLANAR_CONFIGURATION; a CHUNK_KIND,
-   TIFF_INVALID_INPUT; a type of a list, TIFF_INVALID_TYPE_FOR_TAG; sizes that no page has,
-   TIFF_INCONSISTENT_SIZES_ENCOUNTERED; the error of reading the chunk's offset, then its byte count,
-   TIFF_INVALID_TYPE_FOR_TAG, TIFF_LIMITS_EXCEEDED, TIFF_INCONSISTENT_SIZES_ENCOUNTERED or
-   TIFF_UNEXPECTED_EOF; then those of tiff_read_chunk_bytes. */
-tiff_status tiff_read_planned_chunk(const uint8_t *file, size_t len, const struct tiff_page_plan *plan, uint32_t chunk, uint8_t *buffer, size_t size);
+/* Reads the chunk with the number CHUNK, counted from 0, into BUFFER, as tiff_read_chunk_bytes
+   reads it of the page that PLAN is of. The call opens no page, and reads of both lists the numbers
+   of this chunk alone: a chunk takes the same time however many the page has. Any *PLAN is safe.
+   Errors of a *PLAN that tiff_page_plan wrote for this FILE: those of tiff_read_chunk_bytes. Of any
+   other, in this order: a VERSION, TIFF_SIGNATURE_INVALID; an ORDER, TIFF_INVALID_INPUT; a
+   PHOTOMETRIC, TIFF_UNKNOWN_INTERPRETATION; a FIRST_EXTRA or more than 255 BITS,
+   TIFF_INVALID_INPUT; a PREDICTOR, TIFF_UNKNOWN_PREDICTOR; a PLANAR,
+   TIFF_UNKNOWN_PLANAR_CONFIGURATION; a CHUNK_KIND, TIFF_INVALID_INPUT; a type of a list,
+   TIFF_INVALID_TYPE_FOR_TAG; sizes that no page has, TIFF_INCONSISTENT_SIZES_ENCOUNTERED; the error
+   of reading the chunk's offset, then its byte count, TIFF_INVALID_TYPE_FOR_TAG,
+   TIFF_LIMITS_EXCEEDED, TIFF_INCONSISTENT_SIZES_ENCOUNTERED or TIFF_UNEXPECTED_EOF; then those of
+   tiff_read_chunk_bytes. */
+tiff_status tiff_read_planned_chunk(const uint8_t *file, size_t len,
+                                    const struct tiff_page_plan *plan, uint32_t chunk,
+                                    uint8_t *buffer, size_t size);
 
 /* Reads COUNT chunks from the number FIRST on into BUFFER, one behind the other, each as
    tiff_read_planned_chunk reads it: as tiff_read_chunks reads them of the page that PLAN is of, but
@@ -383,7 +398,9 @@ tiff_status tiff_read_planned_chunk(const uint8_t *file, size_t len, const struc
    without a number type, as complex ones, TIFF_UNSUPPORTED_SAMPLE_FORMAT; fewer bytes of BUFFER
    left than the chunk has, TIFF_INSUFFICIENT_OUTPUT_BUFFER_SIZE; the error of reading its offset or
    its byte count; the first error of the chunk. */
-tiff_status tiff_read_planned_chunks(const uint8_t *file, size_t len, const struct tiff_page_plan *plan, uint32_t first, uint32_t count, uint8_t *buffer, size_t size);
+tiff_status tiff_read_planned_chunks(const uint8_t *file, size_t len,
+                                     const struct tiff_page_plan *plan, uint32_t first,
+                                     uint32_t count, uint8_t *buffer, size_t size);
 
 /* Where a chunk is in FILE: its offset and its byte count, as the tags of the page have them.
    tiff_chunk_place puts it into *PLACE for the chunk with the number CHUNK, counted from 0, of the
@@ -394,30 +411,34 @@ struct tiff_chunk_place {
     uint64_t offset;
     uint64_t byte_count;
 };
-tiff_status tiff_chunk_place(const uint8_t *file, size_t len, const struct tiff_page_plan *plan, uint32_t chunk, struct tiff_chunk_place *place);
+tiff_status tiff_chunk_place(const uint8_t *file, size_t len, const struct tiff_page_plan *plan,
+                             uint32_t chunk, struct tiff_chunk_place *place);
 
-/* Makes the bytes that FILE has of the chunk with the number CHUNK from new samples, so that one chunk
-   of a file can be changed in place. SAMPLES are COUNT bytes, as tiff_read_planned_chunk gives them of
-   this chunk. STORED is SIZE bytes: before the call a copy of those of FILE from the chunk's offset
-   on, as many as its byte count says, or more; after it the new bytes of the same place. What no sample
-   needs stays as it is: the parts of a tile outside the image, and samples that the calls which read
-   pixels leave out. The call changes nothing in FILE. Once the caller has written STORED at the
-   offset, a read of the chunk gives SAMPLES, and every chunk of whose bytes none was overwritten is as
-   it was. A page whose PLAN is changed, or whose chunks overlap, is the caller's to see to.
-   Errors: those of a *PLAN, as tiff_chunk_place; the page's color or its layout, as
+/* Makes the bytes that FILE has of the chunk with the number CHUNK from new samples, so that one
+   chunk of a file can be changed in place. SAMPLES are COUNT bytes, as tiff_read_planned_chunk
+   gives them of this chunk. STORED is SIZE bytes: before the call a copy of those of FILE from the
+   chunk's offset on, as many as its byte count says, or more; after it the new bytes of the same
+   place. What no sample needs stays as it is: the parts of a tile outside the image, and samples
+   that the calls which read pixels leave out. The call changes nothing in FILE. Once the caller has
+   written STORED at the offset, a read of the chunk gives SAMPLES, and every chunk of whose bytes
+   none was overwritten is as it was. The call doesn't notice a PLAN that was changed, or chunks
+   that overlap. Errors: those of a *PLAN, as tiff_chunk_place; the page's color or its layout, as
    tiff_read_planned_chunk; a COUNT that isn't the chunk's, TIFF_INVALID_DATA; the chunk's form, as
-   tiff_read_planned_chunk; data that are packed, TIFF_UNSUPPORTED_COMPRESSION_METHOD; the byte-plane
-   predictor, TIFF_FLOATING_POINT_PREDICTOR; rows that need 2^64 bytes or more, TIFF_LIMITS_EXCEEDED;
-   a SIZE that is below what the rows need, TIFF_INSUFFICIENT_OUTPUT_BUFFER_SIZE. An error leaves STORED
-   as it was. */
-tiff_status tiff_rewrite_chunk(const uint8_t *file, size_t len, const struct tiff_page_plan *plan, uint32_t chunk, const uint8_t *samples, size_t count, uint8_t *stored, size_t size);
+   tiff_read_planned_chunk; data that are packed, TIFF_UNSUPPORTED_COMPRESSION_METHOD; the
+   byte-plane predictor, TIFF_FLOATING_POINT_PREDICTOR; rows that need 2^64 bytes or more,
+   TIFF_LIMITS_EXCEEDED; a SIZE that is below what the rows need,
+   TIFF_INSUFFICIENT_OUTPUT_BUFFER_SIZE. An error leaves STORED as it was. */
+tiff_status tiff_rewrite_chunk(const uint8_t *file, size_t len, const struct tiff_page_plan *plan,
+                               uint32_t chunk, const uint8_t *samples, size_t count,
+                               uint8_t *stored, size_t size);
 
 /* Reads the coding unit with the number UNIT, counted from 0: a chunk of the first plane and the
    chunks of the other planes that cover the same pixels, one behind the other, as many as fit whole
    into BUFFER. The other bytes of BUFFER stay. Errors, in this order: the first error of the page's
    color or its layout; no such unit, TIFF_INVALID_CODING_UNIT; a BUFFER shorter than the chunk of
    one plane, TIFF_INSUFFICIENT_OUTPUT_BUFFER_SIZE; the first error of a chunk. */
-tiff_status tiff_read_coding_unit_bytes(const uint8_t *file, size_t len, size_t page, uint32_t unit, uint8_t *buffer, size_t size);
+tiff_status tiff_read_coding_unit_bytes(const uint8_t *file, size_t len, size_t page, uint32_t unit,
+                                        uint8_t *buffer, size_t size);
 
 /* The field of a tag of a page: the number of its type, and how many values it has.
    tiff_tag_field finds it by the tag's number and puts it into *FIELD; no such tag,
@@ -426,13 +447,15 @@ struct tiff_field {
     uint32_t kind;
     uint64_t count;
 };
-tiff_status tiff_tag_field(const uint8_t *file, size_t len, size_t page, uint16_t tag, struct tiff_field *field);
+tiff_status tiff_tag_field(const uint8_t *file, size_t len, size_t page, uint16_t tag,
+                           struct tiff_field *field);
 
 /* Puts the value of a tag of a page, found by the tag's number, into *NUMBER. With tag 259 the
    value is the compression (1: none, 32773: PackBits; no such tag: none). Errors: no such tag,
    TIFF_REQUIRED_TAG_NOT_FOUND; values that reach behind the end of FILE, TIFF_UNEXPECTED_EOF;
    several values, or one that is no unsigned number, TIFF_INVALID_TYPE_FOR_TAG. */
-tiff_status tiff_tag_number(const uint8_t *file, size_t len, size_t page, uint16_t tag, uint64_t *number);
+tiff_status tiff_tag_number(const uint8_t *file, size_t len, size_t page, uint16_t tag,
+                            uint64_t *number);
 
 /* Copies the bytes of the values of a tag of a page into BUFFER, from byte AT on, as many as SIZE
    allows; *WRITTEN is how many. AT counts from 0; from the end of the values on, the call copies
@@ -440,8 +463,8 @@ tiff_status tiff_tag_number(const uint8_t *file, size_t len, size_t page, uint16
    stay. The values have in all as many bytes as tiff_tag_field counts values, times the size of
    their type. Errors: no such tag, TIFF_REQUIRED_TAG_NOT_FOUND; values of 2^64 bytes or more,
    TIFF_LIMITS_EXCEEDED; bytes to copy that lie behind the end of FILE, TIFF_UNEXPECTED_EOF. */
-tiff_status tiff_tag_bytes(const uint8_t *file, size_t len, size_t page, uint16_t tag, uint64_t at, uint8_t *buffer, size_t size,
-                           size_t *written);
+tiff_status tiff_tag_bytes(const uint8_t *file, size_t len, size_t page, uint16_t tag, uint64_t at,
+                           uint8_t *buffer, size_t size, size_t *written);
 
 /* Puts the values of a tag of a page into NUMBERS, as numbers of the machine: from the first one
    on, as many as ROOM allows. The elements of NUMBERS behind them stay. *COUNT is how many values
@@ -451,7 +474,8 @@ tiff_status tiff_tag_bytes(const uint8_t *file, size_t len, size_t page, uint16_
    values that reach behind the end of FILE, TIFF_UNEXPECTED_EOF; any other type, or several
    RATIONALs, TIFF_INVALID_TYPE_FOR_TAG. Any status but TIFF_DONE leaves NUMBERS and *COUNT as they
    were. */
-tiff_status tiff_tag_numbers(const uint8_t *file, size_t len, size_t page, uint16_t tag, uint64_t *numbers, size_t room, size_t *count);
+tiff_status tiff_tag_numbers(const uint8_t *file, size_t len, size_t page, uint16_t tag,
+                             uint64_t *numbers, size_t room, size_t *count);
 
 /* Puts the values of a tag of a page, of the type DOUBLE, into NUMBERS: from the first one on, as
    many as ROOM allows. GeoTIFF's ModelTiepointTag (33922) has such values. The elements of NUMBERS
@@ -459,7 +483,8 @@ tiff_status tiff_tag_numbers(const uint8_t *file, size_t len, size_t page, uint1
    TIFF_REQUIRED_TAG_NOT_FOUND; values that reach behind the end of FILE, TIFF_UNEXPECTED_EOF; any
    other type, FLOAT too, TIFF_INVALID_TYPE_FOR_TAG. Any status but TIFF_DONE leaves NUMBERS and
    *COUNT as they were. */
-tiff_status tiff_tag_floats(const uint8_t *file, size_t len, size_t page, uint16_t tag, double *numbers, size_t room, size_t *count);
+tiff_status tiff_tag_floats(const uint8_t *file, size_t len, size_t page, uint16_t tag,
+                            double *numbers, size_t room, size_t *count);
 
 /* Puts the text of a tag of a page, of the type ASCII, into TEXT: as many bytes as SIZE allows,
    with no zero behind them. The bytes of TEXT behind them stay. *LEN_OF_TEXT is how many bytes the
@@ -470,11 +495,13 @@ tiff_status tiff_tag_floats(const uint8_t *file, size_t len, size_t page, uint16
    text that isn't as above, TIFF_INVALID_TAG; any other type, or no values,
    TIFF_INVALID_TYPE_FOR_TAG. Any status but TIFF_DONE leaves TEXT and *LEN_OF_TEXT as they were.
    tiff_tag_bytes copies the bytes of any text as they are in the file. */
-tiff_status tiff_tag_text(const uint8_t *file, size_t len, size_t page, uint16_t tag, uint8_t *text, size_t size, size_t *len_of_text);
+tiff_status tiff_tag_text(const uint8_t *file, size_t len, size_t page, uint16_t tag, uint8_t *text,
+                          size_t size, size_t *len_of_text);
 
 /* An entry of a directory: its tag, the type and the count of its values, as tiff_tag_field returns
    them, and where the values are. IN_PLACE is 1 if they are in the entry itself; then OFFSET is 0.
-   Else IN_PLACE is 0, and OFFSET is where they are in the file, or would be if the file had them. */
+   Else IN_PLACE is 0, and OFFSET is where they are in the file, or would be if the file had
+   them. */
 struct tiff_tag_entry {
     uint64_t count;
     uint64_t offset;
@@ -487,7 +514,8 @@ struct tiff_tag_entry {
    many as ROOM allows. The elements of ENTRIES behind them stay. *COUNT is how many tags there are,
    even if ROOM is less. Of several entries of one tag the last one counts, and entries of unknown
    types are left out. Any status but TIFF_DONE leaves ENTRIES and *COUNT as they were. */
-tiff_status tiff_list_tags(const uint8_t *file, size_t len, size_t page, struct tiff_tag_entry *entries, size_t room, size_t *count);
+tiff_status tiff_list_tags(const uint8_t *file, size_t len, size_t page,
+                           struct tiff_tag_entry *entries, size_t room, size_t *count);
 
 /* The byte order of a file, which tiff_byte_order puts into *ORDER. It reads the header alone, and
    allocates nothing. */
@@ -498,18 +526,18 @@ enum {
 tiff_status tiff_byte_order(const uint8_t *file, size_t len, uint32_t *order);
 
 /* FILES THAT AREN'T IN MEMORY
-   A window is SIZE bytes of a file, from its offset on, which the caller has read. A struct
-   tiff_windows is what the caller has of a file: the LEN bytes of the whole file, which it knows, and
-   COUNT windows in ascending order, which lie in the file and don't overlap. The calls below do what
-   the ones without _in do on the whole file. Each begins anew, so a chunk whose data are packed is
-   unpacked from its start once for each answer that wants more: fetch all of its bytes at once.
-   If a call needs a byte that no window has, it returns TIFF_BYTES_WANTED and puts what it needs next
-   into *WANTED: at least one byte, the first of which no window has. The caller reads these bytes, or
-   more around them, as whole pages of 4 or 64 KB, adds a window, and calls again. As each such answer
-   names a byte that is new, the calls come to an end. Any other status is the whole file's, and so is
-   what the call leaves: that holds for every file that the windows are of. Windows in another order,
-   that overlap or that pass LEN are refused: TIFF_INVALID_INPUT. With these two statuses a list has a
-   *COUNT of 0. */
+   A window is SIZE bytes of a file, from its OFFSET on, which the caller has read. A struct
+   tiff_windows is what the caller has of a file: the LEN bytes of the whole file, which it knows,
+   and COUNT windows in ascending order, which lie in the file and don't overlap. The calls below do
+   what the ones without _in do on the whole file. Each begins anew, so a chunk whose data are
+   packed is unpacked from its start by each of them: fetch all of its bytes at once. If a call
+   needs a byte that no window has, it returns TIFF_BYTES_WANTED and puts what it needs next into
+   *WANTED: at least one byte, the first of which no window has. The caller reads these bytes, or
+   more around them, as whole pages of 4 or 64 KB, adds a window, and calls again. As each such call
+   names a byte that is new, the calls come to an end. Any other status is the whole file's, and so
+   is what the call leaves: that holds for every file that the windows are of. Windows in another
+   order, that overlap or that pass LEN are refused: TIFF_INVALID_INPUT. With these two statuses a
+   list has a *COUNT of 0. */
 struct tiff_window {
     uint64_t offset;
     const uint8_t *bytes;
@@ -526,25 +554,38 @@ struct tiff_stretch {
 };
 
 /* As tiff_list_pages. */
-tiff_status tiff_list_pages_in(const struct tiff_windows *seen, struct tiff_listed_page *pages, size_t room, size_t *count, struct tiff_stretch *wanted);
+tiff_status tiff_list_pages_in(const struct tiff_windows *seen, struct tiff_listed_page *pages,
+                               size_t room, size_t *count, struct tiff_stretch *wanted);
 
 /* As tiff_list_directories. */
-tiff_status tiff_list_directories_in(const struct tiff_windows *seen, struct tiff_listed_directory *directories, size_t room, size_t *count, struct tiff_stretch *wanted);
+tiff_status tiff_list_directories_in(const struct tiff_windows *seen,
+                                     struct tiff_listed_directory *directories, size_t room,
+                                     size_t *count, struct tiff_stretch *wanted);
 
-/* As tiff_list_tags and tiff_tag_bytes with TIFF_AT, also for a number: whether the directory is a
-   page isn't asked. */
-tiff_status tiff_list_tags_in(const struct tiff_windows *seen, size_t page, struct tiff_tag_entry *entries, size_t room, size_t *count, struct tiff_stretch *wanted);
-tiff_status tiff_tag_bytes_in(const struct tiff_windows *seen, size_t page, uint16_t tag, uint64_t at, uint8_t *buffer, size_t size, size_t *written, struct tiff_stretch *wanted);
+/* As tiff_list_tags and tiff_tag_bytes with TIFF_AT, also for a number: the directory need not be a
+   page. */
+tiff_status tiff_list_tags_in(const struct tiff_windows *seen, size_t page,
+                              struct tiff_tag_entry *entries, size_t room, size_t *count,
+                              struct tiff_stretch *wanted);
+tiff_status tiff_tag_bytes_in(const struct tiff_windows *seen, size_t page, uint16_t tag,
+                              uint64_t at, uint8_t *buffer, size_t size, size_t *written,
+                              struct tiff_stretch *wanted);
 
 /* As tiff_page_plan. */
-tiff_status tiff_page_plan_in(const struct tiff_windows *seen, size_t page, struct tiff_page_plan *plan, struct tiff_stretch *wanted);
+tiff_status tiff_page_plan_in(const struct tiff_windows *seen, size_t page,
+                              struct tiff_page_plan *plan, struct tiff_stretch *wanted);
 
 /* As tiff_read_planned_chunk. */
-tiff_status tiff_read_planned_chunk_in(const struct tiff_windows *seen, const struct tiff_page_plan *plan, uint32_t chunk, uint8_t *buffer, size_t size, struct tiff_stretch *wanted);
+tiff_status tiff_read_planned_chunk_in(const struct tiff_windows *seen,
+                                       const struct tiff_page_plan *plan, uint32_t chunk,
+                                       uint8_t *buffer, size_t size, struct tiff_stretch *wanted);
 
-/* As tiff_read_planned_chunks. Each answer that wants more reads the chunks before it again, so fetch
-   the bytes of all of them at once. */
-tiff_status tiff_read_planned_chunks_in(const struct tiff_windows *seen, const struct tiff_page_plan *plan, uint32_t first, uint32_t count, uint8_t *buffer, size_t size, struct tiff_stretch *wanted);
+/* As tiff_read_planned_chunks. Each call begins with the first chunk, so fetch the bytes of all
+   chunks at once. */
+tiff_status tiff_read_planned_chunks_in(const struct tiff_windows *seen,
+                                        const struct tiff_page_plan *plan, uint32_t first,
+                                        uint32_t count, uint8_t *buffer, size_t size,
+                                        struct tiff_stretch *wanted);
 
 /* How to write an image: its color type; its width and its height, in pixels; the version in the
    header of its file; the values of its tags Compression and Predictor. */
@@ -581,9 +622,9 @@ enum {
     TIFF_CMYK64_FLOAT = 27,
     TIFF_YCBCR8 = 28, /* chroma not subsampled */
     TIFF_CMYKA8 = 29,
-    /* packed pixels of 1, 2 and 4 bits: a sample is a byte of pixels of one row, the leftmost in the
-       most significant bits. A row has as many bytes as its pixels fill, the last one partly. 0 is
-       black. They have strips, no extra samples and no predictor */
+    /* packed pixels of 1, 2 and 4 bits: a sample is a byte of pixels of one row, the leftmost in
+       the most significant bits. A row has as many bytes as its pixels fill, the last one partly. 0
+       is black. They have strips, no extra samples and no predictor */
     TIFF_GRAY1 = 30,
     TIFF_GRAY2 = 31,
     TIFF_GRAY4 = 32,
@@ -595,7 +636,8 @@ enum {
     TIFF_PACKBITS = 32773,
     /* the predictors */
     TIFF_NO_PREDICTOR = 1,
-    TIFF_HORIZONTAL = 2, /* differences; not for floating-point samples. Many readers don't undo them without LZW or Deflate */
+    TIFF_HORIZONTAL = 2, /* differences; not for floating-point samples. Many readers undo them only
+                            with LZW or Deflate */
 };
 struct tiff_image {
     uint32_t color;
@@ -612,8 +654,8 @@ struct tiff_image {
    The call ignores samples behind those of the image. The bytes of BUFFER behind the file stay.
 
    A BUFFER that is too short: TIFF_INSUFFICIENT_OUTPUT_BUFFER_SIZE, and *LEN is set all the same.
-   So a first call with a SIZE of 0 returns the length. It takes as long as a call that writes, or
-   less if there is neither a compression nor a predictor.
+   So a first call with a SIZE of 0 returns the length. It takes as long as a call that writes;
+   without a compression and a predictor it takes less.
 
    With a compression or a predictor the call makes the file in memory. Without both it allocates a
    strip and what the file has before and behind SAMPLES, if SAMPLES are exactly those of the image.
@@ -625,10 +667,11 @@ struct tiff_image {
    TIFF_UNKNOWN_PREDICTOR; SAMPLES_LEN that is no whole number of samples,
    TIFF_MISMATCHED_ENTRY_LENGTH; a side of 0, TIFF_INVALID_DIMENSIONS; the horizontal predictor with
    floating-point samples or packed pixels, TIFF_PREDICTOR_INCOMPATIBLE, and predictor 3,
-   TIFF_PREDICTOR_UNAVAILABLE; 2^64 samples or more, TIFF_INVALID_INPUT; too few samples, TIFF_INVALID_DATA; a file that its
-   kind can't hold, TIFF_INT_SIZE_ERROR; and at last a BUFFER that is too short. */
-tiff_status tiff_write_image(const struct tiff_image *image, const uint8_t *samples, size_t samples_len, uint8_t *buffer, size_t size,
-                             size_t *len);
+   TIFF_PREDICTOR_UNAVAILABLE; 2^64 samples or more, TIFF_INVALID_INPUT; too few samples,
+   TIFF_INVALID_DATA; a file that its kind can't hold, TIFF_INT_SIZE_ERROR; and at last a BUFFER
+   that is too short. */
+tiff_status tiff_write_image(const struct tiff_image *image, const uint8_t *samples,
+                             size_t samples_len, uint8_t *buffer, size_t size, size_t *len);
 
 /* How many bytes a file of one image has before the samples that were passed, how many these have,
    and how many it has behind them. */
@@ -638,17 +681,18 @@ struct tiff_frame {
     size_t behind;
 };
 
-/* As tiff_write_image, but without a copy of SAMPLES: puts into BUFFER, of SIZE bytes, only the bytes
-   of the file before SAMPLES and, behind these, those behind SAMPLES. *FRAME is how many there are:
-   the file is the first FRAME->front bytes of BUFFER, then the first FRAME->samples bytes of SAMPLES,
-   then the next FRAME->behind bytes of BUFFER. A BUFFER of 4096 bytes is enough for an image of a few
-   strips; each strip takes 8 bytes, or 16 in a BigTIFF file.
+/* As tiff_write_image, but without a copy of SAMPLES: puts into BUFFER, of SIZE bytes, only the
+   bytes of the file before SAMPLES and, behind these, those behind SAMPLES. *FRAME is how many
+   there are: the file is the first FRAME->front bytes of BUFFER, then the first FRAME->samples
+   bytes of SAMPLES, then the next FRAME->behind bytes of BUFFER. A BUFFER of 4096 bytes is enough
+   for an image of a few strips; each strip takes 8 bytes, or 16 in a BigTIFF file.
 
    With a compression or a predictor, if SAMPLES aren't exactly those of the image, or if memory is
    short, FRAME->samples and FRAME->behind are 0, and BUFFER gets the whole file.
 
    Errors are those of tiff_write_image, as is what they leave. */
-tiff_status tiff_image_frame(const struct tiff_image *image, const uint8_t *samples, size_t samples_len, uint8_t *buffer, size_t size,
+tiff_status tiff_image_frame(const struct tiff_image *image, const uint8_t *samples,
+                             size_t samples_len, uint8_t *buffer, size_t size,
                              struct tiff_frame *frame);
 
 /* Where a list of jobs was refused, counted from 1: at a line that is no job, or at a job that had
@@ -729,8 +773,8 @@ struct tiff_jobs_end {
    same. Any status but TIFF_DONE leaves BUFFER as it was. Any status but TIFF_DONE and that of a
    BUFFER that is too short leaves *LEN as it was. The call allocates the file, eight bytes for each
    sample of the list, and the list. */
-tiff_status tiff_write_jobs(uint16_t version, const uint8_t *jobs, size_t jobs_len, uint8_t *buffer, size_t size, size_t *len,
-                            struct tiff_jobs_end *end);
+tiff_status tiff_write_jobs(uint16_t version, const uint8_t *jobs, size_t jobs_len, uint8_t *buffer,
+                            size_t size, size_t *len, struct tiff_jobs_end *end);
 
 /* A fraction: numerator and denominator. */
 struct tiff_fraction {
@@ -749,20 +793,20 @@ struct tiff_new_tag {
     size_t values_len;
 };
 
-/* A page to be written. COLOR, WIDTH, HEIGHT, METHOD and PREDICTOR are as in struct tiff_image.
-   The page is stored in tiles of TILE_WIDTH and TILE_LENGTH; or, where both are 0, in strips of
-   ROWS_PER_STRIP rows; or, where that is 0 too, in strips as tiff_write_image writes them. PLANAR is
-   TIFF_CHUNKY or TIFF_PLANAR: whether a file stores the samples of a pixel side by side, or those
-   of each place in a pixel apart from the others. RESOLUTION_UNIT is the unit of both resolutions;
-   with TIFF_NO_RESOLUTION the call ignores them, and the file has those of tiff_write_image, 1 and
-   1 without a unit. EXTRA_SAMPLES are the values of the tag ExtraSamples, one for each sample that
-   a pixel has besides those of its color: 0 for any, 1 for alpha that is multiplied in, 2 for other
-   alpha. TAGS are the caller's own. One of them replaces what the call set before it under the same
-   number; BitsPerSample, SampleFormat and the places of strips or tiles are set behind them.
-   SAMPLES are the samples row by row from the top, those of a pixel side by side, also of a planar
-   page, each with its lowest byte first. PARENT is 0 for a page in the file's chain of directories,
-   or the number, counted from 1, of an earlier page: then that page's tag SubIFDs (330) lists this
-   one, behind earlier pages with the same PARENT. */
+/* A page to be written. COLOR, WIDTH, HEIGHT, METHOD and PREDICTOR are as in struct tiff_image. The
+   page is stored in tiles of TILE_WIDTH and TILE_LENGTH; or, where both are 0, in strips of
+   ROWS_PER_STRIP rows; or, where that is 0 too, in strips as tiff_write_image writes them. PLANAR
+   is TIFF_CHUNKY or TIFF_PLANAR: whether a file stores the samples of a pixel side by side, or
+   those of each place in a pixel apart from the others. RESOLUTION_UNIT is the unit of both
+   resolutions; with TIFF_NO_RESOLUTION the call ignores them, and the file has those of
+   tiff_write_image, 1 and 1 without a unit. EXTRA_SAMPLES are the values of the tag ExtraSamples,
+   one for each sample that a pixel has besides those of its color: 0 for any, 1 for alpha that is
+   multiplied in, 2 for other alpha. TAGS are the caller's own. One of them replaces what the call
+   set before it under the same number; BitsPerSample, SampleFormat and the places of strips or
+   tiles are set behind them. SAMPLES are the samples row by row from the top, those of a pixel side
+   by side, also of a planar page, each with its lowest byte first. PARENT is 0 for a page in the
+   file's chain of directories, or the number, counted from 1, of an earlier page: then that page's
+   tag SubIFDs (330) lists this one, behind earlier pages with the same PARENT. */
 enum {
     TIFF_CHUNKY = 1,
     TIFF_PLANAR = 2,
@@ -816,8 +860,8 @@ struct tiff_pages_end {
 
 /* Writes a file of COUNT pages into BUFFER, of SIZE bytes; *LEN is how many bytes the file has. The
    pages without a PARENT are in the file's chain of directories, in their order. VERSION is
-   TIFF_CLASSIC or TIFF_BIG. The bytes of BUFFER behind the file stay. Of pages without a PARENT it is
-   the file that tiff_write_jobs writes for these jobs of each page:
+   TIFF_CLASSIC or TIFF_BIG. The bytes of BUFFER behind the file stay. Of pages without a PARENT it
+   is the file that tiff_write_jobs writes for these jobs of each page:
 
        predictor PREDICTOR
        compression METHOD
@@ -832,39 +876,40 @@ struct tiff_pages_end {
        write_tag_buf 330 BUFFER         with a zero for each page that has this one as its PARENT
        write_data SAMPLES
 
-   The pages with a PARENT are written behind those, in their order: the jobs of each go on behind the
-   file at its zero, which they overwrite, as those of tiff_append_pages do at the last link.
+   The pages with a PARENT are written behind those, in their order: the jobs of each go on behind
+   the file at its zero, which they overwrite, as those of tiff_append_pages do at the last link.
 
-   A BUFFER that is too short: TIFF_INSUFFICIENT_OUTPUT_BUFFER_SIZE, and *LEN is set all the same. So
-   a first call with a SIZE of 0 returns the length. Any status but TIFF_DONE leaves BUFFER as it
+   A BUFFER that is too short: TIFF_INSUFFICIENT_OUTPUT_BUFFER_SIZE, and *LEN is set all the same.
+   So a first call with a SIZE of 0 returns the length. Any status but TIFF_DONE leaves BUFFER as it
    was. Any status but TIFF_DONE and that of a BUFFER that is too short leaves *LEN as it was.
 
-   Errors: a VERSION that is none, TIFF_SIGNATURE_INVALID, with 0 in END->page. Then, with the number
-   of the first such page in END->page and its first such field in END->field, and before a page is
-   written: a color type that is none, TIFF_INVALID_INPUT; a method that this library doesn't write,
-   TIFF_UNSUPPORTED_COMPRESSION_METHOD; a predictor that is none, TIFF_UNKNOWN_PREDICTOR; a PLANAR
-   that is none, TIFF_UNKNOWN_PLANAR_CONFIGURATION; a unit that is none, and an extra sample that is
-   none, TIFF_INVALID_INPUT; of TAGS, a type that is none, TIFF_UNSUPPORTED_DATA_TYPE, values_len
-   that is not as many bytes as COUNT values have, TIFF_MISMATCHED_ENTRY_LENGTH, and SubIFDs of a page
-   that is a PARENT, TIFF_INVALID_INPUT; samples_len that is no whole number of samples,
-   TIFF_MISMATCHED_ENTRY_LENGTH; a PARENT that is no earlier page, TIFF_INVALID_INPUT. Then, with the
-   number of the first such page in END->page, of those of the chain and then of the others, the first
-   error of that page. With 0 in END->field: a side of 0, TIFF_INVALID_DIMENSIONS; the predictors that
-   tiff_write_image refuses; too few samples, TIFF_INVALID_DATA; a file that its kind can't hold,
-   TIFF_INT_SIZE_ERROR. With TIFF_FIELD_LAYOUT: sides of tiles that are 0 or no multiples of 16, and
-   ROWS_PER_STRIP beside tiles, TIFF_INVALID_INPUT. With the field of what is set: TIFF_INT_SIZE_ERROR.
-   At last a BUFFER that is too short, with 0 in both.
+   Errors: a VERSION that is none, TIFF_SIGNATURE_INVALID, with 0 in END->page. Then, with the
+   number of the first such page in END->page and its first such field in END->field, and before a
+   page is written: a color type that is none, TIFF_INVALID_INPUT; a method that this library
+   doesn't write, TIFF_UNSUPPORTED_COMPRESSION_METHOD; a predictor that is none,
+   TIFF_UNKNOWN_PREDICTOR; a PLANAR that is none, TIFF_UNKNOWN_PLANAR_CONFIGURATION; a unit that is
+   none, and an extra sample that is none, TIFF_INVALID_INPUT; of TAGS, a type that is none,
+   TIFF_UNSUPPORTED_DATA_TYPE, values_len that is not as many bytes as COUNT values have,
+   TIFF_MISMATCHED_ENTRY_LENGTH, and SubIFDs of a page that is a PARENT, TIFF_INVALID_INPUT;
+   samples_len that is no whole number of samples, TIFF_MISMATCHED_ENTRY_LENGTH; a PARENT that is no
+   earlier page, TIFF_INVALID_INPUT. Then, with the number of the first such page in END->page, of
+   those of the chain and then of the others, the first error of that page. With 0 in END->field: a
+   side of 0, TIFF_INVALID_DIMENSIONS; the predictors that tiff_write_image refuses; too few
+   samples, TIFF_INVALID_DATA; a file that its kind can't hold, TIFF_INT_SIZE_ERROR. With
+   TIFF_FIELD_LAYOUT: sides of tiles that are 0 or no multiples of 16, and ROWS_PER_STRIP beside
+   tiles, TIFF_INVALID_INPUT. With the field of what is set: TIFF_INT_SIZE_ERROR. At last a BUFFER
+   that is too short, with 0 in both.
 
-   The call allocates the file, the bytes of TAGS, the samples of one page at a time if they have more
-   than one byte or a sign, and a few numbers for each page; of pages with a PARENT also the offsets of
-   all pages, and the directory of one PARENT at a time. */
-tiff_status tiff_write_pages(uint16_t version, const struct tiff_new_page *pages, size_t count, uint8_t *buffer, size_t size, size_t *len,
-                             struct tiff_pages_end *end);
+   The call allocates the file, the bytes of TAGS, the samples of one page at a time if they have
+   more than one byte or a sign, and a few numbers for each page; of pages with a PARENT also the
+   offsets of all pages, and the directory of one PARENT at a time. */
+tiff_status tiff_write_pages(uint16_t version, const struct tiff_new_page *pages, size_t count,
+                             uint8_t *buffer, size_t size, size_t *len, struct tiff_pages_end *end);
 
-/* What tiff_append_pages found. LEN is how many bytes the file gets at its end. LINK is the offset of
-   the last link of the file's chain of directories, which has WIDTH bytes, 4 in a classic file and
-   8 in BigTIFF, and TARGET the number that it gets, its lowest byte first. END says where the list
-   of pages was refused, as for tiff_write_pages. */
+/* What tiff_append_pages found. LEN is how many bytes the file gets at its end. LINK is the offset
+   of the last link of the file's chain of directories, which has WIDTH bytes, 4 in a classic file
+   and 8 in BigTIFF, and TARGET the number that it gets, its lowest byte first. END says where the
+   list of pages was refused, as for tiff_write_pages. */
 struct tiff_appended {
     size_t len;
     uint64_t link;
@@ -874,16 +919,16 @@ struct tiff_appended {
 };
 
 /* Writes COUNT pages behind FILE, a little-endian TIFF file of LEN bytes, classic or BigTIFF: puts
-   the bytes to append to it into BUFFER, of SIZE bytes, and what they are into *APPENDED. FILE stays
-   as it is, and is not copied. To update a file on a disk, write twice:
+   the bytes to append to it into BUFFER, of SIZE bytes, and what they are into *APPENDED. FILE
+   stays as it is, and is not copied. To update a file on a disk, write twice:
 
        the first APPENDED->len bytes of BUFFER, at the end of the file
        the APPENDED->width lowest bytes of APPENDED->target, the lowest first, at APPENDED->link
 
    Between the two, and if the first is torn, the file has its former pages: only the second makes
    the chain go on behind them. So the first has to be on the disk (fsync) before the second. The
-   pages are jobs as those of tiff_write_pages, and their parameters are the same; a PARENT is one of
-   these pages, and none of the former ones. The file has a directory, or it has none yet and its
+   pages are jobs as those of tiff_write_pages, and their parameters are the same; a PARENT is one
+   of these pages, and none of the former ones. The file has a directory, or it has none yet and its
    header links to 0. The bytes of BUFFER behind those stay.
 
    A BUFFER that is too short: TIFF_INSUFFICIENT_OUTPUT_BUFFER_SIZE, and *APPENDED is set all the
@@ -892,12 +937,13 @@ struct tiff_appended {
    0 in all fields but END.
 
    Errors: those of a header that is refused; a big-endian FILE, TIFF_BYTE_ORDER_MISMATCH; the error
-   by which the chain of FILE ends, as TIFF_CYCLE_IN_OFFSETS, with 0 in APPENDED->end.page. Then those
-   of tiff_write_pages, in its order, with the page and the field in APPENDED->end.
+   by which the chain of FILE ends, as TIFF_CYCLE_IN_OFFSETS, with 0 in APPENDED->end.page. Then
+   those of tiff_write_pages, in its order, with the page and the field in APPENDED->end.
 
    The call allocates the bytes to append, 8 bytes for the link, the offsets of the directories of
    FILE, and what tiff_write_pages allocates besides its file. */
-tiff_status tiff_append_pages(const uint8_t *file, size_t len, const struct tiff_new_page *pages, size_t count, uint8_t *buffer, size_t size,
+tiff_status tiff_append_pages(const uint8_t *file, size_t len, const struct tiff_new_page *pages,
+                              size_t count, uint8_t *buffer, size_t size,
                               struct tiff_appended *appended);
 
 /* Returns the version of the calls of this library; MANGOHATCH_TIFF_VERSION is the version of this
