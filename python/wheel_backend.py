@@ -127,7 +127,7 @@ def content_of_wheel(facts: dict[str, Any], library: bytes) -> dict[str, bytes]:
 def build_wheel(
     wheel_directory: str, config_settings: object = None, metadata_directory: object = None
 ) -> str:
-    """Writes the wheel into a folder and returns its name, as PEP 517 asks."""
+    """Writes the wheel into a folder and returns its name, as PEP 517 requires."""
     facts = project()
     library = shared_library().read_bytes()
     name = f"{facts['name']}-{facts['version']}-{tag_of(library)}.whl"

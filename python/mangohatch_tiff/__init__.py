@@ -86,7 +86,7 @@ __all__ = [
 
 
 def __getattr__(name: str) -> Any:
-    """Loads what can't be without numpy when it is asked for."""
+    """Loads what needs numpy when it is first used."""
     if name == "memmap":
         from ._memmap import memmap
 

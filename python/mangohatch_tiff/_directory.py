@@ -1,6 +1,6 @@
-"""What no call of the library tells: the version of a file, and which tags are there twice.
+"""What no call of the library returns: the version of a file, and which tags are there twice.
 
-And small files of one tag, since it tells the values of tags of files in memory alone.
+And small files of one tag, since it returns the values of tags for files in memory alone.
 """
 from __future__ import annotations
 

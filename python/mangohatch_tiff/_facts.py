@@ -1,4 +1,4 @@
-"""The facts of a page: what its tags and the library's list of pages tell."""
+"""The facts of a page: what its tags and the library's list of pages have."""
 from __future__ import annotations
 
 from functools import cached_property
@@ -36,7 +36,7 @@ OFFSETS, LENGTHS = {True: 324, False: 273}, {True: 325, False: 279}
 
 
 class PageFacts:
-    """What is told of a page of a file, without its samples.
+    """The facts of a page of a file, without its samples.
 
     For a page that the library refuses, `status` is the error; the properties and calls that need
     the facts of the page raise it. `index` is the page's number in the chain, -1 for other pages.
@@ -49,7 +49,7 @@ class PageFacts:
         # Calls with the directory's offset don't walk along the pages before it.
         self._at = _library.at(listed.offset)
         self.index = index
-        self._is_told_by_tags = False
+        self._is_by_tags = False
         faults = listed.status, listed.count_status
         if Status.UNKNOWN_INTERPRETATION in faults or Status.INT_SIZE_ERROR in faults:
             self._tell_by_tags()
@@ -65,15 +65,15 @@ class PageFacts:
 
     def _tell_by_tags(self) -> None:
         """Takes the facts of the page from its tags, if they make an image."""
-        told, listed = told_by_tags(self.tags, self.offset), self._listed
-        if told is None:
+        facts, listed = facts_of_tags(self.tags, self.offset), self._listed
+        if facts is None:
             return
-        page, chunks = told
+        page, chunks = facts
         if listed.status == Status.DONE:
             page.color_status, page.color = listed.color_status, listed.color
         # The cached property is set in place of the library's facts.
         self._listed, self.__dict__["_chunks"] = page, chunks
-        self._is_told_by_tags = True
+        self._is_by_tags = True
 
     @property
     def _named(self) -> int | None:
@@ -115,7 +115,7 @@ class PageFacts:
             if isinstance(self._file, Windows):
                 kind, count, plan = self._facts.chunk_kind, self.chunk_count, self._planned.certain
                 return Chunks(kind, count, plan.chunk_width, plan.chunk_height)
-            return _library.ask(_library.PAGE_CHUNKS, Chunks, self._file, self._at)
+            return _library.result_of(_library.PAGE_CHUNKS, Chunks, self._file, self._at)
 
     @cached_property
     def _samples(self) -> Samples:
@@ -126,7 +126,7 @@ class PageFacts:
                 planes = 1 if plan.planar == PLANARCONFIG.CONTIG else color.samples
                 inverted = int(plan.photometric == PHOTOMETRIC.MINISWHITE)
                 return Samples(plan.sample_format, color.bits, color.samples, planes, inverted)
-            return _library.ask(_library.PAGE_SAMPLES, Samples, self._file, self._at)
+            return _library.result_of(_library.PAGE_SAMPLES, Samples, self._file, self._at)
 
     @cached_property
     def _planned(self) -> Planned:
@@ -227,7 +227,7 @@ class PageFacts:
     @property
     def is_shaped(self) -> bool:
         """Whether the description is the one in which tifffile keeps the shape of an array."""
-        text = self._told_text(DESCRIPTION)
+        text = self._text_or_empty(DESCRIPTION)
         json = text.startswith("{") and '"shape":' in text and '"mibi.' not in text
         return json or text.startswith("shape=")
 
@@ -265,7 +265,7 @@ class PageFacts:
             raise TiffError(self._facts.count_status, self._named)
         return self._facts.count
 
-    def _told_text(self, number: int) -> str:
+    def _text_or_empty(self, number: int) -> str:
         """Returns the text of a tag as the library has it: the last one of several; or none."""
         try:
             return self.tags.text(number)
@@ -377,7 +377,7 @@ class PageFacts:
     @cached_property
     def nodata(self) -> int | float | complex:
         """The value of pixels that the file doesn't have, by the tag GDAL_NODATA, or 0."""
-        text = self._told_text(NODATA)
+        text = self._text_or_empty(NODATA)
         try:
             value: int | float | complex = type(self.dtype.type(0).item())(text.replace(",", "."))
         except (ValueError, OverflowError):
@@ -395,7 +395,7 @@ class PageFacts:
         return self.tags.told(OFFSETS[self.is_tiled])
 
 
-def told_by_tags(tags: Tags, offset: int) -> tuple[ListedPage, Chunks] | None:
+def facts_of_tags(tags: Tags, offset: int) -> tuple[ListedPage, Chunks] | None:
     """Returns the facts of a page by its tags, or None where they make no image.
 
     These are pages that the library refuses for their interpretation, and strips whose number of

@@ -292,13 +292,13 @@ def read_each(
     """Reads the arrays of several files into one array, one behind the other."""
     import numpy
 
-    from ._page import room
+    from ._page import output_array
 
     if not files:
         raise ValueError("no files are given")
     settings["key"] = key
     first = imread(files[0], **settings)
-    array = room(out, (len(files), *first.shape), first.dtype)
+    array = output_array(out, (len(files), *first.shape), first.dtype)
     array[0] = first
     for index in range(1, len(files)):
         one = imread(files[index], **settings)

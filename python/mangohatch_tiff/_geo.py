@@ -101,7 +101,8 @@ class Geo:
 
     @property
     def is_point(self) -> bool:
-        """Whether the tags tell where the middle of a pixel lies, and not its upper left corner."""
+        """Whether the tags have the place of the middle of a pixel, and not its upper left
+        corner."""
         return self.keys.get(KEYS[RASTER_TYPE]) == PIXEL_IS_POINT
 
     @property
@@ -109,7 +110,7 @@ class Geo:
         """The affine transform (a, b, c, d, e, f) from columns and rows to x and y of the map.
 
         As in rasterio, x = a * column + b * row + c and y = d * column + e * row + f, where column
-        0 and row 0 are the upper left corner of the first pixel, also if the tags tell the middle
+        0 and row 0 are the upper left corner of the first pixel, also if the tags have the middle
         of a pixel; 0.5 and 0.5 are its middle. It comes from the pixel scale and the first tie
         point, or else from the matrix; without them it is None.
         """

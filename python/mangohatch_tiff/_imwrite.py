@@ -21,7 +21,7 @@ if TYPE_CHECKING:
     Target = Union[str, os.PathLike[str], BinaryIO]
 
 NAME = "mangohatch_tiff"
-# tifffile's other parameters, each with the value that asks for nothing.
+# tifffile's other parameters, each with the value that has no effect.
 OTHERS: dict[str, tuple[object, ...]] = {
     "shape": (None,),
     "dtype": (None,),
@@ -41,7 +41,7 @@ OTHERS: dict[str, tuple[object, ...]] = {
 }
 
 
-def judge_others(
+def check_others(
     others: dict[str, Any], call: str = "imwrite", known: dict[str, tuple[object, ...]] = OTHERS
 ) -> None:
     """Refuses tifffile's parameters that nothing is done with, and names that it hasn't either."""
@@ -209,7 +209,7 @@ def imwrite(
 
     from ._write import file_of
 
-    judge_others(others)
+    check_others(others)
     array = numpy.asarray(data)
     settings = settings_of(
         array,

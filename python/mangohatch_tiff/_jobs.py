@@ -10,8 +10,8 @@ from . import _library
 from ._library import JobsEnd, JobsError, Status
 
 CLASSIC, BIG = 42, 43
-# The room for the file in the first call; a file that is longer takes a second one.
-FIRST_ROOM = 1 << 16
+# The length of the buffer for the file in the first call; a file that is longer takes a second one.
+FIRST_CAPACITY = 1 << 16
 
 
 def _write_into(size: int, version: int, text: bytes) -> tuple[int, memoryview, int, JobsEnd]:
@@ -26,7 +26,7 @@ def _write_into(size: int, version: int, text: bytes) -> tuple[int, memoryview, 
 def file_of_jobs(jobs: str, big: bool) -> memoryview:
     """Returns the bytes of the file that a list of jobs leaves."""
     version, text = BIG if big else CLASSIC, jobs.encode()
-    status, file, length, end = _write_into(FIRST_ROOM, version, text)
+    status, file, length, end = _write_into(FIRST_CAPACITY, version, text)
     if status == Status.INSUFFICIENT_OUTPUT_BUFFER_SIZE and not end.job:
         status, file, length, end = _write_into(length, version, text)
     if status:

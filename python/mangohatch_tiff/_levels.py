@@ -24,7 +24,7 @@ LEAST_OFFSET = 8
 
 
 class TiffPageSeries:
-    """An array of a file, as `TiffFile.series` has it: its pages, and what is told of them.
+    """An array of a file, as `TiffFile.series` has it: its pages, and their facts.
 
     `shape`, `dtype` and `axes` are those of the array; `axes` has a letter for each side: Y rows, X
     columns, S samples, I pages, T frames, Z slices, C channels, Q any other, or what tifffile
@@ -152,8 +152,8 @@ def ome_series(file: TiffFile, text: str) -> list[TiffPageSeries]:
             if any(alike(page) != alike(pages[0]) for page in pages):
                 raise refused("a level of pages that aren't alike")
             sides = {"Y": pages[0].imagelength, "X": pages[0].imagewidth}
-            told = zip(stack.axes, stack.shape)
-            shape = tuple(sides.get(axis, side) for axis, side in told)
+            named = zip(stack.axes, stack.shape)
+            shape = tuple(sides.get(axis, side) for axis, side in named)
             top.levels.append(TiffPageSeries(Stack([*pages], shape, stack.axes)))
         found.append(top)
     return found
@@ -227,7 +227,7 @@ def series_of(file: TiffFile) -> list[TiffPageSeries]:
         raise refused("a file with a page that is refused")
     if first.is_shaped:
         return with_levels(shaped_stacks(file, file.pages), reduced=True)
-    text, kind = first._told_text(DESCRIPTION), kind_of(first)
+    text, kind = first._text_or_empty(DESCRIPTION), kind_of(first)
     if kind == "OME" and not text.startswith(("ImageJ=", "SCIFIO=")):
         return ome_series(file, text)
     if kind or text.startswith(("ImageJ=", "SCIFIO=")):

@@ -149,13 +149,13 @@ COMPRESSION, UNCOMPRESSED = 259, 1
 CHUNKY, PLANAR = 1, 2
 TILES = 1
 BIG_ENDIAN = 1
-# How many bytes a page of a few tags has, and the most room for pages or directories in the first
+# How many bytes a page of a few tags has, and the most pages or directories that fit into the first
 # list.
 SHORT_PAGE = 64
-FIRST_ROOM = 1 << 14
+FIRST_CAPACITY = 1 << 14
 # The most bytes of a file's header.
 HEADER = 16
-# The room for the values of a tag in the first call.
+# How many values of a tag fit into the first call.
 FEW = 16
 
 
@@ -491,11 +491,11 @@ def _path() -> str:
 _LIBRARY = ctypes.CDLL(_path())
 
 
-def _declare(name: str, *parameters: Any, answer: Any = c_uint32) -> Any:
+def _declare(name: str, *parameters: Any, result: Any = c_uint32) -> Any:
     """Declares a call of the library, and returns it."""
     call = getattr(_LIBRARY, name)
     call.argtypes = parameters
-    call.restype = answer
+    call.restype = result
     return call
 
 
@@ -567,7 +567,7 @@ LIST_TAGS_IN = _declare_in("tiff_list_tags", c_size_t, *_ENTRIES)
 TAG_BYTES_IN = _declare_in("tiff_tag_bytes", c_size_t, *_STORED)
 PAGE_PLAN_IN = _declare_in("tiff_page_plan", c_size_t, POINTER(PagePlan))
 READ_PLANNED_CHUNK_IN = _declare_in("tiff_read_planned_chunk", *_CHUNK)
-FAULT_TEXT = _declare("tiff_fault_text", c_uint32, *_BYTES, answer=c_size_t)
+FAULT_TEXT = _declare("tiff_fault_text", c_uint32, *_BYTES, result=c_size_t)
 
 # Prototypes of this module, since other modules share the attributes of `ctypes.pythonapi`.
 _GET_BUFFER = ctypes.PYFUNCTYPE(c_int, py_object, POINTER(_PyBuffer), c_int)(
@@ -591,7 +591,7 @@ class TiffError(Exception):
     """An error of a file or a call.
 
     `status` is its number, `page` the index of the page in the file, if it is one of the chain, and
-    `tag` the number of the tag, if a tag was asked for.
+    `tag` the number of the tag, if a tag was read.
     """
 
     def __init__(self, status: int, page: int | None = None, tag: int | None = None) -> None:
@@ -612,7 +612,7 @@ class TiffError(Exception):
 
 
 class UnsupportedError(TiffError, ValueError):
-    """What a file has, or what a caller asks for, and this package doesn't read or write.
+    """What a file has, or what a caller requests, and this package doesn't read or write.
 
     `what` names it, and `status` is the nearest of the library's errors.
     """
@@ -728,21 +728,21 @@ def part(file: File, offset: int, size: int) -> bytes:
 def status_of(file: File, call: Any, call_in: Any, *given: Any) -> int:
     """Calls with a file in memory, or with windows of another one, and returns the status."""
     if isinstance(file, Windows):
-        return file.ask(call_in, *given)
+        return file.run(call_in, *given)
     with locked(file) as (address, length):
         status: int = call(address, length, *given)
     return status
 
 
-Answer = TypeVar("Answer", bound=Structure)
+Result = TypeVar("Result", bound=Structure)
 
 
-def ask(call: Any, kind: type[Answer], file: ReadableBuffer, *place: int) -> Answer:
+def result_of(call: Any, kind: type[Result], file: ReadableBuffer, *place: int) -> Result:
     """Returns the result of a call on a page of a file, or on a tag of a page."""
-    answer = kind()
+    result = kind()
     with locked(file) as (address, length):
-        check(call(address, length, *place, byref(answer)))
-    return answer
+        check(call(address, length, *place, byref(result)))
+    return result
 
 
 def at(offset: int) -> int:
@@ -756,21 +756,22 @@ def offset_of(page: int) -> int:
 
 
 def _listed(
-    call: Any, call_in: Any, kind: type[Answer], file: File
-) -> tuple[list[Answer], Status]:
+    call: Any, call_in: Any, kind: type[Result], file: File
+) -> tuple[list[Result], Status]:
     """Returns what a call lists of a file, and the status with which the chain of pages ends.
 
-    One call is enough if it has room for all. Else a second call has the room that it needs.
+    One call is enough if all fit into it. Else there is a second one, with the length that it
+    needs.
     """
     count = c_size_t()
-    room = min(length_of(file) // SHORT_PAGE + 1, FIRST_ROOM)
-    listed = (kind * room)()
-    end = status_of(file, call, call_in, listed, room, byref(count))
-    if count.value > room:
-        room = count.value
-        listed = (kind * room)()
-        end = status_of(file, call, call_in, listed, room, byref(count))
-    return list((kind * min(count.value, room)).from_buffer_copy(listed)), Status(end)
+    capacity = min(length_of(file) // SHORT_PAGE + 1, FIRST_CAPACITY)
+    listed = (kind * capacity)()
+    end = status_of(file, call, call_in, listed, capacity, byref(count))
+    if count.value > capacity:
+        capacity = count.value
+        listed = (kind * capacity)()
+        end = status_of(file, call, call_in, listed, capacity, byref(count))
+    return list((kind * min(count.value, capacity)).from_buffer_copy(listed)), Status(end)
 
 
 def list_pages(file: File) -> tuple[list[ListedPage], Status]:
@@ -793,10 +794,12 @@ def page_plan(file: File, page: int) -> PagePlan:
     return plan
 
 
-def _told(call: Any, kind: type[Answer], file: ReadableBuffer, *place: int) -> tuple[Answer, int]:
+def _result_and_status(
+    call: Any, kind: type[Result], file: ReadableBuffer, *place: int
+) -> tuple[Result, int]:
     """Returns the result of a call on a file, with its status; after an error zeros."""
     try:
-        return ask(call, kind, file, *place), Status.DONE
+        return result_of(call, kind, file, *place), Status.DONE
     except TiffError as fault:
         return kind(), fault.status
 
@@ -804,10 +807,10 @@ def _told(call: Any, kind: type[Answer], file: ReadableBuffer, *place: int) -> t
 def page_at(file: ReadableBuffer, offset: int) -> ListedPage:
     """Returns the facts of the page at an offset, as a list of pages has them."""
     place = at(offset)
-    sides = ask(PAGE_SIDES, Sides, file, place)
-    color, color_status = _told(PAGE_COLOR, Color, file, place)
-    chunks, count_status = _told(PAGE_CHUNKS, Chunks, file, place)
-    method, _ = _told(TAG_NUMBER, _Number, file, place, COMPRESSION)
+    sides = result_of(PAGE_SIDES, Sides, file, place)
+    color, color_status = _result_and_status(PAGE_COLOR, Color, file, place)
+    chunks, count_status = _result_and_status(PAGE_CHUNKS, Chunks, file, place)
+    method, _ = _result_and_status(TAG_NUMBER, _Number, file, place, COMPRESSION)
     return ListedPage(
         offset=offset,
         width=sides.width,
@@ -822,16 +825,16 @@ def page_at(file: ReadableBuffer, offset: int) -> ListedPage:
 
 
 def _values(call: Any, kind: Any, file: File, *place: int, call_in: Any = None) -> Any:
-    """Returns the values of a tag, or the tags of a page. For many, a second call has the room."""
+    """Returns the values of a tag, or the tags of a page. Many take a second call."""
     count = c_size_t()
-    room = FEW
-    values = (kind * room)()
-    check(status_of(file, call, call_in, *place, values, room, byref(count)))
-    if count.value > room:
-        room = count.value
-        values = (kind * room)()
-        check(status_of(file, call, call_in, *place, values, room, byref(count)))
-    return values[: min(count.value, room)]
+    capacity = FEW
+    values = (kind * capacity)()
+    check(status_of(file, call, call_in, *place, values, capacity, byref(count)))
+    if count.value > capacity:
+        capacity = count.value
+        values = (kind * capacity)()
+        check(status_of(file, call, call_in, *place, values, capacity, byref(count)))
+    return values[: min(count.value, capacity)]
 
 
 def list_tags(file: File, page: int) -> list[TagEntry]:
@@ -854,7 +857,7 @@ def tag_numbers(file: ReadableBuffer, page: int, number: int) -> tuple[int, ...]
     return tuple(_values(TAG_NUMBERS, c_uint64, file, page, number))
 
 
-def told_numbers(file: ReadableBuffer, page: int, number: int) -> tuple[int, ...]:
+def unsigned_numbers(file: ReadableBuffer, page: int, number: int) -> tuple[int, ...]:
     """Returns the values of a tag of a page as unsigned numbers; without the tag none."""
     count, values = c_size_t(), (c_uint64 * FEW)()
     with locked(file) as (address, length):
@@ -871,10 +874,10 @@ def tag_floats(file: ReadableBuffer, page: int, number: int) -> tuple[float, ...
     return tuple(_values(TAG_FLOATS, c_double, file, page, number))
 
 
-def read_samples(call: Any, file: ReadableBuffer, place: tuple[int, ...], room: Any) -> None:
+def read_samples(call: Any, file: ReadableBuffer, place: tuple[int, ...], buffer: Any) -> None:
     """Reads samples of a page into an array; `place` is the page and what the call takes after."""
     with locked(file) as (address, length):
-        check(call(address, length, *place, room.ctypes.data, room.nbytes))
+        check(call(address, length, *place, buffer.ctypes.data, buffer.nbytes))
 
 
 def tag_text(file: ReadableBuffer, page: int, number: int) -> str:

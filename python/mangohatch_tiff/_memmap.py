@@ -15,7 +15,7 @@ if TYPE_CHECKING:
 
 Mode = Literal["r", "r+", "c"]
 MODES = ("r", "r+", "c")
-# tifffile's other parameters, each with the value that asks for nothing.
+# tifffile's other parameters, each with the value that has no effect.
 OTHERS: dict[str, object] = {"level": 0, "shape": None, "dtype": None}
 
 
@@ -64,7 +64,7 @@ def place_of(stack: Stack) -> int:
     """Returns where the images of pages begin, if they lie one behind the other as arrays do."""
     start, size = None, stack.pages[0].nbytes
     for index, page in enumerate(stack.pages):
-        judge_page(page)
+        check_page(page)
         place = page.dataoffsets[0]
         start = place if start is None else start
         if place != start + index * size:
@@ -79,7 +79,7 @@ def refused(page: TiffPage, what: str) -> UnsupportedError:
     )
 
 
-def judge_page(page: TiffPage) -> None:
+def check_page(page: TiffPage) -> None:
     """Refuses a page whose samples don't lie in the file as an array has them."""
     page._judge(shown=False)
     if page.compression != COMPRESSION.NONE or page.predictor != PREDICTOR.NONE:

@@ -124,8 +124,9 @@ class NewPage:
         return self.layout.method == 1 and self.layout.predictor == 1
 
 
-def room_of(page: NewPage) -> int:
-    """Returns room for a page in a file, in most cases enough: for whole chunks, not packed."""
+def capacity_of(page: NewPage) -> int:
+    """Returns a length that is enough for most pages in a file: that of whole chunks, not
+    packed."""
     (height, width, count), layout = page.samples.shape, page.layout
     rows, columns = layout.tile or (layout.rowsperstrip or height or 1, width or 1)
     down, across = -(-height // rows), -(-width // columns)
@@ -174,16 +175,16 @@ def page_to_write(page: NewPage) -> PageToWrite:
 
 
 class Written(NamedTuple):
-    """What a call returns that writes a file: its parts, the room it takes, and what is refused."""
+    """What a call returns that writes a file: its parts, their length, and what is refused."""
 
     status: int
     parts: list[memoryview]
-    room: int
+    length: int
     end: PagesEnd
 
 
 def write_image_into(size: int, page: NewPage, version: int) -> Written:
-    """Writes a file of one plain page, of which a new buffer gets what isn't the samples as
+    """Writes a file of one plain page, and puts into a new buffer what isn't the samples as
     such."""
     samples, (height, width) = page.samples, page.sides
     around, frame = numpy.empty(size, numpy.uint8), Frame()
@@ -198,11 +199,11 @@ def write_image_into(size: int, page: NewPage, version: int) -> Written:
     status = _library.IMAGE_FRAME(
         byref(image), samples.ctypes.data, samples.nbytes, around.ctypes.data, size, byref(frame)
     )
-    room = frame.front + frame.behind
-    parts = [around[: frame.front].data, around[frame.front : room].data]
+    length = frame.front + frame.behind
+    parts = [around[: frame.front].data, around[frame.front : length].data]
     if frame.samples:
         parts.insert(1, samples.reshape(-1).view(numpy.uint8).data)
-    return Written(status, parts, room, PagesEnd(page=1))
+    return Written(status, parts, length, PagesEnd(page=1))
 
 
 def write_pages_into(size: int, pages: list[NewPage], version: int) -> Written:
@@ -216,8 +217,8 @@ def write_pages_into(size: int, pages: list[NewPage], version: int) -> Written:
 
 
 def _write_pages(pages: list[NewPage], big: bool) -> list[memoryview]:
-    """Returns the bytes of a file of pages, in parts. One that is longer than its room takes two
-    calls.
+    """Returns the bytes of a file of pages, in parts. One that is longer than the first buffer
+    takes two calls.
 
     A page that is refused raises `PagesError`.
     """
@@ -228,9 +229,9 @@ def _write_pages(pages: list[NewPage], big: bool) -> list[memoryview]:
             return write_image_into(size, pages[0], version)
         return write_pages_into(size, pages, version)
 
-    made = write(AROUND_SAMPLES if single and pages[0].is_kept else sum(map(room_of, pages)))
+    made = write(AROUND_SAMPLES if single and pages[0].is_kept else sum(map(capacity_of, pages)))
     if made.status == Status.INSUFFICIENT_OUTPUT_BUFFER_SIZE:
-        made = write(made.room)
+        made = write(made.length)
     if made.status:
         page = made.end.page - 1 if made.end.page else None
         raise PagesError(made.status, page, made.end.field)
@@ -246,12 +247,12 @@ class Added(NamedTuple):
 
 
 def _append_pages(file: memoryview, pages: list[NewPage]) -> Added:
-    """Returns what adds pages to a file. What is longer than its room takes two calls.
+    """Returns what adds pages to a file. What is longer than the first buffer takes two calls.
 
     Errors are those of the chain of directories, with a page of None, and of a page as those of
     `_write_pages`.
     """
-    call, found, size = _library.APPEND_PAGES, Appended(), sum(map(room_of, pages))
+    call, found, size = _library.APPEND_PAGES, Appended(), sum(map(capacity_of, pages))
     given = (PageToWrite * len(pages))(*map(page_to_write, pages))
     with _library.locked(file) as place:
         made = numpy.empty(size, numpy.uint8)

@@ -14,7 +14,7 @@ if TYPE_CHECKING:
 
 
 def ome_stacks(pages: list[TiffPage], text: str) -> list[Stack]:
-    """Returns the arrays of an OME-TIFF file, one of each image that the XML tells.
+    """Returns the arrays of an OME-TIFF file, one of each image in the XML.
 
     What isn't plain raises `UnsupportedError`: an array over several files, planes that the file
     doesn't have, pages of one image that aren't alike, and dimensions that annotations divide.
@@ -24,7 +24,7 @@ def ome_stacks(pages: list[TiffPage], text: str) -> list[Stack]:
     try:
         root = ElementTree.fromstring(text)
         images = [element for element in root if element.tag.endswith("Image")]
-        judge_root(root)
+        check_root(root)
         uuid = root.attrib.get("UUID")
         found = [
             stack_of_pixels(pages, part, uuid)
@@ -39,7 +39,7 @@ def ome_stacks(pages: list[TiffPage], text: str) -> list[Stack]:
     return found
 
 
-def judge_root(root: Element) -> None:
+def check_root(root: Element) -> None:
     """Refuses metadata of another file, and annotations that divide dimensions."""
     for element in root:
         if element.tag.endswith("BinaryOnly"):
@@ -60,12 +60,13 @@ def samples_of(pixels: Element) -> int:
 
 def planes_of(part: Element, axes: str, sides: list[int], count: int) -> Iterator[tuple[int, int]]:
     """Yields the planes that an element of the XML places: the number of each, and its page."""
-    told = part.attrib
-    first = int(told.get("IFD", 0))
-    planes = int(told.get("PlaneCount", told.get("NumPlanes", 1 if "IFD" in told else 0)))
+    attributes = part.attrib
+    first = int(attributes.get("IFD", 0))
+    count_here = attributes.get("NumPlanes", 1 if "IFD" in attributes else 0)
+    planes = int(attributes.get("PlaneCount", count_here))
     plane = 0
     for axis, side in zip(axes, sides):
-        at = int(told.get("First" + axis, 0))
+        at = int(attributes.get("First" + axis, 0))
         if not 0 <= at < side:
             raise refused("OME metadata of a plane that the array doesn't have")
         plane = plane * side + at

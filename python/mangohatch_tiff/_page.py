@@ -66,7 +66,7 @@ class TiffPage(PageFacts):
     @cached_property
     def _is_as_stored(self) -> bool:
         """Whether the samples are taken from the file: the library leaves some out or has none."""
-        if self._facts.color_status or self._is_told_by_tags or self._lacks_chunks:
+        if self._facts.color_status or self._is_by_tags or self._lacks_chunks:
             return True
         if self.photometric not in SHOWN or self.bitspersample not in DEPTHS:
             return True
@@ -132,7 +132,7 @@ class TiffPage(PageFacts):
         from ._samples import Form
         from ._stored import Stored
 
-        self._judge_stored()
+        self._check_stored()
         grid, samples = self._grid(shown=False), self.samplesperpixel // self._planes
         stored = Stored(self._file, self.dataoffsets, self._stored_lengths(), self._stored_form())
         if min(len(stored.offsets), len(stored.lengths)) < grid.planes * grid.down * grid.across:
@@ -163,7 +163,7 @@ class TiffPage(PageFacts):
             missing=self.nodata,
         )
 
-    def _judge_stored(self) -> None:
+    def _check_stored(self) -> None:
         """Refuses a page whose samples aren't taken from its chunks in the file."""
         if self.compression not in (COMPRESSION.NONE, COMPRESSION.PACKBITS):
             raise TiffError(Status.UNSUPPORTED_COMPRESSION_METHOD, self._named)
@@ -225,7 +225,7 @@ class TiffPage(PageFacts):
         window = Window(*_bounds(rows, self.imagelength), *_bounds(cols, self.imagewidth))
         sides = window.bottom - window.top, window.right - window.left
         shape = self._shape_of(source.grid.planes * source.form.samples, *sides)
-        array = room(out, shape, self.dtype)
+        array = output_array(out, shape, self.dtype)
         parts = array.reshape(source.grid.planes, *sides, source.form.samples)
         if array.size:
             with _library.named(self._named):
@@ -240,7 +240,7 @@ class TiffPage(PageFacts):
     ) -> ZarrTiffStore:
         """Returns the image as a store of zarr, version 2, to be read: a mapping of keys to bytes.
 
-        Its chunks are the strips or tiles, each read when it is asked for, with the samples that
+        Its chunks are the strips or tiles, each read when it is needed, with the samples that
         are stored. The attribute `_ARRAY_DIMENSIONS` has the letters of `axes`, and `zattrs` are
         more of them. With `multiscales`, the array is `0` in a group, as xarray opens it. The store
         reads from the page's file: close the file after it. Errors are those of `read_chunk`.
@@ -321,7 +321,7 @@ def _bounds(part: slice, size: int) -> tuple[int, int]:
     return start, max(start, stop)
 
 
-def room(
+def output_array(
     out: NDArray[Any] | None, shape: tuple[int, ...], dtype: numpy.dtype[Any]
 ) -> NDArray[Any]:
     """Returns the array that the library reads into: the caller's, if it has the library's form."""

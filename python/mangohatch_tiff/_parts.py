@@ -96,7 +96,7 @@ class Scratch(threading.local):
 
     held: NDArray[numpy.uint8] | None = None
 
-    def room(self, size: int) -> NDArray[numpy.uint8]:
+    def buffer(self, size: int) -> NDArray[numpy.uint8]:
         """Returns so many bytes, which the next call returns again."""
         if self.held is None or len(self.held) < size:
             self.held = numpy.empty(size, numpy.uint8)
@@ -107,7 +107,7 @@ class Scratch(threading.local):
 class Source:
     """A page whose samples are read: how its chunks lie, and the form of their samples.
 
-    `at_once` tells whether one call reads all planes. With `stored`, the samples come from there,
+    With `at_once`, one call reads all planes. With `stored`, the samples come from there,
     in the form of the array.
     """
 
@@ -132,20 +132,20 @@ class Source:
         """How many chunks a thread reads at once."""
         return max(1, STRETCH // max(1, self.chunk_bytes))
 
-    def read(self, call: Any, room: NDArray[Any], *place: int) -> None:
+    def read(self, call: Any, buffer: NDArray[Any], *place: int) -> None:
         """Reads samples into an array by a call."""
-        _library.read_samples(call, self.planned.buffer, (self.planned.at, *place), room)
+        _library.read_samples(call, self.planned.buffer, (self.planned.at, *place), buffer)
 
-    def read_chunks(self, run: Run, room: NDArray[Any]) -> None:
+    def read_chunks(self, run: Run, buffer: NDArray[Any]) -> None:
         """Reads a run of chunks into an array, one behind the other."""
         if self.stored:
-            self.stored.read_chunks(self.grid, run, room)
+            self.stored.read_chunks(self.grid, run, buffer)
         elif self.form.alone or run.count == 1 or self.planned.is_by_ranges:
-            self.planned.read(self._sized(run), room)
+            self.planned.read(self._sized(run), buffer)
         elif self._are_few(run) and self.planned.plan:
-            self.planned.read_run(self.planned.plan, run.first, run.count, room)
+            self.planned.read_run(self.planned.plan, run.first, run.count, buffer)
         else:
-            self.read(_library.READ_CHUNKS, room, run.first, run.count)
+            self.read(_library.READ_CHUNKS, buffer, run.first, run.count)
 
     def _are_few(self, run: Run) -> bool:
         """Tells whether a call by the page's plan takes less time than one that opens the page."""
@@ -239,7 +239,7 @@ class Reading:
             if form.turned:
                 numpy.bitwise_not(target, out=target)
             return
-        raw = self.scratch.room((behind - row) * form.row_bytes(grid.width))
+        raw = self.scratch.buffer((behind - row) * form.row_bytes(grid.width))
         self.source.read_chunks(run, raw)
         raw = raw.reshape(behind - row, -1)
         numbers = form.natural(raw, grid.width)
@@ -269,11 +269,11 @@ class Reading:
         rows, width = grid.rows_from(row), grid.chunk_width
         cut = min(run.count * width, grid.width - column) % width
         whole = run.count - (cut > 0)
-        room, rest = whole * rows * form.row_bytes(width), rows * form.row_bytes(cut)
-        raw = self.scratch.room(room + rest)
+        size, rest = whole * rows * form.row_bytes(width), rows * form.row_bytes(cut)
+        raw = self.scratch.buffer(size + rest)
         self.source.read_chunks(run, raw)
         if whole:
-            numbers = form.natural(raw[:room].reshape(whole * rows, -1), width)
+            numbers = form.natural(raw[:size].reshape(whole * rows, -1), width)
             tiles = numbers.reshape(whole, rows, width, form.samples)
             if tiles[0].nbytes >= LARGE_TILE:
                 yield from tiles
@@ -281,7 +281,7 @@ class Reading:
                 side_by_side = tiles.transpose(1, 0, 2, 3)
                 yield side_by_side.reshape(rows, whole * width, form.samples)
         if cut:
-            yield form.natural(raw[room:].reshape(rows, -1), cut)
+            yield form.natural(raw[size:].reshape(rows, -1), cut)
 
 
 def stretches(first: int, behind: int, most: int) -> Iterator[Run]:
@@ -291,7 +291,7 @@ def stretches(first: int, behind: int, most: int) -> Iterator[Run]:
 
 
 def threads(workers: int | None) -> int:
-    """Returns how many threads read: as many as asked for, or as there are processors."""
+    """Returns how many threads read: as many as the caller wants, or as there are processors."""
     if workers is None:
         return len(os.sched_getaffinity(0))
     if workers < 1:

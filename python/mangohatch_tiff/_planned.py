@@ -22,7 +22,7 @@ OTHER_TYPES += ", of a file that is read by ranges"
 class Planned:
     """A page of a file, by its number for the calls, with its plan, which is taken once.
 
-    Of a file that isn't in memory, `place_of` tells the offset and the length of a chunk.
+    Of a file that isn't in memory, `place_of` returns the offset and the length of a chunk.
     """
 
     def __init__(
@@ -61,43 +61,43 @@ class Planned:
     def laid_out(self) -> PagePlan:
         """Returns the plan of a page that isn't in memory; raises the error of its layout.
 
-        A chunk is asked for with no room, so none of its bytes are read.
+        The call gets a buffer of no bytes, so it reads none of the chunk.
         """
         assert isinstance(self.file, Windows)
-        plan, room = self.certain, ctypes.c_ubyte()
-        status = self.file.ask(_library.READ_PLANNED_CHUNK_IN, plan, 0, ctypes.byref(room), 0)
+        plan, buffer = self.certain, ctypes.c_ubyte()
+        status = self.file.run(_library.READ_PLANNED_CHUNK_IN, plan, 0, ctypes.byref(buffer), 0)
         if status != Status.INSUFFICIENT_OUTPUT_BUFFER_SIZE:
             _library.check(status)
         return plan
 
-    def read(self, chunks: Iterable[tuple[int, int]], room: Any) -> None:
+    def read(self, chunks: Iterable[tuple[int, int]], buffer: Any) -> None:
         """Reads chunks into an array, one behind the other; each has a number and so many bytes."""
         if isinstance(self.file, Windows):
-            self._read_by_ranges(self.file, chunks, room)
+            self._read_by_ranges(self.file, chunks, buffer)
             return
         call = _library.READ_PLANNED_CHUNK if self.plan else _library.READ_CHUNK
-        page, place = self.plan or self.at, room.ctypes.data
+        page, place = self.plan or self.at, buffer.ctypes.data
         with _library.locked(self.file) as (address, length):
             for chunk, size in chunks:
                 _library.check(call(address, length, page, chunk, place, size))
                 place += size
 
     def _read_by_ranges(
-        self, file: Windows, chunks: Iterable[tuple[int, int]], room: Any
+        self, file: Windows, chunks: Iterable[tuple[int, int]], buffer: Any
     ) -> None:
         """Reads chunks of a file that isn't in memory; the bytes of each are fetched together."""
-        plan, place = self.certain, room.ctypes.data
+        plan, place = self.certain, buffer.ctypes.data
         for chunk, size in chunks:
             offset, length = self.place_of(chunk)
             # PackBits may take more bytes than the samples; what is longer is fetched by parts.
             together = offset, min(length, 2 * size)
             call = _library.READ_PLANNED_CHUNK_IN
-            _library.check(file.ask(call, plan, chunk, place, size, together=together))
+            _library.check(file.run(call, plan, chunk, place, size, together=together))
             place += size
 
-    def read_run(self, plan: PagePlan, first: int, count: int, room: Any) -> None:
+    def read_run(self, plan: PagePlan, first: int, count: int, buffer: Any) -> None:
         """Reads `count` chunks from the number `first` on into an array, by one call."""
         with _library.locked(self.buffer) as (address, length):
-            place, size = room.ctypes.data, room.nbytes
+            place, size = buffer.ctypes.data, buffer.nbytes
             call = _library.READ_PLANNED_CHUNKS
             _library.check(call(address, length, plan, first, count, place, size))

@@ -24,9 +24,9 @@ REPLACED = "rewrite: the path has another file now"
 
 
 def rewrite_chunk(page: TiffPage, chunk: int, samples: NDArray[Any], shown: bool) -> None:
-    """Changes a chunk of a page in its file, as `TiffPage.rewrite` tells."""
+    """Changes a chunk of a page in its file, as `TiffPage.rewrite` describes it."""
     source, file = source_of(page, shown), buffer_of(page)
-    raw = source.form.raw(judged(page, source, chunk, samples))
+    raw = source.form.raw(checked_samples(page, source, chunk, samples))
     with _library.named(page._named):
         plan = page._planned.plan
         if plan is None:
@@ -53,7 +53,7 @@ def buffer_of(page: TiffPage) -> Any:
     return file
 
 
-def judged(
+def checked_samples(
     page: TiffPage, source: Source, chunk: int, samples: NDArray[Any]
 ) -> NDArray[Any]:
     """Returns the samples of a chunk, of the shape and the number type that the page has there."""
@@ -79,9 +79,9 @@ def rewritten(
             raise TiffError(Status.UNEXPECTED_EOF)
         with memoryview(file) as view, view.cast("B") as data:
             stored = numpy.frombuffer(bytearray(data[place.offset : end]), numpy.uint8)
-        call, rows, room = _library.REWRITE_CHUNK, raw.ctypes.data, stored.ctypes.data
+        call, rows, target = _library.REWRITE_CHUNK, raw.ctypes.data, stored.ctypes.data
         _library.check(
-            call(address, length, plan, chunk, rows, raw.nbytes, room, stored.nbytes)
+            call(address, length, plan, chunk, rows, raw.nbytes, target, stored.nbytes)
         )
     return place, stored
 

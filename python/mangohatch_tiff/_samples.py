@@ -25,8 +25,8 @@ def number_type(sampleformat: int, bits: int) -> numpy.dtype[Any] | None:
         return numpy.dtype(bool)
     if sampleformat in (UNSIGNED, VOID, SIGNED):
         kind = "i" if sampleformat == SIGNED else "u"
-        room = next((size for size in WHOLE if 0 < bits <= size), 0)
-        return numpy.dtype(f"<{kind}{room // 8}") if room else None
+        stored = next((size for size in WHOLE if 0 < bits <= size), 0)
+        return numpy.dtype(f"<{kind}{stored // 8}") if stored else None
     name = FLOATS.get((sampleformat, bits))
     return numpy.dtype(name) if name else None
 
@@ -37,7 +37,7 @@ class Form:
 
     A row has whole bytes; `bits` are those of a sample and `samples` how many each pixel has there.
     With `turned`, the bytes are complemented, which takes back that the library inverted them.
-    With `swapped`, the two halves of a number stand in the other order. With `alone`, no
+    With `swapped`, the two halves of a number are in the other order. With `alone`, no
     call reads several chunks, as those of complex numbers.
     """
 

@@ -9,7 +9,7 @@ from typing import TYPE_CHECKING, Any, NamedTuple
 from ._enums import COMPRESSION, PREDICTOR
 from ._facts import DESCRIPTION, SOFTWARE, SUB_IFDS
 from ._library import Status, TiffError, UnsupportedError
-from ._page import TiffPage, room
+from ._page import TiffPage, output_array
 from ._parts import each, threads
 
 if TYPE_CHECKING:
@@ -19,7 +19,7 @@ if TYPE_CHECKING:
 
 # A page of more bytes is read by all threads at once, and pages of fewer by one thread.
 LARGE, SMALL = 1 << 24, 1 << 16
-# Files whose arrays tifffile makes by what these tags tell, LSM before all others.
+# Files whose arrays tifffile makes by these tags, LSM before all others.
 LSM = 34412
 TAGGED = {
     "NIH Image": (43314,),
@@ -30,7 +30,7 @@ TAGGED = {
     "Micro-Manager": (51123,),
     "MD Gel": (33445,),
 }
-# Files whose arrays tifffile makes by what these texts tell: the beginning or the end of a text.
+# Files whose arrays tifffile makes by these texts: the beginning or the end of a text.
 DESCRIBED = {"SVS": r"Aperio ", "ScanImage": r"state\.|(?s:.*)scanimage\.SI"}
 DESCRIBED |= {"OME": r"(?s:.*)OME>\s*$", "SCN": r"(?s:.*)</scn>\s*$"}
 MADE_BY = {"ScanImage": r"SI\.", "QPI": r"PerkinElmer-QPI", "BIF": r".*Ventana|ScanOutputManager"}
@@ -57,7 +57,7 @@ class Stack(NamedTuple):
             return first.asarray(out=out, workers=workers, shown=shown)
         for page in self.pages:
             self._judge(page, one, shown)
-        array = room(out, shape, first.dtype)
+        array = output_array(out, shape, first.dtype)
         self._read_each(array.reshape(count, *one), threads(workers), shown)
         if out is None or out is array:
             return array
@@ -86,7 +86,7 @@ class Stack(NamedTuple):
 
 def kind_of(page: TiffPage) -> str | None:
     """Returns the kind of file that a first page shows, if tifffile makes its arrays by more."""
-    described, software = page._told_text(DESCRIPTION), page._told_text(SOFTWARE)
+    described, software = page._text_or_empty(DESCRIPTION), page._text_or_empty(SOFTWARE)
     if LSM in page.tags:
         return "LSM"
     for name, pattern in DESCRIBED.items():
@@ -159,7 +159,7 @@ def stack_of(pages: list[TiffPage]) -> Stack:
     return Stack(pages, (len(pages), *one.shape), "I" + one.axes)
 
 
-def judge_places(pages: list[TiffPage], begin: int) -> None:
+def check_places(pages: list[TiffPage], begin: int) -> None:
     """Refuses images that don't lie one behind the other where tifffile takes it that they do.
 
     Of images that aren't packed, it reads all from where the first one begins, if the second
@@ -180,18 +180,18 @@ def judge_places(pages: list[TiffPage], begin: int) -> None:
 def shaped_stack(held: list[TiffPage]) -> Stack:
     """Returns the pages of an array whose shape tifffile wrote into the first description."""
     first = held[0]
-    text = first._told_text(DESCRIPTION)
+    text = first._text_or_empty(DESCRIPTION)
     try:
-        told = json.loads(text)
-        shape = tuple(int(side) for side in told["shape"])
+        facts = json.loads(text)
+        shape = tuple(int(side) for side in facts["shape"])
     except (ValueError, KeyError, TypeError):
         raise refused(f"a description that tells no shape: {text!r}") from None
     count, rest = divmod(math.prod(shape), first.size)
     pages = held[:count]
     if rest or not 0 < count == len(pages) or any(alike(page) != alike(first) for page in pages):
         raise refused(f"an array of the shape {shape}, which the pages don't make")
-    judge_places(pages, first.offset)
-    axes, before = told.get("axes"), len(shape) - first.ndim
+    check_places(pages, first.offset)
+    axes, before = facts.get("axes"), len(shape) - first.ndim
     if isinstance(axes, str) and len(axes) == len(shape):
         return Stack(pages, shape, axes)
     whole = before >= 0 and shape[before:] == first.shape
@@ -200,20 +200,20 @@ def shaped_stack(held: list[TiffPage]) -> Stack:
 
 def imagej_stack(file: TiffFile, text: str) -> Stack:
     """Returns the pages of an ImageJ file: frames, slices and channels, in this order."""
-    told = dict(re.findall(r"(?m)^(\w+)=(\S+)", text))
+    facts = dict(re.findall(r"(?m)^(\w+)=(\S+)", text))
     try:
-        counts = [int(told.get(name, 1)) for name in ("images", "frames", "slices", "channels")]
+        counts = [int(facts.get(name, 1)) for name in ("images", "frames", "slices", "channels")]
     except ValueError:
         raise refused("an ImageJ file whose sides are no numbers") from None
     images, *sides = counts
     named = dict(zip("TZC", sides))
     first, count = file.pages[0], math.prod(sides)
-    plain = told.get("order", "czt").lower() in ("czt", "default") and first.samplesperpixel == 1
+    plain = facts.get("order", "czt").lower() in ("czt", "default") and first.samplesperpixel == 1
     single = count == images == len(file.pages) == 1
     known = single or (plain and images == count == len(file.pages))
     if not known or any(alike(page) != alike(first) for page in file.pages):
         raise refused("an ImageJ file of pages that make no plain hyperstack")
-    judge_places(file.pages, min(first.dataoffsets, default=0))
+    check_places(file.pages, min(first.dataoffsets, default=0))
     return stacked(file.pages, named)
 
 
@@ -225,7 +225,7 @@ def first_stack(file: TiffFile) -> Stack:
     `UnsupportedError`, unless they are one page that is so as it is.
     """
     first = file.pages[0]
-    text = first._told_text(DESCRIPTION)
+    text = first._text_or_empty(DESCRIPTION)
     if first.is_shaped:
         return shaped_stack(file.pages)
     if text.startswith(("ImageJ=", "SCIFIO=")):

@@ -24,7 +24,7 @@ if TYPE_CHECKING:
 
 # As many bytes of numbers are unpacked at once.
 BAND = 1 << 20
-# The byte in which the bits of a byte stand in the other order.
+# The byte with the bits of a byte in the other order.
 TURNED = numpy.packbits(
     numpy.unpackbits(numpy.arange(256, dtype=numpy.uint8)).reshape(256, 8)[:, ::-1], axis=1
 )[:, 0]
@@ -108,9 +108,9 @@ class Stored:
     lengths: tuple[int, ...]
     form: StoredForm
 
-    def read_chunks(self, grid: Grid, run: Run, room: NDArray[Any]) -> None:
+    def read_chunks(self, grid: Grid, run: Run, buffer: NDArray[Any]) -> None:
         """Reads a run of chunks into an array, one behind the other, each cut at the edges."""
-        data, start = room.reshape(-1).view(numpy.uint8), 0
+        data, start = buffer.reshape(-1).view(numpy.uint8), 0
         for chunk in range(run.first, run.first + run.count):
             numbers = self.chunk(grid, chunk)
             part = data[start : start + numbers.nbytes].view(self.form.dtype)
@@ -164,9 +164,9 @@ def unpacked_bytes(packed: bytes, rows: int, size: int) -> NDArray[numpy.uint8]:
     for tag, value in sorted(tags.items()):
         kind = LONG8 if tag in (273, 279) else LONG
         file += struct.pack("<HHQQ", tag, kind, 1, value)
-    room = numpy.empty((rows, size), numpy.uint8)
-    _library.read_samples(_library.READ_CHUNK, file + bytes(8) + packed, (0, 0), room)
-    return room
+    buffer = numpy.empty((rows, size), numpy.uint8)
+    _library.read_samples(_library.READ_CHUNK, file + bytes(8) + packed, (0, 0), buffer)
+    return buffer
 
 
 def unpacked_wide(raw: NDArray[numpy.uint8], bits: int, count: int) -> NDArray[Any]:

@@ -133,7 +133,7 @@ MEANT |= {51123, 65426, 65432, 65439, 65459}
 PLACES = {DATATYPE.SHORT, DATATYPE.LONG, DATATYPE.LONG8}
 MOST_LISTED = 1 << 23
 LONG_LISTS = range(64, MOST_LISTED + 1)
-# The bytes of a text of which the library tells no more.
+# The bytes of a text of which the library returns no more.
 LONGEST_TEXT = 1 << 28
 
 Number = Union[int, float]
@@ -253,7 +253,7 @@ class Tags:
             return self._listed.get(number)
         try:
             with _library.named(self._index, number):
-                return _library.ask(_library.TAG_FIELD, Field, self._file, self._page, number)
+                return _library.result_of(_library.TAG_FIELD, Field, self._file, self._page, number)
         except TiffError as fault:
             if fault.status is Status.REQUIRED_TAG_NOT_FOUND:
                 return None
@@ -397,10 +397,10 @@ class Tags:
     def told(self, number: int) -> tuple[int, ...]:
         """Returns the unsigned numbers of a tag, none if the page doesn't have the tag."""
         with _library.named(self._index, number):
-            return _library.told_numbers(*self._in_memory(number), number)
+            return _library.unsigned_numbers(*self._in_memory(number), number)
 
     def _has_zero(self, number: int) -> bool:
-        """Tells whether a zero is among the unsigned numbers of a tag. Long lists take numpy."""
+        """Returns whether a zero is among the unsigned numbers of a tag. Long lists take numpy."""
         field = self._field(number)
         if field is None or field.kind not in PLACES or field.count not in LONG_LISTS:
             return 0 in self.told(number)

@@ -42,7 +42,7 @@ class Directory:
         return None if self.page is None else self.page.tags
 
     def __repr__(self) -> str:
-        return f"<Directory {self._place()}: {self._told()}>"
+        return f"<Directory {self._place()}: {self._described()}>"
 
     def _place(self) -> str:
         """Where the directory is, and what names it."""
@@ -50,7 +50,7 @@ class Directory:
             return f"@{self.offset}"
         return f"@{self.offset}, depth {self.depth}, {name_of(self.tag)} of @{self.parent}"
 
-    def _told(self) -> str:
+    def _described(self) -> str:
         """What is found there."""
         if self.page is None:
             return self.found.name + (f" {self.status.name}" if self.status else "")

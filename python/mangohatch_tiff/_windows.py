@@ -52,9 +52,9 @@ class Stretch(Structure):
 class Windows:
     """A file of `size` bytes that aren't in memory, by their source.
 
-    Bytes are fetched as pages of 64 KB, one request at a time, also if several threads ask. The
+    Bytes are fetched as pages of 64 KB, one request at a time, also if several threads read. The
     pages that were used last, 16 MB, are kept. An error of the source is passed on; one that gives
-    another number of bytes than it was asked for raises OSError.
+    another number of bytes than it should raises OSError.
     """
 
     def __init__(self, source: RangeSource) -> None:
@@ -70,7 +70,7 @@ class Windows:
         start, data = offset % PAGE, b"".join(self._pages(offset, behind).values())
         return data[start : start + behind - offset]
 
-    def ask(
+    def run(
         self, call: Callable[..., int], *given: Any, together: tuple[int, int] = (0, 0)
     ) -> int:
         """Calls with the windows that the call wants, and returns its status.

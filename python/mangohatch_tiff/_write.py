@@ -58,7 +58,8 @@ class Stored:
 
 @dataclass(frozen=True)
 class Settings:
-    """How a caller wants an array to be written; `has_shape` is that a description tells it."""
+    """How a caller wants an array to be written; `has_shape` means that a description has its
+    shape."""
 
     samples: Samples
     stored: Stored
@@ -133,7 +134,7 @@ def samples_apart(array: NDArray[Any], color: str, given: Samples) -> bool | Non
 
 
 def pages_of_array(array: NDArray[Any], color: str, given: Samples) -> tuple[NDArray[Any], bool]:
-    """Returns an array as pages, rows, columns and samples, and whether samples stand apart."""
+    """Returns an array as pages, rows, columns and samples, and whether samples are apart."""
     apart = samples_apart(array, color, given)
     if apart is None:
         while array.ndim > 2 and array.shape[-1] == 1:
@@ -220,7 +221,7 @@ def layout_of(rows: int, kind: str, stored: Stored) -> Layout:
     )
 
 
-def judge_array(given: NDArray[Any]) -> None:
+def check_array(given: NDArray[Any]) -> None:
     """Refuses arrays of dimensions and of number types that aren't written."""
     if given.ndim < 2:
         raise ValueError(f"an array of {given.ndim} dimensions: rows and columns are written")
@@ -248,7 +249,7 @@ def packed_bits(array: NDArray[Any], wanted: int | None) -> int | None:
     return bits
 
 
-def judge_packed(bits: int, meaning: PHOTOMETRIC, count: int, stored: Stored) -> None:
+def check_packed(bits: int, meaning: PHOTOMETRIC, count: int, stored: Stored) -> None:
     """Refuses what the library doesn't write of packed samples: colors, extra samples and tiles."""
     what = f"samples of {PACKED[bits]}"
     if KINDS[meaning] != "Gray" or meaning is PHOTOMETRIC.PALETTE:
@@ -285,22 +286,22 @@ def meaning_tags(
 def pages_of(data: ArrayLike, settings: Settings) -> list[NewPage]:
     """Returns the pages that an array is written as."""
     given = numpy.asarray(data)
-    judge_array(given)
+    check_array(given)
     bits = packed_bits(given, settings.stored.bitspersample)
     meaning = meaning_of(given, settings.samples)
-    color, told = KINDS[meaning], settings.samples
+    color, wanted = KINDS[meaning], settings.samples
     if meaning is PHOTOMETRIC.PALETTE:
-        told = replace(told, planarconfig=None, extrasamples=None)
+        wanted = replace(wanted, planarconfig=None, extrasamples=None)
     if color != "Gray" and given.ndim < 3:
         raise ValueError(f"an array of shape {given.shape} has no samples of {color}")
-    pages, apart = pages_of_array(given, color, told)
-    judge_sides(pages, given.shape)
+    pages, apart = pages_of_array(given, color, wanted)
+    check_sides(pages, given.shape)
     _, rows, columns, count = pages.shape
     if bits:
-        judge_packed(bits, meaning, count, settings.stored)
-    own = meaning_tags(meaning, given.dtype, told.colormap)
+        check_packed(bits, meaning, count, settings.stored)
+    own = meaning_tags(meaning, given.dtype, wanted.colormap)
     number = PACKED[bits] if bits else given.dtype.str[1:]
-    kind, extra = color_type_of(count, color, number, told)
+    kind, extra = color_type_of(count, color, number, wanted)
     layout = layout_of(rows, given.dtype.kind, settings.stored)
     layout = replace(layout, planar=apart and count > 1, extra=extra)
     return [
@@ -316,7 +317,7 @@ def pages_of(data: ArrayLike, settings: Settings) -> list[NewPage]:
     ]
 
 
-def judge_sides(pages: NDArray[Any], shape: tuple[int, ...]) -> None:
+def check_sides(pages: NDArray[Any], shape: tuple[int, ...]) -> None:
     """Refuses sides that no image has, and an array of no pages."""
     if max(pages.shape[1:3]) > LONGEST_SIDE:
         raise ValueError(f"a side of an image is {LONGEST_SIDE} at most")
@@ -331,7 +332,7 @@ def samples_of(page: NDArray[Any], bits: int | None) -> NDArray[Any]:
     return packed(page[:, :, 0].view(numpy.uint8), bits)[:, :, None]
 
 
-def judge_shape(pages: list[NewPage]) -> None:
+def check_shape(pages: list[NewPage]) -> None:
     """Refuses the shape of small images in a description, by which tifffile reads other bytes.
 
     It takes images that aren't packed from one behind the other if the second directory lies behind
@@ -348,7 +349,7 @@ def file_of(data: ArrayLike, big: bool | None, settings: Settings) -> list[memor
     """Returns the bytes of a file whose pages are an array, in parts."""
     pages = pages_of(data, settings)
     if settings.has_shape:
-        judge_shape(pages)
+        check_shape(pages)
     size = sum(page.samples.nbytes for page in pages)
     plain = method_of(settings.stored.compression) == COMPRESSION.NONE
     return _write_pages(pages, size > BIG_FROM and plain if big is None else big)

@@ -8,7 +8,7 @@ from typing import TYPE_CHECKING, Any
 
 from . import _directory, _library
 from ._closing import Closing
-from ._imwrite import OTHERS, holds_some, judge_others, settings_of, write_all
+from ._imwrite import OTHERS, holds_some, check_others, settings_of, write_all
 from ._library import Status, UnsupportedError
 from ._mapped import mapped
 
@@ -22,7 +22,7 @@ if TYPE_CHECKING:
 # Pages wait until they have so many bytes, and are written together, since each call walks along
 # the chain.
 WAITING = 1 << 24
-# tifffile's other parameters, each with the value that asks for nothing.
+# tifffile's other parameters, each with the value that has no effect.
 OPENED = {name: OTHERS[name] for name in ("byteorder", "imagej", "ome", "shaped")}
 WRITTEN = {name: value for name, value in OTHERS.items() if name not in OPENED}
 WRITTEN |= {"rowsperslice": (None,)}
@@ -34,7 +34,7 @@ class TiffWriter(Closing):
     `file` is a path, or an open file, which is read and written from its current position on. With
     `append`, the pages are added to the file that is there; without one, it is made. `bigtiff`
     makes a BigTIFF file; a file that is there stays of its kind. tifffile's other parameters raise
-    `UnsupportedError`, unless they ask for nothing.
+    `UnsupportedError`, unless they have no effect.
 
     What is in the file is never written anew: pages go behind its end, and then one link leads to
     them. So a file whose writing is cut short is read without the pages that came last. Pages may
@@ -44,7 +44,7 @@ class TiffWriter(Closing):
     def __init__(
         self, file: Target, /, *, bigtiff: bool = False, append: bool = False, **others: Any
     ) -> None:
-        judge_others(others, "TiffWriter", OPENED)
+        check_others(others, "TiffWriter", OPENED)
         self._pages: list[NewPage] = []
         # How many arrays of SubIFDs are to come, and the numbers of the waiting pages that get
         # them.
@@ -89,23 +89,23 @@ class TiffWriter(Closing):
         pyramid do: each has as many pages, and each page goes below the one of its index.
 
         Errors are those of `imwrite`, before anything of this array is written; those that the
-        library tells may come with a later array, or by `close`: an error of a page, as
+        library returns may come with a later array, or by `close`: an error of a page, as
         `PagesError`, and of a file whose chain of directories can't be followed.
         """
         import numpy
 
         known = {name: settings.pop(name) for name in [*settings] if name in WRITTEN}
-        judge_others(known, "write", WRITTEN)
+        check_others(known, "write", WRITTEN)
         array = numpy.asarray(data)
         self._add(array, settings_of(array, **settings), operator.index(subifds or 0))
 
     def _add(self, array: NDArray[Any], settings: Settings, levels: int = 0) -> None:
         """Writes the pages of an array, or lets them wait."""
-        from ._write import judge_shape, pages_of
+        from ._write import check_shape, pages_of
 
         pages = pages_of(array, settings)
         if settings.has_shape:
-            judge_shape(pages)
+            check_shape(pages)
         pages = self._placed(pages, levels)
         waiting = self._pages + pages
         size = sum(page.samples.nbytes for page in waiting)

@@ -123,29 +123,29 @@ class ZarrTiffStore(Closing, MutableMapping[str, bytes]):
         return next(iter(self._levels.values()))
 
     def _of_array(self) -> dict[str, Any]:
-        """Returns what the store tells of its one array, by the keys."""
+        """Returns the metadata of the store's one array, by the keys."""
         names = {DIMENSIONS: self._first.names}
         return {".zarray": self._first.described(), ".zattrs": {**names, **self._zattrs}}
 
     def _of_group(self) -> dict[str, Any]:
-        """Returns what the store tells of its arrays, by the keys."""
+        """Returns the metadata of the store's arrays, by the keys."""
         attributes, first = dict(self._zattrs), self._first
         names = attributes.pop(DIMENSIONS, first.names)
         paths = [{"path": prefix[:-1]} for prefix in self._levels]
         scales = {"version": "0.1", "name": self._name, "datasets": paths, "metadata": {}}
-        told: dict[str, Any] = {".zgroup": FORMAT}
-        told[".zattrs"] = {"multiscales": [scales], **attributes}
+        entries: dict[str, Any] = {".zgroup": FORMAT}
+        entries[".zattrs"] = {"multiscales": [scales], **attributes}
         for prefix, level in self._levels.items():
             sides = zip(names, level.stack.shape, first.stack.shape)
             named = [name if side == one else name + prefix[:-1] for name, side, one in sides]
-            told[f"{prefix}.zattrs"] = {DIMENSIONS: named}
-            told[f"{prefix}.zarray"] = level.described()
-        return {**told, ".zmetadata": {"zarr_consolidated_format": 1, "metadata": told}}
+            entries[f"{prefix}.zattrs"] = {DIMENSIONS: named}
+            entries[f"{prefix}.zarray"] = level.described()
+        return {**entries, ".zmetadata": {"zarr_consolidated_format": 1, "metadata": entries}}
 
     def __repr__(self) -> str:
         stacks = [level.stack for level in self._levels.values()]
-        told = ", ".join(f"{one.shape} {one.pages[0].dtype}" for one in stacks)
-        return f"<ZarrTiffStore {told}>"
+        entries = ", ".join(f"{one.shape} {one.pages[0].dtype}" for one in stacks)
+        return f"<ZarrTiffStore {entries}>"
 
     def _found(self, key: object) -> tuple[Level, Place] | None:
         """Returns the array and the place of a chunk by its key; None if it is no chunk's."""
@@ -232,9 +232,9 @@ class ZarrTiffStore(Closing, MutableMapping[str, bytes]):
             self._owned.close()
 
 
-def encoded(told: dict[str, Any]) -> dict[str, bytes]:
+def encoded(entries: dict[str, Any]) -> dict[str, bytes]:
     """Returns each value as JSON."""
-    return {key: json.dumps(value, indent=1).encode() for key, value in told.items()}
+    return {key: json.dumps(value, indent=1).encode() for key, value in entries.items()}
 
 
 def page_of(tif: TiffFile, index: int, offset: int) -> TiffPage:

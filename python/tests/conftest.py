@@ -38,7 +38,7 @@ def gray_file(
 ) -> bytes:
     """Returns a file of one gray page in one strip.
 
-    A field `tN=(type, value)` stands in place of the tag N, or is added to the tags.
+    A field `tN=(type, value)` takes the place of the tag N, or is added to the tags.
     """
     data = bytes(range(width * height)) if data is None else data
     tags = {256: (3, width), 257: (3, height), 258: (3, 8), 259: (3, 1), 262: (3, 1)}

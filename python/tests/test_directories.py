@@ -35,7 +35,7 @@ def file_of(*directories: tuple[Fields, int], values: bytes = b"") -> bytes:
 
 
 def found_of(file: bytes) -> list[tuple[int, int, int | None, int | None, Found]]:
-    """Returns what the list of a file's directories tells of their places."""
+    """Returns the places of a file's directories, from their list."""
     return [
         (item.offset, item.depth, item.tag, item.parent, item.found)
         for item in TiffFile(file).directories
@@ -134,7 +134,7 @@ def test_a_first_page_that_is_refused() -> None:
 
 
 def test_many() -> None:
-    """A directory that is named more often than the first call has room for."""
+    """A directory that is named more often than fits into the first call."""
     count = 20000
     values = struct.pack("<I", at(1)) * count
     file = file_of(({SUB_IFDS: (LONG, count, at(2))}, 0), ({}, 0), values=values)

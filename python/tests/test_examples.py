@@ -168,7 +168,7 @@ WORDS = (1, 1, 0, 4, 1024, 0, 1, 1, 1025, 0, 1, 1, 1026, 34737, 8, 0, 3072, 0, 1
 
 @pytest.mark.parametrize("is_point", [False, True])
 def test_geo_raster(is_point: bool, tmp_path: Path) -> None:
-    """Keys are told, and a window lies where the raster has it."""
+    """Keys are printed, and a window lies where the raster has it."""
     image, path, made = samples((300, 400), "u2"), tmp_path / "map.tif", tmp_path / "window.tif"
     words = (*WORDS[:11], 1 + is_point, *WORDS[12:])
     tags = [(34735, "H", len(words), words, True), (34737, "s", 0, "a place|", True)]

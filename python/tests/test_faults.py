@@ -1,4 +1,4 @@
-"""Files that are damaged or not supported are refused by the status that names the fault."""
+"""Files that are damaged or not supported are refused by the status of their error."""
 from __future__ import annotations
 
 import copy

@@ -1,4 +1,4 @@
-"""GeoTIFF: keys by name, EPSG numbers and transforms, as GDAL and tifffile tell them."""
+"""GeoTIFF: keys by name, EPSG numbers and transforms, as GDAL and tifffile have them."""
 from __future__ import annotations
 
 import io
@@ -139,7 +139,7 @@ def test_malformed_tags(told: str) -> None:
 
 
 def test_every_changed_byte() -> None:
-    """Whatever stands in the tags, they are told or refused by name."""
+    """Whatever the tags have, they are returned or refused by name."""
     made = io.BytesIO()
     keys = keys_tag((1024, 0, 1, 2), (2057, 34736, 1, 0), (2049, 34737, 7, 0))
     extra = [(*tag, True) for tag in (

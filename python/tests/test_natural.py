@@ -86,7 +86,7 @@ def packed_wide(numbers: numpy.ndarray, bits: int) -> bytes:
 @pytest.mark.parametrize("order", "<>")
 @pytest.mark.parametrize("bits", WIDE)
 def test_odd_depths(bits: int, order: str) -> None:
-    """Their bits stand one behind the other, the highest first, in files of both orders."""
+    """Their bits lie one behind the other, the highest first, in files of both orders."""
     numbers = wide((7, 13), bits)
     file = gray_file(13, 7, data=packed_wide(numbers, bits), order=order, t258=(3, bits))
     page = mt.TiffFile(file).pages[0]
@@ -520,7 +520,7 @@ STORED = {
 
 @pytest.mark.parametrize("name", STORED)
 def test_every_changed_byte(name: str) -> None:
-    """Whatever stands in the file, there is an array or an error of this package."""
+    """Whatever the file has, there is an array or an error of this package."""
     good, read = STORED[name], 0
     assert mt.imread(good).shape == (3, 4)
     for place in range(len(good)):

@@ -30,7 +30,7 @@ def words_of(page: NewPage) -> str:
 
 
 def jobs_of(page: NewPage) -> list[str]:
-    """Returns the jobs that write a page, as the header tells them at tiff_write_pages."""
+    """Returns the jobs that write a page, as the header has them at tiff_write_pages."""
     layout, (kind, number) = page.layout, page.color
     sign, ending = {"u": ("", ""), "i": ("I", ""), "f": ("", "Float")}[number[0]]
     jobs = [f"predictor {layout.predictor}", f"compression {METHODS[layout.method]}"]

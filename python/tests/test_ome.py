@@ -1,4 +1,4 @@
-"""OME-TIFF files: the arrays that the XML tells, as tifffile reads them."""
+"""OME-TIFF files: the arrays of the XML, as tifffile reads them."""
 from __future__ import annotations
 
 import io

@@ -32,7 +32,7 @@ def public(kind: object) -> set[str]:
 
 
 def test_names_are_in_the_table() -> None:
-    """Each name that tifffile has too, and each of our own, is told in the README."""
+    """Each name that tifffile has too, and each of our own, is in the README."""
     told = (FOLDER / "README.md").read_text()
     names = set(mt.__all__)
     kinds = mt.TiffFile, mt.TiffPage, mt.Tag, mt.Tags, mt.Directory, mt.TiffWriter, mt.Geo

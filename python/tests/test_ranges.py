@@ -24,7 +24,7 @@ CHANGES = 4
 
 
 class Counted:
-    """A source over bytes in memory, which notes what it is asked for."""
+    """A source over bytes in memory, which notes the ranges that are read."""
 
     def __init__(self, file: bytes) -> None:
         self.file, self.size = file, len(file)
@@ -349,7 +349,7 @@ def test_errors_of_a_source_are_passed_on() -> None:
 
 @pytest.mark.parametrize("more", [-3, 3])
 def test_a_source_of_another_length(more: int) -> None:
-    """A source that gives fewer bytes than it says, or more than it is asked for."""
+    """A source that returns fewer bytes than it says, or more than it should."""
 
     class Wrong(Counted):
         def read_at(self, offset: int, size: int) -> bytes:

@@ -33,7 +33,7 @@ def assert_same(file: bytes, count: int = 1) -> None:
 
 
 def assert_same_page(page: mt.TiffPage, other: tifffile.TiffPage) -> None:
-    """Compares the facts and the samples of a page with those that tifffile tells."""
+    """Compares the facts and the samples of a page with tifffile's."""
     expected = other.asarray()
     read = page.asarray()
     assert read.shape == page.shape == expected.shape
@@ -127,7 +127,7 @@ def test_more_pages_than_are_listed_at_first(monkeypatch: pytest.MonkeyPatch) ->
     with tifffile.TiffWriter(file) as writer:
         for rows in range(1, 10):
             writer.write(samples((rows, 5), "u1"), photometric="minisblack", contiguous=False)
-    monkeypatch.setattr(_library, "FIRST_ROOM", 4)
+    monkeypatch.setattr(_library, "FIRST_CAPACITY", 4)
     assert [page.imagelength for page in mt.TiffFile(file.getvalue())] == list(range(1, 10))
 
 

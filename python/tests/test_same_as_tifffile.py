@@ -176,7 +176,7 @@ def assert_same_series(
 
 
 def assert_same_page(page: mt.TiffPage, other: tifffile.TiffPage, seed: int) -> None:
-    """Compares a page and its facts with those that tifffile tells."""
+    """Compares a page and its facts with tifffile's."""
     if page.status is not mt.Status.DONE:
         return
     for name in FACTS:
@@ -227,5 +227,5 @@ def tiff_page(file: bytes, index: int) -> tifffile.TiffPage | None:
 
 
 def unlike(page: mt.TiffPage) -> set[str]:
-    """Returns the facts that tifffile tells in another way of an image of several layers."""
+    """Returns the facts that tifffile has otherwise for an image of several layers."""
     return {"shape", "axes", "ndim", "size", "nbytes", "chunks"} if page.imagedepth > 1 else set()

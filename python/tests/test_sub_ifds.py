@@ -24,7 +24,7 @@ def test_sub_ifds(big: bool, order: str) -> None:
 
 
 def test_no_page() -> None:
-    """An offset without a directory raises its fault."""
+    """An offset without a directory raises its error."""
     made = BytesIO()
     tifffile.imwrite(made, samples((2, 2), "u1"))
     with TiffFile(made.getvalue()) as file:
@@ -73,7 +73,7 @@ def test_a_color_filter_array() -> None:
 
 
 def assert_stored(page: TiffPage, other: tifffile.TiffPage, image: numpy.ndarray) -> None:
-    """Compares a page without a color with what tifffile tells of it."""
+    """Compares a page without a color with tifffile's."""
     assert page.status is Status.DONE and not page.is_inverted
     for fact in ("shape", "dtype", "axes", "photometric", "tile", "chunks", "offset"):
         assert getattr(page, fact) == getattr(other, fact), fact

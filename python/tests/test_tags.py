@@ -116,7 +116,7 @@ def test_common_tags(byteorder: str) -> None:
 @pytest.mark.parametrize("byteorder", "<>")
 @pytest.mark.parametrize("bigtiff", [False, True])
 def test_tags_are_those_of_tifffile(byteorder: str, bigtiff: bool) -> None:
-    """Each tag has the number, the type, the count and the value that tifffile tells."""
+    """Each tag has the number, the type, the count and the value that tifffile has."""
     extra = [*EXTRA, (65030, "s", 0, b"  caf\xe9 \0\0", True), (65031, 7, 3, b"abc", True)]
     file = file_of_tags(byteorder, bigtiff, extra)
     ours = mt.TiffFile(file).pages[0].tags

@@ -92,7 +92,7 @@ def test_information_without_reading_an_image() -> None:
     series = tif.series[0]
     assert series.shape == (64, 301, 219)
     assert series.dtype == numpy.dtype("uint16")
-    # The example prints QYX, since tifffile writes a description; without one it tells the same.
+    # The example prints QYX, since tifffile writes a description; without one it has the same axes.
     assert series.axes == tifffile.TiffFile("temp.tif").series[0].axes == "IYX"
     tif.close()
 
@@ -240,7 +240,7 @@ def test_pyramids(writer) -> None:
 
 
 def test_decode_single_tiles() -> None:
-    """`read_chunk` stands in place of `decode`; their places in the file are the same."""
+    """`read_chunk` takes the place of `decode`; their places in the file are the same."""
     data = numpy.random.randint(0, 255, (256, 256), "uint8")
     imwrite("temp.tif", data, tile=(128, 128))
     with TiffFile("temp.tif") as tif, open("temp.tif", "rb") as fh:
