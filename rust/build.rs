@@ -1,5 +1,5 @@
 //! Finds the C library: in the folder that `MANGOHATCH_TIFF_LIB_DIR` names, else by `pkg-config`.
-//! And tells the package whether the compiler shows its messages.
+//! And sets a `cfg` where the compiler shows the package's own messages.
 
 use std::env;
 use std::path::{Path, PathBuf};

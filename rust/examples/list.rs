@@ -36,8 +36,8 @@ fn main() -> common::Outcome {
     let mut lines = String::new();
     let mut found = page(&mut decoder);
     for number in 0.. {
-        let told = found.unwrap_or_else(|err| format!("error: {err}"));
-        lines += &format!("{number} {told}\n");
+        let text = found.unwrap_or_else(|err| format!("error: {err}"));
+        lines += &format!("{number} {text}\n");
         if !decoder.more_images() {
             break;
         }

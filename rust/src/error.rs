@@ -19,7 +19,7 @@ use crate::ColorType;
 pub enum TiffError {
     /// The file does not have TIFF's form.
     FormatError(TiffFormatError),
-    /// The file asks for what is not supported.
+    /// The file needs what is not supported.
     UnsupportedError(TiffUnsupportedError),
     /// The reader failed, or the file ends too early.
     IoError(io::Error),
@@ -66,7 +66,7 @@ pub enum TiffFormatError {
     TiffSignatureInvalid,
     /// There is no such page in the chain of directories.
     ImageFileDirectoryNotFound,
-    /// Sizes that the file tells twice differ.
+    /// Sizes that the file has twice differ.
     InconsistentSizesEncountered,
     /// A width or a height of 0.
     InvalidDimensions(u32, u32),
@@ -80,7 +80,7 @@ pub enum TiffFormatError {
     UnknownPredictor(u16),
     /// The tag PlanarConfiguration has an unknown value.
     UnknownPlanarConfiguration(u16),
-    /// The type of the tag's value is not the one that is asked for.
+    /// The type of the tag's value is not the one that is read.
     InvalidTypeForTag,
     /// The tag has so many values, which is not how many it should have.
     InvalidCountForTag(Tag, usize),
@@ -132,7 +132,7 @@ impl fmt::Display for TiffFormatError {
 
 impl Error for TiffFormatError {}
 
-/// What a file asks for that is not supported.
+/// What a file needs that is not supported.
 #[derive(Debug, Clone, PartialEq, Eq, Hash)]
 #[non_exhaustive]
 pub enum TiffUnsupportedError {
@@ -250,7 +250,7 @@ pub enum UsageError {
     InsufficientOutputRowStride {
         /// How many bytes a row has.
         needed: usize,
-        /// The distance that is asked for.
+        /// The distance that the caller wants.
         requested: usize,
     },
     /// The offset 0 as that of a directory that is written.

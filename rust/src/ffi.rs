@@ -1,6 +1,6 @@
 //! The calls of the C library, over slices. All `unsafe` of this crate is here.
 //!
-//! What the header asks of each call that gets pointers is that none is null, that the memory that
+//! The header requires of each call with pointers that none is null, that the memory that
 //! the call reads stays as it is meanwhile, and that the memory that it writes lies apart from that.
 //! Slices and references give all of it: their pointers are never null, also not of an empty slice;
 //! nobody writes behind a `&`, and nothing else points to what is behind a `&mut`. A call reads and
@@ -53,7 +53,7 @@ impl Fault {
 }
 
 /// Returns the result of a call, or its error.
-fn answer<T>(status: u32, result: T) -> Result<T, Fault> {
+fn result_of<T>(status: u32, result: T) -> Result<T, Fault> {
     match Fault::of(status) {
         None => Ok(result),
         Some(fault) => Err(fault),
@@ -208,7 +208,7 @@ mod c {
             file: *const u8,
             len: usize,
             pages: *mut ListedPage,
-            room: usize,
+            capacity: usize,
             count: *mut usize,
         ) -> u32;
         pub(super) fn tiff_page_layout(
@@ -266,7 +266,7 @@ mod c {
             page: usize,
             tag: u16,
             numbers: *mut u64,
-            room: usize,
+            capacity: usize,
             count: *mut usize,
         ) -> u32;
         pub(super) fn tiff_tag_bytes(
@@ -309,7 +309,7 @@ mod c {
     }
 }
 
-/// Lists the pages of a file: as many as there is room for. Returns how many there are, and the
+/// Lists the pages of a file: as many as fit. Returns how many there are, and the
 /// error by which their chain ends.
 fn list_into(file: &[u8], pages: &mut [ListedPage]) -> (usize, Option<Fault>) {
     let mut count = 0;
@@ -346,7 +346,7 @@ pub(crate) fn page_layout(place: Place<'_>) -> Result<Layout, Fault> {
     let mut layout = Layout::default();
     // SAFETY: a slice and a reference, as the head of this file says; `Layout` is the header's.
     let status = unsafe { c::tiff_page_layout(file.as_ptr(), file.len(), page, &mut layout) };
-    answer(status, layout)
+    result_of(status, layout)
 }
 
 /// Returns the chunks of a page.
@@ -355,7 +355,7 @@ pub(crate) fn page_chunks(place: Place<'_>) -> Result<Chunks, Fault> {
     let mut chunks = Chunks::default();
     // SAFETY: a slice and a reference, as the head of this file says; `Chunks` is the header's.
     let status = unsafe { c::tiff_page_chunks(file.as_ptr(), file.len(), page, &mut chunks) };
-    answer(status, chunks)
+    result_of(status, chunks)
 }
 
 /// Reads the image of a page.
@@ -371,7 +371,7 @@ pub(crate) fn read_image(place: Place<'_>, buffer: &mut [u8]) -> Result<(), Faul
             buffer.len(),
         )
     };
-    answer(status, ())
+    result_of(status, ())
 }
 
 /// Reads a chunk of a page.
@@ -388,7 +388,7 @@ pub(crate) fn read_chunk(place: Place<'_>, chunk: u32, buffer: &mut [u8]) -> Res
             buffer.len(),
         )
     };
-    answer(status, ())
+    result_of(status, ())
 }
 
 /// Reads a coding unit of a page.
@@ -409,7 +409,7 @@ pub(crate) fn read_coding_unit(
             buffer.len(),
         )
     };
-    answer(status, ())
+    result_of(status, ())
 }
 
 /// Returns the type and the count of the values of a tag.
@@ -418,7 +418,7 @@ pub(crate) fn tag_field(place: Place<'_>, tag: u16) -> Result<Field, Fault> {
     let mut field = Field::default();
     // SAFETY: a slice and a reference, as the head of this file says; `Field` is the header's.
     let status = unsafe { c::tiff_tag_field(file.as_ptr(), file.len(), page, tag, &mut field) };
-    answer(status, field)
+    result_of(status, field)
 }
 
 /// Returns the value of a tag that has one, an unsigned number.
@@ -427,7 +427,7 @@ pub(crate) fn tag_number(place: Place<'_>, tag: u16) -> Result<u64, Fault> {
     let mut number = 0;
     // SAFETY: a slice and a reference, as the head of this file says.
     let status = unsafe { c::tiff_tag_number(file.as_ptr(), file.len(), page, tag, &mut number) };
-    answer(status, number)
+    result_of(status, number)
 }
 
 /// Puts the values of a tag, unsigned numbers, into a slice, and returns how many there are.
@@ -446,7 +446,7 @@ fn numbers_into(place: Place<'_>, tag: u16, numbers: &mut [u64]) -> Result<usize
             &mut count,
         )
     };
-    answer(status, count)
+    result_of(status, count)
 }
 
 /// Returns the values of a tag, unsigned numbers.
@@ -483,7 +483,7 @@ pub(crate) fn tag_bytes(
             &mut written,
         )
     };
-    answer(status, written)
+    result_of(status, written)
 }
 
 /// Returns the text of a tag that has so many values.
@@ -504,7 +504,7 @@ pub(crate) fn tag_text(place: Place<'_>, tag: u16, count: usize) -> Result<Vec<u
         )
     };
     text.truncate(len);
-    answer(status, text)
+    result_of(status, text)
 }
 
 /// `TIFF_INSUFFICIENT_OUTPUT_BUFFER_SIZE` of the header.
@@ -571,7 +571,7 @@ impl NewPage {
 }
 
 /// Returns the file that a call writes into a buffer: one of the expected length, or else of the
-/// length that the call tells.
+/// length that the call returns.
 fn written(expected: usize, call: impl Fn(&mut [u8], &mut usize) -> u32) -> Result<Vec<u8>, Fault> {
     let mut file = vec![0; expected];
     let mut len = 0;
@@ -581,7 +581,7 @@ fn written(expected: usize, call: impl Fn(&mut [u8], &mut usize) -> u32) -> Resu
         status = call(&mut file, &mut len);
     }
     file.truncate(len);
-    answer(status, file)
+    result_of(status, file)
 }
 
 /// Returns a file of one image, with a version in its header. The image has no tags of its own and

@@ -1,4 +1,4 @@
-//! Files with bytes changed: no call ends the program, and what calls tell agrees.
+//! Files with bytes changed: no call ends the program, and what calls return agrees.
 
 mod common;
 

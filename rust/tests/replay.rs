@@ -1,4 +1,4 @@
-//! The lists of calls of `crates/tiff_replay`, with the replies that stand there.
+//! The lists of calls of `crates/tiff_replay`, with the replies in them.
 
 mod common;
 
@@ -30,7 +30,7 @@ const BY_READER: [&str; 15] = [
     "read_string",
 ];
 
-/// Calls that the crate `tiff` doesn't have, and that move the decoder: the file isn't asked more.
+/// Calls that the crate `tiff` doesn't have, and that move the decoder: the test makes no further calls on the file.
 const MOVES: [&str; 2] = ["check", "list"];
 
 fn data() -> PathBuf {
@@ -71,9 +71,9 @@ fn file_of(words: &[&str], written: &Option<Vec<u8>>) -> Option<Vec<u8>> {
 }
 
 /// Writes a result as the lists do.
-fn told<T>(result: TiffResult<T>, tell: impl Fn(T) -> String) -> String {
+fn reply_of<T>(result: TiffResult<T>, show: impl Fn(T) -> String) -> String {
     match result {
-        Ok(value) => tell(value),
+        Ok(value) => show(value),
         Err(err) => {
             let form = format!("{err:?}")
                 .replace("IoError(Kind(UnexpectedEof))", "IoError(UnexpectedEof)");
@@ -83,7 +83,7 @@ fn told<T>(result: TiffResult<T>, tell: impl Fn(T) -> String) -> String {
 }
 
 fn shown<T: Debug>(result: TiffResult<T>) -> String {
-    told(result, |value| format!("{value:?}"))
+    reply_of(result, |value| format!("{value:?}"))
 }
 
 /// Writes samples as the lists do: floating-point numbers by their bits.
@@ -138,8 +138,8 @@ fn reply(decoder: &mut Reader, call: &str, numbers: &[u64]) -> Option<String> {
         "more_images" => decoder.more_images().to_string(),
         "next_image" => shown(decoder.next_image()),
         "seek_to_image" => shown(decoder.seek_to_image(number(0) as usize)),
-        "read_image" => told(decoder.read_image(), |read| samples(&read)),
-        "read_chunk" => told(decoder.read_chunk(chunk), |read| samples(&read)),
+        "read_image" => reply_of(decoder.read_image(), |read| samples(&read)),
+        "read_chunk" => reply_of(decoder.read_chunk(chunk), |read| samples(&read)),
         "read_image_bytes" => {
             let mut bytes = vec![0; number(0) as usize];
             with(
@@ -179,7 +179,7 @@ fn reply(decoder: &mut Reader, call: &str, numbers: &[u64]) -> Option<String> {
         "image_coding_unit_layout" => {
             shown(decoder.image_coding_unit_layout(TiffCodingUnit(chunk)))
         }
-        "read_directory" => told(decoder.read_directory(IfdPointer(number(0))), directory),
+        "read_directory" => reply_of(decoder.read_directory(IfdPointer(number(0))), directory),
         "find_entry" => format!("{:?}", decoder.image_ifd().find_entry(tag)),
         "find_tag" => shown(decoder.find_tag(tag)),
         "find_tag_unsigned" => shown(decoder.find_tag_unsigned::<u64>(tag)),
@@ -200,21 +200,21 @@ fn reply(decoder: &mut Reader, call: &str, numbers: &[u64]) -> Option<String> {
         "get_tag_unsigned" => shown(decoder.get_tag_unsigned::<u64>(tag)),
         "get_tag_u32" => shown(decoder.get_tag_u32(tag)),
         "get_tag_u64" => shown(decoder.get_tag_u64(tag)),
-        "get_tag_f32" => told(decoder.get_tag_f32(tag), |n| {
+        "get_tag_f32" => reply_of(decoder.get_tag_f32(tag), |n| {
             format!("Bits32({})", n.to_bits())
         }),
-        "get_tag_f64" => told(decoder.get_tag_f64(tag), |n| {
+        "get_tag_f64" => reply_of(decoder.get_tag_f64(tag), |n| {
             format!("Bits64({})", n.to_bits())
         }),
         "get_tag_u8_vec" => shown(decoder.get_tag_u8_vec(tag)),
         "get_tag_u16_vec" => shown(decoder.get_tag_u16_vec(tag)),
         "get_tag_u32_vec" => shown(decoder.get_tag_u32_vec(tag)),
         "get_tag_u64_vec" => shown(decoder.get_tag_u64_vec(tag)),
-        "get_tag_f32_vec" => told(decoder.get_tag_f32_vec(tag), |numbers| {
+        "get_tag_f32_vec" => reply_of(decoder.get_tag_f32_vec(tag), |numbers| {
             let items = numbers.iter().map(|n| format!("Bits32({})", n.to_bits()));
             format!("[{}]", items.collect::<Vec<_>>().join(", "))
         }),
-        "get_tag_f64_vec" => told(decoder.get_tag_f64_vec(tag), |numbers| {
+        "get_tag_f64_vec" => reply_of(decoder.get_tag_f64_vec(tag), |numbers| {
             let items = numbers.iter().map(|n| format!("Bits64({})", n.to_bits()));
             format!("[{}]", items.collect::<Vec<_>>().join(", "))
         }),

@@ -1,6 +1,6 @@
 //! A file in memory, and what this crate reads of it itself: the header, and the entries of
 //! directories. The C library has no call that lists the entries of a directory, and none that
-//! tells the values that the crate's errors name.
+//! has the values that the crate's errors name.
 
 use std::fmt;
 use std::io;
@@ -228,7 +228,7 @@ impl File {
     }
 }
 
-/// What a page tells, for the errors that name it.
+/// The facts of a page, for the errors that name them.
 struct Told<'a> {
     file: &'a File,
     directory: &'a Directory,
@@ -242,7 +242,7 @@ impl Told<'_> {
         self.file.numbers(self.directory, tag).unwrap_or_default()
     }
 
-    /// Returns the first value of a tag, or what stands for it where there is none.
+    /// Returns the first value of a tag, or a default if there is none.
     fn first(&self, tag: Tag, absent: u16) -> u64 {
         self.all(tag).first().copied().unwrap_or(absent.into())
     }

@@ -61,7 +61,7 @@ use Value::{
     SignedByte, SignedShort, Unsigned, UnsignedBig,
 };
 
-/// The error of a value of another type than the one that is asked for.
+/// The error of a value of another type than the one that is read.
 fn other_type<T>() -> TiffResult<T> {
     Err(TiffFormatError::InvalidTypeForTag.into())
 }

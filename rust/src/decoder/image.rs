@@ -16,7 +16,7 @@ use crate::{
 const INT_SIZE_ERROR: u32 = 2;
 const CHROMA_SUBSAMPLING: u32 = 54;
 
-/// What the C library tells of a page.
+/// What the C library returns for a page.
 #[derive(Debug)]
 pub(super) struct Image {
     is_first: bool,
@@ -26,7 +26,7 @@ pub(super) struct Image {
     is_planar: bool,
     samples: u16,
     format: SampleFormat,
-    /// How many bytes each chunk has in the file, once that was asked.
+    /// How many bytes each chunk has in the file, once that was read.
     stored: Option<Vec<u64>>,
 }
 
@@ -81,11 +81,11 @@ impl Image {
         let chunks = match ffi::page_chunks(place) {
             Ok(chunks) => (chunks.width, chunks.height),
             // Only strips may be too many, of which the tag has the rows.
-            Err(told) if told.number() == INT_SIZE_ERROR => {
+            Err(err) if err.number() == INT_SIZE_ERROR => {
                 let rows = number(Tag::RowsPerStrip).map_err(fault)?;
                 (facts.width, rows.map_or(facts.height, |rows| rows as u32))
             }
-            Err(told) => return Err(fault(told)),
+            Err(err) => return Err(fault(err)),
         };
         image.is_planar = planar == Some(PlanarConfiguration::Planar.to_u16().into());
         image.samples = samples.map_or(1, |samples| samples as u16);
@@ -337,8 +337,8 @@ impl Image {
 }
 
 /// Returns the value of a tag, or none where there is no such tag.
-fn absent<T>(answer: Result<T, Fault>) -> Result<Option<T>, Fault> {
-    match answer {
+fn absent<T>(result: Result<T, Fault>) -> Result<Option<T>, Fault> {
+    match result {
         Ok(value) => Ok(Some(value)),
         Err(fault) if fault.number() == NO_SUCH_TAG => Ok(None),
         Err(fault) => Err(fault),

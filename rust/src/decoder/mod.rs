@@ -40,7 +40,7 @@ pub enum ChunkType {
 pub struct Limits {
     /// How many bytes the samples or the values may have that a call returns.
     pub decoding_buffer_size: usize,
-    /// Nothing asks for it.
+    /// No call needs it.
     pub ifd_value_size: usize,
     /// How many bytes a chunk may have in the file.
     pub intermediate_buffer_size: usize,

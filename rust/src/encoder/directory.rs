@@ -71,7 +71,7 @@ impl<'a, W, K: TiffKind> DirectoryEncoder<'a, W, K> {
         self.encoder.pages.push(page);
     }
 
-    /// Notes that the image isn't added, which nobody was told.
+    /// Notes that the image isn't added, an error that no call returned.
     pub(super) fn lose(&mut self) {
         self.encoder.has_lost_image = true;
     }

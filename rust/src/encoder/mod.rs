@@ -253,7 +253,7 @@ fn put<W: Write + Seek>(writer: &mut W, file: &[u8]) -> io::Result<()> {
 impl<W, K: TiffKind> Drop for TiffEncoder<W, K> {
     fn drop(&mut self) {
         if !self.is_ended {
-            // Nobody is told of an error here, as the head of the type says.
+            // An error is lost here, as the head of the type says.
             let _ = self.write_file();
         }
     }

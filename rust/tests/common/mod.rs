@@ -67,7 +67,7 @@ extern "C" {
         len: usize,
         page: usize,
         entries: *mut TagEntry,
-        room: usize,
+        capacity: usize,
         count: *mut usize,
     ) -> u32;
     fn tiff_version() -> u32;
