@@ -146,55 +146,73 @@ def header_of_big():
             )
 
 
+def firsts_in_header(form):
+    good, place = plain(form), form.header - form.offset
+    for first in range(form.header):
+        kind, reason = (
+            (MUST, "offset 0 is no directory, and each file has one")
+            if first == 0
+            else (MAY, SILENT)
+        )
+        yield (
+            f"first-{first}-{form.name}",
+            good.laid(place, form.at(first)),
+            f"the first directory is said to be at {first}, within the header",
+            form.section,
+            kind,
+            reason,
+        )
+
+
+def firsts_at_end(form):
+    good = plain(form)
+    end, place = len(good.data), form.header - form.offset
+    for name, first in (
+        ("last", end - 1),
+        ("end", end),
+        ("past", end + 1),
+        ("far", 2**31),
+        ("top", 2 ** (8 * form.offset) - 1),
+    ):
+        yield (
+            f"first-{name}-{form.name}",
+            good.laid(place, form.at(first)),
+            f"the first directory is said to be at {first} of {end} bytes",
+            form.section,
+            MUST,
+            "the file has no directory there",
+        )
+
+
+def odd_firsts(form):
+    good = plain(form)
+    end, place = len(good.data), form.header - form.offset
+    odd = bytes(good.data) + b"\0" * (1 - end % 2) + bytes(good.data[good.directories[0] :])
+    yield (
+        f"first-odd-{form.name}",
+        odd[:place] + form.at(end + 1 - end % 2) + odd[form.header :],
+        "the directory begins at an odd offset",
+        form.section,
+        MAY,
+        "a directory must begin on a word boundary; most readers don't ask for it",
+    )
+
+
+def bytes_behind(form):
+    good = plain(form)
+    yield (
+        f"behind-{form.name}",
+        bytes(good.data) + b"bytes behind the last directory",
+        "bytes that nothing points to",
+        form.section,
+        *of_form(form),
+    )
+
+
 def header_firsts():
     for form in FORMS:
-        good = plain(form)
-        end, place = len(good.data), form.header - form.offset
-        for first in range(form.header):
-            kind, reason = (
-                (MUST, "offset 0 is no directory, and each file has one")
-                if first == 0
-                else (MAY, SILENT)
-            )
-            yield (
-                f"first-{first}-{form.name}",
-                good.laid(place, form.at(first)),
-                f"the first directory is said to be at {first}, within the header",
-                form.section,
-                kind,
-                reason,
-            )
-        for name, first in (
-            ("last", end - 1),
-            ("end", end),
-            ("past", end + 1),
-            ("far", 2**31),
-            ("top", 2 ** (8 * form.offset) - 1),
-        ):
-            yield (
-                f"first-{name}-{form.name}",
-                good.laid(place, form.at(first)),
-                f"the first directory is said to be at {first} of {end} bytes",
-                form.section,
-                MUST,
-                "the file has no directory there",
-            )
-        odd = bytes(good.data) + b"\0" * (1 - end % 2) + bytes(good.data[good.directories[0] :])
-        yield (
-            f"first-odd-{form.name}",
-            odd[:place] + form.at(end + 1 - end % 2) + odd[form.header :],
-            "the directory begins at an odd offset",
-            form.section,
-            MAY,
-            "a directory must begin on a word boundary; most readers don't ask for it",
-        )
-        yield (
-            f"behind-{form.name}",
-            bytes(good.data) + b"bytes behind the last directory",
-            "bytes that nothing points to",
-            form.section,
-            *of_form(form),
-        )
+        for part in (firsts_in_header, firsts_at_end, odd_firsts, bytes_behind):
+            yield from part(form)
 
 
 def header_short():
@@ -346,53 +364,64 @@ def chain_links():
                 )
 
 
-def chain_pages():
-    for form in FORMS:
-        for bad in range(3):
-            pages = [small(n) for n in range(3)]
-            pages[bad].without(LENGTH)
-            yield (
-                f"bad-page-{bad}-{form.name}",
-                build(form, pages).bytes(),
-                f"page {bad} of three has no ImageLength",
-                form.section,
-                MAY,
-                "the other pages are in order, and a reader may read them or refuse the file",
-            )
-        empty = build(form, [small(1), Page({})])
+def bad_pages(form):
+    for bad in range(3):
+        pages = [small(n) for n in range(3)]
+        pages[bad].without(LENGTH)
         yield (
-            f"empty-directory-{form.name}",
-            empty.bytes(),
-            "the second directory has no entries",
+            f"bad-page-{bad}-{form.name}",
+            build(form, pages).bytes(),
+            f"page {bad} of three has no ImageLength",
             form.section,
             MAY,
-            "a directory has at least one entry",
+            "the other pages are in order, and a reader may read them or refuse the file",
+        )
+
+
+def empty_directories(form):
+    empty = build(form, [small(1), Page({})])
+    yield (
+        f"empty-directory-{form.name}",
+        empty.bytes(),
+        "the second directory has no entries",
+        form.section,
+        MAY,
+        "a directory has at least one entry",
+    )
+    yield (
+        f"empty-first-{form.name}",
+        build(form, [Page({})]).bytes(),
+        "the only directory has no entries",
+        form.section,
+        MUST,
+        "an image has sides",
+    )
+
+
+def page_subtypes(form):
+    for subtype in (0, 1, 2, 4, 7):
+        page = small(2).with_fields({254: Field(LONG, [subtype])})
+        sort = (
+            of_form(form)
+            if subtype in (0, 2)
+            else (
+                MAY,
+                "a reader may take a reduced image or a mask for a part of the page before it",
+            )
         )
         yield (
-            f"empty-first-{form.name}",
-            build(form, [Page({})]).bytes(),
-            "the only directory has no entries",
-            form.section,
-            MUST,
-            "an image has sides",
+            f"subfile-{subtype}-{form.name}",
+            build(form, [small(1), page]).bytes(),
+            f"the second page's NewSubfileType is {subtype}",
+            "TIFF 6.0 section 8",
+            *sort,
         )
-        for subtype in (0, 1, 2, 4, 7):
-            page = small(2).with_fields({254: Field(LONG, [subtype])})
-            sort = (
-                of_form(form)
-                if subtype in (0, 2)
-                else (
-                    MAY,
-                    "a reader may take a reduced image or a mask for a part of the page before it",
-                )
-            )
-            yield (
-                f"subfile-{subtype}-{form.name}",
-                build(form, [small(1), page]).bytes(),
-                f"the second page's NewSubfileType is {subtype}",
-                "TIFF 6.0 section 8",
-                *sort,
-            )
+
+
+def chain_pages():
+    for form in FORMS:
+        for part in (bad_pages, empty_directories, page_subtypes):
+            yield from part(form)
 
 
 def chain_below():
@@ -488,50 +517,61 @@ def entry_unknown():
                 )
 
 
-def entry_orders():
-    for form in FORMS:
-        page = small(7)
-        page.tags = [COUNTS, OFFSETS, WIDTH, MEANING, LENGTH, BITS]
+def unsorted_entries(form):
+    page = small(7)
+    page.tags = [COUNTS, OFFSETS, WIDTH, MEANING, LENGTH, BITS]
+    yield (
+        f"unsorted-{form.name}",
+        build(form, [page]).bytes(),
+        "the entries aren't in ascending order of their tags",
+        form.section,
+        MAY,
+        "entries must be in ascending order; many readers don't ask for it",
+    )
+
+
+def repeated_entries(form):
+    for name, front, behind in (("same", 1, 1), ("second-wrong", 1, 9), ("first-wrong", 9, 1)):
+        page = small(7).with_fields({WIDTH: Field(SHORT, [front])})
+        page.behind = [(WIDTH, Field(SHORT, [behind]))]
         yield (
-            f"unsorted-{form.name}",
+            f"twice-{name}-{form.name}",
             build(form, [page]).bytes(),
-            "the entries aren't in ascending order of their tags",
+            f"two entries of ImageWidth, {front} and then {behind} behind all others",
             form.section,
             MAY,
-            "entries must be in ascending order; many readers don't ask for it",
+            "the standard doesn't speak of two entries of one tag",
         )
-        for name, front, behind in (("same", 1, 1), ("second-wrong", 1, 9), ("first-wrong", 9, 1)):
-            page = small(7).with_fields({WIDTH: Field(SHORT, [front])})
-            page.behind = [(WIDTH, Field(SHORT, [behind]))]
-            yield (
-                f"twice-{name}-{form.name}",
-                build(form, [page]).bytes(),
-                f"two entries of ImageWidth, {front} and then {behind} behind all others",
-                form.section,
-                MAY,
-                "the standard doesn't speak of two entries of one tag",
-            )
-        for offset in ("header", "entry", "end", "past"):
-            built = build(form, [small(7).with_fields({PRIVATE: Field(LONG, [0], count=5, at=0)})])
-            at = {
-                "header": 0,
-                "entry": built.entries[0, PRIVATE],
-                "end": len(built.data),
-                "past": len(built.data) + 100,
-            }[offset]
-            data = built.laid(built.entries[0, PRIVATE] + form.entry - form.offset, form.at(at))
-            sort = (
-                (MAY, SILENT)
-                if offset in ("end", "past")
-                else (UNUSUAL, "nothing forbids values that overlap with other parts of a file")
-            )
-            yield (
-                f"values-{offset}-{form.name}",
-                data,
-                f"the five values of a private field are said to be at the {offset}",
-                form.section,
-                *sort,
-            )
+
+
+def shared_values(form):
+    for offset in ("header", "entry", "end", "past"):
+        built = build(form, [small(7).with_fields({PRIVATE: Field(LONG, [0], count=5, at=0)})])
+        at = {
+            "header": 0,
+            "entry": built.entries[0, PRIVATE],
+            "end": len(built.data),
+            "past": len(built.data) + 100,
+        }[offset]
+        data = built.laid(built.entries[0, PRIVATE] + form.entry - form.offset, form.at(at))
+        sort = (
+            (MAY, SILENT)
+            if offset in ("end", "past")
+            else (UNUSUAL, "nothing forbids values that overlap with other parts of a file")
+        )
+        yield (
+            f"values-{offset}-{form.name}",
+            data,
+            f"the five values of a private field are said to be at the {offset}",
+            form.section,
+            *sort,
+        )
+
+
+def entry_orders():
+    for form in FORMS:
+        for part in (unsorted_entries, repeated_entries, shared_values):
+            yield from part(form)
 
 
 def entry_counts():
@@ -725,37 +765,39 @@ def numbers():
     yield from number_lists()
 
 
+TEXTS = {
+    "empty": b"\0",
+    "one": b"a\0",
+    "three": b"abc\0",
+    "four": b"abcd\0",
+    "long": b"a longer text, with words\0",
+    "no-end-short": b"abc",
+    "no-end-long": b"abcdefghijkl",
+    "no-end-one": b"a",
+    "two-texts": b"one text\0another\0",
+    "two-short": b"a\0b\0",
+    "zeros": b"\0\0\0\0",
+    "many-zeros": bytes(12),
+    "front-zero": b"\0abcdefghij\0",
+    "front-zero-short": b"\0ab\0",
+    "behind-zeros": b"text\0\0\0\0\0\0",
+    "latin": b"caf\xe9 and cr\xe8me\0",
+    "latin-short": b"\xe9\0",
+    "utf8": "naïve café\0".encode(),
+    "utf8-short": "é\0".encode(),
+    "broken-utf8": b"broken \xc3\x28 text\0",
+    "surrogate": b"half \xed\xa0\x80 pair\0",
+    "overlong": b"overlong \xc0\xaf\0",
+    "newlines": b"two\r\nlines\n\0",
+    "control": b"\1\2\3\x1b\x7f text\0",
+    "quotes": b'a "quoted" \\ word\0',
+    "apostrophe": b"it's one\0",
+}
+
+
 def texts():
-    cases = {
-        "empty": b"\0",
-        "one": b"a\0",
-        "three": b"abc\0",
-        "four": b"abcd\0",
-        "long": b"a longer text, with words\0",
-        "no-end-short": b"abc",
-        "no-end-long": b"abcdefghijkl",
-        "no-end-one": b"a",
-        "two-texts": b"one text\0another\0",
-        "two-short": b"a\0b\0",
-        "zeros": b"\0\0\0\0",
-        "many-zeros": bytes(12),
-        "front-zero": b"\0abcdefghij\0",
-        "front-zero-short": b"\0ab\0",
-        "behind-zeros": b"text\0\0\0\0\0\0",
-        "latin": b"caf\xe9 and cr\xe8me\0",
-        "latin-short": b"\xe9\0",
-        "utf8": "naïve café\0".encode(),
-        "utf8-short": "é\0".encode(),
-        "broken-utf8": b"broken \xc3\x28 text\0",
-        "surrogate": b"half \xed\xa0\x80 pair\0",
-        "overlong": b"overlong \xc0\xaf\0",
-        "newlines": b"two\r\nlines\n\0",
-        "control": b"\1\2\3\x1b\x7f text\0",
-        "quotes": b'a "quoted" \\ word\0',
-        "apostrophe": b"it's one\0",
-    }
     for form in FORMS:
-        for name, text in cases.items():
+        for name, text in TEXTS.items():
             page = small(7).with_fields({270: Field(ASCII, text)})
             well = text.endswith(b"\0") and all(byte < 128 for byte in text)
             sort = (
@@ -778,54 +820,60 @@ def texts():
             )
 
 
-def missing():
+def missing_fields(form):
     tile = Image(16, 16, tile=(16, 16)).page
     needed = {WIDTH, LENGTH, OFFSETS, TILE_OFFSETS}
-    for form in FORMS:
-        for shape, page in (("strip", lambda: Image(3, 2).page()), ("tile", tile)):
-            tags = sorted(build(form, [page()]).entries)
-            for _, tag in tags:
-                built = build(form, [page()])
-                at = built.entries[0, tag]
-                data = built.laid(at + 2, form.pack("H", 0))
-                kind, reason = (
-                    (MUST, "without this field there is no image")
-                    if tag in needed
-                    else (
-                        MAY,
-                        "the field is required, or has a default that may not be what was meant",
-                    )
-                )
-                yield (
-                    f"{shape}-{tag}-{form.name}",
-                    data,
-                    (
-                        f"an image of a {shape}, whose field {NAMES.get(tag, tag)} has no known"
-                        " type, and so is missing"
-                    ),
-                    "TIFF 6.0 section 8",
-                    kind,
-                    reason,
-                )
-        for name, mixed in (
-            ("both", (OFFSETS, COUNTS, TILE_OFFSETS, TILE_COUNTS)),
-            ("strip-and-tile", (OFFSETS, TILE_COUNTS)),
-            ("three", (OFFSETS, COUNTS, TILE_OFFSETS)),
-            ("no-counts", (OFFSETS,)),
-        ):
-            page = tile()
-            page.chunks, page.fields[ROWS] = [], Field(SHORT, [16])
-            page.with_fields(
-                {tag: Field(LONG, [8 if tag in (OFFSETS, TILE_OFFSETS) else 256]) for tag in mixed}
+    for shape, page in (("strip", lambda: Image(3, 2).page()), ("tile", tile)):
+        tags = sorted(build(form, [page()]).entries)
+        for _, tag in tags:
+            built = build(form, [page()])
+            at = built.entries[0, tag]
+            data = built.laid(at + 2, form.pack("H", 0))
+            kind, reason = (
+                (MUST, "without this field there is no image")
+                if tag in needed
+                else (MAY, "the field is required, or has a default that may not be what was meant")
             )
             yield (
-                f"mixed-{name}-{form.name}",
-                build(form, [page]).bytes() + bytes(300),
-                f"a page with the fields {', '.join(NAMES[tag] for tag in mixed)}",
-                "TIFF 6.0 section 15",
-                MAY,
-                "a page has strips or tiles, not both",
+                f"{shape}-{tag}-{form.name}",
+                data,
+                (
+                    f"an image of a {shape}, whose field {NAMES.get(tag, tag)} has no known"
+                    " type, and so is missing"
+                ),
+                "TIFF 6.0 section 8",
+                kind,
+                reason,
             )
+
+
+def mixed_fields(form):
+    tile = Image(16, 16, tile=(16, 16)).page
+    for name, mixed in (
+        ("both", (OFFSETS, COUNTS, TILE_OFFSETS, TILE_COUNTS)),
+        ("strip-and-tile", (OFFSETS, TILE_COUNTS)),
+        ("three", (OFFSETS, COUNTS, TILE_OFFSETS)),
+        ("no-counts", (OFFSETS,)),
+    ):
+        page = tile()
+        page.chunks, page.fields[ROWS] = [], Field(SHORT, [16])
+        page.with_fields(
+            {tag: Field(LONG, [8 if tag in (OFFSETS, TILE_OFFSETS) else 256]) for tag in mixed}
+        )
+        yield (
+            f"mixed-{name}-{form.name}",
+            build(form, [page]).bytes() + bytes(300),
+            f"a page with the fields {', '.join(NAMES[tag] for tag in mixed)}",
+            "TIFF 6.0 section 15",
+            MAY,
+            "a page has strips or tiles, not both",
+        )
+
+
+def missing():
+    for form in FORMS:
+        for part in (missing_fields, mixed_fields):
+            yield from part(form)
 
 
 def claims():
@@ -850,53 +898,58 @@ def claims():
         yield f"{width}x{height}", {WIDTH: Field(LONG, [width]), LENGTH: Field(LONG, [height])}
 
 
+def claims_of_few_bytes(form):
+    for name, fields in claims():
+        for method in (1, 32773):
+            for bits in (1, 8, 16, 64):
+                page = bare().with_fields(
+                    {**fields, METHOD: Field(SHORT, [method]), BITS: Field(SHORT, [bits])}
+                )
+                yield (
+                    f"{name}-{bits}-{method}-{form.name}",
+                    build(form, [page]).bytes(),
+                    f"an image of {name} samples of {bits} bits in a strip of 6 bytes",
+                    "TIFF 6.0 section 8",
+                    MAY,
+                    "the file doesn't have these samples; a reader has to end within its limits",
+                )
+
+
+def claims_of_few_chunks(form):
+    for name, fields in claims():
+        page = bare().with_fields({**fields, ROWS: Field(LONG, [1])})
+        yield (
+            f"{name}-row-strips-{form.name}",
+            build(form, [page]).bytes(),
+            f"an image of {name} samples that lists one strip of one row",
+            "TIFF 6.0 section 8",
+            MAY,
+            "the page lists fewer strips than its sides ask for",
+        )
+        page = Page(
+            {
+                **bare().fields,
+                **fields,
+                TILE_WIDTH: Field(LONG, [16]),
+                TILE_LENGTH: Field(LONG, [16]),
+            },
+            [bytes(256)],
+            (TILE_OFFSETS, TILE_COUNTS),
+        )
+        yield (
+            f"{name}-tiles-{form.name}",
+            build(form, [page]).bytes(),
+            f"an image of {name} samples that lists one tile of 16 by 16",
+            "TIFF 6.0 section 15",
+            MAY,
+            "the page lists fewer tiles than its sides ask for",
+        )
+
+
 def limits():
     for form in (LE, BIG_LE):
-        for name, fields in claims():
-            for method in (1, 32773):
-                for bits in (1, 8, 16, 64):
-                    page = bare().with_fields(
-                        {**fields, METHOD: Field(SHORT, [method]), BITS: Field(SHORT, [bits])}
-                    )
-                    yield (
-                        f"{name}-{bits}-{method}-{form.name}",
-                        build(form, [page]).bytes(),
-                        f"an image of {name} samples of {bits} bits in a strip of 6 bytes",
-                        "TIFF 6.0 section 8",
-                        MAY,
-                        (
-                            "the file doesn't have these samples; a reader has to end within its"
-                            " limits"
-                        ),
-                    )
-        for name, fields in claims():
-            page = bare().with_fields({**fields, ROWS: Field(LONG, [1])})
-            yield (
-                f"{name}-row-strips-{form.name}",
-                build(form, [page]).bytes(),
-                f"an image of {name} samples that lists one strip of one row",
-                "TIFF 6.0 section 8",
-                MAY,
-                "the page lists fewer strips than its sides ask for",
-            )
-            page = Page(
-                {
-                    **bare().fields,
-                    **fields,
-                    TILE_WIDTH: Field(LONG, [16]),
-                    TILE_LENGTH: Field(LONG, [16]),
-                },
-                [bytes(256)],
-                (TILE_OFFSETS, TILE_COUNTS),
-            )
-            yield (
-                f"{name}-tiles-{form.name}",
-                build(form, [page]).bytes(),
-                f"an image of {name} samples that lists one tile of 16 by 16",
-                "TIFF 6.0 section 15",
-                MAY,
-                "the page lists fewer tiles than its sides ask for",
-            )
+        for part in (claims_of_few_bytes, claims_of_few_chunks):
+            yield from part(form)
 
 
 def count_wraps():

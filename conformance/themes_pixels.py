@@ -90,128 +90,152 @@ def strip_rows():
         )
 
 
+def list_types(form):
+    image = Image(4, 6, rows=2)
+    for name, kinds in (
+        ("short", (SHORT, SHORT)),
+        ("long-short", (LONG, SHORT)),
+        ("short-long", (SHORT, LONG)),
+        ("long8", (LONG8, LONG8)),
+    ):
+        if name == "long8" and not form.big:
+            continue
+        page = image.page()
+        page.kinds = kinds
+        yield (
+            f"lists-{name}-{form.name}",
+            build(form, [page]).bytes(),
+            f"three strips, whose offsets and counts are of types {name}",
+            "TIFF 6.0 section 8",
+            *sort_of(form),
+        )
+
+
+def list_places(form):
+    image = Image(4, 6, rows=2)
+    for name, offsets in (
+        ("backwards", (2, 1, 0)),
+        ("same", (0, 0, 0)),
+        ("swapped", (1, 0, 2)),
+        ("overlap", (0, 0.5, 1)),
+    ):
+        page = image.page()
+        page.fields[OFFSETS] = Field(LONG, [form.header + int(8 * n) for n in offsets])
+        sort = (
+            sort_of(form)
+            if name in ("backwards", "swapped")
+            else (UNUSUAL, "nothing forbids strips that share bytes")
+        )
+        yield (
+            f"strips-{name}-{form.name}",
+            build(form, [page]).bytes(),
+            f"three strips, which are in the file {name}",
+            "TIFF 6.0 section 8",
+            *sort,
+        )
+
+
+def list_lengths(form):
+    image = Image(4, 6, rows=2)
+    for name, count in (("fewer", 2), ("more", 4), ("one", 1), ("none", 0)):
+        page = image.page()
+        page.fields.update(
+            {
+                OFFSETS: Field(LONG, [form.header + 8 * n for n in range(count)]),
+                COUNTS: Field(LONG, [8] * count),
+            }
+        )
+        yield (
+            f"listed-{name}-{form.name}",
+            build(form, [page]).bytes(),
+            f"three strips, of which {count} are listed",
+            "TIFF 6.0 section 8",
+            MAY,
+            MISFIT,
+        )
+
+
+def unlike_lists(form):
+    image = Image(4, 6, rows=2)
+    for name, number in (("offsets", COUNTS), ("counts", OFFSETS)):
+        page = image.page()
+        page.fields[number] = Field(LONG, [8] * 2)
+        yield (
+            f"more-{name}-{form.name}",
+            build(form, [page]).bytes(),
+            f"three {name}, and two of the others",
+            "TIFF 6.0 section 8",
+            MAY,
+            MISFIT,
+        )
+
+
 def strip_lists():
     for form in FORMS:
-        image = Image(4, 6, rows=2)
-        for name, kinds in (
-            ("short", (SHORT, SHORT)),
-            ("long-short", (LONG, SHORT)),
-            ("short-long", (SHORT, LONG)),
-            ("long8", (LONG8, LONG8)),
-        ):
-            if name == "long8" and not form.big:
-                continue
-            page = image.page()
-            page.kinds = kinds
-            yield (
-                f"lists-{name}-{form.name}",
-                build(form, [page]).bytes(),
-                f"three strips, whose offsets and counts are of types {name}",
-                "TIFF 6.0 section 8",
-                *sort_of(form),
-            )
-        for name, offsets in (
-            ("backwards", (2, 1, 0)),
-            ("same", (0, 0, 0)),
-            ("swapped", (1, 0, 2)),
-            ("overlap", (0, 0.5, 1)),
-        ):
-            page = image.page()
-            page.fields[OFFSETS] = Field(LONG, [form.header + int(8 * n) for n in offsets])
-            sort = (
-                sort_of(form)
-                if name in ("backwards", "swapped")
-                else (UNUSUAL, "nothing forbids strips that share bytes")
-            )
-            yield (
-                f"strips-{name}-{form.name}",
-                build(form, [page]).bytes(),
-                f"three strips, which are in the file {name}",
-                "TIFF 6.0 section 8",
-                *sort,
-            )
-        for name, count in (("fewer", 2), ("more", 4), ("one", 1), ("none", 0)):
-            page = image.page()
-            page.fields.update(
-                {
-                    OFFSETS: Field(LONG, [form.header + 8 * n for n in range(count)]),
-                    COUNTS: Field(LONG, [8] * count),
-                }
-            )
-            yield (
-                f"listed-{name}-{form.name}",
-                build(form, [page]).bytes(),
-                f"three strips, of which {count} are listed",
-                "TIFF 6.0 section 8",
-                MAY,
-                MISFIT,
-            )
-        for name, number in (("offsets", COUNTS), ("counts", OFFSETS)):
-            page = image.page()
-            page.fields[number] = Field(LONG, [8] * 2)
-            yield (
-                f"more-{name}-{form.name}",
-                build(form, [page]).bytes(),
-                f"three {name}, and two of the others",
-                "TIFF 6.0 section 8",
-                MAY,
-                MISFIT,
-            )
+        for part in (list_types, list_places, list_lengths, unlike_lists):
+            yield from part(form)
+
+
+def counted_bytes(form):
+    for name, count in (
+        ("less", 11),
+        ("half", 6),
+        ("zero", 0),
+        ("more", 13),
+        ("far", 100),
+        ("most", 2**32 - 1),
+    ):
+        page = Image(4, 3).page().with_fields({COUNTS: Field(LONG, [count])})
+        sort = (
+            (UNUSUAL, "more bytes than the rows need may be counted")
+            if name == "more"
+            else (MAY, "the count isn't that of the strip's bytes")
+        )
+        yield (
+            f"counted-{name}-{form.name}",
+            build(form, [page]).bytes(),
+            f"a strip of 12 bytes, of which {count} are counted",
+            "TIFF 6.0 section 8",
+            *sort,
+        )
+
+
+def strip_places(form):
+    for name, offset in (
+        ("header", 0),
+        ("odd", None),
+        ("end", -12),
+        ("past", -11),
+        ("behind", 0x7FFFFFFF),
+    ):
+        page = Image(4, 3).page()
+        end = len(build(form, [Image(4, 3).page()]).data)
+        page.fields[OFFSETS] = Field(
+            LONG, [form.header + 1 if offset is None else end + offset if offset < 0 else offset]
+        )
+        sort = (
+            (MAY, "the strip isn't whole in the file")
+            if name in ("past", "behind")
+            else sort_of(form)
+        )
+        sort = (
+            (UNUSUAL, "nothing forbids a strip within other parts of the file")
+            if name in ("header", "end")
+            else sort
+        )
+        yield (
+            f"placed-{name}-{form.name}",
+            build(form, [page]).bytes(),
+            f"a strip of 12 bytes at offset {page.fields[OFFSETS].numbers[0]} of {end}",
+            "TIFF 6.0 section 8",
+            *sort,
+        )
 
 
 def strip_counts():
     for form in FORMS:
-        for name, count in (
-            ("less", 11),
-            ("half", 6),
-            ("zero", 0),
-            ("more", 13),
-            ("far", 100),
-            ("most", 2**32 - 1),
-        ):
-            page = Image(4, 3).page().with_fields({COUNTS: Field(LONG, [count])})
-            sort = (
-                (UNUSUAL, "more bytes than the rows need may be counted")
-                if name == "more"
-                else (MAY, "the count isn't that of the strip's bytes")
-            )
-            yield (
-                f"counted-{name}-{form.name}",
-                build(form, [page]).bytes(),
-                f"a strip of 12 bytes, of which {count} are counted",
-                "TIFF 6.0 section 8",
-                *sort,
-            )
-        for name, offset in (
-            ("header", 0),
-            ("odd", None),
-            ("end", -12),
-            ("past", -11),
-            ("behind", 0x7FFFFFFF),
-        ):
-            page = Image(4, 3).page()
-            end = len(build(form, [Image(4, 3).page()]).data)
-            page.fields[OFFSETS] = Field(
-                LONG,
-                [form.header + 1 if offset is None else end + offset if offset < 0 else offset],
-            )
-            sort = (
-                (MAY, "the strip isn't whole in the file")
-                if name in ("past", "behind")
-                else sort_of(form)
-            )
-            sort = (
-                (UNUSUAL, "nothing forbids a strip within other parts of the file")
-                if name in ("header", "end")
-                else sort
-            )
-            yield (
-                f"placed-{name}-{form.name}",
-                build(form, [page]).bytes(),
-                f"a strip of 12 bytes at offset {page.fields[OFFSETS].numbers[0]} of {end}",
-                "TIFF 6.0 section 8",
-                *sort,
-            )
+        for part in (counted_bytes, strip_places):
+            yield from part(form)
 
 
 def strips():
@@ -241,54 +265,65 @@ def tile_sides():
             )
 
 
+def wrong_tile_sides(form):
+    for name, fields in (
+        ("no-width", {TILE_WIDTH: 0}),
+        ("no-length", {TILE_LENGTH: 0}),
+        ("wide", {TILE_WIDTH: 2**32 - 16}),
+        ("long", {TILE_LENGTH: 2**32 - 16}),
+    ):
+        page = (
+            Image(20, 20, tile=(16, 16))
+            .page()
+            .with_fields({tag: Field(LONG, [side]) for tag, side in fields.items()})
+        )
+        yield (
+            f"side-{name}-{form.name}",
+            build(form, [page]).bytes(),
+            f"four tiles of 16 by 16, and a side of a tile is {[*fields.values()][0]}",
+            "TIFF 6.0 section 15",
+            MAY,
+            MISFIT,
+        )
+
+
+def listed_tiles(form):
+    for name, count in (("fewer", 3), ("more", 5), ("one", 1)):
+        page = Image(20, 20, tile=(16, 16)).page()
+        page.fields.update(
+            {
+                TILE_OFFSETS: Field(LONG, [form.header + 256 * n for n in range(count)]),
+                TILE_COUNTS: Field(LONG, [256] * count),
+            }
+        )
+        yield (
+            f"listed-{name}-{form.name}",
+            build(form, [page]).bytes(),
+            f"four tiles, of which {count} are listed",
+            "TIFF 6.0 section 15",
+            MAY,
+            MISFIT,
+        )
+
+
+def short_tiles(form):
+    for name, size in (("cut", 255), ("shown", 16 * 3 + 4), ("half", 128)):
+        page = Image(20, 20, tile=(16, 16)).page()
+        page.chunks[3] = page.chunks[3][:size]
+        yield (
+            f"last-{name}-{form.name}",
+            build(form, [page]).bytes(),
+            f"four tiles, of which the last has {size} bytes and not 256",
+            "TIFF 6.0 section 15",
+            MAY,
+            "a tile is stored whole, with its padding",
+        )
+
+
 def tile_faults():
     for form in FORMS:
-        for name, fields in (
-            ("no-width", {TILE_WIDTH: 0}),
-            ("no-length", {TILE_LENGTH: 0}),
-            ("wide", {TILE_WIDTH: 2**32 - 16}),
-            ("long", {TILE_LENGTH: 2**32 - 16}),
-        ):
-            page = (
-                Image(20, 20, tile=(16, 16))
-                .page()
-                .with_fields({tag: Field(LONG, [side]) for tag, side in fields.items()})
-            )
-            yield (
-                f"side-{name}-{form.name}",
-                build(form, [page]).bytes(),
-                f"four tiles of 16 by 16, and a side of a tile is {[*fields.values()][0]}",
-                "TIFF 6.0 section 15",
-                MAY,
-                MISFIT,
-            )
-        for name, count in (("fewer", 3), ("more", 5), ("one", 1)):
-            page = Image(20, 20, tile=(16, 16)).page()
-            page.fields.update(
-                {
-                    TILE_OFFSETS: Field(LONG, [form.header + 256 * n for n in range(count)]),
-                    TILE_COUNTS: Field(LONG, [256] * count),
-                }
-            )
-            yield (
-                f"listed-{name}-{form.name}",
-                build(form, [page]).bytes(),
-                f"four tiles, of which {count} are listed",
-                "TIFF 6.0 section 15",
-                MAY,
-                MISFIT,
-            )
-        for name, size in (("cut", 255), ("shown", 16 * 3 + 4), ("half", 128)):
-            page = Image(20, 20, tile=(16, 16)).page()
-            page.chunks[3] = page.chunks[3][:size]
-            yield (
-                f"last-{name}-{form.name}",
-                build(form, [page]).bytes(),
-                f"four tiles, of which the last has {size} bytes and not 256",
-                "TIFF 6.0 section 15",
-                MAY,
-                "a tile is stored whole, with its padding",
-            )
+        for part in (wrong_tile_sides, listed_tiles, short_tiles):
+            yield from part(form)
 
 
 def tiles_of_strips():
@@ -323,64 +358,72 @@ def tiles():
         yield from part()
 
 
+def planes_of_depths(form):
+    for bits in (8, 16, 32):
+        for samples, meaning, extra in (
+            (2, 1, [0]),
+            (3, 2, None),
+            (4, 2, [1]),
+            (4, 5, None),
+            (5, 5, [0]),
+        ):
+            for rows, tile in ((2, None), (5, None), (None, (16, 16))):
+                image = Image(
+                    7,
+                    5,
+                    bits=bits,
+                    samples=samples,
+                    meaning=meaning,
+                    extra=extra,
+                    planes=2,
+                    rows=rows,
+                    tile=tile,
+                )
+                how = f"tiles of {tile}" if tile else f"strips of {rows} rows"
+                yield (
+                    f"{meaning}-{samples}x{bits}-{'tiles' if tile else rows}-{form.name}",
+                    build(form, [image.page()]).bytes(),
+                    f"{samples} planes of {bits} bits in {how}",
+                    "TIFF 6.0 section 8",
+                    *sort_of(
+                        form,
+                        False,
+                        "planes are an extension of the baseline, which a reader may lack",
+                    ),
+                )
+
+
+def other_planes(form):
+    one = Image(4, 3, planes=2)
+    yield (
+        f"one-plane-{form.name}",
+        build(form, [one.page()]).bytes(),
+        "one sample a pixel, in a plane of its own",
+        "TIFF 6.0 section 8",
+        *sort_of(form),
+    )
+    for name, count in (("fewer", 2), ("one", 1), ("more", 4)):
+        page = Image(4, 3, samples=3, meaning=2, planes=2).page()
+        page.fields.update(
+            {
+                OFFSETS: Field(LONG, [form.header + 12 * n for n in range(count)]),
+                COUNTS: Field(LONG, [12] * count),
+            }
+        )
+        yield (
+            f"listed-{name}-{form.name}",
+            build(form, [page]).bytes(),
+            f"three planes, and {count} strips are listed",
+            "TIFF 6.0 section 8",
+            MAY,
+            MISFIT,
+        )
+
+
 def planes():
     for form in FORMS:
-        for bits in (8, 16, 32):
-            for samples, meaning, extra in (
-                (2, 1, [0]),
-                (3, 2, None),
-                (4, 2, [1]),
-                (4, 5, None),
-                (5, 5, [0]),
-            ):
-                for rows, tile in ((2, None), (5, None), (None, (16, 16))):
-                    image = Image(
-                        7,
-                        5,
-                        bits=bits,
-                        samples=samples,
-                        meaning=meaning,
-                        extra=extra,
-                        planes=2,
-                        rows=rows,
-                        tile=tile,
-                    )
-                    how = f"tiles of {tile}" if tile else f"strips of {rows} rows"
-                    yield (
-                        f"{meaning}-{samples}x{bits}-{'tiles' if tile else rows}-{form.name}",
-                        build(form, [image.page()]).bytes(),
-                        f"{samples} planes of {bits} bits in {how}",
-                        "TIFF 6.0 section 8",
-                        *sort_of(
-                            form,
-                            False,
-                            "planes are an extension of the baseline, which a reader may lack",
-                        ),
-                    )
-        one = Image(4, 3, planes=2)
-        yield (
-            f"one-plane-{form.name}",
-            build(form, [one.page()]).bytes(),
-            "one sample a pixel, in a plane of its own",
-            "TIFF 6.0 section 8",
-            *sort_of(form),
-        )
-        for name, count in (("fewer", 2), ("one", 1), ("more", 4)):
-            page = Image(4, 3, samples=3, meaning=2, planes=2).page()
-            page.fields.update(
-                {
-                    OFFSETS: Field(LONG, [form.header + 12 * n for n in range(count)]),
-                    COUNTS: Field(LONG, [12] * count),
-                }
-            )
-            yield (
-                f"listed-{name}-{form.name}",
-                build(form, [page]).bytes(),
-                f"three planes, and {count} strips are listed",
-                "TIFF 6.0 section 8",
-                MAY,
-                MISFIT,
-            )
+        for part in (planes_of_depths, other_planes):
+            yield from part(form)
 
 
 def gray_depths():
@@ -429,52 +472,59 @@ def depth_formats():
                 )
 
 
+def mixed_bits(form):
+    for name, bits in (
+        ("one-count", [8]),
+        ("two-count", [8, 8]),
+        ("four-count", [8] * 4),
+        ("mixed", [8, 8, 16]),
+        ("five-six-five", [5, 6, 5]),
+        ("zeros", [0, 0, 0]),
+        ("one-zero", [8, 0, 8]),
+    ):
+        page = Image(3, 2, samples=3, meaning=2).page().with_fields({BITS: Field(SHORT, bits)})
+        sort = (
+            (MAY, "BitsPerSample has one value for each sample")
+            if name.endswith("count")
+            else (MAY, "baseline images have samples of one depth")
+        )
+        yield (
+            f"bits-{name}-{form.name}",
+            build(form, [page]).bytes(),
+            f"three samples a pixel, and BitsPerSample is {bits}",
+            "TIFF 6.0 section 8",
+            *sort,
+        )
+
+
+def mixed_formats(form):
+    for name, formats in (("one-count", [1]), ("mixed", [1, 2, 1]), ("four-count", [1] * 4)):
+        page = Image(3, 2, samples=3, meaning=2).page().with_fields({FORMAT: Field(SHORT, formats)})
+        yield (
+            f"formats-{name}-{form.name}",
+            build(form, [page]).bytes(),
+            f"three samples a pixel, and SampleFormat is {formats}",
+            "TIFF 6.0 section 19",
+            MAY,
+            "SampleFormat has one value for each sample",
+        )
+
+
+def default_depths(form):
+    bilevel = Image(9, 3, bits=1).page().without(BITS, SAMPLES, METHOD)
+    yield (
+        f"defaults-{form.name}",
+        build(form, [bilevel]).bytes(),
+        "a bilevel image without the fields whose defaults it has",
+        "TIFF 6.0 section 8",
+        *sort_of(form),
+    )
+
+
 def depth_mixed():
     for form in CLASSIC:
-        for name, bits in (
-            ("one-count", [8]),
-            ("two-count", [8, 8]),
-            ("four-count", [8] * 4),
-            ("mixed", [8, 8, 16]),
-            ("five-six-five", [5, 6, 5]),
-            ("zeros", [0, 0, 0]),
-            ("one-zero", [8, 0, 8]),
-        ):
-            page = Image(3, 2, samples=3, meaning=2).page().with_fields({BITS: Field(SHORT, bits)})
-            sort = (
-                (MAY, "BitsPerSample has one value for each sample")
-                if name.endswith("count")
-                else (MAY, "baseline images have samples of one depth")
-            )
-            yield (
-                f"bits-{name}-{form.name}",
-                build(form, [page]).bytes(),
-                f"three samples a pixel, and BitsPerSample is {bits}",
-                "TIFF 6.0 section 8",
-                *sort,
-            )
-        for name, formats in (("one-count", [1]), ("mixed", [1, 2, 1]), ("four-count", [1] * 4)):
-            page = (
-                Image(3, 2, samples=3, meaning=2)
-                .page()
-                .with_fields({FORMAT: Field(SHORT, formats)})
-            )
-            yield (
-                f"formats-{name}-{form.name}",
-                build(form, [page]).bytes(),
-                f"three samples a pixel, and SampleFormat is {formats}",
-                "TIFF 6.0 section 19",
-                MAY,
-                "SampleFormat has one value for each sample",
-            )
-        bilevel = Image(9, 3, bits=1).page().without(BITS, SAMPLES, METHOD)
-        yield (
-            f"defaults-{form.name}",
-            build(form, [bilevel]).bytes(),
-            "a bilevel image without the fields whose defaults it has",
-            "TIFF 6.0 section 8",
-            *sort_of(form),
-        )
+        for part in (mixed_bits, mixed_formats, default_depths):
+            yield from part(form)
 
 
 def depths():
@@ -675,8 +725,7 @@ def packed_blocks():
             )
 
 
-def packed_rows():
-    """Yields images of two rows of 8 samples in blocks that end at the rows, or not."""
+def blocks_over_rows(form):
     blocks = {
         "rows": (literal(b"12345678") + literal(b"abcdefgh"), True),
         "runs": (run(1, 8) + run(2, 8), True),
@@ -687,108 +736,135 @@ def packed_rows():
         "over-literal": (literal(b"1234567812345678"), False),
         "over-middle": (literal(b"1234") + run(3, 8) + literal(b"5678"), False),
     }
-    for form in CLASSIC:
-        for name, (data, well) in blocks.items():
-            yield (
-                f"blocks-{name}-{form.name}",
-                packed_image(form, data),
-                f"two rows of 8 samples in blocks: {name}",
-                "TIFF 6.0 section 9",
-                *(sort_of(form) if well else (MAY, OVER_ROWS)),
-            )
-        for name, data in (
-            ("literal", literal(b"1234567812345678") + literal(b"more")),
-            ("run", run(1, 16) + run(2, 100)),
-            ("block", literal(b"12345678") + run(7, 20)),
-        ):
-            yield (
-                f"more-{name}-{form.name}",
-                packed_image(form, data),
-                f"more bytes than the strip has rows, in a {name}",
-                "TIFF 6.0 section 9",
-                MAY,
-                "a strip unpacks to its rows",
-            )
-        for name, data in (
-            ("empty", b""),
-            ("one", literal(b"1")),
-            ("row", literal(b"12345678")),
-            ("less-one", run(1, 15)),
-            ("nothing", b"\x80" * 16),
-        ):
-            yield (
-                f"fewer-{name}-{form.name}",
-                packed_image(form, data or b"\0", counts=None if data else [0]),
-                f"fewer bytes than the strip has rows: {name}",
-                "TIFF 6.0 section 9",
-                MAY,
-                "a strip unpacks to its rows",
-            )
-        for name, data in (
-            ("literal", literal(b"12345678") + b"\x07abcd"),
-            ("literal-none", literal(b"12345678") + b"\x07"),
-            ("run", literal(b"12345678") + b"\xf9"),
-            ("whole-and-run", run(3, 16) + b"\xfe"),
-            ("whole-and-literal", run(3, 16) + b"\x05ab"),
-            ("first-run", b"\xf1"),
-            ("first-literal", b"\x0f"),
-        ):
-            yield (
-                f"broken-{name}-{form.name}",
-                packed_image(form, data),
-                f"the packed bytes end within a block: {name}",
-                "TIFF 6.0 section 9",
-                MAY,
-                "a block is whole",
-            )
-
-
-def packed_counts():
-    for form in CLASSIC:
-        data = literal(b"12345678") + run(2, 8)
-        for count in range(len(data) + 4):
-            sort = (
-                sort_of(form)
-                if count == len(data)
-                else (MAY, "the count isn't that of the packed bytes")
-            )
-            yield (
-                f"counted-{count:02}-{form.name}",
-                packed_image(form, data, counts=[count]),
-                f"{len(data)} packed bytes, of which {count} are counted",
-                "TIFF 6.0 section 9",
-                *sort,
-            )
-        chunks = [literal(b"12345678"), run(2, 8)]
+    for name, (data, well) in blocks.items():
         yield (
-            f"strips-{form.name}",
-            packed_image(form, b"", rows=1, chunks=chunks),
-            "two strips of a row each",
+            f"blocks-{name}-{form.name}",
+            packed_image(form, data),
+            f"two rows of 8 samples in blocks: {name}",
             "TIFF 6.0 section 9",
-            *sort_of(form),
+            *(sort_of(form) if well else (MAY, OVER_ROWS)),
         )
+
+
+def longer_blocks(form):
+    for name, data in (
+        ("literal", literal(b"1234567812345678") + literal(b"more")),
+        ("run", run(1, 16) + run(2, 100)),
+        ("block", literal(b"12345678") + run(7, 20)),
+    ):
         yield (
-            f"strips-cut-{form.name}",
-            packed_image(form, b"", rows=1, chunks=[run(1, 8), run(2, 7)]),
-            "two strips, of which the second unpacks to too few bytes",
+            f"more-{name}-{form.name}",
+            packed_image(form, data),
+            f"more bytes than the strip has rows, in a {name}",
             "TIFF 6.0 section 9",
             MAY,
             "a strip unpacks to its rows",
         )
-        for cut in (1, 2, 5):
-            image = Image(8, 2, method=32773).page()
-            image.fields.update({OFFSETS: Field(LONG, [0]), COUNTS: Field(LONG, [len(data)])})
-            image.chunks = []
-            built = build(form, [image])
-            whole = built.laid(built.entries[0, OFFSETS] + 8, form.at(len(built.data))) + data
-            yield (
-                f"file-ends-{cut}-{form.name}",
-                whole[:-cut],
-                f"the file ends {cut} bytes before the packed bytes do",
-                "TIFF 6.0 section 9",
-                MAY,
-                "the strip isn't whole in the file",
-            )
+
+
+def shorter_blocks(form):
+    for name, data in (
+        ("empty", b""),
+        ("one", literal(b"1")),
+        ("row", literal(b"12345678")),
+        ("less-one", run(1, 15)),
+        ("nothing", b"\x80" * 16),
+    ):
+        yield (
+            f"fewer-{name}-{form.name}",
+            packed_image(form, data or b"\0", counts=None if data else [0]),
+            f"fewer bytes than the strip has rows: {name}",
+            "TIFF 6.0 section 9",
+            MAY,
+            "a strip unpacks to its rows",
+        )
+
+
+def cut_blocks(form):
+    for name, data in (
+        ("literal", literal(b"12345678") + b"\x07abcd"),
+        ("literal-none", literal(b"12345678") + b"\x07"),
+        ("run", literal(b"12345678") + b"\xf9"),
+        ("whole-and-run", run(3, 16) + b"\xfe"),
+        ("whole-and-literal", run(3, 16) + b"\x05ab"),
+        ("first-run", b"\xf1"),
+        ("first-literal", b"\x0f"),
+    ):
+        yield (
+            f"broken-{name}-{form.name}",
+            packed_image(form, data),
+            f"the packed bytes end within a block: {name}",
+            "TIFF 6.0 section 9",
+            MAY,
+            "a block is whole",
+        )
+
+
+def packed_rows():
+    """Yields images of two rows of 8 samples in blocks that end at the rows, or not."""
+    for form in CLASSIC:
+        for part in (blocks_over_rows, longer_blocks, shorter_blocks, cut_blocks):
+            yield from part(form)
+
+
+def counted_blocks(form):
+    data = literal(b"12345678") + run(2, 8)
+    for count in range(len(data) + 4):
+        sort = (
+            sort_of(form)
+            if count == len(data)
+            else (MAY, "the count isn't that of the packed bytes")
+        )
+        yield (
+            f"counted-{count:02}-{form.name}",
+            packed_image(form, data, counts=[count]),
+            f"{len(data)} packed bytes, of which {count} are counted",
+            "TIFF 6.0 section 9",
+            *sort,
+        )
+
+
+def packed_strips(form):
+    chunks = [literal(b"12345678"), run(2, 8)]
+    yield (
+        f"strips-{form.name}",
+        packed_image(form, b"", rows=1, chunks=chunks),
+        "two strips of a row each",
+        "TIFF 6.0 section 9",
+        *sort_of(form),
+    )
+    yield (
+        f"strips-cut-{form.name}",
+        packed_image(form, b"", rows=1, chunks=[run(1, 8), run(2, 7)]),
+        "two strips, of which the second unpacks to too few bytes",
+        "TIFF 6.0 section 9",
+        MAY,
+        "a strip unpacks to its rows",
+    )
+
+
+def cut_packed(form):
+    data = literal(b"12345678") + run(2, 8)
+    for cut in (1, 2, 5):
+        image = Image(8, 2, method=32773).page()
+        image.fields.update({OFFSETS: Field(LONG, [0]), COUNTS: Field(LONG, [len(data)])})
+        image.chunks = []
+        built = build(form, [image])
+        whole = built.laid(built.entries[0, OFFSETS] + 8, form.at(len(built.data))) + data
+        yield (
+            f"file-ends-{cut}-{form.name}",
+            whole[:-cut],
+            f"the file ends {cut} bytes before the packed bytes do",
+            "TIFF 6.0 section 9",
+            MAY,
+            "the strip isn't whole in the file",
+        )
+
+
+def packed_counts():
+    for form in CLASSIC:
+        for part in (counted_blocks, packed_strips, cut_packed):
+            yield from part(form)
 
 
 def packed_images():
@@ -855,11 +931,13 @@ def packbits():
         yield from part()
 
 
-def predictors():
-    alone = (
-        "the section speaks of differences of LZW data alone; readers differ in whether they undo"
-        " them elsewhere"
-    )
+ALONE = (
+    "the section speaks of differences of LZW data alone; readers differ in whether they undo"
+    " them elsewhere"
+)
+
+
+def predicted_samples():
     for form in FORMS:
         for predictor, name, section in (
             (2, "horizontal", "TIFF 6.0 section 14"),
@@ -890,8 +968,11 @@ def predictors():
                             f"{samples} samples of {bits} bits, stored with predictor {name}",
                             section,
                             MAY,
-                            alone,
+                            ALONE,
                         )
+
+
+def predicted_chunks():
     for form in CLASSIC:
         for planes, tile in ((1, (16, 16)), (2, None), (2, (16, 16))):
             for predictor, bits, kind in ((2, 8, 1), (2, 16, 1), (3, 32, 3)):
@@ -915,77 +996,72 @@ def predictors():
                     f"three samples of {bits} bits with predictor {predictor}",
                     "TIFF 6.0 section 14",
                     MAY,
-                    alone,
+                    ALONE,
                 )
+
+
+def predictors():
+    for part in (predicted_samples, predicted_chunks):
+        yield from part()
+
+
+# The numbers of methods of compression, but for none, 1, and PackBits.
+# fmt: off
+METHODS = (
+    2, 3, 4, 5, 6, 7, 8, 9, 10, 99, 32766, 32771, 32809, 32895, 32908, 32909, 32946, 32947, 34661,
+    34676, 34677, 34712, 34887, 34925, 34926, 50000, 50001, 50002, 52546,
+)
+# fmt: on
+
+
+def method_numbers(form):
+    known = "a method of compression that a reader may lack; the data of this strip aren't of it"
+    for method in METHODS:
+        for bits in (1, 8):
+            page = Image(8, 2, bits=bits, method=method).page()
+            yield (
+                f"method-{method}-{bits}-{form.name}",
+                build(form, [page]).bytes(),
+                f"a strip of {bits}-bit samples, said to be compressed by method {method}",
+                "TIFF 6.0 section 8",
+                MAY,
+                known,
+            )
+
+
+def fill_orders(form):
+    page = Image(9, 2, bits=1).page().with_fields({266: Field(SHORT, [2])})
+    yield (
+        f"fill-order-{form.name}",
+        build(form, [page]).bytes(),
+        "bilevel samples, whose lowest bit comes first",
+        "TIFF 6.0 section 8",
+        MAY,
+        "FillOrder 2 is no part of the baseline, and a reader may pass over the field",
+    )
+
+
+def orientations(form):
+    for turn in range(9):
+        page = Image(3, 2).page().with_fields({274: Field(SHORT, [turn])})
+        sort = (
+            sort_of(form)
+            if turn == 1
+            else (MAY, "a reader that doesn't turn the image gives its rows as they are stored")
+        )
+        yield (
+            f"orientation-{turn}-{form.name}",
+            build(form, [page]).bytes(),
+            f"Orientation is {turn}",
+            "TIFF 6.0 section 8",
+            *sort,
+        )
 
 
 def methods():
-    known = "a method of compression that a reader may lack; the data of this strip aren't of it"
     for form in FORMS:
-        for method in (
-            2,
-            3,
-            4,
-            5,
-            6,
-            7,
-            8,
-            9,
-            10,
-            99,
-            32766,
-            32771,
-            32809,
-            32895,
-            32908,
-            32909,
-            32946,
-            32947,
-            34661,
-            34676,
-            34677,
-            34712,
-            34887,
-            34925,
-            34926,
-            50000,
-            50001,
-            50002,
-            52546,
-        ):
-            for bits in (1, 8):
-                page = Image(8, 2, bits=bits, method=method).page()
-                yield (
-                    f"method-{method}-{bits}-{form.name}",
-                    build(form, [page]).bytes(),
-                    f"a strip of {bits}-bit samples, said to be compressed by method {method}",
-                    "TIFF 6.0 section 8",
-                    MAY,
-                    known,
-                )
-        page = Image(9, 2, bits=1).page().with_fields({266: Field(SHORT, [2])})
-        yield (
-            f"fill-order-{form.name}",
-            build(form, [page]).bytes(),
-            "bilevel samples, whose lowest bit comes first",
-            "TIFF 6.0 section 8",
-            MAY,
-            "FillOrder 2 is no part of the baseline, and a reader may pass over the field",
-        )
-        for turn in range(9):
-            page = Image(3, 2).page().with_fields({274: Field(SHORT, [turn])})
-            sort = (
-                sort_of(form)
-                if turn == 1
-                else (MAY, "a reader that doesn't turn the image gives its rows as they are stored")
-            )
-            yield (
-                f"orientation-{turn}-{form.name}",
-                build(form, [page]).bytes(),
-                f"Orientation is {turn}",
-                "TIFF 6.0 section 8",
-                *sort,
-            )
+        for part in (method_numbers, fill_orders, orientations):
+            yield from part(form)
 
 
 THEMES = {

@@ -20,12 +20,12 @@ fn main() {
         Some(folder) => link_in(&PathBuf::from(folder)),
         None => link_by_pkg_config(),
     }
-    tell_of_diagnostics();
+    set_has_diagnostics();
 }
 
 /// Sets `has_diagnostics` for a compiler that has the attributes `diagnostic::..`, with which a
 /// package writes messages of its own: Rust 1.85 has all that this one uses.
-fn tell_of_diagnostics() {
+fn set_has_diagnostics() {
     let compiler = env::var_os("RUSTC").unwrap_or_else(|| "rustc".into());
     let output = Command::new(compiler).arg("--version").output();
     let text = output.map_or_else(|_| Vec::new(), |output| output.stdout);
