@@ -50,8 +50,8 @@ def told_of(tags: Tags, tag: Tag) -> dict[str, Any]:
     facts = {"tag": tag.code, "name": tag.name, "type": kind, "count": tag.count}
     try:
         return {**facts, "value": as_json(value_of(tags, tag))}
-    except TiffError as fault:
-        return {**facts, "error": fault.status.name}
+    except TiffError as error:
+        return {**facts, "error": error.status.name}
 
 
 def lines_of(directory: Directory) -> list[dict[str, Any]]:

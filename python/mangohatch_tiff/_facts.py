@@ -59,8 +59,8 @@ class PageFacts:
             return f"<TiffPage {self.index} @{self.offset} refused: {self.status.name}>"
         try:
             shown = f"{self.shape} {self.dtype}"
-        except TiffError as fault:
-            shown = f"{self.imagelength} x {self.imagewidth}, unread: {fault}"
+        except TiffError as error:
+            shown = f"{self.imagelength} x {self.imagewidth}, unread: {error}"
         return f"<TiffPage {self.index} @{self.offset} {shown}>"
 
     def _tell_by_tags(self) -> None:

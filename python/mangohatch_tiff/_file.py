@@ -173,10 +173,10 @@ class TiffFile(Closing):
         """
         try:
             listed = self._listed_at(offset)
-        except TiffError as fault:
-            if fault.status is not Status.UNKNOWN_INTERPRETATION:
+        except TiffError as error:
+            if error.status is not Status.UNKNOWN_INTERPRETATION:
                 raise
-            listed = ListedPage(offset=offset, status=fault.status)
+            listed = ListedPage(offset=offset, status=error.status)
         page = TiffPage(self._file, -1, listed, self.byteorder)
         _library.check(page.status)
         return page

@@ -170,8 +170,8 @@ def numbers_of(tags: Tags, code: int, page: int | None) -> tuple[float, ...]:
         return ()
     try:
         return tags.floats(code)
-    except TiffError as fault:
-        raise malformed(f"tag {code}: {fault}", page) from fault
+    except TiffError as error:
+        raise malformed(f"tag {code}: {error}", page) from error
 
 
 def keys_of(tags: Tags, page: int | None) -> dict[str, GeoValue]:
@@ -180,8 +180,8 @@ def keys_of(tags: Tags, page: int | None) -> dict[str, GeoValue]:
         return {}
     try:
         words = tags.numbers(DIRECTORY)
-    except TiffError as fault:
-        raise malformed(f"GeoKeyDirectoryTag: {fault}", page) from fault
+    except TiffError as error:
+        raise malformed(f"GeoKeyDirectoryTag: {error}", page) from error
     if len(words) < 4 or words[0] != 1:
         raise malformed("GeoKeyDirectoryTag has no header of version 1", page)
     if len(words) < 4 + 4 * words[3]:

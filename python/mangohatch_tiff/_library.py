@@ -684,10 +684,10 @@ class named:
     def __enter__(self) -> None:
         return None
 
-    def __exit__(self, kind: object, fault: BaseException | None, trace: object) -> None:
-        if isinstance(fault, TiffError):
-            fault.page = self.page if fault.page is None else fault.page
-            fault.tag = self.tag if fault.tag is None else fault.tag
+    def __exit__(self, kind: object, error: BaseException | None, trace: object) -> None:
+        if isinstance(error, TiffError):
+            error.page = self.page if error.page is None else error.page
+            error.tag = self.tag if error.tag is None else error.tag
 
 
 class locked:
@@ -705,7 +705,7 @@ class locked:
         _GET_BUFFER(self.owner, byref(self.view), _CONTIGUOUS)
         return self.view.buf or ctypes.addressof(_ANY_BYTE), self.view.len
 
-    def __exit__(self, kind: object, fault: object, trace: object) -> None:
+    def __exit__(self, kind: object, error: object, trace: object) -> None:
         _RELEASE_BUFFER(byref(self.view))
 
 
@@ -800,8 +800,8 @@ def _result_and_status(
     """Returns the result of a call on a file, with its status; after an error zeros."""
     try:
         return result_of(call, kind, file, *place), Status.DONE
-    except TiffError as fault:
-        return kind(), fault.status
+    except TiffError as error:
+        return kind(), error.status
 
 
 def page_at(file: ReadableBuffer, offset: int) -> ListedPage:

@@ -32,8 +32,8 @@ def ome_stacks(pages: list[TiffPage], text: str) -> list[Stack]:
             for part in image
             if part.tag.endswith("Pixels")
         ]
-    except (ElementTree.ParseError, KeyError, ValueError, IndexError) as fault:
-        raise refused(f"an array of OME metadata that isn't read ({fault})") from None
+    except (ElementTree.ParseError, KeyError, ValueError, IndexError) as error:
+        raise refused(f"an array of OME metadata that isn't read ({error})") from None
     if not found:
         raise refused("OME metadata without an image")
     return found

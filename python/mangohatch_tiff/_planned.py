@@ -46,8 +46,8 @@ class Planned:
         """The plan of the page; None where the types of its lists of chunks make none."""
         try:
             return _library.page_plan(self.file, self.at)
-        except TiffError as fault:
-            if fault.status is not Status.INVALID_TYPE_FOR_TAG:
+        except TiffError as error:
+            if error.status is not Status.INVALID_TYPE_FOR_TAG:
                 raise
             return None
 

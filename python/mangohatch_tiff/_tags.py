@@ -254,8 +254,8 @@ class Tags:
         try:
             with _library.named(self._index, number):
                 return _library.result_of(_library.TAG_FIELD, Field, self._file, self._page, number)
-        except TiffError as fault:
-            if fault.status is Status.REQUIRED_TAG_NOT_FOUND:
+        except TiffError as error:
+            if error.status is Status.REQUIRED_TAG_NOT_FOUND:
                 return None
             raise
 

@@ -208,6 +208,6 @@ class Held:
         self._views += [view.release, part.release]
         return part
 
-    def __exit__(self, kind: object, fault: object, trace: object) -> None:
+    def __exit__(self, kind: object, error: object, trace: object) -> None:
         for release in reversed(self._views):
             release()

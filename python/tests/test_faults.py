@@ -37,11 +37,11 @@ UNREAD = {
 
 def status_of(call: object, *given: object) -> Status:
     """Returns the status by which a call is refused."""
-    with pytest.raises(mt.TiffError) as fault:
+    with pytest.raises(mt.TiffError) as error:
         call(*given)
-    assert str(fault.value)
-    assert isinstance(fault.value.status, Status)
-    return fault.value.status
+    assert str(error.value)
+    assert isinstance(error.value.status, Status)
+    return error.value.status
 
 
 @pytest.mark.parametrize("name", REFUSED)
@@ -72,8 +72,8 @@ def test_every_changed_byte() -> None:
                 for page in mt.TiffFile(file):
                     if page.status is Status.DONE and page.nbytes < 1 << 20:
                         page.asarray()
-            except mt.TiffError as fault:
-                assert fault.status is not Status.DONE
+            except mt.TiffError as error:
+                assert error.status is not Status.DONE
 
 
 def test_a_file_of_the_repository(data: Path) -> None:
@@ -132,9 +132,9 @@ def test_a_first_page_that_is_refused() -> None:
     numpy.testing.assert_array_equal(mt.imread(file, key=1), samples((3, 4), "u1"))
     assert tif[0].tags.numbers("ImageWidth") == (0,)
     for call in (tif.asarray, tif[0].asarray):
-        with pytest.raises(mt.TiffError) as fault:
+        with pytest.raises(mt.TiffError) as error:
             call()
-        assert (fault.value.status, fault.value.page) == (Status.INVALID_DIMENSIONS, 0)
+        assert (error.value.status, error.value.page) == (Status.INVALID_DIMENSIONS, 0)
 
 
 def test_a_single_page_that_is_refused() -> None:
@@ -194,39 +194,39 @@ FAULTS = [
 ]
 
 
-def raised(fault: mt.TiffError) -> None:
+def raised(error: mt.TiffError) -> None:
     """Raises an error, in another process."""
-    raise fault
+    raise error
 
 
-def assert_same(fault: mt.TiffError, other: BaseException) -> None:
+def assert_same(error: mt.TiffError, other: BaseException) -> None:
     """Compares an error with what came back in its place."""
-    assert type(other) is type(fault)
-    assert str(other) == str(fault) and vars(other) == vars(fault)
+    assert type(other) is type(error)
+    assert str(other) == str(error) and vars(other) == vars(error)
 
 
-@pytest.mark.parametrize("fault", FAULTS, ids=str)
-def test_faults_are_pickled(fault: mt.TiffError) -> None:
-    assert_same(fault, pickle.loads(pickle.dumps(fault)))
-    assert_same(fault, copy.copy(fault))
+@pytest.mark.parametrize("error", FAULTS, ids=str)
+def test_faults_are_pickled(error: mt.TiffError) -> None:
+    assert_same(error, pickle.loads(pickle.dumps(error)))
+    assert_same(error, copy.copy(error))
 
 
 def test_faults_of_other_processes() -> None:
     with multiprocessing.Pool(1) as pool:
-        for fault in FAULTS:
-            answer = pool.apply_async(raised, (fault,))
+        for error in FAULTS:
+            answer = pool.apply_async(raised, (error,))
             with pytest.raises(mt.TiffError) as caught:
                 answer.get(timeout=60)
-            assert_same(fault, caught.value)
+            assert_same(error, caught.value)
 
 
 def test_faults_name_their_page() -> None:
     assert str(mt.TiffError(25, 7, 270)).startswith("page 7: tag 270: ")
     assert str(mt.UnsupportedError("a palette", page=3)) == "page 3: a palette"
     assert isinstance(mt.UnsupportedError("a palette"), ValueError)
-    with pytest.raises(mt.TiffError) as fault:
+    with pytest.raises(mt.TiffError) as error:
         mt.TiffFile(gray_file(t273=(4, 1 << 20))).asarray()
-    assert (fault.value.page, fault.value.tag) == (0, None)
+    assert (error.value.page, error.value.tag) == (0, None)
 
 
 def test_no_buffer() -> None:

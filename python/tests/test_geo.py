@@ -132,9 +132,9 @@ MALFORMED = {
 @pytest.mark.parametrize("told", MALFORMED)
 def test_malformed_tags(told: str) -> None:
     page = page_of(*MALFORMED[told])
-    with pytest.raises(mt.UnsupportedError, match=told) as fault:
+    with pytest.raises(mt.UnsupportedError, match=told) as error:
         page.geo
-    assert fault.value.status is Status.INVALID_TAG and fault.value.page == 0
+    assert error.value.status is Status.INVALID_TAG and error.value.page == 0
     assert page.asarray().shape == (4, 5)
 
 
@@ -156,8 +156,8 @@ def test_every_changed_byte() -> None:
                 for page in mt.TiffFile(file).pages:
                     geo = page.geo
                     told += geo is not None and geo.transform is not None
-            except mt.TiffError as fault:
-                assert fault.status is not Status.DONE
+            except mt.TiffError as error:
+                assert error.status is not Status.DONE
     assert told > 100
 
 

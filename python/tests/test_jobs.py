@@ -41,10 +41,10 @@ def test_path(tmp_path: Path) -> None:
 
 
 def test_refused() -> None:
-    with pytest.raises(mt.JobsError) as fault:
+    with pytest.raises(mt.JobsError) as error:
         mt.write_jobs(None, "image Gray8 2 1\nwrite_all 1 2\n")
-    assert (fault.value.line, fault.value.job) == (2, 0)
-    with pytest.raises(mt.JobsError) as fault:
+    assert (error.value.line, error.value.job) == (2, 0)
+    with pytest.raises(mt.JobsError) as error:
         mt.write_jobs(None, "image Gray8 1 1\nwrite_data 1\nimage Gray8 0 1\nfinish\n")
-    assert (fault.value.line, fault.value.job) == (0, 2)
-    assert fault.value.status == mt.Status.INVALID_DIMENSIONS
+    assert (error.value.line, error.value.job) == (0, 2)
+    assert error.value.status == mt.Status.INVALID_DIMENSIONS

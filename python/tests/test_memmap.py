@@ -134,9 +134,9 @@ def test_a_file_that_is_cut_is_not_made_longer(tmp_path: Path) -> None:
     path = tmp_path / "page.tif"
     file = gray_file(40, 30, data=bytes(100), t279=(4, 1200))
     path.write_bytes(file)
-    with pytest.raises(mt.TiffError) as fault:
+    with pytest.raises(mt.TiffError) as error:
         mt.memmap(path, page=0)
-    assert fault.value.status is mt.Status.UNEXPECTED_EOF
+    assert error.value.status is mt.Status.UNEXPECTED_EOF
     assert path.read_bytes() == file
 
 

@@ -216,9 +216,9 @@ def test_void_is_unsigned() -> None:
 
 def test_a_number_type_that_numpy_lacks() -> None:
     page = mt.TiffFile(gray_file(t339=(3, 3))).pages[0]
-    with pytest.raises(mt.UnsupportedError, match="SampleFormat 3 with 8 bits") as fault:
+    with pytest.raises(mt.UnsupportedError, match="SampleFormat 3 with 8 bits") as error:
         page.asarray()
-    assert fault.value.status is Status.UNSUPPORTED_SAMPLE_FORMAT
+    assert error.value.status is Status.UNSUPPORTED_SAMPLE_FORMAT
     assert "unread" in repr(page)
 
 
@@ -235,9 +235,9 @@ def test_a_palette_has_indexes_and_colors(dtype: str, options: dict) -> None:
     numpy.testing.assert_array_equal(page.asarray(), image)
     numpy.testing.assert_array_equal(page.read(slice(3, 30), slice(1, 19)), image[3:30, 1:19])
     assert len(list(page.segments())) == page.chunk_count
-    with pytest.raises(mt.TiffError) as fault:
+    with pytest.raises(mt.TiffError) as error:
         page.asarray(shown=True)
-    assert fault.value.status is Status.INTERPRETATION_WITH_BITS
+    assert error.value.status is Status.INTERPRETATION_WITH_BITS
     assert mt.TiffFile(gray_file()).pages[0].colormap is None
 
 
@@ -316,9 +316,9 @@ def test_modes_of_pillow(mode: str, compression: str | None) -> None:
 
 def test_a_packed_chunk_that_is_cut() -> None:
     file = gray_file(4, 3, data=b"\3abcd", t259=(3, 32773), t262=(3, 3))
-    with mt.TiffFile(file) as tif, pytest.raises(mt.TiffError) as fault:
+    with mt.TiffFile(file) as tif, pytest.raises(mt.TiffError) as error:
         tif.asarray()
-    assert fault.value.status is Status.UNEXPECTED_EOF and fault.value.page == 0
+    assert error.value.status is Status.UNEXPECTED_EOF and error.value.page == 0
 
 
 @pytest.mark.parametrize("tags", [{"t262": (3, 3)}, {"t258": (3, 12)}, {"t266": (3, 2)}])
@@ -326,9 +326,9 @@ def test_a_stored_chunk_that_is_cut(tags: dict, tmp_path: Path) -> None:
     """The file can be closed behind the error."""
     path = tmp_path / "cut.tif"
     path.write_bytes(gray_file(40, 30, data=bytes(100), **tags))
-    with mt.TiffFile(path) as tif, pytest.raises(mt.TiffError) as fault:
+    with mt.TiffFile(path) as tif, pytest.raises(mt.TiffError) as error:
         tif.asarray()
-    assert fault.value.status is Status.UNEXPECTED_EOF and fault.value.page == 0
+    assert error.value.status is Status.UNEXPECTED_EOF and error.value.page == 0
 
 
 @pytest.mark.parametrize("dtype", ["u1", "u2", "i2", "f4"])
@@ -398,9 +398,9 @@ def test_stored_pages_that_are_refused() -> None:
         ({"t266": (3, 2), "t317": (3, 3)}, Status.FLOATING_POINT_PREDICTOR),
         ({"t258": (3, 24)}, Status.UNSUPPORTED_BITS_PER_CHANNEL),
     ):
-        with pytest.raises(mt.TiffError) as fault:
+        with pytest.raises(mt.TiffError) as error:
             mt.imread(gray_file(**tags))
-        assert fault.value.status is status
+        assert error.value.status is status
 
 
 @pytest.mark.parametrize("options", [{}, {"tile": (16, 16)}, {"rowsperstrip": 3}])
@@ -438,9 +438,9 @@ def test_pages_of_which_other_samples_would_come(name: str) -> None:
     tags, status = REFUSED[name]
     page = mt.TiffFile(gray_file(**tags)).pages[0]
     for read in (page.asarray, lambda: page.read_chunk(0), lambda: next(page.segments())):
-        with pytest.raises(mt.UnsupportedError, match=name) as fault:
+        with pytest.raises(mt.UnsupportedError, match=name) as error:
             read()
-        assert fault.value.status is status and fault.value.page == 0
+        assert error.value.status is status and error.value.page == 0
 
 
 @pytest.mark.parametrize("nodata", [None, "7", "-9999", "nan", "x"])
@@ -533,8 +533,8 @@ def test_every_changed_byte(name: str) -> None:
                         page.asarray(workers=1)
                         page.read(slice(1, 2), slice(1, 3))
                         read += 1
-            except mt.TiffError as fault:
-                assert fault.status is not Status.DONE
+            except mt.TiffError as error:
+                assert error.status is not Status.DONE
     assert read > 100
 
 

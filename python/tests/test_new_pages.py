@@ -123,19 +123,19 @@ REFUSED = [
 @pytest.mark.parametrize("before", [0, 2])
 def test_refused(page: NewPage, field: str, status: str, before: int) -> None:
     """The error names the page and the field, also behind pages that are good."""
-    with pytest.raises(mt.PagesError) as fault:
+    with pytest.raises(mt.PagesError) as error:
         _new_pages._write_pages([*[GOOD] * before, page, GOOD], False)
-    assert (fault.value.page, fault.value.field) == (before, PageField[field])
-    assert fault.value.status is Status[status]
-    assert str(fault.value).startswith(f"page {before}: ")
-    assert (f"{field.lower()}: " in str(fault.value)) == (field != "NONE")
+    assert (error.value.page, error.value.field) == (before, PageField[field])
+    assert error.value.status is Status[status]
+    assert str(error.value).startswith(f"page {before}: ")
+    assert (f"{field.lower()}: " in str(error.value)) == (field != "NONE")
 
 
 def test_nothing_is_written(tmp_path: Path) -> None:
     path = tmp_path / "page.tif"
     for options in ({}, {"description": "no rows"}):
-        with pytest.raises(mt.PagesError) as fault:
+        with pytest.raises(mt.PagesError) as error:
             mt.imwrite(path, numpy.zeros((0, 5), "u1"), **options)
-        assert (fault.value.page, fault.value.field) == (0, PageField.NONE)
-        assert fault.value.status is Status.INVALID_DIMENSIONS
+        assert (error.value.page, error.value.field) == (0, PageField.NONE)
+        assert error.value.status is Status.INVALID_DIMENSIONS
         assert not path.exists()

@@ -213,14 +213,14 @@ def test_numbers_that_are_refused() -> None:
 
 @pytest.mark.parametrize("predictor", [2, True, "horizontal"])
 def test_differences_are_refused(predictor: object) -> None:
-    with pytest.raises(mt.PagesError) as fault:
+    with pytest.raises(mt.PagesError) as error:
         mt.imwrite(None, noise((19, 23), 1).astype(bool), predictor=predictor)
-    assert fault.value.status is Status.PREDICTOR_INCOMPATIBLE
-    assert (fault.value.page, fault.value.field) == (0, PageField.NONE)
+    assert error.value.status is Status.PREDICTOR_INCOMPATIBLE
+    assert (error.value.page, error.value.field) == (0, PageField.NONE)
 
 
 def test_pages_without_pixels() -> None:
     for shape in ((0, 5), (5, 0)):
-        with pytest.raises(mt.PagesError) as fault:
+        with pytest.raises(mt.PagesError) as error:
             mt.imwrite(None, numpy.zeros(shape, bool))
-        assert fault.value.status is Status.INVALID_DIMENSIONS
+        assert error.value.status is Status.INVALID_DIMENSIONS

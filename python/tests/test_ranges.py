@@ -149,10 +149,10 @@ def outcome(call: Callable[[], object]) -> object:
     """Returns what a call returns, or the status of its error."""
     try:
         return call()
-    except mt.TiffError as fault:
-        return fault.status
-    except ValueError as fault:
-        return type(fault)
+    except mt.TiffError as error:
+        return error.status
+    except ValueError as error:
+        return type(error)
 
 
 def alike(one: object, other: object) -> bool:
@@ -202,10 +202,10 @@ def assert_files_alike(file: bytes) -> None:
     """Compares a file that is read whole with the same one by ranges."""
     try:
         whole = mt.TiffFile(file)
-    except mt.TiffError as fault:
+    except mt.TiffError as error:
         with pytest.raises(mt.TiffError) as found:
             mt.TiffFile(Counted(file))
-        assert found.value.status == fault.status
+        assert found.value.status == error.status
         return
     ranged = mt.TiffFile(Counted(file))
     facts = [(len(tif), tif.end, tif.byteorder, tif.is_bigtiff) for tif in (whole, ranged)]

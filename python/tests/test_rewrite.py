@@ -282,17 +282,17 @@ def test_samples_as_they_are_shown() -> None:
 def refused(file: bytes, chunk: int, part: numpy.ndarray, **options: bool) -> mt.TiffError:
     """Returns the error by which a chunk isn't changed, and compares the file."""
     held = bytearray(file)
-    with pytest.raises(mt.TiffError) as fault:
+    with pytest.raises(mt.TiffError) as error:
         mt.TiffFile(held).pages[0].rewrite(chunk, part, **options)
     assert bytes(held) == file
-    return fault.value
+    return error.value
 
 
 def test_what_the_library_refuses() -> None:
     packed = mt.imwrite(None, GRAY, compression="packbits", rowsperstrip=5)
-    fault = refused(packed, 1, GRAY[5:10])
-    assert (fault.status, fault.page) == (Status.UNSUPPORTED_COMPRESSION_METHOD, 0)
-    assert type(fault) is mt.TiffError
+    error = refused(packed, 1, GRAY[5:10])
+    assert (error.status, error.page) == (Status.UNSUPPORTED_COMPRESSION_METHOD, 0)
+    assert type(error) is mt.TiffError
     floating = bytes(12)
     file = gray_file(3, 1, data=floating, t258=(3, 32), t339=(3, 3), t317=(3, 3))
     part = numpy.zeros((1, 3), "f4")
@@ -304,15 +304,15 @@ def test_what_the_library_refuses() -> None:
     typed = gray_file(t273=(13, 8))
     assert refused(typed, 0, samples((3, 4), "u1")).status is Status.INVALID_TYPE_FOR_TAG
     for chunk in (-1, 1, 1 << 40):
-        fault = refused(gray_file(), chunk, samples((3, 4), "u1"))
-        assert fault.status is Status.INVALID_CHUNK_INDEX
+        error = refused(gray_file(), chunk, samples((3, 4), "u1"))
+        assert error.status is Status.INVALID_CHUNK_INDEX
 
 
 def test_what_this_package_refuses() -> None:
     part = samples((3, 4), "u1")
     for file in (gray_file(t262=(3, 3)), gray_file(t262=(3, 3), t317=(3, 2)), made(part + 0j)):
-        fault = refused(file, 0, mt.TiffFile(file).pages[0].read_chunk(0))
-        assert isinstance(fault, mt.UnsupportedError) and "leaves out" in str(fault)
+        error = refused(file, 0, mt.TiffFile(file).pages[0].read_chunk(0))
+        assert isinstance(error, mt.UnsupportedError) and "leaves out" in str(error)
     assert "FillOrder" in str(refused(gray_file(t266=(3, 2)), 0, part, shown=True))
     assert "doesn't have" in str(refused(gray_file(t273=(4, 0)), 0, part))
 

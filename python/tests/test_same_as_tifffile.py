@@ -81,8 +81,8 @@ def read(call: Callable[[], object]) -> Any:
     """Returns what is read, or the error by which it is refused."""
     try:
         return call()
-    except mt.TiffError as fault:
-        return fault
+    except mt.TiffError as error:
+        return error
 
 
 def assert_same_array(

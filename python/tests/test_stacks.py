@@ -69,8 +69,8 @@ def test_keys(key: object, metadata: dict | None) -> None:
 
 def test_keys_that_are_none() -> None:
     file = several(samples((3, 4), "u1"), samples((3, 4), "u1"))
-    for key, fault in ((2, IndexError), (slice(7, 9), ValueError), ([], ValueError)):
-        with pytest.raises(fault):
+    for key, error in ((2, IndexError), (slice(7, 9), ValueError), ([], ValueError)):
+        with pytest.raises(error):
             mt.imread(file, key=key)
     with pytest.raises(TypeError):
         mt.imread(file, key="first")

@@ -90,13 +90,13 @@ def test_values_of_one_type(byteorder: str, bigtiff: bool) -> None:
     assert tags.text(65001) == "a text"
     assert tags.text("ImageDescription") == "a scan"
     for call, number in ((tags.numbers, 65005), (tags.floats, 65010), (tags.text, 65000)):
-        with pytest.raises(mt.TiffError) as fault:
+        with pytest.raises(mt.TiffError) as error:
             call(number)
-        assert fault.value.status is mt.Status.INVALID_TYPE_FOR_TAG
+        assert error.value.status is mt.Status.INVALID_TYPE_FOR_TAG
     for call in (tags.numbers, tags.floats, tags.text):
-        with pytest.raises(mt.TiffError) as fault:
+        with pytest.raises(mt.TiffError) as error:
             call(65099)
-        assert fault.value.status is mt.Status.REQUIRED_TAG_NOT_FOUND
+        assert error.value.status is mt.Status.REQUIRED_TAG_NOT_FOUND
         with pytest.raises(KeyError):
             call("NoSuchName")
 
@@ -216,10 +216,10 @@ def test_tags_that_tifffile_decodes_further() -> None:
 
 
 def test_errors_name_the_tag() -> None:
-    with pytest.raises(mt.TiffError) as fault:
+    with pytest.raises(mt.TiffError) as error:
         mt.TiffFile(gray_file()).pages[0].tags.numbers("XResolution")
-    assert (fault.value.page, fault.value.tag) == (0, 282)
-    assert "page 0: tag 282: " in str(fault.value)
+    assert (error.value.page, error.value.tag) == (0, 282)
+    assert "page 0: tag 282: " in str(error.value)
 
 
 def test_bytes_and_undefined_are_bytes() -> None:
@@ -252,6 +252,6 @@ def test_values_past_the_end_of_the_file(offset: int) -> None:
     entry = file.index((65000).to_bytes(2, "little") + b"\4\0")
     file[entry + 4 : entry + 8] = b"\xff\xff\xff\xff"
     tags = mt.TiffFile(file).pages[0].tags
-    with pytest.raises(mt.TiffError) as fault:
+    with pytest.raises(mt.TiffError) as error:
         tags[65000].value
-    assert fault.value.status is mt.Status.UNEXPECTED_EOF
+    assert error.value.status is mt.Status.UNEXPECTED_EOF

@@ -128,7 +128,7 @@ def test_the_first_error_is_raised(workers: int, monkeypatch: pytest.MonkeyPatch
     tifffile.imwrite(made, image, rowsperstrip=4, photometric="minisblack")
     monkeypatch.setattr(_parts, "STRETCH", 256)
     page = mt.TiffFile(made.getvalue()[: -20 * 64]).pages[0]
-    with pytest.raises(mt.TiffError) as fault:
+    with pytest.raises(mt.TiffError) as error:
         page.asarray(workers=workers)
-    assert fault.value.status is mt.Status.UNEXPECTED_EOF and fault.value.page == 0
+    assert error.value.status is mt.Status.UNEXPECTED_EOF and error.value.page == 0
     numpy.testing.assert_array_equal(page.read(slice(0, 40), workers=workers), image[:40])

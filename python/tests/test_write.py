@@ -130,9 +130,9 @@ def test_arrays_that_versions_of_tifffile_write_in_two_ways(
 
 def test_compression_that_is_not_written() -> None:
     for compression in ("lzw", "LZW", 8, "jpeg", "zlib"):
-        with pytest.raises(mt.UnsupportedError, match="compression=") as fault:
+        with pytest.raises(mt.UnsupportedError, match="compression=") as error:
             mt.imwrite(None, samples((3, 4), "u1"), compression=compression)
-        assert fault.value.status is mt.Status.UNSUPPORTED_COMPRESSION_METHOD
+        assert error.value.status is mt.Status.UNSUPPORTED_COMPRESSION_METHOD
     with pytest.raises(ValueError, match="compression='squeezed' is none of"):
         mt.imwrite(None, samples((3, 4), "u1"), compression="squeezed")
 
@@ -208,12 +208,12 @@ def test_other_values_are_refused_by_name() -> None:
 
 
 def test_faults() -> None:
-    with pytest.raises(mt.TiffError) as fault:
+    with pytest.raises(mt.TiffError) as error:
         mt.imwrite(None, numpy.zeros((0, 4), "u1"))
-    assert fault.value.status is mt.Status.INVALID_DIMENSIONS
-    with pytest.raises(mt.TiffError) as fault:
+    assert error.value.status is mt.Status.INVALID_DIMENSIONS
+    with pytest.raises(mt.TiffError) as error:
         mt.imwrite(None, samples((3, 4), "f4"), predictor=2)
-    assert fault.value.status is mt.Status.PREDICTOR_INCOMPATIBLE
-    with pytest.raises(mt.TiffError) as fault:
+    assert error.value.status is mt.Status.PREDICTOR_INCOMPATIBLE
+    with pytest.raises(mt.TiffError) as error:
         mt.imwrite(None, numpy.zeros((2, 0, 5), "u1"))
-    assert (fault.value.status, fault.value.page) == (mt.Status.INVALID_DIMENSIONS, 0)
+    assert (error.value.status, error.value.page) == (mt.Status.INVALID_DIMENSIONS, 0)

@@ -177,9 +177,9 @@ def test_a_big_endian_file_gets_no_pages(tmp_path: Path) -> None:
     path = tmp_path / "pages.tif"
     tifffile.imwrite(path, samples((3, 4), ">u2"), byteorder=">", photometric="minisblack")
     before = path.read_bytes()
-    with pytest.raises(mt.UnsupportedError, match="big-endian") as fault:
+    with pytest.raises(mt.UnsupportedError, match="big-endian") as error:
         mt.imwrite(path, samples((3, 4), "u2"), append=True)
-    assert fault.value.status is mt.Status.BYTE_ORDER_MISMATCH
+    assert error.value.status is mt.Status.BYTE_ORDER_MISMATCH
     assert path.read_bytes() == before
 
 
@@ -206,9 +206,9 @@ def test_files_that_get_no_pages(tmp_path: Path) -> None:
     link = second + 2 + 12 * count
     cycle[link : link + 4] = first.to_bytes(4, "little")
     path.write_bytes(cycle)
-    with pytest.raises(mt.TiffError) as fault:
+    with pytest.raises(mt.TiffError) as error:
         mt.imwrite(path, image, append=True)
-    assert fault.value.status is mt.Status.CYCLE_IN_OFFSETS
+    assert error.value.status is mt.Status.CYCLE_IN_OFFSETS
     assert path.read_bytes() == cycle
 
 

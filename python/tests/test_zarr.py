@@ -204,9 +204,9 @@ def test_what_is_no_chunk() -> None:
 def test_a_chunk_that_is_refused() -> None:
     store = mt.TiffFile(gray_file(t273=(4, 1 << 20))).pages[0].aszarr()
     assert "0.0" in store
-    with pytest.raises(mt.TiffError) as fault:
+    with pytest.raises(mt.TiffError) as error:
         store["0.0"]
-    assert fault.value.status is mt.Status.UNEXPECTED_EOF
+    assert error.value.status is mt.Status.UNEXPECTED_EOF
 
 
 def test_an_array_that_is_no_stack_of_its_pages(tmp_path: Path) -> None:
