@@ -17,7 +17,7 @@ def main() -> None:
             else:
                 print(f"{page.index}: refused, {page.status.name}")
         if tif.end is not Status.DONE:
-            print(f"the chain of pages ends by a fault: {tif.end.name}")
+            print(f"the chain of pages ends by an error: {tif.end.name}")
 
 
 if __name__ == "__main__":

@@ -1,4 +1,4 @@
-"""Reads TIFF files from memory into numpy arrays, and writes them.
+"""Reads TIFF and BigTIFF files into numpy arrays, and writes them.
 
     with TiffFile("scan.tif") as tif:
         for page in tif.pages:

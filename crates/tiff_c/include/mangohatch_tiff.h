@@ -1,4 +1,4 @@
-/* mangohatch_tiff.h - reads pages of TIFF files from memory, and writes TIFF files into memory
+/* mangohatch_tiff.h - reads TIFF and BigTIFF files from memory, and writes them into memory
 
    Copyright (c) 2018 PistonDevelopers (the Rust crate `tiff`, whose names and behaviour this library ports)
    Copyright (c) 2026 Mangohatch
@@ -424,7 +424,7 @@ tiff_status tiff_chunk_place(const uint8_t *file, size_t len, const struct tiff_
    none was overwritten is as it was. The call doesn't notice a PLAN that was changed, or chunks
    that overlap. Errors: those of a *PLAN, as tiff_chunk_place; the page's color or its layout, as
    tiff_read_planned_chunk; a COUNT that isn't the chunk's, TIFF_INVALID_DATA; the chunk's form, as
-   tiff_read_planned_chunk; data that are packed, TIFF_UNSUPPORTED_COMPRESSION_METHOD; the
+   tiff_read_planned_chunk; data that are compressed, TIFF_UNSUPPORTED_COMPRESSION_METHOD; the
    byte-plane predictor, TIFF_FLOATING_POINT_PREDICTOR; rows that need 2^64 bytes or more,
    TIFF_LIMITS_EXCEEDED; a SIZE that is below what the rows need,
    TIFF_INSUFFICIENT_OUTPUT_BUFFER_SIZE. An error leaves STORED as it was. */
@@ -530,14 +530,14 @@ tiff_status tiff_byte_order(const uint8_t *file, size_t len, uint32_t *order);
    tiff_windows is what the caller has of a file: the LEN bytes of the whole file, which it knows,
    and COUNT windows in ascending order, which lie in the file and don't overlap. The calls below do
    what the ones without _in do on the whole file. Each begins anew, so a chunk whose data are
-   packed is unpacked from its start by each of them: fetch all of its bytes at once. If a call
-   needs a byte that no window has, it returns TIFF_BYTES_WANTED and puts what it needs next into
-   *WANTED: at least one byte, the first of which no window has. The caller reads these bytes, or
-   more around them, as whole pages of 4 or 64 KB, adds a window, and calls again. As each such call
-   names a byte that is new, the calls come to an end. Any other status is the whole file's, and so
-   is what the call leaves: that holds for every file that the windows are of. Windows in another
-   order, that overlap or that pass LEN are refused: TIFF_INVALID_INPUT. With these two statuses a
-   list has a *COUNT of 0. */
+   compressed is decompressed from its start by each of them: fetch all of its bytes at once. If a
+   call needs a byte that no window has, it returns TIFF_BYTES_WANTED and puts what it needs next
+   into *WANTED: at least one byte, the first of which no window has. The caller reads these bytes,
+   or more around them, as whole pages of 4 or 64 KB, adds a window, and calls again. As each such
+   call names a byte that is new, the calls come to an end. Any other status is the whole file's,
+   and so is what the call leaves: that holds for every file that the windows are of. Windows in
+   another order, that overlap or that pass LEN are refused: TIFF_INVALID_INPUT. With these two
+   statuses a list has a *COUNT of 0. */
 struct tiff_window {
     uint64_t offset;
     const uint8_t *bytes;
