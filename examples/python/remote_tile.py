@@ -32,8 +32,8 @@ class RemoteFile:
 
     def read_at(self, offset: int, size: int) -> bytes:
         """Returns so many bytes from an offset on."""
-        asked = Request(self.url, headers={"Range": f"bytes={offset}-{offset + size - 1}"})
-        with urlopen(asked) as response:
+        request = Request(self.url, headers={"Range": f"bytes={offset}-{offset + size - 1}"})
+        with urlopen(request) as response:
             if response.status != 206:
                 raise OSError(f"{self.url}: the server sends no ranges")
             data: bytes = response.read()
@@ -52,11 +52,11 @@ class Ranges(BaseHTTPRequestHandler):
         self.end_headers()
 
     def do_GET(self) -> None:
-        asked = re.fullmatch(r"bytes=(\d+)-(\d+)", self.headers.get("Range", ""))
-        if asked is None:
+        wanted = re.fullmatch(r"bytes=(\d+)-(\d+)", self.headers.get("Range", ""))
+        if wanted is None:
             self.send_error(416)
             return
-        first, last = int(asked[1]), int(asked[2])
+        first, last = int(wanted[1]), int(wanted[2])
         with open(self.path_of_file, "rb") as file:
             file.seek(first)
             data = file.read(last + 1 - first)

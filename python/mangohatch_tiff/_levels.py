@@ -124,7 +124,7 @@ def shaped_stacks(file: TiffFile, pages: list[TiffPage]) -> list[Stack]:
     found, rest = [], pages
     while rest:
         if not rest[0].is_shaped:
-            raise refused("pages of which no description tells a shape")
+            raise refused("pages without a shape in a description")
         stack = shaped_stack(rest)
         found.append(stack)
         for level in zip(*below_each(file, stack.pages)):

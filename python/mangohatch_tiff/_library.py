@@ -482,7 +482,7 @@ def _path() -> str:
     found = found or ctypes.util.find_library(NAME)
     if not found:
         raise ImportError(
-            f"The shared library lib{NAME}.so stands neither beside this module nor on the "
+            f"The shared library lib{NAME}.so is neither beside this module nor on the "
             f"system; name it in the environment variable {VARIABLE}."
         )
     return found

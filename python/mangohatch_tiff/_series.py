@@ -185,7 +185,7 @@ def shaped_stack(held: list[TiffPage]) -> Stack:
         facts = json.loads(text)
         shape = tuple(int(side) for side in facts["shape"])
     except (ValueError, KeyError, TypeError):
-        raise refused(f"a description that tells no shape: {text!r}") from None
+        raise refused(f"a description without a shape: {text!r}") from None
     count, rest = divmod(math.prod(shape), first.size)
     pages = held[:count]
     if rest or not 0 < count == len(pages) or any(alike(page) != alike(first) for page in pages):

@@ -68,12 +68,12 @@ def test_raw_browser(programs: Path, tmp_path: Path) -> None:
     file, preview = raw_file()
     path, made = tmp_path / "raw.tif", tmp_path / "preview.ppm"
     path.write_bytes(file)
-    told = run(programs / "raw_browser", path, made)[0].decode().splitlines()
-    places = [line for line in told if "@" in line and "tags" in line]
+    output = run(programs / "raw_browser", path, made)[0].decode().splitlines()
+    places = [line for line in output if "@" in line and "tags" in line]
     offsets = [directory.offset for directory in mt.TiffFile(file).directories]
     assert [int(re.search(r"@(\d+)", line)[1]) for line in places] == offsets
     assert "error: unknown photometric interpretation" in places[0]
-    tags = [line.strip() for line in told if " of type " in line]
+    tags = [line.strip() for line in output if " of type " in line]
     assert len(tags) == len(EXIF)
     assert tags[:3] == [
         "33434, 1 of type 5: 1/250", "36867, 20 of type 2: 2026:11:28 23:59:59",
@@ -97,8 +97,8 @@ def test_tile_server(shape: tuple[int, ...], options: dict, programs: Path, tmp_
     page = mt.TiffFile(path).pages[0]
     numbers = [0, 9999, 5050, 99, 9900, page.chunk_count - 1]
     given = "\n".join(map(str, numbers))
-    tiles, told = run(programs / "tile_server", path, given=given)
-    assert page.chunk_count >= 10_000 and "each of 6 tiles" in told
+    tiles, output = run(programs / "tile_server", path, given=given)
+    assert page.chunk_count >= 10_000 and "each of 6 tiles" in output
     for number, tile in zip(numbers, pictures(tiles), strict=True):
         numpy.testing.assert_array_equal(tile, page.read_chunk(number))
 
@@ -114,8 +114,8 @@ def test_viewer(programs: Path, tmp_path: Path) -> None:
     """Thumbnails of pages, the first one first."""
     stack, path = samples((10_000, 20, 30), "u1"), tmp_path / "pages.tif"
     mt.imwrite(path, stack)
-    made, told = run(programs / "viewer", path, given="9999 17")
-    assert "the list of 10000 pages" in told and "each of 2 pages" in told
+    made, output = run(programs / "viewer", path, given="9999 17")
+    assert "the list of 10000 pages" in output and "each of 2 pages" in output
     for number, image in zip((0, 9999, 17), pictures(made), strict=True):
         numpy.testing.assert_array_equal(image, stack[number])
 

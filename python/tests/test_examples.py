@@ -39,10 +39,10 @@ def test_dask(shape: tuple[int, ...], dtype: str, options: dict, tmp_path: Path)
     path = tmp_path / "page.tif"
     image = samples(shape, "u1") > 99 if dtype == "?" else samples(shape, dtype)
     tifffile.imwrite(path, image, metadata=None, **options)
-    told = dask_image.image_of(str(path))
-    computed = told.compute(scheduler="synchronous")
-    assert told.shape == computed.shape == shape
-    assert told.dtype == computed.dtype == image.dtype
+    output = dask_image.image_of(str(path))
+    computed = output.compute(scheduler="synchronous")
+    assert output.shape == computed.shape == shape
+    assert output.dtype == computed.dtype == image.dtype
     numpy.testing.assert_array_equal(computed, image)
 
 
@@ -60,9 +60,9 @@ def test_dask_blocks(
     path = tmp_path / "page.tif"
     image = samples(shape, "u1") > 99 if dtype == "?" else samples(shape, dtype)
     tifffile.imwrite(path, image, metadata=None, **options)
-    told = dask_image.image_of(str(path))
-    assert told.npartitions == 1 if block > image.nbytes else told.npartitions > 1
-    numpy.testing.assert_array_equal(told.compute(scheduler="synchronous"), image)
+    output = dask_image.image_of(str(path))
+    assert output.npartitions == 1 if block > image.nbytes else output.npartitions > 1
+    numpy.testing.assert_array_equal(output.compute(scheduler="synchronous"), image)
 
 
 @pytest.mark.parametrize(("shape", "dtype", "options"), PAGES)
@@ -80,8 +80,8 @@ def test_dask_over_zarr(
     image = samples(shape, "u1") > 99 if dtype == "?" else samples(shape, dtype)
     tifffile.imwrite(path, image, metadata=None, **options)
     with mt.imread(path, key=0, aszarr=True) as store:
-        told = zarr_image.image_of(store)
-        numpy.testing.assert_array_equal(told.compute(scheduler="synchronous"), image)
+        output = zarr_image.image_of(store)
+        numpy.testing.assert_array_equal(output.compute(scheduler="synchronous"), image)
 
 
 def run(name: str, *words: object) -> str:
@@ -112,9 +112,9 @@ def test_remote_tile(tmp_path: Path) -> None:
     image = samples((4096, 4096), "u1")
     path, made = tmp_path / "page.tif", tmp_path / "made.tif"
     tifffile.imwrite(path, image, photometric="minisblack", tile=(128, 128), bigtiff=True)
-    told = run("remote_tile.py", path, 2000, 3000, made)
-    assert told.startswith("shape (128, 128), uint8: ")
-    requests, fetched, size = map(int, re.findall(r"(\d+) (?:requests|of|bytes)", told))
+    output = run("remote_tile.py", path, 2000, 3000, made)
+    assert output.startswith("shape (128, 128), uint8: ")
+    requests, fetched, size = map(int, re.findall(r"(\d+) (?:requests|of|bytes)", output))
     assert requests <= 4 and 10 * fetched < size
     numpy.testing.assert_array_equal(mt.imread(made), image[1920:2048, 2944:3072])
 
@@ -175,14 +175,14 @@ def test_geo_raster(is_point: bool, tmp_path: Path) -> None:
     tags += [(33550, "d", 3, (10.0, 5.0, 0.0), True)]
     tags += [(33922, "d", 6, (0.0, 0.0, 0.0, 500000.0, 900000.0, 0.0), True)]
     tifffile.imwrite(path, image, photometric="minisblack", tile=(64, 64), extratags=tags)
-    told = run("geo_raster.py", path)
-    assert "GTModelTypeGeoKey = 1 (projected)\n" in told and "EPSG: 32633\n" in told
-    assert "GTCitationGeoKey = 'a place'\n" in told
+    output = run("geo_raster.py", path)
+    assert "GTModelTypeGeoKey = 1 (projected)\n" in output and "EPSG: 32633\n" in output
+    assert "GTCitationGeoKey = 'a place'\n" in output
     # the middle of the pixel in row 100 and column 200
     half = 0.0 if is_point else 0.5
     x, y = 500000 + 10 * (200 + half), 900000 - 5 * (100 + half)
-    told = run("geo_raster.py", path, x, y, 64, made)
-    assert "pixel: row 100, column 200\n" in told and "window: (64, 64) uint16" in told
+    output = run("geo_raster.py", path, x, y, 64, made)
+    assert "pixel: row 100, column 200\n" in output and "window: (64, 64) uint16" in output
     with mt.TiffFile(path) as tif, mt.TiffFile(made) as cut:
         page, window = tif.pages[0], cut.pages[0]
         numpy.testing.assert_array_equal(window.asarray(), image[68:132, 168:232])

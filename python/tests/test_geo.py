@@ -129,10 +129,10 @@ MALFORMED = {
 }
 
 
-@pytest.mark.parametrize("told", MALFORMED)
-def test_malformed_tags(told: str) -> None:
-    page = page_of(*MALFORMED[told])
-    with pytest.raises(mt.UnsupportedError, match=told) as error:
+@pytest.mark.parametrize("message", MALFORMED)
+def test_malformed_tags(message: str) -> None:
+    page = page_of(*MALFORMED[message])
+    with pytest.raises(mt.UnsupportedError, match=message) as error:
         page.geo
     assert error.value.status is Status.INVALID_TAG and error.value.page == 0
     assert page.asarray().shape == (4, 5)
@@ -147,7 +147,7 @@ def test_every_changed_byte() -> None:
     )]
     tifffile.imwrite(made, samples((2, 2), "u1"), metadata=None, extratags=extra)
     good = made.getvalue()
-    told = 0
+    output = 0
     for place in range(8, len(good)):
         for byte in (0, 1, 255, good[place] ^ 3):
             file = bytearray(good)
@@ -155,10 +155,10 @@ def test_every_changed_byte() -> None:
             try:
                 for page in mt.TiffFile(file).pages:
                     geo = page.geo
-                    told += geo is not None and geo.transform is not None
+                    output += geo is not None and geo.transform is not None
             except mt.TiffError as error:
                 assert error.status is not Status.DONE
-    assert told > 100
+    assert output > 100
 
 
 GDAL = {

@@ -105,10 +105,10 @@ CHANGES = {
 }
 
 
-@pytest.mark.parametrize("told", CHANGES)
-def test_metadata_that_is_refused(told: str) -> None:
+@pytest.mark.parametrize("message", CHANGES)
+def test_metadata_that_is_refused(message: str) -> None:
     file = written(samples((4, 12, 10), "u2"), "ZYX", {"photometric": "minisblack"})
-    text, (old, new) = mt.TiffFile(file).pages[0].description, CHANGES[told]
+    text, (old, new) = mt.TiffFile(file).pages[0].description, CHANGES[message]
     assert old in text
     made = io.BytesIO()
     options = {"photometric": "minisblack", "metadata": None, "contiguous": False}
@@ -117,6 +117,6 @@ def test_metadata_that_is_refused(told: str) -> None:
             changed = text.replace(old, new).encode() if not index else None
             writer.write(samples((12, 10), "u2"), description=changed, **options)
     for call in (mt.imread, lambda file: mt.TiffFile(file).series):
-        with pytest.raises(mt.UnsupportedError, match=f"{told}.*key="):
+        with pytest.raises(mt.UnsupportedError, match=f"{message}.*key="):
             call(made.getvalue())
     assert mt.imread(made.getvalue(), key=1).shape == (12, 10)

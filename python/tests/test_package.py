@@ -33,13 +33,13 @@ def public(kind: object) -> set[str]:
 
 def test_names_are_in_the_table() -> None:
     """Each name that tifffile has too, and each of our own, is in the README."""
-    told = (FOLDER / "README.md").read_text()
+    output = (FOLDER / "README.md").read_text()
     names = set(mt.__all__)
     kinds = mt.TiffFile, mt.TiffPage, mt.Tag, mt.Tags, mt.Directory, mt.TiffWriter, mt.Geo
     for kind in (*kinds, mt.TiffPageSeries):
         names |= public(kind)
     names |= {field.name for field in dataclasses.fields(mt.Directory)} | set(mt.Found.__members__)
-    lacking = {name for name in names if not re.search(rf"\b{name}\b", told)}
+    lacking = {name for name in names if not re.search(rf"\b{name}\b", output)}
     assert not lacking
 
 
@@ -132,11 +132,11 @@ def test_install(isolation: list[str], tmp_path: Path) -> None:
     command = [python, "-m", "pip", "install", "--no-index", *isolation, FOLDER]
     made = subprocess.run(command, capture_output=True, text=True)
     assert made.returncode == 0, made.stdout + made.stderr
-    told = subprocess.run(
+    output = subprocess.run(
         [python, "-c", "import mangohatch_tiff as m; print(m.__version__, m.library_version())"],
         cwd=tmp_path, capture_output=True, text=True, check=True,
     )
-    assert told.stdout.split() == [mt.__version__, str(mt.library_version())]
+    assert output.stdout.split() == [mt.__version__, str(mt.library_version())]
 
 
 def test_numpy_is_for_arrays_alone(tmp_path: Path) -> None:
@@ -152,7 +152,7 @@ with TiffFile({str(path)!r}) as tif:
     print(page.shape, page.axes, page.description, page.compression.name, len(page.tags))
 """
     environment = {**os.environ, "PYTHONPATH": str(FOLDER)}
-    told = subprocess.run(
+    output = subprocess.run(
         [sys.executable, "-c", program], env=environment, capture_output=True, text=True, check=True
     )
-    assert told.stdout.startswith("(1, 3) YX a line NONE ")
+    assert output.stdout.startswith("(1, 3) YX a line NONE ")

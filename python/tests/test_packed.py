@@ -168,9 +168,9 @@ def test_libtiff_reads(bits: int, tmp_path: Path) -> None:
     """It unpacks PackBits, and writes the rows of bytes into another file."""
     path, other, image = tmp_path / "image.tif", tmp_path / "other.tif", noise((19, 23), bits)
     mt.imwrite(path, image, bitspersample=bits, compression="packbits")
-    told = subprocess.run(["tiffinfo", path], capture_output=True, text=True, check=True).stdout
-    assert f"Bits/Sample: {bits}" in told or bits == 1
-    assert "Compression Scheme: PackBits" in told and "min-is-black" in told
+    output = subprocess.run(["tiffinfo", path], capture_output=True, text=True, check=True).stdout
+    assert f"Bits/Sample: {bits}" in output or bits == 1
+    assert "Compression Scheme: PackBits" in output and "min-is-black" in output
     subprocess.run(["tiffcp", "-c", "none", path, other], capture_output=True, check=True)
     page = tifffile.TiffFile(other).pages[0]
     assert (page.bitspersample, page.compression) == (bits, 1)

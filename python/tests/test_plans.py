@@ -106,24 +106,25 @@ def test_pages_out_of_the_chain(big: bool, order: str) -> None:
 def assert_read_the_same(file: bytes, place: int, size: int) -> int:
     """Compares the chunks of a page as its plan and as its number read them; returns how many."""
     plan, count = PagePlan(), 0
-    room = [numpy.zeros(size + MORE, "u1") for _ in range(2)]
+    buffers = [numpy.zeros(size + MORE, "u1") for _ in range(2)]
     one = (_library.READ_PLANNED_CHUNK, _library.READ_CHUNK)
     several = (_library.READ_PLANNED_CHUNKS, _library.READ_CHUNKS)
-    asked = [(one, (chunk,)) for chunk in range(40)] + [(several, run) for run in RUNS]
+    calls_made = [(one, (chunk,)) for chunk in range(40)] + [(several, run) for run in RUNS]
     with _library.locked(file) as (address, length):
         refused = _library.PAGE_PLAN(address, length, place, byref(plan))
         if refused == mt.Status.INVALID_TYPE_FOR_TAG:
             return 0
-        for calls, chunks in asked:
+        for calls, chunks in calls_made:
             for most in (size + MORE, max(0, size - 1), 7):
-                told = [refused, 0]
+                statuses = [refused, 0]
                 for at, (call, page) in enumerate(zip(calls, (plan, place))):
-                    room[at][:] = 7
+                    buffers[at][:] = 7
                     if at or not refused:
-                        told[at] = call(address, length, page, *chunks, room[at].ctypes.data, most)
-                assert told[0] == told[1], (chunks, most)
-                if told[0] == mt.Status.DONE:
-                    numpy.testing.assert_array_equal(room[0], room[1])
+                        start = buffers[at].ctypes.data
+                        statuses[at] = call(address, length, page, *chunks, start, most)
+                assert statuses[0] == statuses[1], (chunks, most)
+                if statuses[0] == mt.Status.DONE:
+                    numpy.testing.assert_array_equal(buffers[0], buffers[1])
                     count += 1
     return count
 

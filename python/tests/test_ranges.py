@@ -28,11 +28,11 @@ class Counted:
 
     def __init__(self, file: bytes) -> None:
         self.file, self.size = file, len(file)
-        self.asked: list[tuple[int, int]] = []
+        self.requests: list[tuple[int, int]] = []
 
     def read_at(self, offset: int, size: int) -> bytes:
         assert 0 <= offset < offset + size <= self.size
-        self.asked.append((offset, size))
+        self.requests.append((offset, size))
         return self.file[offset : offset + size]
 
 
@@ -86,13 +86,13 @@ def test_one_tile_takes_four_requests() -> None:
     across = SIDE // TILE
     rows, columns = slice(9 * TILE, 10 * TILE), slice(5 * TILE, 6 * TILE)
     numpy.testing.assert_array_equal(page.read_chunk(9 * across + 5), image[rows, columns])
-    assert len(source.asked) == 4
-    assert sum(size for _, size in source.asked) <= 5 * PAGE
+    assert len(source.requests) == 4
+    assert sum(size for _, size in source.requests) <= 5 * PAGE
     # The same tile, its header and its lists are kept; another tile takes one request.
     numpy.testing.assert_array_equal(page.read(rows, columns), image[rows, columns])
-    assert len(source.asked) == 4
+    assert len(source.requests) == 4
     numpy.testing.assert_array_equal(page.read_chunk(0), image[:TILE, :TILE])
-    assert len(source.asked) == 5
+    assert len(source.requests) == 5
 
 
 def test_a_file_as_programs_write_it() -> None:
@@ -102,7 +102,7 @@ def test_a_file_as_programs_write_it() -> None:
     plane, row, column = page.place_of(700)
     tile = image[row : row + TILE, column : column + TILE]
     numpy.testing.assert_array_equal(page.read_chunk(700), tile)
-    assert len(source.asked) <= 4 and sum(size for _, size in source.asked) < len(file) // 10
+    assert len(source.requests) <= 4 and sum(size for _, size in source.requests) < len(file) // 10
 
 
 def test_a_window_fetches_its_chunks_alone() -> None:
@@ -114,8 +114,8 @@ def test_a_window_fetches_its_chunks_alone() -> None:
         part = page.read(rows, columns, workers=workers)
         numpy.testing.assert_array_equal(part, image[rows, columns])
     # two lines of tiles, of three each, side by side in the file
-    assert 4 <= len(source.asked) <= 3 + 6
-    assert sum(size for _, size in source.asked) <= 3 * PAGE + 6 * (TILE * TILE + 2 * PAGE)
+    assert 4 <= len(source.requests) <= 3 + 6
+    assert sum(size for _, size in source.requests) <= 3 * PAGE + 6 * (TILE * TILE + 2 * PAGE)
 
 
 def test_few_bytes_are_kept(monkeypatch: pytest.MonkeyPatch) -> None:
@@ -140,7 +140,7 @@ def test_threads_share_what_is_fetched(monkeypatch: pytest.MonkeyPatch) -> None:
         numpy.testing.assert_array_equal(part, image[row : row + TILE, column : column + TILE])
     # the pages of the file are few enough to be kept
     monkeypatch.setattr(_windows, "KEPT", 4)
-    pages = [at for offset, size in source.asked for at in range(offset, offset + size, PAGE)]
+    pages = [at for offset, size in source.requests for at in range(offset, offset + size, PAGE)]
     assert len(pages) == len(set(pages))
     numpy.testing.assert_array_equal(page.asarray(workers=8), image)
 
@@ -171,8 +171,8 @@ FACTS += ["dataoffsets", "databytecounts", "is_inverted", "resolution", "colorma
 
 def assert_tags_alike(whole: mt.Tags, ranged: mt.Tags) -> None:
     """Compares the tags of a directory; of more than a hundred, the values of some."""
-    told = [[(tag.code, tag.dtype, tag.count) for tag in tags] for tags in (whole, ranged)]
-    assert told[0] == told[1]
+    output = [[(tag.code, tag.dtype, tag.count) for tag in tags] for tags in (whole, ranged)]
+    assert output[0] == output[1]
     for code, tag in whole.items()[:: 1 + len(whole) // 100]:
         other = ranged[code]
         assert (tag.dtype, tag.count) == (other.dtype, other.count)
@@ -409,4 +409,4 @@ def test_stores_of_zarr() -> None:
     with mt.imread(source, aszarr=True) as store:
         part = numpy.frombuffer(store["2.3"], "u1").reshape(TILE, TILE)
         numpy.testing.assert_array_equal(part, image[2 * TILE : 3 * TILE, 3 * TILE : 4 * TILE])
-    assert len(source.asked) <= 4
+    assert len(source.requests) <= 4

@@ -92,8 +92,8 @@ REFUSED = [
 
 @pytest.mark.parametrize("array", REFUSED)
 def test_refusals_say_what_is_written(array: numpy.ndarray) -> None:
-    told = {"complex64": "real and array.imag", "float16": "these are written: .*float32"}
-    with pytest.raises(mt.UnsupportedError, match=told[str(array.dtype)]):
+    output = {"complex64": "real and array.imag", "float16": "these are written: .*float32"}
+    with pytest.raises(mt.UnsupportedError, match=output[str(array.dtype)]):
         mt.imwrite(None, array)
 
 
