@@ -149,10 +149,10 @@ def test_reprs() -> None:
         ({65000: (IFD, 1, at(2))}, 0),
         ({}, 0),
     )
-    output = [repr(item) for item in TiffFile(file).directories]
-    assert output[0].startswith(f"<Directory @{at(0)}: 2 tags, <TiffPage 0 @{at(0)} refused: ")
-    assert output[1] == (
+    shown = [repr(item) for item in TiffFile(file).directories]
+    assert shown[0].startswith(f"<Directory @{at(0)}: 2 tags, <TiffPage 0 @{at(0)} refused: ")
+    assert shown[1] == (
         f"<Directory @{1 << 20}, depth 1, SubIFDs of @{at(0)}: DIRECTORY_ERROR UNEXPECTED_EOF>"
     )
-    assert output[2] == f"<Directory @{at(0)}, depth 1, ExifTag of @{at(0)}: DIRECTORY_MET>"
-    assert output[4].startswith(f"<Directory @{at(2)}, depth 1, tag 65000 of @{at(1)}: 0 tags, <")
+    assert shown[2] == f"<Directory @{at(0)}, depth 1, ExifTag of @{at(0)}: DIRECTORY_MET>"
+    assert shown[4].startswith(f"<Directory @{at(2)}, depth 1, tag 65000 of @{at(1)}: 0 tags, <")

@@ -147,7 +147,7 @@ def test_every_changed_byte() -> None:
     )]
     tifffile.imwrite(made, samples((2, 2), "u1"), metadata=None, extratags=extra)
     good = made.getvalue()
-    output = 0
+    count = 0
     for place in range(8, len(good)):
         for byte in (0, 1, 255, good[place] ^ 3):
             file = bytearray(good)
@@ -155,10 +155,10 @@ def test_every_changed_byte() -> None:
             try:
                 for page in mt.TiffFile(file).pages:
                     geo = page.geo
-                    output += geo is not None and geo.transform is not None
+                    count += geo is not None and geo.transform is not None
             except mt.TiffError as error:
                 assert error.status is not Status.DONE
-    assert output > 100
+    assert count > 100
 
 
 GDAL = {

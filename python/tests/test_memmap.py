@@ -109,11 +109,11 @@ REFUSED = {
 
 @pytest.mark.parametrize("name", REFUSED)
 def test_pages_that_are_refused(name: str, tmp_path: Path) -> None:
-    shape, dtype, options, output = REFUSED[name]
+    shape, dtype, options, message = REFUSED[name]
     path = tmp_path / "page.tif"
     image = samples(shape, "u1") > 9 if dtype == "?" else samples(shape, dtype)
     tifffile.imwrite(path, image, photometric="minisblack", metadata=None, **options)
-    with pytest.raises(mt.UnsupportedError, match=output):
+    with pytest.raises(mt.UnsupportedError, match=message):
         mt.memmap(path, page=0)
     with pytest.raises(ValueError):
         tifffile.memmap(path, page=0)

@@ -171,8 +171,8 @@ FACTS += ["dataoffsets", "databytecounts", "is_inverted", "resolution", "colorma
 
 def assert_tags_alike(whole: mt.Tags, ranged: mt.Tags) -> None:
     """Compares the tags of a directory; of more than a hundred, the values of some."""
-    output = [[(tag.code, tag.dtype, tag.count) for tag in tags] for tags in (whole, ranged)]
-    assert output[0] == output[1]
+    facts = [[(tag.code, tag.dtype, tag.count) for tag in tags] for tags in (whole, ranged)]
+    assert facts[0] == facts[1]
     for code, tag in whole.items()[:: 1 + len(whole) // 100]:
         other = ranged[code]
         assert (tag.dtype, tag.count) == (other.dtype, other.count)

@@ -92,8 +92,8 @@ REFUSED = [
 
 @pytest.mark.parametrize("array", REFUSED)
 def test_refusals_say_what_is_written(array: numpy.ndarray) -> None:
-    output = {"complex64": "real and array.imag", "float16": "these are written: .*float32"}
-    with pytest.raises(mt.UnsupportedError, match=output[str(array.dtype)]):
+    messages = {"complex64": "real and array.imag", "float16": "these are written: .*float32"}
+    with pytest.raises(mt.UnsupportedError, match=messages[str(array.dtype)]):
         mt.imwrite(None, array)
 
 

@@ -75,11 +75,11 @@ def test_the_store_is_that_of_tifffile(name: str, multiscales: bool, tmp_path: P
         theirs = other.pages[0].aszarr(multiscales=multiscales)
         prefix = "0/" if multiscales else ""
         for key in (".zarray", ".zattrs"):
-            output, wanted = json.loads(ours[prefix + key]), json.loads(theirs[prefix + key])
+            given, wanted = json.loads(ours[prefix + key]), json.loads(theirs[prefix + key])
             # xarray takes each 0 of the image as missing, if it is the fill value.
             if key == ".zarray":
-                assert (output.pop("fill_value"), wanted.pop("fill_value")) == (None, 0)
-            assert output == wanted
+                assert (given.pop("fill_value"), wanted.pop("fill_value")) == (None, 0)
+            assert given == wanted
         for key in ours:
             if ".z" not in key:
                 assert ours[key] == theirs[key].tobytes()
@@ -160,9 +160,9 @@ def test_names_of_sides(metadata: dict | None, shape: tuple[int, ...], tmp_path:
     image = samples(shape, "u2")
     tifffile.imwrite(path, image, photometric="minisblack", metadata=metadata, tile=(16, 16))
     with mt.imread(path, aszarr=True) as ours, tifffile.imread(path, aszarr=True) as theirs:
-        output = json.loads(ours[".zattrs"])["_ARRAY_DIMENSIONS"]
+        given = json.loads(ours[".zattrs"])["_ARRAY_DIMENSIONS"]
         wanted = json.loads(theirs[".zattrs"])["_ARRAY_DIMENSIONS"]
-        assert output == (["Q", "Q1", "Y", "X"] if wanted == [*"QQYX"] else wanted)
+        assert given == (["Q", "Q1", "Y", "X"] if wanted == [*"QQYX"] else wanted)
         for key in set(ours) - {".zarray", ".zattrs"}:
             assert ours[key] == theirs[key].tobytes()
 
