@@ -19,7 +19,7 @@ use crate::ColorType;
 pub enum TiffError {
     /// The file does not have TIFF's form.
     FormatError(TiffFormatError),
-    /// The file needs what is not supported.
+    /// The file has what is not supported.
     UnsupportedError(TiffUnsupportedError),
     /// The reader failed, or the file ends too early.
     IoError(io::Error),
@@ -132,7 +132,7 @@ impl fmt::Display for TiffFormatError {
 
 impl Error for TiffFormatError {}
 
-/// What a file needs that is not supported.
+/// What a file has that is not supported.
 #[derive(Debug, Clone, PartialEq, Eq, Hash)]
 #[non_exhaustive]
 pub enum TiffUnsupportedError {

@@ -113,7 +113,7 @@ enum {
     TIFF_CYCLE_IN_OFFSETS = 33, /* file contained a cycle in the list of IFDs */
     TIFF_SAMPLES_PER_PIXEL_IS_ZERO = 34, /* samples per pixel is zero */
     TIFF_COMPRESSED_DATA_CORRUPT = 35, /* compressed data is corrupt */
-    /* the file needs what is not supported */
+    /* the file has what is not supported */
     TIFF_FLOATING_POINT_PREDICTOR = 40, /* floating point predictor is unsupported */
     TIFF_HORIZONTAL_PREDICTOR = 41, /* horizontal predictor is unsupported for this color */
     TIFF_INCONSISTENT_BITS_PER_SAMPLE = 42, /* inconsistent bits per sample */
