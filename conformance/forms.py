@@ -41,14 +41,10 @@ def stored_rows(file, page):
     for plane in range(page.samples if page.planar else 1):
         for j in range(page.chunks_of_plane):
             x, y, width, height = road.rect(page, j)
-            data, stored = (
-                road.chunk_data(file, page, plane * page.chunks_of_plane + j),
-                page.stored_row_bytes,
-            )
-            if (
-                len(data)
-                < (height - 1) * stored + (width * page.stored_samples * page.depth + 7) // 8
-            ):
+            data = road.chunk_data(file, page, plane * page.chunks_of_plane + j)
+            stored = page.stored_row_bytes
+            last_row = (width * page.stored_samples * page.depth + 7) // 8
+            if len(data) < (height - 1) * stored + last_row:
                 return None
             for row in range(height):
                 numbers = road.numbers_of_row(
@@ -97,13 +93,10 @@ def checksums(file, page, shown):
         return []
     forms = [(page.samples, size, rows)]
     if shown < page.samples:
-        forms.append(
-            (
-                shown,
-                size,
-                [[one for at, one in enumerate(row) if at % page.samples < shown] for row in rows],
-            )
-        )
+        colors = [
+            [one for at, one in enumerate(row) if at % page.samples < shown] for row in rows
+        ]
+        forms.append((shown, size, colors))
     if page.format == 1 and page.depth != 8:
         forms += [(samples, 1, eight_bits(page, made)) for samples, _, made in forms]
     if page.meaning == "WhiteIsZero":

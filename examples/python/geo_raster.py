@@ -85,9 +85,8 @@ def main() -> None:
             x, y, size = float(sys.argv[2]), float(sys.argv[3]), int(sys.argv[4])
             column, row = to_raster(geo, x, y)
             print(f"pixel: row {math.floor(row)}, column {math.floor(column)}")
-            rows, columns = around(row, size, page.imagelength), around(
-                column, size, page.imagewidth
-            )
+            rows = around(row, size, page.imagelength)
+            columns = around(column, size, page.imagewidth)
             cut(page, geo, rows, columns, sys.argv[5])
 
 
