@@ -33,9 +33,9 @@ BUILT = HERE.parent / "out" / "c"
 LIBRARY = "libmangohatch_tiff.so"
 VARIABLE = "MANGOHATCH_TIFF_LIBRARY"
 
-MISSING = f"""The shared library {LIBRARY} is missing: build it by `make` at the top of the repository,
-where the Rattle kit is, or name it in the environment variable {VARIABLE}. Or install a wheel that
-was built elsewhere."""
+MISSING = f"""The shared library {LIBRARY} is missing: build it by `make` at the top of the
+repository, where the Rattle kit is, or name it in the environment variable {VARIABLE}. Or install a
+wheel that was built elsewhere."""
 
 # The oldest glibc for which pip knows a tag of a wheel.
 OLDEST_GLIBC = (2, 5)
