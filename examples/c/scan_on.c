@@ -4,6 +4,7 @@
    it, so a file that is torn between them has its former pages.
      cc scan_on.c -o scan_on $(pkg-config --cflags --libs mangohatch_tiff)
      ./scan_on pages.tif page1.pgm page2.pgm */
+#define _POSIX_C_SOURCE 200809L
 #include <fcntl.h>
 #include <stdio.h>
 #include <stdlib.h>
