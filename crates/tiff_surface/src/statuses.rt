@@ -12,7 +12,7 @@ mod tags;
 mod windows;
 mod written;
 
-use altered::{print_claim, print_refused, print_retyped};
+use altered::{print_claim, print_cut, print_refused, print_retyped};
 use appended::print_all_appended;
 use file::{print_file, print_list, print_text, print_tree};
 use jobs::print_all_jobs;
@@ -77,6 +77,7 @@ pub fn print_calls(rt: &HostRuntime) -> io::Result<()> {
     let file = &buffer[..len.min(300)];
     print_pages(rt, file)?;
     print_claim(rt)?;
+    print_cut(rt)?;
     print_retyped(rt)?;
     print_refused(rt)?;
     print_files(rt, file)?;

@@ -1,6 +1,6 @@
 //! The calls on the file with other bytes.
 
-use super::page::{print_pixels, print_samples, print_sides};
+use super::page::{print_chunks, print_pixels, print_samples, print_sides};
 use super::tags::{BITS_PER_SAMPLE, print_numbers, print_tags, print_values};
 use super::written::{AT, DIRECTORY, write};
 use std::io;
@@ -11,7 +11,9 @@ const X_RESOLUTION: u16 = 282;
 
 const Y_RESOLUTION: u16 = 283;
 
-// Where the entry of the page has the byte count of its strip.
+// Where the entries of the page have the offset and the byte count of its strip.
+const STRIP: usize = 118;
+
 const BYTE_COUNT: usize = 154;
 
 // Where the page has its interpretation, the types of its resolutions with their counts behind
@@ -49,6 +51,19 @@ pub fn print_claim(rt: &HostRuntime) -> io::Result<()> {
     file[BYTE_COUNT + 3] = 8;
     println!(rt; "a strip of 134217729 bytes: {status}, {len}")?;
     print_pixels(rt, &file[..len.min(300)], 0)
+}
+
+/// Prints the results of reading the pixels of the page, whose strip begins six bytes before the
+/// end of the file.
+pub fn print_cut(rt: &HostRuntime) -> io::Result<()> {
+    let mut file = [0u8; 300];
+    let mut len = 0;
+    let status = write(rt, &mut file, &mut len);
+    file[STRIP] = 216;
+    println!(rt; "a strip of six bytes: {status}, {len}")?;
+    let file = &file[..len.min(300)];
+    print_pixels(rt, file, 0)?;
+    print_chunks(rt, file, 0, 1)
 }
 
 /// Prints the calls on the page whose 0 is white, and of whose resolutions one is a floating-point
