@@ -2,9 +2,10 @@
 from __future__ import annotations
 
 import os
+from contextlib import suppress
 from typing import TYPE_CHECKING, Any, BinaryIO, Union
 
-from ._library import UnsupportedError
+from ._library import UnsupportedError, reserve
 
 if TYPE_CHECKING:
     import datetime as dates
@@ -21,6 +22,8 @@ if TYPE_CHECKING:
     Target = Union[str, os.PathLike[str], BinaryIO]
 
 NAME = "mangohatch_tiff"
+# The room of a file of so many bytes is taken on the disk before it is written.
+LARGE = 1 << 24
 # tifffile's other parameters, each with the value that has no effect.
 OTHERS: dict[str, tuple[object, ...]] = {
     "shape": (None,),
@@ -102,11 +105,28 @@ def deliver(file: Target | None, parts: list[memoryview]) -> bytes | None:
     if file is None:
         return b"".join(parts)
     if isinstance(file, (str, os.PathLike)):
-        with open(file, "wb", buffering=0) as made:
-            write_all(made, parts)
+        write_new(file, parts)
     else:
         write_all(file, parts)
     return None
+
+
+def write_new(path: str | os.PathLike[str], parts: list[memoryview]) -> None:
+    """Writes the bytes of a file at a path.
+
+    Room on the disk for a large one is taken at once, which takes less time than piece by piece.
+    After an error, what isn't written is given back.
+    """
+    size = sum(map(len, parts))
+    with open(path, "wb", buffering=0) as made:
+        if size >= LARGE:
+            reserve(made.fileno(), size)
+        try:
+            write_all(made, parts)
+        except BaseException:
+            with suppress(OSError):
+                made.truncate()
+            raise
 
 
 def write_all(file: BinaryIO | io.RawIOBase, parts: list[memoryview]) -> None:

@@ -11,6 +11,7 @@ from ctypes import (
     c_char_p,
     c_double,
     c_int,
+    c_int64,
     c_size_t,
     c_ssize_t,
     c_ubyte,
@@ -578,6 +579,19 @@ _RELEASE_BUFFER = ctypes.PYFUNCTYPE(None, POINTER(_PyBuffer))(
 )
 _CONTIGUOUS = 0
 _ANY_BYTE = ctypes.c_ubyte()
+# Linux's call that takes room on a disk, which os lacks: with `KEEP_SIZE` the file stays as long as
+# it is.
+_FALLOCATE = getattr(ctypes.CDLL(None), "fallocate", None)
+KEEP_SIZE = 1
+
+
+def reserve(number: int, size: int) -> None:
+    """Takes room on the disk for so many bytes of an open file, whose length stays.
+
+    What can't be taken is not an error: a write finds what is wrong.
+    """
+    if _FALLOCATE is not None:
+        _FALLOCATE(c_int(number), c_int(KEEP_SIZE), c_int64(0), c_int64(size))
 
 
 def fault_text(status: int) -> str:

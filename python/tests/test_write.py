@@ -1,8 +1,11 @@
 """Files that are written are read by others as what they were made of."""
 from __future__ import annotations
 
+import errno
 import inspect
 import io
+import os
+import resource
 from pathlib import Path
 
 import numpy
@@ -65,6 +68,30 @@ def test_path(tmp_path: Path) -> None:
     numpy.testing.assert_array_equal(mt.imread(tmp_path / "image.tif"), image)
     numpy.testing.assert_array_equal(mt.imread(str(tmp_path / "image.tif")), image)
     assert (tmp_path / "image.tif").read_bytes() == mt.imwrite(None, image)
+
+
+def test_large_files(tmp_path: Path) -> None:
+    """The room of a large file is taken before it is written: it is as long as its bytes."""
+    image, path = samples((4200, 4100), "u1"), tmp_path / "large.tif"
+    path.write_bytes(bytes(5 * _imwrite.LARGE))
+    for options in ({}, {"tile": (256, 256)}):
+        mt.imwrite(path, image, **options)
+        assert path.read_bytes() == mt.imwrite(None, image, **options)
+    mt.imwrite("/dev/null", image)
+
+
+def test_a_disk_that_is_full(tmp_path: Path) -> None:
+    """A large file that can't be written whole is an OSError, and takes no more than its bytes."""
+    path, (soft, hard) = tmp_path / "large.tif", resource.getrlimit(resource.RLIMIT_FSIZE)
+    resource.setrlimit(resource.RLIMIT_FSIZE, (1 << 20, hard))
+    try:
+        with pytest.raises(OSError) as error:
+            mt.imwrite(path, numpy.zeros((5000, 4000), "u1"))
+    finally:
+        resource.setrlimit(resource.RLIMIT_FSIZE, (soft, hard))
+    assert error.value.errno == errno.EFBIG
+    found = os.stat(path)
+    assert found.st_size == 1 << 20 and found.st_blocks * 512 <= 2 << 20
 
 
 def test_arrays_of_other_layouts() -> None:
