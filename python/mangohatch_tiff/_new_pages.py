@@ -26,6 +26,8 @@ from ._library import (
 )
 
 if TYPE_CHECKING:
+    from collections.abc import Iterator
+
     from numpy.typing import NDArray
 
 # The kinds of color types of the library, in the order of their numbers, each with what its samples
@@ -52,6 +54,8 @@ NO_RESOLUTION = (0, (0, 1), (0, 1))
 # cases; and how many the place and the length of a chunk have.
 AROUND_SAMPLES = 4096
 PLACE = 16
+# A call writes so many bytes of short pages: the heap keeps memory of this size for the next call.
+BATCH = 1 << 24
 
 
 @dataclass(frozen=True)
@@ -206,19 +210,73 @@ def write_image_into(size: int, page: NewPage, version: int) -> Written:
     return Written(status, parts, length, PagesEnd(page=1))
 
 
-def write_pages_into(size: int, pages: list[NewPage], version: int) -> Written:
-    """Writes a file of pages into a new buffer."""
+def batches(pages: list[NewPage]) -> Iterator[tuple[list[NewPage], list[NewPage]]]:
+    """Yields the pages that one call writes after another, each time with those that come behind.
+
+    Pages of many bytes go together: the heap keeps no memory of their size for the next call. So do
+    SubIFDs and their pages.
+    """
+    alone = any(page.parent or page.samples.nbytes > BATCH // 2 for page in pages)
+    first, size = 0, 0
+    for at, page in enumerate(pages):
+        size += page.samples.nbytes
+        if size > BATCH and not alone:
+            yield pages[first:at], pages[at:]
+            first, size = at, page.samples.nbytes
+    yield pages[first:], []
+
+
+def link_of(found: Appended) -> bytes:
+    """Returns the bytes of the link that leads to pages that are added."""
+    return found.target.to_bytes(8, "little")[: found.width]
+
+
+def begin_file(
+    file: NDArray[numpy.uint8], pages: list[NewPage], version: int
+) -> tuple[int, int, PagesEnd]:
+    """Writes a file of pages into a buffer, and returns the status, its length, and the end."""
     given = (PageToWrite * len(pages))(*map(page_to_write, pages))
-    file, length, end = numpy.empty(size, numpy.uint8), c_size_t(), PagesEnd()
+    place, length, end = file.ctypes.data, c_size_t(), PagesEnd()
     status = _library.WRITE_PAGES(
-        version, given, len(pages), file.ctypes.data, size, byref(length), byref(end)
+        version, given, len(pages), place, len(file), byref(length), byref(end)
     )
-    return Written(status, [file[: length.value].data], length.value, end)
+    return status, length.value, end
+
+
+def go_on(
+    file: NDArray[numpy.uint8], length: int, pages: list[NewPage]
+) -> tuple[int, int, PagesEnd]:
+    """Adds pages to a file of so many bytes in a buffer; what it returns is as of `begin_file`."""
+    given, found = (PageToWrite * len(pages))(*map(page_to_write, pages)), Appended()
+    place, room = file.ctypes.data, len(file) - length
+    status = _library.APPEND_PAGES(
+        place, length, given, len(pages), place + length, room, byref(found)
+    )
+    if status == Status.DONE:
+        link = numpy.frombuffer(link_of(found), numpy.uint8)
+        file[found.link : found.link + found.width] = link
+    return status, length + found.len, found.end
+
+
+def write_pages_into(size: int, pages: list[NewPage], version: int) -> Written:
+    """Writes a file of pages into a new buffer. The length of one that is too short is enough."""
+    file, length, count = numpy.empty(size, numpy.uint8), 0, 0
+    for some, rest in batches(pages):
+        if length:
+            status, length, end = go_on(file, length, some)
+        else:
+            status, length, end = begin_file(file, some, version)
+        if status:
+            end.page += count if end.page else 0
+            # PackBits makes two bytes of one at most.
+            return Written(status, [], length + 2 * sum(map(capacity_of, rest)), end)
+        count += len(some)
+    return Written(Status.DONE, [file[:length].data], length, PagesEnd())
 
 
 def _write_pages(pages: list[NewPage], big: bool) -> list[memoryview]:
-    """Returns the bytes of a file of pages, in parts. One that is longer than the first buffer
-    takes two calls.
+    """Returns the bytes of a file of pages, in parts. One that is longer than the first buffer is
+    written again.
 
     A page that is refused raises `PagesError`.
     """
@@ -230,7 +288,7 @@ def _write_pages(pages: list[NewPage], big: bool) -> list[memoryview]:
         return write_pages_into(size, pages, version)
 
     made = write(AROUND_SAMPLES if single and pages[0].is_kept else sum(map(capacity_of, pages)))
-    if made.status == Status.INSUFFICIENT_OUTPUT_BUFFER_SIZE:
+    while made.status == Status.INSUFFICIENT_OUTPUT_BUFFER_SIZE:
         made = write(made.length)
     if made.status:
         page = made.end.page - 1 if made.end.page else None
@@ -263,5 +321,4 @@ def _append_pages(file: memoryview, pages: list[NewPage]) -> Added:
     if status:
         page = found.end.page - 1 if found.end.page else None
         raise PagesError(status, page, found.end.field)
-    link = found.target.to_bytes(8, "little")[: found.width]
-    return Added(made[: found.len].data, found.link, link)
+    return Added(made[: found.len].data, found.link, link_of(found))

@@ -86,9 +86,32 @@ def test_the_file_is_that_of_jobs(name: str, big: bool) -> None:
     assert_same([PAGES[name]], big)
 
 
+@pytest.mark.parametrize("batch", [1 << 24, 1 << 17, 1 << 10])
 @pytest.mark.parametrize("big", [False, True])
-def test_all_pages_in_one_file(big: bool) -> None:
+def test_all_pages_in_one_file(big: bool, batch: int, monkeypatch: pytest.MonkeyPatch) -> None:
+    """The file is the same if one call writes all pages and if several ones do."""
+    monkeypatch.setattr(_new_pages, "BATCH", batch)
     assert_same(list(PAGES.values()), big)
+
+
+def test_batches() -> None:
+    """Calls get pages of a few bytes together, and all pages where one is long or has a parent."""
+    page = NewPage(("Gray", "u1"), numpy.zeros((1 << 11, 1 << 11, 1), "u1"), Layout())
+    counts = [(len(some), len(rest)) for some, rest in _new_pages.batches([page] * 10)]
+    assert counts == [(4, 6), (4, 2), (2, 0)]
+    for other in (
+        replace(page, samples=numpy.zeros((1 << 12, (1 << 11) + 1, 1), "u1")),
+        replace(page, parent=1),
+    ):
+        assert [len(some) for some, _ in _new_pages.batches([page] * 9 + [other])] == [10]
+
+
+def test_a_buffer_that_is_too_short(monkeypatch: pytest.MonkeyPatch) -> None:
+    """Files that are longer than their first buffer are written again, whichever call finds it."""
+    monkeypatch.setattr(_new_pages, "BATCH", 1 << 17)
+    monkeypatch.setattr(_new_pages, "capacity_of", lambda page: page.samples.nbytes // 3)
+    for big in (False, True):
+        assert_same(list(PAGES.values()), big)
 
 
 def test_many_pages() -> None:
@@ -120,9 +143,12 @@ REFUSED = [
 
 
 @pytest.mark.parametrize(("page", "field", "status"), REFUSED)
-@pytest.mark.parametrize("before", [0, 2])
-def test_refused(page: NewPage, field: str, status: str, before: int) -> None:
-    """The error names the page and the field, also behind pages that are good."""
+@pytest.mark.parametrize("before", [0, 2, 5])
+def test_refused(
+    page: NewPage, field: str, status: str, before: int, monkeypatch: pytest.MonkeyPatch
+) -> None:
+    """The error names the page and the field, also behind pages that are good, by several calls."""
+    monkeypatch.setattr(_new_pages, "BATCH", 8 * GOOD.samples.nbytes)
     with pytest.raises(mt.PagesError) as error:
         _new_pages._write_pages([*[GOOD] * before, page, GOOD], False)
     assert (error.value.page, error.value.field) == (before, PageField[field])
