@@ -59,8 +59,8 @@ def test_they_are_listed() -> None:
     """The file for CMake and the trial of the packages name each example."""
     build = (TOP / "examples" / "c" / "CMakeLists.txt").read_text()
     trial = (TOP / "packaging" / "try_inside").read_text()
-    for listed in (re.search(r"foreach\(name (.*)\)", build), re.search(r'names="(.*)"', trial)):
-        assert listed and listed[1].split() == NAMES
+    for pattern, text in ((r"foreach\(name (.*)\)", build), (r'names="(?:\$names )?(.*)"', trial)):
+        assert " ".join(re.findall(pattern, text)).split() == NAMES
 
 
 def test_raw_browser(programs: Path, tmp_path: Path) -> None:
