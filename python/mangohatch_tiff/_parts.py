@@ -24,12 +24,11 @@ if TYPE_CHECKING:
     from ._planned import Planned
     from ._stored import Stored
 
-# A thread reads about as many bytes by one call, and a smaller image is read by one thread.
-STRETCH = 1 << 20
+# A thread reads about as many bytes by one call, and a smaller image is read by one thread. Strips
+# that lie in the file as in the array are read by longer calls, if each thread gets some.
+STRETCH, LONG_STRETCH, SOME = 1 << 20, 1 << 22, 4
 # To open a page of so many chunks takes as long as to find one by the page's plan.
 OPENED = 16
-# A tile of as many bytes is put into its place alone.
-LARGE_TILE = 1 << 15
 
 Item = TypeVar("Item")
 
@@ -127,10 +126,9 @@ class Source:
         """How many bytes a whole chunk has."""
         return self.form.row_bytes(self.grid.chunk_width) * self.grid.chunk_height
 
-    @property
-    def most(self) -> int:
-        """How many chunks a thread reads at once."""
-        return max(1, STRETCH // max(1, self.chunk_bytes))
+    def most(self, stretch: int = STRETCH) -> int:
+        """How many chunks a thread reads at once, of so many bytes."""
+        return max(1, stretch // max(1, self.chunk_bytes))
 
     def read(self, call: Any, buffer: NDArray[Any], *place: int) -> None:
         """Reads samples into an array by a call."""
@@ -204,14 +202,16 @@ class Reading:
     array: NDArray[Any]
     scratch: Scratch = field(default_factory=Scratch)
 
-    def runs(self) -> Iterator[Run]:
+    def runs(self, workers: int) -> Iterator[Run]:
         """Yields the runs of chunks that the window needs; each lies in a line of a plane."""
-        grid, window, most = self.source.grid, self.window, self.source.most
+        grid, window, most = self.source.grid, self.window, self.source.most()
         lines = range(window.top // grid.chunk_height, -(-window.bottom // grid.chunk_height))
+        share = self.array.nbytes // (SOME * workers) if self.source.form.is_direct else 0
+        down = self.source.most(min(max(share, STRETCH), LONG_STRETCH))
         for plane in range(grid.planes):
             if grid.across == 1:
                 first = grid.number(plane, lines.start, 0)
-                yield from stretches(first, first + len(lines), most)
+                yield from stretches(first, first + len(lines), down)
                 continue
             left = window.left // grid.chunk_width
             right = -(-window.right // grid.chunk_width)
@@ -253,16 +253,23 @@ class Reading:
         top, bottom = max(row, window.top), min(behind, window.bottom)
         target = self.array[plane, top - window.top : bottom - window.top]
         for block in self._blocks(run):
-            left, right = max(column, window.left), min(column + block.shape[1], window.right)
-            target[:, left - window.left : right - window.left] = block[
-                top - row : bottom - row, left - column : right - column
-            ]
-            column += block.shape[1]
+            behind = column + block.shape[1] * block.shape[2]
+            left, right = max(column, window.left), min(behind, window.right)
+            part = target[:, left - window.left : right - window.left]
+            rows = block[top - row : bottom - row]
+            if (left, right) == (column, behind):
+                # Columns that are split into tiles lie where they were.
+                part.reshape(rows.shape)[...] = rows
+            else:
+                part[...] = rows.reshape(len(rows), behind - column, -1)[
+                    :, left - column : right - column
+                ]
+            column = behind
 
     def _blocks(self, run: Run) -> Iterator[NDArray[Any]]:
-        """Reads chunks that lie side by side, and yields blocks of them from the left.
+        """Reads chunks that lie side by side, and yields blocks of rows, chunks, columns, samples.
 
-        Large ones are blocks of their own; small whole ones are one block, and a cut one another.
+        The whole ones are one block, and a cut one another.
         """
         grid, form = self.source.grid, self.source.form
         _, row, column = grid.place(run.first)
@@ -274,14 +281,9 @@ class Reading:
         self.source.read_chunks(run, raw)
         if whole:
             numbers = form.natural(raw[:size].reshape(whole * rows, -1), width)
-            tiles = numbers.reshape(whole, rows, width, form.samples)
-            if tiles[0].nbytes >= LARGE_TILE:
-                yield from tiles
-            else:
-                side_by_side = tiles.transpose(1, 0, 2, 3)
-                yield side_by_side.reshape(rows, whole * width, form.samples)
+            yield numbers.reshape(whole, rows, width, form.samples).transpose(1, 0, 2, 3)
         if cut:
-            yield form.natural(raw[size:].reshape(rows, -1), cut)
+            yield form.natural(raw[size:].reshape(rows, -1), cut)[:, None]
 
 
 def stretches(first: int, behind: int, most: int) -> Iterator[Run]:
@@ -299,15 +301,32 @@ def threads(workers: int | None) -> int:
     return workers
 
 
+def spread(count: int, workers: int) -> Iterator[int]:
+    """Yields so many numbers in an order in which no two threads get neighbours at once.
+
+    Each thread works in a stretch of its own: at first it meets its array's memory, which a system
+    gives in pieces of more than one run, and would clear for two threads twice.
+    """
+    step = -(-count // workers)
+    for first in range(step):
+        yield from range(first, count, step)
+
+
 def each(call: Callable[[Item], None], items: list[Item], workers: int) -> None:
     """Calls a function for each item, by several threads; raises the first error in their order."""
-    if min(workers, len(items)) < 2:
+    count = min(workers, len(items))
+    if count < 2:
         for item in items:
             call(item)
         return
-    with ThreadPoolExecutor(min(workers, len(items))) as pool:
-        for _ in pool.map(call, items):
-            pass
+    with ThreadPoolExecutor(count) as pool:
+        begun = {at: pool.submit(call, items[at]) for at in spread(len(items), count)}
+        try:
+            for at in range(len(items)):
+                begun[at].result()
+        finally:
+            for future in begun.values():
+                future.cancel()
 
 
 def read_window(
@@ -322,7 +341,7 @@ def read_window(
         source.read_whole(array)
         return
     reading = Reading(source, window, array)
-    each(reading.read, list(reading.runs()), count)
+    each(reading.read, list(reading.runs(count)), count)
 
 
 def segments_of(
@@ -332,7 +351,7 @@ def segments_of(
 
     Threads read ahead, each a run of chunks, and at most two runs for each of them are held.
     """
-    wanted, runs = threads(workers), stretches(0, source.count, source.most)
+    wanted, runs = threads(workers), stretches(0, source.count, source.most())
     if wanted == 1 or source.count * source.chunk_bytes < STRETCH:
         for run in runs:
             yield from source.chunks(run)

@@ -230,3 +230,32 @@ def test_pages_are_a_sequence(data: Path) -> None:
         numpy.testing.assert_array_equal(tif.asarray(2), tif[2].asarray())
         third = mt.imread(data / "three_pages.tif", key=2)
         numpy.testing.assert_array_equal(third, tif.asarray(2))
+
+
+def test_threads_work_apart() -> None:
+    """Threads get each item once, none beside that of another, and the first error is raised."""
+    for count in range(1, 30):
+        for workers in range(2, 9):
+            assert sorted(_parts.spread(count, workers)) == list(range(count))
+    assert list(_parts.spread(10, 4)) == [0, 3, 6, 9, 1, 4, 7, 2, 5, 8]
+    done: list[int] = []
+
+    def call(item: int) -> None:
+        done.append(item)
+        if item > 2:
+            raise ValueError(item)
+
+    with pytest.raises(ValueError, match="^3$"):
+        _parts.each(call, list(range(8)), 4)
+    assert {0, 1, 2, 3} <= {*done}
+
+
+@pytest.mark.parametrize("workers", [1, 2, 3, 4])
+def test_long_strips(workers: int) -> None:
+    """An image of many strips is read by calls of several lengths."""
+    image = samples((3000, 2100), "u2")
+    file = mt.imwrite(None, image, rowsperstrip=7, compression="packbits")
+    numpy.testing.assert_array_equal(mt.imread(file, workers=workers), image)
+    with mt.TiffFile(file) as tif:
+        window = tif.pages[0].read(slice(11, 2990), slice(5, 2000), workers=workers)
+    numpy.testing.assert_array_equal(window, image[11:2990, 5:2000])
