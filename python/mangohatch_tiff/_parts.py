@@ -126,9 +126,9 @@ class Source:
         """How many bytes a whole chunk has."""
         return self.form.row_bytes(self.grid.chunk_width) * self.grid.chunk_height
 
-    def most(self, stretch: int = STRETCH) -> int:
-        """How many chunks a thread reads at once, of so many bytes."""
-        return max(1, stretch // max(1, self.chunk_bytes))
+    def most(self, least: int = 0) -> int:
+        """How many chunks a thread reads at once, of a stretch that may be longer than others."""
+        return max(1, max(STRETCH, least) // max(1, self.chunk_bytes))
 
     def read(self, call: Any, buffer: NDArray[Any], *place: int) -> None:
         """Reads samples into an array by a call."""
@@ -207,7 +207,7 @@ class Reading:
         grid, window, most = self.source.grid, self.window, self.source.most()
         lines = range(window.top // grid.chunk_height, -(-window.bottom // grid.chunk_height))
         share = self.array.nbytes // (SOME * workers) if self.source.form.is_direct else 0
-        down = self.source.most(min(max(share, STRETCH), LONG_STRETCH))
+        down = self.source.most(min(share, LONG_STRETCH))
         for plane in range(grid.planes):
             if grid.across == 1:
                 first = grid.number(plane, lines.start, 0)

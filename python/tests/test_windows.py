@@ -57,7 +57,6 @@ def test_windows(options: dict, workers: int, monkeypatch: pytest.MonkeyPatch) -
     planar = page.axes == "SYX"
     for stretch in (1, 500, 1 << 20):
         monkeypatch.setattr(_parts, "STRETCH", stretch)
-        monkeypatch.setattr(_parts, "LARGE_TILE", 2 * stretch)
         for rows, columns in WINDOWS:
             expected = image[rows, columns]
             expected = expected.transpose(2, 0, 1) if planar else expected
