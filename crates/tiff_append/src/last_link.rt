@@ -189,6 +189,7 @@ pub fn walk_all<R: Source>(
 {
     let mut walk = IfdChainWalk::new(alloc, first);
     let order = ByteOrder::LittleEndian;
+    // No chain is so long, so the walk goes to its end.
     let beyond = walk.offset_of(source, kind, order, usize::MAX)?;
     let _entered = walk.len();
     match beyond {

@@ -92,6 +92,7 @@ impl Entry {
     pub fn fits(&self)
         ensures { (tag : ℕ) → tag < 2 ^ 16 → IsEntry (tag, self.now) }
     {
+        // The first use of a field opens the value: only then does the prover know its invariant.
         let _count = &self.count;
     }
 }
@@ -164,6 +165,8 @@ impl Directory {
         ensures { IfOk result
             (λ d. d ≡ record { entries = last_of_each entries.items; next = None }) }
     {
+        // Sorted once: 65,535 fields may come in descending order, and to insert each would move
+        // all behind it.
         Ok(Directory {
             entries: left_in_order(entries)?,
             next: 0,

@@ -43,6 +43,7 @@ pub fn left_in_order(mut entries: Vec<(u16, Entry)>) -> Result<Vec<(u16, Entry)>
     if ascends(&entries) {
         return Ok(entries);
     }
+    // The last field of each number is then its first, which a stable sort and `dedup` keep.
     entries.reverse();
     entries.sort_by_key(|e| e.0)?;
     entries.dedup_by_key(|e| e.0);

@@ -188,6 +188,7 @@ impl MemorySource {
     pub fn new(items: Vec<u8>) -> Self
         ensures { source_bytes result ≡ items.items }
     {
+        // The call has no effect: by its result the prover knows that a length is a `usize`.
         let _len = items.len();
         MemorySource { items }
     }
@@ -304,6 +305,7 @@ impl<S: Source> BufferedSource<S> {
         ensures failed { OnErr result (S.failures self.old.source < S.failures self.new.source) }
         ensures asked { AreReadable (S.told self.old.source) at BUFFER_LEN → IsOk result }
     {
+        // A read that fails may leave anything in the buffer, so nothing counts as held before it.
         self.held = 0;
         self.from = at;
         self.held = self.source.read_at(at, &mut self.buffer)?;
@@ -348,6 +350,7 @@ impl<S: Source> Source for BufferedSource<S> {
         if buf.is_empty() {
             return Ok(0);
         }
+        // By way of the buffer all these bytes would be copied once more.
         if buf.len() >= self.buffer.len() {
             return self.source.read_at(at, buf);
         }

@@ -57,6 +57,7 @@ pub fn find_place(
     ensures grows { count.old ≤ count.new }
     ensures few { (digits : ℕ) → length entries.now < 2 ^ digits → count.new ≤ count.old + digits }
 {
+    // By hand: the contracts of std's searches say nothing of how many keys they compare.
     let mut low = 0;
     let mut high = entries.len();
     'halves: while low < high {

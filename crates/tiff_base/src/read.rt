@@ -50,6 +50,8 @@ pub fn read_exact_at<R: Source>(source: &mut R, at: u64, buf: &mut [u8]) -> Tiff
         (R.failures source.new) }
     ensures asked { AsksOnly (AreReadable (R.told source.old) at (length buf.old)) result }
 {
+    // Inlined up to the loop over rows: a `TiffResult` of 48 bytes is returned through memory, and
+    // to read it back waits for the stores of the row that was copied.
     if buf.is_empty() {
         return Ok(());
     }

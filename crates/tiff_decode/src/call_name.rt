@@ -75,6 +75,7 @@ impl Call {
 /// Writes the name of the call without its arguments.
 impl Debug for Call {
     fn fmt<W: Write>(&self, f: &mut Formatter<W>) -> fmt::Result {
+        // The name alone: derived code for 59 variants took a tenth of the crate's proofs.
         f.write_str(self.name())
     }
 }

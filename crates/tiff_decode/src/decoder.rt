@@ -55,6 +55,7 @@ pub(crate) fn links_on(directory: &Directory) -> bool
 fn keeps_state(fault: &TiffError) -> bool
     ensures { result ≡ keeps_state fault.now }
 {
+    // These say nothing of the file: the same call can be made again.
     matches!(
         fault,
         TiffError::OutOfMemory | TiffError::IoError(IoKind::Device)
@@ -200,6 +201,7 @@ fn replace_directory<R: Source>(
     ensures asked { AsksOnly (PageReadable (R.told tags.old.source) tags.old.kind tags.old.order directory)
         result }
 {
+    // The page is read by the tags of the directory that is there.
     let former = std::mem::replace(&mut tags.directory, directory);
     match read_page(tags, alloc) {
         Ok(page) => return Ok(page),
@@ -265,6 +267,7 @@ fn enter_directory<R: Source>(
             if keeps_state(&fault) {
                 return Err(fault);
             }
+            // The error is the page's, so that `next_image` goes on behind it.
             *standing = to;
             return Err(fault);
         }

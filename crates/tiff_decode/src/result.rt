@@ -171,6 +171,8 @@ impl DecodingResult {
         ensures sample_type { (buffered_as (buffer.U8 result)).sample_type ≡ (decoded_as self.old).sample_type }
         ensures numbers { (buffered_as (buffer.U8 result)).numbers ≡ drop start (decoded_as self.old).numbers }
     {
+        // The borrow checker proves what is left of a slice that a body returns, and not of an
+        // enum of slices, as `as_buffer` lends it.
         match self {
             DecodingResult::U8(samples) => rest(samples, start),
             _ => unreachable!(),

@@ -303,6 +303,7 @@ fn tag_bytes<R: Source>(
 pub fn run_call<R: Source>(decoder: &mut Decoder<R>, call: &Call) -> Reply
     ensures { Step decoder.old call.now result decoder.new }
 {
+    // In the order of the definition `promise`, so that the two can be compared line by line.
     match call {
         Call::SetLimits(limits) => {
             decoder.set_limits(same_limits(limits));
@@ -368,6 +369,7 @@ pub fn run_call<R: Source>(decoder: &mut Decoder<R>, call: &Call) -> Reply
             Reply::ReadCodingUnitBytes(result, bytes)
         }
         Call::FindTag(tag) => Reply::FindTag(decoder.find_tag(*tag)),
+        // A reply has a `u64`, which the function below the generic public call returns.
         Call::FindTagUnsigned(tag) => Reply::FindTagUnsigned(decoder.number_in(None, *tag)),
         Call::FindTagUnsignedVec(tag) => Reply::FindTagUnsignedVec(decoder.numbers_in(None, *tag)),
         Call::GetTag(tag) => Reply::GetTag(decoder.get_tag(*tag)),

@@ -24,6 +24,7 @@ fn next_field(directory: &Directory, last: Option<u16>) -> Option<(u16, &Entry)>
     ensures { option_map (λ x. (x.0, x.1.now)) result
         ≡ slice_get (fields_left last (entries directory.now.entries)) 0 }
 {
+    // By the last number, and by no iterator: that would borrow the decoder that reads the values.
     match last {
         None => directory
             .iter()

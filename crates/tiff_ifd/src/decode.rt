@@ -165,6 +165,7 @@ fn read_entries<R: Source>(
     ensures asked { AsksOnly
         (AreReadable (R.told source.old) table.first (entry_len kind * table.count)) result }
 {
+    // No room is made for `count`, which may be forged: the list grows as entries come.
     let mut entries = Vec::new(alloc);
     let mut offset = table.first;
     for i in 0..table.count {

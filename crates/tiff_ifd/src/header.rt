@@ -25,9 +25,11 @@ fn read_order<R: Source>(source: &mut R) -> TiffResult<ByteOrder>
         (R.failures source.old) (R.failures source.new) }
     ensures asked { AsksOnly (AreReadable (R.told source.old) 0 2) result }
 {
+    // The bytes of each mark are equal, so either byte order reads it.
     let mark = match read_u16_at(source, 0, ByteOrder::LittleEndian) {
         Ok(mark) => mark,
         Err(TiffError::IoError(IoKind::UnexpectedEof)) => {
+            // As in the Rust crate, which compares the bytes that are there with both marks.
             return Err(TiffError::FormatError(TiffFormatError::TiffSignatureNotFound));
         }
         Err(e) => return Err(e),

@@ -279,11 +279,13 @@ impl PackBitsCursor {
         if self.block.count() > 0 {
             return self.read(source, buf);
         }
+        // One read for many blocks; a device may fail at bytes of it that nobody needed.
         let mut ahead = [0u8; AHEAD];
         let wanted = AHEAD.min(buf.len().saturating_add(2));
         let most = (wanted as u64).min(self.len) as usize;
         let held = source.read_at(self.at, &mut ahead[..most])?;
         let (used, n) = unpack_blocks(&ahead[..held], buf);
+        // The first block is cut here, or longer than the buffer: `read` takes a part of it.
         if n == 0 {
             return self.read(source, buf);
         }
@@ -324,6 +326,7 @@ impl PackBitsCursor {
         ensures asked { AsksOnly (PackedReadable (R.told source.old) self.old) result }
         ensures behind { IsLastPart self.old.at self.old.len self.new }
     {
+        // Filled by a copy, so that after an error the next read returns the same bytes.
         let mut offset = *self;
         offset.fill(source, buf)?;
         *self = offset;

@@ -155,6 +155,7 @@ impl FieldReader<'_> {
         let Some(len) = len_of(entry) else {
             return Err(TiffError::LimitsExceeded);
         };
+        // A page lists an offset for each chunk: so many numbers aren't made into a `Value` each.
         if is_unsigned(entry.field_type()) && len > offset_len(self.kind) {
             return self.read_placed(source, entry, len);
         }

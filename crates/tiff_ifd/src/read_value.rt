@@ -298,6 +298,7 @@ pub(crate) fn is_allowed(limits: &Limits, field_type: Type, count: u64) -> bool
     let room = limits.decoding_buffer_size as u64;
     match field_type {
         Type::ASCII => count <= room,
+        // The size of a `Value` of the Rust crate, which sets no limit to a single one.
         _ => count == 1 || count <= room / 32,
     }
 }

@@ -314,6 +314,7 @@ fn two<T: Drop>(alloc: Global, x: T, y: T) -> TiffResult<Vec<T>>
     Ok(all)
 }
 
+// By hand, as `clone`: what is derived for a type that contains itself has no clause.
 impl PartialEq for Value {
     ghost use Rattle.std.specs.Cmp.{on_per};
     ghost use Rattle.tiff_ifd.specs.Same.{same, same_per};

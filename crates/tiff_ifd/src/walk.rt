@@ -194,6 +194,7 @@ impl IfdChainWalk {
         let Some(offset) = self.next else {
             return Ok(false);
         };
+        // Directories may overlap, so that their entries are far more than the file's bytes.
         let next = read_link_of(source, offset, kind, order)?;
         self.add(offset, next)?;
         Ok(true)

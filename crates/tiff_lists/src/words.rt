@@ -283,6 +283,7 @@ pub fn parts(word: &str, at: char) -> Option<(&str, &str)>
 fn decimal(whole: &str, digits: &str) -> Option<Rational>
     ensures { result ≡ decimal whole.now digits.now }
 {
+    // 10^9 is the largest power of ten below 2^32.
     if digits.len() > 9 {
         return None;
     }
@@ -466,6 +467,7 @@ fn push_items<T: FromWord + Drop>(list: &mut Vec<T>, word: &str) -> Result<(), P
     ensures { Reads (λ _. list.new.items) (with_items T.meaning list.old.items word.now) result }
 {
     let (word, count) = repeated(word)?;
+    // Also a word that counts 0 times has to stand for something.
     let _item = read::<T>(word)?;
     if count > MOST_ITEMS {
         return Err(ParseError::Form);

@@ -25,7 +25,8 @@ pub enum ChunkCursor {
     Ended,
 }
 
-// The number of bytes that `read_grown` reads at once.
+// The number of bytes that `read_grown` reads at once. A forged row may be far longer than its
+// data, so memory for it grows with these.
 const PIECE: usize = 65536;
 
 // Skips `n` bytes of PackBits data after decompression. Returns whether so many were left.
@@ -40,6 +41,7 @@ fn pass_packed<R: Source>(source: &mut R, position: &mut PackBitsCursor, n: u64)
     ensures asked { AsksOnly (PackedReadable (R.told source.old) position.old) result }
     ensures behind { IsLastPart position.old.at position.old.len position.new }
 {
+    // Where the bytes behind them are is known only once they are unpacked.
     let mut piece = [0u8; 512];
     let mut left = n;
     while left > 0 {
@@ -142,6 +144,7 @@ impl ChunkCursor {
         match self {
             ChunkCursor::Plain(at) => match at.checked_add(n) {
                 Some(next) => *at = next,
+                // No source has an offset past 2^64, so no byte is left.
                 None => *self = ChunkCursor::Ended,
             },
             ChunkCursor::Packed(position) => {

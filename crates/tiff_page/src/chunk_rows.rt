@@ -86,6 +86,7 @@ fn gap_behind(gap: u64, row: usize, rows: usize) -> u64
     ensures between { row + 1 < rows → result ≡ gap }
     ensures last { row + 1 ≡ rows → result ≡ 0 }
 {
+    // The file may end behind the last bytes that are shown: padding after them isn't asked for.
     if row + 1 < rows { gap } else { 0 }
 }
 

@@ -410,6 +410,7 @@ pub fn layout_of(page: &Page, alloc: Global, width: u32, height: u32) -> TiffRes
 {
     let color = color_of(page, alloc)?;
     let row_bytes = (row_bits(page, color, width) + 7) / 8;
+    // Unused here. The Rust crate keeps the product, and refuses a page where it passes 64 bits.
     checked_byte_count(row_bytes, page.chunk_height as usize)?;
     let plane_stride = checked_byte_count(row_bytes, height as usize)?;
     let across = (u64::from(width) + u64::from(page.chunk_width) - 1) / u64::from(page.chunk_width);
@@ -418,6 +419,7 @@ pub fn layout_of(page: &Page, alloc: Global, width: u32, height: u32) -> TiffRes
     }
     if matches!(color, ColorType::YCbCr(_))
         && page.subsampling != (1, 1)
+        // A JPEG decoder undoes it itself. The Rust crate lays such pages out for one.
         && page.method != CompressionMethod::ModernJPEG
     {
         return Err(TiffUnsupportedError::ChromaSubsampling.into());

@@ -11,6 +11,7 @@ use tiff_base::tags::ExtraSamples;
 #[derive(Drop)]
 pub enum KnownSamples {
     All(Vec<ExtraSamples>),
+    // A plan keeps their number and the first alone, by which a color is found.
     Alike { count: usize, sample: ExtraSamples },
 }
 
@@ -76,6 +77,7 @@ impl ExtraSampleList {
 #[derive(Drop)]
 pub enum KnownNumbers {
     All(Vec<u64>),
+    // A plan reads the numbers of one chunk, and makes the page for this chunk.
     One {
         count: usize,
         index: usize,

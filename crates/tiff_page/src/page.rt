@@ -38,6 +38,7 @@ pub struct Page {
     pub chunk_height: u32,
     pub offsets: NumberList,
     pub byte_counts: NumberList,
+    // Ghost fields: a function that borrows a page would learn a model's invariant only by a call.
     ghost wide: { 0 < width },
     ghost high: { 0 < height },
     ghost sampled: { 0 < samples },

@@ -76,6 +76,7 @@ pub(crate) fn image_destination(
     let height = page.height as usize;
     Destination {
         top: usize::from(plane) * height + rect.y as usize,
+        // Exact: `layout_of` refuses chunks side by side whose rows aren't of whole bytes.
         left: row_bits(page, layout.color, rect.x as u32) / 8,
         stride: layout.row_bytes,
     }
@@ -93,7 +94,8 @@ const PIECE: usize = 8192;
 // ahead, as `BufferedSource`, reads at most as many bytes again.
 const LEAST: usize = 6144;
 
-// Rows of a tile of fewer bytes go through the scratch buffer, as whole rows of the image.
+// Rows of a tile of fewer bytes go through the scratch buffer, as whole rows of the image: written
+// straight to their places, each waits until the memory of its row is in the cache.
 const SHORT: usize = 320;
 
 // A chunk of a part of an image: of each of its planes, the chunk with this index.
@@ -144,6 +146,7 @@ fn tile_rows_at_once<W: RowSink>(page: &Page, row_bytes: usize) -> usize
     let several = if uses_scratch::<W>(page) {
         row_bytes <= SCRATCH
     } else {
+        // Where a whole tile fits into a piece, tile by tile is the same with fewer tests.
         rows < page.chunk_height as usize
     };
     if several { rows } else { 0 }
@@ -240,6 +243,7 @@ impl PageReader<'_> {
             && !is_packed(page.method)
             && (rows >= page.chunk_height as usize || rows.saturating_mul(stored) >= LEAST)
             && stored.checked_mul(page.chunk_height as usize).is_some()
+            // If one has an error of its form, they are read one by one up to it.
             && self.are_formed(part.layout.color, first)
     }
 

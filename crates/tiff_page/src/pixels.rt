@@ -388,6 +388,7 @@ impl PageReader<'_> {
         let layout = planes_layout(page, self.alloc, page.width, page.height)?;
         room_fault(buf.len(), layout.plane_stride)?;
         let planes = planes_used(page, layout, buf.len());
+        // Tested again below, where the contract lets `OutOfMemory` come in place of an error.
         form_fault(page, self.limits, layout.color, 0)?;
         self.request_into(source, ReadRequest::Image(layout, planes), buf)
     }

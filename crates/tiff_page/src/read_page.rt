@@ -333,6 +333,7 @@ pub fn read_subsampling<T: Tags>(tags: &mut T, alloc: Global) -> TiffResult<(u16
     ensures asked { AsksForTag (T.told tags.old) named.ChromaSubsampling result }
 {
     match tags.find_u64_vec(alloc, Tag::ChromaSubsampling)? {
+        // The default of TIFF 6.0, section 21.
         None => Ok((2, 2)),
         Some(numbers) => {
             let sizes = fit_u16s(alloc, Tag::ChromaSubsampling, numbers)?;
@@ -441,6 +442,7 @@ pub fn read_strips<T: Tags>(
 {
     let offsets = NumberList::from_vec(require_u64_vec(tags, alloc, Tag::StripOffsets)?);
     let byte_counts = NumberList::from_vec(require_u64_vec(tags, alloc, Tag::StripByteCounts)?);
+    // The default of TIFF 6.0 is 2^32 - 1: one strip has all rows.
     let rows = some_rows(find_u32(tags, alloc, Tag::RowsPerStrip)?.unwrap_or(height))?;
     let chunks = ChunkTable {
         chunk_width: width,

@@ -212,6 +212,7 @@ impl<'a> RowSink for ByteSlice<'a> {
 }
 
 // The number of bytes of the longest rows that go to a list of bytes by way of a scratch buffer.
+// It would take the memory of a longer one again.
 const LONGEST_COPIED: usize = 65536;
 
 /// A list of bytes. Rows for which it has to grow are read into a scratch buffer and appended, which
@@ -309,7 +310,7 @@ impl RowSink for ByteList {
 }
 
 /// A list of numbers of `N` bytes. Rows are read into a scratch buffer, and their numbers go from
-/// there into the list.
+/// there into the list: no slice of numbers can be seen as bytes.
 #[derive(Drop)]
 pub struct NumberList<T, const N: usize> {
     pub(crate) numbers: Vec<T>,

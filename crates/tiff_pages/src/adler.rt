@@ -1,4 +1,4 @@
-//! Adler-32, a checksum of bytes.
+//! Adler-32, a checksum of bytes whose definition has three lines.
 
 ghost use Rattle.std.specs.Prelude.{◌≡◌};
 ghost use Rattle.tiff_pages.specs.Adler.{adler_32};

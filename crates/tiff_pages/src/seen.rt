@@ -24,7 +24,8 @@ use tiff_base::windows::{OrderedWindows, SeenFile, Stretch, WindowSource};
 use tiff_decode::decoder::Decoder;
 use tiff_ifd::limits::Limits;
 
-// The most bytes of a header.
+// The most bytes of a header. They are looked for before a file is opened: a decoder that can't be
+// opened takes its source with it, and what that wanted.
 const HEADER_LEN: u64 = 16;
 
 // A decoder before the first page of a file whose header the windows have.

@@ -16,10 +16,12 @@ use tiff_base::tags::{IfdPointer, Tag, Type};
 use tiff_decode::decoder::Decoder;
 use tiff_ifd::offsets::Offsets;
 
-/// The depth of the deepest directories that are listed. The chain has depth 0.
+/// The depth of the deepest directories that are listed. The chain has depth 0. Exif, GPS and
+/// previews together are less deep.
 pub const DEEPEST: u32 = 8;
 
-/// The most values of tags, of all directories of a file, that a list takes.
+/// The most values of tags, of all directories of a file, that a list takes: those of 10,000 pages
+/// with 100 directories each are within it.
 pub const MOST_VALUES: u64 = 1_048_576;
 
 /// What names a directory outside the chain: the offset of a directory, and the tag of it that has
@@ -166,6 +168,7 @@ fn values_within<R: Source>(
         (λ e. values_within decoder.old directory.now left pointer ≡ Err e)) }
 {
     let (tag, count) = pointer;
+    // Counted before they are read: fields of a forged file may share their values.
     if left < count {
         return Ok(Err(TiffError::LimitsExceeded));
     }
@@ -415,6 +418,7 @@ fn list_levels<R: Source>(decoder: &mut Decoder<R>, listing: &mut Listing) -> Ti
     ensures listing { OnOk result
         (listing.new ≡ below decoder.old (suc deepest) listing.old) }
 {
+    // Level by level, so a directory is listed nearest to the chain, and cycles need no rule.
     for depth in 0..DEEPEST + 1 {
         let alloc = decoder.allocator();
         let items = std::mem::replace(&mut listing.items, Vec::new(alloc));

@@ -74,7 +74,7 @@ fn shape_of(sides: (u32, u32), color: ColorType, planes: usize) -> TiffResult<Sh
     })
 }
 
-// The highest byte of each number of 16 bits.
+// The highest byte of each number of 16 bits, since few viewers show more than 256 grays.
 fn top_of_16(alloc: Global, numbers: &[u16]) -> Result<Vec<u8>, AllocError>
     ensures { IfOk result (λ v. v.items ≡ without_low 8 numbers.now) }
 {
@@ -117,6 +117,7 @@ fn shown(alloc: Global, samples: DecodingResult) -> TiffResult<Vec<u8>>
         DecodingResult::U16(list) => Ok(top_of_16(alloc, &list)?),
         DecodingResult::U32(list) => Ok(top_of_32(alloc, &list)?),
         DecodingResult::U64(list) => Ok(top_of_64(alloc, &list)?),
+        // Floats and signed numbers have no range that is right for all files.
         _ => Err(TiffError::UnsupportedError(TiffUnsupportedError::UnsupportedDataType)),
     }
 }

@@ -37,6 +37,7 @@ fn packed_fault(method: CompressionMethod) -> TiffResult<()>
 {
     match method {
         CompressionMethod::None => Ok(()),
+        // Packed samples may take more bytes than the chunk has in the file.
         method => Err(TiffUnsupportedError::UnsupportedCompressionMethod(method).into()),
     }
 }

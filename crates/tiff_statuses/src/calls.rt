@@ -28,7 +28,8 @@ use tiff_ifd::limits::Limits;
 use tiff_laws::pages::{walk_ends, walk_goes_on, walk_opens};
 use tiff_page::layout::{BufferLayoutPreference, TiffCodingUnit};
 
-// From this number on, the number of a page is this plus the offset of its directory.
+// From this number on, the number of a page is this plus the offset of its directory. No file in
+// memory has so many pages, and a second set of calls would double their number.
 pub(crate) const AT: usize = 1 << 63;
 
 /// The width and the height of a page, in pixels.
@@ -462,6 +463,7 @@ fn samples_in(
     requires { layout.now.planes < 2 ^ 32 }
     ensures { AnswersWithoutSource (λ s. s) result (calls.samples_in decoder.old color layout.now) }
 {
+    // From the tag, since no call of a decoder returns the interpretation.
     let meaning = number_here(decoder, &None, Tag::PhotometricInterpretation)?;
     Ok(samples_by(color, layout, meaning))
 }

@@ -339,6 +339,7 @@ fn run_child<F: PagesFile, K: TiffKind>(
         (λ e. (e ≡ OutOfMemory) ⊎ StepFails K.kind links.floor child.now places.old (F.told file) e) }
 {
     let at = place_of(places, child.parent)?;
+    // Read from the parent's directory, since no reply of a job says where its values are.
     let link = slot_of(alloc, &file, links, at, child.index)?;
     let (file, refused) = run_jobs_at::<F, K>(alloc, file, link, &[child.page], &child.jobs)?;
     if refused.is_none() {

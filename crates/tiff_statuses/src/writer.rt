@@ -263,6 +263,7 @@ fn write_zeros<K: TiffKind, C: NamedColorType>(
             return Ok(());
         }
         Err(fault) => {
+            // An open image has to be ended; the error that counts is that of its strips.
             let _ended = zeros.discard();
             return Err(fault);
         }
@@ -334,6 +335,7 @@ fn write_color<'a, K: TiffKind, C: NamedColorType>(
         (view_of_result file_of result) }
     ensures around { IfOk result (λ file. IsAround bytes.now file) }
 {
+    // The samples are then copied once, into the caller's buffer, or not at all.
     if let Some(file) = write_around::<K, C>(alloc, settings, image, bytes) {
         return Ok(file);
     }

@@ -109,6 +109,7 @@ fn fill_and_rename<R: Machine>(
         let mode = found.permissions().mode() & PLAIN_BITS;
         file.set_permissions(Permissions::from_mode(mode))?;
     }
+    // All is on the disk before the name changes: a full disk leaves the old file.
     file.sync_all()?;
     fs::rename(rt, part, name)
 }
@@ -116,6 +117,7 @@ fn fill_and_rename<R: Machine>(
 // Makes a file with these bytes in the place of the one that has the name, if there is one, whole or
 // not at all.
 fn replace<R: Machine + AllocGlobal>(rt: &R, name: &str, bytes: &[u8]) -> io::Result<()> {
+    // In the folder of the old one: a rename doesn't leave its file system.
     let (file, part) = create_part(rt, folder_of(name))?;
     let made = fill_and_rename(rt, file, part.as_str(), name, bytes);
     if made.is_err() {

@@ -30,6 +30,7 @@ fn word_bytes<R: Env + AllocGlobal>(rt: &R, place: usize) -> io::Result<Option<V
 /// the first of all.
 pub fn words<R: Env + AllocGlobal>(rt: &R) -> io::Result<Result<Vec<String>, usize>> {
     let mut words = Vec::new(rt.alloc());
+    // Word by word: the kit's `env::args` refuses all words if one is none.
     for place in 1..usize::MAX {
         let Some(bytes) = word_bytes(rt, place)? else {
             break;

@@ -36,6 +36,7 @@ pub fn push_chunk<T: Sample>(
         (λ e. e ≡ TiffError.OutOfMemory) }
 {
     let size = usize::from(T::BYTE_LEN);
+    // No memory has `usize::MAX` bytes: a product beyond it is refused as this one.
     out.reserve(samples.len().saturating_mul(size))?;
     match predictor {
         Predictor::Horizontal => push_rows(samples, row, stride, out),

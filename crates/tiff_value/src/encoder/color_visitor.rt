@@ -25,6 +25,7 @@ pub fn by_name<E, I, A, V: ColorVisitor<E, I, A>>(name: ColorTypeName, state: &m
     requires { V.takes name state.old input }
     ensures { V.visits name state.old input result state.new }
 {
+    // The only match over all names: a generic function can't be passed as a value.
     match name {
         ColorTypeName::Gray8 => V::visit::<colortype::Gray8>(state, input),
         ColorTypeName::Gray16 => V::visit::<colortype::Gray16>(state, input),

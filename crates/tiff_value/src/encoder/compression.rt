@@ -109,6 +109,7 @@ impl CompressionAlgorithm for Packbits {
         if bytes.is_empty() {
             return Err(TiffError::IoError(IoKind::WriteZero));
         }
+        // Packed before one write, so that a sink that fails has a beginning of it.
         let packed = pack_bits(alloc, bytes)?;
         writer.write_plain(&packed)?;
         Ok(packed.len() as u64)

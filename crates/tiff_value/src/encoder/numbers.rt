@@ -12,6 +12,7 @@ use super::tiff_value::{Ifd, Ifd8, TiffScalar, TiffValue};
 use tiff_base::error::TiffResult;
 use tiff_base::tags::{Bits32, Bits64, Type};
 
+// One impl a type: one for every `TiffScalar` would conflict with that for `&T`.
 impl TiffValue for u8 {
     ghost value_type = { BYTE };
 

@@ -51,6 +51,7 @@ impl<W: Sink, K: TiffKind> TiffEncoder<W, K> {
     pub(crate) fn is_of_kind(&self)
         ensures { self.now.kind ≡ K.kind }
     {
+        // A use of a field opens the encoder: its view takes the kind from `K`.
         let _chain = &self.chain;
     }
 
@@ -89,6 +90,7 @@ impl<W: Sink, K: TiffKind> TiffEncoder<W, K> {
         self.is_of_kind();
         let end = self.end_offset(fields)?;
         let link = self.append_listed(fields)?;
+        // Last, so that what is linked is whole, also where the sink fails on the way.
         self.link_from(fields.parent, end)?;
         self.chain_with(fields.chained, link);
         Ok(DirectoryOffset::at(end, link))

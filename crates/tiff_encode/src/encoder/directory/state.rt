@@ -110,6 +110,7 @@ impl HasDirectory for DirectoryState {
         if self.directory.contains(tag) {
             return Room::Taken;
         }
+        // A blank field, and no reserved memory: a directory is a map to clauses, which see none.
         let blank = Entry::new_u64(Type::BYTE, 0, [0; 8]);
         match self.directory.insert(tag.to_u16(), blank) {
             Ok(()) => Room::Held,

@@ -121,6 +121,7 @@ fn rows_of_strip(compression: Compression, row_bytes: u64) -> u32
     ensures some { 0 < result }
 {
     match compression {
+        // As the Rust crate has it: about a million bytes a strip, and each packed row a strip.
         Compression::Uncompressed => 1_000_000u64.div_ceil(row_bytes) as u32,
         Compression::Packbits | Compression::PackbitsRows => 1,
     }

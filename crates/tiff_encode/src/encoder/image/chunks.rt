@@ -34,6 +34,7 @@ fn byte_count<T: Sample>(count: usize) -> TiffResult<usize>
     ensures { MatchResult result (λ n. (n ≡ count * type_size T.value_type)
         × (count < 2 ^ 64 - 1)) (λ e. e ≡ TiffError.OutOfMemory) }
 {
+    // `next_chunk_sample_count` says this of more, too, for which such a slice would pass.
     if count == usize::MAX {
         return Err(TiffError::OutOfMemory);
     }
@@ -143,6 +144,7 @@ impl<W: Sink, K: TiffKind> TiffEncoder<W, K> {
             result self.old self.new image.new }
     {
         let offset = self.chunk_offset(image, count, stored.len())?;
+        // Before a byte is written: what is in the file can then be listed without memory.
         let Ok(()) = image.chunks.reserve(1) else {
             return Err(TiffError::OutOfMemory);
         };
@@ -212,6 +214,7 @@ impl<W: Sink, K: TiffKind> TiffEncoder<W, K> {
             (map (sample_number (type_size C.Inner.value_type) C.Inner.bits)
             samples.now) result self.old self.new image.new }
     {
+        // Taken out, since `append_packed` borrows the image beside them.
         let mut rooms = mem::replace(&mut image.rooms, ChunkRooms::empty(self.alloc));
         let result = self.append_packed(image, samples, &mut rooms);
         image.rooms = rooms;

@@ -226,6 +226,7 @@ impl<W: Sink, K: TiffKind> TiffEncoder<W, K> {
             let part = image.slice_out(samples, written);
             return self.put_chunk(image, part);
         }
+        // One at a time, in the memory of one chunk.
         let part = image.cut_out(self.alloc, samples, image.chunks.len() as u64)?;
         if part.len() == usize::MAX {
             return Err(TiffError::OutOfMemory);

@@ -236,6 +236,7 @@ impl<W: Sink, K: TiffKind> TiffEncoder<W, K> {
             self.new }
     {
         self.check_tiles(image, width, length)?;
+        // In a copy: after an error the directory has neither of the new sides.
         let mut fields = image.directory.copy(self.alloc)?;
         let sides = [
             TagValue::long(Tag::TileWidth, width),

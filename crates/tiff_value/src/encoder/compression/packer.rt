@@ -30,6 +30,7 @@ fn literal_len(bytes: &[u8]) -> usize
 {
     let limit = bytes.len().min(MOST);
     for count in 1..limit {
+        // Two equal bytes within a literal stay there: a run of two saves nothing.
         if count + 2 < limit
             && bytes[count] == bytes[count + 1]
             && bytes[count + 1] == bytes[count + 2]

@@ -70,6 +70,7 @@ impl<W: Sink> TiffWriter<W> {
         let (_kind, len) = T::type_and_len();
         let width = usize::from(len);
         let most = BAND / width;
+        // The call has no effect: its contract says that the offset is within the sink.
         let _start = self.offset();
         let mut at = 0;
         while at < row.len() {
@@ -123,6 +124,7 @@ impl<W: Sink> TiffWriter<W> {
         if samples.is_empty() {
             return Ok(());
         }
+        // A sink in memory lends its list, so the bytes are made where they stay.
         if self.write_run(&SampleRun { samples })? {
             return Ok(());
         }
