@@ -1,14 +1,16 @@
 -- Worked examples of pages with parents: where they are placed, and at which link each is written.
 use Rattle.std.specs.Prelude.{◌≡◌, [], ◌∷◌, None, Some, Ok, Err}
-use Rattle.tiff_base.specs.declared.error.TiffError.TheVariants.{FormatError, IoError}
+use Rattle.tiff_base.specs.declared.error.TiffError.TheVariants.{FormatError, IoError, OutOfMemory}
 use Rattle.tiff_base.specs.declared.error.TiffFormatError.TheVariants.{CycleInOffsets, ImageFileDirectoryNotFound}
 use Rattle.tiff_base.specs.declared.io.IoKind.TheVariants.{InvalidInput}
 use Rattle.tiff_base.specs.declared.tags.ByteOrder.TheVariants.{LittleEndian}
 use Rattle.tiff_base.specs.declared.tags.FileKind.TheVariants.{Big, Classic}
 use Rattle.tiff_base.specs.declared.tags.Tag.TheVariants.{SubIfd}
 use Rattle.tiff_base.specs.declared.tags.«Type».TheVariants.{IFD, IFD8}
+use Rattle.tiff_statuses.specs.declared.pages.PageField.TheVariants.{Whole}
 use Rattle.tiff_statuses.specs.declared.pages.Place.{Place}
-use Rattle.tiff_statuses.specs.Pages.{all_by, both, chain_places, chained, link_step, other_job, place_of, placed, with_links, with_parent, within, write_tag_buf}
+use Rattle.tiff_statuses.specs.declared.pages.Refusal.{Refusal}
+use Rattle.tiff_statuses.specs.Pages.{IsOutIn, all_by, both, chain_places, chained, link_step, other_job, place_of, placed, with_links, with_parent, within, write_tag_buf}
 
 -- ---- where a page is
 
@@ -100,3 +102,20 @@ cycle = all_by (8 ∷ []) (Some (FormatError CycleInOffsets)) ≡ Err (FormatErr
 
 abbrev pub whole_chain : Type 0
 whole_chain = all_by (8 ∷ 50 ∷ []) None ≡ Ok (8 ∷ 50 ∷ [])
+
+-- ---- memory that is out
+
+abbrev pub no_memory : Refusal
+no_memory = record { field = Whole; fault = OutOfMemory }
+
+-- before a page is seen, the first one is told of, also where there is none
+abbrev pub out_at_the_first : Type 0
+out_at_the_first = IsOutIn [] (1, no_memory)
+
+-- mistake: `IsOutIn` tells of no page
+abbrev pub out_at_none : Type 0
+out_at_none = IsOutIn [] (0, no_memory) → ⊥
+
+-- mistake: `IsOutIn` tells of a page behind the list
+abbrev pub out_behind_all : Type 0
+out_behind_all = IsOutIn [] (2, no_memory) → ⊥

@@ -18,3 +18,8 @@ pub fn slots()
     ensures { s.two_chained × s.place_known × s.place_unknown × s.last_link × s.past_link ×
         s.past_big_link × s.former_link × s.cycle × s.whole_chain }
 {}
+
+/// The page that is told of where memory is out.
+pub fn out_of_memory()
+    ensures { s.out_at_the_first × s.out_at_none × s.out_behind_all }
+{}
