@@ -80,18 +80,18 @@ same_added q file other over link more mine bytes fit as_long as_wide here there
     here ∙ (λ i. added_to file q (same i) (behind i))
 
 -- a file that continues a former one, and a file of its length with a new link and more bytes behind it: these are the former file's
-pub gathered : (kind : FileKind) (q : ℕ) (file told : List ℕ) (a : Addition) → q + offset_len kind ≤ length file → Continues kind q file told
-    → IsAddedTo told (length file) q (offset_len kind) a → (told ≡ added_to file q a.link.items a.more.items) × (length a.link.items ≡ offset_len kind)
-gathered kind q file told a room c added =
+pub gathered : (kind : FileKind) (q : ℕ) (file contents : List ℕ) (a : Addition) → q + offset_len kind ≤ length file → Continues kind q file contents
+    → IsAddedTo contents (length file) q (offset_len kind) a → (contents ≡ added_to file q a.link.items a.more.items) × (length a.link.items ≡ offset_len kind)
+gathered kind q file contents a room c added =
     let fit : q + length c.over ≤ length file = omega (arith, c.whole, room) in (
-      same_added q file added.file c.over a.link.items c.more a.more.items told fit added.len_is (added.size_is ∙ sym c.whole) c.bytes added.whole,
+      same_added q file added.file c.over a.link.items c.more a.more.items contents fit added.len_is (added.size_is ∙ sym c.whole) c.bytes added.whole,
       added.size_is,
     )
 
 -- A file that goes on at a link behind a former file's bytes continues the former file too.
-pub goes_on : (kind : FileKind) (q slot : ℕ) (file told left : List ℕ) → q + offset_len kind ≤ length file → length file ≤ slot → Continues kind q file told
-    → Continues kind slot told left → Continues kind q file left
-goes_on kind q slot file told left room behind c d =
+pub goes_on : (kind : FileKind) (q slot : ℕ) (file contents left : List ℕ) → q + offset_len kind ≤ length file → length file ≤ slot → Continues kind q file contents
+    → Continues kind slot contents left → Continues kind q file left
+goes_on kind q slot file contents left room behind c d =
     let fit : q + length c.over ≤ length file = omega (arith, c.whole, room) in
     record {
       over = c.over;
@@ -105,16 +105,16 @@ goes_on kind q slot file told left room behind c d =
     }
 
 -- what jobs leave continues the bytes that they go on behind
-pub continues : (kind : FileKind) (told : List ℕ) (q : ℕ) (jobs : List Job) (earlier all : List JobReply) (left : List ℕ) → RunsAt kind told q jobs earlier all left
-    → Continues kind q told left
-continues kind told q jobs earlier all left r =
-    subst (Continues kind q told) (sym r.left_is) (jobs_continue kind told r.failures q jobs earlier all r.last r.within r.moves)
+pub continues : (kind : FileKind) (contents : List ℕ) (q : ℕ) (jobs : List Job) (earlier all : List JobReply) (left : List ℕ) → RunsAt kind contents q jobs earlier all left
+    → Continues kind q contents left
+continues kind contents q jobs earlier all left r =
+    subst (Continues kind q contents) (sym r.left_is) (jobs_continue kind contents r.failures q jobs earlier all r.last r.within r.moves)
 
 -- what jobs leave behind a file, of the bytes of the sink
-pub ran_behind : (kind : FileKind) (file told : List ℕ) (q : ℕ) (jobs : List Job) (earlier all : List JobReply) (left : List ℕ) (a : Addition) → told ≡ file
-    → RunsAt kind told q jobs earlier all left → IsAddedTo left (length file) q (offset_len kind) a
+pub ran_behind : (kind : FileKind) (file contents : List ℕ) (q : ℕ) (jobs : List Job) (earlier all : List JobReply) (left : List ℕ) (a : Addition) → contents ≡ file
+    → RunsAt kind contents q jobs earlier all left → IsAddedTo left (length file) q (offset_len kind) a
     → RunsBehind kind file q jobs earlier all a.link.items a.more.items
-ran_behind kind file told q jobs earlier all left a same runs added =
+ran_behind kind file contents q jobs earlier all left a same runs added =
     let Runs : List ℕ → Type 0 = λ b. RunsAt kind b q jobs earlier all left in
     let here : RunsAt kind file q jobs earlier all left = subst Runs same runs in
     let g = gathered kind q file left a here.within (continues kind file q jobs earlier all left here) added in

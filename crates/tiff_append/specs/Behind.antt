@@ -15,14 +15,14 @@ use Rattle.tiff_append.specs.declared.sink.BehindSink.{BehindSink}
 pub use Rattle.tiff_append.specs.Added.{added_to}
 
 -- the bytes of a sink that goes on behind a file
-abbrev pub behind_told : BehindSink → List ℕ
-behind_told s = added_to s.file.now s.at s.link.items s.more.items
+abbrev pub behind_contents : BehindSink → List ℕ
+behind_contents s = added_to s.file.now s.at s.link.items s.more.items
 
 -- The bytes of a sink are those of a file of `len` bytes, with a link of `size` bytes at an offset,
 -- and more bytes behind it.
-pub record IsAddedTo (told : List ℕ) (len at size : ℕ) (a : Addition) : Type 0 where
+pub record IsAddedTo (contents : List ℕ) (len at size : ℕ) (a : Addition) : Type 0 where
   pub file : List ℕ
-  pub whole : told ≡ added_to file at a.link.items a.more.items
+  pub whole : contents ≡ added_to file at a.link.items a.more.items
   pub len_is : length file ≡ len
   pub size_is : length a.link.items ≡ size
 

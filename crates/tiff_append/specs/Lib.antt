@@ -1,5 +1,5 @@
 pub mod LastLink
-pub mod Unkept
+pub mod GhostBytes
 pub mod Added
 pub mod Source
 pub mod Behind

@@ -180,12 +180,12 @@ pub fn walk_all<R: Source>(
     kind: FileKind,
     first: u64,
 ) -> TiffResult<IfdChainWalk>
-    ensures kept { IsKept R.told R.failures result source.old source.new }
-    ensures begins { IfOk result (ChainBegins kind LittleEndian (R.told source.old).bytes first) }
-    ensures ends { IfOk result (λ walk. ChainEnds kind LittleEndian (R.told source.old).bytes first walk None) }
+    ensures kept { IsKept R.contents R.failures result source.old source.new }
+    ensures begins { IfOk result (ChainBegins kind LittleEndian (R.contents source.old).bytes first) }
+    ensures ends { IfOk result (λ walk. ChainEnds kind LittleEndian (R.contents source.old).bytes first walk None) }
     ensures cut { IfErr result
         (λ e. IsCause (Unit {0}) (R.failures source.old < R.failures source.new) e
-        ((chain kind LittleEndian (R.told source.old).bytes first).end ≡ Some e)) }
+        ((chain kind LittleEndian (R.contents source.old).bytes first).end ≡ Some e)) }
 {
     let mut walk = IfdChainWalk::new(alloc, first);
     let order = ByteOrder::LittleEndian;

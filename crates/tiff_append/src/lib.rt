@@ -6,4 +6,4 @@ pub mod last_link;
 pub mod run;
 pub mod sink;
 pub mod source;
-pub mod unkept;
+pub mod ghost_bytes;

@@ -24,9 +24,9 @@ pub fn run_at<W: Sink, K: TiffKind>(
     jobs: &[Job<'_>],
     replies: &mut Vec<JobReply>,
 ) -> TiffResult<W>
-    ensures { MatchResult result (λ last. RunsAt K.kind (W.told sink) link jobs.now replies.old.items
-        replies.new.items (W.told last))
-        (RefusesLink (length (W.told sink)) link (offset_len K.kind)) }
+    ensures { MatchResult result (λ last. RunsAt K.kind (W.contents sink) link jobs.now replies.old.items
+        replies.new.items (W.contents last))
+        (RefusesLink (length (W.contents sink)) link (offset_len K.kind)) }
 {
     let mut encoder = TiffEncoder::<W, K>::append_to(alloc, sink, link)?;
     run_jobs_in(&mut encoder, jobs, replies)?;

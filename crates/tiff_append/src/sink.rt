@@ -4,7 +4,7 @@ ghost use Rattle.std.specs.Prelude.{◌≡◌, ◌+◌, ◌^◌, ◌≤◌, ◌<
 ghost use Rattle.tiff_base.specs.SourceAndSink.{put};
 
 use crate::source::AddedSource;
-use crate::unkept::Unkept;
+use crate::ghost_bytes::GhostBytes;
 use std::alloc::Global;
 use tiff_base::error::{TiffError, TiffResult};
 use tiff_base::io::{ByteRun, IoKind, Sink, SinkFault};
@@ -26,7 +26,7 @@ pub struct BehindSink<'a> {
     link: Vec<u8>,
     more: Vec<u8>,
     // one byte for each write that failed
-    failed: Unkept,
+    failed: GhostBytes,
     fault: Option<SinkFault>,
     ghost within: { at + length link.items ≤ length file.now },
     ghost short: { length file.now + length more.items < 2 ^ 63 },
@@ -58,14 +58,14 @@ fn overwrite_in(items: &mut Vec<u8>, from: usize, bytes: &[u8])
 
 impl<'a> BehindSink<'a> {
     ghost use Rattle.tiff_base.specs.SourceAndSink.{Appends, Overwrites};
-    ghost use Rattle.tiff_append.specs.Behind.{IsAddedTo, RefusesLink, behind_told};
+    ghost use Rattle.tiff_append.specs.Behind.{IsAddedTo, RefusesLink, behind_contents};
     ghost use Rattle.tiff_append.specs.Source.{added_bytes};
 
     /// Makes a sink that contains a file, of which the `size` bytes at an offset are the link that it
     /// overwrites. Errors: `IoError(InvalidInput)` if the link isn't within the file; `OutOfMemory`.
     #[tactic(auto, using(crate::proofs::Behind::first_added))]
     pub fn new(alloc: Global, file: &'a [u8], at: usize, size: usize) -> TiffResult<Self>
-        ensures told { IfOk result (λ s. behind_told s ≡ file.now) }
+        ensures contents { IfOk result (λ s. behind_contents s ≡ file.now) }
         ensures within { IfOk result (λ _. at + size ≤ length file.now) }
         ensures err { IfErr result (RefusesLink (length file.now) at size) }
     {
@@ -81,7 +81,7 @@ impl<'a> BehindSink<'a> {
             at,
             link,
             more: Vec::new(alloc),
-            failed: Unkept::new(),
+            failed: GhostBytes::new(),
             fault: None,
         })
     }
@@ -89,7 +89,7 @@ impl<'a> BehindSink<'a> {
     /// Returns what was written behind the file, if the file has `len` bytes and its link is the
     /// `size` bytes at this offset.
     pub fn into_addition(self, len: usize, at: usize, size: usize) -> Option<Addition>
-        ensures { IfSome result (λ a. IsAddedTo (behind_told self.entry) len at size a) }
+        ensures { IfSome result (λ a. IsAddedTo (behind_contents self.entry) len at size a) }
     {
         let BehindSink {
             file,
@@ -107,15 +107,15 @@ impl<'a> BehindSink<'a> {
 
     /// A source of the bytes of the sink, which lends them.
     pub fn source(&self) -> AddedSource<'_>
-        ensures { added_bytes result ≡ behind_told self.now }
+        ensures { added_bytes result ≡ behind_contents self.now }
     {
         AddedSource::new(self.file, self.at, &self.link, &self.more)
     }
 
     // Appends bytes behind the file.
     fn add(&mut self, bytes: &[u8]) -> Result<usize, SinkFault>
-        ensures ok { IfOk result (λ n. Appends (behind_told self.old) bytes.now n (behind_told self.new)) }
-        ensures err { OnErr result (behind_told self.new ≡ behind_told self.old) }
+        ensures ok { IfOk result (λ n. Appends (behind_contents self.old) bytes.now n (behind_contents self.new)) }
+        ensures err { OnErr result (behind_contents self.new ≡ behind_contents self.old) }
         ensures failed { self.new.failed ≡ self.old.failed }
     {
         // `self.len()` would be the call of a borrowed sink, which has all calls of this one.
@@ -128,9 +128,9 @@ impl<'a> BehindSink<'a> {
 
     // Overwrites the front of the link, or bytes behind the file.
     fn change(&mut self, at: u64, bytes: &[u8]) -> Result<usize, SinkFault>
-        requires { at + length bytes.now ≤ length (behind_told self.old) }
-        ensures ok { IfOk result (λ n. Overwrites (behind_told self.old) at bytes.now n (behind_told self.new)) }
-        ensures err { OnErr result (behind_told self.new ≡ behind_told self.old) }
+        requires { at + length bytes.now ≤ length (behind_contents self.old) }
+        ensures ok { IfOk result (λ n. Overwrites (behind_contents self.old) at bytes.now n (behind_contents self.new)) }
+        ensures err { OnErr result (behind_contents self.new ≡ behind_contents self.old) }
         ensures failed { self.new.failed ≡ self.old.failed }
     {
         let len = self.file.len() as u64;
@@ -148,7 +148,7 @@ impl<'a> BehindSink<'a> {
     // Keeps the error of a write, if it failed, and counts it. Returns the answer of the write.
     fn noted(&mut self, answer: Result<usize, SinkFault>) -> Result<usize, SinkFault>
         ensures same { result ≡ answer }
-        ensures told { behind_told self.new ≡ behind_told self.old }
+        ensures contents { behind_contents self.new ≡ behind_contents self.old }
         ensures ok { OnOk answer ((self.new.failed ≡ self.old.failed) × (self.new.fault ≡ None)) }
         ensures err { IfErr answer (λ e. (length self.new.failed ≡ length self.old.failed + 1)
             × (self.new.fault ≡ Some e)) }
@@ -165,9 +165,9 @@ impl Sink for BehindSink<'_> {
     ghost use Rattle.std.proofs.Common.{arith, length-append};
     ghost use Rattle.tiff_base.specs.SourceAndSink.{put};
     ghost use Rattle.tiff_encode.proofs.Slices.{length_put};
-    ghost use Rattle.tiff_append.specs.Behind.{behind_told};
+    ghost use Rattle.tiff_append.specs.Behind.{behind_contents};
 
-    ghost told = { behind_told };
+    ghost contents = { behind_contents };
 
     ghost failures = { λ s. length s.failed };
 

@@ -76,7 +76,7 @@ impl<'a> AddedSource<'a> {
 impl Source for AddedSource<'_> {
     ghost use Rattle.tiff_append.specs.Source.{added_bytes};
 
-    ghost told = { λ s. record { bytes = added_bytes s; readable = None } };
+    ghost contents = { λ s. record { bytes = added_bytes s; readable = None } };
 
     ghost failures = { λ _. 0 };
 

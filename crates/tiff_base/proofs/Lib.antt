@@ -10,7 +10,7 @@ mod Named
 mod Extended
 pub mod After
 pub mod Ahead
-pub mod Told
+pub mod Contents
 pub mod Fits
 pub mod Held
 mod Lasts

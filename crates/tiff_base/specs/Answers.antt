@@ -60,22 +60,22 @@ IsNotDevice e = Unit {0}
 -- A call asks a source for no other bytes: if these bytes are readable, it does not return
 -- `IoError(Device)`. No failed read is ignored. A call that asked for another byte would therefore
 -- fail on a source where only these bytes are readable.
-abbrev pub AsksOnly : {X : Type 0} → Type 0 → Result X TiffError → Type 0
-AsksOnly readable (Ok x) = Unit {0}
-AsksOnly readable (Err e) = readable → IsNotDevice e
+abbrev pub ReadsOnly : {X : Type 0} → Type 0 → Result X TiffError → Type 0
+ReadsOnly readable (Ok x) = Unit {0}
+ReadsOnly readable (Err e) = readable → IsNotDevice e
 
 -- What a call that borrows a source leaves of it, with the result of the call: the contents of the
 -- source are the same, and its number of failures does not shrink. The number grows only with
 -- `IoError(Device)`.
-pub record IsKept {S W X : Type 0} (told_of : S → W) (failures_of : S
+pub record IsKept {S W X : Type 0} (contents_of : S → W) (failures_of : S
     → ℕ) (result : Result X TiffError) (old new : S) : Type 0 where
-  pub told : told_of new ≡ told_of old
+  pub contents : contents_of new ≡ contents_of old
   pub failures : failures_of old ≤ failures_of new
   pub swallowed : NoneSwallowed result (failures_of old) (failures_of new)
 
 -- A source or a sink that a caller handed over failed: it reached some state with the same contents
 -- and more failures.
-pub record FailsFrom {S W : Type 0} (told_of : S → W) (failures_of : S → ℕ) (old : S) : Type 0 where
+pub record FailsFrom {S W : Type 0} (contents_of : S → W) (failures_of : S → ℕ) (old : S) : Type 0 where
   pub last : S
-  pub told : told_of last ≡ told_of old
+  pub contents : contents_of last ≡ contents_of old
   pub grew : failures_of old < failures_of last

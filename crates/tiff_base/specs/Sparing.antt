@@ -8,9 +8,9 @@ use Rattle.tiff_base.specs.Answers.{AnswersBut}
 
 -- The result of a call that reads a source: `OutOfMemory` only if the defined result is not an
 -- error.
-abbrev pub AnswersSparingly : {X Y : Type 0} → (X → Y) → Result X TiffError → Result Y TiffError → ℕ
+abbrev pub AnswersOrNoMemory : {X Y : Type 0} → (X → Y) → Result X TiffError → Result Y TiffError → ℕ
     → ℕ → Type 0
-AnswersSparingly view result given before after =
+AnswersOrNoMemory view result given before after =
     AnswersBut (IsOk given) (before < after) view result given
 
 -- The result of a call that reads no source: `OutOfMemory` only if the defined result is not an

@@ -12,7 +12,7 @@ ghost use Rattle.tiff_base.specs.Field.{AreEntries, Field, IsEntry};
 ghost use Rattle.tiff_base.specs.Place.{IsAscending, IsBehind, IsGapFor, IsPlaceOf};
 
 use crate::error::TiffResult;
-use crate::gathered::left_in_order;
+use crate::gathered::last_of_each_tag;
 pub use crate::place::{KeyCount, find_place};
 use crate::tags::{IfdPointer, Tag, Type};
 use std::alloc::{AllocError, Global};
@@ -168,7 +168,7 @@ impl Directory {
         // Sorted once: 65,535 fields may come in descending order, and to insert each would move
         // all behind it.
         Ok(Directory {
-            entries: left_in_order(entries)?,
+            entries: last_of_each_tag(entries)?,
             next: 0,
         })
     }

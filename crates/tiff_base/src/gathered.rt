@@ -34,7 +34,7 @@ fn ascends(entries: &[(u16, Entry)]) -> bool
 
 /// Returns the last pair of each tag number, in strictly ascending number. Pairs whose numbers
 /// already ascend strictly stay unchanged.
-pub fn left_in_order(mut entries: Vec<(u16, Entry)>) -> Result<Vec<(u16, Entry)>, AllocError>
+pub fn last_of_each_tag(mut entries: Vec<(u16, Entry)>) -> Result<Vec<(u16, Entry)>, AllocError>
     ensures ascending { IfOk result (λ left. IsAscending left.items) }
     ensures last { IfOk result (λ left. map.from_entries left.items ≡ last_of_each entries.items) }
     ensures each { IfOk result (λ left. All IsEntry left.items) }

@@ -50,7 +50,7 @@ pub enum SinkFault {
 pub trait Source: Drop {
     /// The bytes of the source, and the stretches of them that are readable. A read that asks only
     /// for bytes in these stretches succeeds. The bytes and the stretches never change.
-    ghost told: { Self → SourceRecord };
+    ghost contents: { Self → SourceRecord };
 
     /// The number of reads that failed so far.
     ghost failures: { Self → ℕ };
@@ -58,17 +58,17 @@ pub trait Source: Drop {
     /// Reads bytes from offset `at` on into the front of `buf`, and returns how many. It reads none
     /// only at the end of the source or for an empty buffer.
     fn read_at(&mut self, at: u64, buf: &mut [u8]) -> Result<usize, DeviceFault>
-        ensures told { told self.new ≡ told self.old }
-        ensures ok { IfOk result (λ n. Reads (told self.old).bytes at buf.old n buf.new) }
+        ensures contents { contents self.new ≡ contents self.old }
+        ensures ok { IfOk result (λ n. Reads (contents self.old).bytes at buf.old n buf.new) }
         ensures answered { OnOk result (failures self.new ≡ failures self.old) }
         ensures failed { OnErr result (failures self.old < failures self.new) }
-        ensures asked { AreReadable (told self.old) at (length buf.old) → IsOk result };
+        ensures asked { AreReadable (contents self.old) at (length buf.old) → IsOk result };
 
     /// Every offset of the source is below 2^64.
-    ghost offsets: { (s : Self) → length (told s).bytes < 2 ^ 64 };
+    ghost offsets: { (s : Self) → length (contents s).bytes < 2 ^ 64 };
 
     /// Each byte of the source is below 256.
-    ghost octets: { (s : Self) → AreOctets (told s).bytes };
+    ghost octets: { (s : Self) → AreOctets (contents s).bytes };
 }
 
 /// Sees bytes one by one, and may keep nothing of them.
@@ -103,7 +103,7 @@ pub trait ByteRun {
 /// Bytes that a caller can append to and overwrite.
 pub trait Sink: Drop {
     /// The bytes that the sink contains.
-    ghost told: { Self → List ℕ };
+    ghost contents: { Self → List ℕ };
 
     /// The number of writes that failed so far.
     ghost failures: { Self → ℕ };
@@ -113,13 +113,13 @@ pub trait Sink: Drop {
 
     /// Returns the number of bytes in the sink.
     fn len(&self) -> u64
-        ensures { result ≡ length (told self.now) };
+        ensures { result ≡ length (contents self.now) };
 
     /// Appends bytes at the end, and returns how many of `bytes` it takes from the front. It takes
     /// none only if `bytes` is empty. After an error the bytes of the sink are unchanged.
     fn append(&mut self, bytes: &[u8]) -> Result<usize, SinkFault>
-        ensures ok { IfOk result (λ n. Appends (told self.old) bytes.now n (told self.new)) }
-        ensures err { OnErr result (told self.new ≡ told self.old) }
+        ensures ok { IfOk result (λ n. Appends (contents self.old) bytes.now n (contents self.new)) }
+        ensures err { OnErr result (contents self.new ≡ contents self.old) }
         ensures answered { OnOk result ((failures self.new ≡ failures self.old) × (fault self.new ≡ None)) }
         ensures failed { IfErr result (λ e. (failures self.new ≡ failures self.old + 1)
             × (fault self.new ≡ Some e)) };
@@ -127,7 +127,7 @@ pub trait Sink: Drop {
     /// Makes room for `len` bytes that will be appended, if the sink can do so at once. It changes no
     /// byte, and may do nothing.
     fn reserve(&mut self, len: u64)
-        ensures bytes { told self.new ≡ told self.old }
+        ensures bytes { contents self.new ≡ contents self.old }
         ensures failures { failures self.new ≡ failures self.old }
         ensures fault { fault self.new ≡ fault self.old }
     {
@@ -137,8 +137,8 @@ pub trait Sink: Drop {
     /// Appends all bytes of a run at once, and returns their number. Returns `None` if the sink
     /// can't, and then does nothing. After an error the bytes of the sink are unchanged.
     fn append_run<B: ByteRun>(&mut self, run: &B) -> Option<Result<usize, SinkFault>>
-        ensures { AppendsRun (B.bytes run.now) (told self.old) (failures self.old) (fault self.old)
-            (told self.new) (failures self.new) (fault self.new) result }
+        ensures { AppendsRun (B.bytes run.now) (contents self.old) (failures self.old) (fault self.old)
+            (contents self.new) (failures self.new) (fault self.new) result }
     {
         let _none = run;
         None
@@ -148,15 +148,15 @@ pub trait Sink: Drop {
     /// front. It takes none only if `bytes` is empty. After an error the bytes of the sink are
     /// unchanged.
     fn overwrite(&mut self, at: u64, bytes: &[u8]) -> Result<usize, SinkFault>
-        requires { at + length bytes.now ≤ length (told self.old) }
-        ensures ok { IfOk result (λ n. Overwrites (told self.old) at bytes.now n (told self.new)) }
-        ensures err { OnErr result (told self.new ≡ told self.old) }
+        requires { at + length bytes.now ≤ length (contents self.old) }
+        ensures ok { IfOk result (λ n. Overwrites (contents self.old) at bytes.now n (contents self.new)) }
+        ensures err { OnErr result (contents self.new ≡ contents self.old) }
         ensures answered { OnOk result ((failures self.new ≡ failures self.old) × (fault self.new ≡ None)) }
         ensures failed { IfErr result (λ e. (failures self.new ≡ failures self.old + 1)
             × (fault self.new ≡ Some e)) };
 
     /// A sink contains less than 2^63 bytes.
-    ghost short: { (s : Self) → length (told s) < 2 ^ 63 };
+    ghost short: { (s : Self) → length (contents s) < 2 ^ 63 };
 }
 
 // Reads the bytes of a slice from an offset on, as many as there are and as fit in the buffer.
@@ -197,7 +197,7 @@ impl MemorySource {
 impl Source for MemorySource {
     ghost use Rattle.tiff_base.specs.Memory.{source_bytes};
 
-    ghost told = { λ s. record { bytes = source_bytes s; readable = None } };
+    ghost contents = { λ s. record { bytes = source_bytes s; readable = None } };
 
     ghost failures = { λ _. 0 };
 
@@ -233,7 +233,7 @@ impl<'a> SliceSource<'a> {
 impl Source for SliceSource<'_> {
     ghost use Rattle.tiff_base.specs.Memory.{slice_bytes};
 
-    ghost told = { λ s. record { bytes = slice_bytes s; readable = None } };
+    ghost contents = { λ s. record { bytes = slice_bytes s; readable = None } };
 
     ghost failures = { λ _. 0 };
 
@@ -257,7 +257,7 @@ pub struct BufferedSource<S: Source> {
     held: usize,
     ghost full: { length buffer.items ≡ BUFFER_LEN },
     ghost in_buffer: { held ≤ BUFFER_LEN },
-    ghost holds: { take held buffer.items ≡ bytes_at (S.told source).bytes from held },
+    ghost holds: { take held buffer.items ≡ bytes_at (S.contents source).bytes from held },
 }
 
 impl<S: Source> BufferedSource<S> {
@@ -299,11 +299,11 @@ impl<S: Source> BufferedSource<S> {
 
     // Reads from the source at an offset into the buffer. After an error the buffer is empty.
     fn fill(&mut self, at: u64) -> Result<(), DeviceFault>
-        ensures told { S.told self.new.source ≡ S.told self.old.source }
-        ensures holds { OnOk result (HoldsByte (S.told self.new.source).bytes self.new.from self.new.held at) }
+        ensures contents { S.contents self.new.source ≡ S.contents self.old.source }
+        ensures holds { OnOk result (HoldsByte (S.contents self.new.source).bytes self.new.from self.new.held at) }
         ensures answered { OnOk result (S.failures self.new.source ≡ S.failures self.old.source) }
         ensures failed { OnErr result (S.failures self.old.source < S.failures self.new.source) }
-        ensures asked { AreReadable (S.told self.old.source) at BUFFER_LEN → IsOk result }
+        ensures asked { AreReadable (S.contents self.old.source) at BUFFER_LEN → IsOk result }
     {
         // A read that fails may leave anything in the buffer, so nothing counts as held before it.
         self.held = 0;
@@ -314,11 +314,11 @@ impl<S: Source> BufferedSource<S> {
 
     // Puts the byte at an offset into the buffer, if the source has this byte.
     fn hold(&mut self, at: u64) -> Result<(), DeviceFault>
-        ensures told { S.told self.new.source ≡ S.told self.old.source }
-        ensures holds { OnOk result (HoldsByte (S.told self.new.source).bytes self.new.from self.new.held at) }
+        ensures contents { S.contents self.new.source ≡ S.contents self.old.source }
+        ensures holds { OnOk result (HoldsByte (S.contents self.new.source).bytes self.new.from self.new.held at) }
         ensures answered { OnOk result (S.failures self.new.source ≡ S.failures self.old.source) }
         ensures failed { OnErr result (S.failures self.old.source < S.failures self.new.source) }
-        ensures asked { AreReadable (S.told self.old.source) at BUFFER_LEN → IsOk result }
+        ensures asked { AreReadable (S.contents self.old.source) at BUFFER_LEN → IsOk result }
     {
         if self.has(at) {
             return Ok(());
@@ -328,8 +328,8 @@ impl<S: Source> BufferedSource<S> {
 
     // Reads bytes from the buffer, from an offset of the source on.
     fn read_held(&self, at: u64, buf: &mut [u8]) -> usize
-        requires { HoldsByte (S.told self.now.source).bytes self.now.from self.now.held at }
-        ensures { Reads (S.told self.now.source).bytes at buf.old result buf.new }
+        requires { HoldsByte (S.contents self.now.source).bytes self.now.from self.now.held at }
+        ensures { Reads (S.contents self.now.source).bytes at buf.old result buf.new }
     {
         read_of(&self.buffer[..self.held], at - self.from, buf)
     }
@@ -338,7 +338,7 @@ impl<S: Source> BufferedSource<S> {
 impl<S: Source> Source for BufferedSource<S> {
     ghost use Rattle.tiff_base.specs.Memory.{buffered};
 
-    ghost told = { λ s. buffered (S.told s.source) };
+    ghost contents = { λ s. buffered (S.contents s.source) };
 
     ghost failures = { λ s. S.failures s.source };
 
@@ -410,7 +410,7 @@ impl Sink for MemorySink {
     ghost use Rattle.tiff_base.specs.declared.io.SinkFault.TheVariants.{OutOfMemory};
     ghost use Rattle.tiff_base.specs.Memory.{sink_bytes};
 
-    ghost told = { sink_bytes };
+    ghost contents = { sink_bytes };
 
     ghost failures = { λ s. s.failed };
 
@@ -458,7 +458,7 @@ impl Sink for MemorySink {
 }
 
 impl<S: Source> Source for &mut S {
-    ghost told = { λ s. S.told s.now };
+    ghost contents = { λ s. S.contents s.now };
 
     ghost failures = { λ s. S.failures s.now };
 
@@ -472,7 +472,7 @@ impl<S: Source> Source for &mut S {
 }
 
 impl<S: Sink> Sink for &mut S {
-    ghost told = { λ s. S.told s.now };
+    ghost contents = { λ s. S.contents s.now };
 
     ghost failures = { λ s. S.failures s.now };
 

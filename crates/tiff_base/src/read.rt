@@ -4,8 +4,8 @@ ghost use Rattle.std.specs.Prelude.{◌≡◌, ◌+◌, ◌-◌, ◌≤◌, leng
 ghost use Rattle.std.specs.Int.{w16, w32, w64};
 ghost use Rattle.tiff_base.specs.SourceAndSink.{AreReadable, bytes_at, exactly_at};
 ghost use Rattle.tiff_base.specs.Number.{number, number_at};
-ghost use Rattle.tiff_base.specs.Answers.{Answers, AnswersWithoutMemory, AsksOnly, IsKept};
-ghost use Rattle.tiff_base.specs.Sparing.{AnswersSparingly};
+ghost use Rattle.tiff_base.specs.Answers.{Answers, AnswersWithoutMemory, ReadsOnly, IsKept};
+ghost use Rattle.tiff_base.specs.Sparing.{AnswersOrNoMemory};
 
 use crate::error::{TiffError, TiffResult};
 use crate::io::{IoKind, Source};
@@ -17,13 +17,13 @@ use std::alloc::Global;
 #[inline(never)]
 fn read_rest<R: Source>(source: &mut R, at: u64, buf: &mut [u8], n: usize) -> TiffResult<()>
     requires in_buffer { n ≤ length buf.old }
-    requires in_bytes { n ≤ length (R.told source.old).bytes - at }
-    requires so_far { take n buf.old ≡ bytes_at (R.told source.old).bytes at n }
-    ensures kept { IsKept R.told R.failures result source.old source.new }
+    requires in_bytes { n ≤ length (R.contents source.old).bytes - at }
+    requires so_far { take n buf.old ≡ bytes_at (R.contents source.old).bytes at n }
+    ensures kept { IsKept R.contents R.failures result source.old source.new }
     ensures answer { AnswersWithoutMemory (λ _. buf.new) result
-        (exactly_at (R.told source.old).bytes at (length buf.old)) (R.failures source.old)
+        (exactly_at (R.contents source.old).bytes at (length buf.old)) (R.failures source.old)
         (R.failures source.new) }
-    ensures asked { AsksOnly (AreReadable (R.told source.old) at (length buf.old)) result }
+    ensures asked { ReadsOnly (AreReadable (R.contents source.old) at (length buf.old)) result }
 {
     let mut done = n;
     while done < buf.len() {
@@ -44,11 +44,11 @@ fn read_rest<R: Source>(source: &mut R, at: u64, buf: &mut [u8], n: usize) -> Ti
 #[tactic(auto, using(crate::proofs::Bytes::next_read))]
 #[inline(always)]
 pub fn read_exact_at<R: Source>(source: &mut R, at: u64, buf: &mut [u8]) -> TiffResult<()>
-    ensures kept { IsKept R.told R.failures result source.old source.new }
+    ensures kept { IsKept R.contents R.failures result source.old source.new }
     ensures answer { AnswersWithoutMemory (λ _. buf.new) result
-        (exactly_at (R.told source.old).bytes at (length buf.old)) (R.failures source.old)
+        (exactly_at (R.contents source.old).bytes at (length buf.old)) (R.failures source.old)
         (R.failures source.new) }
-    ensures asked { AsksOnly (AreReadable (R.told source.old) at (length buf.old)) result }
+    ensures asked { ReadsOnly (AreReadable (R.contents source.old) at (length buf.old)) result }
 {
     // Inlined up to the loop over rows: a `TiffResult` of 48 bytes is returned through memory, and
     // to read it back waits for the stores of the row that was copied.
@@ -76,10 +76,10 @@ pub fn read_bytes_at<R: Source>(
     at: u64,
     len: usize,
 ) -> TiffResult<Vec<u8>>
-    ensures kept { IsKept R.told R.failures result source.old source.new }
-    ensures answer { AnswersSparingly (λ v. v.items) result (exactly_at (R.told source.old).bytes at len)
+    ensures kept { IsKept R.contents R.failures result source.old source.new }
+    ensures answer { AnswersOrNoMemory (λ v. v.items) result (exactly_at (R.contents source.old).bytes at len)
         (R.failures source.old) (R.failures source.new) }
-    ensures asked { AsksOnly (AreReadable (R.told source.old) at len) result }
+    ensures asked { ReadsOnly (AreReadable (R.contents source.old) at len) result }
 {
     if len > 0 {
         let Some(last) = at.checked_add(len as u64 - 1) else {
@@ -181,10 +181,10 @@ pub fn u64_in(order: ByteOrder, bytes: &[u8], at: usize) -> u64
 /// Reads the two bytes of the source at offset `at` as a number. Returns `IoError(UnexpectedEof)`
 /// if the source has fewer bytes there.
 pub fn read_u16_at<R: Source>(source: &mut R, at: u64, order: ByteOrder) -> TiffResult<u16>
-    ensures kept { IsKept R.told R.failures result source.old source.new }
-    ensures answer { AnswersWithoutMemory (λ n. n) result (number_at order w16 (R.told source.old).bytes at)
+    ensures kept { IsKept R.contents R.failures result source.old source.new }
+    ensures answer { AnswersWithoutMemory (λ n. n) result (number_at order w16 (R.contents source.old).bytes at)
         (R.failures source.old) (R.failures source.new) }
-    ensures asked { AsksOnly (AreReadable (R.told source.old) at 2) result }
+    ensures asked { ReadsOnly (AreReadable (R.contents source.old) at 2) result }
 {
     let mut bytes = [0u8; 2];
     read_exact_at(source, at, &mut bytes)?;
@@ -194,10 +194,10 @@ pub fn read_u16_at<R: Source>(source: &mut R, at: u64, order: ByteOrder) -> Tiff
 /// Reads the four bytes of the source at offset `at` as a number. Returns `IoError(UnexpectedEof)`
 /// if the source has fewer bytes there.
 pub fn read_u32_at<R: Source>(source: &mut R, at: u64, order: ByteOrder) -> TiffResult<u32>
-    ensures kept { IsKept R.told R.failures result source.old source.new }
-    ensures answer { AnswersWithoutMemory (λ n. n) result (number_at order w32 (R.told source.old).bytes at)
+    ensures kept { IsKept R.contents R.failures result source.old source.new }
+    ensures answer { AnswersWithoutMemory (λ n. n) result (number_at order w32 (R.contents source.old).bytes at)
         (R.failures source.old) (R.failures source.new) }
-    ensures asked { AsksOnly (AreReadable (R.told source.old) at 4) result }
+    ensures asked { ReadsOnly (AreReadable (R.contents source.old) at 4) result }
 {
     let mut bytes = [0u8; 4];
     read_exact_at(source, at, &mut bytes)?;
@@ -207,10 +207,10 @@ pub fn read_u32_at<R: Source>(source: &mut R, at: u64, order: ByteOrder) -> Tiff
 /// Reads the eight bytes of the source at offset `at` as a number. Returns `IoError(UnexpectedEof)`
 /// if the source has fewer bytes there.
 pub fn read_u64_at<R: Source>(source: &mut R, at: u64, order: ByteOrder) -> TiffResult<u64>
-    ensures kept { IsKept R.told R.failures result source.old source.new }
-    ensures answer { AnswersWithoutMemory (λ n. n) result (number_at order w64 (R.told source.old).bytes at)
+    ensures kept { IsKept R.contents R.failures result source.old source.new }
+    ensures answer { AnswersWithoutMemory (λ n. n) result (number_at order w64 (R.contents source.old).bytes at)
         (R.failures source.old) (R.failures source.new) }
-    ensures asked { AsksOnly (AreReadable (R.told source.old) at 8) result }
+    ensures asked { ReadsOnly (AreReadable (R.contents source.old) at 8) result }
 {
     let mut bytes = [0u8; 8];
     read_exact_at(source, at, &mut bytes)?;

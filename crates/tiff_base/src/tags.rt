@@ -7,7 +7,7 @@ ghost use Rattle.tiff_base.specs.ByteOrders.{convert, unit_size};
 ghost use Rattle.tiff_base.specs.Types.{type_size};
 ghost use Rattle.tiff_base.specs.declared.tags.ByteOrder.TheVariants.{LittleEndian};
 
-use crate::turn::turn_units;
+use crate::turn::swap_bytes;
 use std::fmt;
 
 /// Gives the value of a number, from the rows of a table below; `Unknown` if no row has the number.
@@ -606,8 +606,8 @@ impl ByteOrder {
         match (self, to) {
             (ByteOrder::LittleEndian, ByteOrder::LittleEndian) => return,
             (ByteOrder::BigEndian, ByteOrder::BigEndian) => return,
-            (ByteOrder::LittleEndian, ByteOrder::BigEndian) => turn_units(buffer, unit_size(ty)),
-            (ByteOrder::BigEndian, ByteOrder::LittleEndian) => turn_units(buffer, unit_size(ty)),
+            (ByteOrder::LittleEndian, ByteOrder::BigEndian) => swap_bytes(buffer, unit_size(ty)),
+            (ByteOrder::BigEndian, ByteOrder::LittleEndian) => swap_bytes(buffer, unit_size(ty)),
         }
     }
 }

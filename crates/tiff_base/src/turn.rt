@@ -52,7 +52,7 @@ fn turn_plain(buffer: &mut [u8], size: usize)
 }
 
 // Reverses the bytes of each two-byte number, sixteen bytes at once, and the rest one by one.
-fn turn_units_2(buffer: &mut [u8])
+fn swap_bytes_2(buffer: &mut [u8])
     ensures { buffer.new ≡ turned_units 2 (length buffer.old / 2) buffer.old }
 {
     let parts = buffer.len() / 16;
@@ -64,7 +64,7 @@ fn turn_units_2(buffer: &mut [u8])
 }
 
 // Reverses the bytes of each four-byte number, sixteen bytes at once, and the rest one by one.
-fn turn_units_4(buffer: &mut [u8])
+fn swap_bytes_4(buffer: &mut [u8])
     ensures { buffer.new ≡ turned_units 4 (length buffer.old / 4) buffer.old }
 {
     let parts = buffer.len() / 16;
@@ -76,7 +76,7 @@ fn turn_units_4(buffer: &mut [u8])
 }
 
 // Reverses the bytes of each eight-byte number, sixteen bytes at once, and the rest one by one.
-fn turn_units_8(buffer: &mut [u8])
+fn swap_bytes_8(buffer: &mut [u8])
     ensures { buffer.new ≡ turned_units 8 (length buffer.old / 8) buffer.old }
 {
     let parts = buffer.len() / 16;
@@ -88,14 +88,14 @@ fn turn_units_8(buffer: &mut [u8])
 }
 
 // Reverses the bytes of each whole number of `size` bytes.
-pub(crate) fn turn_units(buffer: &mut [u8], size: usize)
+pub(crate) fn swap_bytes(buffer: &mut [u8], size: usize)
     requires { 0 < size }
     ensures { buffer.new ≡ turned_units size (length buffer.old / size) buffer.old }
 {
     match size {
-        2 => turn_units_2(buffer),
-        4 => turn_units_4(buffer),
-        8 => turn_units_8(buffer),
+        2 => swap_bytes_2(buffer),
+        4 => swap_bytes_4(buffer),
+        8 => swap_bytes_8(buffer),
         _ => turn_plain(buffer, size),
     }
 }

@@ -231,7 +231,7 @@ impl<'a, F: SeenFile> WindowSource<'a, F> {
 }
 
 impl<F: SeenFile> Source for WindowSource<'_, F> {
-    ghost told = { λ s. seen_by s.windows.seen F.bytes };
+    ghost contents = { λ s. seen_by s.windows.seen F.bytes };
 
     ghost failures = { λ s. s.failed };
 

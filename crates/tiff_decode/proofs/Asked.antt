@@ -7,7 +7,7 @@ use Rattle.tiff_base.specs.declared.error.TiffError.{TiffError}
 use Rattle.tiff_base.specs.declared.tags.ByteOrder.{ByteOrder}
 use Rattle.tiff_base.specs.declared.tags.FileKind.{FileKind}
 use Rattle.tiff_base.specs.declared.tags.IfdPointer.{IfdPointer}
-use Rattle.tiff_base.specs.Answers.{AsksOnly, IsNotDevice}
+use Rattle.tiff_base.specs.Answers.{ReadsOnly, IsNotDevice}
 use Rattle.tiff_base.specs.Directory.{directory_at}
 use Rattle.tiff_base.specs.Field.{DirectoryRecord}
 use Rattle.tiff_base.specs.Header.{Header, header_at}
@@ -57,7 +57,7 @@ opened_page s t header directory e same h asked opened =
 
 -- the page of a directory that was read
 pub entered_page : {X : Type 0} (s t : SourceRecord) (kind : FileKind) (order : ByteOrder) (at : ℕ) (directory : DirectoryRecord) (r : Result X TiffError) → t ≡ s
-    → directory_at kind order s.bytes at ≡ Ok directory → AsksOnly (PageReadable t kind order directory) r → AsksOnly (EntryReadable s kind order at) r
+    → directory_at kind order s.bytes at ≡ Ok directory → ReadsOnly (PageReadable t kind order directory) r → ReadsOnly (EntryReadable s kind order at) r
 entered_page s t kind order at directory r same h asked =
     asks_more (PageReadable t kind order directory) (EntryReadable s kind order at) r
     (λ q. subst (λ (x : SourceRecord). PageReadable x kind order directory) (sym same) (q.page directory h)) asked
@@ -66,9 +66,9 @@ entered_page s t kind order at directory r same h asked =
 
 -- the directory of an index
 pub sought_entry : {X : Type 0} (d old : Decoding) (t : SourceRecord) (index at : ℕ) (r : Result X TiffError) → d ≡ old → t ≡ source_of d
-    → slice_get (chain_of d).offsets index ≡ Some at → AsksOnly (EntryReadable t d.kind d.order at) r → AsksOnly (SeekReadable old index) r
+    → slice_get (chain_of d).offsets index ≡ Some at → ReadsOnly (EntryReadable t d.kind d.order at) r → ReadsOnly (SeekReadable old index) r
 sought_entry d old t index at r seen same h asked =
-    subst (λ (x : Decoding). AsksOnly (SeekReadable x index) r) seen
+    subst (λ (x : Decoding). ReadsOnly (SeekReadable x index) r) seen
     (asks_more (EntryReadable t d.kind d.order at) (SeekReadable d index) r
     (λ q. subst (λ (x : SourceRecord). EntryReadable x d.kind d.order at) (sym same) (q.entry at h)) asked)
 
@@ -79,9 +79,9 @@ sought_way d old index e seen asked q = asked ((subst (λ (x : Decoding). SeekRe
 
 -- the next directory of the chain
 pub next_entry : {X : Type 0} (d old : Decoding) (t : SourceRecord) (at : ℕ) (r : Result X TiffError) → d ≡ old → t ≡ source_of d
-    → next_offset d.state.pointer (chain_of d).offsets ≡ Some at → AsksOnly (EntryReadable t d.kind d.order at) r → AsksOnly (NextPageReadable old) r
+    → next_offset d.state.pointer (chain_of d).offsets ≡ Some at → ReadsOnly (EntryReadable t d.kind d.order at) r → ReadsOnly (NextPageReadable old) r
 next_entry d old t at r seen same h asked =
-    subst (λ (x : Decoding). AsksOnly (NextPageReadable x) r) seen
+    subst (λ (x : Decoding). ReadsOnly (NextPageReadable x) r) seen
     (asks_more (EntryReadable t d.kind d.order at) (NextPageReadable d) r
     (λ q. subst (λ (x : SourceRecord). EntryReadable x d.kind d.order at) (sym same) (q.entry at h)) asked)
 

@@ -8,7 +8,7 @@ use Rattle.tiff_base.specs.declared.io.IoKind.TheVariants.{UnexpectedEof, Invali
 use Rattle.tiff_base.specs.declared.tags.Tag.{Tag}
 use Rattle.tiff_base.specs.Answers.{Answers, AnswersWithoutMemory, NoneSwallowed}
 use Rattle.tiff_base.specs.Sparing.{IsOkOrList}
-use Rattle.tiff_page.specs.EarlyFaults.{WantsAfter}
+use Rattle.tiff_page.specs.EarlyFaults.{AllocatesAfter}
 use Rattle.tiff_decode.specs.declared.script.Call.{Call}
 use Rattle.tiff_decode.specs.declared.script.Reply.{Reply}
 use Rattle.tiff_decode.specs.Failures.{all_failures}
@@ -26,7 +26,7 @@ stands_here d = record { stands = refl; failures = omega arith }
 
 -- a call that may run out of memory only after certain errors
 pub wanted_after : {X Y : Type 0} (early : Result (Unit {0}) TiffError) (view : X → Y) (o : Outcome Y) (r : Result X TiffError) (old new : Decoding)
-    → Follows view o r old new → WantsAfter early r → FollowsBut (IsOkOrList early) view o r old new
+    → Follows view o r old new → AllocatesAfter early r → FollowsBut (IsOkOrList early) view o r old new
 wanted_after early view o (Ok x) old new h w = h
 wanted_after early view o (Err OutOfMemory) old new h w = (w refl, h.1)
 wanted_after early view o (Err (IoError Device)) old new h w = h

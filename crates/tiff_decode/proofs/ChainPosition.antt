@@ -185,13 +185,13 @@ none_found e o s old new f h a =
 -- ---- the view of a decoder
 
 -- the bytes of the file are the same, and no read failed
-pub told_same : (d : Decoding) (told : SourceRecord) (failures : ℕ) → told ≡ source_of d → failures ≡ d.failures
-    → record d { bytes = told.bytes; readable = told.readable; failures = failures } ≡ d
-told_same d told failures e f = λ i. record d { bytes = (e i).bytes; readable = (e i).readable; failures = f i }
+pub told_same : (d : Decoding) (contents : SourceRecord) (failures : ℕ) → contents ≡ source_of d → failures ≡ d.failures
+    → record d { bytes = contents.bytes; readable = contents.readable; failures = failures } ≡ d
+told_same d contents failures e f = λ i. record d { bytes = (e i).bytes; readable = (e i).readable; failures = f i }
 
-pub stands_told : (s : State) (d : Decoding) (told : SourceRecord) (failures : ℕ) → told ≡ source_of d → failures ≡ d.failures
-    → record d { bytes = told.bytes; readable = told.readable; failures = failures; state = s } ≡ record d { state = s }
-stands_told s d told failures e f = λ i. record d { bytes = (e i).bytes; readable = (e i).readable; failures = f i; state = s }
+pub stands_told : (s : State) (d : Decoding) (contents : SourceRecord) (failures : ℕ) → contents ≡ source_of d → failures ≡ d.failures
+    → record d { bytes = contents.bytes; readable = contents.readable; failures = failures; state = s } ≡ record d { state = s }
+stands_told s d contents failures e f = λ i. record d { bytes = (e i).bytes; readable = (e i).readable; failures = f i; state = s }
 
 pub shown : (o : Decoding → Call) (r : Result (Unit {0}) TiffError) (seen old new : Decoding) → seen ≡ old → Follows (λ x. x) (o seen) r seen new
     → Follows (λ x. x) (o old) r old new
@@ -310,21 +310,21 @@ none_of None h = refl
 none_of (Some p) h = absurd (h p refl)
 
 -- an error that leaves the decoder as it is
-pub stays_refused : (G : Type 0) (e : TiffError) (o : Call) (d : Decoding) (told : SourceRecord) (after : ℕ) → keeps_state e ≡ true → told ≡ source_of d
+pub stays_refused : (G : Type 0) (e : TiffError) (o : Call) (d : Decoding) (contents : SourceRecord) (after : ℕ) → keeps_state e ≡ true → contents ≡ source_of d
     → IsCause (Unit {0}) (d.failures < after) e G → d.failures ≤ after → NoneSwallowed {X = Unit {0}} (Err e) d.failures after
-    → Follows (λ x. x) o (Err e) d (record d { bytes = told.bytes; readable = told.readable; failures = after })
-stays_refused G OutOfMemory o d told after k t c l s = (tt, told_same d told after t s)
-stays_refused G (IoError Device) o d told after k t c l s =
+    → Follows (λ x. x) o (Err e) d (record d { bytes = contents.bytes; readable = contents.readable; failures = after })
+stays_refused G OutOfMemory o d contents after k t c l s = (tt, told_same d contents after t s)
+stays_refused G (IoError Device) o d contents after k t c l s =
     record { grew = c; at = record { stands = λ i. record d { bytes = (t i).bytes; readable = (t i).readable; failures = after }; failures = l } }
-stays_refused G (IoError UnexpectedEof) o d told after k t c l s = absurd (cc)
-stays_refused G (IoError InvalidData) o d told after k t c l s = absurd (cc)
-stays_refused G (IoError InvalidInput) o d told after k t c l s = absurd (cc)
-stays_refused G (IoError WriteZero) o d told after k t c l s = absurd (cc)
-stays_refused G (FormatError x) o d told after k t c l s = absurd (cc)
-stays_refused G (UnsupportedError x) o d told after k t c l s = absurd (cc)
-stays_refused G LimitsExceeded o d told after k t c l s = absurd (cc)
-stays_refused G IntSizeError o d told after k t c l s = absurd (cc)
-stays_refused G (UsageError x) o d told after k t c l s = absurd (cc)
+stays_refused G (IoError UnexpectedEof) o d contents after k t c l s = absurd (cc)
+stays_refused G (IoError InvalidData) o d contents after k t c l s = absurd (cc)
+stays_refused G (IoError InvalidInput) o d contents after k t c l s = absurd (cc)
+stays_refused G (IoError WriteZero) o d contents after k t c l s = absurd (cc)
+stays_refused G (FormatError x) o d contents after k t c l s = absurd (cc)
+stays_refused G (UnsupportedError x) o d contents after k t c l s = absurd (cc)
+stays_refused G LimitsExceeded o d contents after k t c l s = absurd (cc)
+stays_refused G IntSizeError o d contents after k t c l s = absurd (cc)
+stays_refused G (UsageError x) o d contents after k t c l s = absurd (cc)
 
 -- the cause of an error that does not leave the decoder as it is
 cause_is : (W F G : Type 0) (e : TiffError) → keeps_state e ≡ false → IsCause W F e G → G

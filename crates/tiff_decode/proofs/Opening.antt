@@ -67,12 +67,12 @@ same_offset : (header : Header) (offset : ℕ) → (begun_at header).next ≡ So
 same_offset header offset h = cc
 
 -- the first offset is not entered, for a source whose bytes are unchanged
-pub unentered : (failed failed' : Type 0) (bytes told : List ℕ) (header : Header) (before after : Walked) (e : TiffError) → (failed → failed') → told ≡ bytes
+pub unentered : (failed failed' : Type 0) (bytes contents : List ℕ) (header : Header) (before after : Walked) (e : TiffError) → (failed → failed') → contents ≡ bytes
     → header_at bytes ≡ Ok header → before ≡ begun_at header
-    → IsCause (after ≡ before) (failed × (after ≡ before)) e (WalkSteps header.kind header.order told before (Err e) after)
+    → IsCause (after ≡ before) (failed × (after ≡ before)) e (WalkSteps header.kind header.order contents before (Err e) after)
     → IsCause (Unit {0}) failed' e (first_directory bytes ≡ Err e)
 unfolding rest
-unentered failed failed' bytes told header before after e f same h b c =
+unentered failed failed' bytes contents header before after e f same h b c =
     cause_along e (λ _. tt) (λ x. f x.0)
     (λ s. (let P : List ℕ → Type 0 = λ k. NextIsRefused header.kind header.order k before e in
     let Q : Walked → Type 0 = λ w. NextIsRefused header.kind header.order bytes w e in
@@ -84,11 +84,11 @@ unentered failed failed' bytes told header before after e f same h b c =
     c
 
 -- the first offset is entered
-pub first_entered : (bytes told : List ℕ) (header : Header) (before after : Walked) (d : DirectoryRecord) → told ≡ bytes
-    → header_at bytes ≡ Ok header → before ≡ begun_at header → WalkSteps header.kind header.order told before (Ok (Some d)) after
+pub first_entered : (bytes contents : List ℕ) (header : Header) (before after : Walked) (d : DirectoryRecord) → contents ≡ bytes
+    → header_at bytes ≡ Ok header → before ≡ begun_at header → WalkSteps header.kind header.order contents before (Ok (Some d)) after
     → first_directory bytes ≡ Ok (header, header.first, d)
 unfolding rest
-first_entered bytes told header before after d same h b s =
+first_entered bytes contents header before after d same h b s =
     let P : List ℕ → Type 0 = λ k. Enters header.kind header.order k before d after in
     let Q : Walked → Type 0 = λ w. Enters header.kind header.order bytes w d after in
     let r : Enters header.kind header.order bytes (begun_at header) d after = subst Q b (subst P same s) in
@@ -123,13 +123,13 @@ unfolding decoder_of page_then
 begun_unread failed failed' bytes failures e f c = cause_along e (λ u. u) f (λ h. ap (page_then bytes failures) h) c
 
 -- a first directory that is no page, where the reads of its tags used these bytes and limits
-pub begun_unpaged : (wanting failed failed' : Type 0) (bytes told : List ℕ) (limits : Limits) (failures : ℕ) (header : Header) (offset : ℕ) (directory : DirectoryRecord) (e : TiffError)
+pub begun_unpaged : (wanting failed failed' : Type 0) (bytes contents : List ℕ) (limits : Limits) (failures : ℕ) (header : Header) (offset : ℕ) (directory : DirectoryRecord) (e : TiffError)
     → (failed → failed')
-    → told ≡ bytes → limits ≡ default_limits → first_directory bytes ≡ Ok (header, offset, directory)
-    → IsCause wanting failed e (page_in header.kind header.order told limits directory ≡ Err e)
+    → contents ≡ bytes → limits ≡ default_limits → first_directory bytes ≡ Ok (header, offset, directory)
+    → IsCause wanting failed e (page_in header.kind header.order contents limits directory ≡ Err e)
     → IsCause (Unit {0}) failed' e (decoder_of bytes failures ≡ Err e)
 unfolding decoder_of page_then
-begun_unpaged wanting failed failed' bytes told limits failures header offset directory e f same given found c =
+begun_unpaged wanting failed failed' bytes contents limits failures header offset directory e f same given found c =
     cause_along e (λ _. tt) f
     (λ h. ap (page_then bytes failures) found
     ∙ ap (λ (r : Result PageRecord TiffError). r >>= λ page. Ok (record {
@@ -145,9 +145,9 @@ begun_unpaged wanting failed failed' bytes told limits failures header offset di
     c
 
 -- a first page
-pub begun_page : (bytes told : List ℕ) (limits : Limits) (failures : ℕ) (header : Header) (offset : ℕ) (directory : DirectoryRecord) (page : PageRecord)
-    → told ≡ bytes → limits ≡ default_limits → first_directory bytes ≡ Ok (header, offset, directory)
-    → page_in header.kind header.order told limits directory ≡ Ok page
+pub begun_page : (bytes contents : List ℕ) (limits : Limits) (failures : ℕ) (header : Header) (offset : ℕ) (directory : DirectoryRecord) (page : PageRecord)
+    → contents ≡ bytes → limits ≡ default_limits → first_directory bytes ≡ Ok (header, offset, directory)
+    → page_in header.kind header.order contents limits directory ≡ Ok page
     → decoder_of bytes failures ≡ Ok (record {
       bytes = bytes;
       readable = None;
@@ -158,7 +158,7 @@ pub begun_page : (bytes told : List ℕ) (limits : Limits) (failures : ℕ) (hea
       state = first_state header.kind offset directory page;
     })
 unfolding decoder_of page_then
-begun_page bytes told limits failures header offset directory page same given found h =
+begun_page bytes contents limits failures header offset directory page same given found h =
     ap (page_then bytes failures) found
     ∙ ap (λ (r : Result PageRecord TiffError). r >>= λ page. Ok (record {
       bytes = bytes;

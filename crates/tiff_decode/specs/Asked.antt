@@ -6,7 +6,7 @@ use Rattle.tiff_base.specs.declared.error.TiffError.{TiffError}
 use Rattle.tiff_base.specs.declared.tags.Tag.{Tag}
 use Rattle.tiff_base.specs.declared.tags.ByteOrder.{ByteOrder}
 use Rattle.tiff_base.specs.declared.tags.FileKind.{FileKind}
-use Rattle.tiff_base.specs.Answers.{AsksOnly}
+use Rattle.tiff_base.specs.Answers.{ReadsOnly}
 use Rattle.tiff_base.specs.Directory.{directory_at}
 use Rattle.tiff_base.specs.Field.{DirectoryRecord}
 use Rattle.tiff_base.specs.Header.{Header, header_at}
@@ -19,12 +19,12 @@ use Rattle.tiff_decode.specs.Outcome.{chain_of, next_offset}
 
 -- the call reads at most n bytes at the offset of the low-level reads
 abbrev pub AsksHere : {X : Type 0} → Decoding → ℕ → Result X TiffError → Type 0
-AsksHere d n result = AsksOnly (AreReadable (source_of d) d.state.offset n) result
+AsksHere d n result = ReadsOnly (AreReadable (source_of d) d.state.offset n) result
 
 -- the call reads at most the values of a tag of the page's directory, if the directory has the tag
 abbrev pub AsksForTag : {X : Type 0} → Decoding → Tag → Result X TiffError → Type 0
 AsksForTag d tag result =
-    AsksOnly (TagReadable (source_of d) d.kind d.order d.state.directory tag) result
+    ReadsOnly (TagReadable (source_of d) d.kind d.order d.state.directory tag) result
 
 -- The source can read the directory at an offset, and the tags that the checks of its page read.
 pub record EntryReadable (source : SourceRecord) (kind : FileKind) (order : ByteOrder) (at : ℕ)

@@ -2,7 +2,7 @@
 
 ghost use Rattle.std.specs.Prelude.{◌≡◌, ◌<◌, ◌≤◌, ◌+◌, ◌++◌, ℕ, List, [], ◌∷◌, IfOk, IfErr, IfSome, IfNone, OnOk, OnErr, None, Some, Ok, true, false, if◌then◌else◌, is_some, option_map, length, Option, Bool};
 ghost use Rattle.std.specs.List.{last_or, slice_get};
-ghost use Rattle.tiff_base.specs.Answers.{Answers, AnswersBut, AsksOnly, FailsFrom, IsCause, IsKept};
+ghost use Rattle.tiff_base.specs.Answers.{Answers, AnswersBut, ReadsOnly, FailsFrom, IsCause, IsKept};
 ghost use Rattle.tiff_base.specs.Directory.{directory_at};
 ghost use Rattle.tiff_base.specs.declared.color.ColorType.{ColorType};
 ghost use Rattle.tiff_page.specs.Layout.{color_of};
@@ -81,14 +81,14 @@ fn read_first_directory<R: Source>(
     alloc: Global,
     source: &mut R,
 ) -> TiffResult<(FileHeader, IfdChainWalk, Directory)>
-    ensures kept { IsKept R.told R.failures result source.old source.new }
+    ensures kept { IsKept R.contents R.failures result source.old source.new }
     ensures answer { Answers
         (λ r. (record { order = r.0.order; kind = r.0.kind; first = r.0.first }, r.0.first, r.2))
         result
-        (first_directory (R.told source.old).bytes) (R.failures source.old) (R.failures source.new) }
-    ensures walk { IfOk result (λ r. IsInChain r.0.kind r.0.order (R.told source.old).bytes r.0.first r.1
+        (first_directory (R.contents source.old).bytes) (R.failures source.old) (R.failures source.new) }
+    ensures walk { IfOk result (λ r. IsInChain r.0.kind r.0.order (R.contents source.old).bytes r.0.first r.1
         (Some (record { 0 = r.0.first })) 0) }
-    ensures asked { AsksOnly (OpenReadable (R.told source.old)) result }
+    ensures asked { ReadsOnly (OpenReadable (R.contents source.old)) result }
 {
     let header = read_header(source)?;
     let mut walk = IfdChainWalk::new(alloc, header.first);
@@ -189,16 +189,16 @@ fn replace_directory<R: Source>(
     tags: &mut ValueReader<R>,
     directory: Directory,
 ) -> TiffResult<Page>
-    ensures kept { IsKept R.told R.failures result tags.old.source tags.new.source }
+    ensures kept { IsKept R.contents R.failures result tags.old.source tags.new.source }
     ensures kind { tags.new.kind ≡ tags.old.kind }
     ensures order { tags.new.order ≡ tags.old.order }
     ensures limits { tags.new.limits ≡ tags.old.limits }
     ensures answer { Answers page_record result
-        (page_in tags.old.kind tags.old.order (R.told tags.old.source).bytes tags.old.limits
+        (page_in tags.old.kind tags.old.order (R.contents tags.old.source).bytes tags.old.limits
         directory) (R.failures tags.old.source) (R.failures tags.new.source) }
     ensures replaced { OnOk result (tags.new.directory ≡ directory) }
     ensures stays { OnErr result (tags.new.directory ≡ tags.old.directory) }
-    ensures asked { AsksOnly (PageReadable (R.told tags.old.source) tags.old.kind tags.old.order directory)
+    ensures asked { ReadsOnly (PageReadable (R.contents tags.old.source) tags.old.kind tags.old.order directory)
         result }
 {
     // The page is read by the tags of the directory that is there.
@@ -235,24 +235,24 @@ fn enter_directory<R: Source>(
     standing: &mut CurrentDirectory,
     read: ChainDirectory,
 ) -> TiffResult<()>
-    ensures kept { IsKept R.told R.failures result tags.old.source tags.new.source }
+    ensures kept { IsKept R.contents R.failures result tags.old.source tags.new.source }
     ensures kind { tags.new.kind ≡ tags.old.kind }
     ensures order { tags.new.order ≡ tags.old.order }
     ensures follows { (first here : ℕ) → Follows (λ x. x) (outcome.entry_outcome
-        (decoding (R.told tags.old.source) tags.old.kind tags.old.order first
+        (decoding (R.contents tags.old.source) tags.old.kind tags.old.order first
         (R.failures tags.old.source) standing.old.pointer
         standing.old.more (page_record page.old) tags.old.directory here tags.old.limits) read.place.offset
         (Ok read.directory)) result
-        (decoding (R.told tags.old.source) tags.old.kind tags.old.order first
+        (decoding (R.contents tags.old.source) tags.old.kind tags.old.order first
         (R.failures tags.old.source) standing.old.pointer
         standing.old.more (page_record page.old) tags.old.directory here tags.old.limits)
-        (decoding (R.told tags.new.source) tags.new.kind tags.new.order first
+        (decoding (R.contents tags.new.source) tags.new.kind tags.new.order first
         (R.failures tags.new.source) standing.new.pointer
         standing.new.more (page_record page.new) tags.new.directory here tags.new.limits) }
     ensures stands { (offsets : List ℕ)
         → IsAt offsets standing.old.pointer standing.old.at → slice_get offsets
         read.place.at ≡ Some read.place.offset → IsAt offsets standing.new.pointer standing.new.at }
-    ensures asked { AsksOnly (PageReadable (R.told tags.old.source) tags.old.kind tags.old.order read.directory)
+    ensures asked { ReadsOnly (PageReadable (R.contents tags.old.source) tags.old.kind tags.old.order read.directory)
         result }
 {
     let place = read.place;
@@ -283,23 +283,23 @@ fn enter_offset<R: Source>(
     standing: &mut CurrentDirectory,
     place: ChainPlace,
 ) -> TiffResult<()>
-    ensures kept { IsKept R.told R.failures result tags.old.source tags.new.source }
+    ensures kept { IsKept R.contents R.failures result tags.old.source tags.new.source }
     ensures kind { tags.new.kind ≡ tags.old.kind }
     ensures order { tags.new.order ≡ tags.old.order }
     ensures follows { (first here : ℕ) → Follows (λ x. x) (outcome.enter
-        (decoding (R.told tags.old.source) tags.old.kind tags.old.order first
+        (decoding (R.contents tags.old.source) tags.old.kind tags.old.order first
         (R.failures tags.old.source) standing.old.pointer
         standing.old.more (page_record page.old) tags.old.directory here tags.old.limits) place.offset) result
-        (decoding (R.told tags.old.source) tags.old.kind tags.old.order first
+        (decoding (R.contents tags.old.source) tags.old.kind tags.old.order first
         (R.failures tags.old.source) standing.old.pointer
         standing.old.more (page_record page.old) tags.old.directory here tags.old.limits)
-        (decoding (R.told tags.new.source) tags.new.kind tags.new.order first
+        (decoding (R.contents tags.new.source) tags.new.kind tags.new.order first
         (R.failures tags.new.source) standing.new.pointer
         standing.new.more (page_record page.new) tags.new.directory here tags.new.limits) }
     ensures stands { (offsets : List ℕ)
         → IsAt offsets standing.old.pointer standing.old.at → slice_get offsets
         place.at ≡ Some place.offset → IsAt offsets standing.new.pointer standing.new.at }
-    ensures asked { AsksOnly (EntryReadable (R.told tags.old.source) tags.old.kind tags.old.order place.offset)
+    ensures asked { ReadsOnly (EntryReadable (R.contents tags.old.source) tags.old.kind tags.old.order place.offset)
         result }
 {
     let (kind, order) = (tags.kind, tags.order);
@@ -316,21 +316,21 @@ fn show_read<R: Source>(
     page: &mut Page,
     directory: Directory,
 ) -> TiffResult<()>
-    ensures kept { IsKept R.told R.failures result tags.old.source tags.new.source }
+    ensures kept { IsKept R.contents R.failures result tags.old.source tags.new.source }
     ensures kind { tags.new.kind ≡ tags.old.kind }
     ensures order { tags.new.order ≡ tags.old.order }
     ensures follows { (first here : ℕ) (pointer : Option IfdPointer) (more : Bool)
         → Follows (λ x. x) (outcome.show_outcome
-        (decoding (R.told tags.old.source) tags.old.kind tags.old.order first
+        (decoding (R.contents tags.old.source) tags.old.kind tags.old.order first
         (R.failures tags.old.source) pointer more
         (page_record page.old) tags.old.directory here tags.old.limits) (Ok directory)) result
-        (decoding (R.told tags.old.source) tags.old.kind tags.old.order first
+        (decoding (R.contents tags.old.source) tags.old.kind tags.old.order first
         (R.failures tags.old.source) pointer more
         (page_record page.old) tags.old.directory here tags.old.limits)
-        (decoding (R.told tags.new.source) tags.new.kind tags.new.order first
+        (decoding (R.contents tags.new.source) tags.new.kind tags.new.order first
         (R.failures tags.new.source) pointer more
         (page_record page.new) tags.new.directory here tags.new.limits) }
-    ensures asked { AsksOnly (PageReadable (R.told tags.old.source) tags.old.kind tags.old.order directory)
+    ensures asked { ReadsOnly (PageReadable (R.contents tags.old.source) tags.old.kind tags.old.order directory)
         result }
 {
     match replace_directory(alloc, tags, directory) {
@@ -350,21 +350,21 @@ fn show_offset<R: Source>(
     page: &mut Page,
     at: IfdPointer,
 ) -> TiffResult<()>
-    ensures kept { IsKept R.told R.failures result tags.old.source tags.new.source }
+    ensures kept { IsKept R.contents R.failures result tags.old.source tags.new.source }
     ensures kind { tags.new.kind ≡ tags.old.kind }
     ensures order { tags.new.order ≡ tags.old.order }
     ensures follows { (first here : ℕ) (pointer : Option IfdPointer) (more : Bool)
         → Follows (λ x. x) (outcome.show_directory
-        (decoding (R.told tags.old.source) tags.old.kind tags.old.order first
+        (decoding (R.contents tags.old.source) tags.old.kind tags.old.order first
         (R.failures tags.old.source) pointer more
         (page_record page.old) tags.old.directory here tags.old.limits) at) result
-        (decoding (R.told tags.old.source) tags.old.kind tags.old.order first
+        (decoding (R.contents tags.old.source) tags.old.kind tags.old.order first
         (R.failures tags.old.source) pointer more
         (page_record page.old) tags.old.directory here tags.old.limits)
-        (decoding (R.told tags.new.source) tags.new.kind tags.new.order first
+        (decoding (R.contents tags.new.source) tags.new.kind tags.new.order first
         (R.failures tags.new.source) pointer more
         (page_record page.new) tags.new.directory here tags.new.limits) }
-    ensures asked { AsksOnly (EntryReadable (R.told tags.old.source) tags.old.kind tags.old.order at.0) result }
+    ensures asked { ReadsOnly (EntryReadable (R.contents tags.old.source) tags.old.kind tags.old.order at.0) result }
 {
     let (kind, order) = (tags.kind, tags.order);
     let directory = read_directory(alloc, &mut tags.source, at.0, kind, order)?;
@@ -379,23 +379,23 @@ fn enter_behind<R: Source>(
     kind: FileKind,
     order: ByteOrder,
 ) -> TiffResult<Option<(u64, Directory)>>
-    ensures kept { IsKept R.told R.failures result source.old source.new }
-    ensures begins { (first : ℕ) → ChainBegins kind order (R.told source.old).bytes first walk.old
-        → ChainBegins kind order (R.told source.old).bytes
+    ensures kept { IsKept R.contents R.failures result source.old source.new }
+    ensures begins { (first : ℕ) → ChainBegins kind order (R.contents source.old).bytes first walk.old
+        → ChainBegins kind order (R.contents source.old).bytes
         first walk.new }
     ensures entered { IfOk result
         (λ found. IfSome found (λ f. (walk.new.offsets ≡ walk.old.offsets ++ f.0 ∷ []) ×
-        (directory_at kind order (R.told source.old).bytes f.0 ≡ Ok f.1))) }
+        (directory_at kind order (R.contents source.old).bytes f.0 ≡ Ok f.1))) }
     ensures end { IfOk result
         (λ found.
         IfNone found ((walk.new ≡ walk.old)
-        × ((first : ℕ) → ChainBegins kind order (R.told source.old).bytes first walk.old
-        → ChainEnds kind order (R.told source.old).bytes first walk.old None))) }
+        × ((first : ℕ) → ChainBegins kind order (R.contents source.old).bytes first walk.old
+        → ChainEnds kind order (R.contents source.old).bytes first walk.old None))) }
     ensures stays { OnErr result (walk.new ≡ walk.old) }
     ensures cut { IfErr result (λ e. IsCause (Unit {0}) (R.failures source.old < R.failures source.new) e
-        ((first : ℕ) → ChainBegins kind order (R.told source.old).bytes first walk.old
-        → ChainEnds kind order (R.told source.old).bytes first walk.old (Some e))) }
-    ensures asked { AsksOnly (NextReadable (R.told source.old) kind order walk.old) result }
+        ((first : ℕ) → ChainBegins kind order (R.contents source.old).bytes first walk.old
+        → ChainEnds kind order (R.contents source.old).bytes first walk.old (Some e))) }
+    ensures asked { ReadsOnly (NextReadable (R.contents source.old) kind order walk.old) result }
 {
     let Some(offset) = walk.next() else {
         return Ok(None);
@@ -430,8 +430,8 @@ impl<R: Source> Model for Decoder<R> {
     ghost coded = { Prim.hlevel (codes, map.code) };
 
     ghost view = { λ d. record {
-      bytes = (R.told d.tags.source).bytes;
-      readable = (R.told d.tags.source).readable;
+      bytes = (R.contents d.tags.source).bytes;
+      readable = (R.contents d.tags.source).readable;
       kind = d.tags.kind;
       order = d.tags.order;
       first = d.first;
@@ -446,7 +446,7 @@ impl<R: Source> Model for Decoder<R> {
       };
     } };
 
-    ghost invariant = { λ d. IsInChain d.tags.kind d.tags.order (R.told d.tags.source).bytes d.first d.walk
+    ghost invariant = { λ d. IsInChain d.tags.kind d.tags.order (R.contents d.tags.source).bytes d.first d.walk
         d.standing.pointer d.standing.at };
 }
 
@@ -468,12 +468,12 @@ impl<R: Source> Decoder<R> {
     /// Opens a file at its first page, with the default limits. Returns the first error of the
     /// header, the directory or the page.
     pub fn new(alloc: Global, source: R) -> TiffResult<Self>
-        ensures answer { AnswersBut (Unit {0}) (FailsFrom R.told R.failures source)
+        ensures answer { AnswersBut (Unit {0}) (FailsFrom R.contents R.failures source)
             (λ (d : Decoding). record d { readable = None; failures = R.failures source }) result
-            (decoder_of (R.told source).bytes (R.failures source)) }
-        ensures readable { IfOk result (λ d. d.readable ≡ (R.told source).readable) }
+            (decoder_of (R.contents source).bytes (R.failures source)) }
+        ensures readable { IfOk result (λ d. d.readable ≡ (R.contents source).readable) }
         ensures count { IfOk result (λ d. d.failures ≡ R.failures source) }
-        ensures asked { AsksOnly (OpenReadable (R.told source)) result }
+        ensures asked { ReadsOnly (OpenReadable (R.contents source)) result }
     {
         let mut source = source;
         let (header, walk, directory) = read_first_directory(alloc, &mut source)?;
@@ -569,8 +569,8 @@ impl<R: Source> Decoder<R> {
 
     /// The source.
     pub fn inner(&self) -> &R
-        ensures bytes { (R.told result.now).bytes ≡ self.now.bytes }
-        ensures readable { (R.told result.now).readable ≡ self.now.readable }
+        ensures bytes { (R.contents result.now).bytes ≡ self.now.bytes }
+        ensures readable { (R.contents result.now).readable ≡ self.now.readable }
         ensures failures { R.failures result.now ≡ self.now.failures }
     {
         &self.tags.source
@@ -587,7 +587,7 @@ impl<R: Source> Decoder<R> {
     pub fn next_image(&mut self) -> TiffResult<()>
         ensures follows { FollowsBut (self.old.state.more ≡ true) (λ x. x) (outcome.next_image self.old) result
             self.old self.new }
-        ensures asked { AsksOnly (NextPageReadable self.old) result }
+        ensures asked { ReadsOnly (NextPageReadable self.old) result }
     {
         if !self.standing.more {
             return Err(TiffFormatError::ImageFileDirectoryNotFound.into());
@@ -632,7 +632,7 @@ impl<R: Source> Decoder<R> {
     /// its former page. After `OutOfMemory` and `IoError(Device)` the decoder is unchanged.
     pub fn seek_to_image(&mut self, ifd_index: usize) -> TiffResult<()>
         ensures follows { Follows (λ x. x) (outcome.seek_to_image self.old ifd_index) result self.old self.new }
-        ensures asked { AsksOnly (SeekReadable self.old ifd_index) result }
+        ensures asked { ReadsOnly (SeekReadable self.old ifd_index) result }
     {
         let (alloc, kind, order) = (self.alloc, self.tags.kind, self.tags.order);
         let source = &mut self.tags.source;
@@ -665,7 +665,7 @@ impl<R: Source> Decoder<R> {
     #[tactic(auto, unfolding(crate::specs::Outcome::read_directory))]
     pub fn read_directory(&mut self, pointer: IfdPointer) -> TiffResult<Directory>
         ensures follows { Follows (λ d. d) (outcome.read_directory self.old pointer) result self.old self.new }
-        ensures asked { AsksOnly
+        ensures asked { ReadsOnly
             (DirectoryReadable (source_of self.old) self.old.kind self.old.order pointer.0) result }
     {
         let (kind, order) = (self.tags.kind, self.tags.order);
@@ -680,7 +680,7 @@ impl<R: Source> Decoder<R> {
     #[tactic(auto, unfolding(crate::specs::Outcome::show_directory))]
     pub fn show_directory(&mut self, pointer: IfdPointer) -> TiffResult<()>
         ensures follows { Follows (λ x. x) (outcome.show_directory self.old pointer) result self.old self.new }
-        ensures asked { AsksOnly (EntryReadable (source_of self.old) self.old.kind self.old.order pointer.0)
+        ensures asked { ReadsOnly (EntryReadable (source_of self.old) self.old.kind self.old.order pointer.0)
             result }
     {
         show_offset(self.alloc, &mut self.tags, &mut self.page, pointer)

@@ -19,7 +19,7 @@ impl<R: Source> Decoder<R> {
     pub fn has_sides(&self)
         ensures sides { HasSides self.now.state.page }
         ensures sampled { 0 < self.now.state.page.samples }
-        ensures deep { 0 < self.now.state.page.depth }
+        ensures has_bits { 0 < self.now.state.page.depth }
     {
         let _page = &self.page;
     }

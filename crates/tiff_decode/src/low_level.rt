@@ -2,7 +2,7 @@
 
 ghost use Rattle.std.specs.Prelude.{string_bytes};
 ghost use Rattle.std.specs.Int.{byte_len, w8};
-ghost use Rattle.tiff_base.specs.Answers.{AnswersWithoutMemory, AsksOnly, IsKept};
+ghost use Rattle.tiff_base.specs.Answers.{AnswersWithoutMemory, ReadsOnly, IsKept};
 ghost use Rattle.tiff_base.specs.Directory.{offset_width};
 ghost use Rattle.tiff_base.specs.Number.{number_at};
 ghost use Rattle.tiff_base.specs.SourceAndSink.{AreReadable};
@@ -24,11 +24,11 @@ use tiff_ifd::read_value::read_text_at;
 // Reads the byte at an offset.
 #[tactic(auto, unfolding(tiff_base::specs::Number::number))]
 fn read_u8_at<R: Source>(source: &mut R, at: u64, order: ByteOrder) -> TiffResult<u8>
-    ensures kept { IsKept R.told R.failures result source.old source.new }
-    ensures answer { AnswersWithoutMemory (λ n. n) result (number_at order w8 (R.told source.old).bytes at)
+    ensures kept { IsKept R.contents R.failures result source.old source.new }
+    ensures answer { AnswersWithoutMemory (λ n. n) result (number_at order w8 (R.contents source.old).bytes at)
         (R.failures source.old)
         (R.failures source.new) }
-    ensures asked { AsksOnly (AreReadable (R.told source.old) at 1) result }
+    ensures asked { ReadsOnly (AreReadable (R.contents source.old) at 1) result }
 {
     let mut bytes = [0u8; 1];
     read_exact_at(source, at, &mut bytes)?;

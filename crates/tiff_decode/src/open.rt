@@ -1,7 +1,7 @@
 //! Opens a file by its header alone.
 
 ghost use Rattle.std.specs.Prelude.{◌≡◌, [], ◌∷◌, IfOk, IfErr, OnOk, None, Ok, MatchResult};
-ghost use Rattle.tiff_base.specs.Answers.{Answers, AnswersBut, AsksOnly, FailsFrom};
+ghost use Rattle.tiff_base.specs.Answers.{Answers, AnswersBut, ReadsOnly, FailsFrom};
 ghost use Rattle.tiff_ifd.specs.Stretches.{HeaderReadable};
 ghost use Rattle.tiff_page.specs.PageView.{page as page_record};
 ghost use Rattle.tiff_decode.specs.Machine.{Decoding};
@@ -65,12 +65,12 @@ impl<R: Source> Decoder<R> {
     /// is entered, `dimensions` returns 1 and 1, and each call that reads pixels returns
     /// `InterpretationWithBits`. Returns the first error of the header.
     pub fn open(alloc: Global, source: R) -> TiffResult<Self>
-        ensures answer { AnswersBut (Unit {0}) (FailsFrom R.told R.failures source)
+        ensures answer { AnswersBut (Unit {0}) (FailsFrom R.contents R.failures source)
             (λ (d : Decoding). record d { readable = None; failures = R.failures source }) result
-            (opened_of (R.told source).bytes (R.failures source)) }
-        ensures readable { IfOk result (λ d. d.readable ≡ (R.told source).readable) }
+            (opened_of (R.contents source).bytes (R.failures source)) }
+        ensures readable { IfOk result (λ d. d.readable ≡ (R.contents source).readable) }
         ensures count { IfOk result (λ d. d.failures ≡ R.failures source) }
-        ensures asked { AsksOnly (HeaderReadable (R.told source)) result }
+        ensures asked { ReadsOnly (HeaderReadable (R.contents source)) result }
     {
         let mut source = source;
         let header = read_header(&mut source)?;

@@ -1,11 +1,11 @@
 //! Reads pixels of the page: whole images, chunks, and coding units.
 
 ghost use Rattle.std.specs.Prelude.{length};
-ghost use Rattle.tiff_base.specs.Answers.{AsksOnly};
+ghost use Rattle.tiff_base.specs.Answers.{ReadsOnly};
 ghost use Rattle.tiff_page.specs.PixelCalls.{planes_used, planes_within};
 ghost use Rattle.tiff_page.specs.Reach.{ChunksReadable, ImageReadable};
 ghost use Rattle.tiff_decode.specs.Machine.{Follows, source_of};
-ghost use Rattle.tiff_page.specs.EarlyFaults.{WantsAfter, chunk_bytes_early, chunk_early, image_bytes_early, image_early, planes_early, strided_early, unit_bytes_early};
+ghost use Rattle.tiff_page.specs.EarlyFaults.{AllocatesAfter, chunk_bytes_early, chunk_early, image_bytes_early, image_early, planes_early, strided_early, unit_bytes_early};
 ghost use Rattle.tiff_decode.specs.Outcome as outcome;
 ghost use Rattle.tiff_decode.specs.Result.{decoded_as};
 
@@ -35,9 +35,9 @@ impl<R: Source> Decoder<R> {
     #[tactic(auto, unfolding(crate::specs::Outcome::read_image))]
     pub fn read_image(&mut self) -> TiffResult<DecodingResult>
         ensures follows { Follows decoded_as (outcome.read_image self.old) result self.old self.new }
-        ensures memory { WantsAfter (image_early self.old.bytes self.old.state.page self.old.state.limits)
+        ensures memory { AllocatesAfter (image_early self.old.bytes self.old.state.page self.old.state.limits)
             result }
-        ensures asked { AsksOnly (ImageReadable (source_of self.old) self.old.state.page (λ l. 1)) result }
+        ensures asked { ReadsOnly (ImageReadable (source_of self.old) self.old.state.page (λ l. 1)) result }
     {
         let reader = PageReader {
             alloc: self.alloc,
@@ -62,9 +62,9 @@ impl<R: Source> Decoder<R> {
     ) -> TiffResult<BufferLayoutPreference>
         ensures follows { Follows (λ layout. (layout, decoded_as samples.new))
             (outcome.read_image_to_buffer self.old) result self.old self.new }
-        ensures memory { WantsAfter (planes_early self.old.bytes self.old.state.page self.old.state.limits)
+        ensures memory { AllocatesAfter (planes_early self.old.bytes self.old.state.page self.old.state.limits)
             result }
-        ensures asked { AsksOnly
+        ensures asked { ReadsOnly
             (ImageReadable (source_of self.old) self.old.state.page
             (λ l. planes_within self.old.state.page self.old.state.limits l)) result }
     {
@@ -86,9 +86,9 @@ impl<R: Source> Decoder<R> {
     pub fn read_image_bytes(&mut self, buffer: &mut [u8]) -> TiffResult<()>
         ensures follows { Follows (λ _. buffer.new) (outcome.read_image_bytes self.old buffer.old) result
             self.old self.new }
-        ensures memory { WantsAfter
+        ensures memory { AllocatesAfter
             (image_bytes_early self.old.state.page self.old.state.limits (length buffer.old)) result }
-        ensures asked { AsksOnly
+        ensures asked { ReadsOnly
             (ImageReadable (source_of self.old) self.old.state.page
             (λ l. planes_used self.old.state.page l (length buffer.old))) result }
     {
@@ -107,10 +107,10 @@ impl<R: Source> Decoder<R> {
     #[tactic(auto, unfolding(crate::specs::Outcome::read_chunk))]
     pub fn read_chunk(&mut self, chunk_index: u32) -> TiffResult<DecodingResult>
         ensures follows { Follows decoded_as (outcome.read_chunk self.old chunk_index) result self.old self.new }
-        ensures memory { WantsAfter
+        ensures memory { AllocatesAfter
             (chunk_early self.old.bytes self.old.state.page self.old.state.limits chunk_index)
             result }
-        ensures asked { AsksOnly
+        ensures asked { ReadsOnly
             (ChunksReadable (source_of self.old) self.old.state.page chunk_index (λ l. 1)) result }
     {
         let reader = PageReader {
@@ -130,9 +130,9 @@ impl<R: Source> Decoder<R> {
     pub fn read_chunk_bytes(&mut self, chunk_index: u32, buffer: &mut [u8]) -> TiffResult<()>
         ensures follows { Follows (λ _. buffer.new) (outcome.read_chunk_bytes self.old chunk_index buffer.old)
             result self.old self.new }
-        ensures memory { WantsAfter (chunk_bytes_early self.old.state.page self.old.state.limits chunk_index
+        ensures memory { AllocatesAfter (chunk_bytes_early self.old.state.page self.old.state.limits chunk_index
             (length buffer.old)) result }
-        ensures asked { AsksOnly
+        ensures asked { ReadsOnly
             (ChunksReadable (source_of self.old) self.old.state.page chunk_index (λ l. 1)) result }
     {
         let reader = PageReader {
@@ -160,10 +160,10 @@ impl<R: Source> Decoder<R> {
         ensures follows { Follows (λ _. decoded_as buffer.new)
             (outcome.read_chunk_to_buffer self.old chunk_index output_width)
             result self.old self.new }
-        ensures memory { WantsAfter
+        ensures memory { AllocatesAfter
             (strided_early self.old.bytes self.old.state.page self.old.state.limits chunk_index
             output_width) result }
-        ensures asked { AsksOnly
+        ensures asked { ReadsOnly
             (ChunksReadable (source_of self.old) self.old.state.page chunk_index (λ l. 1)) result }
     {
         let reader = PageReader {
@@ -190,10 +190,10 @@ impl<R: Source> Decoder<R> {
     ) -> TiffResult<()>
         ensures follows { Follows (λ _. buffer.new) (outcome.read_coding_unit_bytes self.old slice.0 buffer.old)
             result self.old self.new }
-        ensures memory { WantsAfter
+        ensures memory { AllocatesAfter
             (unit_bytes_early self.old.state.page self.old.state.limits slice.0 (length buffer.old))
             result }
-        ensures asked { AsksOnly
+        ensures asked { ReadsOnly
             (ChunksReadable (source_of self.old) self.old.state.page slice.0
             (λ l. planes_used self.old.state.page l (length buffer.old))) result }
     {

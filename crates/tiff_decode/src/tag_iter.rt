@@ -42,8 +42,8 @@ fn read_item<R: Source>(
     number: u16,
     entry: &Entry,
 ) -> TiffResult<(Tag, Value)>
-    ensures kept { IsKept R.told R.failures result source.old source.new }
-    ensures item { ItemIs (item_of fields.now.kind fields.now.order (R.told source.old).bytes
+    ensures kept { IsKept R.contents R.failures result source.old source.new }
+    ensures item { ItemIs (item_of fields.now.kind fields.now.order (R.contents source.old).bytes
         fields.now.limits.now (number, entry.now)) result (R.failures source.old)
         (R.failures source.new) }
 {

@@ -5,7 +5,7 @@ use Rattle.tiff_base.specs.declared.tags.FileKind.{FileKind}
 use Rattle.tiff_base.specs.declared.tags.ByteOrder.TheVariants.{LittleEndian}
 use Rattle.tiff_base.specs.Field.{DirectoryRecord}
 use Rattle.tiff_base.specs.Directory.{link, directory_at}
-use Rattle.tiff_encode.specs.Model.{In, FinishedDirectory, Model, header_link, own_link, Stands}
+use Rattle.tiff_encode.specs.Model.{In, FinishedDirectory, Model, header_link, own_link, FileContains}
 use Rattle.tiff_encode.specs.Laws.{ModelsAgree}
 use Rattle.tiff_encode.proofs.Slices.{ok_inj}
 
@@ -23,7 +23,7 @@ abbrev told_of : FileKind → Model → FinishedDirectory → DirectoryRecord
 told_of kind m d = record { entries = d.fields; next = link (m.links (own_link kind d)) }
 
 -- two models that describe the same file record the same directory
-same : (kind : FileKind) (m n : Model) (file : List ℕ) → Stands kind file m → Stands kind file n
+same : (kind : FileKind) (m n : Model) (file : List ℕ) → FileContains kind file m → FileContains kind file n
     → (d e : FinishedDirectory) → In d m.directories → In e n.directories → d.offset ≡ e.offset
     → told_of kind m d ≡ told_of kind n e
 same kind m n file s t d e in_m in_n p =

@@ -27,7 +27,7 @@ use Rattle.tiff_encode.specs.Encoder.{AppendIsCut, AppendIsStopped}
 use Rattle.tiff_encode.specs.FileWrites.{file_with_bytes}
 use Rattle.tiff_encode.specs.Causes.{is_past, end_of, unless_ended, data_cause, order_cause, field_cause, write_tag_cause, write_buf_cause, write_entry_bytes_cause, write_data_cause, write_data_buf_cause}
 use Rattle.tiff_encode.specs.Calls.{placed_field, appends, write_entry, write_entry_buf, write_entry_bytes, write_data, write_data_buf}
-use Rattle.tiff_encode.specs.Ends.{EndsAsDefined, IsCutOff, HasBegun, CallFails, Ends}
+use Rattle.tiff_encode.specs.Ends.{EndsAsDefined, AppendFailed, HasBegun, CallFails, Ends}
 use Rattle.tiff_encode.specs.Placing.{field_test, appended_for, Places}
 use Rattle.tiff_encode.proofs.CallFits.{offset_len_8}
 
@@ -46,7 +46,7 @@ fresh_cause fault c f = ap (λ x. unless_ended x c) f
 
 -- a sink that fails while it appends writes a prefix of the appended bytes
 pub cut_off : (ops : List WriteOp) (e : TiffError) (old new : FileState) → AppendIsCut (all_appended old.kind ops) e old new
-    → IsCutOff ops e old new
+    → AppendFailed ops e old new
 cut_off ops e old new c =
     record { fresh = c.fresh; fault = c.fault; answer = c.answer; count = c.count; within = c.within; state = c.state }
 
@@ -99,7 +99,7 @@ done_by false value field old new f n =
 
 -- the sink fails while it writes a value
 cut_by : (long : Bool) (value : FieldData) (e : TiffError) (old new : FileState) → AppendIsCut (cond long value.bytes []) e old new
-    → IsCutOff (placed_by long value old).ops e old new
+    → AppendFailed (placed_by long value old).ops e old new
 cut_by true value e old new c =
     cut_off (placed_by true value old).ops e old new (subst (λ xs. AppendIsCut xs e old new) (sym (append-nil value.bytes)) c)
 cut_by false value e old new c = absurd (let w : c.count < 0 = c.within in omega (arith, w))

@@ -7,7 +7,7 @@ use Rattle.tiff_base.specs.Field.{Field}
 use Rattle.tiff_encode.specs.declared.encoder.script.DirectoryStep.{DirectoryStep}
 use Rattle.tiff_encode.specs.declared.encoder.script.StepReply.{StepReply}
 use Rattle.tiff_encode.specs.declared.encoder.script.StepReply.TheVariants as reply
-use Rattle.tiff_encode.specs.Model.{Model, Stands}
+use Rattle.tiff_encode.specs.Model.{Model, FileContains}
 use Rattle.tiff_encode.specs.WriteOps.{WriteOp, model_after}
 use Rattle.tiff_encode.specs.Machine.{FileState, OpenDirectory, WriteOutcome, WriteCall, gives, and_then}
 use Rattle.tiff_encode.specs.Calls.{with_field}
@@ -23,21 +23,21 @@ use Rattle.tiff_encode.proofs.Moving.{Seen, moves_so}
 module _ (d : OpenDirectory) (t : Tag) (field : Field) (old new : FileState) (m : Model) where
   -- what a call writes for the field is in the file
   given_kept : (r : Result Field TiffError) (ops : List WriteOp) (next : FileState) → r ≡ Ok field
-      → Stands old.kind new.bytes (model_after old.kind old.bytes m ops)
-      → Stands old.kind new.bytes (model_after old.kind old.bytes m (and_then r ops next (λ f. gives (with_field d t f))).ops)
+      → FileContains old.kind new.bytes (model_after old.kind old.bytes m ops)
+      → FileContains old.kind new.bytes (model_after old.kind old.bytes m (and_then r ops next (λ f. gives (with_field d t f))).ops)
   given_kept r ops next h s =
       let P : Result Field TiffError → Type 0 = λ q.
-      Stands old.kind new.bytes (model_after old.kind old.bytes m (and_then q ops next (λ f. gives (with_field d t f))).ops) in
-      let Q : List WriteOp → Type 0 = λ ds. Stands old.kind new.bytes (model_after old.kind old.bytes m ds) in
+      FileContains old.kind new.bytes (model_after old.kind old.bytes m (and_then q ops next (λ f. gives (with_field d t f))).ops) in
+      let Q : List WriteOp → Type 0 = λ ds. FileContains old.kind new.bytes (model_after old.kind old.bytes m ds) in
       subst P (sym h) (subst Q (sym (append-nil ops)) s)
 
   -- the directory has the field
   pub tag_kept : (v : Value) → EndsAsDefined (entry_of v old) (Ok field) new
-      → Stands old.kind new.bytes (model_after old.kind old.bytes m (entry_of v old).ops)
-      → Stands old.kind new.bytes (model_after old.kind old.bytes m (tag_of d t v old).ops)
+      → FileContains old.kind new.bytes (model_after old.kind old.bytes m (entry_of v old).ops)
+      → FileContains old.kind new.bytes (model_after old.kind old.bytes m (tag_of d t v old).ops)
   tag_kept v h s =
       let told : WriteOutcome Field = entry_of v old in
-      subst (λ (set : WriteOutcome OpenDirectory). Stands old.kind new.bytes (model_after old.kind old.bytes m set.ops)) (sym (tag_called d t v old))
+      subst (λ (set : WriteOutcome OpenDirectory). FileContains old.kind new.bytes (model_after old.kind old.bytes m set.ops)) (sym (tag_called d t v old))
       (given_kept told.answer told.ops told.next h.answer s)
 
 -- ---- from a call to a step
@@ -48,11 +48,11 @@ moves_as P Q old new f g known s q k = let x = g known s q k in (x.0, (x.1.0, (f
 
 -- what a call leaves if it succeeds
 abbrev Kept : {A : Type 0} → WriteOutcome A → FileState → FileState → Type 0
-Kept told old new = (m : Model) → Stands old.kind old.bytes m → Stands old.kind new.bytes (model_after old.kind old.bytes m told.ops)
+Kept told old new = (m : Model) → FileContains old.kind old.bytes m → FileContains old.kind new.bytes (model_after old.kind old.bytes m told.ops)
 
 -- what a call leaves if it fails
 abbrev Stood : FileState → FileState → Type 0
-Stood old new = (m : Model) → Stands old.kind old.bytes m → Stands old.kind new.bytes m
+Stood old new = (m : Model) → FileContains old.kind old.bytes m → FileContains old.kind new.bytes m
 
 module _ (d e : OpenDirectory) {old new : FileState} where
   -- equal steps lead to the same results

@@ -21,7 +21,7 @@ use Rattle.tiff_encode.specs.Encoder.{AppendIsCut, IsTorn}
 use Rattle.tiff_encode.specs.FileWrites.{file_with_bytes}
 use Rattle.tiff_encode.specs.Causes.{is_past, is_past_count, end_of, parent_cause, finish_cause}
 use Rattle.tiff_encode.specs.Calls.{Offsets, offsets_of, links_to, chain_after, chains, finish}
-use Rattle.tiff_encode.specs.Ends.{EndsAsDefined, IsTornOff, Ends}
+use Rattle.tiff_encode.specs.Ends.{EndsAsDefined, LinkWriteFailed, Ends}
 use Rattle.tiff_encode.specs.Placing.{parent_test, end_test}
 use Rattle.tiff_encode.proofs.Calling.{stopped_cause, fresh_cause, refused, uncaused, wanting, cut_off}
 use Rattle.tiff_encode.proofs.Slices.{length-le}
@@ -189,7 +189,7 @@ module _ {X : Type 0} (view : X → Offsets) (d : OpenDirectory) (old : FileStat
       → Ends view (finish d old) (Err e) old new
   end_torn e mid new target parent c f a s q (offset, (p, t)) =
       let D : List ℕ = directory_bytes old.kind d.fields in
-      let torn : IsTornOff (call old).ops e old new = record {
+      let torn : LinkWriteFailed (call old).ops e old new = record {
         fresh = f;
         fault = t.fault;
         answer = t.answer;

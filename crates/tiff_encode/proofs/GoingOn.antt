@@ -171,18 +171,18 @@ behind_directory kind file first d chain h e =
     }
 
 -- a new writer goes on behind the bytes of its sink
-pub writer_behind_header : (kind : FileKind) (told : List ℕ) (failures chain : ℕ) (w : Written) → w ≡ new_writer told failures
-    → EndsInHeader kind told → chain ≡ header_link kind → GoesOnBehind kind w.bytes chain (header_file_model kind told)
-writer_behind_header kind told failures chain w s h e =
-    let P : Written → Type 0 = λ v. GoesOnBehind kind v.bytes chain (header_file_model kind told) in
-    subst P (sym s) (behind_header kind told chain h e)
+pub writer_behind_header : (kind : FileKind) (contents : List ℕ) (failures chain : ℕ) (w : Written) → w ≡ new_writer contents failures
+    → EndsInHeader kind contents → chain ≡ header_link kind → GoesOnBehind kind w.bytes chain (header_file_model kind contents)
+writer_behind_header kind contents failures chain w s h e =
+    let P : Written → Type 0 = λ v. GoesOnBehind kind v.bytes chain (header_file_model kind contents) in
+    subst P (sym s) (behind_header kind contents chain h e)
 
-pub writer_behind_directory : (kind : FileKind) (told : List ℕ) (failures chain : ℕ) (w : Written) → w ≡ new_writer told failures
-    → (first : ℕ) (d : FinishedDirectory) → EndsIn kind told first d → chain ≡ own_link kind d
-    → GoesOnBehind kind w.bytes chain (former_model kind told first d)
-writer_behind_directory kind told failures chain w s first d h e =
-    let P : Written → Type 0 = λ v. GoesOnBehind kind v.bytes chain (former_model kind told first d) in
-    subst P (sym s) (behind_directory kind told first d chain h e)
+pub writer_behind_directory : (kind : FileKind) (contents : List ℕ) (failures chain : ℕ) (w : Written) → w ≡ new_writer contents failures
+    → (first : ℕ) (d : FinishedDirectory) → EndsIn kind contents first d → chain ≡ own_link kind d
+    → GoesOnBehind kind w.bytes chain (former_model kind contents first d)
+writer_behind_directory kind contents failures chain w s first d h e =
+    let P : Written → Type 0 = λ v. GoesOnBehind kind v.bytes chain (former_model kind contents first d) in
+    subst P (sym s) (behind_directory kind contents first d chain h e)
 
 -- ---- the bytes of the former file
 

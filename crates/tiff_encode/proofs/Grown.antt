@@ -15,7 +15,7 @@ use Rattle.tiff_base.specs.SourceAndSink.{exactly_at}
 use Rattle.tiff_base.specs.Number.{number_at, le}
 use Rattle.tiff_base.specs.Directory.{count_width, offset_width, entry_len, entries_from, last_of_each, link, first_entry, directory_at}
 use Rattle.tiff_encode.specs.FileBytes.{offset_len, count_len, entry_bytes, directory_bytes}
-use Rattle.tiff_encode.specs.Model.{BytesAreApart, In, FinishedDirectory, SuppliedField, ByteRegion, Model, header_link, own_link, IsLink, IsClear, body_len, whole_len, IsApart, Stands, with_directory, with_supplied}
+use Rattle.tiff_encode.specs.Model.{BytesAreApart, In, FinishedDirectory, SuppliedField, ByteRegion, Model, header_link, own_link, IsLink, IsClear, body_len, whole_len, IsApart, FileContains, with_directory, with_supplied}
 use Rattle.tiff_encode.specs.Laws.{GrownByRegion, GrownByInline, GrownByPlaced, GrownByListing, FinishStep}
 use Rattle.tiff_encode.specs.WriteOps.{standing_fields}
 use Rattle.tiff_encode.proofs.Slices.{is_exact, exact_end, length-le, number_mid, is_offset_width, is_count_width}
@@ -94,7 +94,7 @@ grown_by_supplied : (kind : FileKind) (m : Model) (file : List ℕ) (new : Suppl
     → ((q : ℕ) → IsLink kind m q
     → (field_len new.field ≤ offset_len kind)
     ⊎ IsClear kind q (field_offset kind LittleEndian new.field) (field_len new.field))
-    → Stands kind file m → Stands kind file (with_supplied m new)
+    → FileContains kind file m → FileContains kind file (with_supplied m new)
 grown_by_supplied kind m file new b c h = record {
   header = h.header;
   first = h.first;
@@ -205,7 +205,7 @@ wide Big = lit< tt
 -- a directory is appended
 module _ (kind : FileKind) (m : Model) (file : List ℕ) (fields : FinMap nat_cmp Field)
     (w : AllWritable kind (entries fields))
-    (b : len fields < 256 ^ count_len kind) (h : Stands kind file m) where
+    (b : len fields < 256 ^ count_len kind) (h : FileContains kind file m) where
   -- the appended directory, the offset of its link, and the file with it
   abbrev fresh : FinishedDirectory
   fresh = record { offset = length file; fields = fields }
@@ -346,7 +346,7 @@ module _ (kind : FileKind) (m : Model) (file : List ℕ) (fields : FinMap nat_cm
   }
 
   -- all directories lie in the file
-  all_within : Stands kind grown_file m → (d : FinishedDirectory) → In d (with_directory kind m fresh).directories
+  all_within : FileContains kind grown_file m → (d : FinishedDirectory) → In d (with_directory kind m fresh).directories
       → d.offset + whole_len kind d ≤ length grown_file
   all_within g d i = elim i [
     | inl s ↦ (let P : FinishedDirectory → Type 0 = λ x. x.offset + whole_len kind x ≤ length grown_file in
@@ -385,7 +385,7 @@ module _ (kind : FileKind) (m : Model) (file : List ℕ) (fields : FinMap nat_cm
   ]
 
   -- the model with the appended directory describes the file
-  pub directory_stands : Stands kind grown_file (with_directory kind m fresh)
+  pub directory_stands : FileContains kind grown_file (with_directory kind m fresh)
   directory_stands =
       let g = kept_by_appending kind m file (directory_bytes kind fields) h in
       let links : ℕ → ℕ = λ p. cond (eqb p own) 0 (m.links p) in
@@ -432,7 +432,7 @@ grown_by_listing kind m file fields a h =
     let stood : FinMap nat_cmp Field = standing_fields kind fields in
     let d : FinishedDirectory = record { offset = length file; fields = stood } in
     let few : len stood < 256 ^ count_len kind = (let f = a.few in omega (arith, f, len_standing kind fields)) in
-    let P : List ℕ → Type 0 = λ bytes. Stands kind (file ++ bytes) (with_directory kind m d) in
+    let P : List ℕ → Type 0 = λ bytes. FileContains kind (file ++ bytes) (with_directory kind m d) in
     subst P (sym (bytes_standing kind fields a.each))
     (directory_stands kind m file stood (standing_writable kind fields a.each) few h)
 

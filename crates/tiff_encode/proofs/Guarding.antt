@@ -17,7 +17,7 @@ use Rattle.tiff_value.specs.Data.{FieldData}
 use Rattle.tiff_value.specs.Values.{IsValue}
 use Rattle.tiff_encode.specs.FileBytes.{offset_len, padding}
 use Rattle.tiff_encode.specs.Value.{data_in, buffer_data, is_long, field_at}
-use Rattle.tiff_encode.specs.Model.{SuppliedField, Model, IsLink, Stands}
+use Rattle.tiff_encode.specs.Model.{SuppliedField, Model, IsLink, FileContains}
 use Rattle.tiff_encode.specs.WriteOps.{WriteOp, Appended, Supplied, Listed, all_appended, model_after}
 use Rattle.tiff_encode.specs.Laws.{OpsFit}
 use Rattle.tiff_encode.specs.Machine.{FileState, OpenDirectory, WriteOutcome, WriteCall, answers, gives, does, by_cause, ◌>>=◌}
@@ -170,14 +170,14 @@ opens_fits : (cause : Option TiffError) (d : OpenDirectory) (file : FileState) (
 opens_fits cause d file m = caused_fits cause (opens d) file m (λ _. (tt, tt))
 
 pub begin_leaves : {X : Type 0} (view : X → OpenDirectory) (r : Result X TiffError) (old new : FileState) (m : Model)
-    → Stands old.kind old.bytes m → Ends view (image_directory old) r old new → Leaves (image_directory old) r old new m
+    → FileContains old.kind old.bytes m → Ends view (image_directory old) r old new → Leaves (image_directory old) r old new m
 unfolding image_directory
 begin_leaves view r old new m s e =
     let d : OpenDirectory = new_directory (Some old.chain) true in
     adds_leaves view (by_cause (begin_cause old) (opens d) old) r old new m (begin_adds old) (opens_fits (begin_cause old) d old m) s e
 
 pub extra_leaves : {X : Type 0} (view : X → OpenDirectory) (r : Result X TiffError) (old new : FileState) (m : Model)
-    → Stands old.kind old.bytes m → Ends view (extra_directory old) r old new → Leaves (extra_directory old) r old new m
+    → FileContains old.kind old.bytes m → Ends view (extra_directory old) r old new → Leaves (extra_directory old) r old new m
 unfolding extra_directory
 extra_leaves view r old new m s e =
     let d : OpenDirectory = new_directory None false in
@@ -194,7 +194,7 @@ data_fits (Err e) file m =
     caused_fits (write_data_cause file (Err e)) (answers (Err e) >>= (λ (known : FieldData). appends known.bytes)) file m (λ _. tt)
 
 pub data_leaves : {X : Type 0} (view : X → ℕ) (r : Result X TiffError) (old new : FileState) (m : Model)
-    (value : Result FieldData TiffError) → Stands old.kind old.bytes m
+    (value : Result FieldData TiffError) → FileContains old.kind old.bytes m
     → Ends view (write_data value old) r old new → Leaves (write_data value old) r old new m
 data_leaves view r old new m value s e =
     adds_leaves view (write_data value old) r old new m (data_adds value old) (data_fits value old m) s e
@@ -204,7 +204,7 @@ unfolding write_data_buf
 data_buf_fits b file m = caused_fits (write_data_buf_cause file b) (appends b.bytes) file m (λ _. (tt, tt))
 
 pub data_buf_leaves : {X : Type 0} (view : X → ℕ) (r : Result X TiffError) (old new : FileState) (m : Model)
-    (b : BufferRecord) → Stands old.kind old.bytes m
+    (b : BufferRecord) → FileContains old.kind old.bytes m
     → Ends view (write_data_buf b old) r old new → Leaves (write_data_buf b old) r old new m
 data_buf_leaves view r old new m b s e =
     adds_leaves view (write_data_buf b old) r old new m (data_buf_adds b old) (data_buf_fits b old m) s e
@@ -305,25 +305,25 @@ value_fits (Bytes type bytes) field old new m a fits h =
 
 -- what a call leaves that writes a value
 pub entry_left : (v : Value) (field : Field) (old new : FileState) (m : Model) → IsAllowed v → EndFits new
-    → EndsAsDefined (entry_of v old) (Ok field) new → Stands old.kind old.bytes m
-    → Stands old.kind new.bytes (model_after old.kind old.bytes m (entry_of v old).ops)
+    → EndsAsDefined (entry_of v old) (Ok field) new → FileContains old.kind old.bytes m
+    → FileContains old.kind new.bytes (model_after old.kind old.bytes m (entry_of v old).ops)
 entry_left v field old new m a fits h s =
     let view : Field → Field = λ f. f in
     adds_leaves view (entry_of v old) (Ok field) old new m (value_adds v old) (value_fits v field old new m a fits h) s h
 
 pub entry_leaves : (v : Value) (r : Result Field TiffError) (old new : FileState) (m : Model) → IsAllowed v → EndFits new
-    → Ends (λ (field : Field). field) (entry_of v old) r old new → Stands old.kind old.bytes m → Leaves (entry_of v old) r old new m
+    → Ends (λ (field : Field). field) (entry_of v old) r old new → FileContains old.kind old.bytes m → Leaves (entry_of v old) r old new m
 entry_leaves v (Ok field) old new m a fits h s = entry_left v field old new m a fits h s
 entry_leaves v (Err e) old new m a fits h s = failed_leaves (entry_of v old) e old new m (value_adds v old) h s
 
 -- ---- a directory after its opening
 
 pub begun_left : (old new : FileState) (d : OpenDirectory) (m : Model) → EndsAsDefined (image_directory old) (Ok d) new
-    → Stands old.kind old.bytes m → Stands old.kind new.bytes (model_after old.kind old.bytes m (image_directory old).ops)
+    → FileContains old.kind old.bytes m → FileContains old.kind new.bytes (model_after old.kind old.bytes m (image_directory old).ops)
 begun_left old new d m h s = let view : OpenDirectory → OpenDirectory = λ f. f in begin_leaves view (Ok d) old new m s h
 
 pub extra_left : (old new : FileState) (d : OpenDirectory) (m : Model) → EndsAsDefined (extra_directory old) (Ok d) new
-    → Stands old.kind old.bytes m → Stands old.kind new.bytes (model_after old.kind old.bytes m (extra_directory old).ops)
+    → FileContains old.kind old.bytes m → FileContains old.kind new.bytes (model_after old.kind old.bytes m (extra_directory old).ops)
 extra_left old new d m h s = let view : OpenDirectory → OpenDirectory = λ f. f in extra_leaves view (Ok d) old new m s h
 
 -- ---- the end of a directory
@@ -340,14 +340,14 @@ no_fault : {fault : SinkFault} → let a : Option SinkFault = Some fault in a �
 no_fault h = cc
 
 module _ (old new : FileState) (m : Model) (d : OpenDirectory) (a : AreEntries d.fields) (n : len d.fields < 2 ^ 64) (fits : EndFits old)
-    (s : Stands old.kind old.bytes m) (p : (offset : ℕ) → d.parent ≡ Some offset → IsLink old.kind m offset) where
+    (s : FileContains old.kind old.bytes m) (p : (offset : ℕ) → d.parent ≡ Some offset → IsLink old.kind m offset) where
   -- what the end of a directory leaves, by whether the sink fails before it
   ended_left : {X : Type 0} (view : X → Offsets) (fault : Option SinkFault) (r : Result X TiffError) → old.fault ≡ fault
       → Ends view (finish d old) r old new → LeavesLinked (finish d old) r old new m
   ended_left view None r f h = finish_leaves view r old new m d a n p (fits f) s h
   ended_left view (Some fault) (Ok x) f h = absurd (no_fault (sym f ∙ finish_fresh d old (view x) h.answer))
   ended_left view (Some fault) (Err e) f h =
-      elim h as (λ _. Stands old.kind new.bytes m ⊎ LeavesTorn (finish d old) e old new m) [
+      elim h as (λ _. FileContains old.kind new.bytes m ⊎ LeavesTorn (finish d old) e old new m) [
         | inl t ↦ inl (refused_leaves (finish d old) e old new m (finish_plain d old) s t)
         | inr h ↦ elim h [
           | inl c ↦ absurd (no_fault (sym f ∙ c.fresh))

@@ -17,7 +17,7 @@ use Rattle.tiff_base.specs.SourceAndSink.{bytes_at, exactly_at, put}
 use Rattle.tiff_base.specs.Number.{number, number_at, le}
 use Rattle.tiff_base.specs.Directory.{count_width, offset_width, entry_len, entry_of, entries_from, last_of_each, link, first_entry, link_offset, directory_at}
 use Rattle.tiff_encode.specs.FileBytes.{offset_len, count_len, header_mark}
-use Rattle.tiff_encode.specs.Model.{In, FinishedDirectory, Model, header_link, own_link, IsClear, body_len, IsApart, Stands, with_link}
+use Rattle.tiff_encode.specs.Model.{In, FinishedDirectory, Model, header_link, own_link, IsClear, body_len, IsApart, FileContains, with_link}
 use Rattle.tiff_encode.specs.Laws.{KeptByAppending, KeptByPatching, KeptByTearing}
 use Rattle.tiff_encode.proofs.Slices.{ok_bind, ok_inj, exact, is_exact, exact_append, length_put, exact_put_before, exact_put_behind, exact_put_here, length-le, number-le, is_offset_width, number_kept}
 
@@ -178,7 +178,7 @@ supplied_kept kind file new f b e c =
 
 -- the entries of a directory in the file, and the number in its own link
 pub own_parts : (kind : FileKind) (m : Model) (file : List ℕ) (d : FinishedDirectory) → In d m.directories
-    → Stands kind file m
+    → FileContains kind file m
     → (last_of_each (entries_from kind LittleEndian file (first_entry kind d.offset) (len d.fields)) ≡ d.fields)
     × (number_at LittleEndian (offset_width kind) file (own_link kind d) ≡ Ok (m.links (own_link kind d)))
 own_parts kind m file d i h =
@@ -187,7 +187,7 @@ own_parts kind m file d i h =
 
 -- a finished directory and its link lie in the file
 pub directory_within : (kind : FileKind) (m : Model) (file : List ℕ) (d : FinishedDirectory) → In d m.directories
-    → Stands kind file m
+    → FileContains kind file m
     → d.offset + body_len kind d + offset_len kind ≤ length file
 directory_within kind m file d i h = let w = (h.apart (own_link kind d) (inr (d, (i, refl)))).within in omega (arith, w)
 
@@ -271,7 +271,7 @@ module _ (kind : FileKind) (file : List ℕ) (q : ℕ) (over : List ℕ) (t : �
   front_clear p n k l c = elim c [ inl b ↦ inl (omega arith) | inr b ↦ inr b ]
 
   -- the model with the changed link describes the patched file
-  relinked_stands : (m : Model) → IsApart kind file m q → Stands kind file m → Stands kind patched (with_link kind m q t)
+  relinked_stands : (m : Model) → IsApart kind file m q → FileContains kind file m → FileContains kind patched (with_link kind m q t)
   unfolding patched
   relinked_stands m a h = record {
     header = clear_kept 0 (header_link kind) (header_mark kind) (inl (let g = a.header in omega (arith, g))) h.header;

@@ -18,14 +18,14 @@ use Rattle.tiff_base.specs.Field.{Field, In, AreEntries}
 use Rattle.tiff_base.specs.Types.{type_size}
 use Rattle.tiff_value.specs.Data.{IsWhole}
 use Rattle.tiff_encode.specs.FileBytes.{offset_len, count_len}
-use Rattle.tiff_encode.specs.Model.{Model, IsLink, Stands, with_link}
+use Rattle.tiff_encode.specs.Model.{Model, IsLink, FileContains, with_link}
 use Rattle.tiff_encode.specs.WriteOps.{WriteOp, Appended, Supplied, Listed, Linked, bytes_after, all_appended, model_after}
 use Rattle.tiff_encode.specs.Laws.{AreListable, AreAppending, OpsFit}
 use Rattle.tiff_encode.specs.Value.{data_in}
 use Rattle.tiff_encode.specs.Machine.{FileState, OpenDirectory, WriteOutcome, WriteCall, does, by_cause, ◌>>=◌}
 use Rattle.tiff_encode.specs.Causes.{unless_ended, is_past, is_past_count, end_of, order_cause, finish_cause}
 use Rattle.tiff_encode.specs.Calls.{Offsets, offsets_of, links_to, chain_after, chains, finish}
-use Rattle.tiff_encode.specs.Ends.{EndsAsDefined, IsTornOff, Ends}
+use Rattle.tiff_encode.specs.Ends.{EndsAsDefined, LinkWriteFailed, Ends}
 use Rattle.tiff_encode.specs.Leaves.{LeavesTorn, LeavesLinked}
 use Rattle.tiff_encode.proofs.WriteOps.{bytes_joined, ops_stand, ops_begun, ops_torn}
 use Rattle.tiff_encode.proofs.CallFits.{caused_fits, finish_fits}
@@ -89,30 +89,30 @@ some_none h = cc
 
 -- a call that is refused leaves the file as it is
 pub refused_leaves : {Y : Type 0} (told : WriteOutcome Y) (e : TiffError) (old new : FileState) (m : Model)
-    → IsPlain told old → Stands old.kind old.bytes m → EndsAsDefined told (Err e) new → Stands old.kind new.bytes m
+    → IsPlain told old → FileContains old.kind old.bytes m → EndsAsDefined told (Err e) new → FileContains old.kind new.bytes m
 refused_leaves told e old new m p s t =
     let same : new.bytes ≡ old.bytes =
     ap (λ f. f.bytes) t.state ∙ p.bytes ∙ ap (bytes_after old.kind old.bytes) (p.refused e t.answer) in
-    subst (λ b. Stands old.kind b m) (sym same) s
+    subst (λ b. FileContains old.kind b m) (sym same) s
 
 -- after a success, the model with the changes describes the file
 told_leaves : {Y : Type 0} (told : WriteOutcome Y) (y : Y) (old new : FileState) (m : Model) → IsPlain told old
-    → OpsFit old.kind old.bytes m told.ops → Stands old.kind old.bytes m → EndsAsDefined told (Ok y) new
-    → Stands old.kind new.bytes (model_after old.kind old.bytes m told.ops)
+    → OpsFit old.kind old.bytes m told.ops → FileContains old.kind old.bytes m → EndsAsDefined told (Ok y) new
+    → FileContains old.kind new.bytes (model_after old.kind old.bytes m told.ops)
 told_leaves told y old new m p f s t =
     let same : new.bytes ≡ bytes_after old.kind old.bytes told.ops = ap (λ f. f.bytes) t.state ∙ p.bytes in
-    subst (λ b. Stands old.kind b (model_after old.kind old.bytes m told.ops)) (sym same)
+    subst (λ b. FileContains old.kind b (model_after old.kind old.bytes m told.ops)) (sym same)
     (ops_stand old.kind old.bytes m told.ops s f)
 
 -- after a partial append, the earlier model still describes the file
 pub begun_leaves : (ops : List WriteOp) (count : ℕ) (old : FileState) (bytes : List ℕ) (m : Model)
-    → bytes ≡ old.bytes ++ take count (all_appended old.kind ops) → Stands old.kind old.bytes m → Stands old.kind bytes m
+    → bytes ≡ old.bytes ++ take count (all_appended old.kind ops) → FileContains old.kind old.bytes m → FileContains old.kind bytes m
 begun_leaves ops count old bytes m h s =
-    subst (λ b. Stands old.kind b m) (sym h) (ops_begun old.kind old.bytes m ops count s)
+    subst (λ b. FileContains old.kind b m) (sym h) (ops_begun old.kind old.bytes m ops count s)
 
 -- a link that the sink fails to write in full has some number in its field
 pub torn_leaves : {Y : Type 0} (told : WriteOutcome Y) (e : TiffError) (old new : FileState) (m : Model) → IsPlain told old
-    → OpsFit old.kind old.bytes m told.ops → Stands old.kind old.bytes m → IsTornOff told.ops e old new
+    → OpsFit old.kind old.bytes m told.ops → FileContains old.kind old.bytes m → LinkWriteFailed told.ops e old new
     → LeavesTorn told e old new m
 torn_leaves told e old new m p f s t =
     let l = p.links in
@@ -123,17 +123,17 @@ torn_leaves told e old new m p f s t =
     record {
       torn = t;
       holds = x.0;
-      stands = subst (λ b. Stands old.kind b (with_link old.kind (model_after old.kind old.bytes m t.before) t.offset x.0))
+      stands = subst (λ b. FileContains old.kind b (with_link old.kind (model_after old.kind old.bytes m t.before) t.offset x.0))
           (sym (ap (λ f. f.bytes) t.state)) x.1;
     }
 
 -- a call that may patch a link as its last change
 linked_leaves : {X Y : Type 0} (view : X → Y) (told : WriteOutcome Y) (r : Result X TiffError) (old new : FileState) (m : Model)
-    → IsPlain told old → OpsFit old.kind old.bytes m told.ops → Stands old.kind old.bytes m
+    → IsPlain told old → OpsFit old.kind old.bytes m told.ops → FileContains old.kind old.bytes m
     → Ends view told r old new → LeavesLinked told r old new m
 linked_leaves view told (Ok x) old new m p f s e = told_leaves told (view x) old new m p f s e
 linked_leaves view told (Err fault) old new m p f s e =
-    elim e as (λ _. Stands old.kind new.bytes m ⊎ LeavesTorn told fault old new m) [
+    elim e as (λ _. FileContains old.kind new.bytes m ⊎ LeavesTorn told fault old new m) [
       | inl t ↦ inl (refused_leaves told fault old new m p s t)
       | inr e ↦ elim e [
         | inl c ↦ inl (begun_leaves told.ops c.count old new.bytes m (ap (λ f. f.bytes) c.state) s)
@@ -264,7 +264,7 @@ entries_fit file m d a n p l =
 
 pub finish_leaves : {X : Type 0} (view : X → Offsets) (r : Result X TiffError) (old new : FileState) (m : Model)
     (d : OpenDirectory) → AreEntries d.fields → len d.fields < 2 ^ 64
-    → ((offset : ℕ) → d.parent ≡ Some offset → IsLink old.kind m offset) → end_of old < 2 ^ 64 → Stands old.kind old.bytes m
+    → ((offset : ℕ) → d.parent ≡ Some offset → IsLink old.kind m offset) → end_of old < 2 ^ 64 → FileContains old.kind old.bytes m
     → Ends view (finish d old) r old new → LeavesLinked (finish d old) r old new m
 finish_leaves view r old new m d a n p l s e =
     linked_leaves view (finish d old) r old new m (finish_plain d old) (entries_fit old m d a n p l) s e

@@ -1,7 +1,7 @@
 -- A call leads from each `FileAndModel` of the file before it to a `FileAndModel` of the file after it.
 use Rattle.std.proofs.Common.{◌≡◌, Bool, Result, Ok, Err, refl, ap, sym, ◌∙◌, inl, inr, subst}
 use Rattle.tiff_base.specs.declared.error.TiffError.{TiffError}
-use Rattle.tiff_encode.specs.Model.{Model, Stands, Grows}
+use Rattle.tiff_encode.specs.Model.{Model, FileContains, Grows}
 use Rattle.tiff_encode.specs.WriteOps.{model_after}
 use Rattle.tiff_encode.specs.Laws.{AreAppending}
 use Rattle.tiff_encode.specs.Machine.{FileState, WriteOutcome, WriteCall}
@@ -39,13 +39,13 @@ module _ {X Y : Type 0} (view : X → Y) (told : WriteOutcome Y) (s : FileAndMod
 
   -- where each model that describes the file before also describes the file after the call
   stays_known : (P : FileAndModel → Type 0) → new.kind ≡ s.file.kind
-      → ((m : Model) → Stands s.file.kind s.file.bytes m → Stands s.file.kind new.bytes m) → P here → Led P known s new
+      → ((m : Model) → FileContains s.file.kind s.file.bytes m → FileContains s.file.kind new.bytes m) → P here → Led P known s new
   stays_known P same l p =
-      (here, (refl, (p, ((λ q. subst (λ kind. Stands kind new.bytes s.model) (sym same) (l s.model (k q))), grows_here s.model))))
+      (here, (refl, (p, ((λ q. subst (λ kind. FileContains kind new.bytes s.model) (sym same) (l s.model (k q))), grows_here s.model))))
 
   -- A call that only appends succeeds as specified, or it fails.
   pub seen : (r : Result X TiffError) → Ends view told r s.file new
-      → ((m : Model) → Stands s.file.kind s.file.bytes m → Leaves told r s.file new m) → Led (Seen view told r s) known s new
+      → ((m : Model) → FileContains s.file.kind s.file.bytes m → Leaves told r s.file new m) → Led (Seen view told r s) known s new
   seen (Ok x) e l =
       let m : Model = model_after s.file.kind s.file.bytes s.model told.ops in
       let same : new.kind ≡ s.file.kind = ap (λ f. f.kind) (e.state ∙ a.next) in (
@@ -54,7 +54,7 @@ module _ {X Y : Type 0} (view : X → Y) (told : WriteOutcome Y) (s : FileAndMod
           refl,
           (
             record { ended = e; model = refl },
-            ((λ q. subst (λ kind. Stands kind new.bytes m) (sym same) (l s.model (k q))), ops_grow s.file.kind s.file.bytes s.model told.ops),
+            ((λ q. subst (λ kind. FileContains kind new.bytes m) (sym same) (l s.model (k q))), ops_grow s.file.kind s.file.bytes s.model told.ops),
           ),
         ),
       )
@@ -75,9 +75,9 @@ module _ {X Y : Type 0} (view : X → Y) (told : WriteOutcome Y) (s : FileAndMod
 -- a call that only appends leads on from each `FileAndModel` of the file
 pub moves_so : {X Y : Type 0} (view : X → Y) (call : WriteCall Y) (r : Result X TiffError) (old new : FileState)
     → IsAdding (call old) old → Ends view (call old) r old new
-    → ((m : Model) → Stands old.kind old.bytes m → Leaves (call old) r old new m)
+    → ((m : Model) → FileContains old.kind old.bytes m → Leaves (call old) r old new m)
     → Moves (λ s t. Seen view (call s.file) r s t) old new
 moves_so {X = X} {Y = Y} view call r old new a e l known s q k =
     let Q : FileState → Type 0 = λ old. IsAdding (call old) old → Ends view (call old) r old new
-    → ((m : Model) → Stands old.kind old.bytes m → Leaves (call old) r old new m) → Led (λ t. Seen view (call s.file) r s t) known s new in
+    → ((m : Model) → FileContains old.kind old.bytes m → Leaves (call old) r old new m) → Led (λ t. Seen view (call s.file) r s t) known s new in
     subst Q q (λ a e l. seen view (call s.file) s new known k a r e l) a e l

@@ -14,7 +14,7 @@ use Rattle.tiff_base.specs.Directory.{offset_width, link, directory_at}
 use Rattle.tiff_base.specs.Number.{number_at}
 use Rattle.tiff_ifd.specs.Chain.{link_from, IsChain, Chain}
 use Rattle.tiff_encode.specs.Appending.{HasHeader}
-use Rattle.tiff_encode.specs.Model.{In, FinishedDirectory, Model, Stands, IsLink, header_link, own_link}
+use Rattle.tiff_encode.specs.Model.{In, FinishedDirectory, Model, FileContains, IsLink, header_link, own_link}
 use Rattle.tiff_encode.specs.LongerChain.{chain_behind, link_offset_at, link_behind, unless_cut, LinkBehind, AreLinked, PagesGoOn, LastLinkEnds}
 use Rattle.tiff_encode.proofs.Slices.{ok_bind, ok_inj, some_inj, none_some}
 use Rattle.tiff_encode.proofs.Kept.{own_parts}
@@ -30,7 +30,7 @@ cases_zero x y s = elim (cases_eq x 0) [ inl z ↦ absurd (none_some {x = y} (ap
 
 -- ---- linked directories
 
-module _ (kind : FileKind) (new : List ℕ) (m : Model) (stands : Stands kind new m) where
+module _ (kind : FileKind) (new : List ℕ) (m : Model) (stands : FileContains kind new m) where
   -- a link of a model has its number
   number_of_link : (q : ℕ) → IsLink kind m q → number_at LittleEndian (offset_width kind) new q ≡ Ok (m.links q)
   number_of_link q l =

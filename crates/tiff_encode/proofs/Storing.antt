@@ -27,7 +27,7 @@ use Rattle.tiff_encode.specs.Chunks.{image_page, row_samples, chunk_rows, is_lef
 use Rattle.tiff_encode.specs.Causes.{is_past, is_past_chunks, unless_ended, end_of, write_chunk_cause}
 use Rattle.tiff_encode.specs.Calls.{with_chunk, appends_chunk, write_chunk}
 use Rattle.tiff_encode.specs.Encoder.{AppendIsStopped, AppendIsCut}
-use Rattle.tiff_encode.specs.Ends.{EndsAsDefined, IsCutOff}
+use Rattle.tiff_encode.specs.Ends.{EndsAsDefined, AppendFailed}
 use Rattle.tiff_encode.specs.FileWrites.{file_with_bytes}
 use Rattle.tiff_encode.specs.Stored.{IsChunkStored, IsCompressed, unpacked_chunk}
 use Rattle.tiff_encode.specs.Storing.{AppendsChunk, StoresChunk, WritesStoredChunk}
@@ -90,7 +90,7 @@ module _ (old : FileState) (i : OpenImage) (n : ℕ) (stored : List ℕ) where
   append_cut m e new next l f c h q =
       by_none m (Err e) new next l c (
         q,
-        inr (inl (elim h as (λ _. IsCutOff (told_by None).ops e old new) [
+        inr (inl (elim h as (λ _. AppendFailed (told_by None).ops e old new) [
           | inl s ↦ absurd (none_some old.fault f s.failed)
           | inr x ↦ cut_off (told_by None).ops e old new (subst (λ xs. AppendIsCut xs e old new) (sym (append-nil stored)) x)
         ])),
@@ -157,10 +157,10 @@ module _ (old : FileState) (i : OpenImage) (samples : List ℕ) (new : FileState
   chunk_stored count stored (Err e) counted is_stored h =
       let same : write_chunk i count stored old ≡ write_chunk i (length samples) stored old = ap (λ k. write_chunk i k stored old) counted in (
         h.0,
-        elim h.1 as (λ _. ((e ≡ OutOfMemory) × (new ≡ old)) ⊎ ((xs : List ℕ) × (IsChunkStored i xs samples × (EndsAsDefined (write_chunk i (length samples) xs old) (Err e) new ⊎ IsCutOff (write_chunk i (length samples) xs old).ops e old new)))) [
+        elim h.1 as (λ _. ((e ≡ OutOfMemory) × (new ≡ old)) ⊎ ((xs : List ℕ) × (IsChunkStored i xs samples × (EndsAsDefined (write_chunk i (length samples) xs old) (Err e) new ⊎ AppendFailed (write_chunk i (length samples) xs old).ops e old new)))) [
           | inl t ↦ inr (stored, (is_stored, inl (subst (λ t. EndsAsDefined t (Err e) new) same t)))
           | inr h ↦ elim h [
-            | inl c ↦ inr (stored, (is_stored, inr (subst (λ (t : WriteOutcome OpenImage). IsCutOff t.ops e old new) same c)))
+            | inl c ↦ inr (stored, (is_stored, inr (subst (λ (t : WriteOutcome OpenImage). AppendFailed t.ops e old new) same c)))
             | inr w ↦ inl w
           ]
         ],

@@ -5,7 +5,7 @@ use Rattle.tiff_base.specs.declared.tags.FileKind.{FileKind}
 use Rattle.tiff_base.specs.SourceAndSink.{put}
 use Rattle.tiff_base.specs.Number.{le}
 use Rattle.tiff_encode.specs.FileBytes.{offset_len, directory_bytes}
-use Rattle.tiff_encode.specs.Model.{ByteRegion, Model, Stands, with_link, with_supplied, IsLink, Grows}
+use Rattle.tiff_encode.specs.Model.{ByteRegion, Model, FileContains, with_link, with_supplied, IsLink, Grows}
 use Rattle.tiff_encode.specs.WriteOps.{WriteOp, Appended, Supplied, Listed, Linked, after_op, bytes_after, all_appended, model_after_op, model_after}
 use Rattle.tiff_encode.specs.Laws.{OpFits, OpsFit, OpsStand, OpsGrow, OpsBegun, OpsTorn, OpsJoin, OpsAppend}
 use Rattle.tiff_encode.proofs.Slices.{length-le}
@@ -63,13 +63,13 @@ ops_append kind bytes (Linked offset target ∷ ops) a = absurd a
 -- ---- what the model describes
 
 -- after one change, the changed model describes the file
-pub op_stands : (kind : FileKind) (bytes : List ℕ) (m : Model) (op : WriteOp) → Stands kind bytes m
+pub op_stands : (kind : FileKind) (bytes : List ℕ) (m : Model) (op : WriteOp) → FileContains kind bytes m
     → OpFits kind m op
-    → Stands kind (after_op kind bytes op) (model_after_op kind (length bytes) m op)
+    → FileContains kind (after_op kind bytes op) (model_after_op kind (length bytes) m op)
 op_stands kind bytes m (Appended more) h f = grown_by_region kind m bytes more h
 op_stands kind bytes m (Supplied supplied) h f =
-    let P : List ℕ → Type 0 = λ b. Stands kind bytes (with_supplied m (record { field = supplied.field; bytes = b })) in
-    elim f as (λ _. Stands kind bytes (with_supplied m supplied)) [
+    let P : List ℕ → Type 0 = λ b. FileContains kind bytes (with_supplied m (record { field = supplied.field; bytes = b })) in
+    elim f as (λ _. FileContains kind bytes (with_supplied m supplied)) [
       | inl x ↦ subst P (sym x.bytes) (grown_by_inline kind m bytes supplied.field x.short h)
       | inr y ↦ (let r : ByteRegion = y.0 in let a = y.1.1 in
           subst P (sym a.bytes)
@@ -124,6 +124,6 @@ ops_torn kind bytes m before offset target count a h f =
     let p = fits_parted kind bytes m before (Linked offset target ∷ []) f in
     let short : length over ≤ offset_len kind =
     omega (arith, length-take count (le (offset_len kind) target), length-le 0 (offset_len kind) target) in
-    let P : List ℕ → Type 0 = λ file. (t : ℕ) × Stands kind (put file offset over) (with_link kind n offset t) in
+    let P : List ℕ → Type 0 = λ file. (t : ℕ) × FileContains kind (put file offset over) (with_link kind n offset t) in
     subst P (ops_append kind bytes before a)
     (kept_by_tearing kind n (bytes_after kind bytes before) offset over p.1.0.0 short (ops_stand kind bytes m before h p.0))

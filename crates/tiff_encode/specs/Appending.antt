@@ -11,13 +11,13 @@ use Rattle.tiff_encode.specs.declared.encoder.settings.Compression.TheVariants.{
 use Rattle.tiff_encode.specs.FileBytes.{offset_len, header_mark}
 use Rattle.tiff_encode.specs.WriteOps.{WriteOp, Appended, Supplied, Listed, Linked, bytes_after}
 use Rattle.tiff_encode.specs.Machine.{FileState}
-use Rattle.tiff_encode.specs.Model.{FinishedDirectory, ByteRegion, Model, header_link, IsLink, Stands, whole_len}
+use Rattle.tiff_encode.specs.Model.{FinishedDirectory, ByteRegion, Model, header_link, IsLink, FileContains, whole_len}
 
 -- the file of an encoder that goes on behind these bytes, with its last link at an offset
 abbrev pub continued_file : FileKind → List ℕ → ℕ → ℕ → FileState
-continued_file kind told failures link = record {
+continued_file kind contents failures link = record {
   kind = kind;
-  bytes = told;
+  bytes = contents;
   failures = failures;
   fault = None;
   chain = link;
@@ -77,10 +77,10 @@ former_model kind file first d = record {
 
 -- The file of an encoder contains the model of the former file, and the last link of its IFD chain
 -- is a link of this model and has the number 0. So each law of a file that contains a model
--- (`Stands`) holds for what the encoder appends.
+-- (`FileContains`) holds for what the encoder appends.
 pub record GoesOnBehind (kind : FileKind) (file : List ℕ) (chain : ℕ) (former : Model)
     : Type 0 where
-  pub stands : Stands kind file former
+  pub stands : FileContains kind file former
   pub link : IsLink kind former chain
   pub last : former.links chain ≡ 0
 

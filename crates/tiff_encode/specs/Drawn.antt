@@ -16,7 +16,7 @@ pub record IsForm (width : ℕ) (form : ChunkLayout) : Type 0 where
   pub strips : form.chunk_type ≡ Strip → form.chunk_width ≡ width
 
 -- an image of a width and a height, with a number of samples and of extra samples per pixel
-pub record IsDrawn (width height samples extra : ℕ) (form : ChunkLayout) : Type 0 where
+pub record IsValidImage (width height samples extra : ℕ) (form : ChunkLayout) : Type 0 where
   pub wide : IsSide width
   pub high : IsSide height
   pub few : samples + extra < 2 ^ 16

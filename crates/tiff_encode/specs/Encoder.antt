@@ -13,13 +13,13 @@ use Rattle.tiff_encode.specs.FileBytes.{offset_len, header_bytes}
 
 -- The sink failed while the header was written: it has the first bytes of the header, one more
 -- failure, and the cause of that failure.
-pub record HeaderFails {S : Type 0} (kind : FileKind) (told : S → List ℕ) (failures : S
+pub record HeaderFails {S : Type 0} (kind : FileKind) (contents : S → List ℕ) (failures : S
     → ℕ) (fault : S → Option SinkFault)
     (sink : S) (e : TiffError) : Type 0 where
   pub last : S
   pub count : ℕ
   pub within : count < length (header_bytes kind)
-  pub bytes : told last ≡ told sink ++ take count (header_bytes kind)
+  pub bytes : contents last ≡ contents sink ++ take count (header_bytes kind)
   pub grew : failures last ≡ failures sink + 1
   pub cause : SinkFault
   pub tells : fault last ≡ Some cause

@@ -18,7 +18,7 @@ pub record EndsAsDefined {A : Type 0} (told : WriteOutcome A) (r : Result A Tiff
 
 -- The sink failed while the call appended: the file has the first of the bytes that the call
 -- appends, nothing is written after them, and the encoder keeps the error of the sink.
-pub record IsCutOff (ops : List WriteOp) (e : TiffError) (old new : FileState) : Type 0 where
+pub record AppendFailed (ops : List WriteOp) (e : TiffError) (old new : FileState) : Type 0 where
   pub fresh : old.fault ≡ None
   pub fault : SinkFault
   pub answer : e ≡ sink_error fault
@@ -33,7 +33,7 @@ pub record IsCutOff (ops : List WriteOp) (e : TiffError) (old new : FileState) :
 
 -- All bytes were appended, and the sink failed while the last write, a link, was made: the link has
 -- the first of the new bytes.
-pub record IsTornOff (ops : List WriteOp) (e : TiffError) (old new : FileState) : Type 0 where
+pub record LinkWriteFailed (ops : List WriteOp) (e : TiffError) (old new : FileState) : Type 0 where
   pub fresh : old.fault ≡ None
   pub fault : SinkFault
   pub answer : e ≡ sink_error fault
@@ -73,8 +73,8 @@ pub record IsShortOfMemory {A : Type 0} (told : WriteOutcome A) (e : TiffError)
 abbrev pub CallFails : {A : Type 0} → WriteOutcome A → TiffError → FileState → FileState → Type 0
 CallFails told e old new =
     EndsAsDefined told (Err e) new
-    ⊎ (IsCutOff told.ops e old new
-    ⊎ (IsTornOff told.ops e old new ⊎ IsShortOfMemory told e old new))
+    ⊎ (AppendFailed told.ops e old new
+    ⊎ (LinkWriteFailed told.ops e old new ⊎ IsShortOfMemory told e old new))
 
 -- The result of a call, as `view` maps it, and the file before and after the call.
 abbrev pub Ends : {X Y : Type 0} → (X → Y) → WriteOutcome Y → Result X TiffError → FileState

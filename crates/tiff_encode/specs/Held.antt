@@ -31,7 +31,7 @@ use Rattle.tiff_page.specs.Layout.{color_of}
 use Rattle.tiff_page.specs.Pixels.{is_short}
 use Rattle.tiff_encode.specs.FileBytes.{offset_len}
 use Rattle.tiff_encode.specs.Value.{offset_values}
-use Rattle.tiff_encode.specs.Model.{In, FinishedDirectory, Model, Stands}
+use Rattle.tiff_encode.specs.Model.{In, FinishedDirectory, Model, FileContains}
 use Rattle.tiff_encode.specs.WriteOps.{standing_fields}
 use Rattle.tiff_encode.specs.Machine.{Chunk, OpenImage, compression_method}
 use Rattle.tiff_encode.specs.Drawn.{IsSide, IsForm, HoldsPixels}
@@ -145,7 +145,7 @@ place_tags i offsets byte_counts =
     places_in i.form.chunk_type i.form.chunk_width i.form.chunk_height offsets byte_counts
 
 -- The values of the tags that describe a page are those of an image.
-pub record TellsImage (kind : FileKind) (i : OpenImage) (given : Given) : Type 0 where
+pub record HasImageTags (kind : FileKind) (i : OpenImage) (given : Given) : Type 0 where
   pub extra : ExtraGiven i.extra (given (tag_number tag.ExtraSamples))
   pub pixels : AreGiven (image_tags i (given (tag_number tag.ExtraSamples))) given
   pub chunks : EachGiven
@@ -233,9 +233,9 @@ abbrev pub PageTold : Type 0
 PageTold =
     (kind : FileKind) (file : List ℕ) (m : Model) (d : FinishedDirectory)
     (fields : FinMap nat_cmp Field) (given : Given) (i : OpenImage)
-    → Stands kind file m → In d m.directories → d.fields ≡ standing_fields kind fields
+    → FileContains kind file m → In d m.directories → d.fields ≡ standing_fields kind fields
     → HoldsValues m fields given
-    → IsWholeImage kind i → TellsImage kind i given
+    → IsWholeImage kind i → HasImageTags kind i given
     → page_at kind file d.offset unlimited ≡ Ok (shown_page i)
 
 -- chunks that store samples show these samples
@@ -249,8 +249,8 @@ abbrev pub ImagesShow : Type 0
 ImagesShow =
     (kind : FileKind) (file : List ℕ) (m : Model) (d : FinishedDirectory)
     (fields : FinMap nat_cmp Field) (given : Given) (i : OpenImage) (samples : List (List ℕ))
-    → Stands kind file m → In d m.directories → d.fields ≡ standing_fields kind fields
+    → FileContains kind file m → In d m.directories → d.fields ≡ standing_fields kind fields
     → HoldsValues m fields given
-    → IsWholeImage kind i → TellsImage kind i given → AreSupplied i samples
+    → IsWholeImage kind i → HasImageTags kind i given → AreSupplied i samples
     → RegionsHaveChunks m i samples
     → Shows kind file d.offset (image_with i samples)

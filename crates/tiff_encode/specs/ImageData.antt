@@ -9,19 +9,19 @@ use Rattle.tiff_value.specs.declared.encoder.colortype.ColorTypeName.TheVariants
 use Rattle.tiff_value.specs.ColorType.{ColorTypeRecord}
 use Rattle.tiff_value.specs.ColorTypes.{color_type, inner_size}
 use Rattle.tiff_encode.specs.declared.encoder.settings.Compression.TheVariants.{Uncompressed}
-use Rattle.tiff_encode.specs.Model.{Model, IsLink, Stands, header_link}
+use Rattle.tiff_encode.specs.Model.{Model, IsLink, FileContains, header_link}
 use Rattle.tiff_encode.specs.Machine.{FileState, OpenImage, WriteOutcome, WriteCall}
-use Rattle.tiff_encode.specs.Drawn.{IsDrawn}
+use Rattle.tiff_encode.specs.Drawn.{IsValidImage}
 use Rattle.tiff_encode.specs.Chunks.{all_samples, image_page, shown_page, parts_left, sample_in}
 use Rattle.tiff_encode.specs.Causes.{end_of, write_image_data_cause}
 use Rattle.tiff_encode.specs.Calls as calls
 use Rattle.tiff_encode.specs.Calls.{Offsets}
-use Rattle.tiff_encode.specs.Ends.{EndsAsDefined, IsCutOff, IsShortOfMemory, CallFails, EndsSilently}
+use Rattle.tiff_encode.specs.Ends.{EndsAsDefined, AppendFailed, IsShortOfMemory, CallFails, EndsSilently}
 use Rattle.tiff_encode.specs.Leaves.{LeavesTorn}
 use Rattle.tiff_encode.specs.Stored.{AreStored, IsChunkStored}
 use Rattle.tiff_encode.specs.Shows.{Image, Shows, ShowsFirst, ShowsGray}
 use Rattle.tiff_encode.specs.Held.{image_with}
-use Rattle.tiff_encode.specs.Open.{HoldsOpen, IsOpen, model_by}
+use Rattle.tiff_encode.specs.Open.{RecordsImage, IsOpen, model_by}
 
 -- an image with these samples, row by row and column by column
 abbrev pub image_of_samples : OpenImage → List ℕ → Image
@@ -39,7 +39,7 @@ StopsWithin i parts e old new =
     (stored : List (List ℕ)) × (AreStored i parts stored
     × (let told = calls.write_chunks i parts stored old in
     (EndsAsDefined told (Err e) new
-    ⊎ (IsCutOff told.ops e old new ⊎ ((length stored < length parts)
+    ⊎ (AppendFailed told.ops e old new ⊎ ((length stored < length parts)
     × IsShortOfMemory told e old new)))))
 
 -- chunks of these samples are written one after another, and the image has them all; or the call
@@ -105,8 +105,8 @@ abbrev pub LeavesChunk : {A : Type 0} → (OpenImage → ℕ → List ℕ → Wr
 LeavesChunk call i samples (Ok x) old new next m =
     (stored : List ℕ) × (IsChunkStored i stored samples
     × (EndsAsDefined (call i (length samples) stored old) (Ok next) new
-    × Stands old.kind new.bytes (model_by old m (call i (length samples) stored old))))
-LeavesChunk call i samples (Err e) old new next m = Stands old.kind new.bytes m
+    × FileContains old.kind new.bytes (model_by old m (call i (length samples) stored old))))
+LeavesChunk call i samples (Err e) old new next m = FileContains old.kind new.bytes m
 
 -- All samples are written: the file contains the model with all writes of the call. If the model
 -- recorded the open image with the samples of its earlier chunks, the page shows those samples and
@@ -116,9 +116,9 @@ pub record LeavesWhole (i : OpenImage) (samples : List ℕ) (old new : FileState
     pub stored : List (List ℕ)
     pub offsets : Offsets
     pub told : EndsAsDefined (calls.write_image_data i samples stored old) (Ok offsets) new
-    pub stands : Stands old.kind new.bytes
+    pub stands : FileContains old.kind new.bytes
         (model_by old m (calls.write_image_data i samples stored old))
-    pub shows : (before : List (List ℕ)) → HoldsOpen old.kind m i before
+    pub shows : (before : List (List ℕ)) → RecordsImage old.kind m i before
         → Shows old.kind new.bytes offsets.pointer (image_with i (before ++ parts_left i samples))
 
 -- `write_data` succeeds, or it fails and the file contains the model as before, or all of it except
@@ -127,7 +127,7 @@ abbrev pub LeavesData : {A : Type 0} → OpenImage → List ℕ → Result A Tif
     → FileState → Model → Type 0
 LeavesData i samples (Ok x) old new m = LeavesWhole i samples old new m
 LeavesData i samples (Err e) old new m =
-    Stands old.kind new.bytes m
+    FileContains old.kind new.bytes m
     ⊎ ((stored : List (List ℕ))
     × LeavesTorn (calls.write_image_data i samples stored old) e old new m)
 
@@ -156,7 +156,7 @@ pub record LeavesImage (color : ColorTypeRecord) (size width height : ℕ) (samp
   pub after : Model
   pub after_is : after ≡ model_by mid (model_by old m (calls.new_image color size width height old))
       (calls.write_image_data image samples stored mid)
-  pub stands : Stands old.kind new.bytes after
+  pub stands : FileContains old.kind new.bytes after
   pub open_so : (name : ColorTypeName) → color ≡ color_type name → size ≡ inner_size name
       → IsOpen image
   pub shows : (name : ColorTypeName) → color ≡ color_type name → size ≡ inner_size name
@@ -172,7 +172,7 @@ abbrev pub LeavesNewImage : {A : Type 0} → ColorTypeRecord → ℕ → ℕ →
 LeavesNewImage color size width height samples (Ok x) old new m =
     LeavesImage color size width height samples old new m
 LeavesNewImage color size width height samples (Err e) old new m =
-    Stands old.kind new.bytes m
+    FileContains old.kind new.bytes m
     ⊎ ((i : OpenImage) × ((mid : FileState) × ((stored : List (List ℕ))
     × (EndsAsDefined (calls.new_image color size width height old) (Ok i) mid
     × LeavesTorn (calls.write_image_data i samples stored mid) e mid new
@@ -194,7 +194,7 @@ DataLeaves =
     (i : OpenImage) (samples : List ℕ) (r : Result (Unit {0}) TiffError) (old new : FileState)
     (m : Model)
     → AreEntries i.directory.fields → AreNumbers i.size samples → IsShortFile new
-    → Stands old.kind old.bytes m
+    → FileContains old.kind old.bytes m
     → ((offset : ℕ) → i.directory.parent ≡ Some offset → IsLink old.kind m offset)
     → WritesImageData i samples r old new → LeavesData i samples r old new m
 
@@ -202,7 +202,7 @@ DataLeaves =
 -- the image
 abbrev pub PartsShow : Type 0
 PartsShow = (i : OpenImage) (samples : List ℕ) (x y sample : ℕ)
-    → IsDrawn i.width i.height (length i.color.bits) (length i.extra) i.form → i.chunks ≡ []
+    → IsValidImage i.width i.height (length i.color.bits) (length i.extra) i.form → i.chunks ≡ []
     → x < i.width → y < i.height → sample < all_samples i
     → sample_in (image_page i) (parts_left i samples) x y sample
     ≡ (image_of_samples i samples).sample_at x y sample
@@ -235,6 +235,6 @@ ImageLeaves =
     (old new : FileState) (m : Model) → width < 2 ^ 32 → height < 2 ^ 32
     → AreNumbers size samples
     → IsShortFile new
-    → Stands old.kind old.bytes m → IsLink old.kind m old.chain
+    → FileContains old.kind old.bytes m → IsLink old.kind m old.chain
     → WritesImage color size width height samples r old new
     → LeavesNewImage color size width height samples r old new m

@@ -31,7 +31,7 @@ use Rattle.tiff_encode.specs.declared.encoder.script.StepReply.TheVariants as re
 use Rattle.tiff_encode.specs.declared.encoder.script.EndReply.{EndReply}
 use Rattle.tiff_encode.specs.declared.encoder.script.EndReply.TheVariants as last
 use Rattle.tiff_encode.specs.declared.encoder.script.JobReply.{JobReply}
-use Rattle.tiff_encode.specs.Model.{Model, In, Stands, header_model, with_link}
+use Rattle.tiff_encode.specs.Model.{Model, In, FileContains, header_model, with_link}
 use Rattle.tiff_encode.specs.Shows.{Image, Shows}
 use Rattle.tiff_encode.specs.Encoder.{HeaderFails}
 use Rattle.tiff_encode.specs.WriteOps.{model_after}
@@ -40,7 +40,7 @@ use Rattle.tiff_encode.specs.Chunks.{is_left, next_chunk_sample_count, next_stri
 use Rattle.tiff_encode.specs.Causes.{resolution_cause, write_chunk_cause, write_strip_cause, write_image_data_cause}
 use Rattle.tiff_encode.specs.Calls as calls
 use Rattle.tiff_encode.specs.Calls.{Offsets}
-use Rattle.tiff_encode.specs.Ends.{EndsAsDefined, IsCutOff, IsTornOff, IsShortOfMemory}
+use Rattle.tiff_encode.specs.Ends.{EndsAsDefined, AppendFailed, LinkWriteFailed, IsShortOfMemory}
 use Rattle.tiff_encode.specs.Stored.{AreStored, IsChunkStored}
 pub use Rattle.tiff_page.specs.Checks.{page_tag_numbers, is_page_tag}
 pub use Rattle.tiff_encode.specs.Held.{image_with}
@@ -61,7 +61,7 @@ pub record IsDone {A : Type 0} (told : WriteOutcome A) (r : Result A TiffError)
 -- writes before it, also the directory, with link 0.
 pub record IsTornAway {A : Type 0} (told : WriteOutcome A) (e : TiffError) (old new : FileAndModel)
     : Type 0 where
-  pub torn : IsTornOff told.ops e old.file new.file
+  pub torn : LinkWriteFailed told.ops e old.file new.file
   pub holds : ℕ
   pub model : new.model ≡ with_link old.file.kind
       (model_after old.file.kind old.file.bytes old.model torn.before) torn.offset holds
@@ -69,7 +69,7 @@ pub record IsTornAway {A : Type 0} (told : WriteOutcome A) (e : TiffError) (old 
 -- The sink failed while the call appended: the model doesn't change.
 abbrev pub IsCutShort : {A : Type 0} → WriteOutcome A → TiffError → FileAndModel → FileAndModel
     → Type 0
-IsCutShort told e old new = (new.model ≡ old.model) × IsCutOff told.ops e old.file new.file
+IsCutShort told e old new = (new.model ≡ old.model) × AppendFailed told.ops e old.file new.file
 
 -- The encoder is out of memory: the model doesn't change.
 abbrev pub IsWithoutMemory : {A : Type 0} → WriteOutcome A → TiffError → FileAndModel → FileAndModel
@@ -366,8 +366,8 @@ pub record Run : Type 0 where
 
 -- a run that begins on a sink that has these bytes and a number of failed writes
 abbrev pub new_run : FileKind → List ℕ → ℕ → Run
-new_run kind told failures = record {
-  standing = record { file = begun_file kind told failures; model = header_model kind };
+new_run kind contents failures = record {
+  standing = record { file = begun_file kind contents failures; model = header_model kind };
   offsets = [];
   images = [];
 }
@@ -518,7 +518,7 @@ JobsRun old (j ∷ js) (r ∷ rs) new = (mid : Run) × (JobRan old j r mid × Jo
 
 -- the file contains the model of the run
 abbrev pub RunStands : Run → Type 0
-RunStands run = Stands run.standing.file.kind run.standing.file.bytes run.standing.model
+RunStands run = FileContains run.standing.file.kind run.standing.file.bytes run.standing.model
 
 -- the file shows each image that is finished with all its chunks
 abbrev pub RunShows : Run → Type 0
@@ -527,32 +527,32 @@ RunShows run = (f : FinishedImage) → In f run.images
 
 -- ---- what the library claims of the encoder
 
--- The result of a list of jobs on a sink that has the bytes `told`. The replies are those of a run.
--- The sink has the bytes and the number of failures of the run. If the sink is empty at the start,
--- the file contains all that was written, and shows each image that is finished with all its
+-- The result of a list of jobs on a sink that has the bytes `contents`. The replies are those of a
+-- run. The sink has the bytes and the number of failures of the run. If the sink is empty at the
+-- start, the file contains all that was written, and shows each image that is finished with all its
 -- chunks, also if the sink fails in between.
-pub record LeavesJobs (kind : FileKind) (jobs : List Job) (replies : List JobReply) (told : List ℕ)
+pub record LeavesJobs (kind : FileKind) (jobs : List Job) (replies : List JobReply) (contents : List ℕ)
     (failures : ℕ)
     (bytes : List ℕ) (after : ℕ) : Type 0 where
   pub run : Run
-  pub ran_so : JobsRun (new_run kind told failures) jobs replies run
+  pub run_is : JobsRun (new_run kind contents failures) jobs replies run
   pub bytes_are : bytes ≡ run.standing.file.bytes
   pub failures_are : after ≡ run.standing.file.failures
-  pub stands : told ≡ [] → RunStands run
-  pub shows : told ≡ [] → RunShows run
+  pub stands : contents ≡ [] → RunStands run
+  pub shows : contents ≡ [] → RunShows run
 
 -- a sink, with its bytes, its number of failed writes, and the error of its last write if that
 -- failed
-module _ {W : Type 0} (told : W → List ℕ) (failures : W → ℕ) (fault : W → Option SinkFault) where
+module _ {W : Type 0} (contents : W → List ℕ) (failures : W → ℕ) (fault : W → Option SinkFault) where
   -- No job is run: there is no memory for the replies, or the sink fails while the header is
   -- written.
   abbrev pub RefusesJobs : FileKind → W → TiffError → Type 0
-  RefusesJobs kind sink e = (e ≡ OutOfMemory) ⊎ HeaderFails kind told failures fault sink e
+  RefusesJobs kind sink e = (e ≡ OutOfMemory) ⊎ HeaderFails kind contents failures fault sink e
 
   -- `run_jobs`: the sink, and the replies before and after the call
   abbrev pub RunsJobs : FileKind → List Job → W → List JobReply → List JobReply → Result W TiffError
       → Type 0
   RunsJobs kind jobs sink earlier all (Ok last) =
       (replies : List JobReply) × ((all ≡ earlier ++ replies)
-      × LeavesJobs kind jobs replies (told sink) (failures sink) (told last) (failures last))
+      × LeavesJobs kind jobs replies (contents sink) (failures sink) (contents last) (failures last))
   RunsJobs kind jobs sink earlier all (Err e) = (all ≡ earlier) × RefusesJobs kind sink e

@@ -19,22 +19,22 @@ run_behind file former =
 -- their replies are those of a run, and the file is that of the run. It has the bytes of the former
 -- file, except those of that link, and more bytes behind them. It contains all that was written,
 -- and shows each image that is finished with all its chunks, also if the sink fails in between.
-pub record LeavesBehind (kind : FileKind) (q : ℕ) (told : List ℕ) (former : Model) (jobs : List Job)
+pub record LeavesBehind (kind : FileKind) (q : ℕ) (contents : List ℕ) (former : Model) (jobs : List Job)
     (replies : List JobReply)
     (old new : FileState) : Type 0 where
   pub run : Run
-  pub ran_so : JobsRun (run_behind old former) jobs replies run
+  pub run_is : JobsRun (run_behind old former) jobs replies run
   pub file_is : run.standing.file ≡ new
-  pub continues : Continues kind q told new.bytes
+  pub continues : Continues kind q contents new.bytes
   pub stands : RunStands run
   pub shows : RunShows run
 
 -- The law: so `run_jobs_in` leaves a file that an encoder goes on behind.
 abbrev pub JobsGoOn : Type 0
 JobsGoOn =
-    (kind : FileKind) (told : List ℕ) (failures q : ℕ) (former : Model) (jobs : List Job)
+    (kind : FileKind) (contents : List ℕ) (failures q : ℕ) (former : Model) (jobs : List Job)
     (earlier all : List JobReply) (new : FileState)
-    → q + offset_len kind ≤ length told → GoesOnBehind kind told q former
-    → JobsMove jobs earlier all (continued_file kind told failures q) new
+    → q + offset_len kind ≤ length contents → GoesOnBehind kind contents q former
+    → JobsMove jobs earlier all (continued_file kind contents failures q) new
     → (replies : List JobReply) × ((all ≡ earlier ++ replies)
-    × LeavesBehind kind q told former jobs replies (continued_file kind told failures q) new)
+    × LeavesBehind kind q contents former jobs replies (continued_file kind contents failures q) new)

@@ -12,7 +12,7 @@ use Rattle.tiff_base.specs.Number.{le}
 use Rattle.tiff_base.specs.FieldBytes.{field_len, field_offset}
 use Rattle.tiff_encode.specs.FileBytes.{offset_len, count_len, header_bytes, directory_bytes}
 use Rattle.tiff_encode.specs.WriteOps.{WriteOp, Appended, Supplied, Listed, Linked, after_op, bytes_after, all_appended, standing_fields, model_after_op, model_after}
-use Rattle.tiff_encode.specs.Model.{In, FinishedDirectory, SuppliedField, ByteRegion, Model, header_link, own_link, IsLink, Stands, header_model, with_link, with_directory, with_region, with_supplied, Grows}
+use Rattle.tiff_encode.specs.Model.{In, FinishedDirectory, SuppliedField, ByteRegion, Model, header_link, own_link, IsLink, FileContains, header_model, with_link, with_directory, with_region, with_supplied, Grows}
 
 -- a field that can be written as an entry
 pub record IsListable (kind : FileKind) (tag : ℕ) (f : Field) : Type 0 where
@@ -27,33 +27,33 @@ pub record AreListable (kind : FileKind) (fields : FinMap nat_cmp Field) : Type 
 
 -- a file with only a header contains the model of a header
 abbrev pub HeaderStands : Type 0
-HeaderStands = (kind : FileKind) → Stands kind (header_bytes kind) (header_model kind)
+HeaderStands = (kind : FileKind) → FileContains kind (header_bytes kind) (header_model kind)
 
 abbrev pub KeptByAppending : Type 0
-KeptByAppending = (kind : FileKind) (m : Model) (file more : List ℕ) → Stands kind file m
-    → Stands kind (file ++ more) m
+KeptByAppending = (kind : FileKind) (m : Model) (file more : List ℕ) → FileContains kind file m
+    → FileContains kind (file ++ more) m
 
 abbrev pub KeptByPatching : Type 0
 KeptByPatching = (kind : FileKind) (m : Model) (file : List ℕ) (q t : ℕ) → IsLink kind m q
-    → t < 256 ^ offset_len kind → Stands kind file m
-    → Stands kind (put file q (le (offset_len kind) t)) (with_link kind m q t)
+    → t < 256 ^ offset_len kind → FileContains kind file m
+    → FileContains kind (put file q (le (offset_len kind) t)) (with_link kind m q t)
 
 -- a write of a link that fails partway: the link has some number, and the file contains everything
 -- else
 abbrev pub KeptByTearing : Type 0
 KeptByTearing = (kind : FileKind) (m : Model) (file : List ℕ) (q : ℕ) (over : List ℕ)
-    → IsLink kind m q → length over ≤ offset_len kind → Stands kind file m
-    → (t : ℕ) × Stands kind (put file q over) (with_link kind m q t)
+    → IsLink kind m q → length over ≤ offset_len kind → FileContains kind file m
+    → (t : ℕ) × FileContains kind (put file q over) (with_link kind m q t)
 
 abbrev pub GrownByRegion : Type 0
-GrownByRegion = (kind : FileKind) (m : Model) (file more : List ℕ) → Stands kind file m
-    → Stands kind (file ++ more) (with_region m (record { offset = length file; bytes = more }))
+GrownByRegion = (kind : FileKind) (m : Model) (file more : List ℕ) → FileContains kind file m
+    → FileContains kind (file ++ more) (with_region m (record { offset = length file; bytes = more }))
 
 -- a field whose bytes are in its entry
 abbrev pub GrownByInline : Type 0
 GrownByInline = (kind : FileKind) (m : Model) (file : List ℕ) (f : Field)
-    → field_len f ≤ offset_len kind → Stands kind file m
-    → Stands kind file (with_supplied m (record { field = f; bytes = take (field_len f) f.value }))
+    → field_len f ≤ offset_len kind → FileContains kind file m
+    → FileContains kind file (with_supplied m (record { field = f; bytes = take (field_len f) f.value }))
 
 -- a field whose bytes are a region
 abbrev pub GrownByPlaced : Type 0
@@ -61,14 +61,14 @@ GrownByPlaced = (kind : FileKind) (m : Model) (file : List ℕ) (f : Field) (r :
     → In r m.regions
     → field_offset kind LittleEndian f ≡ r.offset → field_len f ≡ length r.bytes
     → offset_len kind < field_len f → field_len f < 2 ^ 64
-    → Stands kind file m
-    → Stands kind file (with_supplied m (record { field = f; bytes = r.bytes }))
+    → FileContains kind file m
+    → FileContains kind file (with_supplied m (record { field = f; bytes = r.bytes }))
 
 -- a directory is appended, and has its fields as entries
 abbrev pub GrownByListing : Type 0
 GrownByListing = (kind : FileKind) (m : Model) (file : List ℕ) (fields : FinMap nat_cmp Field)
-    → AreListable kind fields → Stands kind file m
-    → Stands kind (file ++ directory_bytes kind fields)
+    → AreListable kind fields → FileContains kind file m
+    → FileContains kind (file ++ directory_bytes kind fields)
     (with_directory kind m
     (record { offset = length file; fields = standing_fields kind fields }))
 
@@ -78,8 +78,8 @@ abbrev pub FinishStep : Type 0
 FinishStep =
     (kind : FileKind) (m : Model) (file : List ℕ) (fields : FinMap nat_cmp Field) (parent : ℕ)
     → AreListable kind fields
-    → length file < 256 ^ offset_len kind → IsLink kind m parent → Stands kind file m
-    → Stands kind
+    → length file < 256 ^ offset_len kind → IsLink kind m parent → FileContains kind file m
+    → FileContains kind
     (put (file ++ directory_bytes kind fields) parent (le (offset_len kind) (length file)))
     (with_link kind
     (with_directory kind m
@@ -119,9 +119,9 @@ OpsFit kind bytes m (op ∷ ops) =
 -- valid writes to a file that contains a model result in a file that contains the model after these
 -- writes
 abbrev pub OpsStand : Type 0
-OpsStand = (kind : FileKind) (bytes : List ℕ) (m : Model) (ops : List WriteOp) → Stands kind bytes m
+OpsStand = (kind : FileKind) (bytes : List ℕ) (m : Model) (ops : List WriteOp) → FileContains kind bytes m
     → OpsFit kind bytes m ops
-    → Stands kind (bytes_after kind bytes ops) (model_after kind bytes m ops)
+    → FileContains kind (bytes_after kind bytes ops) (model_after kind bytes m ops)
 
 -- the model after some writes has everything that the model before them has
 abbrev pub OpsGrow : Type 0
@@ -131,8 +131,8 @@ OpsGrow = (kind : FileKind) (bytes : List ℕ) (m : Model) (ops : List WriteOp)
 -- the first of the bytes that some writes append are appended: the file still contains the model
 abbrev pub OpsBegun : Type 0
 OpsBegun = (kind : FileKind) (bytes : List ℕ) (m : Model) (ops : List WriteOp) (count : ℕ)
-    → Stands kind bytes m
-    → Stands kind (bytes ++ take count (all_appended kind ops)) m
+    → FileContains kind bytes m
+    → FileContains kind (bytes ++ take count (all_appended kind ops)) m
 
 -- writes of which none writes a link
 abbrev pub AreAppending : List WriteOp → Type 0
@@ -148,9 +148,9 @@ abbrev pub OpsTorn : Type 0
 OpsTorn =
     (kind : FileKind) (bytes : List ℕ) (m : Model) (before : List WriteOp) (offset target count : ℕ)
     → AreAppending before
-    → Stands kind bytes m → OpsFit kind bytes m (before ++ Linked offset target ∷ [])
+    → FileContains kind bytes m → OpsFit kind bytes m (before ++ Linked offset target ∷ [])
     → (t : ℕ)
-    × Stands kind
+    × FileContains kind
     (put (bytes ++ all_appended kind before) offset (take count (le (offset_len kind) target)))
     (with_link kind (model_after kind bytes m before) offset t)
 
@@ -174,7 +174,7 @@ OpsAppend = (kind : FileKind) (bytes : List ℕ) (ops : List WriteOp) → AreApp
 -- the header of a file that contains a model has the kind of the file, the byte order
 -- little-endian, and the offset of the first directory
 abbrev pub FirstTold : Type 0
-FirstTold = (kind : FileKind) (file : List ℕ) (m : Model) (offset : ℕ) → Stands kind file m
+FirstTold = (kind : FileKind) (file : List ℕ) (m : Model) (offset : ℕ) → FileContains kind file m
     → m.links (header_link kind) ≡ offset → 0 < offset
     → header_at file ≡ Ok (record { order = LittleEndian; kind = kind; first = offset })
 
@@ -183,8 +183,8 @@ FirstTold = (kind : FileKind) (file : List ℕ) (m : Model) (offset : ℕ) → S
 -- two models that one file contains agree on the header's link, and on the fields and the link of
 -- each directory that both have at one offset
 abbrev pub ModelsAgree : Type 0
-ModelsAgree = (kind : FileKind) (m n : Model) (file : List ℕ) → Stands kind file m
-    → Stands kind file n
+ModelsAgree = (kind : FileKind) (m n : Model) (file : List ℕ) → FileContains kind file m
+    → FileContains kind file n
     → (m.links (header_link kind) ≡ n.links (header_link kind))
     × ((d e : FinishedDirectory) → In d m.directories → In e n.directories → d.offset ≡ e.offset
     → (d.fields ≡ e.fields) × (m.links (own_link kind d) ≡ n.links (own_link kind e)))

@@ -10,7 +10,7 @@ use Rattle.tiff_base.specs.Number.{number_at}
 use Rattle.tiff_ifd.specs.Chain.{Chain, chain, link_from}
 use Rattle.tiff_encode.specs.Appending.{header_end, Continues, HasHeader, EndsInHeader, EndsIn}
 use Rattle.tiff_encode.specs.FileBytes.{offset_len, count_len}
-use Rattle.tiff_encode.specs.Model.{In, FinishedDirectory, Model, Stands, IsLink, IsClear, header_link, own_link}
+use Rattle.tiff_encode.specs.Model.{In, FinishedDirectory, Model, FileContains, IsLink, IsClear, header_link, own_link}
 
 -- the chain of a little-endian file from a link on
 abbrev pub chain_behind : FileKind → List ℕ → Option ℕ → Chain
@@ -92,7 +92,7 @@ PagesGoOn =
     (ds : List FinishedDirectory)
     → file_chain kind file ≡ Ok former → last_link_at kind file ≡ Ok q
     → IsReadOnce kind file q former.offsets → Continues kind q file new
-    → Stands kind new m → IsLink kind m q → AreLinked kind m (length file) q ds
+    → FileContains kind new m → IsLink kind m q → AreLinked kind m (length file) q ds
     → file_chain kind new
     ≡ Ok (record { offsets = former.offsets ++ map (λ d. d.offset) ds; end = None })
 

@@ -64,12 +64,12 @@ pub record OpenImage : Type 0 where
 
 -- the file of an encoder that begins on a sink with these bytes
 abbrev pub begun_file : FileKind → List ℕ → ℕ → FileState
-begun_file kind told failures = record {
+begun_file kind contents failures = record {
   kind = kind;
-  bytes = told ++ header_bytes kind;
+  bytes = contents ++ header_bytes kind;
   failures = failures;
   fault = None;
-  chain = length told + length (header_mark kind);
+  chain = length contents + length (header_mark kind);
   predictor = predictor.None;
   compression = Uncompressed;
 }

@@ -78,7 +78,7 @@ module _ (kind : FileKind) where
   -- whose entries are its fields, each once, and whose link has its target; each field, with the
   -- bytes that the caller passed for it; each region. Directories and regions are within the file,
   -- and no two of them overlap. No link overlaps anything else.
-  pub record Stands (file : List ℕ) (m : Model) : Type 0 where
+  pub record FileContains (file : List ℕ) (m : Model) : Type 0 where
     pub header : exactly_at file 0 header_link ≡ Ok (header_mark kind)
     pub first : number_at LittleEndian (offset_width kind) file header_link
         ≡ Ok (m.links header_link)

@@ -20,7 +20,7 @@ use Rattle.tiff_value.specs.Data.{FieldData, Scalars, u16s}
 use Rattle.tiff_page.specs.Checks.{is_page_tag}
 use Rattle.tiff_page.specs.Counts.{all_chunks}
 use Rattle.tiff_encode.specs.FileBytes.{offset_len}
-use Rattle.tiff_encode.specs.Model.{In, Model, Stands, Grows}
+use Rattle.tiff_encode.specs.Model.{In, Model, FileContains, Grows}
 use Rattle.tiff_encode.specs.WriteOps.{model_after, standing_fields}
 use Rattle.tiff_encode.specs.Machine.{FileState, OpenDirectory, Chunk, OpenImage, WriteOutcome, WriteCall}
 use Rattle.tiff_encode.specs.Drawn.{IsSide, IsForm, HoldsPixels}
@@ -30,7 +30,7 @@ use Rattle.tiff_encode.specs.Calls as calls
 use Rattle.tiff_encode.specs.Calls.{Offsets}
 use Rattle.tiff_encode.specs.Stored.{IsChunkStored}
 use Rattle.tiff_encode.specs.Shows.{Shows}
-use Rattle.tiff_encode.specs.Held.{Given, HoldsValues, ExtraGiven, AreGiven, EachGiven, lasting_tags, place_tags, samples_of_chunk, StandsFor, TellsImage, IsWholeImage, AreSupplied, RegionsHaveChunks, image_with}
+use Rattle.tiff_encode.specs.Held.{Given, HoldsValues, ExtraGiven, AreGiven, EachGiven, lasting_tags, place_tags, samples_of_chunk, StandsFor, HasImageTags, IsWholeImage, AreSupplied, RegionsHaveChunks, image_with}
 
 -- ---- the properties of an open image
 
@@ -78,7 +78,7 @@ pub record HoldsChunks (kind : FileKind) (m : Model) (i : OpenImage) (samples : 
       × (c.stored < 256 ^ offset_len kind)
 
 -- The model records an open image whose chunks so far have these samples.
-pub record HoldsOpen (kind : FileKind) (m : Model) (i : OpenImage) (samples : List (List ℕ)) : Type
+pub record RecordsImage (kind : FileKind) (m : Model) (i : OpenImage) (samples : List (List ℕ)) : Type
     0 where
   pub given : Given
   pub holds : HoldsValues m i.directory.fields given
@@ -96,7 +96,7 @@ pub record HoldsEnded (kind : FileKind) (m : Model) (i : OpenImage) (samples : L
   pub listed : In (record { offset = offset; fields = standing_fields kind fields }) m.directories
   pub holds : HoldsValues m fields given
   pub whole : IsWholeImage kind i
-  pub tells : TellsImage kind i given
+  pub tells : HasImageTags kind i given
   pub supplied : AreSupplied i samples
   pub regions : RegionsHaveChunks m i samples
 
@@ -112,20 +112,20 @@ BeginsOpen =
     (file : FileState) (m : Model) (name : ColorTypeName) (width height : ℕ) (i : OpenImage)
     → width < 2 ^ 32 → height < 2 ^ 32
     → (calls.new_image (color_type name) (inner_size name) width height file).answer ≡ Ok i
-    → HoldsOpen file.kind
+    → RecordsImage file.kind
     (model_by file m (calls.new_image (color_type name) (inner_size name) width height file)) i
     []
 
 -- a model that records an open image still records it after more is written
 abbrev pub GrownOpen : Type 0
 GrownOpen = (kind : FileKind) (m n : Model) (i : OpenImage) (samples : List (List ℕ))
-    → HoldsOpen kind m i samples → Grows m n → HoldsOpen kind n i samples
+    → RecordsImage kind m i samples → Grows m n → RecordsImage kind n i samples
 
 -- after a call of an image that succeeds, the model still records the image
 abbrev pub KeepsOpen : (OpenImage → WriteCall OpenImage) → Type 0
 KeepsOpen call = (file : FileState) (m : Model) (i next : OpenImage) (samples : List (List ℕ))
-    → HoldsOpen file.kind m i samples → (call i file).answer ≡ Ok next
-    → HoldsOpen file.kind (model_by file m (call i file)) next samples
+    → RecordsImage file.kind m i samples → (call i file).answer ≡ Ok next
+    → RecordsImage file.kind (model_by file m (call i file)) next samples
 
 abbrev pub SettingsKeepOpen : Type 0
 SettingsKeepOpen =
@@ -147,13 +147,13 @@ abbrev pub TagsKeepOpen : Type 0
 TagsKeepOpen =
     (file : FileState) (m : Model) (i : OpenImage) (samples : List (List ℕ)) (t : Tag)
     (d : OpenDirectory)
-    → HoldsOpen file.kind m i samples → is_page_tag (tag_number t) ≡ false
+    → RecordsImage file.kind m i samples → is_page_tag (tag_number t) ≡ false
     → (((value : Result FieldData TiffError)
     → (calls.write_tag i.directory t value file).answer ≡ Ok d
-    → HoldsOpen file.kind (model_by file m (calls.write_tag i.directory t value file))
+    → RecordsImage file.kind (model_by file m (calls.write_tag i.directory t value file))
     (calls.with_directory_of i d) samples)
     × ((b : BufferRecord) → (calls.write_tag_buf i.directory t b file).answer ≡ Ok d
-    → HoldsOpen file.kind (model_by file m (calls.write_tag_buf i.directory t b file))
+    → RecordsImage file.kind (model_by file m (calls.write_tag_buf i.directory t b file))
     (calls.with_directory_of i d) samples))
 
 -- the model still records an image after its directory gets fields of tags that don't describe a
@@ -162,30 +162,30 @@ abbrev pub FieldsKeepOpen : Type 0
 FieldsKeepOpen =
     (kind : FileKind) (m : Model) (i : OpenImage) (samples : List (List ℕ))
     (fields : List (ℕ × Field))
-    → HoldsOpen kind m i samples → list_any (λ entry. is_page_tag entry.0) fields ≡ false
-    → HoldsOpen kind m (calls.with_directory_of i (calls.extend_from i.directory fields)) samples
+    → RecordsImage kind m i samples → list_any (λ entry. is_page_tag entry.0) fields ≡ false
+    → RecordsImage kind m (calls.with_directory_of i (calls.extend_from i.directory fields)) samples
 
 -- after a chunk is written, the model records the image with the samples of that chunk
 abbrev pub ChunksKeepOpen : Type 0
 ChunksKeepOpen =
     (file : FileState) (m : Model) (i next : OpenImage) (samples : List (List ℕ))
     (numbers stored : List ℕ)
-    → HoldsOpen file.kind m i samples → ((n : ℕ) → get_or numbers n 0 < 256 ^ i.size)
+    → RecordsImage file.kind m i samples → ((n : ℕ) → get_or numbers n 0 < 256 ^ i.size)
     → length numbers < 2 ^ 64 - 1
     → IsChunkStored i stored numbers → end_of file < 2 ^ 64
     → length stored < 2 ^ 64
     → (((calls.write_chunk i (length numbers) stored file).answer ≡ Ok next
-    → HoldsOpen file.kind (model_by file m (calls.write_chunk i (length numbers) stored file)) next
+    → RecordsImage file.kind (model_by file m (calls.write_chunk i (length numbers) stored file)) next
     (samples ++ numbers ∷ []))
     × ((calls.write_strip i (length numbers) stored file).answer ≡ Ok next
-    → HoldsOpen file.kind (model_by file m (calls.write_strip i (length numbers) stored file)) next
+    → RecordsImage file.kind (model_by file m (calls.write_strip i (length numbers) stored file)) next
     (samples ++ numbers ∷ [])))
 
 -- the model records an image that ends with all its chunks as an ended image
 abbrev pub EndsHeld : Type 0
 EndsHeld =
     (file : FileState) (m : Model) (i : OpenImage) (samples : List (List ℕ)) (offsets : Offsets)
-    → HoldsOpen file.kind m i samples → is_left i ≡ false
+    → RecordsImage file.kind m i samples → is_left i ≡ false
     → (calls.finish_image i file).answer ≡ Ok offsets
     → HoldsEnded file.kind (model_by file m (calls.finish_image i file)) i samples offsets.pointer
 
@@ -199,15 +199,15 @@ abbrev pub EndedShown : Type 0
 EndedShown =
     (kind : FileKind) (file : List ℕ) (m : Model) (i : OpenImage) (samples : List (List ℕ))
     (offset : ℕ)
-    → Stands kind file m → HoldsEnded kind m i samples offset
+    → FileContains kind file m → HoldsEnded kind m i samples offset
     → Shows kind file offset (image_with i samples)
 
 -- the file shows an image that the model records and that ends with all its chunks
 abbrev pub EndsShown : Type 0
 EndsShown =
     (file : FileState) (m : Model) (i : OpenImage) (samples : List (List ℕ)) (offsets : Offsets)
-    → HoldsOpen file.kind m i samples → is_left i ≡ false
+    → RecordsImage file.kind m i samples → is_left i ≡ false
     → (calls.finish_image i file).answer ≡ Ok offsets
-    → Stands file.kind (calls.finish_image i file).next.bytes
+    → FileContains file.kind (calls.finish_image i file).next.bytes
     (model_by file m (calls.finish_image i file))
     → Shows file.kind (calls.finish_image i file).next.bytes offsets.pointer (image_with i samples)

@@ -10,7 +10,7 @@ use Rattle.tiff_encode.specs.declared.encoder.image.data.ChunkArea.{ChunkArea}
 use Rattle.tiff_encode.specs.Machine.{FileState, OpenImage}
 use Rattle.tiff_encode.specs.Chunks.{image_page, row_samples, chunk_samples, is_in_order, cut_out}
 use Rattle.tiff_encode.specs.Calls as calls
-use Rattle.tiff_encode.specs.Ends.{EndsAsDefined, IsCutOff}
+use Rattle.tiff_encode.specs.Ends.{EndsAsDefined, AppendFailed}
 use Rattle.tiff_encode.specs.Stored.{IsChunkStored}
 
 -- the samples of the next chunk, after k chunks of these samples were written: the next ones in row
@@ -38,7 +38,7 @@ WritesPart i part (Err e) old new next =
     ((e ≡ OutOfMemory) × (new ≡ old))
     ⊎ ((stored : List ℕ) × (IsChunkStored i stored part
     × (EndsAsDefined (calls.write_chunk i (length part) stored old) (Err e) new
-    ⊎ IsCutOff (calls.write_chunk i (length part) stored old).ops e old new)))
+    ⊎ AppendFailed (calls.write_chunk i (length part) stored old).ops e old new)))
 
 -- the part of an image that a chunk contains, as a rectangle
 abbrev pub rect_of : ChunkArea → RectRecord

@@ -12,7 +12,7 @@ use Rattle.tiff_encode.specs.declared.encoder.script.JobReply.{JobReply}
 use Rattle.tiff_encode.specs.Model.{In, IsLink, Grows}
 use Rattle.tiff_encode.specs.Machine.{FileState, OpenDirectory, OpenImage}
 use Rattle.tiff_encode.specs.Calls.{Offsets}
-use Rattle.tiff_encode.specs.Open.{HoldsOpen}
+use Rattle.tiff_encode.specs.Open.{RecordsImage}
 use Rattle.tiff_encode.specs.Jobs.{FileAndModel, Drawn, Run, FinishedImage, DirectoryStepped, ImageStepped, AllStepped, DirectoryEnds, ImageEnds, DirectoryRan, ImageRan, JobsRun, named_parent, job_images, offsets_in}
 use Rattle.tiff_encode.specs.Stepping.{StandsIfKnown, HasLink, IsHeld, IsSound, offsets_answered}
 
@@ -82,7 +82,7 @@ pub record ImageGoes (first : OpenImage) (j : ImageJob) (r : JobReply) (known : 
   pub grows : Grows s.model after_end.model
   pub chain : IsLink s.file.kind s.model s.file.chain
       → IsLink after_end.file.kind after_end.model after_end.file.chain
-  pub held : HoldsOpen s.file.kind s.model first []
+  pub held : RecordsImage s.file.kind s.model first []
       → (f : FinishedImage) → In f (job_images j.steps.items r.steps.items j.end final offset)
       → IsHeld after_end f
 

@@ -25,7 +25,7 @@ use Rattle.tiff_page.specs.Layout.{row_bytes, color_of}
 use Rattle.tiff_page.specs.Counts.{all_chunks}
 use Rattle.tiff_page.specs.Pixels.{planar_or, image_region, is_short, packed_byte, shown_sample}
 use Rattle.tiff_encode.specs.FileBytes.{rows_per_strip}
-use Rattle.tiff_encode.specs.Model.{IsLink, Stands, header_model}
+use Rattle.tiff_encode.specs.Model.{IsLink, FileContains, header_model}
 
 -- an image from the caller: its page, for any offsets and byte counts of its chunks; and its
 -- sample, as bits, for a column, a row and a number of a sample of the pixel. A column is a pixel,
@@ -101,7 +101,7 @@ gray_image width height samples = record {
 -- A header is written on an empty sink: the file contains it, and its link is the last link of the
 -- IFD chain.
 pub record LeavesHeader (kind : FileKind) (bytes : List ℕ) (chain : ℕ) : Type 0 where
-  pub stands : Stands kind bytes (header_model kind)
+  pub stands : FileContains kind bytes (header_model kind)
   pub link : IsLink kind (header_model kind) chain
 
 -- The first directory of a little-endian file of a kind is a page that shows an image.

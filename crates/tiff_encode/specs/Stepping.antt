@@ -7,17 +7,17 @@ use Rattle.tiff_encode.specs.declared.encoder.script.ImageStep.{ImageStep}
 use Rattle.tiff_encode.specs.declared.encoder.script.Job.{Job}
 use Rattle.tiff_encode.specs.declared.encoder.script.JobReply.{JobReply}
 use Rattle.tiff_encode.specs.declared.encoder.script.StepReply.{StepReply}
-use Rattle.tiff_encode.specs.Model.{In, IsLink, Stands, Grows}
+use Rattle.tiff_encode.specs.Model.{In, IsLink, FileContains, Grows}
 use Rattle.tiff_encode.specs.Machine.{FileState, OpenImage}
 use Rattle.tiff_encode.specs.Calls.{Offsets}
 use Rattle.tiff_encode.specs.Held.{image_with}
-use Rattle.tiff_encode.specs.Open.{HoldsOpen, HoldsEnded}
+use Rattle.tiff_encode.specs.Open.{RecordsImage, HoldsEnded}
 use Rattle.tiff_encode.specs.Shows.{Shows}
 use Rattle.tiff_encode.specs.Jobs.{FileAndModel, Drawn, Run, FinishedImage, ImageStepped, AllStepped, JobRan, is_apart, are_apart, ended_samples, offsets_in}
 
 -- the file contains the model, if `known`
 abbrev pub StandsIfKnown : Bool → FileAndModel → Type 0
-StandsIfKnown known s = known ≡ true → Stands s.file.kind s.file.bytes s.model
+StandsIfKnown known s = known ≡ true → FileContains s.file.kind s.file.bytes s.model
 
 -- the link of a parent is a link of the model, if `known`
 abbrev pub HasLink : Bool → FileAndModel → Option ℕ → Type 0
@@ -45,13 +45,13 @@ DrawMoves i Drew apart old new j =
     → (t : FileAndModel) × ((after : List (List ℕ)) × ((t.file ≡ new)
     × (Drew s (record { image = i; samples = before }) t (record { image = j; samples = after })
     × (StandsIfKnown known t × (Grows s.model t.model
-    × (apart ≡ true → HoldsOpen s.file.kind s.model i before
-    → HoldsOpen s.file.kind t.model j after))))))
+    × (apart ≡ true → RecordsImage s.file.kind s.model i before
+    → RecordsImage s.file.kind t.model j after))))))
 
 -- one step of an image
-abbrev pub StepDraws : OpenImage → ImageStep → Result StepReply TiffError → FileState → FileState
+abbrev pub KeepsImage : OpenImage → ImageStep → Result StepReply TiffError → FileState → FileState
     → OpenImage → Type 0
-StepDraws i step r =
+KeepsImage i step r =
     DrawMoves i (λ s before t after. ImageStepped s before step r t after) (is_apart step r)
 
 -- all steps of an image
@@ -91,7 +91,7 @@ pub record IsHeld (s : FileAndModel) (f : FinishedImage) : Type 0 where
 -- the model records an image that ended with all its chunks, if it recorded the open image
 abbrev pub ImageHeld : OpenImage → ImageEnd → FileAndModel → FileAndModel → Option Offsets → Type 0
 ImageHeld i end s t offset =
-    (before samples : List (List ℕ)) (o : Offsets) → HoldsOpen s.file.kind s.model i before
+    (before samples : List (List ℕ)) (o : Offsets) → RecordsImage s.file.kind s.model i before
     → offset ≡ Some o
     → ended_samples (record { image = i; samples = before }) end ≡ Some samples
     → IsHeld t (record { offset = o.pointer; image = image_with i samples })

@@ -7,7 +7,7 @@ use Rattle.tiff_base.specs.declared.tags.FileKind.{FileKind}
 use Rattle.tiff_encode.specs.Machine.{FileState, OpenImage, WriteOutcome, WriteCall}
 use Rattle.tiff_encode.specs.Chunks.{is_left, next_chunk_sample_count}
 use Rattle.tiff_encode.specs.Causes.{is_past, is_past_chunks}
-use Rattle.tiff_encode.specs.Ends.{EndsAsDefined, IsCutOff}
+use Rattle.tiff_encode.specs.Ends.{EndsAsDefined, AppendFailed}
 use Rattle.tiff_encode.specs.Stored.{IsChunkStored}
 
 -- the error of a chunk that doesn't depend on the compressed bytes, at the end of a file of a
@@ -27,7 +27,7 @@ abbrev pub AppendsChunk : {A : Type 0} → WriteOutcome OpenImage → OpenImage 
 AppendsChunk told i (Ok x) old new next = EndsAsDefined told (Ok next) new
 AppendsChunk told i (Err e) old new next =
     (next ≡ i) × (EndsAsDefined told (Err e) new
-    ⊎ (IsCutOff told.ops e old new ⊎ ((e ≡ OutOfMemory) × (new ≡ old))))
+    ⊎ (AppendFailed told.ops e old new ⊎ ((e ≡ OutOfMemory) × (new ≡ old))))
 
 -- `write_strip` or `write_chunk`, of a given number of samples that are stored as some bytes
 module _ {A : Type 0} (call : OpenImage → ℕ → List ℕ → WriteCall OpenImage) where
@@ -44,7 +44,7 @@ module _ {A : Type 0} (call : OpenImage → ℕ → List ℕ → WriteCall OpenI
       (next ≡ i) × (((e ≡ OutOfMemory) × (new ≡ old))
       ⊎ ((stored : List ℕ) × (IsChunkStored i stored samples
       × (EndsAsDefined (call i (length samples) stored old) (Err e) new
-      ⊎ IsCutOff (call i (length samples) stored old).ops e old new))))
+      ⊎ AppendFailed (call i (length samples) stored old).ops e old new))))
 
   -- the call returns an error that doesn't depend on the compressed bytes, and does nothing; or the
   -- chunk is stored

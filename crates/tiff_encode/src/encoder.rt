@@ -40,7 +40,7 @@ use tiff_base::io::{IoKind, Sink};
 use tiff_base::tags::FileKind;
 pub use tiff_base::tags::Predictor;
 use tiff_value::encoder::chunk::write_chunk;
-use tiff_value::encoder::differences::Sample;
+use tiff_value::encoder::horizontal_predictor::Sample;
 use tiff_value::encoder::writer::TiffWriter;
 
 /// Writes a TIFF file: a header, directories and images. After a write to the sink fails, each
@@ -71,11 +71,11 @@ impl<W: Sink> TiffEncoder<W, TiffKindStandard> {
     /// directory. Errors: the error of the sink, `IoError(Device)` or `OutOfMemory`.
     pub fn new(alloc: Global, sink: W) -> TiffResult<Self>
         ensures answer { MatchResult result
-            (λ e. e ≡ begun_file Classic (W.told sink) (W.failures sink))
-            (λ e. HeaderFails Classic W.told W.failures W.fault sink e) }
+            (λ e. e ≡ begun_file Classic (W.contents sink) (W.failures sink))
+            (λ e. HeaderFails Classic W.contents W.failures W.fault sink e) }
 
         // If the sink is empty, the file contains the header.
-        ensures leaves { W.told sink ≡ []
+        ensures leaves { W.contents sink ≡ []
             → IfOk result (λ e. LeavesHeader Classic e.bytes e.chain) }
     {
         TiffEncoder::new_generic(alloc, sink)
@@ -87,9 +87,9 @@ impl<W: Sink> TiffEncoder<W, TiffKindBig> {
     /// the error of the sink, `IoError(Device)` or `OutOfMemory`.
     pub fn new_big(alloc: Global, sink: W) -> TiffResult<Self>
         ensures answer { MatchResult result
-            (λ e. e ≡ begun_file Big (W.told sink) (W.failures sink))
-            (λ e. HeaderFails Big W.told W.failures W.fault sink e) }
-        ensures leaves { W.told sink ≡ [] → IfOk result (λ e. LeavesHeader Big e.bytes e.chain) }
+            (λ e. e ≡ begun_file Big (W.contents sink) (W.failures sink))
+            (λ e. HeaderFails Big W.contents W.failures W.fault sink e) }
+        ensures leaves { W.contents sink ≡ [] → IfOk result (λ e. LeavesHeader Big e.bytes e.chain) }
     {
         TiffEncoder::new_generic(alloc, sink)
     }
@@ -100,9 +100,9 @@ impl<W: Sink, K: TiffKind> TiffEncoder<W, K> {
     /// Errors: the error of the sink, `IoError(Device)` or `OutOfMemory`.
     pub fn new_generic(alloc: Global, sink: W) -> TiffResult<Self>
         ensures answer { MatchResult result
-            (λ e. e ≡ begun_file K.kind (W.told sink) (W.failures sink))
-            (λ e. HeaderFails K.kind W.told W.failures W.fault sink e) }
-        ensures leaves { W.told sink ≡ [] → IfOk result (λ e. LeavesHeader K.kind e.bytes e.chain) }
+            (λ e. e ≡ begun_file K.kind (W.contents sink) (W.failures sink))
+            (λ e. HeaderFails K.kind W.contents W.failures W.fault sink e) }
+        ensures leaves { W.contents sink ≡ [] → IfOk result (λ e. LeavesHeader K.kind e.bytes e.chain) }
     {
         let mut writer = TiffWriter::new(sink);
         match K::write_header(&mut writer) {
@@ -135,22 +135,22 @@ impl<W: Sink, K: TiffKind> TiffEncoder<W, K> {
     /// sink. This project adds this function.
     pub fn append_to(alloc: Global, sink: W, link: u64) -> TiffResult<Self>
         ensures answer { MatchResult result
-            (λ e. (link + offset_len K.kind ≤ length (W.told sink))
-            × (e ≡ continued_file K.kind (W.told sink) (W.failures sink) link))
-            (λ e. (length (W.told sink) < link + offset_len K.kind)
+            (λ e. (link + offset_len K.kind ≤ length (W.contents sink))
+            × (e ≡ continued_file K.kind (W.contents sink) (W.failures sink) link))
+            (λ e. (length (W.contents sink) < link + offset_len K.kind)
             × (e ≡ TiffError.IoError IoKind.InvalidInput)) }
 
         // If the file has no directory, all its bytes behind the header stay.
-        ensures behind_header { EndsInHeader K.kind (W.told sink) → link ≡ header_link K.kind
+        ensures behind_header { EndsInHeader K.kind (W.contents sink) → link ≡ header_link K.kind
             → IfOk result
-            (λ e. GoesOnBehind K.kind e.bytes e.chain (header_file_model K.kind (W.told sink))) }
+            (λ e. GoesOnBehind K.kind e.bytes e.chain (header_file_model K.kind (W.contents sink))) }
 
         // If the link is that of a directory, this directory stays, and all bytes between the header
         // and it, and behind it.
         ensures behind_directory { (first : ℕ) (d : FinishedDirectory)
-            → EndsIn K.kind (W.told sink) first d → link ≡ own_link K.kind d
+            → EndsIn K.kind (W.contents sink) first d → link ≡ own_link K.kind d
             → IfOk result
-            (λ e. GoesOnBehind K.kind e.bytes e.chain (former_model K.kind (W.told sink) first d)) }
+            (λ e. GoesOnBehind K.kind e.bytes e.chain (former_model K.kind (W.contents sink) first d)) }
     {
         let writer = TiffWriter::new(sink);
         let len = writer.len();
@@ -199,7 +199,7 @@ impl<W: Sink, K: TiffKind> TiffEncoder<W, K> {
 
     /// Returns the sink.
     pub fn into_inner(self) -> W
-        ensures bytes { W.told result ≡ self.bytes }
+        ensures bytes { W.contents result ≡ self.bytes }
         ensures failures { W.failures result ≡ self.failures }
         ensures fault { IsSome self.fault → W.fault result ≡ self.fault }
     {

@@ -16,7 +16,7 @@ use Rattle.tiff_value.specs.Differences.{differences}
 use Rattle.tiff_page.specs.Layout.{color_of}
 use Rattle.tiff_page.specs.Page.{PageRecord}
 use Rattle.tiff_page.specs.Rect.{rect}
-use Rattle.tiff_encode.specs.Model.{In, SuppliedField, Model, Stands, Grows, header_model}
+use Rattle.tiff_encode.specs.Model.{In, SuppliedField, Model, FileContains, Grows, header_model}
 use Rattle.tiff_encode.specs.Laws.{AreListable, OpsFit, IsListable}
 use Rattle.tiff_encode.specs.WriteOps.{WriteOp, Appended, Supplied, Listed, Linked, bytes_after, model_after}
 use Rattle.tiff_encode.specs.Shows.{Image, shown_columns, shown_at, Shows}
@@ -25,7 +25,7 @@ use Rattle.tiff_encode.specs.Chunks.{is_left, next_chunk_sample_count, sample_in
 use Rattle.tiff_encode.specs.Causes.{begin_cause, new_image_cause, image_cause, write_strip_cause, write_tag_cause}
 use Rattle.tiff_encode.specs.Calls.{finish, finish_image, first_tags, image_directory, last_tags, new_image, new_directory, write_entry, write_strip, write_tag}
 use Rattle.tiff_encode.specs.Held.{image_with}
-use Rattle.tiff_encode.specs.Open.{HoldsOpen, HoldsEnded}
+use Rattle.tiff_encode.specs.Open.{RecordsImage, HoldsEnded}
 use Rattle.tiff_encode.specs.Stored.{unpacked_chunk}
 use Rattle.tiff_encode.proofs.WriteOps.{ops_stand}
 use Rattle.tiff_encode.proofs.Header.{header_stands}
@@ -185,7 +185,7 @@ begun_fits = (
   ),
 )
 
-pub begun_stands : Stands Classic (header ++ resolutions) tasks.after_begin.model
+pub begun_stands : FileContains Classic (header ++ resolutions) tasks.after_begin.model
 unfolding new_image new_image_cause image_cause image_directory begin_cause first_tags write_tag write_entry write_tag_cause data_of
 begun_stands = ops_stand Classic header (header_model Classic) (new_image gray 1 1 1 (new_file Classic)).ops (header_stands Classic) begun_fits
 
@@ -211,9 +211,9 @@ image_fits = (
 image_bytes : bytes_after Classic (header ++ resolutions) image_ops ≡ gray_file
 image_bytes = ap (λ d. bytes.put ((header ++ resolutions) ++ (7 ∷ []) ++ d) 4 (le 4 25)) (directory_by Classic all_fields)
 
-pub image_stands : Stands Classic gray_file image_model
+pub image_stands : FileContains Classic gray_file image_model
 image_stands =
-    subst (λ file. Stands Classic file image_model) image_bytes
+    subst (λ file. FileContains Classic file image_model) image_bytes
     (ops_stand Classic (header ++ resolutions) tasks.after_begin.model image_ops begun_stands image_fits)
 
 -- ---- what the model holds
@@ -227,7 +227,7 @@ octets zero = lit< tt
 octets (suc k) = lit< tt
 
 -- the model holds the open image after its resolutions
-pub begin_held : HoldsOpen Classic tasks.after_begin.model new_pixel []
+pub begin_held : RecordsImage Classic tasks.after_begin.model new_pixel []
 unfolding color_type inner_type
 begin_held = begins_open (new_file Classic) (header_model Classic) name.Gray8 1 1 new_pixel (lit< tt) (lit< tt) images.gray_begun.0
 
@@ -236,7 +236,7 @@ strip_is : (write_strip new_pixel 1 (7 ∷ []) tasks.after_begin.file).answer �
 unfolding write_strip write_strip_cause next_chunk_sample_count rect
 strip_is = refl
 
-strip_held : HoldsOpen Classic tasks.after_strip.model pixel_in_file sevens
+strip_held : RecordsImage Classic tasks.after_strip.model pixel_in_file sevens
 unfolding write_strip write_strip_cause next_chunk_sample_count rect unpacked_chunk differences
 strip_held =
     (chunks_keep_open tasks.after_begin.file tasks.after_begin.model new_pixel pixel_in_file [] (7 ∷ []) (7 ∷ []) begin_held octets (lit< tt) refl (lit< tt) (lit< tt)).1
@@ -264,7 +264,7 @@ image_held = subst (λ m. HoldsEnded Classic m pixel_in_file sevens 25) end_is e
 abbrev pub pixel_image : Image
 pixel_image = image_with pixel_in_file sevens
 
-pub pixel_shown : (file : List ℕ) (m : Model) → Grows image_model m → Stands Classic file m → Shows Classic file 25 pixel_image
+pub pixel_shown : (file : List ℕ) (m : Model) → Grows image_model m → FileContains Classic file m → Shows Classic file 25 pixel_image
 pixel_shown file m g t =
     ended_shown_by (images_show_by page_told) Classic file m pixel_in_file sevens 25 t (grown_ended Classic image_model m pixel_in_file sevens 25 g image_held)
 

@@ -12,7 +12,7 @@ use Rattle.tiff_base.specs.SourceAndSink.{SourceRecord}
 -- what the source contains, the number of failed reads so far, the byte order, and the offset of the
 -- next number
 pub record Reading : Type 0 where
-  pub told : SourceRecord
+  pub contents : SourceRecord
   pub failures : ℕ
   pub order : ByteOrder
   pub offset : ℕ
@@ -26,7 +26,7 @@ offset_behind (Err e) len offset = offset
 pub record NumberRead {X : Type 0} (w : Width) (as_number : ℕ → X) (result : Result X TiffError)
     (old new : Reading) : Type 0 where
   pub answer : AnswersWithoutMemory (λ x. x) result
-      (number_at old.order w old.told.bytes old.offset >>= λ n. Ok (as_number n)) old.failures
+      (number_at old.order w old.contents.bytes old.offset >>= λ n. Ok (as_number n)) old.failures
       new.failures
   pub stands : new
       ≡ record old {

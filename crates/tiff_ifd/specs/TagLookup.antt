@@ -8,7 +8,7 @@ use Rattle.tiff_base.specs.declared.error.TiffFormatError.TheVariants.{RequiredT
 use Rattle.tiff_base.specs.declared.tags.ByteOrder.{ByteOrder}
 use Rattle.tiff_base.specs.declared.tags.FileKind.{FileKind}
 use Rattle.tiff_base.specs.declared.tags.Tag.{Tag}
-use Rattle.tiff_base.specs.Answers.{AnswersBut, AsksOnly, ◌>>=◌}
+use Rattle.tiff_base.specs.Answers.{AnswersBut, ReadsOnly, ◌>>=◌}
 use Rattle.tiff_base.specs.Sparing.{IsFoundWithin}
 use Rattle.tiff_base.specs.Field.{Field, DirectoryRecord}
 use Rattle.tiff_base.specs.SourceAndSink.{SourceRecord}
@@ -39,7 +39,7 @@ ValueReadable tags tag = TagReadable tags.source tags.kind tags.order tags.direc
 
 -- Outside the directory, the call reads only the values of the tag.
 abbrev pub AsksForTag : {X : Type 0} → DirectoryTags → Tag → Result X TiffError → Type 0
-AsksForTag tags tag result = AsksOnly (ValueReadable tags tag) result
+AsksForTag tags tag result = ReadsOnly (ValueReadable tags tag) result
 
 -- the result of a further step on a value, where there is one
 abbrev pub if_found : {A B : Type 0} → (A → Result B TiffError) → Option A

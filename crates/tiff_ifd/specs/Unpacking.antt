@@ -13,7 +13,7 @@ use Rattle.tiff_ifd.specs.declared.packbits.PackBitsCursor.{PackBitsCursor}
 -- what the source contains, the number of failed reads so far, the offset and the number of the packed
 -- bytes that are left, and the unpacked bytes that are left
 pub record Unpacking : Type 0 where
-  pub told : SourceRecord
+  pub contents : SourceRecord
   pub failures : ℕ
   pub at : ℕ
   pub len : ℕ
@@ -74,13 +74,13 @@ left_at bytes offset =
 
 -- the state of a reader, from its source and its position
 abbrev pub unpacking : {S : Type 0} → (S → SourceRecord) → (S → ℕ) → S → PackBitsCursor → Unpacking
-unpacking told_of failures_of source offset =
+unpacking contents_of failures_of source offset =
     record {
-      told = told_of source;
+      contents = contents_of source;
       failures = failures_of source;
       at = offset.at;
       len = offset.len;
-      rest = left_at (told_of source).bytes offset;
+      rest = left_at (contents_of source).bytes offset;
     }
 
 -- the source can read the packed bytes behind a position

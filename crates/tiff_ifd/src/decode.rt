@@ -6,7 +6,7 @@ ghost use Rattle.std.specs.List.{cons_option};
 ghost use Rattle.tiff_base.specs.declared.error.TiffError.TheVariants as tiff;
 ghost use Rattle.tiff_base.specs.declared.io.IoKind.TheVariants as io_kind;
 ghost use Rattle.std.specs.Int.{w16, w32, w64, byte_len};
-ghost use Rattle.tiff_base.specs.Answers.{Answers, AnswersWithoutMemory, AsksOnly, IsCause, IsKept};
+ghost use Rattle.tiff_base.specs.Answers.{Answers, AnswersWithoutMemory, ReadsOnly, IsCause, IsKept};
 ghost use Rattle.tiff_base.specs.Number.{number_at};
 ghost use Rattle.tiff_base.specs.Directory.{count_width, offset_width, entry_len, entry_of, entry_at, value_of, directory_at, entries_from, link_offset};
 ghost use Rattle.tiff_base.specs.SourceAndSink.{AreReadable};
@@ -77,10 +77,10 @@ fn read_entry_at<R: Source>(
     kind: FileKind,
     order: ByteOrder,
 ) -> TiffResult<Option<(u16, Entry)>>
-    ensures kept { IsKept R.told R.failures result source.old source.new }
-    ensures answer { AnswersWithoutMemory (λ e. e) result (entry_at kind order (R.told source.old).bytes at)
+    ensures kept { IsKept R.contents R.failures result source.old source.new }
+    ensures answer { AnswersWithoutMemory (λ e. e) result (entry_at kind order (R.contents source.old).bytes at)
         (R.failures source.old) (R.failures source.new) }
-    ensures asked { AsksOnly (AreReadable (R.told source.old) at (entry_len kind)) result }
+    ensures asked { ReadsOnly (AreReadable (R.contents source.old) at (entry_len kind)) result }
 {
     let mut buf = [0u8; 20];
     let entry = &mut buf[..entry_len(kind)];
@@ -95,11 +95,11 @@ fn read_count_at<R: Source>(
     kind: FileKind,
     order: ByteOrder,
 ) -> TiffResult<u64>
-    ensures kept { IsKept R.told R.failures result source.old source.new }
+    ensures kept { IsKept R.contents R.failures result source.old source.new }
     ensures answer { AnswersWithoutMemory (λ n. n) result
-        (number_at order (count_width kind) (R.told source.old).bytes at) (R.failures source.old)
+        (number_at order (count_width kind) (R.contents source.old).bytes at) (R.failures source.old)
         (R.failures source.new) }
-    ensures asked { AsksOnly (AreReadable (R.told source.old) at (byte_len (count_width kind))) result }
+    ensures asked { ReadsOnly (AreReadable (R.contents source.old) at (byte_len (count_width kind))) result }
 {
     match kind {
         FileKind::Classic => Ok(u64::from(read_u16_at(source, at, order)?)),
@@ -115,11 +115,11 @@ pub fn read_link_at<R: Source>(
     kind: FileKind,
     order: ByteOrder,
 ) -> TiffResult<u64>
-    ensures kept { IsKept R.told R.failures result source.old source.new }
+    ensures kept { IsKept R.contents R.failures result source.old source.new }
     ensures answer { AnswersWithoutMemory (λ n. n) result
-        (number_at order (offset_width kind) (R.told source.old).bytes at) (R.failures source.old)
+        (number_at order (offset_width kind) (R.contents source.old).bytes at) (R.failures source.old)
         (R.failures source.new) }
-    ensures asked { AsksOnly (AreReadable (R.told source.old) at (byte_len (offset_width kind))) result }
+    ensures asked { ReadsOnly (AreReadable (R.contents source.old) at (byte_len (offset_width kind))) result }
 {
     match kind {
         FileKind::Classic => Ok(u64::from(read_u32_at(source, at, order)?)),
@@ -154,16 +154,16 @@ fn read_entries<R: Source>(
     kind: FileKind,
     order: ByteOrder,
 ) -> TiffResult<(Vec<(u16, Entry)>, u64)>
-    ensures kept { IsKept R.told R.failures result source.old source.new }
+    ensures kept { IsKept R.contents R.failures result source.old source.new }
     ensures fields { IfOk result
         (λ r. r.0.items
-        ≡ entries_from kind order (R.told source.old).bytes table.first table.count) }
+        ≡ entries_from kind order (R.contents source.old).bytes table.first table.count) }
     ensures offset { IfOk result (λ r. r.1 ≡ table.first + entry_len kind * table.count) }
     ensures cut { IfErr result (λ e. IsCause (Unit {0}) (R.failures source.old < R.failures source.new) e
         ((e ≡ tiff.IoError io_kind.UnexpectedEof)
-        × (length (R.told source.old).bytes ≤ table.first + entry_len kind * table.count))) }
-    ensures asked { AsksOnly
-        (AreReadable (R.told source.old) table.first (entry_len kind * table.count)) result }
+        × (length (R.contents source.old).bytes ≤ table.first + entry_len kind * table.count))) }
+    ensures asked { ReadsOnly
+        (AreReadable (R.contents source.old) table.first (entry_len kind * table.count)) result }
 {
     // No room is made for `count`, which may be forged: the list grows as entries come.
     let mut entries = Vec::new(alloc);
@@ -186,10 +186,10 @@ pub fn read_directory<R: Source>(
     kind: FileKind,
     order: ByteOrder,
 ) -> TiffResult<Directory>
-    ensures kept { IsKept R.told R.failures result source.old source.new }
-    ensures answer { Answers (λ d. d) result (directory_at kind order (R.told source.old).bytes at)
+    ensures kept { IsKept R.contents R.failures result source.old source.new }
+    ensures answer { Answers (λ d. d) result (directory_at kind order (R.contents source.old).bytes at)
         (R.failures source.old) (R.failures source.new) }
-    ensures asked { AsksOnly (DirectoryReadable (R.told source.old) kind order at) result }
+    ensures asked { ReadsOnly (DirectoryReadable (R.contents source.old) kind order at) result }
 {
     let count = read_count_at(source, at, kind, order)?;
     let first = at + count_len(kind);
@@ -222,10 +222,10 @@ pub fn read_link_of<R: Source>(
     kind: FileKind,
     order: ByteOrder,
 ) -> TiffResult<Option<u64>>
-    ensures kept { IsKept R.told R.failures result source.old source.new }
-    ensures answer { AnswersWithoutMemory (λ n. n) result (link_of kind order (R.told source.old).bytes at)
+    ensures kept { IsKept R.contents R.failures result source.old source.new }
+    ensures answer { AnswersWithoutMemory (λ n. n) result (link_of kind order (R.contents source.old).bytes at)
         (R.failures source.old) (R.failures source.new) }
-    ensures asked { AsksOnly (LinkReadable (R.told source.old) kind order at) result }
+    ensures asked { ReadsOnly (LinkReadable (R.contents source.old) kind order at) result }
 {
     let count = read_count_at(source, at, kind, order)?;
     let Some(offset) = link_offset(kind, at, count) else {

@@ -1,6 +1,6 @@
 //! Reads the header of a file.
 
-ghost use Rattle.tiff_base.specs.Answers.{AnswersWithoutMemory, AsksOnly, Gives, IsKept};
+ghost use Rattle.tiff_base.specs.Answers.{AnswersWithoutMemory, ReadsOnly, Gives, IsKept};
 ghost use Rattle.tiff_base.specs.Header.{big_at, header_at, header_of, order_at};
 ghost use Rattle.tiff_base.specs.SourceAndSink.{AreReadable};
 ghost use Rattle.tiff_ifd.specs.Stretches.{HeaderReadable};
@@ -20,10 +20,10 @@ pub struct FileHeader {
 }
 
 fn read_order<R: Source>(source: &mut R) -> TiffResult<ByteOrder>
-    ensures kept { IsKept R.told R.failures result source.old source.new }
-    ensures answer { AnswersWithoutMemory (λ o. o) result (order_at (R.told source.old).bytes)
+    ensures kept { IsKept R.contents R.failures result source.old source.new }
+    ensures answer { AnswersWithoutMemory (λ o. o) result (order_at (R.contents source.old).bytes)
         (R.failures source.old) (R.failures source.new) }
-    ensures asked { AsksOnly (AreReadable (R.told source.old) 0 2) result }
+    ensures asked { ReadsOnly (AreReadable (R.contents source.old) 0 2) result }
 {
     // The bytes of each mark are equal, so either byte order reads it.
     let mark = match read_u16_at(source, 0, ByteOrder::LittleEndian) {
@@ -55,10 +55,10 @@ fn header_from(order: ByteOrder, kind: FileKind, first: u64) -> TiffResult<FileH
 
 // Reads what follows the version in a header of BigTIFF.
 fn read_big<R: Source>(source: &mut R, order: ByteOrder) -> TiffResult<FileHeader>
-    ensures kept { IsKept R.told R.failures result source.old source.new }
+    ensures kept { IsKept R.contents R.failures result source.old source.new }
     ensures answer { AnswersWithoutMemory (λ h. record { order = h.order; kind = h.kind; first = h.first })
-        result (big_at order (R.told source.old).bytes) (R.failures source.old) (R.failures source.new) }
-    ensures asked { AsksOnly (AreReadable (R.told source.old) 4 12) result }
+        result (big_at order (R.contents source.old).bytes) (R.failures source.old) (R.failures source.new) }
+    ensures asked { ReadsOnly (AreReadable (R.contents source.old) 4 12) result }
 {
     if read_u16_at(source, 4, order)? != 8 || read_u16_at(source, 6, order)? != 0 {
         return Err(TiffError::FormatError(TiffFormatError::TiffSignatureNotFound));
@@ -73,10 +73,10 @@ fn read_big<R: Source>(source: &mut R, order: ByteOrder) -> TiffResult<FileHeade
 /// `ImageFileDirectoryNotFound` where the first offset is 0.
 #[tactic(auto, unfolding(tiff_base::specs::Header::header_at))]
 pub fn read_header<R: Source>(source: &mut R) -> TiffResult<FileHeader>
-    ensures kept { IsKept R.told R.failures result source.old source.new }
+    ensures kept { IsKept R.contents R.failures result source.old source.new }
     ensures answer { AnswersWithoutMemory (λ h. record { order = h.order; kind = h.kind; first = h.first })
-        result (header_at (R.told source.old).bytes) (R.failures source.old) (R.failures source.new) }
-    ensures asked { AsksOnly (HeaderReadable (R.told source.old)) result }
+        result (header_at (R.contents source.old).bytes) (R.failures source.old) (R.failures source.new) }
+    ensures asked { ReadsOnly (HeaderReadable (R.contents source.old)) result }
 {
     let order = read_order(source)?;
     let version = read_u16_at(source, 2, order)?;

@@ -16,40 +16,40 @@ pub trait Tags {
     ghost use Rattle.tiff_ifd.specs.TagLookup.{DirectoryTags};
 
     /// The tags that the directory has, the value of each, and the file that they are from.
-    ghost told: { Self → DirectoryTags };
+    ghost contents: { Self → DirectoryTags };
 
     /// The number of failed reads so far.
     ghost failures: { Self → ℕ };
 
     /// Whether the directory has a tag.
     fn contains(&self, tag: Tag) -> bool
-        ensures { result ≡ (told self.now).look.has tag };
+        ensures { result ≡ (contents self.now).look.has tag };
 
     /// Reads the value of a tag. Returns `None` if the directory does not have the tag. Allocates
     /// memory only for a tag that the directory has, within the limits and the source.
     fn find(&mut self, alloc: Global, tag: Tag) -> TiffResult<Option<Value>>
-        ensures kept { IsKept told failures result self.old self.new }
-        ensures answer { AnswersFound (λ v. option_map plain_value v) result ((told self.old).look.value tag)
-            (told self.old).look tag (failures self.old) (failures self.new) }
-        ensures asked { AsksForTag (told self.old) tag result };
+        ensures kept { IsKept contents failures result self.old self.new }
+        ensures answer { AnswersFound (λ v. option_map plain_value v) result ((contents self.old).look.value tag)
+            (contents self.old).look tag (failures self.old) (failures self.new) }
+        ensures asked { AsksForTag (contents self.old) tag result };
 
     /// Reads the numbers of a tag, converted as by `Value::into_u64_vec`. Returns `None` if the
     /// directory does not have the tag.
     fn find_u64_vec(&mut self, alloc: Global, tag: Tag) -> TiffResult<Option<Vec<u64>>>
-        ensures kept { IsKept told failures result self.old self.new }
+        ensures kept { IsKept contents failures result self.old self.new }
         ensures answer { AnswersFound (λ o. option_map (λ v. v.items) o) result
-            (find into.into_u64_vec (told self.old).look tag) (told self.old).look tag
+            (find into.into_u64_vec (contents self.old).look tag) (contents self.old).look tag
             (failures self.old) (failures self.new) }
-        ensures asked { AsksForTag (told self.old) tag result };
+        ensures asked { AsksForTag (contents self.old) tag result };
 }
 
 /// Reads the number of a tag, below 2^16. Returns `None` if the directory does not have the tag.
 #[tactic(auto, unfolding(crate::specs::TagLookup::find))]
 pub fn find_u16<T: Tags>(tags: &mut T, alloc: Global, tag: Tag) -> TiffResult<Option<u16>>
-    ensures kept { IsKept T.told T.failures result tags.old tags.new }
-    ensures answer { AnswersFound (λ n. n) result (find into.into_u16 (T.told tags.old).look tag)
-        (T.told tags.old).look tag (T.failures tags.old) (T.failures tags.new) }
-    ensures asked { AsksForTag (T.told tags.old) tag result }
+    ensures kept { IsKept T.contents T.failures result tags.old tags.new }
+    ensures answer { AnswersFound (λ n. n) result (find into.into_u16 (T.contents tags.old).look tag)
+        (T.contents tags.old).look tag (T.failures tags.old) (T.failures tags.new) }
+    ensures asked { AsksForTag (T.contents tags.old) tag result }
 {
     match tags.find(alloc, tag)? {
         None => Ok(None),
@@ -60,10 +60,10 @@ pub fn find_u16<T: Tags>(tags: &mut T, alloc: Global, tag: Tag) -> TiffResult<Op
 /// Reads the number of a tag, below 2^32. Returns `None` if the directory does not have the tag.
 #[tactic(auto, unfolding(crate::specs::TagLookup::find))]
 pub fn find_u32<T: Tags>(tags: &mut T, alloc: Global, tag: Tag) -> TiffResult<Option<u32>>
-    ensures kept { IsKept T.told T.failures result tags.old tags.new }
-    ensures answer { AnswersFound (λ n. n) result (find into.into_u32 (T.told tags.old).look tag)
-        (T.told tags.old).look tag (T.failures tags.old) (T.failures tags.new) }
-    ensures asked { AsksForTag (T.told tags.old) tag result }
+    ensures kept { IsKept T.contents T.failures result tags.old tags.new }
+    ensures answer { AnswersFound (λ n. n) result (find into.into_u32 (T.contents tags.old).look tag)
+        (T.contents tags.old).look tag (T.failures tags.old) (T.failures tags.new) }
+    ensures asked { AsksForTag (T.contents tags.old) tag result }
 {
     match tags.find(alloc, tag)? {
         None => Ok(None),
@@ -74,11 +74,11 @@ pub fn find_u32<T: Tags>(tags: &mut T, alloc: Global, tag: Tag) -> TiffResult<Op
 /// Reads the numbers of a tag, below 2^16. Returns `None` if the directory does not have the tag.
 #[tactic(auto, unfolding(crate::specs::TagLookup::find))]
 pub fn find_u16_vec<T: Tags>(tags: &mut T, alloc: Global, tag: Tag) -> TiffResult<Option<Vec<u16>>>
-    ensures kept { IsKept T.told T.failures result tags.old tags.new }
+    ensures kept { IsKept T.contents T.failures result tags.old tags.new }
     ensures answer { AnswersFound (λ o. option_map (λ v. v.items) o) result
-        (find into.into_u16_vec (T.told tags.old).look tag) (T.told tags.old).look tag
+        (find into.into_u16_vec (T.contents tags.old).look tag) (T.contents tags.old).look tag
         (T.failures tags.old) (T.failures tags.new) }
-    ensures asked { AsksForTag (T.told tags.old) tag result }
+    ensures asked { AsksForTag (T.contents tags.old) tag result }
 {
     match tags.find(alloc, tag)? {
         None => Ok(None),
@@ -90,10 +90,10 @@ pub fn find_u16_vec<T: Tags>(tags: &mut T, alloc: Global, tag: Tag) -> TiffResul
 /// does not have the tag.
 #[tactic(auto, unfolding(crate::specs::TagLookup::require))]
 pub fn require_u32<T: Tags>(tags: &mut T, alloc: Global, tag: Tag) -> TiffResult<u32>
-    ensures kept { IsKept T.told T.failures result tags.old tags.new }
-    ensures answer { AnswersFound (λ n. n) result (require into.into_u32 (T.told tags.old).look tag)
-        (T.told tags.old).look tag (T.failures tags.old) (T.failures tags.new) }
-    ensures asked { AsksForTag (T.told tags.old) tag result }
+    ensures kept { IsKept T.contents T.failures result tags.old tags.new }
+    ensures answer { AnswersFound (λ n. n) result (require into.into_u32 (T.contents tags.old).look tag)
+        (T.contents tags.old).look tag (T.failures tags.old) (T.failures tags.new) }
+    ensures asked { AsksForTag (T.contents tags.old) tag result }
 {
     match find_u32(tags, alloc, tag)? {
         None => Err(TiffFormatError::RequiredTagNotFound(tag).into()),
@@ -105,10 +105,10 @@ pub fn require_u32<T: Tags>(tags: &mut T, alloc: Global, tag: Tag) -> TiffResult
 /// have the tag.
 #[tactic(auto, unfolding(crate::specs::TagLookup::require))]
 pub fn require_u64_vec<T: Tags>(tags: &mut T, alloc: Global, tag: Tag) -> TiffResult<Vec<u64>>
-    ensures kept { IsKept T.told T.failures result tags.old tags.new }
-    ensures answer { AnswersFound (λ v. v.items) result (require into.into_u64_vec (T.told tags.old).look tag)
-        (T.told tags.old).look tag (T.failures tags.old) (T.failures tags.new) }
-    ensures asked { AsksForTag (T.told tags.old) tag result }
+    ensures kept { IsKept T.contents T.failures result tags.old tags.new }
+    ensures answer { AnswersFound (λ v. v.items) result (require into.into_u64_vec (T.contents tags.old).look tag)
+        (T.contents tags.old).look tag (T.failures tags.old) (T.failures tags.new) }
+    ensures asked { AsksForTag (T.contents tags.old) tag result }
 {
     match tags.find_u64_vec(alloc, tag)? {
         None => Err(TiffFormatError::RequiredTagNotFound(tag).into()),

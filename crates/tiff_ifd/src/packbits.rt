@@ -1,7 +1,7 @@
 //! Unpacks PackBits data in pieces of any size.
 
 ghost use Rattle.std.specs.Prelude.{◌≡◌, ℕ, ◌+◌, ◌<◌, ◌≤◌, List, length, Ok, OnOk, IfOk, IfErr, IfSome, IfNone};
-ghost use Rattle.tiff_base.specs.Answers.{AsksOnly, IsCause, IsKept, NoneSwallowed};
+ghost use Rattle.tiff_base.specs.Answers.{ReadsOnly, IsCause, IsKept, NoneSwallowed};
 ghost use Rattle.tiff_base.specs.Runs.{with_front};
 ghost use Rattle.tiff_base.specs.SourceAndSink.{AreReadable};
 ghost use Rattle.tiff_ifd.specs.Unpacking.{unpacked_at, left_at, unpacking, PackedReadable, IsLastPart, FindsLastPart, count_of, GivesNext, HasTooFew, ReadsByte, Finds, ReadsBlock, PieceReads, Fills, UnpacksFront};
@@ -46,10 +46,10 @@ impl Block {
 // Reads the byte at an offset.
 #[tactic(auto, using(crate::proofs::Unpacking::byte_there, crate::proofs::Unpacking::byte_missing))]
 fn read_byte<R: Source>(source: &mut R, at: u64) -> TiffResult<u8>
-    ensures kept { IsKept R.told R.failures result source.old source.new }
-    ensures byte { ReadsByte (R.told source.old).bytes at (R.failures source.old < R.failures source.new)
+    ensures kept { IsKept R.contents R.failures result source.old source.new }
+    ensures byte { ReadsByte (R.contents source.old).bytes at (R.failures source.old < R.failures source.new)
         result }
-    ensures asked { AsksOnly (AreReadable (R.told source.old) at 1) result }
+    ensures asked { ReadsOnly (AreReadable (R.contents source.old) at 1) result }
 {
     let mut byte = [0u8; 1];
     read_exact_at(source, at, &mut byte)?;
@@ -58,10 +58,10 @@ fn read_byte<R: Source>(source: &mut R, at: u64) -> TiffResult<u8>
 
 // Finds the next block of packed bytes. Skips headers of 128, which encode no bytes.
 fn next_block<R: Source>(source: &mut R, at: u64, len: u64) -> TiffResult<Option<PackBitsCursor>>
-    ensures kept { IsKept R.told R.failures result source.old source.new }
-    ensures block { Finds (R.told source.old).bytes (unpacked_at (R.told source.old).bytes at len)
+    ensures kept { IsKept R.contents R.failures result source.old source.new }
+    ensures block { Finds (R.contents source.old).bytes (unpacked_at (R.contents source.old).bytes at len)
         (R.failures source.old < R.failures source.new) result }
-    ensures asked { AsksOnly (AreReadable (R.told source.old) at len) result }
+    ensures asked { ReadsOnly (AreReadable (R.contents source.old) at len) result }
     ensures rest { FindsLastPart at len result }
 {
     let mut at = at;
@@ -96,10 +96,10 @@ fn begun_block<R: Source>(
     source: &mut R,
     offset: PackBitsCursor,
 ) -> TiffResult<Option<PackBitsCursor>>
-    ensures kept { IsKept R.told R.failures result source.old source.new }
-    ensures block { Finds (R.told source.old).bytes (left_at (R.told source.old).bytes offset)
+    ensures kept { IsKept R.contents R.failures result source.old source.new }
+    ensures block { Finds (R.contents source.old).bytes (left_at (R.contents source.old).bytes offset)
         (R.failures source.old < R.failures source.new) result }
-    ensures asked { AsksOnly (PackedReadable (R.told source.old) offset) result }
+    ensures asked { ReadsOnly (PackedReadable (R.contents source.old) offset) result }
     ensures rest { FindsLastPart offset.at offset.len result }
 {
     if offset.block.count() > 0 {
@@ -119,10 +119,10 @@ fn read_literal<R: Source>(
     requires literal { offset.block ≡ Literal count }
     requires begun { 0 < count }
     requires some { 0 < length buf.old }
-    ensures kept { IsKept R.told R.failures result source.old source.new }
-    ensures bytes { ReadsBlock (R.told source.old).bytes offset
+    ensures kept { IsKept R.contents R.failures result source.old source.new }
+    ensures bytes { ReadsBlock (R.contents source.old).bytes offset
         (R.failures source.old < R.failures source.new) buf.old buf.new result }
-    ensures asked { AsksOnly (PackedReadable (R.told source.old) offset) result }
+    ensures asked { ReadsOnly (PackedReadable (R.contents source.old) offset) result }
     ensures rest { IfOk result (λ r. IsLastPart offset.at offset.len r.1) }
 {
     let most = (count.min(buf.len()) as u64).min(offset.len) as usize;
@@ -171,10 +171,10 @@ fn read_block<R: Source>(
 ) -> TiffResult<(usize, PackBitsCursor)>
     requires begun { 0 < count_of offset.block }
     requires some { 0 < length buf.old }
-    ensures kept { IsKept R.told R.failures result source.old source.new }
-    ensures bytes { ReadsBlock (R.told source.old).bytes offset
+    ensures kept { IsKept R.contents R.failures result source.old source.new }
+    ensures bytes { ReadsBlock (R.contents source.old).bytes offset
         (R.failures source.old < R.failures source.new) buf.old buf.new result }
-    ensures asked { AsksOnly (PackedReadable (R.told source.old) offset) result }
+    ensures asked { ReadsOnly (PackedReadable (R.contents source.old) offset) result }
     ensures rest { IfOk result (λ r. IsLastPart offset.at offset.len r.1) }
 {
     match offset.block {
@@ -250,10 +250,10 @@ impl PackBitsCursor {
     pub fn read<R: Source>(&mut self, source: &mut R, buf: &mut [u8]) -> TiffResult<usize>
         ensures empty { length buf.old ≡ 0 → (result ≡ Ok 0)
             × ((self.new ≡ self.old) × (source.new ≡ source.old)) }
-        ensures kept { IsKept R.told R.failures result source.old source.new }
-        ensures piece { PieceReads result (unpacking R.told R.failures source.old self.old)
-            (unpacking R.told R.failures source.new self.new) buf.old buf.new }
-        ensures asked { AsksOnly (PackedReadable (R.told source.old) self.old) result }
+        ensures kept { IsKept R.contents R.failures result source.old source.new }
+        ensures piece { PieceReads result (unpacking R.contents R.failures source.old self.old)
+            (unpacking R.contents R.failures source.new self.new) buf.old buf.new }
+        ensures asked { ReadsOnly (PackedReadable (R.contents source.old) self.old) result }
         ensures behind { IsLastPart self.old.at self.old.len self.new }
     {
         if buf.is_empty() {
@@ -270,10 +270,10 @@ impl PackBitsCursor {
     // Reads as `read` does, but reads packed bytes ahead and unpacks all whole blocks of them at
     // once.
     fn read_blocks<R: Source>(&mut self, source: &mut R, buf: &mut [u8]) -> TiffResult<usize>
-        ensures kept { IsKept R.told R.failures result source.old source.new }
-        ensures piece { PieceReads result (unpacking R.told R.failures source.old self.old)
-            (unpacking R.told R.failures source.new self.new) buf.old buf.new }
-        ensures asked { AsksOnly (PackedReadable (R.told source.old) self.old) result }
+        ensures kept { IsKept R.contents R.failures result source.old source.new }
+        ensures piece { PieceReads result (unpacking R.contents R.failures source.old self.old)
+            (unpacking R.contents R.failures source.new self.new) buf.old buf.new }
+        ensures asked { ReadsOnly (PackedReadable (R.contents source.old) self.old) result }
         ensures behind { IsLastPart self.old.at self.old.len self.new }
     {
         if self.block.count() > 0 {
@@ -297,14 +297,14 @@ impl PackBitsCursor {
     // Fills the buffer with the next bytes. After an error the position may be past some of them.
     #[tactic(auto, using(crate::proofs::Unpacking::short_by, crate::proofs::Unpacking::short_cause))]
     fn fill<R: Source>(&mut self, source: &mut R, buf: &mut [u8]) -> TiffResult<()>
-        ensures kept { IsKept R.told R.failures result source.old source.new }
+        ensures kept { IsKept R.contents R.failures result source.old source.new }
         ensures ok { OnOk result
-            (left_at (R.told source.old).bytes self.old
-            ≡ with_front buf.new (left_at (R.told source.old).bytes self.new)) }
+            (left_at (R.contents source.old).bytes self.old
+            ≡ with_front buf.new (left_at (R.contents source.old).bytes self.new)) }
         ensures err { IfErr result
             (λ e. IsCause ⊥ (R.failures source.old < R.failures source.new) e
-            (HasTooFew (left_at (R.told source.old).bytes self.old) (length buf.old) e)) }
-        ensures asked { AsksOnly (PackedReadable (R.told source.old) self.old) result }
+            (HasTooFew (left_at (R.contents source.old).bytes self.old) (length buf.old) e)) }
+        ensures asked { ReadsOnly (PackedReadable (R.contents source.old) self.old) result }
         ensures behind { IsLastPart self.old.at self.old.len self.new }
     {
         let mut done = 0;
@@ -320,10 +320,10 @@ impl PackBitsCursor {
 
     /// Reads as [`PackBitsReader::read_exact`] does, from a source that the caller lends.
     pub fn read_exact<R: Source>(&mut self, source: &mut R, buf: &mut [u8]) -> TiffResult<()>
-        ensures kept { IsKept R.told R.failures result source.old source.new }
-        ensures filled { Fills result (unpacking R.told R.failures source.old self.old)
-            (unpacking R.told R.failures source.new self.new) buf.new }
-        ensures asked { AsksOnly (PackedReadable (R.told source.old) self.old) result }
+        ensures kept { IsKept R.contents R.failures result source.old source.new }
+        ensures filled { Fills result (unpacking R.contents R.failures source.old self.old)
+            (unpacking R.contents R.failures source.new self.new) buf.new }
+        ensures asked { ReadsOnly (PackedReadable (R.contents source.old) self.old) result }
         ensures behind { IsLastPart self.old.at self.old.len self.new }
     {
         // Filled by a copy, so that after an error the next read returns the same bytes.
@@ -347,7 +347,7 @@ impl<R: Source> Model for PackBitsReader<R> {
 
     ghost Value = { Unpacking };
 
-    ghost view = { λ r. unpacking R.told R.failures r.source r.offset };
+    ghost view = { λ r. unpacking R.contents R.failures r.source r.offset };
 }
 
 impl<R: Source> PackBitsReader<R> {
@@ -355,11 +355,11 @@ impl<R: Source> PackBitsReader<R> {
     /// them.
     pub fn new(source: R, at: u64, length: u64) -> Self
         ensures { result ≡ record {
-          told = R.told source;
+          contents = R.contents source;
           failures = R.failures source;
           at = at;
           len = length;
-          rest = unpacked_at (R.told source).bytes at length;
+          rest = unpacked_at (R.contents source).bytes at length;
         } }
     {
         PackBitsReader {
@@ -376,11 +376,11 @@ impl<R: Source> PackBitsReader<R> {
     /// returns the same bytes.
     pub fn read(&mut self, buf: &mut [u8]) -> TiffResult<usize>
         ensures empty { length buf.old ≡ 0 → (result ≡ Ok 0) × (self.new ≡ self.old) }
-        ensures told { self.new.told ≡ self.old.told }
+        ensures contents { self.new.contents ≡ self.old.contents }
         ensures failures { self.old.failures ≤ self.new.failures }
         ensures swallowed { NoneSwallowed result self.old.failures self.new.failures }
         ensures piece { PieceReads result self.old self.new buf.old buf.new }
-        ensures asked { AsksOnly (AreReadable self.old.told self.old.at self.old.len) result }
+        ensures asked { ReadsOnly (AreReadable self.old.contents self.old.at self.old.len) result }
         ensures start { self.old.at ≤ self.new.at }
         ensures end { self.new.at + self.new.len ≡ self.old.at + self.old.len }
     {
@@ -390,11 +390,11 @@ impl<R: Source> PackBitsReader<R> {
     /// Fills the buffer with the next bytes. Returns `IoError(UnexpectedEof)` where fewer bytes are
     /// left, however the packed bytes end. After an error the next read returns the same bytes.
     pub fn read_exact(&mut self, buf: &mut [u8]) -> TiffResult<()>
-        ensures told { self.new.told ≡ self.old.told }
+        ensures contents { self.new.contents ≡ self.old.contents }
         ensures failures { self.old.failures ≤ self.new.failures }
         ensures swallowed { NoneSwallowed result self.old.failures self.new.failures }
         ensures filled { Fills result self.old self.new buf.new }
-        ensures asked { AsksOnly (AreReadable self.old.told self.old.at self.old.len) result }
+        ensures asked { ReadsOnly (AreReadable self.old.contents self.old.at self.old.len) result }
         ensures start { self.old.at ≤ self.new.at }
         ensures end { self.new.at + self.new.len ≡ self.old.at + self.old.len }
     {

@@ -3,8 +3,8 @@
 ghost use Rattle.std.specs.Prelude.{◌≡◌, ◌≤◌, ◌<◌, ◌+◌, ◌^◌, IfOk, length, take, drop};
 ghost use Rattle.std.specs.Int.{byte_len};
 ghost use Rattle.std.specs.Option.{SomeIff};
-ghost use Rattle.tiff_base.specs.Answers.{AnswersWithoutMemory, AsksOnly, IsKept};
-ghost use Rattle.tiff_base.specs.Sparing.{AnswersSparingly};
+ghost use Rattle.tiff_base.specs.Answers.{AnswersWithoutMemory, ReadsOnly, IsKept};
+ghost use Rattle.tiff_base.specs.Sparing.{AnswersOrNoMemory};
 ghost use Rattle.tiff_base.specs.Number.{number};
 ghost use Rattle.tiff_base.specs.Directory.{offset_width};
 ghost use Rattle.tiff_base.specs.FieldBytes.{field_len};
@@ -57,17 +57,17 @@ impl FieldReader<'_> {
     /// these checks.
     #[tactic(auto, unfolding(crate::specs::TagQueries::buffer_of, tiff_base::specs::FieldBytes::field_bytes))]
     pub fn read_field_bytes<R: Source>(&self, source: &mut R, entry: &Entry) -> TiffResult<Vec<u8>>
-        ensures kept { IsKept R.told R.failures result source.old source.new }
-        ensures answer { AnswersSparingly
+        ensures kept { IsKept R.contents R.failures result source.old source.new }
+        ensures answer { AnswersOrNoMemory
             (λ v. record {
               order = self.now.order;
               data_type = entry.now.field_type;
               bytes = v.items;
             }) result
-            (buffer_of self.now.kind self.now.order (R.told source.old).bytes self.now.limits.now
+            (buffer_of self.now.kind self.now.order (R.contents source.old).bytes self.now.limits.now
             entry.now) (R.failures source.old) (R.failures source.new) }
-        ensures asked { AsksOnly
-            (FieldReadable (R.told source.old) self.now.kind self.now.order entry.now) result }
+        ensures asked { ReadsOnly
+            (FieldReadable (R.contents source.old) self.now.kind self.now.order entry.now) result }
     {
         let Some(len) = len_of(entry) else {
             return Err(TiffError::LimitsExceeded);
@@ -100,12 +100,12 @@ impl FieldReader<'_> {
     ) -> TiffResult<()>
         requires len { field_len entry.now < 2 ^ 64 }
         requires part { at + length buf.old ≤ field_len entry.now }
-        ensures kept { IsKept R.told R.failures result source.old source.new }
+        ensures kept { IsKept R.contents R.failures result source.old source.new }
         ensures answer { AnswersWithoutMemory (λ _. buf.new) result
-            (part_from self.now.kind self.now.order (R.told source.old).bytes entry.now
+            (part_from self.now.kind self.now.order (R.contents source.old).bytes entry.now
             (length buf.old) at) (R.failures source.old) (R.failures source.new) }
-        ensures asked { AsksOnly
-            (FieldPartReadable (R.told source.old) self.now.kind self.now.order entry.now at
+        ensures asked { ReadsOnly
+            (FieldPartReadable (R.contents source.old) self.now.kind self.now.order entry.now at
             (length buf.old)) result }
     {
         let len = entry.count() * u64::from(entry.field_type().byte_len());
@@ -133,12 +133,12 @@ impl FieldReader<'_> {
         at: u64,
         buf: &mut [u8],
     ) -> TiffResult<usize>
-        ensures kept { IsKept R.told R.failures result source.old source.new }
+        ensures kept { IsKept R.contents R.failures result source.old source.new }
         ensures answer { AnswersWithoutMemory (λ n. take n buf.new) result
-            (part_of_field self.now.kind self.now.order (R.told source.old).bytes entry.now
+            (part_of_field self.now.kind self.now.order (R.contents source.old).bytes entry.now
             (length buf.old) at) (R.failures source.old) (R.failures source.new) }
-        ensures asked { AsksOnly
-            (FieldReadable (R.told source.old) self.now.kind self.now.order entry.now) result }
+        ensures asked { ReadsOnly
+            (FieldReadable (R.contents source.old) self.now.kind self.now.order entry.now) result }
         ensures rest { IfOk result (λ n. (n ≤ length buf.old) × (drop n buf.new ≡ drop n buf.old)) }
     {
         let Some(len) = len_of(entry) else {

@@ -3,7 +3,7 @@
 ghost use Rattle.std.specs.Prelude.{◌≡◌, ◌*◌, ◌<◌, true, None, Ok, length, slice_index, EachIndex, option_map};
 ghost use Rattle.std.specs.FinMap.{get};
 ghost use Rattle.std.specs.Int.{byte_len};
-ghost use Rattle.tiff_base.specs.Answers.{AnswersWithoutMemory, AsksOnly, IsKept};
+ghost use Rattle.tiff_base.specs.Answers.{AnswersWithoutMemory, ReadsOnly, IsKept};
 ghost use Rattle.tiff_base.specs.Sparing.{AnswersWithin, GivesSparingly};
 ghost use Rattle.tiff_base.specs.Directory.{offset_width};
 ghost use Rattle.tiff_base.specs.FieldBytes.{field_len};
@@ -123,13 +123,13 @@ impl FieldReader<'_> {
         requires numbers { IsUnsigned entry.now.field_type }
         requires len { len ≡ field_len entry.now }
         requires elsewhere { byte_len (offset_width self.now.kind) < len }
-        ensures kept { IsKept R.told R.failures result source.old source.new }
+        ensures kept { IsKept R.contents R.failures result source.old source.new }
         ensures answer { AnswersWithin (λ v. v.items) result
-            (placed_numbers self.now.kind self.now.order (R.told source.old).bytes
+            (placed_numbers self.now.kind self.now.order (R.contents source.old).bytes
             self.now.limits.now entry.now)
             (R.failures source.old) (R.failures source.new) }
-        ensures asked { AsksOnly
-            (FieldReadable (R.told source.old) self.now.kind self.now.order entry.now) result }
+        ensures asked { ReadsOnly
+            (FieldReadable (R.contents source.old) self.now.kind self.now.order entry.now) result }
     {
         let (field_type, count) = (entry.field_type(), entry.count());
         if !is_allowed(self.limits, field_type, count) {
@@ -144,13 +144,13 @@ impl FieldReader<'_> {
     /// `read_value` and of `Value::into_u64_vec`. Allocates memory only within the limits and the
     /// source.
     pub fn read_numbers<R: Source>(&self, source: &mut R, entry: &Entry) -> TiffResult<Vec<u64>>
-        ensures kept { IsKept R.told R.failures result source.old source.new }
+        ensures kept { IsKept R.contents R.failures result source.old source.new }
         ensures answer { AnswersWithin (λ v. v.items) result
-            (field_numbers self.now.kind self.now.order (R.told source.old).bytes
+            (field_numbers self.now.kind self.now.order (R.contents source.old).bytes
             self.now.limits.now entry.now)
             (R.failures source.old) (R.failures source.new) }
-        ensures asked { AsksOnly
-            (FieldReadable (R.told source.old) self.now.kind self.now.order entry.now) result }
+        ensures asked { ReadsOnly
+            (FieldReadable (R.contents source.old) self.now.kind self.now.order entry.now) result }
     {
         let Some(len) = len_of(entry) else {
             return Err(TiffError::LimitsExceeded);
@@ -174,12 +174,12 @@ impl FieldReader<'_> {
         entry: &Entry,
         index: u64,
     ) -> TiffResult<u64>
-        ensures kept { IsKept R.told R.failures result source.old source.new }
+        ensures kept { IsKept R.contents R.failures result source.old source.new }
         ensures answer { AnswersWithoutMemory (λ n. n) result
-            (one_number self.now.kind self.now.order (R.told source.old).bytes entry.now index)
+            (one_number self.now.kind self.now.order (R.contents source.old).bytes entry.now index)
             (R.failures source.old) (R.failures source.new) }
-        ensures asked { AsksOnly
-            (NumberReadable (R.told source.old) self.now.kind self.now.order entry.now index)
+        ensures asked { ReadsOnly
+            (NumberReadable (R.contents source.old) self.now.kind self.now.order entry.now index)
             result }
     {
         let field_type = entry.field_type();
@@ -206,16 +206,16 @@ impl FieldReader<'_> {
         directory: &Directory,
         tag: Tag,
     ) -> TiffResult<Option<Vec<u64>>>
-        ensures kept { IsKept R.told R.failures result source.old source.new }
+        ensures kept { IsKept R.contents R.failures result source.old source.new }
         ensures none { get directory.now.entries (tag_number tag) ≡ None → result ≡ Ok None }
         ensures answer { let look
-            = look_in self.now.kind self.now.order (R.told source.old).bytes self.now.limits.now
+            = look_in self.now.kind self.now.order (R.contents source.old).bytes self.now.limits.now
             directory.now.entries
             in
             AnswersFound (λ o. option_map (λ v. v.items) o) result (find into_u64_vec look tag) look
             tag (R.failures source.old) (R.failures source.new) }
-        ensures asked { AsksOnly
-            (TagReadable (R.told source.old) self.now.kind self.now.order directory.now tag)
+        ensures asked { ReadsOnly
+            (TagReadable (R.contents source.old) self.now.kind self.now.order directory.now tag)
             result }
     {
         match directory.get(tag) {

@@ -6,7 +6,7 @@ ghost use Rattle.std.specs.List.{list_all, position_or_len, prefix_len, suffix_l
 ghost use Rattle.std.specs.Str.{is_utf8};
 ghost use Rattle.tiff_base.specs.declared.error.TiffError.TheVariants as tiff;
 ghost use Rattle.tiff_base.specs.declared.error.TiffFormatError.TheVariants as format;
-ghost use Rattle.tiff_base.specs.Answers.{AnswersBut, AnswersWithoutSource, AsksOnly, IsKept};
+ghost use Rattle.tiff_base.specs.Answers.{AnswersBut, AnswersWithoutSource, ReadsOnly, IsKept};
 ghost use Rattle.tiff_base.specs.Sparing.{AnswersWithin, GivesSparingly};
 ghost use Rattle.std.specs.FinMap.{get};
 ghost use Rattle.tiff_base.specs.Tags.{tag_number};
@@ -282,10 +282,10 @@ pub fn read_text_at<R: Source>(
     at: u64,
     len: usize,
 ) -> TiffResult<String>
-    ensures kept { IsKept R.told R.failures result source.old source.new }
-    ensures answer { AnswersWithin string_bytes result (value.text_at (R.told source.old).bytes at len)
+    ensures kept { IsKept R.contents R.failures result source.old source.new }
+    ensures answer { AnswersWithin string_bytes result (value.text_at (R.contents source.old).bytes at len)
         (R.failures source.old) (R.failures source.new) }
-    ensures asked { AsksOnly (AreReadable (R.told source.old) at len) result }
+    ensures asked { ReadsOnly (AreReadable (R.contents source.old) at len) result }
 {
     let bytes = read_bytes_at(alloc, source, at, len)?;
     placed_text(alloc, &bytes)?.into_string()
@@ -316,14 +316,14 @@ impl FieldReader<'_> {
         requires len { len ≡ field_len entry.now }
         requires some { 0 < entry.now.count }
         requires elsewhere { byte_len (offset_width self.now.kind) < len }
-        ensures kept { IsKept R.told R.failures result source.old source.new }
+        ensures kept { IsKept R.contents R.failures result source.old source.new }
         ensures answer { AnswersWithin plain_value result
-            (value.placed_value self.now.kind self.now.order (R.told source.old).bytes
+            (value.placed_value self.now.kind self.now.order (R.contents source.old).bytes
             self.now.limits.now entry.now)
             (R.failures source.old) (R.failures source.new) }
-        ensures asked { AsksOnly
-            (FieldReadable (R.told source.old) self.now.kind self.now.order entry.now) result }
-        ensures limit { value.placed_value self.now.kind self.now.order (R.told source.old).bytes
+        ensures asked { ReadsOnly
+            (FieldReadable (R.contents source.old) self.now.kind self.now.order entry.now) result }
+        ensures limit { value.placed_value self.now.kind self.now.order (R.contents source.old).bytes
             self.now.limits.now entry.now ≡ Err tiff.LimitsExceeded
             → result ≡ Err tiff.LimitsExceeded }
     {
@@ -349,18 +349,18 @@ impl FieldReader<'_> {
     /// limits and within the source, and for a value in the entry only where it is valid.
     #[tactic(auto, using(crate::proofs::Within::value_unlimited), unfolding(crate::specs::FieldValue::field_value))]
     pub fn read_value<R: Source>(&self, source: &mut R, entry: &Entry) -> TiffResult<Value>
-        ensures kept { IsKept R.told R.failures result source.old source.new }
+        ensures kept { IsKept R.contents R.failures result source.old source.new }
         ensures answer { let given
-            = value.field_value self.now.kind self.now.order (R.told source.old).bytes
+            = value.field_value self.now.kind self.now.order (R.contents source.old).bytes
             self.now.limits.now entry.now
             in
             AnswersBut (value.WantsValue (value.stands_in_entry self.now.kind entry.now) given)
             (R.failures source.old < R.failures source.new) plain_value result given }
-        ensures asked { AsksOnly
-            (FieldReadable (R.told source.old) self.now.kind self.now.order entry.now) result }
+        ensures asked { ReadsOnly
+            (FieldReadable (R.contents source.old) self.now.kind self.now.order entry.now) result }
 
         // A limit is checked before a byte is read.
-        ensures limit { value.field_value self.now.kind self.now.order (R.told source.old).bytes
+        ensures limit { value.field_value self.now.kind self.now.order (R.contents source.old).bytes
             self.now.limits.now entry.now ≡ Err tiff.LimitsExceeded
             → result ≡ Err tiff.LimitsExceeded }
     {
@@ -391,22 +391,22 @@ impl FieldReader<'_> {
         directory: &Directory,
         tag: Tag,
     ) -> TiffResult<Option<Value>>
-        ensures kept { IsKept R.told R.failures result source.old source.new }
+        ensures kept { IsKept R.contents R.failures result source.old source.new }
         ensures none { get directory.now.entries (tag_number tag) ≡ None → result ≡ Ok None }
         ensures answer { let given
-            = (look_in self.now.kind self.now.order (R.told source.old).bytes self.now.limits.now
+            = (look_in self.now.kind self.now.order (R.contents source.old).bytes self.now.limits.now
             directory.now.entries).value tag
             in
             AnswersBut
             (value.WantsFound self.now.kind (get directory.now.entries (tag_number tag)) given)
             (R.failures source.old < R.failures source.new) (λ v. option_map plain_value v) result
             given }
-        ensures asked { AsksOnly
-            (TagReadable (R.told source.old) self.now.kind self.now.order directory.now tag)
+        ensures asked { ReadsOnly
+            (TagReadable (R.contents source.old) self.now.kind self.now.order directory.now tag)
             result }
 
         // A limit is checked before a byte is read.
-        ensures limit { (look_in self.now.kind self.now.order (R.told source.old).bytes
+        ensures limit { (look_in self.now.kind self.now.order (R.contents source.old).bytes
             self.now.limits.now directory.now.entries).value tag ≡ Err tiff.LimitsExceeded
             → result ≡ Err tiff.LimitsExceeded }
     {

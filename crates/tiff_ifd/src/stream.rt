@@ -2,7 +2,7 @@
 
 ghost use Rattle.std.specs.Prelude.{◌≡◌, Ok};
 ghost use Rattle.std.specs.Int.{w16, w32, w64, cast_signed};
-ghost use Rattle.tiff_base.specs.Answers.{AsksOnly};
+ghost use Rattle.tiff_base.specs.Answers.{ReadsOnly};
 ghost use Rattle.tiff_base.specs.SourceAndSink.{AreReadable};
 ghost use Rattle.tiff_ifd.specs.Stream.{NumberRead, of_bits_32, of_bits_64};
 
@@ -28,7 +28,7 @@ impl<R: Source> Model for EndianReader<R> {
     ghost Value = { Reading };
 
     ghost view = { λ r. record {
-      told = R.told r.source;
+      contents = R.contents r.source;
       failures = R.failures r.source;
       order = r.byte_order;
       offset = r.offset;
@@ -49,7 +49,7 @@ impl<R: Source> EndianReader<R> {
     /// A reader at the start of the source.
     pub fn new(source: R, byte_order: ByteOrder) -> Self
         ensures { result ≡ record {
-          told = R.told source;
+          contents = R.contents source;
           failures = R.failures source;
           order = byte_order;
           offset = 0;
@@ -64,7 +64,7 @@ impl<R: Source> EndianReader<R> {
 
     /// The source.
     pub fn inner(&self) -> &R
-        ensures told { R.told result.now ≡ self.now.told }
+        ensures contents { R.contents result.now ≡ self.now.contents }
         ensures failures { R.failures result.now ≡ self.now.failures }
     {
         &self.source
@@ -84,7 +84,7 @@ impl<R: Source> EndianReader<R> {
     /// bytes than those of the number. After an error the offset stays.
     pub fn read_u16(&mut self) -> TiffResult<u16>
         ensures read { NumberRead w16 (λ n. n) result self.old self.new }
-        ensures asked { AsksOnly (AreReadable self.old.told self.old.offset 2) result }
+        ensures asked { ReadsOnly (AreReadable self.old.contents self.old.offset 2) result }
     {
         let n = read_u16_at(&mut self.source, self.offset, self.byte_order)?;
         self.offset += 2;
@@ -94,7 +94,7 @@ impl<R: Source> EndianReader<R> {
     /// Reads the next two bytes as a signed number.
     pub fn read_i16(&mut self) -> TiffResult<i16>
         ensures read { NumberRead w16 (cast_signed w16) result self.old self.new }
-        ensures asked { AsksOnly (AreReadable self.old.told self.old.offset 2) result }
+        ensures asked { ReadsOnly (AreReadable self.old.contents self.old.offset 2) result }
     {
         Ok(self.read_u16()?.cast_signed())
     }
@@ -102,7 +102,7 @@ impl<R: Source> EndianReader<R> {
     /// Reads the next four bytes as a number.
     pub fn read_u32(&mut self) -> TiffResult<u32>
         ensures read { NumberRead w32 (λ n. n) result self.old self.new }
-        ensures asked { AsksOnly (AreReadable self.old.told self.old.offset 4) result }
+        ensures asked { ReadsOnly (AreReadable self.old.contents self.old.offset 4) result }
     {
         let n = read_u32_at(&mut self.source, self.offset, self.byte_order)?;
         self.offset += 4;
@@ -112,7 +112,7 @@ impl<R: Source> EndianReader<R> {
     /// Reads the next four bytes as a signed number.
     pub fn read_i32(&mut self) -> TiffResult<i32>
         ensures read { NumberRead w32 (cast_signed w32) result self.old self.new }
-        ensures asked { AsksOnly (AreReadable self.old.told self.old.offset 4) result }
+        ensures asked { ReadsOnly (AreReadable self.old.contents self.old.offset 4) result }
     {
         Ok(self.read_u32()?.cast_signed())
     }
@@ -120,7 +120,7 @@ impl<R: Source> EndianReader<R> {
     /// Reads the next eight bytes as a number.
     pub fn read_u64(&mut self) -> TiffResult<u64>
         ensures read { NumberRead w64 (λ n. n) result self.old self.new }
-        ensures asked { AsksOnly (AreReadable self.old.told self.old.offset 8) result }
+        ensures asked { ReadsOnly (AreReadable self.old.contents self.old.offset 8) result }
     {
         let n = read_u64_at(&mut self.source, self.offset, self.byte_order)?;
         self.offset += 8;
@@ -130,7 +130,7 @@ impl<R: Source> EndianReader<R> {
     /// Reads the next eight bytes as a signed number.
     pub fn read_i64(&mut self) -> TiffResult<i64>
         ensures read { NumberRead w64 (cast_signed w64) result self.old self.new }
-        ensures asked { AsksOnly (AreReadable self.old.told self.old.offset 8) result }
+        ensures asked { ReadsOnly (AreReadable self.old.contents self.old.offset 8) result }
     {
         Ok(self.read_u64()?.cast_signed())
     }
@@ -138,7 +138,7 @@ impl<R: Source> EndianReader<R> {
     /// Reads the next four bytes as a floating-point number.
     pub fn read_f32(&mut self) -> TiffResult<Bits32>
         ensures read { NumberRead w32 of_bits_32 result self.old self.new }
-        ensures asked { AsksOnly (AreReadable self.old.told self.old.offset 4) result }
+        ensures asked { ReadsOnly (AreReadable self.old.contents self.old.offset 4) result }
     {
         Ok(Bits32(self.read_u32()?))
     }
@@ -146,7 +146,7 @@ impl<R: Source> EndianReader<R> {
     /// Reads the next eight bytes as a floating-point number.
     pub fn read_f64(&mut self) -> TiffResult<Bits64>
         ensures read { NumberRead w64 of_bits_64 result self.old self.new }
-        ensures asked { AsksOnly (AreReadable self.old.told self.old.offset 8) result }
+        ensures asked { ReadsOnly (AreReadable self.old.contents self.old.offset 8) result }
     {
         Ok(Bits64(self.read_u64()?))
     }

@@ -26,9 +26,9 @@ pub struct ValueReader<R: Source> {
 }
 
 impl<R: Source> Tags for ValueReader<R> {
-    ghost told = { λ t. record {
-      look = look_in t.kind t.order (R.told t.source).bytes t.limits t.directory.entries;
-      source = R.told t.source;
+    ghost contents = { λ t. record {
+      look = look_in t.kind t.order (R.contents t.source).bytes t.limits t.directory.entries;
+      source = R.contents t.source;
       kind = t.kind;
       order = t.order;
       directory = t.directory;

@@ -2,7 +2,7 @@
 
 ghost use Rattle.std.specs.Prelude.{◌≡◌, ◌==◌, ◌<◌, ◌≤◌, ◌+◌, ◌-◌, ◌++◌, ◌∷◌, ℕ, List, [], reverse, length, IfOk, IfErr, IfNone, OnErr, MatchOption, nat_eq, Ok, Err, None, Some, false, option_map};
 ghost use Rattle.std.specs.List.{list_any, slice_get};
-ghost use Rattle.tiff_base.specs.Answers.{AsksOnly, IsCause, IsKept};
+ghost use Rattle.tiff_base.specs.Answers.{ReadsOnly, IsCause, IsKept};
 ghost use Rattle.tiff_base.specs.declared.tags.ByteOrder.{ByteOrder};
 ghost use Rattle.tiff_base.specs.declared.tags.FileKind.{FileKind};
 ghost use Rattle.tiff_ifd.specs.Chain.{unless_met, chain};
@@ -133,27 +133,27 @@ impl IfdChainWalk {
         kind: FileKind,
         order: ByteOrder,
     ) -> TiffResult<Option<Directory>>
-        ensures kept { IsKept R.told R.failures result source.old source.new }
+        ensures kept { IsKept R.contents R.failures result source.old source.new }
         ensures ok { IfOk result
             (λ entered.
-            WalkSteps kind order (R.told source.old).bytes self.old (Ok entered) self.new) }
+            WalkSteps kind order (R.contents source.old).bytes self.old (Ok entered) self.new) }
         ensures err { IfErr result
             (λ e. IsCause (self.new ≡ self.old) ((R.failures source.old < R.failures source.new)
             × (self.new ≡ self.old)) e
-            (WalkSteps kind order (R.told source.old).bytes self.old (Err e) self.new)) }
+            (WalkSteps kind order (R.contents source.old).bytes self.old (Err e) self.new)) }
         ensures begins { (first : ℕ)
-            → ChainBegins kind order (R.told source.old).bytes first self.old
-            → ChainBegins kind order (R.told source.old).bytes first self.new }
+            → ChainBegins kind order (R.contents source.old).bytes first self.old
+            → ChainBegins kind order (R.contents source.old).bytes first self.new }
         ensures end { IfOk result
             (λ entered.
             IfNone entered ((first : ℕ)
-            → ChainBegins kind order (R.told source.old).bytes first self.old
-            → ChainEnds kind order (R.told source.old).bytes first self.old None)) }
+            → ChainBegins kind order (R.contents source.old).bytes first self.old
+            → ChainEnds kind order (R.contents source.old).bytes first self.old None)) }
         ensures cut { IfErr result
             (λ e. IsCause (Unit {0}) (R.failures source.old < R.failures source.new) e
-            ((first : ℕ) → ChainBegins kind order (R.told source.old).bytes first self.old
-            → ChainEnds kind order (R.told source.old).bytes first self.old (Some e))) }
-        ensures asked { AsksOnly (NextReadable (R.told source.old) kind order self.old) result }
+            ((first : ℕ) → ChainBegins kind order (R.contents source.old).bytes first self.old
+            → ChainEnds kind order (R.contents source.old).bytes first self.old (Some e))) }
+        ensures asked { ReadsOnly (NextReadable (R.contents source.old) kind order self.old) result }
     {
         let Some(offset) = self.next else {
             return Ok(None);
@@ -172,24 +172,24 @@ impl IfdChainWalk {
         kind: FileKind,
         order: ByteOrder,
     ) -> TiffResult<bool>
-        ensures kept { IsKept R.told R.failures result source.old source.new }
+        ensures kept { IsKept R.contents R.failures result source.old source.new }
         ensures ok { IfOk result
-            (λ passed. StepsOver kind order (R.told source.old).bytes self.old passed self.new) }
+            (λ passed. StepsOver kind order (R.contents source.old).bytes self.old passed self.new) }
         ensures err { IfErr result
             (λ e. IsCause (self.new ≡ self.old) ((R.failures source.old < R.failures source.new)
             × (self.new ≡ self.old)) e
-            (WalkSteps kind order (R.told source.old).bytes self.old (Err e) self.new)) }
+            (WalkSteps kind order (R.contents source.old).bytes self.old (Err e) self.new)) }
         ensures begins { (first : ℕ)
-            → ChainBegins kind order (R.told source.old).bytes first self.old
-            → ChainBegins kind order (R.told source.old).bytes first self.new }
+            → ChainBegins kind order (R.contents source.old).bytes first self.old
+            → ChainBegins kind order (R.contents source.old).bytes first self.new }
         ensures end { IfOk result (λ passed. passed ≡ false → (first : ℕ)
-            → ChainBegins kind order (R.told source.old).bytes first self.old
-            → ChainEnds kind order (R.told source.old).bytes first self.old None) }
+            → ChainBegins kind order (R.contents source.old).bytes first self.old
+            → ChainEnds kind order (R.contents source.old).bytes first self.old None) }
         ensures cut { IfErr result
             (λ e. IsCause (Unit {0}) (R.failures source.old < R.failures source.new) e
-            ((first : ℕ) → ChainBegins kind order (R.told source.old).bytes first self.old
-            → ChainEnds kind order (R.told source.old).bytes first self.old (Some e))) }
-        ensures asked { AsksOnly (NextLinkReadable (R.told source.old) kind order self.old) result }
+            ((first : ℕ) → ChainBegins kind order (R.contents source.old).bytes first self.old
+            → ChainEnds kind order (R.contents source.old).bytes first self.old (Some e))) }
+        ensures asked { ReadsOnly (NextLinkReadable (R.contents source.old) kind order self.old) result }
     {
         let Some(offset) = self.next else {
             return Ok(false);
@@ -211,7 +211,7 @@ impl IfdChainWalk {
         order: ByteOrder,
         index: usize,
     ) -> TiffResult<Option<u64>>
-        ensures kept { IsKept R.told R.failures result source.old source.new }
+        ensures kept { IsKept R.contents R.failures result source.old source.new }
         ensures there { IfOk result (λ offset. offset ≡ slice_get self.new.offsets index) }
         ensures short { OnErr result (length self.new.offsets ≤ index) }
         ensures no_further { length self.old.offsets ≤ index → length self.new.offsets ≤ index + 1 }
@@ -219,24 +219,24 @@ impl IfdChainWalk {
         ensures known { index < length self.old.offsets → (self.new ≡ self.old)
             × (source.new ≡ source.old) }
         ensures begins { (first : ℕ)
-            → ChainBegins kind order (R.told source.old).bytes first self.old
-            → ChainBegins kind order (R.told source.old).bytes first self.new }
+            → ChainBegins kind order (R.contents source.old).bytes first self.old
+            → ChainBegins kind order (R.contents source.old).bytes first self.new }
         ensures offset { IfOk result (λ offset. (first : ℕ)
-            → ChainBegins kind order (R.told source.old).bytes first self.old
-            → slice_get (chain kind order (R.told source.old).bytes first).offsets index ≡ offset) }
+            → ChainBegins kind order (R.contents source.old).bytes first self.old
+            → slice_get (chain kind order (R.contents source.old).bytes first).offsets index ≡ offset) }
         ensures end { IfOk result
             (λ offset.
             IfNone offset ((first : ℕ)
-            → ChainBegins kind order (R.told source.old).bytes first self.old
-            → ChainEnds kind order (R.told source.old).bytes first self.new None)) }
+            → ChainBegins kind order (R.contents source.old).bytes first self.old
+            → ChainEnds kind order (R.contents source.old).bytes first self.new None)) }
         ensures cut { IfErr result
             (λ e. IsCause (Unit {0}) (R.failures source.old < R.failures source.new) e
-            ((first : ℕ) → ChainBegins kind order (R.told source.old).bytes first self.old
-            → (slice_get (chain kind order (R.told source.old).bytes first).offsets index ≡ None)
-            × ChainEnds kind order (R.told source.old).bytes first self.new (Some e))) }
+            ((first : ℕ) → ChainBegins kind order (R.contents source.old).bytes first self.old
+            → (slice_get (chain kind order (R.contents source.old).bytes first).offsets index ≡ None)
+            × ChainEnds kind order (R.contents source.old).bytes first self.new (Some e))) }
         ensures asked { (first : ℕ)
-            → ChainBegins kind order (R.told source.old).bytes first self.old
-            → AsksOnly (WayReadable (R.told source.old) kind order first index) result }
+            → ChainBegins kind order (R.contents source.old).bytes first self.old
+            → ReadsOnly (WayReadable (R.contents source.old) kind order first index) result }
     {
         'way: while self.len() <= index {
             if !self.pass_next(source, kind, order)? {

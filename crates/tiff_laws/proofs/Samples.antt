@@ -63,7 +63,7 @@ module _ (some_bytes : SomeBytes) (d : Decoding) (sides : HasSides d.state.page)
   given = (planes_laid p p.width p.height l whole).0
 
   pub some_plane : 0 < l.plane_stride
-  some_plane = (some_bytes p p.width p.height l sides.wide sides.high has.deep has.sampled given).1
+  some_plane = (some_bytes p p.width p.height l sides.wide sides.high has.has_bits has.sampled given).1
 
   pub all_some : 0 < planes p.planar l.color
   all_some =

@@ -140,7 +140,7 @@ page_has_sides look p given =
     let s = size_some look (p.width, p.height) passed.size in
     let c = chunks_some look p.width p.height (planes_of p.planar p.samples) p.chunk_type _ s.0 passed.chunks in (
       record { wide = s.0; high = s.1; chunk_wide = c.0; chunk_high = c.1 },
-      record { sampled = samples_some look p.samples passed.samples; deep = depth_some look p.samples p.depth passed.depth },
+      record { sampled = samples_some look p.samples passed.samples; has_bits = depth_some look p.samples p.depth passed.depth },
     )
 
 pub page_has_method : PageHasMethod

@@ -8,7 +8,7 @@ use Rattle.tiff_page.specs.Laws.{HasSides}
 -- a pixel has at least one sample, and a sample at least one bit
 pub record HasSamples (p : PageRecord) : Type 0 where
   pub sampled : 0 < p.samples
-  pub deep : 0 < p.depth
+  pub has_bits : 0 < p.depth
 
 -- the page that the tags define has sides, and its pixels have samples
 abbrev pub PageHasSides : Type 0

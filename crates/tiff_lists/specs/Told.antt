@@ -20,13 +20,13 @@ LinesOfCalls old calls (Ok lines) new = (replies : List Reply) × Ran old calls 
 LinesOfCalls old calls (Err e) new =
     (e ≡ OutOfMemory) × ((new ≡ old) ⊎ ((replies : List Reply) × Ran old calls [] replies new))
 
--- a sink: `told`, the bytes that it took; `failures`, how many of its writes failed; and `fault`,
--- what the last one returned if it failed
-module _ {W : Type 0} (told : W → List ℕ) (failures : W → ℕ) (fault : W → Option SinkFault) where
+-- a sink: `contents`, the bytes that it took; `failures`, how many of its writes failed; and
+-- `fault`, what the last one returned if it failed
+module _ {W : Type 0} (contents : W → List ℕ) (failures : W → ℕ) (fault : W → Option SinkFault) where
   -- All jobs were run, with some list of replies. The errors are out of memory, and that of a sink
   -- that failed while the header was written.
   abbrev pub LinesOfJobs : {X : Type 0} → FileKind → List Job → W → Result (W × X) TiffError
       → Type 0
   LinesOfJobs kind jobs sink (Ok last) = (replies : List JobReply)
-      × RunsJobs told failures fault kind jobs sink [] replies (Ok last.0)
-  LinesOfJobs kind jobs sink (Err e) = RefusesJobs told failures fault kind sink e
+      × RunsJobs contents failures fault kind jobs sink [] replies (Ok last.0)
+  LinesOfJobs kind jobs sink (Err e) = RefusesJobs contents failures fault kind sink e

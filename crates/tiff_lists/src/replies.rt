@@ -91,7 +91,7 @@ pub fn lines_of_jobs(alloc: Global, replies: &[JobReply]) -> Result<String, Allo
 
 // Drops a value. A list of replies is dropped here, since a proof about that is long in a function
 // that isn't generic.
-fn let_go<T: Drop>(_value: T) {}
+fn drop_value<T: Drop>(_value: T) {}
 
 /// Makes calls of a decoder, as `run_calls` does, and returns a line for the reply to each, also to
 /// one that is refused. Its only error is `OutOfMemory`: for the replies, and then it made no call;
@@ -106,7 +106,7 @@ pub fn lines_of_calls<R: Source>(
     let mut replies = Vec::new(alloc);
     let made = run_calls(decoder, calls, &mut replies);
     let lines = all_lines(alloc, &replies);
-    let_go(replies);
+    drop_value(replies);
     made?;
     Ok(lines?)
 }
@@ -118,11 +118,11 @@ pub fn run_told<W: Sink, K: TiffKind>(
     sink: W,
     jobs: &[Job<'_>],
 ) -> TiffResult<(W, String)>
-    ensures { LinesOfJobs W.told W.failures W.fault K.kind jobs.now sink result }
+    ensures { LinesOfJobs W.contents W.failures W.fault K.kind jobs.now sink result }
 {
     let mut replies = Vec::new(alloc);
     let answered = run_jobs::<W, K>(alloc, sink, jobs, &mut replies);
     let lines = all_lines(alloc, &replies);
-    let_go(replies);
+    drop_value(replies);
     Ok((answered?, lines?))
 }

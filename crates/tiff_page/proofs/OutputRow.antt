@@ -16,7 +16,7 @@ use Rattle.tiff_base.specs.declared.tags.Predictor.TheVariants as predictor
 use Rattle.tiff_page.specs.Layout.{samples_in_chunk, row_bits, row_bytes}
 use Rattle.tiff_page.specs.Page.{PageRecord}
 use Rattle.tiff_page.specs.Pixels.{stored_samples, stored_row_bytes, is_byte_plane, needs_whole_rows, row_number, summed_number, joined_number, number_by, number_of_row, shown_number, in_row}
-use Rattle.tiff_page.specs.Row.{IsSize, RowReplaced, TurnsNumbers}
+use Rattle.tiff_page.specs.Row.{IsSize, RowReplaced, SwapsBytes}
 use Rattle.tiff_page.specs.OutputRow.{HoldsNumbersOf, handed_byte, needs_swap}
 use Rattle.tiff_page.specs.ReadablePage.{IsRead}
 use Rattle.tiff_page.proofs.Rows.{put_below, put_there, by_size, digits, little_digits, some_size, sums_same, stayed, bytes_stayed, bytes_of_numbers, complemented, digit}
@@ -90,7 +90,7 @@ holds_same BigEndian p row t =
 
 -- the little-endian numbers of a row
 pub holds_turned : (order : ByteOrder) (p : PageRecord) (row out : List ℕ) → needs_swap order p.depth ≡ true → length out ≡ length row
-    → (p.depth < 8) ⊎ (length row / (p.depth / 8) * (p.depth / 8) ≡ length row) → TurnsNumbers (p.depth / 8) row out → HoldsNumbersOf order p row out
+    → (p.depth < 8) ⊎ (length row / (p.depth / 8) * (p.depth / 8) ≡ length row) → SwapsBytes (p.depth / 8) row out → HoldsNumbersOf order p row out
 holds_turned LittleEndian p row out t l whole turned = cc
 holds_turned BigEndian p row out t l whole turned =
     let deep : 8 < p.depth = ltb-true 8 p.depth t in

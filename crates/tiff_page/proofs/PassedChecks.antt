@@ -17,7 +17,7 @@ use Rattle.tiff_ifd.specs.PlainValue.{PlainValue}
 use Rattle.tiff_ifd.specs.Into.{into_u32}
 use Rattle.tiff_page.specs.Layout.{LayoutRecord, color_of, layout_of}
 use Rattle.tiff_page.specs.Buffers.{planes_layout}
-use Rattle.tiff_page.specs.EarlyFaults.{WantsAfter}
+use Rattle.tiff_page.specs.EarlyFaults.{AllocatesAfter}
 
 abbrev pub good : {A : Type 0} → A → Result A TiffError
 good x = Ok x
@@ -132,6 +132,6 @@ unfolding layout_of
 layout_of_fault p width height next h = fault_kept (layout_of p width height) next (fault_kept (color_of p) _ h)
 
 -- a call may run out of memory if no error is found early
-pub may_want : {X : Type 0} (early : Result (Unit {0}) TiffError) (result : Result X TiffError) → early ≡ Ok tt → WantsAfter early result
+pub may_want : {X : Type 0} (early : Result (Unit {0}) TiffError) (result : Result X TiffError) → early ≡ Ok tt → AllocatesAfter early result
 may_want early (Ok x) h = tt
 may_want early (Err e) h = let P : Result (Unit {0}) TiffError → Type 0 = λ r. e ≡ OutOfMemory → IsOkOrList r in subst P (sym h) (λ m. tt)

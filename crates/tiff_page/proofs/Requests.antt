@@ -12,14 +12,14 @@ use Rattle.tiff_base.specs.declared.color.ColorType.{ColorType}
 use Rattle.tiff_base.specs.declared.error.TiffError.{TiffError}
 use Rattle.tiff_base.specs.declared.tags.ByteOrder.{ByteOrder}
 use Rattle.tiff_base.specs.declared.tags.ByteOrder.TheVariants.{LittleEndian}
-use Rattle.tiff_base.specs.Answers.{IsCause, AnswersBut, ◌>>=◌, AsksOnly, IsNotDevice}
+use Rattle.tiff_base.specs.Answers.{IsCause, AnswersBut, ◌>>=◌, ReadsOnly, IsNotDevice}
 use Rattle.tiff_base.specs.Number.{number}
 use Rattle.tiff_base.proofs.Causes.{cause_along}
 use Rattle.tiff_ifd.specs.declared.limits.Limits.{Limits}
 use Rattle.tiff_page.specs.declared.layout.DecodingSampleType.{DecodingSampleType}
 use Rattle.tiff_page.specs.declared.samples.ReadRequest.{ReadRequest}
 use Rattle.tiff_page.specs.declared.samples.ReadRequest.TheVariants.{Image, Chunks}
-use Rattle.tiff_page.specs.EarlyFaults.{early_fault, is_cut, samples_early, image_early, planes_early, chunk_early, strided_early}
+use Rattle.tiff_page.specs.EarlyFaults.{check_first_chunk, is_cut, samples_early, image_early, planes_early, chunk_early, strided_early}
 use Rattle.tiff_page.specs.Laws.{HasSides}
 use Rattle.tiff_page.specs.Layout.{LayoutRecord, row_bytes, sample_type_of, size_of, planes, wide}
 use Rattle.tiff_page.specs.NumberBytes.{bytes_in}
@@ -49,7 +49,7 @@ use Rattle.tiff_page.specs.Buffers.{planes_layout, unit_fault, all_planes}
 use Rattle.tiff_page.specs.Methods.{data_by_method, least_stored, bytes_held, is_packed}
 use Rattle.tiff_page.proofs.Filling.{first_at}
 use Rattle.tiff_page.specs.EarlyLaws.{EarlyIsAnswered}
-use Rattle.tiff_base.proofs.Told.{part_readable}
+use Rattle.tiff_base.proofs.Contents.{part_readable}
 use Rattle.tiff_page.specs.declared.chunk_data.ChunkCursor.{ChunkCursor}
 use Rattle.tiff_page.specs.declared.chunk_data.ChunkCursor.TheVariants.{Plain, Packed, Ended}
 use Rattle.tiff_page.specs.Reach.{StoredReadable, Moves, DataReadable, ChunkReadable, PartReadable, LaidReadable}
@@ -168,7 +168,7 @@ module _ (file : List ℕ) (order : ByteOrder) (p : PageRecord) (limits : Limits
 
   -- an error of the first chunk is the error of the part's samples
   pub from_early : (part : Part) (type : DecodingSampleType) (len : ℕ) (e : TiffError) → 0 < part.count → 0 < part.planes → sample_type_of p ≡ Ok type
-      → early_fault file p limits color type part.first len ≡ Err e → samples file order p limits color part len ≡ Err e
+      → check_first_chunk file p limits color type part.first len ≡ Err e → samples file order p limits color part len ≡ Err e
   unfolding samples fill_buffer
   from_early part type len e some planes typed h =
       ⊎_elim
@@ -223,19 +223,19 @@ part_some p (Chunks color i planes stride) sides laid = (omega arith, (laid.some
 
 pub portion_early : (wanting failed : Type 0) (file : List ℕ) (order : ByteOrder) (p : PageRecord) (limits : Limits) (request : ReadRequest) (color : ColorType) (type : DecodingSampleType) (first len : ℕ) (e : TiffError)
     → HasSides p → IsLaid p request → sample_type_of p ≡ Ok type → color ≡ color_in request → first ≡ first_in request
-    → IsCause wanting failed e (early_fault file p limits color type first len ≡ Err e)
+    → IsCause wanting failed e (check_first_chunk file p limits color type first len ≡ Err e)
     → IsCause (Unit {0}) failed e (samples file order p limits (color_in request) (part_of p request) len ≡ Err e)
 portion_early wanting failed file order p limits request color type first len e sides laid typed c f h =
     let some = part_some p request sides laid in
     cause_along e (λ _. tt) (λ d. d)
     (λ t.
     from_early file order p limits (color_in request) (part_of p request) type len e some.0 some.1.0 typed
-    (subst (λ (n : ℕ). early_fault file p limits (color_in request) type n len ≡ Err e) (f ∙ sym some.1.1)
-    (subst (λ (c : ColorType). early_fault file p limits c type first len ≡ Err e) c t))) h
+    (subst (λ (n : ℕ). check_first_chunk file p limits (color_in request) type n len ≡ Err e) (f ∙ sym some.1.1)
+    (subst (λ (c : ColorType). check_first_chunk file p limits c type first len ≡ Err e) c t))) h
 
 -- without an early error, there is no error of the limit
 pub within_limit : (file : List ℕ) (p : PageRecord) (limits : Limits) (color : ColorType) (type : DecodingSampleType) (first len : ℕ)
-    → early_fault file p limits color type first len ≡ Ok tt → limit_fault limits (size_of type) len ≡ Ok tt
+    → check_first_chunk file p limits color type first len ≡ Ok tt → limit_fault limits (size_of type) len ≡ Ok tt
 within_limit file p limits color type first len h =
     ⊎_elim (λ ok. ok) (λ er. let g : Err er.0 ≡ Ok tt = rw (er.1) at h in cc) (cases_fault (limit_fault limits (size_of type) len))
 
@@ -341,7 +341,7 @@ module _ (file : List ℕ) (order : ByteOrder) (p : PageRecord) (limits : Limits
 
   -- the samples, if bytes were filled into as many zeros as whole numbers take
   pub zeros_filled : (color : ColorType) (type : DecodingSampleType) (size first len : ℕ) (before after : List ℕ) → IsSize size → size_of type ≡ size → sample_type_of p ≡ Ok type
-      → early_fault file p limits color type first len ≡ Ok tt → room_of p request ≤ len → before ≡ replicate (div_ceil len size * size) 0
+      → check_first_chunk file p limits color type first len ≡ Ok tt → room_of p request ≤ len → before ≡ replicate (div_ceil len size * size) 0
       → fill_buffer file order p limits (color_in request) part before ≡ Ok (bytes_in size after)
       → samples file order p limits (color_in request) part len ≡ Ok (record { sample_type = type; numbers = after })
   unfolding samples fill_buffer
@@ -356,7 +356,7 @@ module _ (file : List ℕ) (order : ByteOrder) (p : PageRecord) (limits : Limits
 
   -- the bytes, if these are the numbers
   pub bytes_given : (color : ColorType) (type : DecodingSampleType) (first len : ℕ) (before after : List ℕ) → size_of type ≡ 1 → sample_type_of p ≡ Ok type
-      → early_fault file p limits color type first len ≡ Ok tt → before ≡ replicate len 0
+      → check_first_chunk file p limits color type first len ≡ Ok tt → before ≡ replicate len 0
       → fill_buffer file order p limits (color_in request) part before ≡ Ok after
       → samples file order p limits (color_in request) part len ≡ Ok (record { sample_type = type; numbers = after })
   unfolding samples fill_buffer
@@ -370,7 +370,7 @@ module _ (file : List ℕ) (order : ByteOrder) (p : PageRecord) (limits : Limits
 
   -- an error of filling is an error of the samples
   pub filling_cause : (failed failed' : Type 0) (color : ColorType) (type : DecodingSampleType) (first len : ℕ) (zeros : List ℕ) (e : TiffError) → (failed → failed') → sample_type_of p ≡ Ok type
-      → early_fault file p limits color type first len ≡ Ok tt
+      → check_first_chunk file p limits color type first len ≡ Ok tt
       → IsCause (Unit {0}) failed e (fill_buffer file order p limits (color_in request) part zeros ≡ Err e)
       → IsCause (Unit {0}) failed' e (samples file order p limits (color_in request) part len ≡ Err e)
   unfolding samples fill_buffer
@@ -393,7 +393,7 @@ goes_on r next e h = ap (λ q. q >>= next) h
 
 module _ (file : List ℕ) (order : ByteOrder) (p : PageRecord) (limits : Limits) where
   typed : (color : ColorType) (part : Part) (len : ℕ) (e : TiffError) (t : Result DecodingSampleType TiffError) → 0 < part.count → 0 < part.planes
-      → sample_type_of p ≡ t → (t >>= λ type. early_fault file p limits color type part.first len) ≡ Err e
+      → sample_type_of p ≡ t → (t >>= λ type. check_first_chunk file p limits color type part.first len) ≡ Err e
       → samples file order p limits color part len ≡ Err e
   unfolding samples
   typed color part len e (Ok type) some used q h = from_early file order p limits color part type len e some used q h
@@ -467,7 +467,7 @@ early_is_answered = record {
 -- ---- which bytes reads of pixels ask a source for
 
 -- a call asks for bytes among others
-pub asks_more : {X : Type 0} (P Q : Type 0) (r : Result X TiffError) → (Q → P) → AsksOnly P r → AsksOnly Q r
+pub asks_more : {X : Type 0} (P Q : Type 0) (r : Result X TiffError) → (Q → P) → ReadsOnly P r → ReadsOnly Q r
 asks_more P Q (Ok x) f a = tt
 asks_more P Q (Err e) f a = λ q. a (f q)
 
@@ -618,13 +618,13 @@ portion_filled order p request e s t same asked r =
 
 -- the part that the layout defines was read
 pub laid_asked : {X : Type 0} (p : PageRecord) (laid : Result LayoutRecord TiffError) (shape : LayoutRecord → Part) (l : LayoutRecord) (here : Part) (s : SourceRecord) (r : Result X TiffError)
-    → laid ≡ Ok l → here ≡ shape l → AsksOnly (PartReadable s p l.color here) r → AsksOnly (LaidReadable s p laid shape) r
+    → laid ≡ Ok l → here ≡ shape l → ReadsOnly (PartReadable s p l.color here) r → ReadsOnly (LaidReadable s p laid shape) r
 laid_asked p laid shape l here s r given same a =
     asks_more (PartReadable s p l.color here) (LaidReadable s p laid shape) r (λ q. subst (λ (x : Part). PartReadable s p l.color x) (sym same) (q.part_readable l given)) a
 
 -- the bytes of a chunk don't depend on the distance of its rows
 pub strided_asked : {X : Type 0} (p : PageRecord) (laid : Result LayoutRecord TiffError) (i stride : ℕ) (l : LayoutRecord) (s : SourceRecord) (r : Result X TiffError)
-    → laid ≡ Ok l → AsksOnly (PartReadable s p l.color (chunk_part p i 1 stride)) r → AsksOnly (LaidReadable s p laid (λ l. chunk_part p i 1 l.row_bytes)) r
+    → laid ≡ Ok l → ReadsOnly (PartReadable s p l.color (chunk_part p i 1 stride)) r → ReadsOnly (LaidReadable s p laid (λ l. chunk_part p i 1 l.row_bytes)) r
 strided_asked p laid i stride l s r given a =
     asks_more (PartReadable s p l.color (chunk_part p i 1 stride)) (LaidReadable s p laid (λ l. chunk_part p i 1 l.row_bytes)) r
     (λ q. record { chunk = (q.part_readable l given).chunk }) a

@@ -18,7 +18,7 @@ use Rattle.tiff_base.specs.declared.tags.ByteOrder.TheVariants.{LittleEndian, Bi
 use Rattle.tiff_base.specs.Number.{number}
 use Rattle.tiff_base.specs.SourceAndSink.{bytes_at}
 use Rattle.tiff_page.specs.Pixels.{tabulate, width_of, row_number, summed_number, summed_byte, joined_number}
-use Rattle.tiff_page.specs.Row.{IsSize, RowReplaced, AddsNumber, TurnsNumber, TurnsNumbers, ComplementsInvert, BytesOfNumbers}
+use Rattle.tiff_page.specs.Row.{IsSize, RowReplaced, AddsNumber, TurnsNumber, SwapsBytes, ComplementsInvert, BytesOfNumbers}
 use Rattle.std.proofs.lemmas.Simd.{put_chunk_whole, length-put_chunk, length-zip2, get_or-zip2, length-replicate, get_or-replicate}
 use lib.Lanes.{zip2, put_chunk}
 
@@ -414,8 +414,8 @@ turned_more size row mid new k a done j l =
     (cases_lt j k)
 
 -- a row of numbers of one byte is the same in either order
-pub bytes_turned : (size : ℕ) (row : List ℕ) → size ≡ 1 → TurnsNumbers size row row
-bytes_turned size row e = subst (λ (n : ℕ). TurnsNumbers n row row) (sym e) (λ k h. one_byte BigEndian row k)
+pub bytes_turned : (size : ℕ) (row : List ℕ) → size ≡ 1 → SwapsBytes size row row
+bytes_turned size row e = subst (λ (n : ℕ). SwapsBytes n row row) (sym e) (λ k h. one_byte BigEndian row k)
 
 -- ---- the pixels of a row of bytes, summed one by one
 

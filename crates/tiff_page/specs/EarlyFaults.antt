@@ -25,9 +25,9 @@ is_cut file p color i =
 -- the error that is found before memory is allocated for samples of `len` bytes: more samples than
 -- fit into the limit, or the errors of the first chunk, whose data are too few if the file has too
 -- few bytes for them
-abbrev pub early_fault : List ℕ → PageRecord → Limits → ColorType → DecodingSampleType → ℕ → ℕ
+abbrev pub check_first_chunk : List ℕ → PageRecord → Limits → ColorType → DecodingSampleType → ℕ → ℕ
     → Result (Unit {0}) TiffError
-early_fault file p limits color type first len = do
+check_first_chunk file p limits color type first len = do
   _ ← limit_fault limits (size_of type) len
   chunk_fault p limits (is_cut file p color) color first
 
@@ -42,8 +42,8 @@ WantsWhere holds (Err e) = e ≡ OutOfMemory → holds
 -- doesn't run out of memory if a limit refuses the request, if the source ends before the last byte
 -- that the first chunk needs at least, or if the form of the page or the call's own arguments are
 -- refused.
-abbrev pub WantsAfter : {X : Type 0} → Result (Unit {0}) TiffError → Result X TiffError → Type 0
-WantsAfter early result = WantsWhere (IsOkOrList early) result
+abbrev pub AllocatesAfter : {X : Type 0} → Result (Unit {0}) TiffError → Result X TiffError → Type 0
+AllocatesAfter early result = WantsWhere (IsOkOrList early) result
 
 -- the error that is found before memory is allocated for samples of `len` bytes, of a color and
 -- from a first chunk on
@@ -51,7 +51,7 @@ abbrev pub samples_early : List ℕ → PageRecord → Limits → ColorType → 
     → Result (Unit {0}) TiffError
 samples_early file p limits color first len = do
   type ← sample_type_of p
-  early_fault file p limits color type first len
+  check_first_chunk file p limits color type first len
 
 -- the early error of reading the samples of an image, or of the first plane of a planar image
 abbrev pub image_early : List ℕ → PageRecord → Limits → Result (Unit {0}) TiffError

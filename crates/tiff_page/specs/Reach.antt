@@ -5,7 +5,7 @@ use Rattle.tiff_base.specs.declared.error.TiffError.{TiffError}
 use Rattle.tiff_base.specs.declared.tags.ByteOrder.{ByteOrder}
 use Rattle.tiff_base.specs.declared.tags.FileKind.{FileKind}
 use Rattle.tiff_base.specs.declared.tags.Tag.{Tag}
-use Rattle.tiff_base.specs.Answers.{AsksOnly}
+use Rattle.tiff_base.specs.Answers.{ReadsOnly}
 use Rattle.tiff_base.specs.Field.{DirectoryRecord}
 use Rattle.tiff_base.specs.SourceAndSink.{AreReadable, SourceRecord}
 use Rattle.tiff_base.specs.Tags.{tag_number}
@@ -33,7 +33,7 @@ pub record PageReadable (source : SourceRecord) (kind : FileKind) (order : ByteO
 -- The checks of a page ask only for the values of the tags that they read.
 abbrev pub AsksForPage : {X : Type 0} → DirectoryTags → Result X TiffError → Type 0
 AsksForPage tags result =
-    AsksOnly (PageReadable tags.source tags.kind tags.order tags.directory) result
+    ReadsOnly (PageReadable tags.source tags.kind tags.order tags.directory) result
 
 -- A source can read n bytes of the data of a chunk from a position on; of PackBits data, all
 -- counted bytes.

@@ -29,8 +29,8 @@ pub record TurnsNumber (size : ℕ) (row : List ℕ) (at : ℕ) (old new : List 
   pub above : (i : ℕ) → at * size + size ≤ i → slice_index new i ≡ slice_index old i
 
 -- the whole big-endian numbers of a row, in little-endian order
-abbrev pub TurnsNumbers : ℕ → List ℕ → List ℕ → Type 0
-TurnsNumbers size row new = (k : ℕ) → (k + 1) * size ≤ length row
+abbrev pub SwapsBytes : ℕ → List ℕ → List ℕ → Type 0
+SwapsBytes size row new = (k : ℕ) → (k + 1) * size ≤ length row
     → row_number LittleEndian size new k ≡ row_number BigEndian size row k
 
 -- ---- laws of rows

@@ -12,7 +12,7 @@ use Rattle.tiff_page.specs.declared.samples.ReadRequest.{ReadRequest}
 use Rattle.tiff_page.specs.declared.samples.ReadRequest.TheVariants.{Image, Chunks}
 use Rattle.tiff_page.specs.declared.samples.Samples.{Samples}
 use Rattle.tiff_page.specs.declared.samples.Samples.TheVariants as numbers
-use Rattle.tiff_page.specs.EarlyFaults.{early_fault}
+use Rattle.tiff_page.specs.EarlyFaults.{check_first_chunk}
 use Rattle.tiff_page.specs.Image.{Decoded}
 use Rattle.tiff_page.specs.Layout.{color_of, layout_of, row_bytes}
 use Rattle.tiff_page.specs.Page.{PageRecord}
@@ -80,7 +80,7 @@ module _ (file : List ℕ) (reader : PageReader) (request : ReadRequest) where
   -- the first error that is found before memory is allocated for samples in `len` bytes
   abbrev pub request_early : DecodingSampleType → ℕ → Result (Unit {0}) TiffError
   request_early kind len =
-      early_fault file (view.page reader.page.now) reader.limits.now (color_in request) kind
+      check_first_chunk file (view.page reader.page.now) reader.limits.now (color_in request) kind
       (first_in request) len
 
   -- the bytes of a buffer into which the part is read

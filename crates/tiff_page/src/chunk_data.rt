@@ -1,7 +1,7 @@
 //! How the data of a chunk are read from its start.
 
 ghost use Rattle.std.specs.Prelude.{◌≡◌, ◌+◌, ◌<◌, ◌≤◌, ℕ, List, if◌then◌else◌, length, drop, [], Ok, IfOk, IfErr, OnOk, OnErr};
-ghost use Rattle.tiff_base.specs.Answers.{AsksOnly, IsCause, IsKept};
+ghost use Rattle.tiff_base.specs.Answers.{ReadsOnly, IsCause, IsKept};
 ghost use Rattle.tiff_base.specs.SourceAndSink.{AreReadable, SourceRecord};
 ghost use Rattle.tiff_ifd.specs.Unpacking.{PackedReadable, IsLastPart, left_at};
 ghost use Rattle.tiff_page.specs.Methods.{data_by_method, is_packed, method_fault};
@@ -32,13 +32,13 @@ const PIECE: usize = 65536;
 // Skips `n` bytes of PackBits data after decompression. Returns whether so many were left.
 #[inline(never)]
 fn pass_packed<R: Source>(source: &mut R, position: &mut PackBitsCursor, n: u64) -> TiffResult<bool>
-    ensures kept { IsKept R.told R.failures result source.old source.new }
+    ensures kept { IsKept R.contents R.failures result source.old source.new }
     ensures passed { IfOk result
-        (λ more. (if more then (left_at (R.told source.old).bytes position.new).out else [])
-        ≡ drop n (left_at (R.told source.old).bytes position.old).out) }
+        (λ more. (if more then (left_at (R.contents source.old).bytes position.new).out else [])
+        ≡ drop n (left_at (R.contents source.old).bytes position.old).out) }
     ensures fault { IfErr result (λ e. IsCause ⊥ (R.failures source.old < R.failures source.new) e
         ⊥) }
-    ensures asked { AsksOnly (PackedReadable (R.told source.old) position.old) result }
+    ensures asked { ReadsOnly (PackedReadable (R.contents source.old) position.old) result }
     ensures behind { IsLastPart position.old.at position.old.len position.new }
 {
     // Where the bytes behind them are is known only once they are unpacked.
@@ -77,14 +77,14 @@ impl ChunkCursor {
     /// left. After an error, all bytes are still left.
     #[inline(always)]
     pub fn read<R: Source>(&mut self, source: &mut R, buf: &mut [u8]) -> TiffResult<()>
-        ensures kept { IsKept R.told R.failures result source.old source.new }
-        ensures taken { Takes (R.told source.old).bytes self.old self.new ⊥
+        ensures kept { IsKept R.contents R.failures result source.old source.new }
+        ensures taken { Takes (R.contents source.old).bytes self.old self.new ⊥
             (R.failures source.old < R.failures source.new) (length buf.old) buf.new result }
-        ensures asked { AsksOnly (StoredReadable (R.told source.old) self.old (length buf.old))
+        ensures asked { ReadsOnly (StoredReadable (R.contents source.old) self.old (length buf.old))
             result }
         ensures moves { OnOk result (Moves self.old (length buf.old) self.new) }
-        ensures stays { OnErr result (bytes_left (R.told source.old).bytes self.new
-            ≡ bytes_left (R.told source.old).bytes self.old) }
+        ensures stays { OnErr result (bytes_left (R.contents source.old).bytes self.new
+            ≡ bytes_left (R.contents source.old).bytes self.old) }
     {
         match self {
             ChunkCursor::Plain(at) => {
@@ -114,12 +114,12 @@ impl ChunkCursor {
         row: &mut Vec<u8>,
         len: usize,
     ) -> TiffResult<()>
-        ensures kept { IsKept R.told R.failures result source.old source.new }
-        ensures taken { Takes (R.told source.old).bytes self.old self.new (Unit {0})
+        ensures kept { IsKept R.contents R.failures result source.old source.new }
+        ensures taken { Takes (R.contents source.old).bytes self.old self.new (Unit {0})
             (R.failures source.old < R.failures source.new) len row.new.items result }
         ensures grown { length row.new.items
-            ≤ length (bytes_left (R.told source.old).bytes self.old) + PIECE }
-        ensures asked { AsksOnly (StoredReadable (R.told source.old) self.old len) result }
+            ≤ length (bytes_left (R.contents source.old).bytes self.old) + PIECE }
+        ensures asked { ReadsOnly (StoredReadable (R.contents source.old) self.old len) result }
         ensures moves { OnOk result (Moves self.old len self.new) }
     {
         row.clear();
@@ -135,10 +135,10 @@ impl ChunkCursor {
     #[tactic(auto, using(crate::proofs::ChunkRows::passed_end))]
     #[inline(always)]
     pub fn pass<R: Source>(&mut self, source: &mut R, n: u64) -> TiffResult<()>
-        ensures kept { IsKept R.told R.failures result source.old source.new }
-        ensures passed { Passes (R.told source.old).bytes self.old self.new
+        ensures kept { IsKept R.contents R.failures result source.old source.new }
+        ensures passed { Passes (R.contents source.old).bytes self.old self.new
             (R.failures source.old < R.failures source.new) n result }
-        ensures asked { AsksOnly (StoredReadable (R.told source.old) self.old n) result }
+        ensures asked { ReadsOnly (StoredReadable (R.contents source.old) self.old n) result }
         ensures moves { OnOk result (Moves self.old n self.new) }
     {
         match self {

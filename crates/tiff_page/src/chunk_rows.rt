@@ -2,7 +2,7 @@
 //! sink, else one by one.
 
 ghost use Rattle.std.specs.Prelude.{◌≡◌, ℕ, List, ◌+◌, ◌-◌, ◌*◌, Ok, ◌<◌, ◌≤◌, ◌^◌, ◌↔◌, IsTrue, length, OnOk};
-ghost use Rattle.tiff_base.specs.Answers.{Answers, AsksOnly, IsKept};
+ghost use Rattle.tiff_base.specs.Answers.{Answers, ReadsOnly, IsKept};
 ghost use Rattle.tiff_base.specs.SourceAndSink.{SourceRecord};
 ghost use Rattle.tiff_base.specs.declared.error.TiffError.TheVariants as tiff;
 ghost use Rattle.tiff_base.specs.declared.io.IoKind.TheVariants as io;
@@ -23,7 +23,7 @@ ghost use Rattle.tiff_page.specs.PageView as view;
 use crate::chunk_data::ChunkCursor;
 use crate::layout::{needs_whole_rows, row_len, stored_row_bytes};
 use crate::output_row::{RowFormat, needs_swap};
-use crate::row_sink::{RowSink, RowSlot};
+use crate::row_sink::{RowSink, RowTarget};
 use tiff_base::error::TiffResult;
 use tiff_base::io::Source;
 use tiff_base::tags::Predictor;
@@ -39,11 +39,11 @@ const PACKED_ROWS: usize = 65536;
 
 // Returns how many rows of `len` bytes are read at once, at least 1: of rows longer than
 // `SHORT_ROWS` as many as fit in `long` bytes. The bytes that are read don't depend on it.
-fn rows_at_once(front: &ChunkCursor, len: usize, long: usize) -> usize
+fn rows_at_once(cursor: &ChunkCursor, len: usize, long: usize) -> usize
     requires { 0 < len }
     ensures { 0 < result }
 {
-    let bytes = match front {
+    let bytes = match cursor {
         ChunkCursor::Packed(_) => PACKED_ROWS,
         _ if len <= SHORT_ROWS => SHORT_ROWS,
         _ => long,
@@ -103,7 +103,7 @@ impl ChunkReader<'_> {
     }
 
     /// Returns a cursor at the start of the chunk's data.
-    pub(crate) fn front(&self) -> ChunkCursor
+    pub(crate) fn cursor(&self) -> ChunkCursor
         requires formed { method_fault self.now.format.page.now.method ≡ Ok tt }
         requires listed { self.now.index < length self.now.format.page.now.offsets }
         ensures rest { (file : List ℕ) (order : ByteOrder) → bytes_left file result
@@ -146,16 +146,16 @@ impl ChunkReader<'_> {
         requires few { (band.destination.top + (band.to - band.from)) * band.destination.stride
             < 2 ^ 64 }
         ensures later { W.goes_on sink.old sink.new }
-        ensures kept { IsKept R.told R.failures result source.old source.new }
-        ensures ok { OnOk result (WritesRows (R.told source.old).bytes self.now.format.order
+        ensures kept { IsKept R.contents R.failures result source.old source.new }
+        ensures ok { OnOk result (WritesRows (R.contents source.old).bytes self.now.format.order
             (view.page self.now.format.page.now) self.now.format.color self.now.index
             band.destination.stride band.destination.top band.destination.left band.from band.to
             (W.bytes sink.old) (W.bytes sink.new)) }
         ensures answer { Answers (λ _. tt) result
-            (fail_if (rows_short (R.told source.old).bytes self.now.format.order
+            (fail_if (rows_short (R.contents source.old).bytes self.now.format.order
             (view.page self.now.format.page.now) self.now.format.color self.now.index band.to)
             (tiff.IoError io.UnexpectedEof)) (R.failures source.old) (R.failures source.new) }
-        ensures asked { AsksOnly (ChunkReadable (R.told source.old)
+        ensures asked { ReadsOnly (ChunkReadable (R.contents source.old)
             (view.page self.now.format.page.now) self.now.format.color self.now.index) result }
     {
         let ChunkBand {
@@ -168,12 +168,12 @@ impl ChunkReader<'_> {
         let len = row_len(format.page, format.color, format.width);
         let gap = self.gap(len);
         let start = from * stored_row_bytes(format.page);
-        let mut cursor = self.front();
+        let mut cursor = self.cursor();
         cursor.pass(source, start as u64)?;
         for row in from..to {
             let to_row = destination.top + (row - from);
             let at = to_row * destination.stride + destination.left;
-            let next = RowSlot { format, len, at };
+            let next = RowTarget { format, len, at };
             sink.row(source, &mut cursor, &next)?;
             cursor.pass(source, gap_behind(gap, row, rows))?;
         }
@@ -217,23 +217,23 @@ impl ChunkReader<'_> {
         requires few { (destination.top + (rect (view.page self.now.format.page.now)
             self.now.index).height) * destination.stride < 2 ^ 64 }
         ensures later { W.goes_on sink.old sink.new }
-        ensures kept { IsKept R.told R.failures result source.old source.new }
-        ensures ok { OnOk result (GrowsByChunk (R.told source.old).bytes self.now.format.order
+        ensures kept { IsKept R.contents R.failures result source.old source.new }
+        ensures ok { OnOk result (GrowsByChunk (R.contents source.old).bytes self.now.format.order
             (view.page self.now.format.page.now) self.now.format.color
             self.now.index destination.stride destination.top destination.left
             (W.whole ((destination.top + (rect (view.page self.now.format.page.now)
             self.now.index).height) * destination.stride)) (W.bytes sink.old) (W.bytes sink.new)) }
         ensures answer { Answers (λ _. tt) result
-            (fail_if (is_short (R.told source.old).bytes self.now.format.order
+            (fail_if (is_short (R.contents source.old).bytes self.now.format.order
             (view.page self.now.format.page.now) self.now.format.color self.now.index)
             (tiff.IoError io.UnexpectedEof)) (R.failures source.old) (R.failures source.new) }
-        ensures asked { AsksOnly (ChunkReadable (R.told source.old)
+        ensures asked { ReadsOnly (ChunkReadable (R.contents source.old)
             (view.page self.now.format.page.now) self.now.format.color self.now.index) result }
     {
         let format = self.format;
         let rows = self.height as usize;
         if self.is_contiguous(destination) {
-            let mut cursor = self.front();
+            let mut cursor = self.cursor();
             let swapped = needs_swap(format.order, format.page);
             let long = if swapped { SHORT_ROWS } else { W::LONG_ROWS };
             let most = rows_at_once(&cursor, destination.stride, long);
@@ -242,7 +242,7 @@ impl ChunkReader<'_> {
                 let more = most.min(rows - row);
                 let at = (destination.top + row) * destination.stride;
                 let len = more * destination.stride;
-                let next = RowSlot { format, len, at };
+                let next = RowTarget { format, len, at };
                 sink.rows(source, &mut cursor, &next)?;
                 row += more;
             }

@@ -2,7 +2,7 @@
 //! allocates memory for samples.
 
 ghost use Rattle.std.specs.Prelude.{◌≡◌, ◌<◌, length, OnOk, ◌+◌, ◌-◌, ◌*◌, ◌^◌, min, nat_lt};
-ghost use Rattle.tiff_base.specs.Answers.{Gives, AnswersWithoutMemory, AsksOnly, IsKept};
+ghost use Rattle.tiff_base.specs.Answers.{Gives, AnswersWithoutMemory, ReadsOnly, IsKept};
 ghost use Rattle.tiff_base.specs.declared.error.TiffError.TheVariants as tiff;
 ghost use Rattle.tiff_base.specs.declared.io.IoKind.TheVariants as io;
 ghost use Rattle.tiff_page.specs.Methods as methods;
@@ -167,11 +167,11 @@ fn needed_bytes(page: &Page, color: ColorType, index: u32) -> u128
 #[tactic(auto, using(crate::proofs::Requests::reached, crate::proofs::Requests::past_all))]
 fn reach<R: Source>(source: &mut R, at: u64, len: u128) -> TiffResult<()>
     requires few { len < 2 ^ 89 }
-    ensures kept { IsKept R.told R.failures result source.old source.new }
+    ensures kept { IsKept R.contents R.failures result source.old source.new }
     ensures answer { AnswersWithoutMemory (λ _. tt) result
-        (spec.fail_if (nat_lt (length (R.told source.old).bytes - at) len)
+        (spec.fail_if (nat_lt (length (R.contents source.old).bytes - at) len)
         (tiff.IoError io.UnexpectedEof)) (R.failures source.old) (R.failures source.new) }
-    ensures asked { AsksOnly (AreReadable (R.told source.old) at len) result }
+    ensures asked { ReadsOnly (AreReadable (R.contents source.old) at len) result }
 {
     if len == 0 {
         return Ok(());
@@ -186,18 +186,18 @@ fn reach<R: Source>(source: &mut R, at: u64, len: u128) -> TiffResult<()>
 /// samples: an error of `form_fault`, or `IoError(UnexpectedEof)` if the source has too few
 /// bytes for what the chunk's data take at least. Reads at most one byte.
 #[tactic(auto, using(crate::proofs::Requests::counted_few, crate::proofs::Requests::counted_all, crate::proofs::Requests::least_few))]
-pub(crate) fn early_fault<R: Source>(
+pub(crate) fn check_first_chunk<R: Source>(
     page: &Page,
     limits: &Limits,
     source: &mut R,
     color: ColorType,
     index: u32,
 ) -> TiffResult<()>
-    ensures kept { IsKept R.told R.failures result source.old source.new }
+    ensures kept { IsKept R.contents R.failures result source.old source.new }
     ensures answer { AnswersWithoutMemory (λ _. tt) result (spec.chunk_fault (view.page page.now)
-        limits.now (is_cut (R.told source.old).bytes (view.page page.now) color) color index)
+        limits.now (is_cut (R.contents source.old).bytes (view.page page.now) color) color index)
         (R.failures source.old) (R.failures source.new) }
-    ensures asked { AsksOnly (ChunkReadable (R.told source.old) (view.page page.now) color index)
+    ensures asked { ReadsOnly (ChunkReadable (R.contents source.old) (view.page page.now) color index)
         result }
 {
     let chunk = index as usize;

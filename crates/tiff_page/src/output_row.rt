@@ -11,7 +11,7 @@ ghost use Rattle.tiff_page.specs.OutputRow as spec;
 ghost use Rattle.tiff_page.specs.OutputRow.{HoldsNumbersOf, handed_byte, needs_swap};
 ghost use Rattle.tiff_page.specs.ReadablePage.{FormRead, IsRead};
 ghost use Rattle.tiff_page.specs.PageView as view;
-ghost use Rattle.tiff_base.specs.Answers.{AsksOnly, IsKept};
+ghost use Rattle.tiff_base.specs.Answers.{ReadsOnly, IsKept};
 ghost use Rattle.tiff_page.specs.Layout.{row_bytes};
 ghost use Rattle.tiff_page.specs.Pixels.{needed_of_row, needs_whole_rows, stored_row_bytes};
 ghost use Rattle.tiff_page.specs.RowReads.{RowRead};
@@ -80,7 +80,7 @@ fn complement(page: &Page, row: &mut [u8])
 
 /// Makes the numbers of a stored row the output row, if all of its samples are output and no byte
 /// planes are joined. The numbers are in little-endian order.
-pub fn finish_row(page: &Page, color: ColorType, row: &mut [u8])
+pub fn decode_row(page: &Page, color: ColorType, row: &mut [u8])
     requires read { IsRead (view.page page.now) color }
     requires in_place { pixels.needs_whole_rows (view.page page.now) color ≡ false }
     requires whole { (page.now.depth < 8)
@@ -245,11 +245,11 @@ impl RowFormat<'_> {
         requires width { self.now.width ≤ self.now.page.now.chunk_width }
         requires out { length out.old
             ≡ row_bytes (view.page self.now.page.now) self.now.color self.now.width }
-        ensures kept { IsKept R.told R.failures result source.old source.new }
-        ensures row { RowRead (R.told source.old).bytes self.now.order
+        ensures kept { IsKept R.contents R.failures result source.old source.new }
+        ensures row { RowRead (R.contents source.old).bytes self.now.order
             (view.page self.now.page.now) self.now.color cursor.old cursor.new
             (R.failures source.old < R.failures source.new) out.new result }
-        ensures asked { AsksOnly (StoredReadable (R.told source.old) cursor.old
+        ensures asked { ReadsOnly (StoredReadable (R.contents source.old) cursor.old
             (stored_row_bytes (view.page self.now.page.now))) result }
         ensures moves { OnOk result
             (Moves cursor.old (stored_row_bytes (view.page self.now.page.now)) cursor.new) }
@@ -278,11 +278,11 @@ impl RowFormat<'_> {
         requires in_place { needs_whole_rows (view.page self.now.page.now) self.now.color ≡ false }
         requires whole { (self.now.page.now.depth < 8) ⊎ (length out.old /
             (self.now.page.now.depth / 8) * (self.now.page.now.depth / 8) ≡ length out.old) }
-        ensures kept { IsKept R.told R.failures result source.old source.new }
-        ensures row { RowRead (R.told source.old).bytes self.now.order
+        ensures kept { IsKept R.contents R.failures result source.old source.new }
+        ensures row { RowRead (R.contents source.old).bytes self.now.order
             (view.page self.now.page.now) self.now.color cursor.old cursor.new
             (R.failures source.old < R.failures source.new) out.new result }
-        ensures asked { AsksOnly (StoredReadable (R.told source.old) cursor.old (length out.old))
+        ensures asked { ReadsOnly (StoredReadable (R.contents source.old) cursor.old (length out.old))
             result }
         ensures moves { OnOk result (Moves cursor.old (length out.old) cursor.new) }
     {
@@ -292,11 +292,11 @@ impl RowFormat<'_> {
             room.other.resize(out.len(), 0)?;
             cursor.read(source, &mut room.other)?;
             to_little_endian(&room.other, usize::from(self.page.depth / 8), out);
-            finish_row(self.page, self.color, out);
+            decode_row(self.page, self.color, out);
             return Ok(());
         }
         cursor.read(source, out)?;
-        finish_row(self.page, self.color, out);
+        decode_row(self.page, self.color, out);
         Ok(())
     }
 
@@ -313,11 +313,11 @@ impl RowFormat<'_> {
         requires read { IsRead (view.page self.page.now) self.color }
         requires width { self.width ≤ self.page.now.chunk_width }
         requires out { length out.old ≡ row_bytes (view.page self.page.now) self.color self.width }
-        ensures kept { IsKept R.told R.failures result source.old source.new }
-        ensures row { RowRead (R.told source.old).bytes self.entry.order
+        ensures kept { IsKept R.contents R.failures result source.old source.new }
+        ensures row { RowRead (R.contents source.old).bytes self.entry.order
             (view.page self.entry.page.now) self.entry.color cursor.old cursor.new
             (R.failures source.old < R.failures source.new) out.new result }
-        ensures asked { AsksOnly (StoredReadable (R.told source.old) cursor.old
+        ensures asked { ReadsOnly (StoredReadable (R.contents source.old) cursor.old
             (needed_of_row (view.page self.entry.page.now) self.entry.color (length out.old)))
             result }
         ensures moves { OnOk result (Moves cursor.old
@@ -343,11 +343,11 @@ impl RowFormat<'_> {
         requires width { self.now.width ≤ self.now.page.now.chunk_width }
         requires out { length out.old
             ≡ row_bytes (view.page self.now.page.now) self.now.color self.now.width }
-        ensures kept { IsKept R.told R.failures result source.old source.new }
-        ensures row { RowRead (R.told source.old).bytes self.now.order
+        ensures kept { IsKept R.contents R.failures result source.old source.new }
+        ensures row { RowRead (R.contents source.old).bytes self.now.order
             (view.page self.now.page.now) self.now.color cursor.old cursor.new
             (R.failures source.old < R.failures source.new) out.new result }
-        ensures asked { AsksOnly (StoredReadable (R.told source.old) cursor.old
+        ensures asked { ReadsOnly (StoredReadable (R.contents source.old) cursor.old
             (needed_of_row (view.page self.now.page.now) self.now.color (length out.old))) result }
         ensures moves { OnOk result (Moves cursor.old
             (needed_of_row (view.page self.now.page.now) self.now.color (length out.old))

@@ -43,7 +43,7 @@ pub struct Page {
     ghost high: { 0 < height },
     ghost sampled: { 0 < samples },
     ghost extras: { length extra ≤ samples },
-    ghost deep: { 0 < depth },
+    ghost has_bits: { 0 < depth },
     ghost chunk_wide: { 0 < chunk_width },
     ghost chunk_high: { 0 < chunk_height },
     ghost counted: { length offsets ≡ chunk_count width height chunk_width chunk_height

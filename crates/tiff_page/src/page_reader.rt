@@ -6,7 +6,7 @@
 //! soon after one another, which is faster.
 
 ghost use Rattle.std.specs.Prelude.{◌≡◌, ◌+◌, ◌*◌, ◌<◌, ◌≤◌, ◌^◌, ℕ, Ok, OnOk, ◌-◌, IsTrue, length};
-ghost use Rattle.tiff_base.specs.Answers.{Answers, AsksOnly, IsKept};
+ghost use Rattle.tiff_base.specs.Answers.{Answers, ReadsOnly, IsKept};
 ghost use Rattle.tiff_page.specs.Layout.{color_of, layout_of};
 ghost use Rattle.tiff_page.specs.PixelFault.{chunk_fault, each_below, form_fault};
 ghost use Rattle.tiff_page.specs.Pixels.{is_short};
@@ -171,18 +171,18 @@ impl PageReader<'_> {
         requires room { next.planes * (next.rows * next.first.stride) ≤ W.room sink.old }
         requires few { next.planes * (next.rows * next.first.stride) < 2 ^ 64 }
         ensures later { W.goes_on sink.old sink.new }
-        ensures kept { IsKept R.told R.failures result source.old source.new }
+        ensures kept { IsKept R.contents R.failures result source.old source.new }
         ensures ok { OnOk result
-            (GrowsByPlanes (R.told source.old).bytes self.now.order (view.page self.now.page.now)
+            (GrowsByPlanes (R.contents source.old).bytes self.now.order (view.page self.now.page.now)
             next.color next.index next.first.stride next.rows next.first.top next.first.left
             next.planes (W.whole (next.planes * (next.rows * next.first.stride)))
             (W.bytes sink.old) (W.bytes sink.new)) }
         ensures answer { Answers (λ _. tt) result (each_below (λ plane. chunk_fault
-            (view.page self.now.page.now) self.now.limits.now (is_short (R.told source.old).bytes
+            (view.page self.now.page.now) self.now.limits.now (is_short (R.contents source.old).bytes
             self.now.order (view.page self.now.page.now) next.color) next.color
             (plane * rects.chunks_of_plane (view.page self.now.page.now) + (0 + next.index)))
             next.planes) (R.failures source.old) (R.failures source.new) }
-        ensures asked { AsksOnly (RequestReadable (R.told source.old) self.now
+        ensures asked { ReadsOnly (RequestReadable (R.contents source.old) self.now
             (request.Chunks next.color next.index next.planes next.first.stride)) result }
     {
         let page = self.page;
@@ -261,15 +261,15 @@ impl PageReader<'_> {
             ≤ length (W.bytes sink.old) }
         requires few { (part.top + (part.to - part.from)) * part.layout.row_bytes < 2 ^ 64 }
         ensures later { W.goes_on sink.old sink.new }
-        ensures kept { IsKept R.told R.failures result source.old source.new }
-        ensures ok { OnOk result (PutsImageRows (R.told source.old).bytes
+        ensures kept { IsKept R.contents R.failures result source.old source.new }
+        ensures ok { OnOk result (PutsImageRows (R.contents source.old).bytes
             self.now.order (view.page self.now.page.now) part.layout.color part.layout.row_bytes
             ((rects.rect (view.page self.now.page.now) part.first).y + part.from)
             (part.to - part.from) part.top (W.bytes sink.old) (W.bytes sink.new)) }
         ensures answer { Answers (λ _. tt) result
-            (rows_fault (R.told source.old).bytes self.now.order (view.page self.now.page.now)
+            (rows_fault (R.contents source.old).bytes self.now.order (view.page self.now.page.now)
             part.layout.color part.first part.to) (R.failures source.old) (R.failures source.new) }
-        ensures asked { AsksOnly (RequestReadable (R.told source.old) self.now
+        ensures asked { ReadsOnly (RequestReadable (R.contents source.old) self.now
             (request.Image part.layout 1)) result }
     {
         let page = self.page;
@@ -317,15 +317,15 @@ impl PageReader<'_> {
             ≤ part.layout.plane_stride }
         requires room { part.layout.plane_stride ≤ W.room sink.old }
         ensures later { W.goes_on sink.old sink.new }
-        ensures kept { IsKept R.told R.failures result source.old source.new }
+        ensures kept { IsKept R.contents R.failures result source.old source.new }
         ensures ok { OnOk result
-            (GrowsByRows (R.told source.old).bytes self.now.order (view.page self.now.page.now)
+            (GrowsByRows (R.contents source.old).bytes self.now.order (view.page self.now.page.now)
             part.layout.color part.layout.row_bytes part.top (part.top + (part.to - part.from))
             (W.whole part.layout.plane_stride) (W.bytes sink.old) (W.bytes sink.new)) }
         ensures answer { Answers (λ _. tt) result
-            (rows_fault (R.told source.old).bytes self.now.order (view.page self.now.page.now)
+            (rows_fault (R.contents source.old).bytes self.now.order (view.page self.now.page.now)
             part.layout.color part.first part.to) (R.failures source.old) (R.failures source.new) }
-        ensures asked { AsksOnly (RequestReadable (R.told source.old) self.now
+        ensures asked { ReadsOnly (RequestReadable (R.contents source.old) self.now
             (request.Image part.layout 1)) result }
     {
         let end = part.top + (part.to - part.from);
@@ -358,18 +358,18 @@ impl PageReader<'_> {
         requires room { next.part.layout.plane_stride ≤ W.room sink.old }
         requires chunk { next.chunk < rects.chunks_of_plane (view.page self.now.page.now) }
         ensures later { W.goes_on sink.old sink.new }
-        ensures kept { IsKept R.told R.failures result source.old source.new }
+        ensures kept { IsKept R.contents R.failures result source.old source.new }
         ensures ok { OnOk result
-            (GrowsByRows (R.told source.old).bytes self.now.order (view.page self.now.page.now)
+            (GrowsByRows (R.contents source.old).bytes self.now.order (view.page self.now.page.now)
             next.part.layout.color next.part.layout.row_bytes
             (rects.rect (view.page self.now.page.now) next.chunk).y
             ((rects.rect (view.page self.now.page.now) next.chunk).y
             + (rects.rect (view.page self.now.page.now) next.chunk).height)
             (W.whole next.part.layout.plane_stride) (W.bytes sink.old) (W.bytes sink.new)) }
         ensures answer { Answers (λ _. tt) result
-            (tiles_fault (R.told source.old).bytes self.now.order (view.page self.now.page.now)
+            (tiles_fault (R.contents source.old).bytes self.now.order (view.page self.now.page.now)
             next.part.layout.color next.chunk) (R.failures source.old) (R.failures source.new) }
-        ensures asked { AsksOnly (RequestReadable (R.told source.old) self.now
+        ensures asked { ReadsOnly (RequestReadable (R.contents source.old) self.now
             (request.Image next.part.layout 1)) result }
     {
         let layout = next.part.layout;
@@ -404,12 +404,12 @@ impl PageReader<'_> {
         requires room { part.planes * part.layout.plane_stride ≤ W.room sink.old }
         requires few { part.planes * part.layout.plane_stride < 2 ^ 64 }
         ensures later { W.goes_on sink.old sink.new }
-        ensures kept { IsKept R.told R.failures result source.old source.new }
+        ensures kept { IsKept R.contents R.failures result source.old source.new }
         ensures answer { (total : ℕ) → W.whole (part.planes * part.layout.plane_stride) ≤ total
             → Answers (λ _. filled_to total (W.bytes sink.new)) result
-            (request_bytes (R.told source.old).bytes self.now (request.Image part.layout part.planes)
+            (request_bytes (R.contents source.old).bytes self.now (request.Image part.layout part.planes)
             (filled_to total (W.bytes sink.old))) (R.failures source.old) (R.failures source.new) }
-        ensures asked { AsksOnly (RequestReadable (R.told source.old) self.now
+        ensures asked { ReadsOnly (RequestReadable (R.contents source.old) self.now
             (request.Image part.layout part.planes)) result }
     {
         let chunks = chunks_of_plane(self.page);

@@ -12,10 +12,10 @@
 
 ghost use Rattle.std.specs.Int.{div_ceil};
 ghost use Rattle.std.specs.Prelude.{◌≡◌, ℕ, ◌*◌, ◌<◌, ◌≤◌, ◌^◌, Ok, IfOk, [], length, map, replicate, if◌then◌else◌, nat_le};
-ghost use Rattle.tiff_base.specs.Answers.{Answers, AnswersWithoutSource, AsksOnly, Gives, IsKept};
-ghost use Rattle.tiff_base.specs.Sparing.{AnswersSparingly, IsListFault};
+ghost use Rattle.tiff_base.specs.Answers.{Answers, AnswersWithoutSource, ReadsOnly, Gives, IsKept};
+ghost use Rattle.tiff_base.specs.Sparing.{AnswersOrNoMemory, IsListFault};
 ghost use Rattle.tiff_page.specs.Buffers as buffers;
-ghost use Rattle.tiff_page.specs.EarlyFaults.{WantsAfter, WantsWhere, chunk_bytes_early, chunk_early, image_bytes_early, image_early, planes_early, samples_early, strided_early, unit_bytes_early};
+ghost use Rattle.tiff_page.specs.EarlyFaults.{AllocatesAfter, WantsWhere, chunk_bytes_early, chunk_early, image_bytes_early, image_early, planes_early, samples_early, strided_early, unit_bytes_early};
 ghost use Rattle.tiff_page.specs.BufferPositions.{filled_to};
 ghost use Rattle.tiff_page.specs.Layout as layouts;
 ghost use Rattle.tiff_page.specs.PixelCalls as calls;
@@ -27,7 +27,7 @@ ghost use Rattle.tiff_page.specs.declared.layout.DecodingSampleType.TheVariants 
 
 use crate::buffers::{all_planes, unit_fault};
 use crate::chunk_rows::Destination;
-use crate::faults::{early_fault, form_fault, limit_fault};
+use crate::faults::{check_first_chunk, form_fault, limit_fault};
 use crate::layout::{
     BufferLayoutPreference, DecodingSampleType, PlaneLayout, checked_byte_count,
     chunk_data_dimensions, planes, planes_layout, sample_type_of, size_of,
@@ -163,16 +163,16 @@ impl PageReader<'_> {
         len: usize,
     ) -> TiffResult<Vec<T>>
         requires { 0 < N }
-        ensures kept { IsKept R.told R.failures result source.old source.new }
-        ensures answer { AnswersSparingly (λ _. tt) result (request_early (R.told source.old).bytes
+        ensures kept { IsKept R.contents R.failures result source.old source.new }
+        ensures answer { AnswersOrNoMemory (λ _. tt) result (request_early (R.contents source.old).bytes
             self.now request sample_type len) (R.failures source.old) (R.failures source.new) }
-        ensures asked { AsksOnly (ChunkReadable (R.told source.old) (view.page self.now.page.now)
+        ensures asked { ReadsOnly (ChunkReadable (R.contents source.old) (view.page self.now.page.now)
             (color_in request) (first_in request)) result }
         ensures none { IfOk result (λ v. v.items ≡ []) }
     {
         let (page, limits) = (self.page, self.limits);
         limit_fault(limits, size_of(sample_type), len)?;
-        early_fault(page, limits, source, request.color(), request.first())?;
+        check_first_chunk(page, limits, source, request.color(), request.first())?;
         Ok(Vec::with_capacity(self.alloc, len.div_ceil(N))?)
     }
 
@@ -188,12 +188,12 @@ impl PageReader<'_> {
         requires room { room_of (view.page self.now.page.now) request ≤ W.room sink.old }
         requires few { room_of (view.page self.now.page.now) request < 2 ^ 64 }
         ensures later { W.goes_on sink.old sink.new }
-        ensures kept { IsKept R.told R.failures result source.old source.new }
+        ensures kept { IsKept R.contents R.failures result source.old source.new }
         ensures answer { (total : ℕ) → W.whole (room_of (view.page self.now.page.now) request) ≤ total
             → Answers (λ _. filled_to total (W.bytes sink.new)) result
-            (request_bytes (R.told source.old).bytes self.now request (filled_to total (W.bytes sink.old)))
+            (request_bytes (R.contents source.old).bytes self.now request (filled_to total (W.bytes sink.old)))
             (R.failures source.old) (R.failures source.new) }
-        ensures asked { AsksOnly (RequestReadable (R.told source.old) self.now request) result }
+        ensures asked { ReadsOnly (RequestReadable (R.contents source.old) self.now request) result }
     {
         match request {
             ReadRequest::Image(layout, planes) => {
@@ -227,10 +227,10 @@ impl PageReader<'_> {
     ) -> TiffResult<()>
         requires laid { IsLaid (view.page self.now.page.now) request }
         requires room { room_of (view.page self.now.page.now) request ≤ length buf.old }
-        ensures kept { IsKept R.told R.failures result source.old source.new }
-        ensures answer { Answers (λ _. buf.new) result (request_bytes (R.told source.old).bytes
+        ensures kept { IsKept R.contents R.failures result source.old source.new }
+        ensures answer { Answers (λ _. buf.new) result (request_bytes (R.contents source.old).bytes
             self.now request buf.old) (R.failures source.old) (R.failures source.new) }
-        ensures asked { AsksOnly (RequestReadable (R.told source.old) self.now request) result }
+        ensures asked { ReadsOnly (RequestReadable (R.contents source.old) self.now request) result }
     {
         let mut scratch = RowScratch::new(self.alloc);
         let mut sink = ByteSlice::new(buf, &mut scratch);
@@ -247,13 +247,13 @@ impl PageReader<'_> {
         requires laid { IsLaid (view.page self.now.page.now) request }
         requires room { room_of (view.page self.now.page.now) request ≤ len }
         requires typed { layouts.sample_type_of (view.page self.now.page.now) ≡ Ok type.U8 }
-        ensures kept { IsKept R.told R.failures result source.old source.new }
-        ensures memory { WantsAfter
-            (request_early (R.told source.old).bytes self.now request type.U8 len) result }
+        ensures kept { IsKept R.contents R.failures result source.old source.new }
+        ensures memory { AllocatesAfter
+            (request_early (R.contents source.old).bytes self.now request type.U8 len) result }
         ensures answer { Answers (λ v. record { sample_type = type.U8; numbers = v.items }) result
-            (request_samples (R.told source.old).bytes self.now request len)
+            (request_samples (R.contents source.old).bytes self.now request len)
             (R.failures source.old) (R.failures source.new) }
-        ensures asked { AsksOnly (RequestReadable (R.told source.old) self.now request) result }
+        ensures asked { ReadsOnly (RequestReadable (R.contents source.old) self.now request) result }
     {
         let bytes = self.allocate_output(source, request, DecodingSampleType::U8, len)?;
         let mut sink = ByteList::new(self.alloc, bytes);
@@ -276,14 +276,14 @@ impl PageReader<'_> {
         requires room { room_of (view.page self.now.page.now) request ≤ len }
         requires typed { layouts.sample_type_of (view.page self.now.page.now) ≡ Ok sample_type }
         requires size { layouts.size_of sample_type ≡ N }
-        ensures kept { IsKept R.told R.failures result source.old source.new }
-        ensures memory { WantsAfter
-            (request_early (R.told source.old).bytes self.now request sample_type len) result }
+        ensures kept { IsKept R.contents R.failures result source.old source.new }
+        ensures memory { AllocatesAfter
+            (request_early (R.contents source.old).bytes self.now request sample_type len) result }
         ensures answer { Answers (λ v. record { sample_type = sample_type; numbers = map T.bits v.items })
             result
-            (request_samples (R.told source.old).bytes self.now request len)
+            (request_samples (R.contents source.old).bytes self.now request len)
             (R.failures source.old) (R.failures source.new) }
-        ensures asked { AsksOnly (RequestReadable (R.told source.old) self.now request) result }
+        ensures asked { ReadsOnly (RequestReadable (R.contents source.old) self.now request) result }
     {
         let numbers = self.allocate_output(source, request, sample_type, len)?;
         let mut sink = NumberList::<T, N>::new(self.alloc, numbers);
@@ -302,13 +302,13 @@ impl PageReader<'_> {
     ) -> TiffResult<Samples>
         requires laid { IsLaid (view.page self.now.page.now) request }
         requires room { room_of (view.page self.now.page.now) request ≤ len }
-        ensures kept { IsKept R.told R.failures result source.old source.new }
-        ensures memory { WantsAfter
-            (samples_early (R.told source.old).bytes (view.page self.now.page.now)
+        ensures kept { IsKept R.contents R.failures result source.old source.new }
+        ensures memory { AllocatesAfter
+            (samples_early (R.contents source.old).bytes (view.page self.now.page.now)
             self.now.limits.now (color_in request) (first_in request) len) result }
-        ensures answer { Answers samples_as result (request_samples (R.told source.old).bytes self.now request len) (R.failures source.old)
+        ensures answer { Answers samples_as result (request_samples (R.contents source.old).bytes self.now request len) (R.failures source.old)
             (R.failures source.new) }
-        ensures asked { AsksOnly (RequestReadable (R.told source.old) self.now request) result }
+        ensures asked { ReadsOnly (RequestReadable (R.contents source.old) self.now request) result }
     {
         let kind = sample_type_of(self.page, self.alloc)?;
         match kind {
@@ -329,14 +329,14 @@ impl PageReader<'_> {
     /// Returns the samples of an image, row by row; of a planar image, those of its first plane.
     #[tactic(auto, using(crate::proofs::Planes::image_is_first_plane, crate::proofs::PassedChecks::layout_wanted))]
     pub fn read_image<R: Source>(&self, source: &mut R) -> TiffResult<Samples>
-        ensures kept { IsKept R.told R.failures result source.old source.new }
-        ensures memory { WantsAfter (image_early (R.told source.old).bytes
+        ensures kept { IsKept R.contents R.failures result source.old source.new }
+        ensures memory { AllocatesAfter (image_early (R.contents source.old).bytes
             (view.page self.now.page.now) self.now.limits.now) result }
-        ensures answer { Answers samples_as result (calls.image_of (R.told source.old).bytes
+        ensures answer { Answers samples_as result (calls.image_of (R.contents source.old).bytes
             self.now.order (view.page self.now.page.now) self.now.limits.now)
             (R.failures source.old) (R.failures source.new) }
-        ensures asked { AsksOnly
-            (ImageReadable (R.told source.old) (view.page self.now.page.now) (λ l. 1)) result }
+        ensures asked { ReadsOnly
+            (ImageReadable (R.contents source.old) (view.page self.now.page.now) (λ l. 1)) result }
     {
         let page = self.page;
         let layout = planes_layout(page, self.alloc, page.width, page.height)?;
@@ -351,13 +351,13 @@ impl PageReader<'_> {
         &self,
         source: &mut R,
     ) -> TiffResult<(BufferLayoutPreference, Samples)>
-        ensures kept { IsKept R.told R.failures result source.old source.new }
-        ensures memory { WantsAfter (planes_early (R.told source.old).bytes
+        ensures kept { IsKept R.contents R.failures result source.old source.new }
+        ensures memory { AllocatesAfter (planes_early (R.contents source.old).bytes
             (view.page self.now.page.now) self.now.limits.now) result }
         ensures answer { Answers (λ r. (r.0, samples_as r.1)) result (calls.read_image_to_buffer
-            (R.told source.old).bytes self.now.order (view.page self.now.page.now)
+            (R.contents source.old).bytes self.now.order (view.page self.now.page.now)
             self.now.limits.now) (R.failures source.old) (R.failures source.new) }
-        ensures asked { AsksOnly (ImageReadable (R.told source.old) (view.page self.now.page.now)
+        ensures asked { ReadsOnly (ImageReadable (R.contents source.old) (view.page self.now.page.now)
             (λ l. calls.planes_within (view.page self.now.page.now) self.now.limits.now l)) result }
     {
         let page = self.page;
@@ -375,13 +375,13 @@ impl PageReader<'_> {
     /// fewer bytes than a plane.
     #[tactic(auto, using(crate::proofs::PassedChecks::may_want, crate::proofs::PassedChecks::layout_wanted), unfolding(crate::specs::PixelCalls::read_image_bytes))]
     pub fn read_image_bytes<R: Source>(&self, source: &mut R, buf: &mut [u8]) -> TiffResult<()>
-        ensures kept { IsKept R.told R.failures result source.old source.new }
-        ensures memory { WantsAfter (image_bytes_early (view.page self.now.page.now)
+        ensures kept { IsKept R.contents R.failures result source.old source.new }
+        ensures memory { AllocatesAfter (image_bytes_early (view.page self.now.page.now)
             self.now.limits.now (length buf.old)) result }
         ensures answer { Answers (λ _. buf.new) result (calls.read_image_bytes
-            (R.told source.old).bytes self.now.order (view.page self.now.page.now)
+            (R.contents source.old).bytes self.now.order (view.page self.now.page.now)
             self.now.limits.now buf.old) (R.failures source.old) (R.failures source.new) }
-        ensures asked { AsksOnly (ImageReadable (R.told source.old) (view.page self.now.page.now)
+        ensures asked { ReadsOnly (ImageReadable (R.contents source.old) (view.page self.now.page.now)
             (λ l. calls.planes_used (view.page self.now.page.now) l (length buf.old))) result }
     {
         let page = self.page;
@@ -397,13 +397,13 @@ impl PageReader<'_> {
     /// `InconsistentSizesEncountered` if the index is past the list of chunks.
     #[tactic(auto, using(crate::proofs::PassedChecks::layout_wanted), unfolding(crate::specs::PixelCalls::read_chunk))]
     pub fn read_chunk<R: Source>(&self, source: &mut R, index: u32) -> TiffResult<Samples>
-        ensures kept { IsKept R.told R.failures result source.old source.new }
-        ensures memory { WantsAfter (chunk_early (R.told source.old).bytes
+        ensures kept { IsKept R.contents R.failures result source.old source.new }
+        ensures memory { AllocatesAfter (chunk_early (R.contents source.old).bytes
             (view.page self.now.page.now) self.now.limits.now index) result }
-        ensures answer { Answers samples_as result (calls.read_chunk (R.told source.old).bytes
+        ensures answer { Answers samples_as result (calls.read_chunk (R.contents source.old).bytes
             self.now.order (view.page self.now.page.now) self.now.limits.now index)
             (R.failures source.old) (R.failures source.new) }
-        ensures asked { AsksOnly (ChunksReadable (R.told source.old) (view.page self.now.page.now)
+        ensures asked { ReadsOnly (ChunksReadable (R.contents source.old) (view.page self.now.page.now)
             index (λ l. 1)) result }
     {
         let layout = chunk_layout(self.page, self.alloc, index)?;
@@ -421,13 +421,13 @@ impl PageReader<'_> {
         index: u32,
         buf: &mut [u8],
     ) -> TiffResult<()>
-        ensures kept { IsKept R.told R.failures result source.old source.new }
-        ensures memory { WantsAfter (chunk_bytes_early (view.page self.now.page.now)
+        ensures kept { IsKept R.contents R.failures result source.old source.new }
+        ensures memory { AllocatesAfter (chunk_bytes_early (view.page self.now.page.now)
             self.now.limits.now index (length buf.old)) result }
         ensures answer { Answers (λ _. buf.new) result (calls.read_chunk_bytes
-            (R.told source.old).bytes self.now.order (view.page self.now.page.now)
+            (R.contents source.old).bytes self.now.order (view.page self.now.page.now)
             self.now.limits.now index buf.old) (R.failures source.old) (R.failures source.new) }
-        ensures asked { AsksOnly (ChunksReadable (R.told source.old) (view.page self.now.page.now)
+        ensures asked { ReadsOnly (ChunksReadable (R.contents source.old) (view.page self.now.page.now)
             index (λ l. 1)) result }
     {
         let layout = chunk_layout(self.page, self.alloc, index)?;
@@ -448,13 +448,13 @@ impl PageReader<'_> {
         index: u32,
         stride: usize,
     ) -> TiffResult<Samples>
-        ensures kept { IsKept R.told R.failures result source.old source.new }
-        ensures memory { WantsAfter (strided_early (R.told source.old).bytes
+        ensures kept { IsKept R.contents R.failures result source.old source.new }
+        ensures memory { AllocatesAfter (strided_early (R.contents source.old).bytes
             (view.page self.now.page.now) self.now.limits.now index stride) result }
         ensures answer { Answers samples_as result (calls.read_chunk_to_buffer
-            (R.told source.old).bytes self.now.order (view.page self.now.page.now)
+            (R.contents source.old).bytes self.now.order (view.page self.now.page.now)
             self.now.limits.now index stride) (R.failures source.old) (R.failures source.new) }
-        ensures asked { AsksOnly (ChunksReadable (R.told source.old) (view.page self.now.page.now)
+        ensures asked { ReadsOnly (ChunksReadable (R.contents source.old) (view.page self.now.page.now)
             index (λ l. 1)) result }
     {
         let page = self.page;
@@ -477,13 +477,13 @@ impl PageReader<'_> {
         unit: u32,
         buf: &mut [u8],
     ) -> TiffResult<()>
-        ensures kept { IsKept R.told R.failures result source.old source.new }
-        ensures memory { WantsAfter (unit_bytes_early (view.page self.now.page.now)
+        ensures kept { IsKept R.contents R.failures result source.old source.new }
+        ensures memory { AllocatesAfter (unit_bytes_early (view.page self.now.page.now)
             self.now.limits.now unit (length buf.old)) result }
         ensures answer { Answers (λ _. buf.new) result (calls.read_coding_unit_bytes
-            (R.told source.old).bytes self.now.order (view.page self.now.page.now)
+            (R.contents source.old).bytes self.now.order (view.page self.now.page.now)
             self.now.limits.now unit buf.old) (R.failures source.old) (R.failures source.new) }
-        ensures asked { AsksOnly (ChunksReadable (R.told source.old) (view.page self.now.page.now)
+        ensures asked { ReadsOnly (ChunksReadable (R.contents source.old) (view.page self.now.page.now)
             unit (λ l. calls.planes_used (view.page self.now.page.now) l (length buf.old))) result }
     {
         let page = self.page;

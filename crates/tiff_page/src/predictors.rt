@@ -4,7 +4,7 @@
 ghost use Rattle.std.specs.Prelude.{◌≡◌, ℕ, ◌+◌, ◌-◌, ◌*◌, ◌/◌, ◌%◌, ◌<◌, ◌≤◌, length, slice_index, EachIndex};
 ghost use Rattle.tiff_base.specs.declared.tags.ByteOrder.TheVariants.{LittleEndian, BigEndian};
 ghost use Rattle.tiff_page.specs.Pixels.{summed_number, joined_number};
-ghost use Rattle.tiff_page.specs.Row.{IsSize, RowReplaced, AddsNumber, TurnsNumber, TurnsNumbers};
+ghost use Rattle.tiff_page.specs.Row.{IsSize, RowReplaced, AddsNumber, TurnsNumber, SwapsBytes};
 
 use std::simd::prelude::*;
 use tiff_base::read::{u16_in, u32_in, u64_in};
@@ -66,7 +66,7 @@ fn turn_numbers(row: &[u8], size: usize, out: &mut [u8])
     requires size { IsSize size }
     requires several { 1 < size }
     requires out { length out.old ≡ length row.now }
-    ensures { TurnsNumbers size row.now out.new }
+    ensures { SwapsBytes size row.now out.new }
 {
     let count = row.len() / size;
     for k in 0..count {
@@ -79,7 +79,7 @@ fn turn_numbers(row: &[u8], size: usize, out: &mut [u8])
 pub fn to_little_endian(row: &[u8], size: usize, out: &mut [u8])
     requires size { IsSize size }
     requires out { length out.old ≡ length row.now }
-    ensures { TurnsNumbers size row.now out.new }
+    ensures { SwapsBytes size row.now out.new }
 {
     match size {
         2 => turn_numbers(row, 2, out),

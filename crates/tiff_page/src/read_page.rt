@@ -42,10 +42,10 @@ fn sides(width: u32, height: u32) -> TiffResult<(u32, u32)>
 /// Reads the width and the height, in pixels.
 #[tactic(auto, using(crate::proofs::PassedChecks::required_found), unfolding(crate::specs::Checks::size_in))]
 pub fn read_size<T: Tags>(tags: &mut T, alloc: Global) -> TiffResult<(u32, u32)>
-    ensures kept { IsKept T.told T.failures result tags.old tags.new }
-    ensures answer { AnswersFound (λ s. s) result (checks.size_in (T.told tags.old).look)
-        (T.told tags.old).look named.ImageWidth (T.failures tags.old) (T.failures tags.new) }
-    ensures asked { AsksForPage (T.told tags.old) result }
+    ensures kept { IsKept T.contents T.failures result tags.old tags.new }
+    ensures answer { AnswersFound (λ s. s) result (checks.size_in (T.contents tags.old).look)
+        (T.contents tags.old).look named.ImageWidth (T.failures tags.old) (T.failures tags.new) }
+    ensures asked { AsksForPage (T.contents tags.old) result }
     ensures some { IfOk result (λ s. (0 < s.0) × (0 < s.1)) }
 {
     let width = require_u32(tags, alloc, Tag::ImageWidth)?;
@@ -69,11 +69,11 @@ pub fn read_interpretation<T: Tags>(
     tags: &mut T,
     alloc: Global,
 ) -> TiffResult<PhotometricInterpretation>
-    ensures kept { IsKept T.told T.failures result tags.old tags.new }
-    ensures answer { AnswersFound (λ s. s) result (checks.interpretation_in (T.told tags.old).look)
-        (T.told tags.old).look named.PhotometricInterpretation (T.failures tags.old)
+    ensures kept { IsKept T.contents T.failures result tags.old tags.new }
+    ensures answer { AnswersFound (λ s. s) result (checks.interpretation_in (T.contents tags.old).look)
+        (T.contents tags.old).look named.PhotometricInterpretation (T.failures tags.old)
         (T.failures tags.new) }
-    ensures asked { AsksForTag (T.told tags.old) named.PhotometricInterpretation result }
+    ensures asked { AsksForTag (T.contents tags.old) named.PhotometricInterpretation result }
 {
     interpretation_named(find_u16(tags, alloc, Tag::PhotometricInterpretation)?)
 }
@@ -81,10 +81,10 @@ pub fn read_interpretation<T: Tags>(
 /// Reads the compression method.
 #[tactic(auto, unfolding(crate::specs::Checks::method_in))]
 pub fn read_method<T: Tags>(tags: &mut T, alloc: Global) -> TiffResult<CompressionMethod>
-    ensures kept { IsKept T.told T.failures result tags.old tags.new }
-    ensures answer { AnswersFound (λ s. s) result (checks.method_in (T.told tags.old).look)
-        (T.told tags.old).look named.Compression (T.failures tags.old) (T.failures tags.new) }
-    ensures asked { AsksForTag (T.told tags.old) named.Compression result }
+    ensures kept { IsKept T.contents T.failures result tags.old tags.new }
+    ensures answer { AnswersFound (λ s. s) result (checks.method_in (T.contents tags.old).look)
+        (T.contents tags.old).look named.Compression (T.failures tags.old) (T.failures tags.new) }
+    ensures asked { AsksForTag (T.contents tags.old) named.Compression result }
 {
     let number = find_u16(tags, alloc, Tag::Compression)?.unwrap_or(1);
     Ok(CompressionMethod::from_u16_exhaustive(number))
@@ -104,10 +104,10 @@ fn some_samples(samples: u16) -> TiffResult<u16>
 /// Reads how many samples a pixel has.
 #[tactic(auto, unfolding(crate::specs::Checks::samples_in))]
 pub fn read_samples<T: Tags>(tags: &mut T, alloc: Global) -> TiffResult<u16>
-    ensures kept { IsKept T.told T.failures result tags.old tags.new }
-    ensures answer { AnswersFound (λ s. s) result (checks.samples_in (T.told tags.old).look)
-        (T.told tags.old).look named.SamplesPerPixel (T.failures tags.old) (T.failures tags.new) }
-    ensures asked { AsksForTag (T.told tags.old) named.SamplesPerPixel result }
+    ensures kept { IsKept T.contents T.failures result tags.old tags.new }
+    ensures answer { AnswersFound (λ s. s) result (checks.samples_in (T.contents tags.old).look)
+        (T.contents tags.old).look named.SamplesPerPixel (T.failures tags.old) (T.failures tags.new) }
+    ensures asked { AsksForTag (T.contents tags.old) named.SamplesPerPixel result }
     ensures some { IfOk result (λ n. 0 < n) }
 {
     some_samples(find_u16(tags, alloc, Tag::SamplesPerPixel)?.unwrap_or(1))
@@ -137,10 +137,10 @@ fn within_samples(samples: u16, extra: Vec<ExtraSamples>) -> TiffResult<ExtraSam
 /// Reads what the extra samples are.
 #[tactic(auto, using(crate::proofs::PassedChecks::number_found), unfolding(crate::specs::Checks::extra_in))]
 pub fn read_extra<T: Tags>(tags: &mut T, alloc: Global, samples: u16) -> TiffResult<ExtraSampleList>
-    ensures kept { IsKept T.told T.failures result tags.old tags.new }
-    ensures answer { AnswersFound (λ s. s) result (checks.extra_in (T.told tags.old).look samples)
-        (T.told tags.old).look named.ExtraSamples (T.failures tags.old) (T.failures tags.new) }
-    ensures asked { AsksForTag (T.told tags.old) named.ExtraSamples result }
+    ensures kept { IsKept T.contents T.failures result tags.old tags.new }
+    ensures answer { AnswersFound (λ s. s) result (checks.extra_in (T.contents tags.old).look samples)
+        (T.contents tags.old).look named.ExtraSamples (T.failures tags.old) (T.failures tags.new) }
+    ensures asked { AsksForTag (T.contents tags.old) named.ExtraSamples result }
     ensures few { IfOk result (λ e. length e ≤ samples) }
 {
     match find_u16_vec(tags, alloc, Tag::ExtraSamples)? {
@@ -218,10 +218,10 @@ fn one_format(alloc: Global, numbers: &[u16]) -> TiffResult<SampleFormat>
 /// Reads the sample format: what the numbers of samples are.
 #[tactic(auto, using(crate::proofs::PassedChecks::number_found), unfolding(crate::specs::Checks::format_in))]
 pub fn read_format<T: Tags>(tags: &mut T, alloc: Global) -> TiffResult<SampleFormat>
-    ensures kept { IsKept T.told T.failures result tags.old tags.new }
-    ensures answer { AnswersFound (λ s. s) result (checks.format_in (T.told tags.old).look)
-        (T.told tags.old).look named.SampleFormat (T.failures tags.old) (T.failures tags.new) }
-    ensures asked { AsksForTag (T.told tags.old) named.SampleFormat result }
+    ensures kept { IsKept T.contents T.failures result tags.old tags.new }
+    ensures answer { AnswersFound (λ s. s) result (checks.format_in (T.contents tags.old).look)
+        (T.contents tags.old).look named.SampleFormat (T.failures tags.old) (T.failures tags.new) }
+    ensures asked { AsksForTag (T.contents tags.old) named.SampleFormat result }
 {
     match tags.find_u64_vec(alloc, Tag::SampleFormat)? {
         None => Ok(SampleFormat::Uint),
@@ -253,10 +253,10 @@ fn one_depth(samples: u16, bits: Vec<u8>) -> TiffResult<u8>
 /// Reads how many bits a sample has.
 #[tactic(auto, using(crate::proofs::PassedChecks::number_found), unfolding(crate::specs::Checks::depth_in))]
 pub fn read_depth<T: Tags>(tags: &mut T, alloc: Global, samples: u16) -> TiffResult<u8>
-    ensures kept { IsKept T.told T.failures result tags.old tags.new }
-    ensures answer { AnswersFound (λ s. s) result (checks.depth_in (T.told tags.old).look samples)
-        (T.told tags.old).look named.BitsPerSample (T.failures tags.old) (T.failures tags.new) }
-    ensures asked { AsksForTag (T.told tags.old) named.BitsPerSample result }
+    ensures kept { IsKept T.contents T.failures result tags.old tags.new }
+    ensures answer { AnswersFound (λ s. s) result (checks.depth_in (T.contents tags.old).look samples)
+        (T.contents tags.old).look named.BitsPerSample (T.failures tags.old) (T.failures tags.new) }
+    ensures asked { AsksForTag (T.contents tags.old) named.BitsPerSample result }
     ensures some { IfOk result (λ d. 0 < d) }
 {
     match tags.find_u64_vec(alloc, Tag::BitsPerSample)? {
@@ -282,10 +282,10 @@ fn predictor_from(number: Option<u16>) -> TiffResult<Predictor>
 /// Reads the predictor: how stored samples differ from those before them.
 #[tactic(auto, unfolding(crate::specs::Checks::predictor_in))]
 pub fn read_predictor<T: Tags>(tags: &mut T, alloc: Global) -> TiffResult<Predictor>
-    ensures kept { IsKept T.told T.failures result tags.old tags.new }
-    ensures answer { AnswersFound (λ s. s) result (checks.predictor_in (T.told tags.old).look)
-        (T.told tags.old).look named.Predictor (T.failures tags.old) (T.failures tags.new) }
-    ensures asked { AsksForTag (T.told tags.old) named.Predictor result }
+    ensures kept { IsKept T.contents T.failures result tags.old tags.new }
+    ensures answer { AnswersFound (λ s. s) result (checks.predictor_in (T.contents tags.old).look)
+        (T.contents tags.old).look named.Predictor (T.failures tags.old) (T.failures tags.new) }
+    ensures asked { AsksForTag (T.contents tags.old) named.Predictor result }
 {
     predictor_from(find_u16(tags, alloc, Tag::Predictor)?)
 }
@@ -307,15 +307,15 @@ fn planar_from(number: Option<u16>) -> TiffResult<PlanarConfiguration>
 /// Reads the planar configuration: whether each plane of samples has its own chunks.
 #[tactic(auto, unfolding(crate::specs::Checks::planar_in))]
 pub fn read_planar<T: Tags>(tags: &mut T, alloc: Global) -> TiffResult<PlanarConfiguration>
-    ensures kept { IsKept T.told T.failures result tags.old tags.new }
-    ensures answer { AnswersFound (λ s. s) result (checks.planar_in (T.told tags.old).look)
-        (T.told tags.old).look named.PlanarConfiguration (T.failures tags.old) (T.failures tags.new) }
-    ensures asked { AsksForTag (T.told tags.old) named.PlanarConfiguration result }
+    ensures kept { IsKept T.contents T.failures result tags.old tags.new }
+    ensures answer { AnswersFound (λ s. s) result (checks.planar_in (T.contents tags.old).look)
+        (T.contents tags.old).look named.PlanarConfiguration (T.failures tags.old) (T.failures tags.new) }
+    ensures asked { AsksForTag (T.contents tags.old) named.PlanarConfiguration result }
 {
     planar_from(find_u16(tags, alloc, Tag::PlanarConfiguration)?)
 }
 
-fn two(sizes: &[u16]) -> TiffResult<(u16, u16)>
+fn check_pair(sizes: &[u16]) -> TiffResult<(u16, u16)>
     ensures { Gives (λ s. s) result (checks.number_pair sizes.now) }
 {
     match sizes {
@@ -327,17 +327,17 @@ fn two(sizes: &[u16]) -> TiffResult<(u16, u16)>
 /// Reads the chroma subsampling: how many pixels share a chroma sample, across and down.
 #[tactic(auto, using(crate::proofs::PassedChecks::number_found), unfolding(crate::specs::Checks::subsampling_in))]
 pub fn read_subsampling<T: Tags>(tags: &mut T, alloc: Global) -> TiffResult<(u16, u16)>
-    ensures kept { IsKept T.told T.failures result tags.old tags.new }
-    ensures answer { AnswersFound (λ s. s) result (checks.subsampling_in (T.told tags.old).look)
-        (T.told tags.old).look named.ChromaSubsampling (T.failures tags.old) (T.failures tags.new) }
-    ensures asked { AsksForTag (T.told tags.old) named.ChromaSubsampling result }
+    ensures kept { IsKept T.contents T.failures result tags.old tags.new }
+    ensures answer { AnswersFound (λ s. s) result (checks.subsampling_in (T.contents tags.old).look)
+        (T.contents tags.old).look named.ChromaSubsampling (T.failures tags.old) (T.failures tags.new) }
+    ensures asked { AsksForTag (T.contents tags.old) named.ChromaSubsampling result }
 {
     match tags.find_u64_vec(alloc, Tag::ChromaSubsampling)? {
         // The default of TIFF 6.0, section 21.
         None => Ok((2, 2)),
         Some(numbers) => {
             let sizes = fit_u16s(alloc, Tag::ChromaSubsampling, numbers)?;
-            two(&sizes)
+            check_pair(&sizes)
         }
     }
 }
@@ -346,7 +346,7 @@ pub fn read_subsampling<T: Tags>(tags: &mut T, alloc: Global) -> TiffResult<(u16
 /// aren't exactly those of one of them.
 #[tactic(auto, unfolding(crate::specs::Checks::chunk_type_in))]
 pub fn chunk_type<T: Tags>(tags: &T) -> TiffResult<ChunkType>
-    ensures { Gives (λ s. s) result (checks.chunk_type_in (T.told tags.now).look) }
+    ensures { Gives (λ s. s) result (checks.chunk_type_in (T.contents tags.now).look) }
 {
     match (
         tags.contains(Tag::StripOffsets),
@@ -380,7 +380,7 @@ pub fn chunk_count(
 }
 
 #[tactic(auto, unfolding(crate::specs::Checks::chunks_counted))]
-fn counted(width: u32, height: u32, planes: u16, chunks: ChunkTable) -> TiffResult<ChunkTable>
+fn check_chunk_count(width: u32, height: u32, planes: u16, chunks: ChunkTable) -> TiffResult<ChunkTable>
     requires wide { 0 < chunks.chunk_width }
     requires high { 0 < chunks.chunk_height }
     ensures answer { Gives view.chunks result (checks.chunks_counted width height planes (view.chunks chunks)) }
@@ -428,11 +428,11 @@ pub fn read_strips<T: Tags>(
     planes: u16,
 ) -> TiffResult<ChunkTable>
     requires wide { 0 < width }
-    ensures kept { IsKept T.told T.failures result tags.old tags.new }
+    ensures kept { IsKept T.contents T.failures result tags.old tags.new }
     ensures answer { AnswersFound view.chunks result
-        (checks.strips_in (T.told tags.old).look width height planes)
-        (T.told tags.old).look named.StripOffsets (T.failures tags.old) (T.failures tags.new) }
-    ensures asked { AsksForPage (T.told tags.old) result }
+        (checks.strips_in (T.contents tags.old).look width height planes)
+        (T.contents tags.old).look named.StripOffsets (T.failures tags.old) (T.failures tags.new) }
+    ensures asked { AsksForPage (T.contents tags.old) result }
     ensures wide { IfOk result (λ c. 0 < c.chunk_width) }
     ensures high { IfOk result (λ c. 0 < c.chunk_height) }
     ensures same { IfOk result (λ c. length c.byte_counts ≡ length c.offsets) }
@@ -450,7 +450,7 @@ pub fn read_strips<T: Tags>(
         offsets,
         byte_counts,
     };
-    counted(width, height, planes, chunks)
+    check_chunk_count(width, height, planes, chunks)
 }
 
 // Returns `InvalidTagValueType(tag)` if the width or the height of a tile is 0.
@@ -474,11 +474,11 @@ pub fn read_tiles<T: Tags>(
     height: u32,
     planes: u16,
 ) -> TiffResult<ChunkTable>
-    ensures kept { IsKept T.told T.failures result tags.old tags.new }
+    ensures kept { IsKept T.contents T.failures result tags.old tags.new }
     ensures answer { AnswersFound view.chunks result
-        (checks.tiles_in (T.told tags.old).look width height planes)
-        (T.told tags.old).look named.TileWidth (T.failures tags.old) (T.failures tags.new) }
-    ensures asked { AsksForPage (T.told tags.old) result }
+        (checks.tiles_in (T.contents tags.old).look width height planes)
+        (T.contents tags.old).look named.TileWidth (T.failures tags.old) (T.failures tags.new) }
+    ensures asked { AsksForPage (T.contents tags.old) result }
     ensures wide { IfOk result (λ c. 0 < c.chunk_width) }
     ensures high { IfOk result (λ c. 0 < c.chunk_height) }
     ensures same { IfOk result (λ c. length c.byte_counts ≡ length c.offsets) }
@@ -498,7 +498,7 @@ pub fn read_tiles<T: Tags>(
         offsets,
         byte_counts,
     };
-    counted(width, height, planes, chunks)
+    check_chunk_count(width, height, planes, chunks)
 }
 
 /// Returns how often chunks cover the image: once, or once for each sample of a pixel.
@@ -515,10 +515,10 @@ pub fn planes_of(planar: PlanarConfiguration, samples: u16) -> u16
 /// is within the limits and the source.
 #[tactic(auto, using(crate::proofs::PassedChecks::size_found), unfolding(crate::specs::Checks::page_of))]
 pub fn read_page<T: Tags>(tags: &mut T, alloc: Global) -> TiffResult<Page>
-    ensures kept { IsKept T.told T.failures result tags.old tags.new }
-    ensures answer { AnswersFound view.page result (checks.page_of (T.told tags.old).look)
-        (T.told tags.old).look named.ImageWidth (T.failures tags.old) (T.failures tags.new) }
-    ensures asked { AsksForPage (T.told tags.old) result }
+    ensures kept { IsKept T.contents T.failures result tags.old tags.new }
+    ensures answer { AnswersFound view.page result (checks.page_of (T.contents tags.old).look)
+        (T.contents tags.old).look named.ImageWidth (T.failures tags.old) (T.failures tags.new) }
+    ensures asked { AsksForPage (T.contents tags.old) result }
 {
     let (width, height) = read_size(tags, alloc)?;
     let interpretation = read_interpretation(tags, alloc)?;

@@ -3,7 +3,7 @@
 ghost use Rattle.std.specs.Prelude.{◌≡◌, ℕ, ◌+◌, ◌*◌, ◌/◌, ◌^◌, ◌<◌, ◌≤◌, ◌⊎◌, ⊤, List, length, map, false, OnOk, refl};
 ghost use Rattle.std.proofs.Common.{◌∙◌};
 ghost use Rattle.std.specs.Int.{div_ceil};
-ghost use Rattle.tiff_base.specs.Answers.{AsksOnly, IsKept};
+ghost use Rattle.tiff_base.specs.Answers.{ReadsOnly, IsKept};
 ghost use Rattle.tiff_page.specs.Layout.{row_bytes};
 ghost use Rattle.tiff_page.specs.BufferPositions.{filled_to};
 ghost use Rattle.tiff_page.specs.NumberBytes.{IsPut, bytes_in, plain_enough};
@@ -23,7 +23,7 @@ use tiff_base::io::Source;
 /// The bytes of a chunk that are read next: the format of their rows, how many bytes they are when
 /// they are returned, and the position of the first of these in a sink.
 #[derive(Clone, Copy)]
-pub struct RowSlot<'a> {
+pub struct RowTarget<'a> {
     pub format: RowFormat<'a>,
     pub len: usize,
     pub at: usize,
@@ -62,7 +62,7 @@ pub trait RowSink {
         &mut self,
         source: &mut R,
         cursor: &mut ChunkCursor,
-        next: &RowSlot<'_>,
+        next: &RowTarget<'_>,
     ) -> TiffResult<()>
         requires read { IsRead (view.page next.now.format.page.now) next.now.format.color }
         requires width { next.now.format.width ≤ next.now.format.page.now.chunk_width }
@@ -71,12 +71,12 @@ pub trait RowSink {
         requires there { next.now.at + next.now.len ≤ length (bytes self.old) }
         requires fits { next.now.at + next.now.len < 2 ^ 64 }
         ensures later { goes_on self.old self.new }
-        ensures kept { IsKept R.told R.failures result source.old source.new }
-        ensures row { RowPut (R.told source.old).bytes next.now.format.order
+        ensures kept { IsKept R.contents R.failures result source.old source.new }
+        ensures row { RowPut (R.contents source.old).bytes next.now.format.order
             (view.page next.now.format.page.now) next.now.format.color cursor.old
             cursor.new (R.failures source.old < R.failures source.new) next.now.at next.now.len
             (bytes self.old) (bytes self.new) result }
-        ensures asked { AsksOnly (StoredReadable (R.told source.old) cursor.old (needed_of_row
+        ensures asked { ReadsOnly (StoredReadable (R.contents source.old) cursor.old (needed_of_row
             (view.page next.now.format.page.now) next.now.format.color next.now.len)) result }
         ensures moves { OnOk result (Moves cursor.old
             (needed_of_row (view.page next.now.format.page.now) next.now.format.color next.now.len)
@@ -88,7 +88,7 @@ pub trait RowSink {
         &mut self,
         source: &mut R,
         cursor: &mut ChunkCursor,
-        next: &RowSlot<'_>,
+        next: &RowTarget<'_>,
     ) -> TiffResult<()>
         requires read { IsRead (view.page next.now.format.page.now) next.now.format.color }
         requires in_place { needs_whole_rows (view.page next.now.format.page.now)
@@ -99,12 +99,12 @@ pub trait RowSink {
         requires room { next.now.at + next.now.len ≤ room self.old }
         requires fits { next.now.at + next.now.len < 2 ^ 64 }
         ensures later { goes_on self.old self.new }
-        ensures kept { IsKept R.told R.failures result source.old source.new }
-        ensures row { RowPut (R.told source.old).bytes next.now.format.order
+        ensures kept { IsKept R.contents R.failures result source.old source.new }
+        ensures row { RowPut (R.contents source.old).bytes next.now.format.order
             (view.page next.now.format.page.now) next.now.format.color cursor.old cursor.new
             (R.failures source.old < R.failures source.new) next.now.at next.now.len (filled_to
             (whole (next.now.at + next.now.len)) (bytes self.old)) (bytes self.new) result }
-        ensures asked { AsksOnly (StoredReadable (R.told source.old) cursor.old next.now.len)
+        ensures asked { ReadsOnly (StoredReadable (R.contents source.old) cursor.old next.now.len)
             result }
         ensures moves { OnOk result (Moves cursor.old next.now.len cursor.new) };
 
@@ -179,7 +179,7 @@ impl<'a> RowSink for ByteSlice<'a> {
         &mut self,
         source: &mut R,
         cursor: &mut ChunkCursor,
-        next: &RowSlot<'_>,
+        next: &RowTarget<'_>,
     ) -> TiffResult<()> {
         let row = &mut self.out[next.at..next.at + next.len];
         next.format.read_row(source, cursor, self.scratch, row)
@@ -191,7 +191,7 @@ impl<'a> RowSink for ByteSlice<'a> {
         &mut self,
         source: &mut R,
         cursor: &mut ChunkCursor,
-        next: &RowSlot<'_>,
+        next: &RowTarget<'_>,
     ) -> TiffResult<()> {
         let row = &mut self.out[next.at..next.at + next.len];
         next.format.read_finished(source, cursor, self.scratch, row)
@@ -269,7 +269,7 @@ impl RowSink for ByteList {
         &mut self,
         source: &mut R,
         cursor: &mut ChunkCursor,
-        next: &RowSlot<'_>,
+        next: &RowTarget<'_>,
     ) -> TiffResult<()> {
         let row = &mut self.bytes[next.at..next.at + next.len];
         next.format.read_row(source, cursor, &mut self.scratch, row)
@@ -280,7 +280,7 @@ impl RowSink for ByteList {
         &mut self,
         source: &mut R,
         cursor: &mut ChunkCursor,
-        next: &RowSlot<'_>,
+        next: &RowTarget<'_>,
     ) -> TiffResult<()> {
         let end = next.at + next.len;
         if self.bytes.len() < end && next.len <= LONGEST_COPIED {
@@ -366,7 +366,7 @@ impl<T: Number<N>, const N: usize> RowSink for NumberList<T, N> {
         &mut self,
         source: &mut R,
         cursor: &mut ChunkCursor,
-        next: &RowSlot<'_>,
+        next: &RowTarget<'_>,
     ) -> TiffResult<()> {
         self.row.resize(next.len, 0)?;
         next.format
@@ -381,7 +381,7 @@ impl<T: Number<N>, const N: usize> RowSink for NumberList<T, N> {
         &mut self,
         source: &mut R,
         cursor: &mut ChunkCursor,
-        next: &RowSlot<'_>,
+        next: &RowTarget<'_>,
     ) -> TiffResult<()> {
         self.row.resize(next.len, 0)?;
         next.format

@@ -81,7 +81,7 @@ module _ (plan : PagePlan) (file : List ℕ) (opened : Limits) (p : PageRecord) 
         i.page.sides.chunk_wide,
         i.page.sides.chunk_high,
         i.page.sampled,
-        i.page.deep,
+        i.page.has_bits,
         i.page.extras,
         i.extras,
       )

@@ -6,7 +6,7 @@ use Rattle.tiff_base.specs.declared.error.TiffError.TheVariants.{FormatError, Un
 use Rattle.tiff_base.specs.declared.io.IoKind.TheVariants.{UnexpectedEof, InvalidData, InvalidInput, WriteZero, Device}
 use Rattle.tiff_base.specs.declared.windows.Stretch.{Stretch}
 use Rattle.tiff_base.specs.declared.windows.Windows.{Windows}
-use Rattle.tiff_base.specs.Answers.{◌>>=◌, Answers, AnswersBut, AnswersWithoutSource, AsksOnly, IsCause, IsNotDevice}
+use Rattle.tiff_base.specs.Answers.{◌>>=◌, Answers, AnswersBut, AnswersWithoutSource, ReadsOnly, IsCause, IsNotDevice}
 use Rattle.tiff_base.specs.Header.{order_at}
 use Rattle.tiff_base.specs.Number.{number_at}
 use Rattle.tiff_base.specs.SourceAndSink.{AreReadable, SourceRecord, answers_for}
@@ -119,7 +119,7 @@ not_device wanting failed IntSizeError given n h = h
 
 pub opened_seen : (file : List ℕ) (source : SourceRecord) (failed : ℕ) (fails : Type 0) (result : Result Decoding TiffError) → failed ≡ 0
     → AnswersBut (Unit {0}) fails (λ (d : Decoding). record d { readable = None; failures = failed }) result (opened_of file failed)
-    → IfOk result (λ d. d.failures ≡ failed) → AsksOnly (HeaderReadable source) result → AreReadable source 0 16
+    → IfOk result (λ d. d.failures ≡ failed) → ReadsOnly (HeaderReadable source) result → AreReadable source 0 16
     → AnswersWithoutSource (λ (d : Decoding). record d { readable = None }) result (opened_of file 0)
 opened_seen file source failed fails (Ok d) z a f asks h =
     subst (λ n. opened_of file n ≡ Ok (record d { readable = None; failures = n })) z a

@@ -66,7 +66,7 @@ pub record IsPage (p : PageRecord) : Type 0 where
   pub sides : HasSides p
   pub sampled : 0 < p.samples
   pub extras : length p.extra ≤ p.samples
-  pub deep : 0 < p.depth
+  pub has_bits : 0 < p.depth
   pub counted : length p.offsets ≡ all_chunks p
   pub counted_bytes : length p.byte_counts ≡ length p.offsets
   pub few : length p.offsets < 2 ^ 32
@@ -102,7 +102,7 @@ pub record IsSized (plan : PagePlan) : Type 0 where
   pub wide : 0 < plan.width
   pub high : 0 < plan.height
   pub sampled : 0 < plan.samples
-  pub deep : 0 < plan.depth
+  pub has_bits : 0 < plan.depth
   pub chunk_wide : 0 < plan.chunk_width
   pub chunk_high : 0 < plan.chunk_height
   pub extras : plan.extra_count ≤ plan.samples

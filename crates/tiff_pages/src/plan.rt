@@ -3,7 +3,7 @@
 
 ghost use Rattle.std.specs.Prelude.{◌≡◌, ℕ, true, List, Ok, IfSome, ◌<◌, ◌≤◌, ◌^◌, IfOk, OnOk, length};
 ghost use Rattle.std.specs.FinMap.{get};
-ghost use Rattle.tiff_base.specs.Answers.{Answers, AnswersWithoutMemory, AnswersWithoutSource, AsksOnly, Gives, IsKept};
+ghost use Rattle.tiff_base.specs.Answers.{Answers, AnswersWithoutMemory, AnswersWithoutSource, ReadsOnly, Gives, IsKept};
 ghost use Rattle.tiff_base.specs.declared.error.TiffError.{TiffError};
 ghost use Rattle.tiff_base.specs.Tags.{tag_number};
 ghost use Rattle.tiff_ifd.specs.OneNumber.{NumberReadable};
@@ -11,7 +11,7 @@ ghost use Rattle.tiff_ifd.specs.TagLookup.{look_in};
 ghost use Rattle.tiff_ifd.specs.declared.limits.Limits.{Limits};
 ghost use Rattle.tiff_page.specs.Checks.{page_of};
 ghost use Rattle.tiff_page.specs.Counts.{chunk_count, planes_of};
-ghost use Rattle.tiff_page.specs.EarlyFaults.{WantsAfter, chunk_bytes_early};
+ghost use Rattle.tiff_page.specs.EarlyFaults.{AllocatesAfter, chunk_bytes_early};
 ghost use Rattle.tiff_page.specs.Lists.{one_known};
 ghost use Rattle.tiff_page.specs.Page.{PageRecord};
 ghost use Rattle.tiff_page.specs.PageView as view;
@@ -260,16 +260,16 @@ pub fn page_plan<R: Source>(
     alloc: Global,
     tags: &mut ValueReader<R>,
 ) -> TiffResult<Option<PagePlan>>
-    ensures kept { IsKept R.told R.failures result tags.old.source tags.new.source }
+    ensures kept { IsKept R.contents R.failures result tags.old.source tags.new.source }
     ensures answer { Answers (λ plan. plan) result
-        (spec.plan_in tags.old.kind tags.old.order (R.told tags.old.source).bytes tags.old.limits
+        (spec.plan_in tags.old.kind tags.old.order (R.contents tags.old.source).bytes tags.old.limits
         tags.old.directory) (R.failures tags.old.source) (R.failures tags.new.source) }
     ensures plan { IfOk result (λ found. IfSome found (λ plan. (p : PageRecord)
-        → page_of (look_in tags.old.kind tags.old.order (R.told tags.old.source).bytes tags.old.limits
+        → page_of (look_in tags.old.kind tags.old.order (R.contents tags.old.source).bytes tags.old.limits
         tags.old.directory.entries) ≡ Ok p
-        → spec.IsPlanOf plan (R.told tags.old.source).bytes tags.old.limits p)) }
-    ensures asked { AsksOnly
-        (PageReadable (R.told tags.old.source) tags.old.kind tags.old.order tags.old.directory)
+        → spec.IsPlanOf plan (R.contents tags.old.source).bytes tags.old.limits p)) }
+    ensures asked { ReadsOnly
+        (PageReadable (R.contents tags.old.source) tags.old.kind tags.old.order tags.old.directory)
         result }
 {
     let (kind, order) = (tags.kind, tags.order);
@@ -296,12 +296,12 @@ impl PlanReader<'_> {
         count: u32,
         index: u32,
     ) -> TiffResult<u64>
-        ensures kept { IsKept R.told R.failures result source.old source.new }
+        ensures kept { IsKept R.contents R.failures result source.old source.new }
         ensures answer { AnswersWithoutMemory (λ n. n) result
-            (spec.number_planned (R.told source.old).bytes self.now.plan.now list.now count index)
+            (spec.number_planned (R.contents source.old).bytes self.now.plan.now list.now count index)
             (R.failures source.old) (R.failures source.new) }
-        ensures asked { AsksOnly
-            (NumberReadable (R.told source.old) self.now.plan.now.kind self.now.plan.now.order list.now
+        ensures asked { ReadsOnly
+            (NumberReadable (R.contents source.old) self.now.plan.now.kind self.now.plan.now.order list.now
             index) result }
     {
         if index >= count {
@@ -324,11 +324,11 @@ impl PlanReader<'_> {
         count: u32,
         index: u32,
     ) -> TiffResult<ChunkPlace>
-        ensures kept { IsKept R.told R.failures result source.old source.new }
+        ensures kept { IsKept R.contents R.failures result source.old source.new }
         ensures answer { AnswersWithoutMemory (λ place. (place.offset, place.byte_count)) result
-            (spec.place_planned (R.told source.old).bytes self.now.plan.now count index)
+            (spec.place_planned (R.contents source.old).bytes self.now.plan.now count index)
             (R.failures source.old) (R.failures source.new) }
-        ensures asked { AsksOnly (spec.PlaceReadable (R.told source.old) self.now.plan.now index) result }
+        ensures asked { ReadsOnly (spec.PlaceReadable (R.contents source.old) self.now.plan.now index) result }
     {
         let offset = self.number_planned(source, &self.plan.offsets, count, index)?;
         let byte_count = self.number_planned(source, &self.plan.byte_counts, count, index)?;
@@ -342,11 +342,11 @@ impl PlanReader<'_> {
     /// byte count.
     #[tactic(auto, unfolding(crate::specs::Plan::page_of_chunk))]
     pub fn page_of_chunk<R: Source>(&self, source: &mut R, index: u32) -> TiffResult<Page>
-        ensures kept { IsKept R.told R.failures result source.old source.new }
+        ensures kept { IsKept R.contents R.failures result source.old source.new }
         ensures answer { AnswersWithoutMemory view.page result
-            (spec.page_of_chunk (R.told source.old).bytes self.now.plan.now index)
+            (spec.page_of_chunk (R.contents source.old).bytes self.now.plan.now index)
             (R.failures source.old) (R.failures source.new) }
-        ensures asked { AsksOnly (spec.PlaceReadable (R.told source.old) self.now.plan.now index) result }
+        ensures asked { ReadsOnly (spec.PlaceReadable (R.contents source.old) self.now.plan.now index) result }
     {
         let count = chunks_planned(self.plan)?;
         let place = self.place_planned(source, count, index)?;
@@ -361,14 +361,14 @@ impl PlanReader<'_> {
         index: u32,
         buf: &mut [u8],
     ) -> TiffResult<()>
-        ensures kept { IsKept R.told R.failures result source.old source.new }
-        ensures memory { WantsAfter
+        ensures kept { IsKept R.contents R.failures result source.old source.new }
+        ensures memory { AllocatesAfter
             (chunk_bytes_early (view.page page.now) self.now.limits.now index (length buf.old)) result }
         ensures answer { Answers (λ _. buf.new) result
-            (read_chunk_bytes (R.told source.old).bytes self.now.plan.now.order (view.page page.now)
+            (read_chunk_bytes (R.contents source.old).bytes self.now.plan.now.order (view.page page.now)
             self.now.limits.now index buf.old) (R.failures source.old) (R.failures source.new) }
-        ensures asked { AsksOnly
-            (ChunksReadable (R.told source.old) (view.page page.now) index (λ l. 1)) result }
+        ensures asked { ReadsOnly
+            (ChunksReadable (R.contents source.old) (view.page page.now) index (λ l. 1)) result }
     {
         let reader = PageReader {
             alloc: self.alloc,
@@ -382,14 +382,14 @@ impl PlanReader<'_> {
     // Fills `buf` with one plane of a chunk.
     #[tactic(auto, unfolding(crate::specs::Plan::read_planned, crate::specs::Plan::planned_early))]
     fn read_planned<R: Source>(&self, source: &mut R, index: u32, buf: &mut [u8]) -> TiffResult<()>
-        ensures kept { IsKept R.told R.failures result source.old source.new }
-        ensures memory { WantsAfter
-            (spec.planned_early (R.told source.old).bytes self.now.plan.now self.now.limits.now index
+        ensures kept { IsKept R.contents R.failures result source.old source.new }
+        ensures memory { AllocatesAfter
+            (spec.planned_early (R.contents source.old).bytes self.now.plan.now self.now.limits.now index
             (length buf.old)) result }
         ensures answer { Answers (λ _. buf.new) result
-            (spec.read_planned (R.told source.old).bytes self.now.plan.now self.now.limits.now index
+            (spec.read_planned (R.contents source.old).bytes self.now.plan.now self.now.limits.now index
             buf.old) (R.failures source.old) (R.failures source.new) }
-        ensures asked { AsksOnly (spec.PlannedReadable (R.told source.old) self.now.plan.now index)
+        ensures asked { ReadsOnly (spec.PlannedReadable (R.contents source.old) self.now.plan.now index)
             result }
     {
         let page = self.page_of_chunk(source, index)?;
@@ -408,19 +408,19 @@ impl PlanReader<'_> {
         index: u32,
         buf: &mut [u8],
     ) -> TiffResult<()>
-        ensures kept { IsKept R.told R.failures result source.old source.new }
-        ensures memory { WantsAfter
-            (spec.planned_early (R.told source.old).bytes self.now.plan.now self.now.limits.now index
+        ensures kept { IsKept R.contents R.failures result source.old source.new }
+        ensures memory { AllocatesAfter
+            (spec.planned_early (R.contents source.old).bytes self.now.plan.now self.now.limits.now index
             (length buf.old)) result }
         ensures answer { Answers (λ _. buf.new) result
-            (spec.read_planned (R.told source.old).bytes self.now.plan.now self.now.limits.now index
+            (spec.read_planned (R.contents source.old).bytes self.now.plan.now self.now.limits.now index
             buf.old) (R.failures source.old) (R.failures source.new) }
         ensures page { (opened : Limits) (p : PageRecord)
-            → spec.IsPlanOf self.now.plan.now (R.told source.old).bytes opened p
+            → spec.IsPlanOf self.now.plan.now (R.contents source.old).bytes opened p
             → Answers (λ _. buf.new) result
-            (read_chunk_bytes (R.told source.old).bytes self.now.plan.now.order p self.now.limits.now
+            (read_chunk_bytes (R.contents source.old).bytes self.now.plan.now.order p self.now.limits.now
             index buf.old) (R.failures source.old) (R.failures source.new) }
-        ensures asked { AsksOnly (spec.PlannedReadable (R.told source.old) self.now.plan.now index)
+        ensures asked { ReadsOnly (spec.PlannedReadable (R.contents source.old) self.now.plan.now index)
             result }
     {
         self.read_planned(source, index, buf)

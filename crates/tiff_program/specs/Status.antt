@@ -37,14 +37,14 @@ is_stream (Some name) = bytes_eq name (codes "-")
 
 -- O and E are the types of standard output and of standard error, with the bytes that they hold,
 -- where these are known
-module _ {O E : Type 0} (printed : O → Option (List ℕ)) (told : E → Option (List ℕ)) where
+module _ {O E : Type 0} (printed : O → Option (List ℕ)) (contents : E → Option (List ℕ)) where
   -- What is printed of a command, and its status: its lines, on standard output, or on standard
   -- error if standard output has the file of the command; or nothing on standard output.
   abbrev pub Ends : Bool → Result Lines Failure → O → O → E → E → ℕ → Type 0
   Ends false (Ok lines) out new_out err new_err status =
       PrintsLines lines (printed out) (printed new_out) status
   Ends true (Ok lines) out new_out err new_err status =
-      (new_out ≡ out) × PrintsLines lines (told err) (told new_err) status
+      (new_out ≡ out) × PrintsLines lines (contents err) (contents new_err) status
   Ends aside (Err failed) out new_out err new_err status =
       (new_out ≡ out) × (status ≡ status_of failed)
 
@@ -56,7 +56,7 @@ module _ {O E : Type 0} (printed : O → Option (List ℕ)) (told : E → Option
   -- Words that ask for nothing: the usage is printed on standard error, or that fails.
   abbrev pub RefusesWords : O → O → E → E → ℕ → Type 0
   RefusesWords out new_out err new_err status = (new_out ≡ out)
-      × ((status ≡ 1) ⊎ ((status ≡ 2) × Appends (told err) (told new_err) usage))
+      × ((status ≡ 1) ⊎ ((status ≡ 2) × Appends (contents err) (contents new_err) usage))
 
   -- files are those of a type F, whose calls these relations describe; `seen` is a file, of which
   -- parts may be read

@@ -25,7 +25,7 @@ pub fn replies_to(alloc: Global, file: Vec<u8>, calls: &[Call]) -> TiffResult<St
 
 /// Drops a value. A list of replies is dropped here, since a proof about that is long in a function
 /// that isn't generic.
-pub fn let_go<T: Drop>(_value: T) {}
+pub fn drop_value<T: Drop>(_value: T) {}
 
 /// The next item of a list that has one.
 pub(crate) fn next_of<T: Drop>(rest: &mut IntoIter<T>) -> T
@@ -39,7 +39,7 @@ pub(crate) fn next_of<T: Drop>(rest: &mut IntoIter<T>) -> T
 }
 
 /// The item of a list of one item.
-pub(crate) fn only<T: Drop>(items: Vec<T>) -> T
+pub(crate) fn single<T: Drop>(items: Vec<T>) -> T
     requires { length items.items ≡ 1 }
     ensures { items.items ≡ result ∷ [] }
 {
@@ -72,7 +72,7 @@ pub fn replies_to_calls<R: Source>(
     match run_calls(decoder, calls, &mut replies) {
         Ok(()) => Ok(replies),
         Err(fault) => {
-            let_go(replies);
+            drop_value(replies);
             Err(fault)
         }
     }
@@ -90,7 +90,7 @@ pub fn reply_to_one<R: Source>(
 {
     let calls = [call];
     let replies = replies_to_calls(alloc, decoder, &calls)?;
-    Ok(only(replies))
+    Ok(single(replies))
 }
 
 /// Makes two calls, and returns both replies. Its only error is `OutOfMemory` for the replies.

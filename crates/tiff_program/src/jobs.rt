@@ -5,7 +5,7 @@ ghost use Rattle.std.specs.List.{list_all};
 ghost use Rattle.tiff_encode.specs.FileBytes.{offset_len};
 ghost use Rattle.tiff_program.specs.Wrote.{Wrote, WroteBehind, is_well};
 
-use crate::calls::let_go;
+use crate::calls::drop_value;
 use std::alloc::Global;
 use tiff::encoder::script::{Job, JobReply, StepReply, run_jobs};
 use tiff::encoder::{TiffKind, TiffKindBig, TiffKindStandard};
@@ -54,7 +54,7 @@ fn told(alloc: Global, replies: Vec<JobReply>) -> TiffResult<Lines>
 {
     let text = lines_of_jobs(alloc, &replies);
     let well = are_well(&replies);
-    let_go(replies);
+    drop_value(replies);
     Ok(Lines {
         text: text?,
         end: None,
@@ -124,7 +124,7 @@ pub fn append_by(
             Ok((written, lines))
         }
         Err(fault) => {
-            let_go(replies);
+            drop_value(replies);
             Err(fault)
         }
     }

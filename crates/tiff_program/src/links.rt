@@ -17,7 +17,7 @@ const MOST_LINKS: usize = 1_000;
 
 // The link of the directory at an offset, or of the header at 0.
 fn read_next<R: Source>(source: &mut R, at: u64) -> TiffResult<Option<u64>>
-    ensures { IsKept R.told R.failures result source.old source.new }
+    ensures { IsKept R.contents R.failures result source.old source.new }
 {
     let header = read_header(source)?;
     if at == 0 {
@@ -29,7 +29,7 @@ fn read_next<R: Source>(source: &mut R, at: u64) -> TiffResult<Option<u64>>
 // Follows the links from a directory on, or from the header, which has the offset 0, as far as a source
 // has them. `at` is then the offset of the last directory.
 fn follow<R: Source>(source: &mut R, at: &mut u64)
-    ensures { R.told source.new ≡ R.told source.old }
+    ensures { R.contents source.new ≡ R.contents source.old }
 {
     for _ in 0..MOST_LINKS {
         let Ok(Some(next)) = read_next(source, *at) else {

@@ -11,8 +11,8 @@ ghost use Rattle.tiff.specs.Tags.{tag_of};
 ghost use Rattle.tiff_program.specs.AtPage.{AnswersIn, VisitsPage};
 ghost use Rattle.tiff_program.specs.Listing.{after, field_line, finds, line, lines, listing, listing_at, numbers_at, page_pointer, shown_bytes};
 
-use crate::calls::{let_go, next_of, replies_to_both, replies_to_calls, reply_to_one};
-use crate::replies::{directory_read, field_found, pointer_told, sought};
+use crate::calls::{drop_value, next_of, replies_to_both, replies_to_calls, reply_to_one};
+use crate::replies::{directory_read, field_found, pointer_of, seek_result};
 use std::alloc::{AllocError, Global};
 use std::fmt::Write;
 use tiff::decoder::Decoder;
@@ -111,12 +111,12 @@ fn list_tags<R: Source>(
         match push_found(&mut text, *number, found, &values) {
             Ok(()) => {}
             Err(fault) => {
-                let_go(replies);
+                drop_value(replies);
                 return Err(fault);
             }
         }
     }
-    let_go(replies);
+    drop_value(replies);
     Ok(text)
 }
 
@@ -193,7 +193,7 @@ fn page_pointer<R: Source>(
         Call::SeekToImage(page),
         Call::IfdPointer,
     )?;
-    sought(seek).and(Ok(pointer_told(pointer)))
+    seek_result(seek).and(Ok(pointer_of(pointer)))
 }
 
 /// Lists the entries of a page's directory, one line for each, in ascending order of the tag

@@ -10,7 +10,7 @@ use tiff::tags::{IfdPointer, ValueBuffer};
 use tiff::{Directory, TiffResult};
 
 /// The result of a seek.
-pub(crate) fn sought(reply: Reply) -> TiffResult<()>
+pub(crate) fn seek_result(reply: Reply) -> TiffResult<()>
     requires { IsSeek reply }
     ensures { reply ≡ Reply.SeekToImage result }
 {
@@ -32,7 +32,7 @@ pub(crate) fn image_read(reply: Reply) -> TiffResult<DecodingResult>
 }
 
 /// The pointer of a directory.
-pub(crate) fn pointer_told(reply: Reply) -> Option<IfdPointer>
+pub(crate) fn pointer_of(reply: Reply) -> Option<IfdPointer>
     requires { IsPointer reply }
     ensures { reply ≡ Reply.IfdPointer result }
 {

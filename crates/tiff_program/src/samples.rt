@@ -10,7 +10,7 @@ ghost use Rattle.tiff_program.specs.AtPage.{AnswersUnder, VisitsPage, at_page};
 ghost use Rattle.tiff_program.specs.Samples.{page_image, page_planes, plane_bytes, sample_bytes};
 
 use crate::calls::replies_to_both;
-use crate::replies::{image_read, sought};
+use crate::replies::{image_read, seek_result};
 use std::alloc::Global;
 use tiff::decoder::script::Call;
 use tiff::decoder::{BufferLayoutPreference, Decoder, DecodingResult, Limits};
@@ -27,7 +27,7 @@ fn read_page<R: Source>(
     ensures { VisitsPage decoded_as page_image result page decoder.old decoder.new }
 {
     let (seek, image) = replies_to_both(alloc, decoder, Call::SeekToImage(page), Call::ReadImage)?;
-    sought(seek).and(image_read(image))
+    seek_result(seek).and(image_read(image))
 }
 
 // A fact: bytes are the lowest bytes of themselves.

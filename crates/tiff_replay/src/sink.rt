@@ -50,7 +50,7 @@ impl ScriptedSink {
 impl Sink for ScriptedSink {
     ghost use Rattle.std.proofs.Common.{arith};
 
-    ghost told = { λ s. ⟦<MemorySink as Sink>⟧.told s.inner };
+    ghost contents = { λ s. ⟦<MemorySink as Sink>⟧.contents s.inner };
 
     ghost failures = { λ s. ⟦<MemorySink as Sink>⟧.failures s.inner + failed s.failure };
 

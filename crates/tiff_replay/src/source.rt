@@ -46,8 +46,8 @@ impl ScriptedSource {
 }
 
 impl Source for ScriptedSource {
-    ghost told = { λ s. record {
-      bytes = (⟦<MemorySource as Source>⟧.told s.inner).bytes;
+    ghost contents = { λ s. record {
+      bytes = (⟦<MemorySource as Source>⟧.contents s.inner).bytes;
       readable = Some [];
     } };
 

@@ -2,7 +2,7 @@
 //! chunk, however many the page has.
 
 ghost use Rattle.std.specs.Prelude.{◌≡◌, length, OnErr, OnOk};
-ghost use Rattle.tiff_base.specs.Answers.{Answers, AnswersWithoutMemory, AsksOnly, Gives, IsKept};
+ghost use Rattle.tiff_base.specs.Answers.{Answers, AnswersWithoutMemory, ReadsOnly, Gives, IsKept};
 ghost use Rattle.tiff_page.specs.PageView as view;
 ghost use Rattle.tiff_pages.specs.Plan.{PlaceReadable};
 ghost use Rattle.tiff_rewrite.specs.PlannedRewrite as spec;
@@ -39,11 +39,11 @@ pub fn planned_place<R: Source>(
     source: &mut R,
     index: u32,
 ) -> TiffResult<ChunkPlace>
-    ensures kept { IsKept R.told R.failures result source.old source.new }
+    ensures kept { IsKept R.contents R.failures result source.old source.new }
     ensures answer { AnswersWithoutMemory (λ place. (place.offset, place.byte_count)) result
-        (spec.planned_place (R.told source.old).bytes reader.now.plan.now index)
+        (spec.planned_place (R.contents source.old).bytes reader.now.plan.now index)
         (R.failures source.old) (R.failures source.new) }
-    ensures asked { AsksOnly (PlaceReadable (R.told source.old) reader.now.plan.now index) result }
+    ensures asked { ReadsOnly (PlaceReadable (R.contents source.old) reader.now.plan.now index) result }
 {
     let page = reader.page_of_chunk(source, index)?;
     chunk_place(&page, index)
@@ -61,14 +61,14 @@ pub fn rewrite_planned<R: Source>(
     samples: &[u8],
     stored: &mut [u8],
 ) -> TiffResult<()>
-    ensures kept { IsKept R.told R.failures result source.old source.new }
+    ensures kept { IsKept R.contents R.failures result source.old source.new }
     ensures answer { Answers (λ _. tt) result
-        (spec.planned_fault (R.told source.old).bytes reader.now.plan.now reader.now.limits.now index
+        (spec.planned_fault (R.contents source.old).bytes reader.now.plan.now reader.now.limits.now index
         (length samples.now) (length stored.old)) (R.failures source.old) (R.failures source.new) }
-    ensures rewritten { OnOk result (spec.PlannedRewritten (R.told source.old).bytes reader.now.plan.now
+    ensures rewritten { OnOk result (spec.PlannedRewritten (R.contents source.old).bytes reader.now.plan.now
         index samples.now stored.old stored.new) }
     ensures refused { OnErr result (stored.new ≡ stored.old) }
-    ensures asked { AsksOnly (PlaceReadable (R.told source.old) reader.now.plan.now index) result }
+    ensures asked { ReadsOnly (PlaceReadable (R.contents source.old) reader.now.plan.now index) result }
 {
     let page = reader.page_of_chunk(source, index)?;
     let chunks = PageReader {

@@ -57,10 +57,10 @@ module _ (kind : FileKind) (q : ℕ) (file : List ℕ) (room : q + offset_len ki
   Rest children = (places left : List ℕ) → Continued left → ChildrenRan kind (length file) children places left Outcome → Continued final
 
   -- a page that was run at a link behind the former file
-  by_child : (child : ChildJobs) (told : List ℕ) (slot : ℕ) (Follows : List ℕ → ℕ → Result LeftPages TiffError → Type 0) → length file ≤ slot → Continued told
-      → ((left : List ℕ) (at : ℕ) → Continued left → Follows left at Outcome → Continued final) → ChildRan kind child told slot Follows Outcome → Continued final
-  by_child child told slot Follows from c next ran =
-      let there : Continued ran.left = goes_on kind q slot file told ran.left room from c (continues kind told slot child.jobs.items [] ran.replies ran.left ran.runs) in
+  by_child : (child : ChildJobs) (contents : List ℕ) (slot : ℕ) (Follows : List ℕ → ℕ → Result LeftPages TiffError → Type 0) → length file ≤ slot → Continued contents
+      → ((left : List ℕ) (at : ℕ) → Continued left → Follows left at Outcome → Continued final) → ChildRan kind child contents slot Follows Outcome → Continued final
+  by_child child contents slot Follows from c next ran =
+      let there : Continued ran.left = goes_on kind q slot file contents ran.left room from c (continues kind contents slot child.jobs.items [] ran.replies ran.left ran.runs) in
       by_page (refused_in (child.page ∷ []) child.jobs.items ran.replies) ran.left (By (link_at kind ran.left slot) (Follows ran.left)) there
       (λ b. by_result (link_at kind ran.left slot) (Follows ran.left) (λ at is f. next ran.left at there f) b) ran.goes_on
 
@@ -74,18 +74,18 @@ module _ (kind : FileKind) (q : ℕ) (file : List ℕ) (room : q + offset_len ki
       (λ left at c' f. children_continue children (slice_set places child.page at) left c' f) r)
       ran
 
-  goes_on_continue : (children : List ChildJobs) (first : ℕ) (numbers told : List ℕ) → Continued told → GoesOn kind (length file) first numbers children told Outcome → Continued final
-  goes_on_continue [] first numbers told c g = by_file told None g c
-  goes_on_continue (child ∷ children) first numbers told c g =
+  goes_on_continue : (children : List ChildJobs) (first : ℕ) (numbers contents : List ℕ) → Continued contents → GoesOn kind (length file) first numbers children contents Outcome → Continued final
+  goes_on_continue [] first numbers contents c g = by_file contents None g c
+  goes_on_continue (child ∷ children) first numbers contents c g =
       let Places : List ℕ → List ℕ = λ offsets. chain_places (length numbers + length (child ∷ children)) numbers offsets in
-      by_result (chain_at kind told first) (λ offsets. ChildrenRan kind (length file) (child ∷ children) (Places offsets) told)
-      (λ offsets is r. children_continue (child ∷ children) (Places offsets) told c r) g
+      by_result (chain_at kind contents first) (λ offsets. ChildrenRan kind (length file) (child ∷ children) (Places offsets) contents)
+      (λ offsets is r. children_continue (child ∷ children) (Places offsets) contents c r) g
 
-  pages_continue : (pages : PagesJobs) (first : ℕ) (told : List ℕ) (page : Option RefusedPage) → Continued told → PagesGoOn kind (length file) first pages told page Outcome
+  pages_continue : (pages : PagesJobs) (first : ℕ) (contents : List ℕ) (page : Option RefusedPage) → Continued contents → PagesGoOn kind (length file) first pages contents page Outcome
       → Continued final
-  pages_continue pages first told page c g =
-      by_page page told (GoesOn kind (length file) first pages.numbers.items pages.children.items told) c
-      (λ u. goes_on_continue pages.children.items first pages.numbers.items told c u) g
+  pages_continue pages first contents page c g =
+      by_page page contents (GoesOn kind (length file) first pages.numbers.items pages.children.items contents) c
+      (λ u. goes_on_continue pages.children.items first pages.numbers.items contents c u) g
 
 -- What the pages leave is the former file with the bytes over its link, and more behind it.
 pub behind_ran : (kind : FileKind) (q : ℕ) (file final : List ℕ) (refused : Option RefusedPage) (pages : PagesJobs) (a : Addition)
@@ -102,8 +102,8 @@ behind_ran kind q file final refused pages a ran added =
 
 -- ---- the pages behind the chain
 
-module _ (kind : FileKind) (q : ℕ) (file told left : List ℕ) (refused : Option RefusedPage) (pages : PagesJobs) (is : told ≡ file)
-    (ran : RanAt kind told q pages.numbers.items pages.chain.items left refused) where
+module _ (kind : FileKind) (q : ℕ) (file contents left : List ℕ) (refused : Option RefusedPage) (pages : PagesJobs) (is : contents ≡ file)
+    (ran : RanAt kind contents q pages.numbers.items pages.chain.items left refused) where
   -- The jobs of the chain were run, and the other pages behind them.
   pub ran_behind : (outcome : Result LeftPages TiffError) → PagesGoOn kind (length file) q pages left refused outcome → RanBehind kind file q pages outcome
   ran_behind outcome goes_on =

@@ -105,9 +105,9 @@ module _ (s : Settings) (width height failures : ℕ) (samples : List ℕ) (last
   given = (told_given s width height failures zeros samples same zeros_kept i z.mid last z.begun open_image zeros_written).next
 
   -- The frame around the bytes of the samples is the file that shows them.
-  pub framed_written : (frame : Frame) (told bytes : List ℕ) → AreNumbers (inner_size s.color) samples → flat_map (le (inner_size s.color)) samples ≡ bytes
-      → told ≡ last.bytes → length told < 2 ^ 63 → IsFrameOf told (front_len s.kind) bytes frame → WritesImageFile s width height samples (Ok (framed frame))
-  framed_written frame told bytes small are is_told short f =
+  pub framed_written : (frame : Frame) (contents bytes : List ℕ) → AreNumbers (inner_size s.color) samples → flat_map (le (inner_size s.color)) samples ≡ bytes
+      → contents ≡ last.bytes → length contents < 2 ^ 63 → IsFrameOf contents (front_len s.kind) bytes frame → WritesImageFile s width height samples (Ok (framed frame))
+  framed_written frame contents bytes small are is_told short f =
       let raw : List ℕ = flat_map (le (inner_size s.color)) samples in
       let blank : List ℕ = flat_map (le (inner_size s.color)) zeros in
       let cut : frame.front.items ++ (f.passed ++ frame.behind.items) ≡ frame_of.before ++ (blank ++ frame_of.after) = sym f.whole ∙ is_told ∙ frame_of.with_zeros in
@@ -122,7 +122,7 @@ module _ (s : Settings) (width height failures : ℕ) (samples : List ℕ) (last
       let file : framed frame ≡ given.bytes = (λ j. front j ++ ((f.samples_are ∙ sym are) j ++ behind j)) ∙ sym frame_of.with_samples in
       let raws : length raw ≡ length f.passed = ap (λ (bs : List ℕ). length bs) are ∙ sym f.passed_len in
       let end : end_of given ≡ length (framed frame) = ap (λ (bs : List ℕ). length bs) (sym file) in
-      let parts : length (framed frame) ≡ length told =
+      let parts : length (framed frame) ≡ length contents =
       (let a = length-append frame.front.items (frame.samples.now ++ frame.behind.items) in
       let b = length-append frame.samples.now frame.behind.items in
       let c = ap (λ (bs : List ℕ). length bs) f.whole in
@@ -203,9 +203,9 @@ numbers_many size all pos bytes h =
 pub around_written : (s : Settings) (width height failures : ℕ) (bytes : List ℕ) (old last : FileState) (color : ColorTypeRecord) (size : ℕ)
     → old ≡ file_by s failures → color ≡ color_type s.color → size ≡ inner_size s.color → WritesZeros color size width height old last
     → width < 2 ^ 32 → height < 2 ^ 32 → AreKept s (columns_of color width * height * length color.bits) size (length bytes) → ((k : ℕ) → Fits w8 (get_or bytes k 0))
-    → (frame : Frame) (told : List ℕ) → told ≡ last.bytes → length told < 2 ^ 63 → IsFrameOf told (front_len s.kind) bytes frame
+    → (frame : Frame) (contents : List ℕ) → contents ≡ last.bytes → length contents < 2 ^ 63 → IsFrameOf contents (front_len s.kind) bytes frame
     → WritesBytes s width height (samples_from_bytes s.color bytes) (Ok (framed frame))
-around_written s width height failures bytes old last color size is colored sized z wide tall kept fit frame told is_told short f =
+around_written s width height failures bytes old last color size is colored sized z wide tall kept fit frame contents is_told short f =
     let n : ℕ = inner_size s.color in
     let all : ℕ = columns_of (color_type s.color) width * height * length (color_type s.color).bits in
     let zeros : WritesZeros (color_type s.color) n width height (file_by s failures) last =
@@ -219,5 +219,5 @@ around_written s width height failures bytes old last color size is colored size
     let none : length bytes % n ≡ 0 = ap (λ k. k % n) are.whole ∙ mul-mod_left all n in
     let many : length samples ≡ all = numbers_many n all (some_size n is_size) bytes are.whole in
     whole_by s width height bytes (Ok (framed frame)) none
-    (framed_written s width height failures samples last zeros wide tall are.few (record { packs = are.packs; differs = are.differs; whole = many }) frame told bytes
+    (framed_written s width height failures samples last zeros wide tall are.few (record { packs = are.packs; differs = are.differs; whole = many }) frame contents bytes
     (numbers_fit n is_size bytes octets) (bytes_back s.color n bytes samples refl fit none refl) is_told short f)

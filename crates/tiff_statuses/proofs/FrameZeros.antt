@@ -22,7 +22,7 @@ use Rattle.tiff_encode.specs.Causes.{unless_ended, image_samples, is_past_chunks
 use Rattle.tiff_encode.specs.Chunks.{all_samples, image_page, is_in_order, chunk_rows, row_samples, chunk_samples, chunks_left, is_begun, is_left, next_chunk_sample_count, parts_left, cut_out}
 use Rattle.tiff_encode.specs.Calls.{image_in, new_image, write_chunk}
 use Rattle.tiff_encode.specs.Model.{header_model}
-use Rattle.tiff_encode.specs.Drawn.{IsDrawn}
+use Rattle.tiff_encode.specs.Drawn.{IsValidImage}
 use Rattle.tiff_encode.specs.Parts.{next_part, WritesPart}
 use Rattle.tiff_encode.specs.Storing.{WritesStoredChunk}
 use Rattle.tiff_encode.proofs.ImageState.{strip_rows}
@@ -82,7 +82,7 @@ parts_few (suc n) (suc size) h k =
     let e : suc size * suc n ≡ size * n + size + n + 1 = omega arith in
     div-le_of_le-mul (suc size) (omega (arith, e))
 
-module _ (now : OpenImage) (n : IsDrawn now.width now.height (length now.color.bits) (length now.extra) now.form)
+module _ (now : OpenImage) (n : IsValidImage now.width now.height (length now.color.bits) (length now.extra) now.form)
     (order : is_in_order now.form ≡ true) (some : 0 < all_samples now) (few : image_samples now < 2 ^ 64) (left : is_left now ≡ true) where
   abbrev p : PageRecord
   p = image_page now
@@ -144,8 +144,8 @@ counts_left now h = by_left (is_left now) _ h
 
 module _ (i : OpenImage) (n : IsNewImage i) (old mid : FileState) (now : OpenImage)
     (w : HasWritten i (parts_left i (zeros_of i)) (length now.chunks) old mid now) where
-  drawn : IsDrawn now.width now.height (length now.color.bits) (length now.extra) now.form
-  drawn = subst (λ j. IsDrawn j.width j.height (length j.color.bits) (length j.extra) j.form) (sym w.same) n.drawn
+  drawn : IsValidImage now.width now.height (length now.color.bits) (length now.extra) now.form
+  drawn = subst (λ j. IsValidImage j.width j.height (length j.color.bits) (length j.extra) j.form) (sym w.same) n.drawn
 
   ordered : is_in_order now.form ≡ true
   ordered = ap (λ j. is_in_order j.form) w.same ∙ n.order

@@ -17,7 +17,7 @@ use Rattle.tiff_encode.specs.JobValues.{cut_to}
 use Rattle.tiff_encode.proofs.JobSamples.{whole_cut}
 use Rattle.tiff_encode.proofs.Slices.{ok_inj}
 use Rattle.tiff_encode.specs.FileBytes.{header_bytes}
-use Rattle.tiff_encode.specs.Model.{Model, IsLink, Stands, header_model}
+use Rattle.tiff_encode.specs.Model.{Model, IsLink, FileContains, header_model}
 use Rattle.tiff_encode.specs.Machine.{FileState, begun_file}
 use Rattle.tiff_encode.specs.Calls.{with_compression, with_predictor}
 use Rattle.tiff_encode.specs.Shows.{ShowsFirst}
@@ -30,9 +30,9 @@ use Rattle.tiff_statuses.specs.Writer.{IsWritten, WritesImageFile, WritesBytes, 
 use Rattle.tiff_statuses.proofs.Framed.{chain_of}
 
 -- A new encoder over an empty sink has its settings.
-pub begun_by : (s : Settings) (failures : ℕ) (told : List ℕ) (b p c : FileState) → told ≡ [] → b ≡ begun_file s.kind told failures
+pub begun_by : (s : Settings) (failures : ℕ) (contents : List ℕ) (b p c : FileState) → contents ≡ [] → b ≡ begun_file s.kind contents failures
     → p ≡ with_predictor s.predictor b → c ≡ with_compression s.compression p → c ≡ file_by s failures
-begun_by s failures told b p c empty b_is p_is c_is =
+begun_by s failures contents b p c empty b_is p_is c_is =
     c_is ∙ ap (with_compression s.compression) (p_is ∙ ap (with_predictor s.predictor) (b_is ∙ ap (λ t. begun_file s.kind t failures) empty))
 
 -- A header has bytes.
@@ -57,7 +57,7 @@ module _ (s : Settings) (width height failures : ℕ) (samples : List ℕ) (last
   Answered r = WritesImage (color_type s.color) (inner_size s.color) width height samples r old last
 
   abbrev Left : Result (Unit {0}) TiffError → Type 0
-  Left r = (m : Model) → Stands old.kind old.bytes m → IsLink old.kind m old.chain → LeavesNewImage (color_type s.color) (inner_size s.color) width height samples r old last m
+  Left r = (m : Model) → FileContains old.kind old.bytes m → IsLink old.kind m old.chain → LeavesNewImage (color_type s.color) (inner_size s.color) width height samples r old last m
 
   left_shown : Left (Ok tt) → ShowsFirst s.kind last.bytes (image_by s width height samples)
   left_shown l = shown (l (header_model s.kind) (header_stands s.kind) (inl (chain_of s.kind)))
@@ -76,13 +76,13 @@ module _ (s : Settings) (width height failures : ℕ) (samples : List ℕ) (old 
       (subst (λ f. WritesImage color size width height samples r f last) is w))
 
   abbrev Leaves : Result (Unit {0}) TiffError → Type 0
-  Leaves r = (m : Model) → Stands old.kind old.bytes m → IsLink old.kind m old.chain → LeavesNewImage color size width height samples r old last m
+  Leaves r = (m : Model) → FileContains old.kind old.bytes m → IsLink old.kind m old.chain → LeavesNewImage color size width height samples r old last m
 
   left : (r : Result (Unit {0}) TiffError) → Leaves r → Left s width height failures samples last r
   left r l =
-      subst (λ c. (m : Model) → Stands s.kind (file_by s failures).bytes m → IsLink s.kind m (file_by s failures).chain → LeavesNewImage c (inner_size s.color) width height samples r (file_by s failures) last m) colored
-      (subst (λ n. (m : Model) → Stands s.kind (file_by s failures).bytes m → IsLink s.kind m (file_by s failures).chain → LeavesNewImage color n width height samples r (file_by s failures) last m) sized
-      (subst (λ (f : FileState). (m : Model) → Stands f.kind f.bytes m → IsLink f.kind m f.chain → LeavesNewImage color size width height samples r f last m) is l))
+      subst (λ c. (m : Model) → FileContains s.kind (file_by s failures).bytes m → IsLink s.kind m (file_by s failures).chain → LeavesNewImage c (inner_size s.color) width height samples r (file_by s failures) last m) colored
+      (subst (λ n. (m : Model) → FileContains s.kind (file_by s failures).bytes m → IsLink s.kind m (file_by s failures).chain → LeavesNewImage color n width height samples r (file_by s failures) last m) sized
+      (subst (λ (f : FileState). (m : Model) → FileContains f.kind f.bytes m → IsLink f.kind m f.chain → LeavesNewImage color size width height samples r f last m) is l))
 
   pub file_written : (file : List ℕ) → Answers (Ok tt) → Leaves (Ok tt) → file ≡ last.bytes → WritesImageFile s width height samples (Ok file)
   file_written file w l bytes =

@@ -6,8 +6,8 @@ use Rattle.tiff_statuses.specs.declared.frame.NewFile.{NewFile}
 use Rattle.tiff_statuses.specs.declared.frame.NewFile.TheVariants.{Whole, Around}
 
 -- the bytes of a sink that keeps a frame: also those that it only counts
-abbrev pub frame_told : FrameSink → List ℕ
-frame_told s = s.front.items ++ (s.passed ++ s.behind.items)
+abbrev pub frame_contents : FrameSink → List ℕ
+frame_contents s = s.front.items ++ (s.passed ++ s.behind.items)
 
 -- the bytes before the samples, the samples, and the bytes behind them
 abbrev pub framed : Frame → List ℕ
@@ -40,9 +40,9 @@ IsAround bytes (Around frame) = frame.samples.now ≡ bytes
 
 -- The bytes of a sink are those of a frame, with other bytes in the place of the samples: as many,
 -- behind so many bytes.
-pub record IsFrameOf (told : List ℕ) (start : ℕ) (samples : List ℕ) (f : Frame) : Type 0 where
+pub record IsFrameOf (contents : List ℕ) (start : ℕ) (samples : List ℕ) (f : Frame) : Type 0 where
   pub passed : List ℕ
-  pub whole : told ≡ f.front.items ++ (passed ++ f.behind.items)
+  pub whole : contents ≡ f.front.items ++ (passed ++ f.behind.items)
   pub front_len : length f.front.items ≡ start
   pub passed_len : length passed ≡ length samples
   pub samples_are : f.samples.now ≡ samples

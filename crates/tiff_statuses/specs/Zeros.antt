@@ -3,7 +3,7 @@ use Rattle.std.specs.Prelude.{◌≡◌, ℕ, ◌^◌, ◌<◌, true, List, [], 
 use Rattle.tiff_base.specs.declared.error.TiffError.{TiffError}
 use Rattle.tiff_value.specs.ColorType.{ColorTypeRecord}
 use Rattle.tiff_encode.specs.Machine.{FileState, OpenImage}
-use Rattle.tiff_encode.specs.Drawn.{IsDrawn}
+use Rattle.tiff_encode.specs.Drawn.{IsValidImage}
 use Rattle.tiff_encode.specs.Chunks.{all_samples, is_in_order, parts_left}
 use Rattle.tiff_encode.specs.Causes.{image_samples}
 use Rattle.tiff_encode.specs.Calls.{Offsets, new_image, finish_image}
@@ -18,7 +18,7 @@ zeros_of i = replicate (image_samples i) 0
 pub record IsNewImage (i : OpenImage) : Type 0 where
   pub none : i.chunks ≡ []
   pub order : is_in_order i.form ≡ true
-  pub drawn : IsDrawn i.width i.height (length i.color.bits) (length i.extra) i.form
+  pub drawn : IsValidImage i.width i.height (length i.color.bits) (length i.extra) i.form
   pub some : 0 < all_samples i
   pub few : image_samples i < 2 ^ 64
 

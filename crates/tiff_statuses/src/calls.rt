@@ -316,7 +316,7 @@ pub fn chunk_bytes(
 impl ReadsChunks for Decoder<SliceSource<'_>> {
     ghost reading = { calls.page_reading };
 
-    ghost told = { source_of };
+    ghost contents = { source_of };
 
     // No read of a slice fails.
     ghost failures = { λ _. 0 };

@@ -5,7 +5,7 @@ ghost use Rattle.tiff_statuses.specs.Writer as writer;
 
 use std::alloc::Global;
 use tiff_append::sink::{MAX_LEN, grow};
-use tiff_append::unkept::Unkept;
+use tiff_append::ghost_bytes::GhostBytes;
 use tiff_base::io::{ByteRun, Sink, SinkFault};
 use tiff_base::tags::FileKind;
 
@@ -17,13 +17,13 @@ use tiff_base::tags::FileKind;
 #[derive(Drop)]
 pub struct FrameSink {
     front: Vec<u8>,
-    passed: Unkept,
+    passed: GhostBytes,
     behind: Vec<u8>,
     start: usize,
     room: usize,
     count: usize,
     // one byte for each write that failed
-    failed: Unkept,
+    failed: GhostBytes,
     fault: Option<SinkFault>,
     ghost counted: { count ≡ length passed },
     ghost short: { length front.items + (count + length behind.items) < 2 ^ 63 },
@@ -46,20 +46,20 @@ pub fn front_len(kind: FileKind) -> usize
 
 impl FrameSink {
     ghost use Rattle.tiff_base.specs.SourceAndSink.{Appends, Overwrites};
-    ghost use Rattle.tiff_statuses.specs.Frame.{IsFrameOf, frame_told};
+    ghost use Rattle.tiff_statuses.specs.Frame.{IsFrameOf, frame_contents};
 
     /// Makes an empty sink for samples of `room` bytes behind `start` bytes. It allocates nothing.
     pub fn new(alloc: Global, start: usize, room: usize) -> FrameSink
-        ensures { frame_told result ≡ [] }
+        ensures { frame_contents result ≡ [] }
     {
         FrameSink {
             front: Vec::new(alloc),
-            passed: Unkept::new(),
+            passed: GhostBytes::new(),
             behind: Vec::new(alloc),
             start,
             room,
             count: 0,
-            failed: Unkept::new(),
+            failed: GhostBytes::new(),
             fault: None,
         }
     }
@@ -67,7 +67,7 @@ impl FrameSink {
     /// Returns the frame around these samples, if the sink has `start` bytes before its samples,
     /// and as many bytes of samples as these.
     pub fn into_frame(self, start: usize, samples: &[u8]) -> Option<Frame<'_>>
-        ensures { IfSome result (λ f. IsFrameOf (frame_told self) start samples.now f) }
+        ensures { IfSome result (λ f. IsFrameOf (frame_contents self) start samples.now f) }
     {
         let FrameSink {
             front,
@@ -91,8 +91,8 @@ impl FrameSink {
 
     // Takes bytes for the part that is next, from the front of `bytes`, and returns how many.
     fn take_next(&mut self, bytes: &[u8]) -> Result<usize, SinkFault>
-        ensures ok { IfOk result (λ n. Appends (frame_told self.old) bytes.now n (frame_told self.new)) }
-        ensures err { OnErr result (frame_told self.new ≡ frame_told self.old) }
+        ensures ok { IfOk result (λ n. Appends (frame_contents self.old) bytes.now n (frame_contents self.new)) }
+        ensures err { OnErr result (frame_contents self.new ≡ frame_contents self.old) }
         ensures failed { self.new.failed ≡ self.old.failed }
     {
         // `self.len()` would be the call of a borrowed sink, which has all calls of this one.
@@ -116,9 +116,9 @@ impl FrameSink {
 
     // Overwrites bytes before the samples. It refuses to overwrite any others.
     fn put_front(&mut self, at: u64, bytes: &[u8]) -> Result<usize, SinkFault>
-        requires { at + length bytes.now ≤ length (frame_told self.old) }
-        ensures ok { IfOk result (λ n. Overwrites (frame_told self.old) at bytes.now n (frame_told self.new)) }
-        ensures err { OnErr result (frame_told self.new ≡ frame_told self.old) }
+        requires { at + length bytes.now ≤ length (frame_contents self.old) }
+        ensures ok { IfOk result (λ n. Overwrites (frame_contents self.old) at bytes.now n (frame_contents self.new)) }
+        ensures err { OnErr result (frame_contents self.new ≡ frame_contents self.old) }
         ensures failed { self.new.failed ≡ self.old.failed }
     {
         let to = at + bytes.len() as u64;
@@ -132,7 +132,7 @@ impl FrameSink {
     // Keeps the error of a write, if it failed, and counts it. Returns the answer of the write.
     fn noted(&mut self, answer: Result<usize, SinkFault>) -> Result<usize, SinkFault>
         ensures same { result ≡ answer }
-        ensures told { frame_told self.new ≡ frame_told self.old }
+        ensures contents { frame_contents self.new ≡ frame_contents self.old }
         ensures ok { OnOk answer ((self.new.failed ≡ self.old.failed) × (self.new.fault ≡ None)) }
         ensures err { IfErr answer (λ e. (length self.new.failed ≡ length self.old.failed + 1)
             × (self.new.fault ≡ Some e)) }
@@ -147,9 +147,9 @@ impl FrameSink {
 
 impl Sink for FrameSink {
     ghost use Rattle.std.proofs.Common.{arith, length-append};
-    ghost use Rattle.tiff_statuses.specs.Frame.{frame_told};
+    ghost use Rattle.tiff_statuses.specs.Frame.{frame_contents};
 
-    ghost told = { frame_told };
+    ghost contents = { frame_contents };
 
     ghost failures = { λ s. length s.failed };
 

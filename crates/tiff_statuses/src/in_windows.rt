@@ -21,7 +21,7 @@ use crate::plan::{
     PageDirectory, PlannedPage, find_plan, found_numbers, page_directory, planned_by,
 };
 use crate::range::{ReadsChunks, chunks_from};
-use crate::status::{Status, done, given};
+use crate::status::{Status, unit_status, put_value};
 use crate::values::fill;
 use std::alloc::Global;
 use std::marker::Brand;
@@ -101,9 +101,9 @@ fn copy_part<R: Source>(
     at: u64,
     buffer: &mut [u8],
 ) -> TiffResult<usize>
-    ensures kept { IsKept R.told R.failures result source.old source.new }
+    ensures kept { IsKept R.contents R.failures result source.old source.new }
     ensures answer { AnswersWithoutMemory (λ n. (n, buffer.new)) result
-        (spec.copied (part_of_field fields.now.kind fields.now.order (R.told source.old).bytes entry.now
+        (spec.copied (part_of_field fields.now.kind fields.now.order (R.contents source.old).bytes entry.now
         (length buffer.old) at) buffer.old) (R.failures source.old) (R.failures source.new) }
 {
     fields.read_part(source, entry, at, buffer)
@@ -298,7 +298,7 @@ pub fn page_plan_in(
         return Status::InvalidInput as u32;
     };
     match plan_seen::<Brand>(alloc, &windows, page) {
-        Ok(found) => given(found_numbers(found), plan),
+        Ok(found) => put_value(found_numbers(found), plan),
         Err(stretch) => {
             *wanted = stretch;
             Status::BytesWanted as u32
@@ -326,7 +326,7 @@ pub fn read_planned_chunk_in(
         return Status::InvalidInput as u32;
     };
     match planned_seen::<Brand>(alloc, &windows, plan, chunk, buffer) {
-        Ok(read) => done(read),
+        Ok(read) => unit_status(read),
         Err(stretch) => {
             *wanted = stretch;
             Status::BytesWanted as u32
@@ -355,7 +355,7 @@ pub fn read_planned_chunks_in(
         return Status::InvalidInput as u32;
     };
     match range_seen::<Brand>(alloc, &windows, plan, first, count, buffer) {
-        Ok(read) => done(read),
+        Ok(read) => unit_status(read),
         Err(stretch) => {
             *wanted = stretch;
             Status::BytesWanted as u32
@@ -386,7 +386,7 @@ pub fn list_tags_in(
         return Status::InvalidInput as u32;
     };
     match entries_seen::<Brand>(alloc, &windows, page, entries) {
-        Ok(told) => given(told, count),
+        Ok(told) => put_value(told, count),
         Err(stretch) => {
             *wanted = stretch;
             Status::BytesWanted as u32
@@ -418,7 +418,7 @@ pub fn tag_bytes_in(
         return Status::InvalidInput as u32;
     };
     match bytes_seen::<Brand>(alloc, &windows, page, number, at, buffer) {
-        Ok(told) => given(told, written),
+        Ok(told) => put_value(told, written),
         Err(stretch) => {
             *wanted = stretch;
             Status::BytesWanted as u32

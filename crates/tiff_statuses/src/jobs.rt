@@ -9,7 +9,7 @@ ghost use Rattle.tiff_statuses.specs.Writer as writer;
 
 use crate::frame::NewFile;
 use crate::status::{Status, fault_number, status_of};
-use crate::writer::{deliver, kind_of};
+use crate::writer::{put_file, kind_of};
 use std::alloc::Global;
 use std::str;
 use tiff_base::error::{TiffError, TiffFormatError, TiffResult};
@@ -107,7 +107,7 @@ fn refused_step(replies: &[JobReply], refused: Option<(usize, u32)>) -> Option<u
 
 /// Drops a value. A list of replies is dropped here, since a proof about that is long in a function
 /// that isn't generic.
-pub fn let_go<T: Drop>(_value: T) {}
+pub fn drop_value<T: Drop>(_value: T) {}
 
 /// The first job that had an error, by these replies, and the step that had it.
 pub fn refused_of(replies: Vec<JobReply>) -> (Option<(usize, u32)>, Option<usize>)
@@ -116,7 +116,7 @@ pub fn refused_of(replies: Vec<JobReply>) -> (Option<(usize, u32)>, Option<usize
 {
     let refused = first_refused(&replies);
     let step = refused_step(&replies, refused);
-    let_go(replies);
+    drop_value(replies);
     (refused, step)
 }
 
@@ -191,7 +191,7 @@ pub fn tell_ran(ran: Ran, buffer: &mut [u8], len: &mut usize, end: &mut JobsEnd)
     match ran.refused {
         None => {
             *end = NO_END;
-            deliver(Ok(NewFile::Whole(ran.file)), buffer, len)
+            put_file(Ok(NewFile::Whole(ran.file)), buffer, len)
         }
         Some((job, number)) => {
             *end = JobsEnd { line: 0, job };
@@ -204,7 +204,7 @@ pub fn tell_ran(ran: Ran, buffer: &mut [u8], len: &mut usize, end: &mut JobsEnd)
 /// `end`. Returns the status: 0; the number of `IoError(InvalidInput)` for a line that is no job;
 /// the status of the first job that had an error; the number of `InsufficientOutputBufferSize` for
 /// a buffer that is too short; or the number of the error of `answer`.
-pub fn tell(
+pub fn put_jobs(
     answer: TiffResult<Answer>,
     buffer: &mut [u8],
     len: &mut usize,

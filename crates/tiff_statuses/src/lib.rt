@@ -58,14 +58,14 @@ pub use crate::in_windows::{
     list_directories_in, list_pages_in, list_tags_in, page_plan_in, read_planned_chunk_in,
     read_planned_chunks_in, tag_bytes_in,
 };
-use crate::jobs::{JobsEnd, run_version, tell};
+use crate::jobs::{JobsEnd, run_version, put_jobs};
 use crate::list::{ListedPage, list_into};
 use crate::pages::{NewPage, PagesEnd, run_pages, tell_pages};
 use crate::plan::PlannedPage;
 use crate::rewrite::PlacedChunk;
-use crate::status::{done, given};
+use crate::status::{unit_status, put_value};
 use crate::texts::{put_part, text_of};
-use crate::writer::{NewImage, deliver, deliver_around, write_new};
+use crate::writer::{NewImage, put_file, put_file_around, write_new};
 
 /// Puts the width and the height of a page, in pixels, into `sides`. Returns 0, or the number of
 /// the error that refuses the file or the page. An error leaves `sides` as it was.
@@ -73,7 +73,7 @@ use crate::writer::{NewImage, deliver, deliver_around, write_new};
 pub fn page_sides(alloc: Global, file: &[u8], page: usize, sides: &mut Sides) -> u32
     ensures { StatusPuts (calls.page_sides file.now page) result sides.old sides.new }
 {
-    given(calls::page_sides(alloc, file, page), sides)
+    put_value(calls::page_sides(alloc, file, page), sides)
 }
 
 /// Reads the image of a page into `buffer`, under no limits: rows from the top, each of whole
@@ -85,7 +85,7 @@ pub fn page_sides(alloc: Global, file: &[u8], page: usize, sides: &mut Sides) ->
 pub fn read_image_bytes(alloc: Global, file: &[u8], page: usize, buffer: &mut [u8]) -> u32
     ensures { StatusTells (calls.read_image_bytes file.now page buffer.old) result buffer.new }
 {
-    done(calls::image_bytes(alloc, file, page, buffer))
+    unit_status(calls::image_bytes(alloc, file, page, buffer))
 }
 
 /// Puts the color of a page into `color`. Returns 0, or the number of the first error: of the file
@@ -94,7 +94,7 @@ pub fn read_image_bytes(alloc: Global, file: &[u8], page: usize, buffer: &mut [u
 pub fn page_color(alloc: Global, file: &[u8], page: usize, color: &mut Color) -> u32
     ensures { StatusPuts (calls.page_color file.now page) result color.old color.new }
 {
-    given(calls::page_color(alloc, file, page), color)
+    put_value(calls::page_color(alloc, file, page), color)
 }
 
 /// Puts what the samples of a page are, and how they lie, into `samples`. Returns 0, or the number
@@ -104,7 +104,7 @@ pub fn page_color(alloc: Global, file: &[u8], page: usize, color: &mut Color) ->
 pub fn page_samples(alloc: Global, file: &[u8], page: usize, samples: &mut PageSamples) -> u32
     ensures { StatusPuts (calls.page_samples file.now page) result samples.old samples.new }
 {
-    given(calls::page_samples(alloc, file, page), samples)
+    put_value(calls::page_samples(alloc, file, page), samples)
 }
 
 /// Puts the kind, the count and the sides of a page's strips or tiles into `chunks`. Returns 0, or
@@ -114,7 +114,7 @@ pub fn page_samples(alloc: Global, file: &[u8], page: usize, samples: &mut PageS
 pub fn page_chunks(alloc: Global, file: &[u8], page: usize, chunks: &mut Chunks) -> u32
     ensures { StatusPuts (calls.page_chunks file.now page) result chunks.old chunks.new }
 {
-    given(calls::page_chunks(alloc, file, page), chunks)
+    put_value(calls::page_chunks(alloc, file, page), chunks)
 }
 
 /// Puts how many bytes the image of a page has, in one plane and in all planes, into `layout`.
@@ -124,7 +124,7 @@ pub fn page_chunks(alloc: Global, file: &[u8], page: usize, chunks: &mut Chunks)
 pub fn page_layout(alloc: Global, file: &[u8], page: usize, layout: &mut Layout) -> u32
     ensures { StatusPuts (calls.page_layout file.now page) result layout.old layout.new }
 {
-    given(calls::page_layout(alloc, file, page), layout)
+    put_value(calls::page_layout(alloc, file, page), layout)
 }
 
 /// Reads the chunk of a page with the number `chunk`, from 0, into `buffer`, under no limits, as it
@@ -141,7 +141,7 @@ pub fn read_chunk_bytes(
 ) -> u32
     ensures { StatusTells (calls.read_chunk_bytes file.now page chunk buffer.old) result buffer.new }
 {
-    done(calls::chunk_bytes(alloc, file, page, chunk, buffer))
+    unit_status(calls::chunk_bytes(alloc, file, page, chunk, buffer))
 }
 
 /// Reads `count` chunks of a page, from the number `first` on, into `buffer`, one behind the other,
@@ -160,7 +160,7 @@ pub fn read_chunks(
 ) -> u32
     ensures { StatusTells (calls.read_chunks file.now page first count buffer.old) result buffer.new }
 {
-    done(calls::range_bytes(alloc, file, page, first, count, buffer))
+    unit_status(calls::range_bytes(alloc, file, page, first, count, buffer))
 }
 
 /// Puts the plan of a page, what its tags define as numbers, into `plan`. By this plan
@@ -173,7 +173,7 @@ pub fn page_plan(alloc: Global, file: &[u8], page: usize, plan: &mut PlannedPage
     ensures answer { StatusPuts (plans.page_plan file.now page) result plan.old plan.new }
     ensures reads { result ≡ 0 → ReadsPage file.now page plan.new }
 {
-    given(plan::page_plan(alloc, file, page), plan)
+    put_value(plan::page_plan(alloc, file, page), plan)
 }
 
 /// Reads the chunk with the number `chunk`, from 0, into `buffer`, by the plan of its page and under
@@ -196,7 +196,7 @@ pub fn read_planned_chunk(
 ) -> u32
     ensures { StatusTells (plans.read_planned_chunk file.now plan.now chunk buffer.old) result buffer.new }
 {
-    done(plan::planned_chunk(alloc, file, plan, chunk, buffer))
+    unit_status(plan::planned_chunk(alloc, file, plan, chunk, buffer))
 }
 
 /// Reads `count` chunks, from the number `first` on, into `buffer`, one behind the other, by the plan
@@ -219,7 +219,7 @@ pub fn read_planned_chunks(
     ensures { StatusTells (plans.read_planned_chunks file.now plan.now first count buffer.old) result
         buffer.new }
 {
-    done(plan::planned_chunks(alloc, file, plan, first, count, buffer))
+    unit_status(plan::planned_chunks(alloc, file, plan, first, count, buffer))
 }
 
 /// Puts the offset and the byte count of the chunk with the number `chunk`, from 0, into `place`, by
@@ -237,7 +237,7 @@ pub fn chunk_place(
 ) -> u32
     ensures { StatusPuts (rewriting.chunk_place file.now plan.now chunk) result place.old place.new }
 {
-    given(rewrite::chunk_place(alloc, file, plan, chunk), place)
+    put_value(rewrite::chunk_place(alloc, file, plan, chunk), place)
 }
 
 /// Makes the bytes that the file has of the chunk with the number `chunk`, from 0, from new samples,
@@ -268,7 +268,7 @@ pub fn rewrite_chunk(
         → rewriting.ShowsSamples file.now plan.now chunk samples.now stored.new }
     ensures refused { (result ≡ 0 → ⊥) → stored.new ≡ stored.old }
 {
-    done(rewrite::rewrite_chunk(alloc, file, plan, chunk, samples, stored))
+    unit_status(rewrite::rewrite_chunk(alloc, file, plan, chunk, samples, stored))
 }
 
 /// Reads the coding unit of a page with the number `unit`, from 0, into `buffer`, under no limits:
@@ -286,7 +286,7 @@ pub fn read_coding_unit_bytes(
 ) -> u32
     ensures { StatusTells (calls.read_unit_bytes file.now page unit buffer.old) result buffer.new }
 {
-    done(calls::unit_bytes(alloc, file, page, unit, buffer))
+    unit_status(calls::unit_bytes(alloc, file, page, unit, buffer))
 }
 
 /// Puts the number of the type of a tag, and how many values it has, into `field`. `number` is the
@@ -296,7 +296,7 @@ pub fn read_coding_unit_bytes(
 pub fn tag_field(alloc: Global, file: &[u8], page: usize, number: u16, field: &mut FieldSize) -> u32
     ensures { StatusPuts (calls.tag_field file.now page number) result field.old field.new }
 {
-    given(calls::tag_field(alloc, file, page, number), field)
+    put_value(calls::tag_field(alloc, file, page, number), field)
 }
 
 /// Puts the value of a tag, which has to have one, into `value`. `number` is the tag's number.
@@ -307,7 +307,7 @@ pub fn tag_field(alloc: Global, file: &[u8], page: usize, number: u16, field: &m
 pub fn tag_number(alloc: Global, file: &[u8], page: usize, number: u16, value: &mut u64) -> u32
     ensures { StatusPuts (calls.tag_number_at file.now page number) result value.old value.new }
 {
-    given(calls::tag_number(alloc, file, page, number), value)
+    put_value(calls::tag_number(alloc, file, page, number), value)
 }
 
 /// Copies the bytes of the values of a tag into `buffer`, in the file's byte order, from byte `at`
@@ -331,7 +331,7 @@ pub fn tag_bytes(
         (written.new, buffer.new) }
     ensures stays { (result ≡ 0) ⊎ (written.new ≡ written.old) }
 {
-    given(
+    put_value(
         calls::tag_bytes(alloc, file, page, number, at, buffer),
         written,
     )
@@ -354,7 +354,7 @@ pub fn tag_numbers(
     ensures { StatusPuts (values.tag_numbers file.now page number numbers.old) result
         (count.old, numbers.old) (count.new, numbers.new) }
 {
-    given(
+    put_value(
         values::tag_numbers(alloc, file, page, number, numbers),
         count,
     )
@@ -377,7 +377,7 @@ pub fn tag_floats(
     ensures { StatusPuts (values.tag_floats file.now page number numbers.old) result
         (count.old, numbers.old) (count.new, numbers.new) }
 {
-    given(
+    put_value(
         values::tag_floats(alloc, file, page, number, numbers),
         count,
     )
@@ -400,7 +400,7 @@ pub fn tag_text(
     ensures { StatusPuts (values.tag_text file.now page number text.old) result (len.old, text.old)
         (len.new, text.new) }
 {
-    given(values::tag_text(alloc, file, page, number, text), len)
+    put_value(values::tag_text(alloc, file, page, number, text), len)
 }
 
 /// Puts the entries of the directory of a page into `entries`, in the order of their tags, as many
@@ -417,7 +417,7 @@ pub fn list_tags(
     ensures { StatusPuts (list_tags file.now page entries.old) result (count.old, entries.old)
         (count.new, entries.new) }
 {
-    given(entries::list_tags(alloc, file, page, entries), count)
+    put_value(entries::list_tags(alloc, file, page, entries), count)
 }
 
 /// Puts the byte order of a file into `order`: 0 for little-endian, 1 for big-endian. Returns 0, or
@@ -425,7 +425,7 @@ pub fn list_tags(
 pub fn byte_order(file: &[u8], order: &mut u32) -> u32
     ensures { StatusIs (calls.file_byte_order file.now) result order.old order.new }
 {
-    given(calls::byte_order(file), order)
+    put_value(calls::byte_order(file), order)
 }
 
 /// Puts how many pages a file has, along its chain of directories, into `pages`. Returns 0, or the
@@ -435,7 +435,7 @@ pub fn byte_order(file: &[u8], order: &mut u32) -> u32
 pub fn page_count(alloc: Global, file: &[u8], pages: &mut usize) -> u32
     ensures { StatusPuts (calls.page_count file.now) result pages.old pages.new }
 {
-    given(calls::page_count(alloc, file), pages)
+    put_value(calls::page_count(alloc, file), pages)
 }
 
 /// Puts the pages of a file into `pages`, along its chain of directories, as many as fit, and how
@@ -485,7 +485,7 @@ pub fn write_image(
     ensures shows { result ≡ 0 → IsShown image.now samples.now buffer.old buffer.new len.new }
     ensures stays { (result ≡ 0) ⊎ (buffer.new ≡ buffer.old) }
 {
-    deliver(write_new(alloc, image, samples), buffer, len)
+    put_file(write_new(alloc, image, samples), buffer, len)
 }
 
 /// As `write_image`, but puts into `buffer` only the bytes of the file before `samples` and behind
@@ -508,7 +508,7 @@ pub fn image_frame(
         frame.old frame.new }
     ensures stays { (result ≡ 0) ⊎ (buffer.new ≡ buffer.old) }
 {
-    deliver_around(write_new(alloc, image, samples), buffer, frame)
+    put_file_around(write_new(alloc, image, samples), buffer, frame)
 }
 
 /// Writes the file of the jobs that the text `jobs` lists into `buffer`, puts how many bytes the
@@ -529,7 +529,7 @@ pub fn write_jobs(
     ensures answer { JobsTell version jobs.now result buffer.old buffer.new len.old len.new end.new }
     ensures stays { (result ≡ 0) ⊎ (buffer.new ≡ buffer.old) }
 {
-    tell(run_version(alloc, version, jobs), buffer, len, end)
+    put_jobs(run_version(alloc, version, jobs), buffer, len, end)
 }
 
 /// Writes the file of these pages into `buffer`, puts how many bytes the file has into `len`, and

@@ -12,7 +12,7 @@ use crate::frame::NewFile;
 use crate::jobs::run;
 use crate::parents::{Links, go_on};
 use crate::status::fault_number;
-use crate::writer::{color_named, deliver, kind_of, packing_named, predictor_named};
+use crate::writer::{color_named, put_file, kind_of, packing_named, predictor_named};
 use std::alloc::Global;
 use tiff_append::last_link::header_link;
 use tiff_base::error::{TiffError, TiffFormatError, TiffResult, TiffUnsupportedError, UsageError};
@@ -702,7 +702,7 @@ fn tell_written(pages: WrittenPages, buffer: &mut [u8], len: &mut usize, end: &m
     match pages.refused {
         None => {
             *end = NO_PAGE;
-            deliver(Ok(NewFile::Whole(pages.file)), buffer, len)
+            put_file(Ok(NewFile::Whole(pages.file)), buffer, len)
         }
         Some(refused) => {
             *end = PagesEnd {

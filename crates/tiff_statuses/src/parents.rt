@@ -16,7 +16,7 @@ ghost use Rattle.tiff_statuses.specs.Pages as spec;
 ghost use Rattle.tiff_statuses.specs.Parents.{RanAt, StepFails, StepRan};
 
 use crate::entries::{is_in_place, values_at};
-use crate::jobs::{let_go, refused_of};
+use crate::jobs::{drop_value, refused_of};
 use crate::pages::{ChildJobs, PagesJobs, RefusedPage, refused_page};
 use std::alloc::Global;
 use tiff_append::last_link::{entry_sizes, link_size, walk_all};
@@ -41,11 +41,11 @@ pub trait PagesFile: Drop {
     ghost use Rattle.tiff_append.specs.Source.{added_bytes};
 
     /// The bytes of the file.
-    ghost told: { Self → List ℕ };
+    ghost contents: { Self → List ℕ };
 
     /// A source of the bytes, which lends them.
     fn source(&self) -> AddedSource<'_>
-        ensures { added_bytes result ≡ told self.now };
+        ensures { added_bytes result ≡ contents self.now };
 
     /// Runs jobs with an encoder that goes on behind the file at a link, and appends their replies to
     /// `replies`. Errors: `IoError(InvalidInput)` if the link isn't within the file; `OutOfMemory`.
@@ -56,13 +56,13 @@ pub trait PagesFile: Drop {
         jobs: &[Job<'_>],
         replies: &mut Vec<JobReply>,
     ) -> TiffResult<Self>
-        ensures { MatchResult result (λ last. RunsAt K.kind (told self) link jobs.now
-            replies.old.items replies.new.items (told last))
-            (RefusesLink (length (told self)) link (offset_len K.kind)) };
+        ensures { MatchResult result (λ last. RunsAt K.kind (contents self) link jobs.now
+            replies.old.items replies.new.items (contents last))
+            (RefusesLink (length (contents self)) link (offset_len K.kind)) };
 }
 
 impl PagesFile for Vec<u8> {
-    ghost told = { λ v. v.items };
+    ghost contents = { λ v. v.items };
 
     fn source(&self) -> AddedSource<'_> {
         AddedSource::whole(self)
@@ -81,9 +81,9 @@ impl PagesFile for Vec<u8> {
 }
 
 impl PagesFile for BehindSink<'_> {
-    ghost use Rattle.tiff_append.specs.Behind.{behind_told};
+    ghost use Rattle.tiff_append.specs.Behind.{behind_contents};
 
-    ghost told = { behind_told };
+    ghost contents = { behind_contents };
 
     fn source(&self) -> AddedSource<'_> {
         BehindSink::source(self)
@@ -119,7 +119,7 @@ fn offsets_of(alloc: Global, walk: &IfdChainWalk) -> TiffResult<Vec<u64>>
 
 // The offset that a link leads to.
 fn link_of<F: PagesFile>(file: &F, kind: FileKind, link: u64) -> TiffResult<u64>
-    ensures { Gives (λ n. n) result (link_at kind (F.told file.now) link) }
+    ensures { Gives (λ n. n) result (link_at kind (F.contents file.now) link) }
 {
     read_link_at(&mut file.source(), link, kind, ByteOrder::LittleEndian)
 }
@@ -131,7 +131,7 @@ fn chain_of<F: PagesFile>(
     kind: FileKind,
     link: u64,
 ) -> TiffResult<Vec<u64>>
-    ensures { AnswersWithoutSource (λ v. v.items) result (chain_at kind (F.told file.now) link) }
+    ensures { AnswersWithoutSource (λ v. v.items) result (chain_at kind (F.contents file.now) link) }
 {
     let first = link_of(file, kind, link)?;
     let walk = walk_all(alloc, &mut file.source(), kind, first)?;
@@ -146,7 +146,7 @@ fn directory_of<F: PagesFile>(
     at: u64,
 ) -> TiffResult<Directory>
     ensures { AnswersWithoutSource (λ d. d) result
-        (directory_at kind LittleEndian (F.told file.now) at) }
+        (directory_at kind LittleEndian (F.contents file.now) at) }
 {
     let order = ByteOrder::LittleEndian;
     read_directory(alloc, &mut file.source(), at, kind, order)
@@ -230,7 +230,7 @@ fn slot_of<F: PagesFile>(
     index: usize,
 ) -> TiffResult<u64>
     ensures { AnswersWithoutSource (λ q. q) result
-        (slot_at links.kind links.floor (F.told file.now) at index) }
+        (slot_at links.kind links.floor (F.contents file.now) at index) }
 {
     let len = file.source().size();
     let directory = directory_of(alloc, file, links.kind, at)?;
@@ -307,8 +307,8 @@ pub(crate) fn run_jobs_at<F: PagesFile, K: TiffKind>(
     jobs: &[Job<'_>],
 ) -> TiffResult<(F, Option<RefusedPage>)>
     ensures { MatchResult result
-        (λ r. RanAt K.kind (F.told file) link numbers.now jobs.now (F.told r.0) r.1)
-        (RefusesLink (length (F.told file)) link (offset_len K.kind)) }
+        (λ r. RanAt K.kind (F.contents file) link numbers.now jobs.now (F.contents r.0) r.1)
+        (RefusesLink (length (F.contents file)) link (offset_len K.kind)) }
 {
     let mut replies = Vec::new(alloc);
     match file.run::<K>(alloc, link, jobs, &mut replies) {
@@ -317,7 +317,7 @@ pub(crate) fn run_jobs_at<F: PagesFile, K: TiffKind>(
             Ok((left, refused_page(numbers, jobs, refused, step)))
         }
         Err(fault) => {
-            let_go(replies);
+            drop_value(replies);
             Err(fault)
         }
     }
@@ -334,9 +334,9 @@ fn run_child<F: PagesFile, K: TiffKind>(
 ) -> TiffResult<(F, Option<RefusedPage>)>
     requires { links.kind ≡ K.kind }
     ensures { MatchResult result
-        (λ r. StepRan K.kind links.floor child.now places.old (F.told file) places.new (F.told r.0)
+        (λ r. StepRan K.kind links.floor child.now places.old (F.contents file) places.new (F.contents r.0)
         r.1)
-        (λ e. (e ≡ OutOfMemory) ⊎ StepFails K.kind links.floor child.now places.old (F.told file) e) }
+        (λ e. (e ≡ OutOfMemory) ⊎ StepFails K.kind links.floor child.now places.old (F.contents file) e) }
 {
     let at = place_of(places, child.parent)?;
     // Read from the parent's directory, since no reply of a job says where its values are.
@@ -360,10 +360,10 @@ fn run_children<F: PagesFile, K: TiffKind>(
 ) -> TiffResult<(F, Option<RefusedPage>)>
     requires { links.kind ≡ K.kind }
     ensures { MatchResult result
-        (λ r. ChildrenRan K.kind links.floor children.now places.old (F.told file)
-        (Ok (F.told r.0, r.1)))
+        (λ r. ChildrenRan K.kind links.floor children.now places.old (F.contents file)
+        (Ok (F.contents r.0, r.1)))
         (λ e. (e ≡ OutOfMemory) ⊎ ChildrenRan K.kind links.floor children.now places.old
-        (F.told file) (Err e)) }
+        (F.contents file) (Err e)) }
 {
     for child in children {
         let (left, refused) = run_child::<F, K>(alloc, links, file, child, places)?;
@@ -387,10 +387,10 @@ fn run_behind_chain<F: PagesFile, K: TiffKind>(
     requires kind { links.kind ≡ K.kind }
     requires some { length children.now ≢ 0 }
     ensures { MatchResult result
-        (λ r. GoesOn K.kind links.floor links.first numbers.now children.now (F.told file)
-        (Ok (F.told r.0, r.1)))
+        (λ r. GoesOn K.kind links.floor links.first numbers.now children.now (F.contents file)
+        (Ok (F.contents r.0, r.1)))
         (λ e. (e ≡ OutOfMemory) ⊎ GoesOn K.kind links.floor links.first numbers.now children.now
-        (F.told file) (Err e)) }
+        (F.contents file) (Err e)) }
 {
     let Some(pages) = numbers.len().checked_add(children.len()) else {
         return Err(TiffError::OutOfMemory);
@@ -412,9 +412,9 @@ pub(crate) fn go_on<F: PagesFile, K: TiffKind>(
 ) -> TiffResult<(F, Option<RefusedPage>)>
     requires { links.kind ≡ K.kind }
     ensures { MatchResult result
-        (λ r. PagesGoOn K.kind links.floor links.first pages.now (F.told file) refused
-        (Ok (F.told r.0, r.1)))
-        (λ e. (e ≡ OutOfMemory) ⊎ PagesGoOn K.kind links.floor links.first pages.now (F.told file)
+        (λ r. PagesGoOn K.kind links.floor links.first pages.now (F.contents file) refused
+        (Ok (F.contents r.0, r.1)))
+        (λ e. (e ≡ OutOfMemory) ⊎ PagesGoOn K.kind links.floor links.first pages.now (F.contents file)
         refused (Err e)) }
 {
     if refused.is_some() || pages.children.is_empty() {

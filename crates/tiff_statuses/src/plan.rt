@@ -244,10 +244,10 @@ fn page_offset<R: Source>(
     header: &FileHeader,
     page: usize,
 ) -> TiffResult<u64>
-    ensures kept { IsKept R.told R.failures result source.old source.new }
+    ensures kept { IsKept R.contents R.failures result source.old source.new }
     ensures answer { Answers (λ n. n) result (spec.page_offset
         (record { order = header.now.order; kind = header.now.kind; first = header.now.first })
-        (R.told source.old).bytes page) (R.failures source.old) (R.failures source.new) }
+        (R.contents source.old).bytes page) (R.failures source.old) (R.failures source.new) }
 {
     if page >= AT {
         return Ok((page - AT) as u64);
@@ -275,9 +275,9 @@ pub(crate) fn page_directory<R: Source>(
     source: &mut R,
     page: usize,
 ) -> TiffResult<PageDirectory>
-    ensures kept { IsKept R.told R.failures result source.old source.new }
+    ensures kept { IsKept R.contents R.failures result source.old source.new }
     ensures answer { Answers (λ p. (p.kind, p.order, p.directory)) result
-        (spec.page_directory (R.told source.old).bytes page) (R.failures source.old)
+        (spec.page_directory (R.contents source.old).bytes page) (R.failures source.old)
         (R.failures source.new) }
 {
     let header = read_header(source)?;
@@ -293,7 +293,7 @@ pub(crate) fn page_directory<R: Source>(
 
 // A source has fewer than 2^64 bytes.
 fn bytes_fit<R: Source>(source: &R)
-    ensures { length (R.told source.now).bytes < 2 ^ 64 }
+    ensures { length (R.contents source.now).bytes < 2 ^ 64 }
 {}
 
 // The plan of a directory, and its source.
@@ -302,14 +302,14 @@ fn plan_here<R: Source>(
     source: R,
     page: PageDirectory,
 ) -> (TiffResult<Option<PagePlan>>, R)
-    ensures kept { IsKept R.told R.failures result.0 source result.1 }
+    ensures kept { IsKept R.contents R.failures result.0 source result.1 }
     ensures answer { Answers (λ plan. plan) result.0
-        (plan_in page.kind page.order (R.told source).bytes default_limits page.directory)
+        (plan_in page.kind page.order (R.contents source).bytes default_limits page.directory)
         (R.failures source) (R.failures result.1) }
     ensures plan { IfOk result.0 (λ found. IfSome found (λ plan. (p : PageRecord)
-        → page_of (look_in page.kind page.order (R.told source).bytes default_limits
+        → page_of (look_in page.kind page.order (R.contents source).bytes default_limits
         page.directory.entries) ≡ Ok p
-        → IsPlanOf plan (R.told source).bytes default_limits p)) }
+        → IsPlanOf plan (R.contents source).bytes default_limits p)) }
 {
     let mut tags = ValueReader {
         source,
@@ -329,12 +329,12 @@ pub(crate) fn find_plan<R: Source>(
     source: R,
     page: usize,
 ) -> (TiffResult<Option<PagePlan>>, R)
-    ensures kept { IsKept R.told R.failures result.0 source result.1 }
-    ensures answer { Answers (λ plan. plan) result.0 (spec.plan_found (R.told source).bytes page)
+    ensures kept { IsKept R.contents R.failures result.0 source result.1 }
+    ensures answer { Answers (λ plan. plan) result.0 (spec.plan_found (R.contents source).bytes page)
         (R.failures source) (R.failures result.1) }
     ensures reads { IfOk result.0
         (λ found. IfSome found (λ plan. plan.depth < 2 ^ 8
-        → spec.ReadsPage (R.told source).bytes page (spec.numbers_of plan))) }
+        → spec.ReadsPage (R.contents source).bytes page (spec.numbers_of plan))) }
 {
     numbers_come_back();
     names_come_back();
@@ -388,9 +388,9 @@ pub(crate) struct PlannedChunks<R: Source> {
 }
 
 impl<R: Source> ReadsChunks for PlannedChunks<R> {
-    ghost reading = { λ p. spec.plan_reading (R.told p.source).bytes p.plan p.limits };
+    ghost reading = { λ p. spec.plan_reading (R.contents p.source).bytes p.plan p.limits };
 
-    ghost told = { λ p. R.told p.source };
+    ghost contents = { λ p. R.contents p.source };
 
     ghost failures = { λ p. R.failures p.source };
 

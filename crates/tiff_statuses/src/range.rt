@@ -16,20 +16,20 @@ pub(crate) trait ReadsChunks {
     ghost reading: { Self → ChunkReading };
 
     // The source, and the number of its reads that failed so far.
-    ghost told: { Self → SourceRecord };
+    ghost contents: { Self → SourceRecord };
 
     ghost failures: { Self → ℕ };
 
     // Returns how many bytes a chunk has.
     fn len_of(&mut self, chunk: u32) -> TiffResult<usize>
-        ensures kept { IsKept told failures result self.old self.new }
+        ensures kept { IsKept contents failures result self.old self.new }
         ensures answer { Answers (λ len. len) result ((reading self.old).len_of chunk)
             (failures self.old) (failures self.new) }
         ensures stays { OnOk result (reading self.new ≡ reading self.old) };
 
     // Reads a chunk into a slice.
     fn read(&mut self, chunk: u32, buffer: &mut [u8]) -> TiffResult<()>
-        ensures kept { IsKept told failures result self.old self.new }
+        ensures kept { IsKept contents failures result self.old self.new }
         ensures answer { Answers (λ _. buffer.new) result ((reading self.old).read chunk buffer.old)
             (failures self.old) (failures self.new) }
         ensures stays { OnOk result (reading self.new ≡ reading self.old) };
@@ -42,7 +42,7 @@ fn chunks_between<R: ReadsChunks>(
     end: u32,
     buffer: &mut [u8],
 ) -> TiffResult<()>
-    ensures kept { IsKept R.told R.failures result chunks.old chunks.new }
+    ensures kept { IsKept R.contents R.failures result chunks.old chunks.new }
     ensures answer { Answers (λ _. buffer.new) result
         (calls.chunks_in (R.reading chunks.old) (end - first) first buffer.old)
         (R.failures chunks.old) (R.failures chunks.new) }
@@ -74,7 +74,7 @@ pub(crate) fn chunks_from<R: ReadsChunks>(
     count: u32,
     buffer: &mut [u8],
 ) -> TiffResult<()>
-    ensures kept { IsKept R.told R.failures result chunks.old chunks.new }
+    ensures kept { IsKept R.contents R.failures result chunks.old chunks.new }
     ensures answer { Answers (λ _. buffer.new) result
         (calls.chunks_from (R.reading chunks.old) first count buffer.old) (R.failures chunks.old)
         (R.failures chunks.new) }

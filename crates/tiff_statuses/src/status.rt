@@ -190,7 +190,7 @@ pub fn status_of<T: Drop>(answer: &TiffResult<T>) -> u32
 }
 
 /// The status of a call without a value: 0, or the number of its error.
-pub fn done(answer: TiffResult<()>) -> u32
+pub fn unit_status(answer: TiffResult<()>) -> u32
     ensures { result ≡ spec.status answer }
 {
     match answer {
@@ -201,7 +201,7 @@ pub fn done(answer: TiffResult<()>) -> u32
 
 /// Puts the value of a result into `out`, and returns the status: 0, or the number of its error. An
 /// error leaves `out` as it was.
-pub fn given<T: Copy + Drop>(answer: TiffResult<T>, out: &mut T) -> u32
+pub fn put_value<T: Copy + Drop>(answer: TiffResult<T>, out: &mut T) -> u32
     ensures status { result ≡ spec.status answer }
     ensures put { IfOk answer (λ x. out.new ≡ x) }
     ensures kept { OnErr answer (out.new ≡ out.old) }

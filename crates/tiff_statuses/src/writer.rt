@@ -23,7 +23,7 @@ use tiff_encode::encoder::{
 };
 use tiff_value::encoder::color_visitor::{ColorVisitor, by_name};
 use tiff_value::encoder::colortype::{ColorType, ColorTypeName, NamedColorType};
-use tiff_value::encoder::differences::Sample;
+use tiff_value::encoder::horizontal_predictor::Sample;
 use tiff_value::encoder::tiff_value::TiffValue;
 
 /// How to write an image, by the numbers of TIFF: the color type by its number in
@@ -436,7 +436,7 @@ fn put(file: &NewFile<'_>, buffer: &mut [u8]) -> u32
 /// Puts a file at the front of a buffer if the file fits, and its length into `len` in any case.
 /// Returns the status: 0, or the number of the error of `answer`, or of
 /// `InsufficientOutputBufferSize`. For an error of `answer`, `buffer` and `len` stay.
-pub fn deliver(answer: TiffResult<NewFile<'_>>, buffer: &mut [u8], len: &mut usize) -> u32
+pub fn put_file(answer: TiffResult<NewFile<'_>>, buffer: &mut [u8], len: &mut usize) -> u32
     ensures { Delivers (view_of_result file_of answer.entry) result buffer.old buffer.new len.old
         len.new }
 {
@@ -453,7 +453,7 @@ pub fn deliver(answer: TiffResult<NewFile<'_>>, buffer: &mut [u8], len: &mut usi
 /// behind the other, if they fit, and the lengths of its parts into `lengths` in any case. Returns
 /// the status: 0, or the number of the error of `answer`, or of `InsufficientOutputBufferSize`. For
 /// an error of `answer`, `buffer` and `lengths` stay.
-pub fn deliver_around(
+pub fn put_file_around(
     answer: TiffResult<NewFile<'_>>,
     buffer: &mut [u8],
     lengths: &mut FrameLengths,

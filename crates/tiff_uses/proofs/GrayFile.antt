@@ -16,10 +16,10 @@ Writes color size width height samples answer start last =
     WritesImage color size width height samples (view_of_result {Y = Unit {0}} (λ _. tt) answer) start last
 
 -- an image that was written behind a new header
-pub alone : (color : ColorTypeRecord) (size width height : ℕ) (samples told : List ℕ) (failures : ℕ) (start last : FileState) (answer : Result (List ℕ) TiffError)
-    → start ≡ begun_file Classic told failures → told ≡ [] → Writes color size width height samples answer start last
+pub alone : (color : ColorTypeRecord) (size width height : ℕ) (samples contents : List ℕ) (failures : ℕ) (start last : FileState) (answer : Result (List ℕ) TiffError)
+    → start ≡ begun_file Classic contents failures → contents ≡ [] → Writes color size width height samples answer start last
     → (last.fault ≡ None) ⊎ (last.fault ≡ Some sink.OutOfMemory) → IfOk answer (λ file. file ≡ last.bytes) → WritesAlone color size width height samples answer
-alone color size width height samples told failures start last answer is empty written fault file = record {
+alone color size width height samples contents failures start last answer is empty written fault file = record {
   failures = failures;
   last = last;
   written = subst (λ s. Writes color size width height samples answer s last) (is ∙ ap (λ t. begun_file Classic t failures) empty) written;
@@ -27,9 +27,9 @@ alone color size width height samples told failures start last answer is empty w
   file = file;
 }
 
-pub gray_answered : (width height : ℕ) (samples told : List ℕ) (failures : ℕ) (start last : FileState) (answer : Result (List ℕ) TiffError)
-    → start ≡ begun_file Classic told failures → told ≡ []
+pub gray_answered : (width height : ℕ) (samples contents : List ℕ) (failures : ℕ) (start last : FileState) (answer : Result (List ℕ) TiffError)
+    → start ≡ begun_file Classic contents failures → contents ≡ []
     → Writes (color_type Gray8) (inner_size Gray8) width height (map (sample_number 1 (λ n. n)) samples) answer start last
     → (last.fault ≡ None) ⊎ (last.fault ≡ Some sink.OutOfMemory) → IfOk answer (λ file. file ≡ last.bytes) → AnswersGray width height samples answer
-gray_answered width height samples told failures start last answer is empty written fault file =
-    inr (alone (color_type Gray8) (inner_size Gray8) width height (map (sample_number 1 (λ n. n)) samples) told failures start last answer is empty written fault file)
+gray_answered width height samples contents failures start last answer is empty written fault file =
+    inr (alone (color_type Gray8) (inner_size Gray8) width height (map (sample_number 1 (λ n. n)) samples) contents failures start last answer is empty written fault file)

@@ -61,40 +61,40 @@ format_of_type type = Uint
 
 -- the family of each color type, and the field type of its samples in memory; floating-point
 -- samples are their bits, and a byte of packed pixels is a sample
-abbrev pub form_of : ColorTypeName → Family × «Type»
-form_of n.Gray8 = (Gray, t.BYTE)
-form_of n.Gray16 = (Gray, t.SHORT)
-form_of n.Gray32 = (Gray, t.LONG)
-form_of n.Gray64 = (Gray, t.LONG8)
-form_of n.GrayI8 = (Gray, t.SBYTE)
-form_of n.GrayI16 = (Gray, t.SSHORT)
-form_of n.GrayI32 = (Gray, t.SLONG)
-form_of n.GrayI64 = (Gray, t.SLONG8)
-form_of n.Gray32Float = (Gray, t.FLOAT)
-form_of n.Gray64Float = (Gray, t.DOUBLE)
-form_of n.RGB8 = (RGB, t.BYTE)
-form_of n.RGB16 = (RGB, t.SHORT)
-form_of n.RGB32 = (RGB, t.LONG)
-form_of n.RGB64 = (RGB, t.LONG8)
-form_of n.RGB32Float = (RGB, t.FLOAT)
-form_of n.RGB64Float = (RGB, t.DOUBLE)
-form_of n.RGBA8 = (RGBA, t.BYTE)
-form_of n.RGBA16 = (RGBA, t.SHORT)
-form_of n.RGBA32 = (RGBA, t.LONG)
-form_of n.RGBA64 = (RGBA, t.LONG8)
-form_of n.RGBA32Float = (RGBA, t.FLOAT)
-form_of n.RGBA64Float = (RGBA, t.DOUBLE)
-form_of n.CMYK8 = (CMYK, t.BYTE)
-form_of n.CMYK16 = (CMYK, t.SHORT)
-form_of n.CMYK32 = (CMYK, t.LONG)
-form_of n.CMYK64 = (CMYK, t.LONG8)
-form_of n.CMYK32Float = (CMYK, t.FLOAT)
-form_of n.CMYK64Float = (CMYK, t.DOUBLE)
-form_of n.YCbCr8 = (YCbCr, t.BYTE)
-form_of n.CMYKA8 = (CMYKA, t.BYTE)
-form_of n.Gray1 = (Gray, t.BYTE)
-form_of n.Gray2 = (Gray, t.BYTE)
-form_of n.Gray4 = (Gray, t.BYTE)
+abbrev pub family_and_type : ColorTypeName → Family × «Type»
+family_and_type n.Gray8 = (Gray, t.BYTE)
+family_and_type n.Gray16 = (Gray, t.SHORT)
+family_and_type n.Gray32 = (Gray, t.LONG)
+family_and_type n.Gray64 = (Gray, t.LONG8)
+family_and_type n.GrayI8 = (Gray, t.SBYTE)
+family_and_type n.GrayI16 = (Gray, t.SSHORT)
+family_and_type n.GrayI32 = (Gray, t.SLONG)
+family_and_type n.GrayI64 = (Gray, t.SLONG8)
+family_and_type n.Gray32Float = (Gray, t.FLOAT)
+family_and_type n.Gray64Float = (Gray, t.DOUBLE)
+family_and_type n.RGB8 = (RGB, t.BYTE)
+family_and_type n.RGB16 = (RGB, t.SHORT)
+family_and_type n.RGB32 = (RGB, t.LONG)
+family_and_type n.RGB64 = (RGB, t.LONG8)
+family_and_type n.RGB32Float = (RGB, t.FLOAT)
+family_and_type n.RGB64Float = (RGB, t.DOUBLE)
+family_and_type n.RGBA8 = (RGBA, t.BYTE)
+family_and_type n.RGBA16 = (RGBA, t.SHORT)
+family_and_type n.RGBA32 = (RGBA, t.LONG)
+family_and_type n.RGBA64 = (RGBA, t.LONG8)
+family_and_type n.RGBA32Float = (RGBA, t.FLOAT)
+family_and_type n.RGBA64Float = (RGBA, t.DOUBLE)
+family_and_type n.CMYK8 = (CMYK, t.BYTE)
+family_and_type n.CMYK16 = (CMYK, t.SHORT)
+family_and_type n.CMYK32 = (CMYK, t.LONG)
+family_and_type n.CMYK64 = (CMYK, t.LONG8)
+family_and_type n.CMYK32Float = (CMYK, t.FLOAT)
+family_and_type n.CMYK64Float = (CMYK, t.DOUBLE)
+family_and_type n.YCbCr8 = (YCbCr, t.BYTE)
+family_and_type n.CMYKA8 = (CMYKA, t.BYTE)
+family_and_type n.Gray1 = (Gray, t.BYTE)
+family_and_type n.Gray2 = (Gray, t.BYTE)
+family_and_type n.Gray4 = (Gray, t.BYTE)
 
 -- the number of bits of a sample of each color type: all bits of its field type, unless pixels are
 -- packed into bytes
@@ -102,7 +102,7 @@ abbrev pub depth_of : ColorTypeName → ℕ
 depth_of n.Gray1 = 1
 depth_of n.Gray2 = 2
 depth_of n.Gray4 = 4
-depth_of name = 8 * type_size (form_of name).1
+depth_of name = 8 * type_size (family_and_type name).1
 
 -- the color types, by their numbers from 0 on (the numbers are this project's)
 abbrev pub color_types : List ColorTypeName
@@ -117,13 +117,13 @@ color_types =
 -- the interpretation, the numbers of bits and the sample formats of each color type
 unfoldable pub color_type : ColorTypeName → ColorTypeRecord
 color_type name =
-    let family = (form_of name).0 in
-    let inner = (form_of name).1 in
+    let family = (family_and_type name).0 in
+    let inner = (family_and_type name).1 in
     samples_of (meaning_of family) (count_of family) (depth_of name) (format_of_type inner)
 
 -- the field type of the samples of a color type in memory
 unfoldable pub inner_type : ColorTypeName → «Type»
-inner_type name = (form_of name).1
+inner_type name = (family_and_type name).1
 
 -- the number of bytes of a sample of a color type in memory
 abbrev pub inner_size : ColorTypeName → ℕ

@@ -21,10 +21,10 @@ pub record Written : Type 0 where
 
 -- a fresh writer over a sink that contains these bytes, after some failed writes of the sink
 abbrev pub new_writer : List ℕ → ℕ → Written
-new_writer told failures =
+new_writer contents failures =
     record {
-      bytes = told;
-      at = length told;
+      bytes = contents;
+      at = length contents;
       fault = None;
       failures = failures;
       last = 0;

@@ -5,7 +5,7 @@ pub mod color_visitor;
 mod colors;
 pub mod colortype;
 pub mod compression;
-pub mod differences;
+pub mod horizontal_predictor;
 mod fractions;
 mod grays;
 mod names;

@@ -11,7 +11,7 @@ ghost use Rattle.tiff_value.specs.Packed.{PackedRowsFit, PackedRowsUnpack, Packe
 ghost use Rattle.tiff_value.specs.Values.{IsValue};
 
 use crate::encoder::colortype::{ColorType, ColorTypeName, NamedColorType};
-use crate::encoder::differences::Sample;
+use crate::encoder::horizontal_predictor::Sample;
 use crate::encoder::tiff_value::{TiffScalar, TiffValue};
 
 /// The number of bytes of values is the count times the size of the type.

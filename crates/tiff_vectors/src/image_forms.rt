@@ -121,7 +121,7 @@ fn put<T: Drop>(items: &mut Vec<T>, item: T) -> TiffResult<()> {
 
 // Drops a value. Lists of jobs and of replies are dropped here, because in a function that isn't
 // generic the drop takes long to prove.
-fn let_go<T: Drop>(_value: T) {}
+fn drop_value<T: Drop>(_value: T) {}
 
 // Adds the steps that cut an image in a form.
 fn add_steps(steps: &mut Vec<ImageStep<'_>>, form: Form) -> TiffResult<()> {
@@ -192,7 +192,7 @@ fn written<K: TiffKind>(alloc: Global, jobs: &[Job<'_>]) -> TiffResult<(bool, Ve
     let mut replies = Vec::new(alloc);
     let sink = run_jobs::<MemorySink, K>(alloc, empty_sink(alloc), jobs, &mut replies);
     let done = are_done(&replies);
-    let_go(replies);
+    drop_value(replies);
     Ok((done, sink?.into_vec()))
 }
 
@@ -228,7 +228,7 @@ fn kept<K: TiffKind>(alloc: Global, color: Color, shape: Shape) -> TiffResult<St
         Ok(()) => read_back::<K>(alloc, &jobs, &wanted),
         Err(fault) => Err(fault),
     };
-    let_go(jobs);
+    drop_value(jobs);
     told
 }
 

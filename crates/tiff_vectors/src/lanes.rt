@@ -8,7 +8,7 @@ use std::process::Abort;
 use tiff_base::error::TiffResult;
 use tiff_base::tags::{ByteOrder, Type};
 use tiff_page::predictors::invert;
-use tiff_value::encoder::differences::Sample;
+use tiff_value::encoder::horizontal_predictor::Sample;
 
 // A number for each place of a row, of many bits.
 fn number(place: usize) -> u64 {

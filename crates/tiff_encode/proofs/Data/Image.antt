@@ -15,18 +15,18 @@ use Rattle.tiff_value.specs.ColorTypes.{Family, count_of, color_type, inner_size
 use Rattle.tiff_page.specs.Page.{PageRecord}
 use Rattle.tiff_page.specs.Layout.{color_from, color_of}
 use Rattle.tiff_encode.specs.FileBytes.{offset_len}
-use Rattle.tiff_encode.specs.Model.{Model, IsLink, Stands}
+use Rattle.tiff_encode.specs.Model.{Model, IsLink, FileContains}
 use Rattle.tiff_encode.specs.WriteOps.{all_appended}
 use Rattle.tiff_encode.specs.Laws.{OpsFit}
 use Rattle.tiff_encode.specs.Machine.{FileState, OpenImage, WriteOutcome}
-use Rattle.tiff_encode.specs.Drawn.{IsDrawn}
+use Rattle.tiff_encode.specs.Drawn.{IsValidImage}
 use Rattle.tiff_encode.specs.Chunks.{all_samples, shown_page, parts_left}
 use Rattle.tiff_encode.specs.Causes.{end_of}
 use Rattle.tiff_encode.specs.Calls.{Offsets, finish_image, new_image, write_image_data}
-use Rattle.tiff_encode.specs.Ends.{EndsAsDefined, IsTornOff}
+use Rattle.tiff_encode.specs.Ends.{EndsAsDefined, LinkWriteFailed}
 use Rattle.tiff_encode.specs.Shows.{shown_columns, Shows}
 use Rattle.tiff_encode.specs.Held.{image_with}
-use Rattle.tiff_encode.specs.Open.{HoldsOpen, model_by}
+use Rattle.tiff_encode.specs.Open.{RecordsImage, model_by}
 use Rattle.tiff_encode.specs.ImageData.{image_of_samples, WritesImageData, WritesImage, IsShortFile, AreNumbers, LeavesImage, LeavesNewImage, PartsShow, ImageLeaves}
 use Rattle.tiff_encode.proofs.Slices.{ok_inj, some_inj}
 use Rattle.tiff_encode.proofs.WriteOps.{ops_stand, ops_grow, link_kept}
@@ -64,11 +64,11 @@ few_shown i c offsets byte_counts color h =
 
 -- the page shows the samples if the parts of the chunks show them
 pub shown_whole : PartsShow → (kind : FileKind) (file : List ℕ) (offset : ℕ) (i : OpenImage) (samples : List ℕ) (m : Model)
-    → HoldsOpen kind m i [] → i.chunks ≡ [] → Shows kind file offset (image_with i (parts_left i samples))
+    → RecordsImage kind m i [] → i.chunks ≡ [] → Shows kind file offset (image_with i (parts_left i samples))
     → Shows kind file offset (image_of_samples i samples)
 shown_whole show kind file offset i samples m h none s =
     let o = h.open_so in
-    let drawn : IsDrawn i.width i.height (length i.color.bits) (length i.extra) i.form =
+    let drawn : IsValidImage i.width i.height (length i.color.bits) (length i.extra) i.form =
     record { wide = o.wide; high = o.high; few = o.few; cut = o.form } in
     let is_of : IsOf i.color i.size = is_of_family i o.name o.color o.size in
     let width : shown_columns s.page s.color ≡ i.width = columns_shown i is_of o.wide o.form o.pixels s.page s.color s.is_image s.is_color in
@@ -127,11 +127,11 @@ module _ (color : ColorTypeRecord) (size width height : ℕ) (old : FileState) (
     entries_are : AreEntries i.directory.fields
     entries_are = begun_fits.1
 
-    model_stands : Stands old.kind old.bytes m → Stands mid.kind mid.bytes model
+    model_stands : FileContains old.kind old.bytes m → FileContains mid.kind mid.bytes model
     model_stands s =
         let d = adding_done begins old (new_adding color size width height old) in
-        subst (λ kind. Stands kind mid.bytes model) (sym begun_kind)
-        (subst (λ b. Stands old.kind b model) (sym (ap (λ s. s.bytes) begun.state ∙ d.bytes))
+        subst (λ kind. FileContains kind mid.bytes model) (sym begun_kind)
+        (subst (λ b. FileContains old.kind b model) (sym (ap (λ s. s.bytes) begun.state ∙ d.bytes))
         (ops_stand old.kind old.bytes m begins.ops s begun_fits.0))
 
     parent_links : IsLink old.kind m old.chain → (offset : ℕ) → i.directory.parent ≡ Some offset → IsLink mid.kind model offset
@@ -145,7 +145,7 @@ module _ (color : ColorTypeRecord) (size width height : ℕ) (old : FileState) (
 
 -- a file in which the sink fails at a link is at least as long as before
 torn_longer : (i : OpenImage) (samples : List ℕ) (stored : List (List ℕ)) (e : TiffError) (old new : FileState)
-    → IsTornOff (write_image_data i samples stored old).ops e old new → end_of old ≤ end_of new
+    → LinkWriteFailed (write_image_data i samples stored old).ops e old new → end_of old ≤ end_of new
 torn_longer i samples stored e old new t =
     let more : List ℕ = all_appended old.kind t.before in
     let over : List ℕ = take t.count (le (offset_len old.kind) t.target) in
@@ -165,7 +165,7 @@ written_longer i samples old new w =
 
 module _ (parts_show : PartsShow) (color : ColorTypeRecord) (size width height : ℕ) (samples : List ℕ) (old new : FileState) (m : Model)
     (wide : width < 2 ^ 32) (high : height < 2 ^ 32)
-    (small : AreNumbers size samples) (short : IsShortFile new) (stands : Stands old.kind old.bytes m) (link : IsLink old.kind m old.chain)
+    (small : AreNumbers size samples) (short : IsShortFile new) (stands : FileContains old.kind old.bytes m) (link : IsLink old.kind m old.chain)
     (i : OpenImage) (mid : FileState) (begun : EndsAsDefined (new_image color size width height old) (Ok i) mid) where
   abbrev first_model : Model
   first_model = model_by old m (new_image color size width height old)
@@ -177,9 +177,9 @@ module _ (parts_show : PartsShow) (color : ColorTypeRecord) (size width height :
       let r : Result A TiffError = Err e in
       elim (data_stopped A i samples e mid new h) as (λ _. LeavesNewImage color size width height samples r old new m) [
         | inl x ↦ inl (
-            let s : Stands old.kind mid.bytes m = begun_stands color size width height old i mid begun m stands in
+            let s : FileContains old.kind mid.bytes m = begun_stands color size width height old i mid begun m stands in
             let k : mid.kind ≡ old.kind = begun_kind color size width height old i mid begun in
-            subst (λ kind. Stands kind new.bytes m) k (x m (subst (λ kind. Stands kind mid.bytes m) (sym k) s)))
+            subst (λ kind. FileContains kind new.bytes m) k (x m (subst (λ kind. FileContains kind mid.bytes m) (sym k) s)))
         | inr t ↦ inr (
             let longer = torn_longer i samples t.0 e mid new t.1 in
             let near : end_of mid < 2 ^ 64 = omega (arith, longer, short) in (
@@ -215,17 +215,17 @@ module _ (parts_show : PartsShow) (color : ColorTypeRecord) (size width height :
     told = write_image_data i samples w.stored mid
 
     -- the model after the changes of the call describes the file
-    all_stands : Stands mid.kind new.bytes (model_by mid first_model told)
+    all_stands : FileContains mid.kind new.bytes (model_by mid first_model told)
     all_stands =
         data_stands i samples w.stored w.offsets mid new first_model (entries_are color size width height old i mid begun m mid_short) short
         (model_stands color size width height old i mid begun m mid_short stands)
         (parent_links color size width height old i mid begun m mid_short link) w.told
 
     -- the model contains the image
-    image_held : (name : ColorTypeName) → color ≡ color_type name → size ≡ inner_size name → HoldsOpen old.kind first_model i []
+    image_held : (name : ColorTypeName) → color ≡ color_type name → size ≡ inner_size name → RecordsImage old.kind first_model i []
     image_held name c s =
         let P : ColorTypeRecord → ℕ → Type 0 = λ x n. (new_image x n width height old).answer ≡ Ok i
-        → HoldsOpen old.kind (model_by old m (new_image x n width height old)) i [] in
+        → RecordsImage old.kind (model_by old m (new_image x n width height old)) i [] in
         let named : P (color_type name) (inner_size name) = begins_open old m name width height i wide high in
         subst (λ x. P x size) (sym c) (subst (λ n. P (color_type name) n) (sym s) named) begun.answer
 
@@ -233,10 +233,10 @@ module _ (parts_show : PartsShow) (color : ColorTypeRecord) (size width height :
     image_shown : (name : ColorTypeName) → color ≡ color_type name → size ≡ inner_size name
         → Shows old.kind new.bytes w.offsets.pointer (image_of_samples i samples)
     image_shown name c s =
-        let held : HoldsOpen old.kind first_model i [] = image_held name c s in
+        let held : RecordsImage old.kind first_model i [] = image_held name c s in
         let here : Shows mid.kind new.bytes w.offsets.pointer (image_with i (parts_left i samples)) =
         data_shows i samples mid new w first_model short all_stands [] image_small
-        (subst (λ kind. HoldsOpen kind first_model i []) (sym same_kind) held) in
+        (subst (λ kind. RecordsImage kind first_model i []) (sym same_kind) held) in
         shown_whole parts_show old.kind new.bytes w.offsets.pointer i samples first_model held
         (no_chunks color size width height old i mid begun)
         (subst (λ kind. Shows kind new.bytes w.offsets.pointer (image_with i (parts_left i samples))) same_kind here)
@@ -298,7 +298,7 @@ module _ (parts_show : PartsShow) (color : ColorTypeRecord) (size width height :
       told = w.told;
       after = model_by mid first_model told;
       after_is = refl;
-      stands = subst (λ kind. Stands kind new.bytes (model_by mid first_model told)) same_kind all_stands;
+      stands = subst (λ kind. FileContains kind new.bytes (model_by mid first_model told)) same_kind all_stands;
       open_so = λ name c s. (image_held name c s).open_so;
       shows = image_shown;
       next = image_next;
@@ -310,7 +310,7 @@ module _ (parts_show : PartsShow) (color : ColorTypeRecord) (size width height :
 pub new_image_leaves : PartsShow → {A : Type 0} (color : ColorTypeRecord) (size width height : ℕ) (samples : List ℕ) (r : Result A TiffError)
     (old new : FileState) (m : Model) → width < 2 ^ 32 → height < 2 ^ 32
     → AreNumbers size samples → IsShortFile new
-    → Stands old.kind old.bytes m → IsLink old.kind m old.chain
+    → FileContains old.kind old.bytes m → IsLink old.kind m old.chain
     → WritesImage color size width height samples r old new → LeavesNewImage color size width height samples r old new m
 new_image_leaves show {A = A} color size width height samples (Ok x) old new m wide high small short stands link h =
     elim h as (λ _. LeavesNewImage {A = A} color size width height samples (Ok x) old new m) [

@@ -7,14 +7,14 @@ use Rattle.tiff_base.specs.Field.{AreEntries}
 use Rattle.tiff_base.specs.Number.{le}
 use Rattle.tiff_base.specs.SourceAndSink.{put}
 use Rattle.tiff_encode.specs.FileBytes.{offset_len}
-use Rattle.tiff_encode.specs.Model.{Model, IsLink, Stands, with_link}
+use Rattle.tiff_encode.specs.Model.{Model, IsLink, FileContains, with_link}
 use Rattle.tiff_encode.specs.WriteOps.{Linked, bytes_after, all_appended, model_after}
 use Rattle.tiff_encode.specs.Laws.{AreAppending, OpsFit}
 use Rattle.tiff_encode.specs.Machine.{FileState, OpenImage, WriteOutcome}
 use Rattle.tiff_encode.specs.Chunks.{parts_left}
 use Rattle.tiff_encode.specs.Causes.{end_of, write_image_data_cause}
 use Rattle.tiff_encode.specs.Calls.{Offsets, write_chunks, write_image_data}
-use Rattle.tiff_encode.specs.Ends.{EndsAsDefined, IsTornOff, CallFails}
+use Rattle.tiff_encode.specs.Ends.{EndsAsDefined, LinkWriteFailed, CallFails}
 use Rattle.tiff_encode.specs.Leaves.{LeavesTorn}
 use Rattle.tiff_encode.specs.Stored.{AreStored}
 use Rattle.tiff_encode.specs.Open.{model_by}
@@ -32,7 +32,7 @@ use Rattle.tiff_encode.proofs.Data.Chunks.{chunks_adding, data_patches, data_fit
 
 -- each model that describes a file describes a later file
 abbrev pub StillStands : FileState → FileState → Type 0
-StillStands old new = (m : Model) → Stands old.kind old.bytes m → Stands old.kind new.bytes m
+StillStands old new = (m : Model) → FileContains old.kind old.bytes m → FileContains old.kind new.bytes m
 
 -- after an append, each model that describes the file before describes the file after it
 pub appended_stands : {A : Type 0} (told : WriteOutcome A) (old new : FileState) → IsDone told old → AreAppending told.ops → new ≡ told.next
@@ -44,9 +44,9 @@ appended_stands told old new d a n m s =
 
 -- after a call fails, the earlier model describes the file, or the sink fails at the parent's link
 pub patched_fails : {A : Type 0} (parent : Option ℕ) (told : WriteOutcome A) (e : TiffError) (old new : FileState) → Patches parent told old
-    → CallFails told e old new → StillStands old new ⊎ IsTornOff told.ops e old new
+    → CallFails told e old new → StillStands old new ⊎ LinkWriteFailed told.ops e old new
 patched_fails parent told e old new p h =
-    elim h as (λ _. StillStands old new ⊎ IsTornOff told.ops e old new) [
+    elim h as (λ _. StillStands old new ⊎ LinkWriteFailed told.ops e old new) [
       | inl t ↦ inl (appended_stands told old new p.done (p.refused e t.answer) t.state)
       | inr h ↦ elim h [
         | inl c ↦ inl (λ m s. begun_leaves told.ops c.count old new.bytes m (ap (λ f. f.bytes) c.state) s)
@@ -60,7 +60,7 @@ patched_fails parent told e old new p h =
 -- the sink fails while it writes the parent's link
 module _ {A : Type 0} (parent : Option ℕ) (told : WriteOutcome A) (e : TiffError) (old new : FileState) (m : Model) (p : Patches parent told old)
     (f : Fits told old m (λ _. Unit {0})) (l : (offset : ℕ) → parent ≡ Some offset → IsLink old.kind m offset) (short : IsShortFile new)
-    (s : Stands old.kind old.bytes m) (t : IsTornOff told.ops e old new) where
+    (s : FileContains old.kind old.bytes m) (t : LinkWriteFailed told.ops e old new) where
   -- the changes before the parent's link append
   torn_before : AreAppending t.before
   torn_before =
@@ -100,17 +100,17 @@ module _ {A : Type 0} (parent : Option ℕ) (told : WriteOutcome A) (e : TiffErr
       record {
         torn = t;
         holds = x.0;
-        stands = subst (λ b. Stands old.kind b (with_link old.kind (model_after old.kind old.bytes m t.before) t.offset x.0))
+        stands = subst (λ b. FileContains old.kind b (with_link old.kind (model_after old.kind old.bytes m t.before) t.offset x.0))
             (sym (ap (λ f. f.bytes) t.state)) x.1;
       }
 
 -- after a call succeeds, the model with its changes describes the file
 pub patched_stands : {A : Type 0} (parent : Option ℕ) (told : WriteOutcome A) (x : A) (old new : FileState) (m : Model) → Patches parent told old
-    → Fits told old m (λ _. Unit {0}) → IsShortFile new → Stands old.kind old.bytes m → EndsAsDefined told (Ok x) new
-    → Stands old.kind new.bytes (model_by old m told)
+    → Fits told old m (λ _. Unit {0}) → IsShortFile new → FileContains old.kind old.bytes m → EndsAsDefined told (Ok x) new
+    → FileContains old.kind new.bytes (model_by old m told)
 patched_stands parent told x old new m p f short s t =
     let fit = f x t.answer (subst (λ file. end_of file < 2 ^ 64) t.state short) in
-    subst (λ b. Stands old.kind b (model_by old m told)) (sym (ap (λ file. file.bytes) t.state ∙ p.done.bytes))
+    subst (λ b. FileContains old.kind b (model_by old m told)) (sym (ap (λ file. file.bytes) t.state ∙ p.done.bytes))
     (ops_stand old.kind old.bytes m told.ops s fit.0)
 
 -- ---- `write_data`
@@ -118,7 +118,7 @@ patched_stands parent told x old new m p f short s t =
 -- the earlier model describes the file, or the sink fails at the parent's link
 abbrev pub Stopped : OpenImage → List ℕ → TiffError → FileState → FileState → Type 0
 Stopped i samples e old new =
-    StillStands old new ⊎ ((stored : List (List ℕ)) × IsTornOff (write_image_data i samples stored old).ops e old new)
+    StillStands old new ⊎ ((stored : List (List ℕ)) × LinkWriteFailed (write_image_data i samples stored old).ops e old new)
 
 -- if `write_data` stops within the chunks, the earlier model describes the file
 pub within_stands : (i : OpenImage) (parts : List (List ℕ)) (e : TiffError) (old new : FileState) → StopsWithin i parts e old new → StillStands old new
@@ -136,7 +136,7 @@ within_stands i parts e old new h =
 
 stopped_by : (A : Type 0) (cause : Option TiffError) (i : OpenImage) (samples : List ℕ) (e : TiffError) (old new : FileState)
     → (let r : Result A TiffError = Err e in WritesDataBy cause i samples r old new) → Stopped i samples e old new
-stopped_by A (Some c) i samples e old new h = inl (λ m s. subst (λ b. Stands old.kind b m) (sym (ap (λ f. f.bytes) h.1)) s)
+stopped_by A (Some c) i samples e old new h = inl (λ m s. subst (λ b. FileContains old.kind b m) (sym (ap (λ f. f.bytes) h.1)) s)
 stopped_by A None i samples e old new h =
     elim h as (λ _. Stopped i samples e old new) [
       | inl w ↦ (let told : WriteOutcome Offsets = write_image_data i samples w.0 old in
@@ -153,9 +153,9 @@ pub data_stopped : (A : Type 0) (i : OpenImage) (samples : List ℕ) (e : TiffEr
 data_stopped A i samples e old new h = stopped_by A (write_image_data_cause old i (length samples)) i samples e old new h
 
 pub data_torn : (i : OpenImage) (samples : List ℕ) (stored : List (List ℕ)) (e : TiffError) (old new : FileState) (m : Model)
-    → AreEntries i.directory.fields → IsShortFile new → Stands old.kind old.bytes m
+    → AreEntries i.directory.fields → IsShortFile new → FileContains old.kind old.bytes m
     → ((offset : ℕ) → i.directory.parent ≡ Some offset → IsLink old.kind m offset)
-    → IsTornOff (write_image_data i samples stored old).ops e old new → LeavesTorn (write_image_data i samples stored old) e old new m
+    → LinkWriteFailed (write_image_data i samples stored old).ops e old new → LeavesTorn (write_image_data i samples stored old) e old new m
 data_torn i samples stored e old new m a short s p t =
     patched_torn i.directory.parent (write_image_data i samples stored old) e old new m
     (data_patches i samples stored old) (data_fits i samples stored old m a p) p short s t
@@ -191,10 +191,10 @@ pub data_written : (A : Type 0) (i : OpenImage) (samples : List ℕ) (x : A) (ol
 data_written A i samples x old new h = written_by A (write_image_data_cause old i (length samples)) i samples x old new refl h
 
 pub data_stands : (i : OpenImage) (samples : List ℕ) (stored : List (List ℕ)) (offsets : Offsets) (old new : FileState) (m : Model)
-    → AreEntries i.directory.fields → IsShortFile new → Stands old.kind old.bytes m
+    → AreEntries i.directory.fields → IsShortFile new → FileContains old.kind old.bytes m
     → ((offset : ℕ) → i.directory.parent ≡ Some offset → IsLink old.kind m offset)
     → EndsAsDefined (write_image_data i samples stored old) (Ok offsets) new
-    → Stands old.kind new.bytes (model_by old m (write_image_data i samples stored old))
+    → FileContains old.kind new.bytes (model_by old m (write_image_data i samples stored old))
 data_stands i samples stored offsets old new m a short s p t =
     patched_stands i.directory.parent (write_image_data i samples stored old) offsets old new m
     (data_patches i samples stored old) (data_fits i samples stored old m a p) short s t

@@ -13,7 +13,7 @@ use Rattle.tiff_page.specs.Pixels.{planar_or}
 use Rattle.tiff_page.specs.Rect.{across, chunks_of_plane}
 use Rattle.tiff_encode.specs.Causes.{image_samples}
 use Rattle.tiff_encode.specs.Chunks.{all_samples, image_page, is_tile, is_planar, is_in_order, is_left, chunk_rows, row_samples, chunk_samples, next_chunk_sample_count}
-use Rattle.tiff_encode.specs.Drawn.{IsDrawn}
+use Rattle.tiff_encode.specs.Drawn.{IsValidImage}
 use Rattle.tiff_encode.specs.Machine.{OpenImage}
 use Rattle.tiff_encode.proofs.ImageState.{strip_rows}
 use Rattle.tiff_encode.proofs.ImageState.{one_part}
@@ -45,7 +45,7 @@ rows_within k c size n row rows l b e =
     let d : (k * size + rows) * row ≡ k * size * row + rows * row = omega arith in
     omega (arith, m, d)
 
-module _ (i : OpenImage) (drawn : IsDrawn i.width i.height (length i.color.bits) (length i.extra) i.form)
+module _ (i : OpenImage) (drawn : IsValidImage i.width i.height (length i.color.bits) (length i.extra) i.form)
     (order : is_in_order i.form ≡ true) where
   strip : i.form.chunk_type ≡ Strip
   strip = strip_of i.form.chunk_type i.form.planar order
@@ -67,7 +67,7 @@ module _ (i : OpenImage) (drawn : IsDrawn i.width i.height (length i.color.bits)
   all = (let e : parts i.height i.form.chunk_height * 1 ≡ parts i.height i.form.chunk_height = omega arith in
       (λ j. of_plane j * planes_of (chunky j) (all_samples i)) ∙ e)
 
-module _ (i : OpenImage) (drawn : IsDrawn i.width i.height (length i.color.bits) (length i.extra) i.form)
+module _ (i : OpenImage) (drawn : IsValidImage i.width i.height (length i.color.bits) (length i.extra) i.form)
     (order : is_in_order i.form ≡ true) (left : is_left i ≡ true) where
   abbrev p : PageRecord
   p = image_page i

@@ -8,7 +8,7 @@ use Rattle.tiff_encode.specs.Chunks.{image_page, chunk_samples}
 use Rattle.tiff_encode.specs.Causes.{end_of, write_chunk_cause}
 use Rattle.tiff_encode.specs.Calls.{with_chunk, appends_chunk, write_chunk, write_chunks}
 use Rattle.tiff_encode.specs.Stored.{unpacked_chunk, AreStored}
-use Rattle.tiff_encode.specs.Open.{HoldsOpen, model_by}
+use Rattle.tiff_encode.specs.Open.{RecordsImage, model_by}
 use Rattle.tiff_encode.proofs.Slices.{ok_inj}
 use Rattle.tiff_encode.proofs.Open.Chunks.{chunk_keeps_open}
 use Rattle.tiff_encode.proofs.Joining.{adding}
@@ -76,11 +76,11 @@ chunks_last i (part ∷ parts) (bytes ∷ stored) last file l h =
 pub chunks_held : (i last : OpenImage) (parts stored : List (List ℕ)) (file : FileState) (m : Model) (before : List (List ℕ))
     → length stored ≡ length parts → AreStored i parts stored
     → AreReady (chunk_samples (image_page i)) (256 ^ i.size) (length i.chunks) parts
-    → HoldsOpen file.kind m i before → end_of (write_chunks i parts stored file).next < 2 ^ 64
+    → RecordsImage file.kind m i before → end_of (write_chunks i parts stored file).next < 2 ^ 64
     → (write_chunks i parts stored file).answer ≡ Ok last
-    → HoldsOpen file.kind (model_by file m (write_chunks i parts stored file)) last (before ++ parts)
+    → RecordsImage file.kind (model_by file m (write_chunks i parts stored file)) last (before ++ parts)
 chunks_held i last [] stored file m before l s r h short a =
-    subst (λ xs. HoldsOpen file.kind m last xs) (sym (append-nil before)) (subst (λ j. HoldsOpen file.kind m j before) (ok_inj i last a) h)
+    subst (λ xs. RecordsImage file.kind m last xs) (sym (append-nil before)) (subst (λ j. RecordsImage file.kind m j before) (ok_inj i last a) h)
 chunks_held i last (part ∷ parts) [] file m before l s r h short a = absurd (omega (arith, l))
 chunks_held i last (part ∷ parts) (bytes ∷ stored) file m before l s r h short a =
     let call : WriteCall OpenImage = write_chunk i (length part) bytes in
@@ -94,7 +94,7 @@ chunks_held i last (part ∷ parts) (bytes ∷ stored) file m before l s r h sho
     let rest : end_of (write_chunks next parts stored mid).next < 2 ^ 64 = subst (λ told. end_of told.next < 2 ^ 64) first.1.1 short in
     let longer = done_longer (write_chunks next parts stored mid) mid (chunks_done next parts stored mid) in
     let sum = chunk_longer i next (length part) bytes file first.1.0 in
-    let held : HoldsOpen file.kind n next (before ++ part ∷ []) =
+    let held : RecordsImage file.kind n next (before ++ part ∷ []) =
     chunk_keeps_open file m i next before part bytes h r.0.1 r.0.0 s.0 (omega (arith, rest, longer, sum)) (omega (arith, rest, longer, sum)) first.1.0 in
     let many : length next.chunks ≡ length i.chunks + 1 = ap (λ j. length j.chunks) (sym is) ∙ length-append i.chunks _ in
     let ready : AreReady (chunk_samples (image_page next)) (256 ^ next.size) (length next.chunks) parts =
@@ -104,13 +104,13 @@ chunks_held i last (part ∷ parts) (bytes ∷ stored) file m before l s r h sho
     let stored_so : AreStored next parts stored =
     subst (λ j. AreStored j parts stored) is (stored_more i (end_of file) (length bytes) parts stored s.1) in
     let all = chunks_held next last parts stored mid n (before ++ part ∷ []) (omega (arith, l)) stored_so ready
-    (subst (λ kind. HoldsOpen kind n next (before ++ part ∷ [])) (sym same) held) rest
+    (subst (λ kind. RecordsImage kind n next (before ++ part ∷ [])) (sym same) held) rest
     (ap (λ told. told.answer) (sym first.1.1) ∙ a) in
-    let P : Model → Type 0 = λ x. HoldsOpen file.kind x last (before ++ part ∷ parts) in
+    let P : Model → Type 0 = λ x. RecordsImage file.kind x last (before ++ part ∷ parts) in
     let more : List (List ℕ) = before ++ part ∷ [] in
     let joined : model_by file m (write_chunks i (part ∷ parts) (bytes ∷ stored) file) ≡ model_by mid n (write_chunks next parts stored mid) =
     ap (λ told. model_by file m told) first.1.1
     ∙ behind_model (call file) (write_chunks next parts stored mid) file m (adding_done (call file) file adds) in
     subst P (sym joined)
-    (subst (λ kind. HoldsOpen kind (model_by mid n (write_chunks next parts stored mid)) last (before ++ part ∷ parts)) same
-    (subst (λ xs. HoldsOpen mid.kind (model_by mid n (write_chunks next parts stored mid)) last xs) (append_assoc before (part ∷ []) parts) all))
+    (subst (λ kind. RecordsImage kind (model_by mid n (write_chunks next parts stored mid)) last (before ++ part ∷ parts)) same
+    (subst (λ xs. RecordsImage mid.kind (model_by mid n (write_chunks next parts stored mid)) last xs) (append_assoc before (part ∷ []) parts) all))

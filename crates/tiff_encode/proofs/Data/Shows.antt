@@ -4,14 +4,14 @@ use Rattle.tiff_base.specs.declared.error.TiffError.{TiffError}
 use Rattle.tiff_base.specs.declared.tags.FileKind.{FileKind}
 use Rattle.tiff_base.specs.Field.{AreEntries}
 use Rattle.tiff_page.specs.Counts.{all_chunks}
-use Rattle.tiff_encode.specs.Model.{Model, IsLink, Stands}
+use Rattle.tiff_encode.specs.Model.{Model, IsLink, FileContains}
 use Rattle.tiff_encode.specs.Machine.{FileState, Chunk, OpenImage, WriteOutcome, WriteCall, after_ops, by_cause, ◌>>=◌}
 use Rattle.tiff_encode.specs.Chunks.{image_page, is_left, parts_left, sample_in}
 use Rattle.tiff_encode.specs.Causes.{end_of, write_image_data_cause}
 use Rattle.tiff_encode.specs.Calls.{Offsets, finish_image, write_image_data}
 use Rattle.tiff_encode.specs.Shows.{Shows}
 use Rattle.tiff_encode.specs.Held.{image_with}
-use Rattle.tiff_encode.specs.Open.{HoldsOpen, model_by}
+use Rattle.tiff_encode.specs.Open.{RecordsImage, model_by}
 use Rattle.tiff_encode.specs.ImageData.{AreNumbers, IsShortFile, WritesImageData, LeavesWhole, LeavesData}
 use Rattle.tiff_encode.proofs.PageTold.Page.{page_told}
 use Rattle.tiff_encode.proofs.Shown.Images.{images_show_by}
@@ -84,16 +84,16 @@ module _ (i : OpenImage) (samples : List ℕ) (old new : FileState) (w : IsWritt
     abbrev between : Model
     between = model_by old m (chunks old)
 
-    pub last_held : (before : List (List ℕ)) → AreNumbers i.size samples → HoldsOpen old.kind m i before
-        → HoldsOpen mid.kind between last (before ++ parts_left i samples)
+    pub last_held : (before : List (List ℕ)) → AreNumbers i.size samples → RecordsImage old.kind m i before
+        → RecordsImage mid.kind between last (before ++ parts_left i samples)
     last_held before small h =
         let done = chunks_done i (parts_left i samples) w.stored old in
-        subst (λ kind. HoldsOpen kind between last (before ++ parts_left i samples)) (sym done.kind)
+        subst (λ kind. RecordsImage kind between last (before ++ parts_left i samples)) (sym done.kind)
         (chunks_held i last (parts_left i samples) w.stored old m before w.all w.are_stored
         (left_ready i samples old (length samples) w.uncaused h.open_so.form small) h (mid_short short) data_ended.1.0)
 
-    pub data_shows : Stands old.kind new.bytes (model_by old m told) → (before : List (List ℕ)) → AreNumbers i.size samples
-        → HoldsOpen old.kind m i before
+    pub data_shows : FileContains old.kind new.bytes (model_by old m told) → (before : List (List ℕ)) → AreNumbers i.size samples
+        → RecordsImage old.kind m i before
         → Shows old.kind new.bytes w.offsets.pointer (image_with i (before ++ parts_left i samples))
     data_shows s before small h =
         let all : List (List ℕ) = before ++ parts_left i samples in
@@ -102,9 +102,9 @@ module _ (i : OpenImage) (samples : List ℕ) (old new : FileState) (w : IsWritt
         let bytes : new.bytes ≡ end.next.bytes = ap (λ file. file.bytes) w.told.state ∙ ap (λ t. t.next.bytes) data_ended.1.1 in
         let model : model_by old m told ≡ model_by mid between end =
         ap (λ t. model_by old m t) data_ended.1.1 ∙ behind_model (chunks old) end old m done in
-        let stands : Stands mid.kind end.next.bytes (model_by mid between end) =
-        subst (λ kind. Stands kind end.next.bytes (model_by mid between end)) (sym done.kind)
-        (subst (λ b. Stands old.kind b (model_by mid between end)) bytes (subst (λ x. Stands old.kind new.bytes x) model s)) in
+        let stands : FileContains mid.kind end.next.bytes (model_by mid between end) =
+        subst (λ kind. FileContains kind end.next.bytes (model_by mid between end)) (sym done.kind)
+        (subst (λ b. FileContains old.kind b (model_by mid between end)) bytes (subst (λ x. FileContains old.kind new.bytes x) model s)) in
         let answer : end.answer ≡ Ok w.offsets = ap (λ t. t.answer) (sym data_ended.1.1) ∙ w.told.answer in
         let shown : Shows mid.kind end.next.bytes w.offsets.pointer (image_with last all) =
         ends_shown_by (images_show_by page_told) mid between last all w.offsets (last_held before small h) none_left answer stands in
@@ -119,7 +119,7 @@ module _ (i : OpenImage) (samples : List ℕ) (old new : FileState) (w : IsWritt
 
 -- `write_data` succeeds
 pub data_done : (i : OpenImage) (samples : List ℕ) (old new : FileState) (m : Model) → AreEntries i.directory.fields
-    → AreNumbers i.size samples → IsShortFile new → Stands old.kind old.bytes m
+    → AreNumbers i.size samples → IsShortFile new → FileContains old.kind old.bytes m
     → ((offset : ℕ) → i.directory.parent ≡ Some offset → IsLink old.kind m offset)
     → IsWritten i samples old new → LeavesWhole i samples old new m
 data_done i samples old new m a small short s p w =
@@ -133,7 +133,7 @@ data_done i samples old new m a small short s p w =
     }
 
 pub data_leaves : {A : Type 0} (i : OpenImage) (samples : List ℕ) (r : Result A TiffError) (old new : FileState) (m : Model)
-    → AreEntries i.directory.fields → AreNumbers i.size samples → IsShortFile new → Stands old.kind old.bytes m
+    → AreEntries i.directory.fields → AreNumbers i.size samples → IsShortFile new → FileContains old.kind old.bytes m
     → ((offset : ℕ) → i.directory.parent ≡ Some offset → IsLink old.kind m offset)
     → WritesImageData i samples r old new → LeavesData i samples r old new m
 data_leaves {A = A} i samples (Ok x) old new m a small short s p h = data_done i samples old new m a small short s p (data_written A i samples x old new h)

@@ -5,12 +5,12 @@ use Rattle.tiff_base.specs.declared.error.TiffError.{TiffError}
 use Rattle.tiff_base.specs.declared.error.TiffError.TheVariants.{UsageError}
 use Rattle.tiff_base.specs.declared.error.UsageError.TheVariants.{InvalidChunkType, WriterFailed}
 use Rattle.tiff_base.specs.Field.{AreEntries}
-use Rattle.tiff_encode.specs.Model.{Model, Stands}
+use Rattle.tiff_encode.specs.Model.{Model, FileContains}
 use Rattle.tiff_encode.specs.Machine.{FileState, OpenImage, WriteOutcome, WriteCall, by_cause}
 use Rattle.tiff_encode.specs.Chunks.{is_tile}
 use Rattle.tiff_encode.specs.Causes.{unless_failed, end_of, chunk_cause, write_chunk_cause, write_strip_cause}
 use Rattle.tiff_encode.specs.Calls.{appends_chunk, write_chunk, write_strip}
-use Rattle.tiff_encode.specs.Ends.{EndsAsDefined, IsCutOff, CallFails}
+use Rattle.tiff_encode.specs.Ends.{EndsAsDefined, AppendFailed, CallFails}
 use Rattle.tiff_encode.specs.CallLaws.{CallFits}
 use Rattle.tiff_encode.specs.ImageData.{LeavesChunk}
 use Rattle.tiff_encode.specs.Storing.{WritesStoredChunk}
@@ -37,7 +37,7 @@ module _ {A : Type 0} (call other : OpenImage → ℕ → List ℕ → WriteCall
           s.1.0,
           elim s.1.1 [
             | inl t ↦ inl (subst (λ t. EndsAsDefined t (Err e) new) (same s.0) t)
-            | inr c ↦ inr (subst (λ (t : WriteOutcome OpenImage). IsCutOff t.ops e old new) (same s.0) c)
+            | inr c ↦ inr (subst (λ (t : WriteOutcome OpenImage). AppendFailed t.ops e old new) (same s.0) c)
           ],
         ),
       )
@@ -89,11 +89,11 @@ strip_adding i count stored file =
 module _ (call : OpenImage → ℕ → List ℕ → WriteCall OpenImage) (i : OpenImage) (samples : List ℕ) (old new : FileState) (next : OpenImage) (m : Model)
     (adds : (stored : List ℕ) → IsAdding (call i (length samples) stored old) old)
     (fits : (stored : List ℕ) → CallFits (λ i. call i (length samples) stored))
-    (entries : AreEntries i.directory.fields) (short : end_of new < 2 ^ 64) (s : Stands old.kind old.bytes m) where
+    (entries : AreEntries i.directory.fields) (short : end_of new < 2 ^ 64) (s : FileContains old.kind old.bytes m) where
   left_by : {A : Type 0} (cause : Option TiffError) (r : Result A TiffError) → WritesStoredChunk call cause i samples r old new next
       → LeavesChunk call i samples r old new next m
   left_by (Some c) (Ok x) h = absurd cc
-  left_by (Some c) (Err e) h = subst (λ f. Stands old.kind f.bytes m) (sym h.1.1) s
+  left_by (Some c) (Err e) h = subst (λ f. FileContains old.kind f.bytes m) (sym h.1.1) s
   left_by None (Ok x) h =
       let stored : List ℕ = h.0 in
       let t : EndsAsDefined (call i (length samples) stored old) (Ok next) new = h.1.1 in
@@ -110,8 +110,8 @@ module _ (call : OpenImage → ℕ → List ℕ → WriteCall OpenImage) (i : Op
         ),
       )
   left_by None (Err e) h =
-      elim h.1 as (λ _. Stands old.kind new.bytes m) [
-        | inl z ↦ subst (λ f. Stands old.kind f.bytes m) (sym z.1) s
+      elim h.1 as (λ _. FileContains old.kind new.bytes m) [
+        | inl z ↦ subst (λ f. FileContains old.kind f.bytes m) (sym z.1) s
         | inr w ↦ (let view : OpenImage → OpenImage = λ j. j in
             let r : Result OpenImage TiffError = Err e in
             let told : WriteOutcome OpenImage = call i (length samples) w.0 old in
@@ -123,7 +123,7 @@ module _ (call : OpenImage → ℕ → List ℕ → WriteCall OpenImage) (i : Op
 
 -- what a call leaves that writes a chunk or a strip
 module _ {A : Type 0} (i : OpenImage) (samples : List ℕ) (old new : FileState) (next : OpenImage) (m : Model) (cause : Option TiffError) (r : Result A TiffError)
-    (entries : AreEntries i.directory.fields) (short : end_of new < 2 ^ 64) (s : Stands old.kind old.bytes m) where
+    (entries : AreEntries i.directory.fields) (short : end_of new < 2 ^ 64) (s : FileContains old.kind old.bytes m) where
   pub chunk_left : WritesStoredChunk write_chunk cause i samples r old new next → LeavesChunk write_chunk i samples r old new next m
   unfolding write_chunk
   chunk_left h =

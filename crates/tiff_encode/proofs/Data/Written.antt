@@ -14,7 +14,7 @@ use Rattle.tiff_encode.specs.Calls.{Offsets, with_chunk, appends_chunk, finish_i
 use Rattle.tiff_encode.specs.Causes.{unless_ended, image_samples, is_past_chunks, write_chunk_cause, write_image_data_cause}
 use Rattle.tiff_encode.specs.Chunks.{image_page, row_samples, chunk_samples, is_begun, is_in_order, chunks_left, cut_out, part, parts_left}
 use Rattle.tiff_encode.specs.WriteOps.{WriteOp, all_appended}
-use Rattle.tiff_encode.specs.Ends.{EndsAsDefined, IsCutOff, IsShortOfMemory, HasBegun, CallFails, Ends}
+use Rattle.tiff_encode.specs.Ends.{EndsAsDefined, AppendFailed, IsShortOfMemory, HasBegun, CallFails, Ends}
 use Rattle.tiff_encode.specs.ImageData.{StopsWithin, WritesChunks, WritesDataBy, WritesImageData}
 use Rattle.tiff_encode.specs.Machine.{FileState, Chunk, OpenImage, WriteOutcome, WriteCall, gives, answers, by_cause, and_then, ◌>>=◌}
 use Rattle.tiff_encode.specs.Parts.{next_part, WritesPart}
@@ -98,12 +98,12 @@ stored_more i (p ∷ ps) (x ∷ xs) samples others s h a b = (a.0, stored_more i
 -- If the first call succeeds and the sink fails in the second call, the sink fails in both.
 cut_after : {A B : Type 0} (rest : A → WriteCall B) (r : Result A TiffError) (ops : List WriteOp) (next : FileState) (x : A) (e : TiffError)
     (old mid new : FileState) → next ≡ file_with_bytes old (all_appended old.kind ops) → r ≡ Ok x → mid ≡ next
-    → IsCutOff (rest x mid).ops e mid new → IsCutOff (and_then r ops next rest).ops e old new
+    → AppendFailed (rest x mid).ops e mid new → AppendFailed (and_then r ops next rest).ops e old new
 cut_after {A} rest r ops next x e old mid new n a m h =
     let more : List WriteOp = (rest x next).ops in
-    let at_next : IsCutOff more e mid new = subst (λ f. IsCutOff (rest x f).ops e mid new) m h in
-    let c : IsCutOff more e (file_with_bytes old (all_appended old.kind ops)) new = subst (λ f. IsCutOff more e f new) (m ∙ n) at_next in
-    let done : IsCutOff (ops ++ more) e old new = record {
+    let at_next : AppendFailed more e mid new = subst (λ f. AppendFailed (rest x f).ops e mid new) m h in
+    let c : AppendFailed more e (file_with_bytes old (all_appended old.kind ops)) new = subst (λ f. AppendFailed more e f new) (m ∙ n) at_next in
+    let done : AppendFailed (ops ++ more) e old new = record {
       fresh = c.fresh;
       fault = c.fault;
       answer = c.answer;
@@ -111,7 +111,7 @@ cut_after {A} rest r ops next x e old mid new n a m h =
       within = (let w = c.within in let l = appended_len old.kind ops more in omega (arith, w, l));
       state = c.state ∙ ap (λ bytes. record old { bytes = bytes; failures = old.failures + 1; fault = Some c.fault }) (begun_both old.kind old.bytes ops more c.count);
     } in
-    let P : Result A TiffError → Type 0 = λ q. IsCutOff (and_then q ops next rest).ops e old new in
+    let P : Result A TiffError → Type 0 = λ q. AppendFailed (and_then q ops next rest).ops e old new in
     subst P (sym a) done
 
 -- If the first call succeeds and no memory is available for the second call, both run out of
@@ -234,10 +234,10 @@ module _ (i : OpenImage) (samples : List ℕ) where
             | inl t ↦ (h.stored ++ s ∷ [], (more_are s done.1.0, inl (told_more s (Err e) t)))
             | inr c ↦
                 (let told : WriteOutcome OpenImage = write_chunks i parts h.stored old in
-                let cut : IsCutOff (rest s now mid).ops e mid new = subst (λ (xs : List ℕ). IsCutOff (write_chunk now (length xs) s mid).ops e mid new) same_part c in
+                let cut : AppendFailed (rest s now mid).ops e mid new = subst (λ (xs : List ℕ). AppendFailed (write_chunk now (length xs) s mid).ops e mid new) same_part c in
                 let both = cut_after (rest s) told.answer told.ops told.next now e old mid new (chunks_adding i parts h.stored old).next h.told.answer h.told.state cut in (
                   h.stored ++ s ∷ [],
-                  (more_are s done.1.0, inr (inl (subst (λ (told : WriteOutcome OpenImage). IsCutOff told.ops e old new) (sym (joined s)) both))),
+                  (more_are s done.1.0, inr (inl (subst (λ (told : WriteOutcome OpenImage). AppendFailed told.ops e old new) (sym (joined s)) both))),
                 ))
           ])
     ]

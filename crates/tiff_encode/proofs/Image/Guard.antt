@@ -2,7 +2,7 @@
 use Rattle.std.proofs.Common.{◌≡◌, ℕ, ◌^◌, ◌<◌, None, Result, Ok, Err, ap, ◌∙◌, subst}
 use Rattle.tiff_base.specs.declared.error.TiffError.{TiffError}
 use Rattle.tiff_value.specs.ColorType.{ColorTypeRecord}
-use Rattle.tiff_encode.specs.Model.{Model, Stands}
+use Rattle.tiff_encode.specs.Model.{Model, FileContains}
 use Rattle.tiff_encode.specs.Laws.{OpsFit}
 use Rattle.tiff_encode.specs.Machine.{FileState, OpenDirectory, OpenImage, WriteCall, gives, ◌>>=◌}
 use Rattle.tiff_encode.specs.Causes.{end_of, new_image_cause}
@@ -46,7 +46,7 @@ module _ (color : ColorTypeRecord) (size width height : ℕ) where
 
   -- what `new_image` leaves in the file
   pub new_left : {X : Type 0} (view : X → OpenImage) (r : Result X TiffError) (old new : FileState) (m : Model)
-      → (new.fault ≡ None → end_of new < 2 ^ 64) → Stands old.kind old.bytes m
+      → (new.fault ≡ None → end_of new < 2 ^ 64) → FileContains old.kind old.bytes m
       → Ends view (new_image color size width height old) r old new → Leaves (new_image color size width height old) r old new m
   new_left view r old new m short s e =
       left_so view (new_image color size width height old) r old new m (adding (new_image color size width height old) old (new_adds old))
@@ -54,7 +54,7 @@ module _ (color : ColorTypeRecord) (size width height : ℕ) where
 
   -- what `new_image` leaves if it fails
   pub new_left_err : (e : TiffError) (old new : FileState) (m : Model) → CallFails (new_image color size width height old) e old new
-      → Stands old.kind old.bytes m → Stands old.kind new.bytes m
+      → FileContains old.kind old.bytes m → FileContains old.kind new.bytes m
   new_left_err e old new m h s =
       let view : OpenImage → OpenImage = λ i. i in
       left_so view (new_image color size width height old) (Err e) old new m (adding (new_image color size width height old) old (new_adds old))

@@ -3,11 +3,11 @@ use Rattle.std.proofs.Common.{◌≡◌, ℕ, ◌^◌, ◌<◌, Bool, true, List
 use Rattle.std.specs.Prelude.{OnErr}
 use Rattle.tiff_base.specs.declared.error.TiffError.{TiffError}
 use Rattle.tiff_encode.specs.declared.encoder.script.StepReply.{StepReply}
-use Rattle.tiff_encode.specs.Model.{Model, Stands, Grows}
+use Rattle.tiff_encode.specs.Model.{Model, FileContains, Grows}
 use Rattle.tiff_encode.specs.Machine.{FileState, OpenImage, WriteCall}
 use Rattle.tiff_encode.specs.Ends.{Ends}
 use Rattle.tiff_encode.specs.Leaves.{Leaves}
-use Rattle.tiff_encode.specs.Open.{HoldsOpen, KeepsOpen}
+use Rattle.tiff_encode.specs.Open.{RecordsImage, KeepsOpen}
 use Rattle.tiff_encode.specs.Jobs as jobs
 use Rattle.tiff_encode.specs.Jobs.{FileAndModel, Drawn}
 use Rattle.tiff_encode.specs.Stepping.{DrawMoves}
@@ -34,15 +34,15 @@ changed call i j (Err f) s t o e = (o, e)
 -- the image stays held after the call
 kept_changed : (call : OpenImage → WriteCall OpenImage) (i j : OpenImage) (r : Result (Unit {0}) TiffError) (s t : FileAndModel) (samples : List (List ℕ))
     → KeepsOpen call → OnErr r (j ≡ i) → Grows s.model t.model → Seen (λ _. j) (call i s.file) r s t
-    → HoldsOpen s.file.kind s.model i samples → HoldsOpen s.file.kind t.model j samples
+    → RecordsImage s.file.kind s.model i samples → RecordsImage s.file.kind t.model j samples
 kept_changed call i j (Ok x) s t samples k o g e h =
-    subst (λ m. HoldsOpen s.file.kind m j samples) (sym e.model) (k s.file s.model i j samples h e.ended.answer)
+    subst (λ m. RecordsImage s.file.kind m j samples) (sym e.model) (k s.file s.model i j samples h e.ended.answer)
 kept_changed call i j (Err f) s t samples k o g e h =
-    subst (λ n. HoldsOpen s.file.kind t.model n samples) (sym o) (grown_open s.file.kind s.model t.model i samples h g)
+    subst (λ n. RecordsImage s.file.kind t.model n samples) (sym o) (grown_open s.file.kind s.model t.model i samples h g)
 
 pub call_draws : (call : OpenImage → WriteCall OpenImage) (i j : OpenImage) (r : Result (Unit {0}) TiffError) (old new : FileState)
     → IsAdding (call i old) old → KeepsOpen call → OnErr r (j ≡ i) → Ends (λ _. j) (call i old) r old new
-    → ((m : Model) → Stands old.kind old.bytes m → Leaves (call i old) r old new m) → CallDraws call i (reply_to r) old new j
+    → ((m : Model) → FileContains old.kind old.bytes m → Leaves (call i old) r old new m) → CallDraws call i (reply_to r) old new j
 call_draws call i j r old new a k o e l known s before q f =
     let led = moves_so (λ _. j) (call i) r old new a e l known s q f in
     let t : FileAndModel = led.0 in
@@ -71,7 +71,7 @@ keeps_open (Measure u) a = resolutions_keep_open.1.1.1 u
 
 -- a call of the table ends as specified and leaves a file that the model describes
 pub setting_draws : (s : Setting) (i j : OpenImage) (r : Result (Unit {0}) TiffError) (old new : FileState) → IsAllowed s → OnErr r (j ≡ i)
-    → Ends (λ _. j) (call_of s i old) r old new → ((m : Model) → Stands old.kind old.bytes m → Leaves (call_of s i old) r old new m)
+    → Ends (λ _. j) (call_of s i old) r old new → ((m : Model) → FileContains old.kind old.bytes m → Leaves (call_of s i old) r old new m)
     → CallDraws (call_of s) i (reply_to r) old new j
 setting_draws s i j r old new a o e l = call_draws (call_of s) i j r old new (setting_adding s i old) (keeps_open s a) o e l
 

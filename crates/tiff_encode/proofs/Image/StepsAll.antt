@@ -6,9 +6,9 @@ use Rattle.tiff_base.specs.declared.error.TiffError.{TiffError}
 use Rattle.tiff_encode.specs.declared.encoder.script.ImageStep.{ImageStep}
 use Rattle.tiff_encode.specs.declared.encoder.script.StepReply.{StepReply}
 use Rattle.tiff_encode.specs.Machine.{FileState, OpenImage}
-use Rattle.tiff_encode.specs.Open.{HoldsOpen}
+use Rattle.tiff_encode.specs.Open.{RecordsImage}
 use Rattle.tiff_encode.specs.Jobs.{FileAndModel, Drawn, ImageStepped, AllStepped, is_apart, are_apart}
-use Rattle.tiff_encode.specs.Stepping.{StepDraws, StepsDraw}
+use Rattle.tiff_encode.specs.Stepping.{KeepsImage, StepsDraw}
 use Rattle.tiff_encode.proofs.Image.Fits.{both}
 use Rattle.tiff_encode.proofs.Image.Steps.{asked}
 use Rattle.tiff_encode.proofs.Moving.{grows_on}
@@ -36,7 +36,7 @@ none_drawn i file =
 -- one more step, behind the steps that are done
 pub next_drawn : (i j k : OpenImage) (old mid new : FileState) (steps : List ImageStep) (step : ImageStep) (n : ℕ)
     (rs : List (Result StepReply TiffError)) (r : Result StepReply TiffError) → mid.kind ≡ old.kind → n < length steps → step ≡ get_or steps n step
-    → StepsDraw i (take n steps) rs old mid j → StepDraws j step r mid new k → StepsDraw i (take (n + 1) steps) (rs ++ r ∷ []) old new k
+    → StepsDraw i (take n steps) rs old mid j → KeepsImage j step r mid new k → StepsDraw i (take (n + 1) steps) (rs ++ r ∷ []) old new k
 next_drawn i j k old mid new steps step n rs r same l v f g known s before q p =
     let x = f known s before q p in
     let m : FileAndModel = x.0 in
@@ -50,8 +50,8 @@ next_drawn i j k old mid new steps step n rs r same l v f g known s before q p =
     all_next ImageStepped s m t first next last steps step n rs r l v done y.1.1.1.0 in
     let more : take (n + 1) steps ≡ take n steps ++ step ∷ [] = take_more steps n step l ∙ ap (λ x. take n steps ++ x ∷ []) (sym v) in
     let kind : m.file.kind ≡ s.file.kind = ap (λ f. f.kind) x.1.1.0 ∙ same ∙ ap (λ f. f.kind) (sym q) in
-    let held : are_apart (take (n + 1) steps) (rs ++ r ∷ []) ≡ true → HoldsOpen s.file.kind s.model i before → HoldsOpen s.file.kind t.model k y.1.0 =
+    let held : are_apart (take (n + 1) steps) (rs ++ r ∷ []) ≡ true → RecordsImage s.file.kind s.model i before → RecordsImage s.file.kind t.model k y.1.0 =
     λ a h. (let parts = apart_more s m first next (take n steps) step rs r done (subst (λ xs. are_apart xs (rs ++ r ∷ []) ≡ true) more a) in
-    let middle : HoldsOpen m.file.kind m.model j x.1.0 = subst (λ kind. HoldsOpen kind m.model j x.1.0) (sym kind) (x.1.1.1.1.1.1 parts.0 h) in
-    subst (λ kind. HoldsOpen kind t.model k y.1.0) kind (y.1.1.1.1.1.1 parts.1 middle)) in
+    let middle : RecordsImage m.file.kind m.model j x.1.0 = subst (λ kind. RecordsImage kind m.model j x.1.0) (sym kind) (x.1.1.1.1.1.1 parts.0 h) in
+    subst (λ kind. RecordsImage kind t.model k y.1.0) kind (y.1.1.1.1.1.1 parts.1 middle)) in
     (t, (y.1.0, (y.1.1.0, (all, (y.1.1.1.1.0, (grows_on s.model m.model t.model x.1.1.1.1.1.0 y.1.1.1.1.1.0, held))))))

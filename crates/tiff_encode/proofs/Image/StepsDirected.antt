@@ -15,10 +15,10 @@ use Rattle.tiff_encode.specs.Model.{Grows}
 use Rattle.tiff_encode.specs.Machine.{FileState, OpenDirectory, OpenImage, WriteCall}
 use Rattle.tiff_encode.specs.Calls.{with_directory_of, write_tag, write_tag_buf, extend_from}
 use Rattle.tiff_encode.specs.JobValues.{value_data, buffer_in}
-use Rattle.tiff_encode.specs.Open.{HoldsOpen, model_by}
+use Rattle.tiff_encode.specs.Open.{RecordsImage, model_by}
 use Rattle.tiff_encode.specs.Jobs as jobs
 use Rattle.tiff_encode.specs.Jobs.{FileAndModel, DirectoryStepped, is_apart}
-use Rattle.tiff_encode.specs.Stepping.{Moves, StepDraws}
+use Rattle.tiff_encode.specs.Stepping.{Moves, KeepsImage}
 use Rattle.tiff_base.specs.Tags.{tag_number}
 use Rattle.tiff_base.specs.declared.tags.Tag.{Tag}
 use Rattle.tiff_page.specs.Checks.{is_page_tag}
@@ -37,10 +37,10 @@ few_none p (x ∷ xs) (suc k) h =
     let each = neither (p x) (list_any p xs) h in
     ap (λ b. b || list_any p (take k xs)) each.0 ∙ few_none p xs k each.1
 
-module _ (i : OpenImage) (s t : FileAndModel) (samples : List (List ℕ)) (g : Grows s.model t.model) (h : HoldsOpen s.file.kind s.model i samples) where
+module _ (i : OpenImage) (s t : FileAndModel) (samples : List (List ℕ)) (g : Grows s.model t.model) (h : RecordsImage s.file.kind s.model i samples) where
   -- the model holds the image with a directory
   abbrev With : OpenDirectory → Type 0
-  With d = HoldsOpen s.file.kind t.model (with_directory_of i d) samples
+  With d = RecordsImage s.file.kind t.model (with_directory_of i d) samples
 
   same_with : (d : OpenDirectory) → d ≡ i.directory → With d
   same_with d e = subst With (sym e) (grown_open s.file.kind s.model t.model i samples h g)
@@ -48,10 +48,10 @@ module _ (i : OpenImage) (s t : FileAndModel) (samples : List (List ℕ)) (g : G
   -- a step that writes a tag keeps the image held
   tag_with : (n : Tag) (call : WriteCall OpenDirectory) (r : Result StepReply TiffError) (d : OpenDirectory)
       → ((x : StepReply) → r ≡ Ok x → is_page_tag (tag_number n) ≡ false)
-      → ((is_page_tag (tag_number n) ≡ false) → (call s.file).answer ≡ Ok d → HoldsOpen s.file.kind (model_by s.file s.model (call s.file)) (with_directory_of i d) samples)
+      → ((is_page_tag (tag_number n) ≡ false) → (call s.file).answer ≡ Ok d → RecordsImage s.file.kind (model_by s.file s.model (call s.file)) (with_directory_of i d) samples)
       → jobs.Changes call i.directory r s t d → With d
   tag_with n call (Ok reply.Nothing) d a k c =
-      subst (λ m. HoldsOpen s.file.kind m (with_directory_of i d) samples) (sym c.model) (k (a reply.Nothing refl) c.ended.answer)
+      subst (λ m. RecordsImage s.file.kind m (with_directory_of i d) samples) (sym c.model) (k (a reply.Nothing refl) c.ended.answer)
   tag_with n call (Ok (reply.Number x)) d a k c = absurd c
   tag_with n call (Ok (reply.Written x)) d a k c = absurd c
   tag_with n call (Err e) d a k c = same_with d c.0
@@ -65,7 +65,7 @@ module _ (i : OpenImage) (s t : FileAndModel) (samples : List (List ℕ)) (g : G
   -- a step that copies fields keeps the image held
   fields_with : (fields : List (ℕ × Field)) → list_any (λ entry. is_page_tag entry.0) fields ≡ false → t ≡ s → With (extend_from i.directory fields)
   fields_with fields a e =
-      subst (λ m. HoldsOpen s.file.kind m (with_directory_of i (extend_from i.directory fields)) samples) (sym (ap (λ x. x.model) e))
+      subst (λ m. RecordsImage s.file.kind m (with_directory_of i (extend_from i.directory fields)) samples) (sym (ap (λ x. x.model) e))
       (fields_keep_open s.file.kind s.model i samples fields h a)
 
   extended_with : (fields : List (ℕ × Field)) (r : Result StepReply TiffError) (d : OpenDirectory)
@@ -97,7 +97,7 @@ module _ (i : OpenImage) (s t : FileAndModel) (samples : List (List ℕ)) (g : G
 -- a step of an image's directory is a step of the image
 pub directed : (i j : OpenImage) (step : DirectoryStep) (r : Result StepReply TiffError) (old new : FileState)
     → j ≡ with_directory_of i j.directory → Moves (λ s t. DirectoryStepped s i.directory step r t j.directory) old new
-    → StepDraws i (istep.Directory step) r old new j
+    → KeepsImage i (istep.Directory step) r old new j
 directed i j step r old new w m known s before q k =
     let moved = m known s q k in
     let t : FileAndModel = moved.0 in
@@ -114,7 +114,7 @@ directed i j step r old new w m known s before q k =
               moved.1.1.1.0,
               (
                 grows,
-                λ a h. subst (λ n. HoldsOpen s.file.kind t.model n before) (sym w) (directed_with i s t before grows h step r j.directory a done),
+                λ a h. subst (λ n. RecordsImage s.file.kind t.model n before) (sym w) (directed_with i s t before grows h step r j.directory a done),
               ),
             ),
           ),

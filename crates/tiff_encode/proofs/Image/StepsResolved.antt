@@ -11,16 +11,16 @@ use Rattle.tiff_base.specs.Field.{AreEntries}
 use Rattle.tiff_base.specs.Tags.{tag_number}
 use Rattle.tiff_value.specs.Data.{FieldData, Scalars, units, rationals, data_of}
 use Rattle.tiff_page.specs.Checks.{is_page_tag}
-use Rattle.tiff_encode.specs.Model.{Model, Stands, Grows}
+use Rattle.tiff_encode.specs.Model.{Model, FileContains, Grows}
 use Rattle.tiff_encode.specs.WriteOps.{all_appended}
 use Rattle.tiff_encode.specs.Laws.{AreAppending}
 use Rattle.tiff_encode.specs.Machine.{FileState, OpenDirectory, OpenImage, WriteOutcome, gives, and_then, ◌>>=◌}
 use Rattle.tiff_encode.specs.Causes.{end_of, resolution_cause}
 use Rattle.tiff_encode.specs.Calls.{write_tags, with_directory_of, with_tags, resolution_tags, resolution}
-use Rattle.tiff_encode.specs.Ends.{EndsAsDefined, IsCutOff, IsShortOfMemory, CallFails, Ends}
+use Rattle.tiff_encode.specs.Ends.{EndsAsDefined, AppendFailed, IsShortOfMemory, CallFails, Ends}
 use Rattle.tiff_encode.specs.Leaves.{Leaves}
 use Rattle.tiff_encode.specs.Tagging.{write_fields, fields_of, StopsInPart, StopsResolving}
-use Rattle.tiff_encode.specs.Open.{HoldsOpen, model_by}
+use Rattle.tiff_encode.specs.Open.{RecordsImage, model_by}
 use Rattle.tiff_encode.specs.Jobs as jobs
 use Rattle.tiff_encode.specs.Jobs.{FileAndModel, IsCutShort, IsWithoutMemory}
 use Rattle.tiff_encode.specs.Stepping.{StandsIfKnown}
@@ -115,7 +115,7 @@ module _ (u : ResolutionUnit) (value : ℕ × ℕ) where
 
     -- the sink fails, or the call runs out of memory
     abbrev Stops : Type 0
-    Stops = IsCutOff (with_tags image (drop k tags) mid).ops e mid new ⊎ IsShortOfMemory (with_tags image (drop k tags) mid) e mid new
+    Stops = AppendFailed (with_tags image (drop k tags) mid).ops e mid new ⊎ IsShortOfMemory (with_tags image (drop k tags) mid) e mid new
 
     stops : resolution_cause old ≡ None → Stops
     stops c =
@@ -135,7 +135,7 @@ record IsLonger (mid new : FileState) : Type 0 where
   kind : new.kind ≡ mid.kind
   longer : end_of mid ≤ end_of new
 
-longer_by : (told : WriteOutcome OpenImage) (e : TiffError) (mid new : FileState) → IsCutOff told.ops e mid new ⊎ IsShortOfMemory told e mid new → IsLonger mid new
+longer_by : (told : WriteOutcome OpenImage) (e : TiffError) (mid new : FileState) → AppendFailed told.ops e mid new ⊎ IsShortOfMemory told e mid new → IsLonger mid new
 longer_by told e mid new (inl x) =
     let l : end_of new ≡ length (mid.bytes ++ take x.count (all_appended mid.kind told.ops)) = ap (λ f. end_of f) x.state in
     record { kind = ap (λ f. f.kind) x.state; longer = omega (arith, l, length-append mid.bytes (take x.count (all_appended mid.kind told.ops))) }
@@ -143,15 +143,15 @@ longer_by told e mid new (inr x) =
     let l : end_of new ≡ length (mid.bytes ++ take x.count (all_appended mid.kind told.ops)) = ap (λ f. end_of f) x.state in
     record { kind = ap (λ f. f.kind) x.state; longer = omega (arith, l, length-append mid.bytes (take x.count (all_appended mid.kind told.ops))) }
 
-either_fails : (told : WriteOutcome OpenImage) (e : TiffError) (mid new : FileState) → IsCutOff told.ops e mid new ⊎ IsShortOfMemory told e mid new
+either_fails : (told : WriteOutcome OpenImage) (e : TiffError) (mid new : FileState) → AppendFailed told.ops e mid new ⊎ IsShortOfMemory told e mid new
     → CallFails told e mid new
 either_fails told e mid new (inl x) = inr (inl x)
 either_fails told e mid new (inr x) = inr (inr (inr x))
 
 -- what the file contains after two calls of an image, the second of which fails
 stands_after : (one two : WriteOutcome OpenImage) (j : OpenImage) (e : TiffError) (old mid new : FileState) (m : Model) → EndsAsDefined one (Ok j) mid
-    → IsAdding one old → IsAdding two mid → Fits one old m (λ j. Unit {0}) → IsCutOff two.ops e mid new ⊎ IsShortOfMemory two e mid new
-    → end_of new < 2 ^ 64 → Stands old.kind old.bytes m → Stands new.kind new.bytes (model_by old m one)
+    → IsAdding one old → IsAdding two mid → Fits one old m (λ j. Unit {0}) → AppendFailed two.ops e mid new ⊎ IsShortOfMemory two e mid new
+    → end_of new < 2 ^ 64 → FileContains old.kind old.bytes m → FileContains new.kind new.bytes (model_by old m one)
 stands_after one two j e old mid new m told a b f x short s =
     let view : OpenImage → OpenImage = λ n. n in
     let n : Model = model_by old m one in
@@ -159,11 +159,11 @@ stands_after one two j e old mid new m told a b f x short s =
     let longer = l.longer in
     let end : end_of one.next ≡ end_of mid = ap (λ f. end_of f) (sym told.state) in
     let same : mid.kind ≡ old.kind = ap (λ f. f.kind) (told.state ∙ a.next) in
-    let first : Stands old.kind mid.bytes n =
+    let first : FileContains old.kind mid.bytes n =
     left_so view one (Ok j) old mid m a (λ y _. (f j told.answer (omega (arith, end, longer, short))).0) s told in
-    let then_ : Stands mid.kind mid.bytes n = subst (λ kind. Stands kind mid.bytes n) (sym same) first in
+    let then_ : FileContains mid.kind mid.bytes n = subst (λ kind. FileContains kind mid.bytes n) (sym same) first in
     let last : Result OpenImage TiffError = Err e in
-    subst (λ kind. Stands kind new.bytes n) (sym l.kind)
+    subst (λ kind. FileContains kind new.bytes n) (sym l.kind)
     (left_so view two last mid new n b (λ y q. absurd (no_answer q)) then_ (either_fails two e mid new x))
 
 module _ (u : ResolutionUnit) (value : ℕ × ℕ) (i j : OpenImage) (e : TiffError) (new : FileState)
@@ -174,7 +174,7 @@ module _ (u : ResolutionUnit) (value : ℕ × ℕ) (i j : OpenImage) (e : TiffEr
       (t : FileAndModel) × ((after : List (List ℕ)) × ((t.file ≡ new)
       × (((after ≡ before) × jobs.ResolvesInPart i (resolution_tags u value) e s t j)
       × (StandsIfKnown known t × (Grows s.model t.model
-      × (true ≡ true → HoldsOpen s.file.kind s.model i before → HoldsOpen s.file.kind t.model j after))))))
+      × (true ≡ true → RecordsImage s.file.kind s.model i before → RecordsImage s.file.kind t.model j after))))))
 
   in_part : (known : Bool) (s : FileAndModel) (before : List (List ℕ)) → StandsIfKnown known s → resolution_cause s.file ≡ None
       → (d : OpenDirectory) → j ≡ with_directory_of i d → StopsInPart i.directory (fields_of (resolution_tags u value)) e s.file new d
@@ -197,7 +197,7 @@ module _ (u : ResolutionUnit) (value : ℕ × ℕ) (i j : OpenImage) (e : TiffEr
       let part : jobs.ResolvesInPart i all e s t (with_directory_of i d) = (c, (k, (p.1.0, (middle, (record { ended = told; model = refl }, failed))))) in
       let stands : StandsIfKnown known t = λ y. stands_after one two (with_directory_of i d) e s.file mid new s.model told
       (with_adding i (take k all) s.file) (with_adding (with_directory_of i d) (drop k all) mid) (λ x h l. ((row_fits (tagged (λ f. None) (take k all)) (few_short k all refl) (λ j d e. e) i s.file s.model a x h l).0, tt)) stop short (q y) in
-      let kept : HoldsOpen s.file.kind s.model i before → HoldsOpen s.file.kind m (with_directory_of i d) before = λ h.
+      let kept : RecordsImage s.file.kind s.model i before → RecordsImage s.file.kind m (with_directory_of i d) before = λ h.
       with_tags_kept (λ f. None) (take k all) (few_none (λ v. is_page_tag (tag_number v.0)) all k refl) s.file s.model i (with_directory_of i d) before h told.answer in (
         t,
         (
@@ -206,7 +206,7 @@ module _ (u : ResolutionUnit) (value : ℕ × ℕ) (i j : OpenImage) (e : TiffEr
             refl,
             (
               (refl, subst (λ n. jobs.ResolvesInPart i all e s t n) (sym w) part),
-              (stands, (ops_grow s.file.kind s.file.bytes s.model one.ops, λ _ h. subst (λ n. HoldsOpen s.file.kind m n before) (sym w) (kept h))),
+              (stands, (ops_grow s.file.kind s.file.bytes s.model one.ops, λ _ h. subst (λ n. RecordsImage s.file.kind m n before) (sym w) (kept h))),
             ),
           ),
         ),
@@ -216,7 +216,7 @@ module _ (u : ResolutionUnit) (value : ℕ × ℕ) (i j : OpenImage) (e : TiffEr
 pub resolution_draws : (i j : OpenImage) (u : ResolutionUnit) (value : ℕ × ℕ) (r : Result (Unit {0}) TiffError) (old new : FileState)
     → AreEntries i.directory.fields → end_of new < 2 ^ 64
     → IfErr r (λ e. StopsResolving i u value e old new j) → Ends (λ _. j) (resolution i u value old) r old new
-    → ((m : Model) → Stands old.kind old.bytes m → Leaves (resolution i u value old) r old new m)
+    → ((m : Model) → FileContains old.kind old.bytes m → Leaves (resolution i u value old) r old new m)
     → ResolutionDraws i u value (reply_to r) old new j
 resolution_draws i j u value (Ok x) old new a short p e l =
     call_draws (λ i. resolution i u value) i j (Ok x) old new (setting_adding (Both u value) i old) (resolutions_keep_open.0 u value) tt e l

@@ -3,13 +3,13 @@ use Rattle.std.proofs.Common.{◌≡◌, ℕ, ◌-◌, ◌^◌, ◌%◌, ◌<◌
 use Rattle.tiff_base.specs.declared.error.TiffError.{TiffError}
 use Rattle.tiff_base.specs.declared.error.TiffError.TheVariants.{OutOfMemory}
 use Rattle.tiff_encode.specs.declared.encoder.script.StepReply.{StepReply}
-use Rattle.tiff_encode.specs.Model.{Model, Stands, Grows}
+use Rattle.tiff_encode.specs.Model.{Model, FileContains, Grows}
 use Rattle.tiff_encode.specs.Machine.{FileState, OpenImage, WriteOutcome, WriteCall, by_cause}
 use Rattle.tiff_encode.specs.Causes.{end_of, write_chunk_cause, write_strip_cause}
 use Rattle.tiff_encode.specs.Calls.{with_chunk, appends_chunk, write_chunk, write_strip}
-use Rattle.tiff_encode.specs.Ends.{EndsAsDefined, IsCutOff}
+use Rattle.tiff_encode.specs.Ends.{EndsAsDefined, AppendFailed}
 use Rattle.tiff_encode.specs.ImageData.{LeavesChunk}
-use Rattle.tiff_encode.specs.Open.{HoldsOpen, model_by}
+use Rattle.tiff_encode.specs.Open.{RecordsImage, model_by}
 use Rattle.tiff_encode.specs.Stored.{IsChunkStored}
 use Rattle.tiff_encode.specs.Storing.{WritesStoredChunk}
 use Rattle.tiff_encode.specs.JobValues.{cut_to}
@@ -59,10 +59,10 @@ pub record IsStoring (call : OpenImage → ℕ → List ℕ → WriteCall OpenIm
   pub within : (i next : OpenImage) (n : ℕ) (stored : List ℕ) (file : FileState) → (call i n stored file).answer ≡ Ok next
       → length stored ≤ end_of (call i n stored file).next
   pub keeps : (file : FileState) (m : Model) (i next : OpenImage) (samples : List (List ℕ)) (numbers stored : List ℕ)
-      → HoldsOpen file.kind m i samples → ((n : ℕ) → get_or numbers n 0 < 256 ^ i.size) → length numbers < 2 ^ 64 - 1
+      → RecordsImage file.kind m i samples → ((n : ℕ) → get_or numbers n 0 < 256 ^ i.size) → length numbers < 2 ^ 64 - 1
       → IsChunkStored i stored numbers → end_of file < 2 ^ 64 → length stored < 2 ^ 64
       → (call i (length numbers) stored file).answer ≡ Ok next
-      → HoldsOpen file.kind (model_by file m (call i (length numbers) stored file)) next (samples ++ numbers ∷ [])
+      → RecordsImage file.kind (model_by file m (call i (length numbers) stored file)) next (samples ++ numbers ∷ [])
 
 pub strips_store : IsStoring write_strip
 unfolding write_strip
@@ -93,12 +93,12 @@ module _ (call : OpenImage → ℕ → List ℕ → WriteCall OpenImage) (c : Is
       (t : FileAndModel) × ((after : List (List ℕ)) × ((t.file ≡ new)
       × (StoresIfFound call cause (record { image = i; samples = before }) numbers (reply_to r) s t (record { image = j; samples = after })
       × (StandsIfKnown known t × (Grows s.model t.model
-      × (true ≡ true → HoldsOpen s.file.kind s.model i before → HoldsOpen s.file.kind t.model j after))))))
+      × (true ≡ true → RecordsImage s.file.kind s.model i before → RecordsImage s.file.kind t.model j after))))))
 
   -- the chunk is stored as the given bytes
   stored_so : (x : Unit {0}) (known : Bool) (s : FileAndModel) (before : List (List ℕ)) (stored : List ℕ) → end_of s.file < 2 ^ 64
       → IsChunkStored i stored numbers → EndsAsDefined (call i (length numbers) stored s.file) (Ok j) new
-      → (known ≡ true → Stands s.file.kind new.bytes (model_by s.file s.model (call i (length numbers) stored s.file)))
+      → (known ≡ true → FileContains s.file.kind new.bytes (model_by s.file s.model (call i (length numbers) stored s.file)))
       → Stored None (Ok x) known s before
   stored_so x known s before stored near is told stands =
       let does : WriteOutcome OpenImage = call i (length numbers) stored s.file in
@@ -116,7 +116,7 @@ module _ (call : OpenImage → ℕ → List ℕ → WriteCall OpenImage) (c : Is
             (
               (refl, inl (stored, (is, record { ended = told; model = refl }))),
               (
-                λ q. subst (λ kind. Stands kind new.bytes m) (sym same) (stands q),
+                λ q. subst (λ kind. FileContains kind new.bytes m) (sym same) (stands q),
                 (grows, λ _ h. c.keeps s.file s.model i j before numbers stored h small few is near less told.answer),
               ),
             ),
@@ -132,15 +132,15 @@ module _ (call : OpenImage → ℕ → List ℕ → WriteCall OpenImage) (c : Is
     s,
     (
       before,
-      (sym q, (said, (k, (grows_here s.model, λ _ h. subst (λ n. HoldsOpen s.file.kind s.model n before) (sym o) h)))),
+      (sym q, (said, (k, (grows_here s.model, λ _ h. subst (λ n. RecordsImage s.file.kind s.model n before) (sym o) h)))),
     ),
   )
 
   -- the call is refused, or the sink fails
   stopped : (e : TiffError) (known : Bool) (s : FileAndModel) (before : List (List ℕ)) (stored : List ℕ) → j ≡ i
       → IsChunkStored i stored numbers
-      → EndsAsDefined (call i (length numbers) stored s.file) (Err e) new ⊎ IsCutOff (call i (length numbers) stored s.file).ops e s.file new
-      → (known ≡ true → Stands s.file.kind new.bytes s.model) → Stored None (Err e) known s before
+      → EndsAsDefined (call i (length numbers) stored s.file) (Err e) new ⊎ AppendFailed (call i (length numbers) stored s.file).ops e s.file new
+      → (known ≡ true → FileContains s.file.kind new.bytes s.model) → Stored None (Err e) known s before
   stopped e known s before stored o is h stands =
       let does : WriteOutcome OpenImage = call i (length numbers) stored s.file in
       let t : FileAndModel = record { file = new; model = s.model } in
@@ -160,8 +160,8 @@ module _ (call : OpenImage → ℕ → List ℕ → WriteCall OpenImage) (c : Is
             (
               (refl, inl (o, inr (stored, (is, said)))),
               (
-                λ q. subst (λ kind. Stands kind new.bytes s.model) (sym same) (stands q),
-                (grows_here s.model, λ _ h. subst (λ n. HoldsOpen s.file.kind s.model n before) (sym o) h),
+                λ q. subst (λ kind. FileContains kind new.bytes s.model) (sym same) (stands q),
+                (grows_here s.model, λ _ h. subst (λ n. RecordsImage s.file.kind s.model n before) (sym o) h),
               ),
             ),
           ),
@@ -171,14 +171,14 @@ module _ (call : OpenImage → ℕ → List ℕ → WriteCall OpenImage) (c : Is
   -- if the model is known to describe the file, the stored bytes are those that the model describes
   stored_by : (x : Unit {0}) (known : Bool) (s : FileAndModel) (before : List (List ℕ)) → StandsIfKnown known s → end_of s.file < 2 ^ 64
       → (let r : Result (Unit {0}) TiffError = Ok x in WritesStoredChunk call None i numbers r s.file new j
-      → ((m : Model) → Stands s.file.kind s.file.bytes m → LeavesChunk call i numbers r s.file new j m) → Stored None r known s before)
+      → ((m : Model) → FileContains s.file.kind s.file.bytes m → LeavesChunk call i numbers r s.file new j m) → Stored None r known s before)
   stored_by x true s before k near w l =
       let a = l s.model (k refl) in stored_so x true s before a.0 near a.1.0 a.1.1.0 (λ _. a.1.1.1)
   stored_by x false s before k near w l = stored_so x false s before w.0 near w.1.0 w.1.1 (λ q. absurd cc)
 
   written : (cause : Option TiffError) (r : Result (Unit {0}) TiffError) (known : Bool) (s : FileAndModel) (before : List (List ℕ))
       → StandsIfKnown known s → end_of s.file < 2 ^ 64 → WritesStoredChunk call cause i numbers r s.file new j
-      → ((m : Model) → Stands s.file.kind s.file.bytes m → LeavesChunk call i numbers r s.file new j m) → Stored cause r known s before
+      → ((m : Model) → FileContains s.file.kind s.file.bytes m → LeavesChunk call i numbers r s.file new j m) → Stored cause r known s before
   written (Some e) r known s before k near w l =
       let said : reply_to r ≡ Err e = ap reply_to w.0 in
       undone (Some e) r known s before k w.1.1 w.1.0
@@ -205,11 +205,11 @@ storing_draws : (call : OpenImage → ℕ → List ℕ → WriteCall OpenImage) 
     → (i j : OpenImage) (numbers : List ℕ) (r : Result (Unit {0}) TiffError) (old new : FileState)
     → ((n : ℕ) → get_or numbers n 0 < 256 ^ i.size) → length numbers < 2 ^ 64 - 1 → end_of old < 2 ^ 64 → end_of new < 2 ^ 64
     → WritesStoredChunk call (cause old i (length numbers)) i numbers r old new j
-    → ((m : Model) → Stands old.kind old.bytes m → LeavesChunk call i numbers r old new j m)
+    → ((m : Model) → FileContains old.kind old.bytes m → LeavesChunk call i numbers r old new j m)
     → DrawMoves i (StoresAll call cause numbers (reply_to r)) true old new j
 storing_draws call cause c i j numbers r old new small few near short w l known s before q k =
     let P : FileState → Type 0 = λ old. end_of old < 2 ^ 64 → WritesStoredChunk call (cause old i (length numbers)) i numbers r old new j
-    → ((m : Model) → Stands old.kind old.bytes m → LeavesChunk call i numbers r old new j m)
+    → ((m : Model) → FileContains old.kind old.bytes m → LeavesChunk call i numbers r old new j m)
     → Stored call c i j numbers new small few short (cause s.file i (length numbers)) r known s before in
     subst P q (λ near w l. written call c i j numbers new small few short (cause s.file i (length numbers)) r known s before k near w l) near w l
 
@@ -233,7 +233,7 @@ pub cut_draws : (call : OpenImage → ℕ → List ℕ → WriteCall OpenImage) 
     → (i j : OpenImage) (given numbers : List ℕ) (n : ℕ) (r : Result (Unit {0}) TiffError) (old new : FileState) → cut_to i.size given ≡ numbers
     → n ≡ length numbers → length given < 2 ^ 64 - 1 → end_of old < 2 ^ 64 → end_of new < 2 ^ 64
     → WritesStoredChunk call (cause old i n) i numbers r old new j
-    → ((m : Model) → Stands old.kind old.bytes m → LeavesChunk call i numbers r old new j m)
+    → ((m : Model) → FileContains old.kind old.bytes m → LeavesChunk call i numbers r old new j m)
     → DrawMoves i (StoresCut call cause given (reply_to r)) true old new j
 cut_draws call cause c i j given numbers n r old new cut count few near short w l =
     let P : List ℕ → Type 0 = λ xs. DrawMoves i (λ s before t after. StoresIfFound call (cause s.file i (length xs)) before xs (reply_to r) s t after) true old new j in

@@ -26,7 +26,7 @@ use Rattle.tiff_encode.specs.Drawn.{IsSide}
 use Rattle.tiff_encode.specs.Causes.{begin_cause, is_not_whole, is_unpredicted, predictor_cause, new_image_cause, image_cause}
 use Rattle.tiff_encode.specs.Calls.{new_directory, pad, image_directory, default_rows, write_tags, chroma_tags, meaning_tags, layout_tags, first_tags, image_in, new_image}
 use Rattle.tiff_encode.specs.Held.{Given, HoldsAt, HoldsValues, chroma_given}
-use Rattle.tiff_encode.specs.Open.{TellsOpen, HoldsChunks, HoldsOpen, model_by, BeginsOpen}
+use Rattle.tiff_encode.specs.Open.{TellsOpen, HoldsChunks, RecordsImage, model_by, BeginsOpen}
 use Rattle.tiff_encode.proofs.Columns.{columns_side, size_some}
 use Rattle.tiff_encode.proofs.Slices.{ok_inj}
 use Rattle.tiff_encode.proofs.Runs.{uncaused}
@@ -141,7 +141,7 @@ no_chunks file d color size width height m = record {
 begun_held : (file : FileState) (d : OpenDirectory) (m : Model) (name : ColorTypeName) (width height : ℕ)
     → width < 2 ^ 32 → height < 2 ^ 32
     → (let i : OpenImage = image_in file d (color_type name) (inner_size name) width height in
-    new_image_cause file (color_type name) width height ≡ None → HoldsValues m d.fields (first_given i) → HoldsOpen file.kind m i [])
+    new_image_cause file (color_type name) width height ≡ None → HoldsValues m d.fields (first_given i) → RecordsImage file.kind m i [])
 unfolding new_image_cause image_cause
 begun_held file d m name width height w h c o =
     let color : ColorTypeRecord = color_type name in
@@ -188,7 +188,7 @@ begins_open file m name width height i w h a =
     let size : ℕ = inner_size name in
     let image : OpenDirectory → OpenImage = λ d. image_in file d color size width height in
     let last : OpenDirectory → WriteCall OpenImage = λ d. write_tags d (first_tags (image d)) >>= (λ x. gives (image x)) in
-    let P : Model → Type 0 = λ n. HoldsOpen file.kind n i [] in
+    let P : Model → Type 0 = λ n. RecordsImage file.kind n i [] in
     caused_held (new_image_cause file color width height) (image_directory >>= last) file m P i a
     (λ c b. both_held image_directory last file m P i (adding (image_directory file) file (begin_adds file)) b
     (λ d x y.
@@ -199,6 +199,6 @@ begins_open file m name width height i w h a =
     (λ z s t.
     let held = tags_held d (first_tags (image d)) mid n (λ q. None) z (begun_empty file d n x) s in
     let k : Model = model_by mid n (call mid) in
-    subst (λ j. HoldsOpen file.kind k j []) (ok_inj (image z) i t)
+    subst (λ j. RecordsImage file.kind k j []) (ok_inj (image z) i t)
     (begun_held file z k name width height w h c
     (λ t q. subst (λ v. HoldsAt k (get z.fields t) v) (all_given (image d) t) (held t q))))))

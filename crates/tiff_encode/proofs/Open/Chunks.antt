@@ -16,7 +16,7 @@ use Rattle.tiff_encode.specs.Causes.{end_of, is_past, chunk_cause, write_chunk_c
 use Rattle.tiff_encode.specs.Calls.{with_chunk, appends_chunk, write_chunk, write_strip}
 use Rattle.tiff_encode.specs.Stored.{unpacked_chunk, IsChunkStored}
 use Rattle.tiff_encode.specs.Held.{samples_of_chunk}
-use Rattle.tiff_encode.specs.Open.{HoldsChunks, HoldsOpen, model_by, ChunksKeepOpen}
+use Rattle.tiff_encode.specs.Open.{HoldsChunks, RecordsImage, model_by, ChunksKeepOpen}
 use Rattle.tiff_encode.proofs.Slices.{ok_inj}
 use Rattle.tiff_encode.proofs.CallFits.{offset_fits}
 use Rattle.tiff_encode.proofs.Open.Held.{holds_grown}
@@ -178,10 +178,10 @@ module _ (file : FileState) (m : Model) (i : OpenImage) (samples : List (List �
       }
 
   -- the image with the chunk is held
-  chunk_kept : HoldsOpen file.kind m i samples → chunk_cause file i (length numbers) (length stored) ≡ None
+  chunk_kept : RecordsImage file.kind m i samples → chunk_cause file i (length numbers) (length stored) ≡ None
       → ((n : ℕ) → get_or numbers n 0 < 256 ^ i.size) → IsAsked i (length numbers)
       → IsChunkStored i stored numbers → end_of file < 2 ^ 64 → length stored < 2 ^ 64
-      → HoldsOpen file.kind later image all
+      → RecordsImage file.kind later image all
   chunk_kept h c s l is near short = record {
     given = h.given;
     holds = holds_grown m later i.directory.fields h.given (ops_grow file.kind file.bytes m (Appended stored ∷ [])) h.holds;
@@ -191,30 +191,30 @@ module _ (file : FileState) (m : Model) (i : OpenImage) (samples : List (List �
   }
 
   -- the image that the call returns is held
-  appended_kept : (next : OpenImage) → HoldsOpen file.kind m i samples → chunk_cause file i (length numbers) (length stored) ≡ None
+  appended_kept : (next : OpenImage) → RecordsImage file.kind m i samples → chunk_cause file i (length numbers) (length stored) ≡ None
       → ((n : ℕ) → get_or numbers n 0 < 256 ^ i.size) → IsAsked i (length numbers)
       → IsChunkStored i stored numbers → end_of file < 2 ^ 64 → length stored < 2 ^ 64
       → (appends_chunk i stored file).answer ≡ Ok next
-      → HoldsOpen file.kind (model_by file m (appends_chunk i stored file)) next all
+      → RecordsImage file.kind (model_by file m (appends_chunk i stored file)) next all
   appended_kept next h c s l is near short a =
-      subst (λ j. HoldsOpen file.kind later j all) (ok_inj image next a) (chunk_kept h c s l is near short)
+      subst (λ j. RecordsImage file.kind later j all) (ok_inj image next a) (chunk_kept h c s l is near short)
 
 -- a chunk with its number of samples keeps the image held
 pub chunk_keeps_open : (file : FileState) (m : Model) (i next : OpenImage) (samples : List (List ℕ)) (numbers stored : List ℕ)
-    → HoldsOpen file.kind m i samples → ((n : ℕ) → get_or numbers n 0 < 256 ^ i.size) → IsAsked i (length numbers)
+    → RecordsImage file.kind m i samples → ((n : ℕ) → get_or numbers n 0 < 256 ^ i.size) → IsAsked i (length numbers)
     → IsChunkStored i stored numbers → end_of file < 2 ^ 64 → length stored < 2 ^ 64
     → (write_chunk i (length numbers) stored file).answer ≡ Ok next
-    → HoldsOpen file.kind (model_by file m (write_chunk i (length numbers) stored file)) next (samples ++ numbers ∷ [])
+    → RecordsImage file.kind (model_by file m (write_chunk i (length numbers) stored file)) next (samples ++ numbers ∷ [])
 unfolding write_chunk write_chunk_cause
 chunk_keeps_open file m i next samples numbers stored h s l is near short a =
-    let P : Model → Type 0 = λ n. HoldsOpen file.kind n next (samples ++ numbers ∷ []) in
+    let P : Model → Type 0 = λ n. RecordsImage file.kind n next (samples ++ numbers ∷ []) in
     caused_held (write_chunk_cause file i (length numbers) (length stored)) (appends_chunk i stored) file m P next a
     (λ c b. appended_kept file m i samples numbers stored next h (fresh file.fault _ c) s l is near short b)
 
 pub chunks_keep_open : ChunksKeepOpen
 unfolding write_strip write_strip_cause
 chunks_keep_open file m i next samples numbers stored h s l is near short =
-    let P : Model → Type 0 = λ n. HoldsOpen file.kind n next (samples ++ numbers ∷ []) in
+    let P : Model → Type 0 = λ n. RecordsImage file.kind n next (samples ++ numbers ∷ []) in
     let asked : IsAsked i (length numbers) = λ e. least (length numbers) _ (2 ^ 64 - 1) e l in (
       λ a. chunk_keeps_open file m i next samples numbers stored h s asked is near short a,
       λ a. caused_held (write_strip_cause file i (length numbers) (length stored)) (appends_chunk i stored) file m P next a

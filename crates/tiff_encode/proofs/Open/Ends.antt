@@ -18,8 +18,8 @@ use Rattle.tiff_encode.specs.Machine.{FileState, OpenDirectory, OpenImage, Write
 use Rattle.tiff_encode.specs.Causes.{end_of, finish_cause}
 use Rattle.tiff_encode.specs.Chunks.{all_samples, image_page, is_left}
 use Rattle.tiff_encode.specs.Calls.{Offsets, links_to, offsets_of, chains, finish, write_tags, extended_by_first, sample_tags, chunk_tags, last_tags, finish_image}
-use Rattle.tiff_encode.specs.Held.{Given, HoldsValues, ExtraGiven, value_in, AreGiven, EachGiven, image_tags, places_in, TellsImage, IsWholeImage, AreSupplied, RegionsHaveChunks, ImagesShow}
-use Rattle.tiff_encode.specs.Open.{open_tags, TellsOpen, IsOpen, HoldsChunks, HoldsOpen, model_by, EndsHeld, GrownEnded, EndedShown, EndsShown}
+use Rattle.tiff_encode.specs.Held.{Given, HoldsValues, ExtraGiven, value_in, AreGiven, EachGiven, image_tags, places_in, HasImageTags, IsWholeImage, AreSupplied, RegionsHaveChunks, ImagesShow}
+use Rattle.tiff_encode.specs.Open.{open_tags, TellsOpen, IsOpen, HoldsChunks, RecordsImage, model_by, EndsHeld, GrownEnded, EndedShown, EndsShown}
 use Rattle.tiff_encode.proofs.Slices.{ok_inj}
 use Rattle.tiff_encode.proofs.WriteOps.{ops_grow}
 use Rattle.tiff_encode.proofs.Given.{IsLocal, given_changed}
@@ -102,7 +102,7 @@ module _ (kind : FileKind) (i : OpenImage) where
   extra_same b Tile given = samples_kept b given 338 refl
 
   -- the values of all tags describe the image
-  last_tells : (given : Given) → TellsOpen i given → TellsImage kind i (last_given given)
+  last_tells : (given : Given) → TellsOpen i given → HasImageTags kind i (last_given given)
   last_tells given t =
       let b : Bool = length i.extra == 0 in
       let c : ChunkType = i.form.chunk_type in
@@ -185,7 +185,7 @@ Ended kind offset given m =
     In listed m.directories × HoldsValues m d.fields given)
 
 image_ended : (file : FileState) (m : Model) (i : OpenImage) (samples : List (List ℕ)) (offsets : Offsets)
-    (h : HoldsOpen file.kind m i samples) → (finish_image i file).answer ≡ Ok offsets
+    (h : RecordsImage file.kind m i samples) → (finish_image i file).answer ≡ Ok offsets
     → Ended file.kind offsets.pointer (last_given file.kind i h.given) (model_by file m (finish_image i file))
 unfolding finish_image
 image_ended file m i samples offsets h a =

@@ -21,7 +21,7 @@ use Rattle.tiff_encode.specs.Causes.{resolution_cause, one_resolution_cause, res
 use Rattle.tiff_encode.specs.Calls.{write_tag, write_tag_buf, write_tags, extend_from, with_directory_of, resolution_tags, resolution, x_resolution, y_resolution, resolution_unit}
 use Rattle.tiff_encode.specs.Stored.{unpacked_chunk}
 use Rattle.tiff_encode.specs.Held.{Given, HoldsValues, ExtraGiven, value_in, AreGiven, EachGiven, place_tags}
-use Rattle.tiff_encode.specs.Open.{open_tags, TellsOpen, IsOpen, HoldsChunks, HoldsOpen, model_by, KeepsOpen, TagsKeepOpen, FieldsKeepOpen, ResolutionsKeepOpen}
+use Rattle.tiff_encode.specs.Open.{open_tags, TellsOpen, IsOpen, HoldsChunks, RecordsImage, model_by, KeepsOpen, TagsKeepOpen, FieldsKeepOpen, ResolutionsKeepOpen}
 use Rattle.tiff_encode.proofs.Slices.{ok_inj}
 use Rattle.tiff_encode.proofs.WriteOps.{ops_grow}
 use Rattle.tiff_encode.proofs.Given.{IsLocal, given_changed}
@@ -80,8 +80,8 @@ open_kept i d chunks s = open_with i d i.extra i.form chunks s s.few s.form (λ 
 
 -- an image with another directory is held
 pub directory_kept : (kind : FileKind) (m n : Model) (i : OpenImage) (d : OpenDirectory) (samples : List (List ℕ))
-    (h : HoldsOpen kind m i samples) → HoldsValues n d.fields h.given → HoldsChunks kind n i samples
-    → HoldsOpen kind n (with_directory_of i d) samples
+    (h : RecordsImage kind m i samples) → HoldsValues n d.fields h.given → HoldsChunks kind n i samples
+    → RecordsImage kind n (with_directory_of i d) samples
 unfolding unpacked_chunk
 directory_kept kind m n i d samples h o c = record {
   given = h.given;
@@ -132,20 +132,20 @@ fields_keep_open kind m i samples fields h q =
 -- ---- rows of the table
 
 -- what is held of an image after a call as a row says
-pub row_held : (w : Row) (file : FileState) (m : Model) (i next : OpenImage) (samples : List (List ℕ)) → HoldsOpen file.kind m i samples
+pub row_held : (w : Row) (file : FileState) (m : Model) (i next : OpenImage) (samples : List (List ℕ)) → RecordsImage file.kind m i samples
     → (written w i file).answer ≡ Ok next
     → ((d : OpenDirectory) → w.cause i file ≡ None → (write_tags i.directory w.tags file).answer ≡ Ok d
     → HoldsChunks file.kind (model_by file m (write_tags i.directory w.tags file)) i samples
-    → HoldsOpen file.kind (model_by file m (write_tags i.directory w.tags file)) (w.image i d) samples)
-    → HoldsOpen file.kind (model_by file m (written w i file)) next samples
+    → RecordsImage file.kind (model_by file m (write_tags i.directory w.tags file)) (w.image i d) samples)
+    → RecordsImage file.kind (model_by file m (written w i file)) next samples
 row_held w file m i next samples h a f =
-    let P : Model → Type 0 = λ n. HoldsOpen file.kind n next samples in
+    let P : Model → Type 0 = λ n. RecordsImage file.kind n next samples in
     let call : WriteCall OpenDirectory = write_tags i.directory w.tags in
     let rest : OpenDirectory → WriteCall OpenImage = λ d. gives (w.image i d) in
     let n : Model = model_by file m (call file) in
     caused_held (w.cause i file) (call >>= rest) file m P next a
     (λ c b. both_held call rest file m P next (tags_adding i.directory w.tags file) b
-    (λ d x y. subst (λ j. HoldsOpen file.kind n j samples) (ok_inj (w.image i d) next y)
+    (λ d x y. subst (λ j. RecordsImage file.kind n j samples) (ok_inj (w.image i d) next y)
     (f d c x (chunks_grown file.kind m n i samples (ops_grow file.kind file.bytes m (call file).ops) h.chunks))))
 
 -- some more tags that a page isn't read by

@@ -21,7 +21,7 @@ use Rattle.tiff_encode.specs.Chunks.{is_tile, is_begun}
 use Rattle.tiff_encode.specs.Causes.{unless_ended, is_no_side, extra_samples_cause, rows_per_strip_cause, tiles_cause, planar_cause}
 use Rattle.tiff_encode.specs.Calls.{write_tags, strips_of, tiles_of, without_field, extra_samples, set_rows_per_strip, tiles, planar}
 use Rattle.tiff_encode.specs.Held.{Given, HoldsValues, samples_of_chunk}
-use Rattle.tiff_encode.specs.Open.{TellsOpen, IsOpen, HoldsChunks, HoldsOpen, model_by, KeepsOpen, SettingsKeepOpen}
+use Rattle.tiff_encode.specs.Open.{TellsOpen, IsOpen, HoldsChunks, RecordsImage, model_by, KeepsOpen, SettingsKeepOpen}
 use Rattle.tiff_encode.proofs.Image.Table.{Setting, Extra, Rows, Sides, Planes, call_of, row, called}
 use Rattle.tiff_encode.proofs.Given.{IsLocal, places_kept, unplaced}
 use Rattle.tiff_encode.proofs.Open.Held.{set, set_local, unset_held}
@@ -70,14 +70,14 @@ none_held kind m i next samples h b c s =
     }
 
 -- what is held of an image after a call of the table: its directory has the values of the tags
-setting_held : (s : Setting) (file : FileState) (m : Model) (i next : OpenImage) (samples : List (List ℕ)) (h : HoldsOpen file.kind m i samples)
+setting_held : (s : Setting) (file : FileState) (m : Model) (i next : OpenImage) (samples : List (List ℕ)) (h : RecordsImage file.kind m i samples)
     → (call_of s i file).answer ≡ Ok next
     → ((d : OpenDirectory) (n : Model) → (row s).cause i file ≡ None → HoldsChunks file.kind n i samples
-    → HoldsValues n d.fields (after h.given (row s).tags) → HoldsOpen file.kind n ((row s).image i d) samples)
-    → HoldsOpen file.kind (model_by file m (call_of s i file)) next samples
+    → HoldsValues n d.fields (after h.given (row s).tags) → RecordsImage file.kind n ((row s).image i d) samples)
+    → RecordsImage file.kind (model_by file m (call_of s i file)) next samples
 setting_held s file m i next samples h a f =
     let tags : List (Tag × Scalars) = (row s).tags in
-    subst (λ told. HoldsOpen file.kind (model_by file m told) next samples) (sym (called s i file))
+    subst (λ told. RecordsImage file.kind (model_by file m told) next samples) (sym (called s i file))
     (row_held (row s) file m i next samples h (subst (λ (told : WriteOutcome OpenImage). told.answer ≡ Ok next) (called s i file) a)
     (λ d c x g. f d (model_by file m (write_tags i.directory tags file)) c g (tags_held i.directory tags file m h.given d h.holds x)))
 
@@ -112,7 +112,7 @@ cut_kept : (kind : FileKind) (m : Model) (i : OpenImage) (d : OpenDirectory) (fo
     → IsOpen i → HoldsChunks kind m i samples → is_begun i ≡ false → IsForm i.width form
     → (is_packed i.color ≡ true → (form.chunk_type ≡ Strip) × (i.extra ≡ [])) → HoldsValues m d.fields later
     → TellsOpen (record i { directory = d; form = form }) later
-    → HoldsOpen kind m (record i { directory = d; form = form }) samples
+    → RecordsImage kind m (record i { directory = d; form = form }) samples
 cut_kept kind m i d form later samples s c b f plain o t =
     record {
       given = later;

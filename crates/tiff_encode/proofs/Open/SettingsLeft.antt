@@ -2,7 +2,7 @@
 use Rattle.std.proofs.Common.{◌≡◌, ◌^◌, ◌<◌, None, Result, Ok, Err, ap, sym, ◌∙◌, subst}
 use Rattle.tiff_base.specs.declared.error.TiffError.{TiffError}
 use Rattle.tiff_base.specs.Field.{AreEntries}
-use Rattle.tiff_encode.specs.Model.{Model, Stands}
+use Rattle.tiff_encode.specs.Model.{Model, FileContains}
 use Rattle.tiff_encode.specs.Laws.{OpsFit}
 use Rattle.tiff_encode.specs.Machine.{FileState, OpenImage, WriteOutcome}
 use Rattle.tiff_encode.specs.Causes.{end_of}
@@ -26,7 +26,7 @@ DoneFits old m told = (x : OpenImage) → told.answer ≡ Ok x → end_of told.n
 -- a call of an image that appends
 pub image_left : {X : Type 0} (view : X → OpenImage) (told : WriteOutcome OpenImage) (r : Result X TiffError) (old new : FileState) (m : Model)
     → IsAdding told old → ((x : OpenImage) → told.answer ≡ Ok x → old.fault ≡ None) → DoneFits old m told → EndFits new
-    → Stands old.kind old.bytes m → Ends view told r old new → Leaves told r old new m
+    → FileContains old.kind old.bytes m → Ends view told r old new → Leaves told r old new m
 image_left view told (Ok x) old new m a f d l s e =
     let fresh : new.fault ≡ None = ap (λ file. file.fault) (e.state ∙ a.next) ∙ f (view x) e.answer in
     let short : end_of told.next < 2 ^ 64 = subst (λ file. end_of file < 2 ^ 64) e.state (l fresh) in
@@ -36,7 +36,7 @@ image_left view told (Err fault) old new m a f d l s e =
 
 -- what a call of the table leaves
 module _ {X : Type 0} (view : X → OpenImage) (r : Result X TiffError) (old new : FileState) (m : Model) (l : EndFits new)
-    (stands : Stands old.kind old.bytes m) (i : OpenImage) (a : AreEntries i.directory.fields) where
+    (stands : FileContains old.kind old.bytes m) (i : OpenImage) (a : AreEntries i.directory.fields) where
   pub setting_left : (s : Setting) → Ends view (call_of s i old) r old new → Leaves (call_of s i old) r old new m
   setting_left s e =
       image_left view (call_of s i old) r old new m (setting_adding s i old) (setting_fresh s i old)

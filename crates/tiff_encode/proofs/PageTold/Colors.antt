@@ -13,7 +13,7 @@ use Rattle.tiff_base.specs.Tags as kinds
 use Rattle.tiff_value.specs.ColorType.{ColorTypeRecord}
 use Rattle.tiff_value.specs.declared.encoder.colortype.ColorTypeName.{ColorTypeName}
 use Rattle.tiff_value.specs.declared.encoder.colortype.ColorTypeName.TheVariants as color
-use Rattle.tiff_value.specs.ColorTypes.{Family, count_of, format_of_type, form_of, depth_of, color_type}
+use Rattle.tiff_value.specs.ColorTypes.{Family, count_of, format_of_type, family_and_type, depth_of, color_type}
 use Rattle.tiff_value.proofs.ColorTypes.{are_color_types}
 use Rattle.tiff_ifd.proofs.Fitted.{all_fit}
 use Rattle.tiff_page.specs.Checks.{format_from, depth_from}
@@ -60,8 +60,8 @@ small_format type = lit< tt
 pub named_alike : (name : ColorTypeName) → AreAlike (color_type name)
 unfolding color_type
 named_alike name =
-    let f : Family = (form_of name).0 in
-    let type : «Type» = (form_of name).1 in
+    let f : Family = (family_and_type name).0 in
+    let type : «Type» = (family_and_type name).1 in
     let bits : ℕ = depth_of name in
     let count : count_of f ≡ suc (count_of f - 1) = omega (arith, (are_color_types name).some, length-replicate (count_of f) bits) in
     record {

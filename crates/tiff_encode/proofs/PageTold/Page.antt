@@ -38,11 +38,11 @@ use Rattle.tiff_page.specs.Page.{PageRecord}
 use Rattle.tiff_page.proofs.PassedChecks.{page_passed}
 use Rattle.tiff_encode.specs.FileBytes.{offset_len}
 use Rattle.tiff_encode.specs.Value.{offset_values}
-use Rattle.tiff_encode.specs.Model.{In, Model, Stands}
+use Rattle.tiff_encode.specs.Model.{In, Model, FileContains}
 use Rattle.tiff_encode.specs.Machine.{Chunk, OpenImage, compression_method}
 use Rattle.tiff_encode.specs.Chunks.{all_samples, shown_page}
 use Rattle.tiff_encode.specs.Calls.{extended_by_first}
-use Rattle.tiff_encode.specs.Held.{Given, HoldsValues, chroma_given, planar_given, ExtraGiven, value_in, EachGiven, image_tags, places_in, TellsImage, IsWholeImage, PageTold}
+use Rattle.tiff_encode.specs.Held.{Given, HoldsValues, chroma_given, planar_given, ExtraGiven, value_in, EachGiven, image_tags, places_in, HasImageTags, IsWholeImage, PageTold}
 use Rattle.tiff_encode.proofs.Samples.{some_method}
 use Rattle.tiff_encode.proofs.Slices.{ok_bind}
 use Rattle.tiff_encode.proofs.Given.{is_one_of, given_at}
@@ -114,7 +114,7 @@ some_offsets Big = lit< tt
 -- ---- the look-up finds the tags of an image
 
 module _ (kind : FileKind) (file : List ℕ) (m : Model) (fields : FinMap nat_cmp Field) (given : Given)
-    (s : Stands kind file m) (h : HoldsValues m fields given) where
+    (s : FileContains kind file m) (h : HoldsValues m fields given) where
   abbrev l : TagLookup
   l = the_look kind file m fields given s h
 
@@ -169,7 +169,7 @@ module _ (kind : FileKind) (file : List ℕ) (m : Model) (fields : FinMap nat_cm
         )
       ]
 
-  module _ (i : OpenImage) (w : IsWholeImage kind i) (t : TellsImage kind i given) where
+  module _ (i : OpenImage) (w : IsWholeImage kind i) (t : HasImageTags kind i given) where
     -- the samples of the color are alike
     abbrev alike : AreAlike i.color
     alike = image_alike kind i w

@@ -27,7 +27,7 @@ use Rattle.tiff_ifd.specs.TagLookup.{TagLookup, if_found, look_up_in, find}
 use Rattle.tiff_page.specs.Checks.{is_page_tag}
 use Rattle.tiff_encode.specs.FileBytes.{offset_len}
 use Rattle.tiff_encode.specs.Value.{offset_values}
-use Rattle.tiff_encode.specs.Model.{In, Model, Stands}
+use Rattle.tiff_encode.specs.Model.{In, Model, FileContains}
 use Rattle.tiff_encode.specs.WriteOps.{standing_field, standing_fields}
 use Rattle.tiff_encode.specs.Held.{Given, HasValues, HoldsAt, HoldsValues}
 use Rattle.tiff_encode.proofs.PageTold.Values.{get_standing, standing_bytes, AllBelow, joint, AreNumbers, value_read, are_shorts, are_longs, are_long8s}
@@ -124,7 +124,7 @@ abbrev pub AreBy : Scalars → «Type» → List ℕ → Type 0
 AreBy values type ns = data_of values ≡ data_by type (le (type_size type)) ns
 
 module _ (kind : FileKind) (file : List ℕ) (m : Model) (fields : FinMap nat_cmp Field) (given : Given)
-    (s : Stands kind file m) (h : HoldsValues m fields given) where
+    (s : FileContains kind file m) (h : HoldsValues m fields given) where
   -- the look-up in the fields as the entries contain them
   abbrev pub the_look : TagLookup
   the_look = look_up_in (field_value kind LittleEndian file unlimited) (standing_fields kind fields)
@@ -191,7 +191,7 @@ module _ (kind : FileKind) (file : List ℕ) (m : Model) (fields : FinMap nat_cm
 
 -- the look-up finds offsets, or numbers of bytes, in a file of a kind
 pub offsets_found : (kind : FileKind) (file : List ℕ) (m : Model) (fields : FinMap nat_cmp Field) (given : Given)
-    (s : Stands kind file m) (h : HoldsValues m fields given) (t : Tag) (ns : List ℕ)
+    (s : FileContains kind file m) (h : HoldsValues m fields given) (t : Tag) (ns : List ℕ)
     → is_page_tag (tag_number t) ≡ true → given (tag_number t) ≡ Some (offset_values kind ns)
     → AllBelow (256 ^ offset_len kind) ns → length ns < 2 ^ 32
     → (find into_u64_vec (the_look kind file m fields given s h) t ≡ Ok (Some ns))

@@ -22,7 +22,7 @@ use Rattle.tiff_base.specs.declared.tags.«Type».{«Type»}
 use Rattle.tiff_value.specs.declared.encoder.colortype.ColorTypeName.{ColorTypeName}
 use Rattle.tiff_value.specs.declared.encoder.colortype.ColorTypeName.TheVariants as color
 use Rattle.tiff_value.specs.ColorType.{ColorTypeRecord, first_bits, is_packed}
-use Rattle.tiff_value.specs.ColorTypes.{Family, meaning_of, format_of_type, form_of, depth_of, color_type}
+use Rattle.tiff_value.specs.ColorTypes.{Family, meaning_of, format_of_type, family_and_type, depth_of, color_type}
 use Rattle.tiff_value.specs.ColorTypes as family
 use Rattle.tiff_page.specs.declared.layout.DecodingSampleType.{DecodingSampleType}
 use Rattle.tiff_page.specs.Page.{PageRecord}
@@ -47,7 +47,7 @@ use Rattle.tiff_encode.proofs.ReadsBack.Entries.{reads_back}
 -- ---- the sample type
 
 -- samples of each color type have a sample type
-type_of_numbers : (name : ColorTypeName) → (t : DecodingSampleType) × (sample_type_from (format_of_type (form_of name).1) (depth_of name) ≡ Ok t)
+type_of_numbers : (name : ColorTypeName) → (t : DecodingSampleType) × (sample_type_from (format_of_type (family_and_type name).1) (depth_of name) ≡ Ok t)
 type_of_numbers color.Gray8 = (_, refl)
 type_of_numbers name = (_, refl)
 
@@ -55,8 +55,8 @@ type_of_numbers name = (_, refl)
 typed : (name : ColorTypeName) → (t : DecodingSampleType) × (sample_type_from (get_or (color_type name).formats 0 Void) (get_or (color_type name).bits 0 0) ≡ Ok t)
 unfolding color_type
 typed name =
-    let f : Family = (form_of name).0 in
-    let type : «Type» = (form_of name).1 in
+    let f : Family = (family_and_type name).0 in
+    let type : «Type» = (family_and_type name).1 in
     let there = type_of_numbers name in (
       there.0,
       ap (λ (format : SampleFormat). sample_type_from format (get_or (color_type name).bits 0 0)) (first_of f (format_of_type type) Void)

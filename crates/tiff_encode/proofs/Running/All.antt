@@ -75,22 +75,22 @@ abbrev is_none : List ℕ → Bool
 is_none [] = true
 is_none (x ∷ xs) = false
 
-told_none : (told : List ℕ) → is_none told ≡ true → told ≡ []
+told_none : (contents : List ℕ) → is_none contents ≡ true → contents ≡ []
 told_none [] h = refl
-told_none (x ∷ told) h = absurd cc
+told_none (x ∷ contents) h = absurd cc
 
-none_told : (told : List ℕ) → told ≡ [] → is_none told ≡ true
-none_told told h = ap is_none h
+none_told : (contents : List ℕ) → contents ≡ [] → is_none contents ≡ true
+none_told contents h = ap is_none h
 
 -- after the header is written, the properties of a run hold
-started_sound : (kind : FileKind) (told : List ℕ) (failures : ℕ) (first : FileState) → first ≡ begun_file kind told failures
-    → (told ≡ [] → LeavesHeader kind first.bytes first.chain) → IsSound (is_none told) (new_run kind told failures)
-started_sound kind told failures first is leaves =
-    let file : FileState = begun_file kind told failures in
-    let header : told ≡ [] → LeavesHeader kind file.bytes file.chain = subst (λ f. told ≡ [] → LeavesHeader kind f.bytes f.chain) is leaves in
+started_sound : (kind : FileKind) (contents : List ℕ) (failures : ℕ) (first : FileState) → first ≡ begun_file kind contents failures
+    → (contents ≡ [] → LeavesHeader kind first.bytes first.chain) → IsSound (is_none contents) (new_run kind contents failures)
+started_sound kind contents failures first is leaves =
+    let file : FileState = begun_file kind contents failures in
+    let header : contents ≡ [] → LeavesHeader kind file.bytes file.chain = subst (λ f. contents ≡ [] → LeavesHeader kind f.bytes f.chain) is leaves in
     record {
-      stands = λ k. (header (told_none told k)).stands;
-      chain = λ k offset p. subst (λ n. IsLink kind (header_model kind) n) (some_inj file.chain offset p) (header (told_none told k)).link;
+      stands = λ k. (header (told_none contents k)).stands;
+      chain = λ k offset p. subst (λ n. IsLink kind (header_model kind) n) (some_inj file.chain offset p) (header (told_none contents k)).link;
       offsets = λ o i. absurd i;
       images = λ f i. absurd i;
     }
@@ -104,25 +104,25 @@ run_shows run s f i =
     h.shown file
     (ended_shown_by (images_show_by page_told) kind file run.standing.model h.image h.samples f.offset (s.stands refl) h.held)
 
-pub jobs_run : (kind : FileKind) (told : List ℕ) (failures : ℕ) (jobs : List Job) (earlier all : List JobReply) (first last : FileState)
-    (bytes : List ℕ) (after : ℕ) → first ≡ begun_file kind told failures → (told ≡ [] → LeavesHeader kind first.bytes first.chain)
+pub jobs_run : (kind : FileKind) (contents : List ℕ) (failures : ℕ) (jobs : List Job) (earlier all : List JobReply) (first last : FileState)
+    (bytes : List ℕ) (after : ℕ) → first ≡ begun_file kind contents failures → (contents ≡ [] → LeavesHeader kind first.bytes first.chain)
     → JobsMove jobs earlier all first last → bytes ≡ last.bytes → after ≡ last.failures
-    → (replies : List JobReply) × ((all ≡ earlier ++ replies) × LeavesJobs kind jobs replies told failures bytes after)
-jobs_run kind told failures jobs earlier all first last bytes after is leaves m b n =
-    let run : Run = new_run kind told failures in
-    let x = m.1.1 (is_none told) run (sym is) refl (started_sound kind told failures first is leaves) in
+    → (replies : List JobReply) × ((all ≡ earlier ++ replies) × LeavesJobs kind jobs replies contents failures bytes after)
+jobs_run kind contents failures jobs earlier all first last bytes after is leaves m b n =
+    let run : Run = new_run kind contents failures in
+    let x = m.1.1 (is_none contents) run (sym is) refl (started_sound kind contents failures first is leaves) in
     let end : Run = x.0 in
-    let sound : IsSound (is_none told) end = x.1.1.1.0 in (
+    let sound : IsSound (is_none contents) end = x.1.1.1.0 in (
       m.0,
       (
         m.1.0,
         record {
           run = end;
-          ran_so = x.1.1.0;
+          run_is = x.1.1.0;
           bytes_are = b ∙ ap (λ f. f.bytes) (sym x.1.0);
           failures_are = n ∙ ap (λ f. f.failures) (sym x.1.0);
-          stands = λ h. sound.stands (none_told told h);
-          shows = λ h. run_shows end (subst (λ k. IsSound k end) (none_told told h) sound);
+          stands = λ h. sound.stands (none_told contents h);
+          shows = λ h. run_shows end (subst (λ k. IsSound k end) (none_told contents h) sound);
         },
       ),
     )

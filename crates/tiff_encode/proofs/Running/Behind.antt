@@ -387,18 +387,18 @@ module _ (kind : FileKind) (q : ℕ) (former : List ℕ) (room : q + offset_len 
 -- ---- the law
 
 -- a run that begins behind a file
-run_begun : (kind : FileKind) (told : List ℕ) (failures q : ℕ) (former : Model) (room : q + offset_len kind ≤ length told)
-    → RunBehind kind q told room (run_behind (continued_file kind told failures q) former)
-run_begun kind told failures q former room = record {
-  file = record { kind_is = refl; bytes = begun kind q told room; chain = inl refl };
+run_begun : (kind : FileKind) (contents : List ℕ) (failures q : ℕ) (former : Model) (room : q + offset_len kind ≤ length contents)
+    → RunBehind kind q contents room (run_behind (continued_file kind contents failures q) former)
+run_begun kind contents failures q former room = record {
+  file = record { kind_is = refl; bytes = begun kind q contents room; chain = inl refl };
   offsets = λ o i. absurd i;
 }
 
 -- jobs that are run behind any file keep its bytes, except those of the link
-pub jobs_continue : (kind : FileKind) (told : List ℕ) (failures q : ℕ) (jobs : List Job) (earlier all : List JobReply) (new : FileState)
-    → q + offset_len kind ≤ length told → JobsMove jobs earlier all (continued_file kind told failures q) new → Continues kind q told new.bytes
-jobs_continue kind told failures q jobs earlier all new room moves =
-    let run : Run = run_behind (continued_file kind told failures q) (header_model kind) in
+pub jobs_continue : (kind : FileKind) (contents : List ℕ) (failures q : ℕ) (jobs : List Job) (earlier all : List JobReply) (new : FileState)
+    → q + offset_len kind ≤ length contents → JobsMove jobs earlier all (continued_file kind contents failures q) new → Continues kind q contents new.bytes
+jobs_continue kind contents failures q jobs earlier all new room moves =
+    let run : Run = run_behind (continued_file kind contents failures q) (header_model kind) in
     let sound : IsSound false run = record {
       stands = λ k. absurd (cc);
       chain = λ k offset p. absurd (cc);
@@ -406,8 +406,8 @@ jobs_continue kind told failures q jobs earlier all new room moves =
       images = λ f i. absurd i;
     } in
     let x = moves.1.1 false run refl refl sound in
-    let left = jobs_behind kind q told room jobs moves.0 run x.0 (run_begun kind told failures q (header_model kind) room) x.1.1.0 in
-    subst (λ f. Continues kind q told f.bytes) x.1.0 left.file.bytes
+    let left = jobs_behind kind q contents room jobs moves.0 run x.0 (run_begun kind contents failures q (header_model kind) room) x.1.1.0 in
+    subst (λ f. Continues kind q contents f.bytes) x.1.0 left.file.bytes
 
 pub jobs_go_on : JobsGoOn
 jobs_go_on kind told failures q former jobs earlier all new room goes moves =
@@ -426,7 +426,7 @@ jobs_go_on kind told failures q former jobs earlier all new room goes moves =
         moves.1.0,
         record {
           run = x.0;
-          ran_so = x.1.1.0;
+          run_is = x.1.1.0;
           file_is = x.1.0;
           continues = subst (λ f. Continues kind q told f.bytes) x.1.0 left.file.bytes;
           stands = x.1.1.1.0.stands refl;

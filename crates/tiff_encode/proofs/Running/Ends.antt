@@ -4,12 +4,12 @@ use Rattle.std.proofs.Common.{◌≡◌, ℕ, ◌^◌, ◌<◌, inl, inr, Bool, 
 use Rattle.std.specs.FinMap.{len}
 use Rattle.tiff_base.specs.declared.error.TiffError.{TiffError}
 use Rattle.tiff_base.specs.Field.{AreEntries}
-use Rattle.tiff_encode.specs.Model.{Model, IsLink, Stands, Grows, with_link}
+use Rattle.tiff_encode.specs.Model.{Model, IsLink, FileContains, Grows, with_link}
 use Rattle.tiff_encode.specs.WriteOps.{model_after}
 use Rattle.tiff_encode.specs.Machine.{FileState, OpenDirectory, OpenImage, WriteOutcome, WriteCall}
 use Rattle.tiff_encode.specs.Causes.{end_of}
 use Rattle.tiff_encode.specs.Calls.{Offsets, finish, finish_image}
-use Rattle.tiff_encode.specs.Ends.{EndsAsDefined, IsTornOff, CallFails}
+use Rattle.tiff_encode.specs.Ends.{EndsAsDefined, LinkWriteFailed, CallFails}
 use Rattle.tiff_encode.specs.Leaves.{LeavesTorn}
 use Rattle.tiff_encode.specs.ImageData.{IsShortFile}
 use Rattle.tiff_encode.specs.Open.{model_by}
@@ -32,8 +32,8 @@ use Rattle.tiff_encode.proofs.EndLinks.{EndLinks, finish_links, image_links}
 
 -- What the model describes after an end succeeds, and after the sink fails at the parent's link.
 pub record CanStand (told : WriteOutcome Offsets) (old new : FileState) (m : Model) : Type 0 where
-  pub done : (offsets : Offsets) → EndsAsDefined told (Ok offsets) new → Stands old.kind new.bytes (model_by old m told)
-  pub torn : (e : TiffError) → IsTornOff told.ops e old new → LeavesTorn told e old new m
+  pub done : (offsets : Offsets) → EndsAsDefined told (Ok offsets) new → FileContains old.kind new.bytes (model_by old m told)
+  pub torn : (e : TiffError) → LinkWriteFailed told.ops e old new → LeavesTorn told e old new m
 
 -- the link of a parent, if there is one
 abbrev pub Parent : Option ℕ → FileState → Model → Type 0
@@ -43,7 +43,7 @@ Parent parent file m = (offset : ℕ) → parent ≡ Some offset → IsLink file
 pub record IsEnding (parent : Option ℕ) (told : WriteOutcome Offsets) (old new : FileState) : Type 0 where
   pub patches : Patches parent told old
   pub links : (m : Model) → EndLinks told old m
-  pub stands : (m : Model) → Stands old.kind old.bytes m → Parent parent old m → CanStand told old new m
+  pub stands : (m : Model) → FileContains old.kind old.bytes m → Parent parent old m → CanStand told old new m
 
 -- the properties of a directory's end
 pub directory_ending : (d : OpenDirectory) (old new : FileState) → AreEntries d.fields → len d.fields < 2 ^ 64
@@ -112,10 +112,10 @@ moves_from Ended Held parent old new f known s same k l =
 -- a call whose outcome keeps the model
 module _ (known : Bool) (old new : FileState) (m : Model) where
   -- the `FileAndModel` after a call that keeps the model
-  pub leads_still : new.kind ≡ old.kind → new.chain ≡ old.chain → (known ≡ true → Stands old.kind new.bytes m)
+  pub leads_still : new.kind ≡ old.kind → new.chain ≡ old.chain → (known ≡ true → FileContains old.kind new.bytes m)
       → Leads known (at old m) (at new m) None
   leads_still kind chain s = record {
-    known_so = λ q. subst (λ k. Stands k new.bytes m) (sym kind) (s q);
+    known_so = λ q. subst (λ k. FileContains k new.bytes m) (sym kind) (s q);
     grows = grows_here m;
     own = λ o h. absurd (none_some h);
     chain = λ i. subst (λ k. IsLink k m new.chain) (sym kind) (subst (λ q. IsLink old.kind m q) (sym chain) i);
@@ -135,7 +135,7 @@ module _ (parent : Option ℕ) (told : WriteOutcome Offsets) (old new : FileStat
       let kind : new.kind ≡ old.kind = ap (λ f. f.kind) t.state ∙ ending.patches.done.kind in
       let links = ending.links m in
       record {
-        known_so = λ q. subst (λ x. Stands x new.bytes n) (sym kind) ((can_stand q).done offsets t);
+        known_so = λ q. subst (λ x. FileContains x new.bytes n) (sym kind) ((can_stand q).done offsets t);
         grows = ops_grow old.kind old.bytes m told.ops;
         own = λ o h.
             subst (λ x. IsLink x n o.link) (sym kind)
@@ -146,11 +146,11 @@ module _ (parent : Option ℕ) (told : WriteOutcome Offsets) (old new : FileStat
       }
 
   -- the model after the sink fails at the parent's link
-  abbrev torn_model : (e : TiffError) → IsTornOff told.ops e old new → ℕ → Model
+  abbrev torn_model : (e : TiffError) → LinkWriteFailed told.ops e old new → ℕ → Model
   torn_model e t holds = with_link old.kind (model_after old.kind old.bytes m t.before) t.offset holds
 
-  leads_torn : (e : TiffError) (t : IsTornOff told.ops e old new) (holds : ℕ)
-      → (known ≡ true → Stands old.kind new.bytes (torn_model e t holds))
+  leads_torn : (e : TiffError) (t : LinkWriteFailed told.ops e old new) (holds : ℕ)
+      → (known ≡ true → FileContains old.kind new.bytes (torn_model e t holds))
       → Leads known (at old m) (at new (torn_model e t holds)) None
   leads_torn e t holds s =
       let n : Model = torn_model e t holds in
@@ -158,7 +158,7 @@ module _ (parent : Option ℕ) (told : WriteOutcome Offsets) (old new : FileStat
       let grown = ops_grow old.kind old.bytes m t.before in
       let grows : Grows m n = record { directories = grown.directories; supplied = grown.supplied; regions = grown.regions } in
       record {
-        known_so = λ q. subst (λ x. Stands x new.bytes n) (sym kind) (s q);
+        known_so = λ q. subst (λ x. FileContains x new.bytes n) (sym kind) (s q);
         grows = grows;
         own = λ o h. absurd (none_some h);
         chain = λ i.
@@ -170,15 +170,15 @@ module _ (parent : Option ℕ) (told : WriteOutcome Offsets) (old new : FileStat
   abbrev Failed : TiffError → Type 0
   Failed e = (n : Model) × (Refuses told e (at old m) (at new n) × Leads known (at old m) (at new n) None)
 
-  torn_away : (e : TiffError) (t : IsTornOff told.ops e old new) (holds : ℕ)
-      → (known ≡ true → Stands old.kind new.bytes (torn_model e t holds)) → Failed e
+  torn_away : (e : TiffError) (t : LinkWriteFailed told.ops e old new) (holds : ℕ)
+      → (known ≡ true → FileContains old.kind new.bytes (torn_model e t holds)) → Failed e
   torn_away e t holds s = (
     torn_model e t holds,
     (inr (inl (record { torn = t; holds = holds; model = refl })), leads_torn e t holds s),
   )
 
   -- the end fails at the parent's link, by whether the model is known to describe the file
-  torn_failed : (e : TiffError) → IsTornOff told.ops e old new → (b : Bool) → known ≡ b → Failed e
+  torn_failed : (e : TiffError) → LinkWriteFailed told.ops e old new → (b : Bool) → known ≡ b → Failed e
   torn_failed e t true h = let x = (can_stand h).torn e t in torn_away e x.torn x.holds (λ _. x.stands)
   torn_failed e t false h = torn_away e t 0 (λ q. absurd (no_truth (sym q ∙ h))) where
     no_truth : true ≡ false → ⊥
@@ -187,7 +187,7 @@ module _ (parent : Option ℕ) (told : WriteOutcome Offsets) (old new : FileStat
   pub failed : (e : TiffError) → CallFails told e old new → Failed e
   failed e h =
       let here : Refuses told e (at old m) (at new m) → new.kind ≡ old.kind → new.chain ≡ old.chain
-      → ((n : Model) → Stands old.kind old.bytes n → Stands old.kind new.bytes n) → Failed e = λ r kind chain s.
+      → ((n : Model) → FileContains old.kind old.bytes n → FileContains old.kind new.bytes n) → Failed e = λ r kind chain s.
       (m, (r, leads_still known old new m kind chain (λ q. s m (k q)))) in
       elim h as (λ _. Failed e) [
         | inl t ↦ here (inl (refl, t)) (ap (λ f. f.kind) t.state ∙ ending.patches.done.kind)

@@ -13,7 +13,7 @@ use Rattle.tiff_encode.specs.Calls.{Offsets, finish_image, write_image_data}
 use Rattle.tiff_encode.specs.Ends.{EndsAsDefined, CallFails}
 use Rattle.tiff_encode.specs.Held.{image_with}
 use Rattle.tiff_encode.specs.Shows.{Shows}
-use Rattle.tiff_encode.specs.Open.{HoldsOpen, HoldsEnded, model_by}
+use Rattle.tiff_encode.specs.Open.{RecordsImage, HoldsEnded, model_by}
 use Rattle.tiff_encode.specs.ImageData.{AreNumbers, IsShortFile, StopsWithin, WritesImageData}
 use Rattle.tiff_encode.specs.ImageData as data_
 use Rattle.tiff_encode.specs.Jobs.{FileAndModel, FinishesSilently, EndsWithin, WritesData, JobWritesDataBy, WritesDataIfFound}
@@ -44,7 +44,7 @@ samples_kept false before samples h = (refl, some_inj before samples h)
 -- the image that is held after its end
 abbrev HeldWhole : OpenImage → FileAndModel → FileAndModel → Option Offsets → Type 0
 HeldWhole i s t offset =
-    (before samples : List (List ℕ)) (o : Offsets) → HoldsOpen s.file.kind s.model i before → offset ≡ Some o
+    (before samples : List (List ℕ)) (o : Offsets) → RecordsImage s.file.kind s.model i before → offset ≡ Some o
     → cond (is_left i) None (Some before) ≡ Some samples
     → IsHeld t (record { offset = o.pointer; image = image_with i samples })
 
@@ -94,7 +94,7 @@ module _ (i : OpenImage) (samples : List ℕ) (old new : FileState) (entries : A
     abbrev told : WriteOutcome Offsets
     told = write_image_data i samples w.stored old
 
-    data_held : (m : Model) (before : List (List ℕ)) → HoldsOpen old.kind m i before
+    data_held : (m : Model) (before : List (List ℕ)) → RecordsImage old.kind m i before
         → IsHeld (at new (model_by old m told)) (record { offset = w.offsets.pointer; image = image_with i (before ++ parts_left i samples) })
     data_held m before h =
         let all : List (List ℕ) = before ++ parts_left i samples in

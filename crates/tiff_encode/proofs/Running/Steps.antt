@@ -21,7 +21,7 @@ use Rattle.tiff_encode.specs.declared.encoder.script.Job.{Job}
 use Rattle.tiff_encode.specs.declared.encoder.script.Job.TheVariants as job
 use Rattle.tiff_encode.specs.declared.encoder.script.JobReply.{JobReply}
 use Rattle.tiff_encode.specs.declared.encoder.settings.Compression.{Compression}
-use Rattle.tiff_encode.specs.Model.{In, IsLink, Model, Stands, Grows}
+use Rattle.tiff_encode.specs.Model.{In, IsLink, Model, FileContains, Grows}
 use Rattle.tiff_encode.specs.WriteOps.{model_after}
 use Rattle.tiff_encode.specs.Machine.{FileState, OpenDirectory, OpenImage, WriteOutcome, WriteCall, gives, by_cause, ◌>>=◌}
 use Rattle.tiff_encode.specs.Causes.{begin_cause, write_image_data_cause}
@@ -29,7 +29,7 @@ use Rattle.tiff_encode.specs.Calls as calls
 use Rattle.tiff_encode.specs.Calls.{Offsets, new_directory, pad, image_directory, extra_directory, set_parent}
 use Rattle.tiff_encode.specs.Ends.{EndsAsDefined, CallFails, EndsRefused}
 use Rattle.tiff_encode.specs.Leaves.{LeavesRefused}
-use Rattle.tiff_encode.specs.Open.{HoldsOpen, HoldsEnded, model_by}
+use Rattle.tiff_encode.specs.Open.{RecordsImage, HoldsEnded, model_by}
 use Rattle.tiff_encode.specs.Held.{image_with}
 use Rattle.tiff_encode.specs.Shows.{Shows}
 use Rattle.tiff_encode.specs.JobValues.{cut_to}
@@ -143,7 +143,7 @@ module _ (known : Bool) (s : FileAndModel) (left new : FileState) (is_left : lef
             held_if (are_apart j.steps.items steps.items) b.0 final offset (ended_samples drawn j.end) f
             (λ apart p all u v.
             b.1.1.1.1.1.1.1.1 samples all p
-            (subst (λ kind. HoldsOpen kind t.model final samples) (sym kept.file.kind) (a.1.1.1.1.1.1 apart o)) u v)
+            (subst (λ kind. RecordsImage kind t.model final samples) (sym kept.file.kind) (a.1.1.1.1.1.1 apart o)) u v)
             i;
       }
 
@@ -228,11 +228,11 @@ refused_run e r known run a s = sound_more known run run.standing r.last [] s (r
 -- A call begins a directory or an image, or it fails. The model still describes the file.
 pub record Begun {A : Type 0} (call : WriteCall A) (old : FileState) (x : A) (mid : FileState) : Type 0 where
   pub told : EndsAsDefined (call old) (Ok x) mid
-  pub leaves : (m : Model) → Stands old.kind old.bytes m → Stands old.kind mid.bytes (model_after old.kind old.bytes m (call old).ops)
+  pub leaves : (m : Model) → FileContains old.kind old.bytes m → FileContains old.kind mid.bytes (model_after old.kind old.bytes m (call old).ops)
 
 pub record NotBegun {A : Type 0} (call : WriteCall A) (old : FileState) (e : TiffError) (new : FileState) : Type 0 where
   pub fails : CallFails (call old) e old new
-  pub leaves : (m : Model) → Stands old.kind old.bytes m → Stands old.kind new.bytes m
+  pub leaves : (m : Model) → FileContains old.kind old.bytes m → FileContains old.kind new.bytes m
 
 -- a call that returns an error begins no directory and no image
 pub not_begun_as : {A D : Type 0} (call : WriteCall A) (r : Result D TiffError) (e : TiffError) (old new : FileState) → r ≡ Err e
@@ -457,11 +457,11 @@ image_runs j r old mid left new i known run wide high b goes is_left kind q s =
     (new_parent color size j.width j.height file i done.ended.answer) s.chain in
     let g = goes known first begun.1.0 begun.1.1.1.0 linked in
     let t : FileAndModel = g.after_end in
-    let new_directory : HoldsOpen file.kind (model_by file run.standing.model (call file)) i [] =
+    let new_directory : RecordsImage file.kind (model_by file run.standing.model (call file)) i [] =
     begins_open file run.standing.model j.color j.width j.height i wide high done.ended.answer in
-    let holds : HoldsOpen first.file.kind first.model i [] =
-    subst (λ kind. HoldsOpen kind first.model i []) (sym same.kind)
-    (subst (λ m. HoldsOpen file.kind m i []) (sym done.model) new_directory) in
+    let holds : RecordsImage first.file.kind first.model i [] =
+    subst (λ kind. RecordsImage kind first.model i []) (sym same.kind)
+    (subst (λ m. RecordsImage file.kind m i []) (sym done.model) new_directory) in
     let images : List FinishedImage = job_images j.steps.items r.steps.items j.end g.final g.offset in
     let more : Adding known run t r.last images = record {
       kind = ap (λ f. f.kind) (g.file ∙ is_left) ∙ kind ∙ ap (λ f. f.kind) (sym q);
@@ -503,15 +503,15 @@ set_runs set j r old new known run keeps is h none ok q s =
     let more : Adding known run t r.last [] = record {
       kind = same.kind;
       grows = grows;
-      stands = λ k. subst (λ kind. Stands kind t.file.bytes t.model) (sym same.kind)
-          (subst (λ b. Stands file.kind b t.model) (sym (keeps file).1) (s.stands k));
+      stands = λ k. subst (λ kind. FileContains kind t.file.bytes t.model) (sym same.kind)
+          (subst (λ b. FileContains file.kind b t.model) (sym (keeps file).1) (s.stands k));
       chain = λ k offset p. subst (λ n. IsLink t.file.kind t.model n) (some_inj t.file.chain offset p)
           (chain_on run.standing t same grows (s.chain k file.chain refl));
       own = λ o p. absurd (none_some (sym (ap offsets_in ok) ∙ p));
       held = λ f x. absurd x;
     } in
-    let ran_so : IsSet set run r (run_after_job run t r.last []) = (none, (ok, refl {a = run_after_job run t r.last []})) in
-    run_on (λ run after. JobRan run j r after) r known run new t [] (ap set q ∙ sym h) (is run (run_after_job run t r.last []) ran_so) s more
+    let run_is : IsSet set run r (run_after_job run t r.last []) = (none, (ok, refl {a = run_after_job run t r.last []})) in
+    run_on (λ run after. JobRan run j r after) r known run new t [] (ap set q ∙ sym h) (is run (run_after_job run t r.last []) run_is) s more
 
 -- the offsets that jobs return, and those of one more job
 answered_more : (earlier : List JobReply) (r : JobReply) → offsets_answered (earlier ++ r ∷ []) ≡ offsets_answered earlier ++ offsets_in r.last ∷ []

@@ -14,7 +14,7 @@ use Rattle.tiff_base.specs.Types.{type_size}
 use Rattle.tiff_value.specs.declared.encoder.colortype.ColorTypeName.{ColorTypeName}
 use Rattle.tiff_value.specs.declared.encoder.colortype.ColorTypeName.TheVariants as color
 use Rattle.tiff_value.specs.ColorType.{ColorTypeRecord}
-use Rattle.tiff_value.specs.ColorTypes.{Family, meaning_of, count_of, form_of, depth_of, color_type, inner_type, inner_size}
+use Rattle.tiff_value.specs.ColorTypes.{Family, meaning_of, count_of, family_and_type, depth_of, color_type, inner_type, inner_size}
 use Rattle.tiff_value.specs.ColorTypes as family
 use Rattle.tiff_page.specs.Page.{PageRecord}
 use Rattle.tiff_page.specs.Layout.{first_is_alpha, photometric, color_from, color_of}
@@ -47,7 +47,7 @@ size_of_type field.BYTE = grind arith
 size_of_type type = grind arith
 
 -- the samples of each named color type have all bits of their bytes, or are packed
-deep : (name : ColorTypeName) → IsDeep (depth_of name) (form_of name).0 (type_size (form_of name).1)
+deep : (name : ColorTypeName) → IsDeep (depth_of name) (family_and_type name).0 (type_size (family_and_type name).1)
 deep color.Gray1 = inr (refl, (refl, (lit< tt, lit< tt)))
 deep color.Gray2 = inr (refl, (refl, (lit< tt, lit< tt)))
 deep color.Gray4 = inr (refl, (refl, (lit< tt, lit< tt)))
@@ -57,12 +57,12 @@ deep name = inl refl
 pub of_family : (name : ColorTypeName) → IsOf (color_type name) (inner_size name)
 unfolding color_type inner_type
 of_family name = record {
-  family = (form_of name).0;
+  family = (family_and_type name).0;
   interpretation = refl;
   depth = depth_of name;
   bits = refl;
   is_deep = deep name;
-  is_size = size_of_type (form_of name).1;
+  is_size = size_of_type (family_and_type name).1;
 }
 
 -- ---- the color of a family

@@ -2,7 +2,7 @@
 use Rattle.std.proofs.Common.{ℕ, List, refl}
 use Rattle.std.specs.Prelude.{slice_index}
 use Rattle.tiff_base.specs.declared.tags.FileKind.{FileKind}
-use Rattle.tiff_encode.specs.Model.{Model, Stands}
+use Rattle.tiff_encode.specs.Model.{Model, FileContains}
 use Rattle.tiff_encode.specs.Machine.{OpenImage}
 use Rattle.tiff_encode.specs.Chunks.{image_page, shown_page, sample_in}
 use Rattle.tiff_encode.specs.Held.{HasChunks, RegionsHaveChunks, ShowsSamples, PageTold, ImagesShow}
@@ -10,7 +10,7 @@ use Rattle.tiff_encode.proofs.Shown.Chunks.{chunks_show}
 
 -- regions that encode the samples of chunks are in the file
 regions_stand : (kind : FileKind) (file : List ℕ) (m : Model) (i : OpenImage) (samples : List (List ℕ))
-    → Stands kind file m → RegionsHaveChunks m i samples → HasChunks file i samples
+    → FileContains kind file m → RegionsHaveChunks m i samples → HasChunks file i samples
 regions_stand kind file m i samples s r k b =
     let t = r k b in
     (t.0, (s.regions (record { offset = slice_index (image_page i).offsets k; bytes = t.0 }) t.1.0, t.1.1))

@@ -1,7 +1,7 @@
 //! Open images: how they begin, their state, their settings, their chunks, and their end.
 
 pub(crate) mod begin;
-pub(crate) mod chunk_rooms;
+pub(crate) mod chunk_scratch;
 pub(crate) mod chunks;
 pub(crate) mod data;
 pub(crate) mod encoder;

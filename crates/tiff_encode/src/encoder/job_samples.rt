@@ -14,7 +14,7 @@ use std::alloc::Global;
 use std::marker::Model;
 use tiff_base::error::{TiffError, TiffResult, UsageError};
 use tiff_base::tags::Type;
-use tiff_value::encoder::differences::Sample;
+use tiff_value::encoder::horizontal_predictor::Sample;
 
 // Where the samples of a job are: in a list of numbers, or in lent bytes, which are whole values of
 // a field type.

@@ -198,7 +198,7 @@ fn take_last<T: Drop>(items: &mut Vec<T>) -> T
 
 // Drops a value. A list of replies is dropped here, because in a function that isn't generic the
 // drop takes long to prove.
-fn let_go<T: Drop>(_value: T) {}
+fn drop_value<T: Drop>(_value: T) {}
 
 // Makes room for the replies to jobs. Returns for each job an empty list with room for the replies
 // to its steps.
@@ -249,7 +249,7 @@ fn run_new<W: Sink, K: TiffKind>(
     requires count { vec_len rooms.old ≡ length jobs.now }
     requires rooms { AreRooms jobs.now rooms.old.items }
     requires room { vec_len replies.old + length jobs.now ≤ vec_capacity replies.old }
-    ensures { RunsJobs W.told W.failures W.fault K.kind jobs.now sink replies.old.items
+    ensures { RunsJobs W.contents W.failures W.fault K.kind jobs.now sink replies.old.items
         replies.new.items result }
 {
     let mut encoder = TiffEncoder::<W, K>::new_generic(alloc, sink)?;
@@ -268,12 +268,12 @@ pub fn run_jobs<W: Sink, K: TiffKind>(
     jobs: &[Job<'_>],
     replies: &mut Vec<JobReply>,
 ) -> TiffResult<W>
-    ensures { RunsJobs W.told W.failures W.fault K.kind jobs.now sink replies.old.items
+    ensures { RunsJobs W.contents W.failures W.fault K.kind jobs.now sink replies.old.items
         replies.new.items result }
 {
     let mut rooms = make_rooms(alloc, jobs, replies)?;
     let answer = run_new::<W, K>(alloc, sink, jobs, &mut rooms, replies);
-    let_go(rooms);
+    drop_value(rooms);
     answer
 }
 
@@ -291,6 +291,6 @@ pub fn run_jobs_in<W: Sink, K: TiffKind>(
 {
     let mut rooms = make_rooms(encoder.alloc(), jobs, replies)?;
     run_all(encoder, jobs, &mut rooms, replies);
-    let_go(rooms);
+    drop_value(rooms);
     Ok(())
 }

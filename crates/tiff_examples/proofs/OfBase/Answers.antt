@@ -8,7 +8,7 @@ use Rattle.tiff_base.specs.Field.{Field, In, IsEntry}
 use Rattle.tiff_examples.specs.Base.Answers as s
 
 pub fails_from : s.fails_from
-fails_from = record { last = (7, 2); told = refl; grew = omega arith }
+fails_from = record { last = (7, 2); contents = refl; grew = omega arith }
 
 none_in : (e : ℕ × Field) → In e [] → IsEntry e
 none_in e h = absurd h

@@ -19,7 +19,7 @@ use Rattle.tiff_encode.specs.declared.encoder.script.EndReply.{EndReply}
 use Rattle.tiff_encode.specs.declared.encoder.script.EndReply.TheVariants as last
 use Rattle.tiff_encode.specs.declared.encoder.script.JobReply.{JobReply}
 use Rattle.tiff_encode.specs.FileBytes.{directory_bytes}
-use Rattle.tiff_encode.specs.Model.{Stands, Grows}
+use Rattle.tiff_encode.specs.Model.{FileContains, Grows}
 use Rattle.tiff_encode.specs.Laws.{AreListable}
 use Rattle.tiff_encode.specs.WriteOps.{Appended, Supplied, Listed, model_after}
 use Rattle.tiff_encode.specs.Shows.{Image, Shows}
@@ -151,7 +151,7 @@ none_listable : AreListable Classic no_fields.fields
 none_listable = listable [] tt (lit< tt)
 
 -- the file after the directory contains the model
-pad_stands : Stands Classic padded.bytes after_pad.model
+pad_stands : FileContains Classic padded.bytes after_pad.model
 pad_stands = ops_stand Classic gray_file image_model (Appended (0 ∷ []) ∷ []) image_stands (tt, tt)
 
 three_bytes : padded.bytes ++ directory_bytes Classic no_fields.fields ≡ three_file
@@ -159,7 +159,7 @@ three_bytes = ap (λ d. padded.bytes ++ d) (directory_by Classic [])
 
 three_stands : jobs.RunStands run_three
 three_stands =
-    subst (λ file. Stands Classic file after_three.model) three_bytes
+    subst (λ file. FileContains Classic file after_three.model) three_bytes
     (ops_stand Classic padded.bytes after_pad.model (Listed no_fields.fields ∷ []) pad_stands (none_listable, tt))
 
 -- ---- what the file shows
@@ -185,7 +185,7 @@ three_shown f (inr z) = absurd z
 pub three_jobs : s.three_jobs
 three_jobs = λ js rs a b. record {
   run = run_three;
-  ran_so = three_ran js rs a b;
+  run_is = three_ran js rs a b;
   bytes_are = refl;
   failures_are = refl;
   stands = λ h. three_stands;
@@ -194,7 +194,7 @@ three_jobs = λ js rs a b. record {
 
 -- ---- jobs that aren't called
 
-cut : HeaderFails Classic s.told s.failures s.last_fault s.fresh (IoError Device)
+cut : HeaderFails Classic s.contents s.failures s.last_fault s.fresh (IoError Device)
 cut = record {
   last = s.cut_sink;
   count = 3;

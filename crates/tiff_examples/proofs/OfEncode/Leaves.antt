@@ -6,7 +6,7 @@ use Rattle.tiff_encode.proofs.Slices.{ok_inj}
 use Rattle.tiff_examples.proofs.OfEncode.Model.{unequal}
 use Rattle.tiff_base.specs.declared.io.SinkFault.TheVariants as fault
 use Rattle.tiff_base.specs.declared.tags.FileKind.TheVariants.{Classic}
-use Rattle.tiff_encode.specs.Model.{Model, Stands, header_model, with_link}
+use Rattle.tiff_encode.specs.Model.{Model, FileContains, header_model, with_link}
 use Rattle.tiff_encode.specs.WriteOps.{WriteOp, Appended, Linked, model_after}
 use Rattle.tiff_encode.proofs.Header as its_header
 use Rattle.tiff_encode.proofs.WriteOps.{ops_stand}
@@ -33,7 +33,7 @@ unfolding tiff_on_literals
 not_broken (inl t) = unequal 0 8 (lit< tt) (sym (ok_inj 8 0 t.first))
 not_broken (inr t) =
     let m : List WriteOp → Model = λ before. with_link Classic (model_after Classic header (header_model Classic) before) t.torn.offset t.holds in
-    let stands : Stands Classic (s.torn_file 2).bytes (m (Appended (1 ∷ []) ∷ [])) = subst (λ before. Stands Classic (s.torn_file 2).bytes (m before)) (before_is t.torn.before t.torn.offset t.torn.target t.torn.last) t.stands in
+    let stands : FileContains Classic (s.torn_file 2).bytes (m (Appended (1 ∷ []) ∷ [])) = subst (λ before. FileContains Classic (s.torn_file 2).bytes (m before)) (before_is t.torn.before t.torn.offset t.torn.target t.torn.last) t.stands in
     unequal 1 2 (lit< tt) (sym (ap (λ xs. get_or xs 0 0) (ok_inj (2 ∷ []) (1 ∷ []) (stands.regions (record { offset = 8; bytes = 1 ∷ [] }) (inl refl)))))
 
 pub left_other : s.left_other

@@ -15,7 +15,7 @@ use Rattle.tiff_base.specs.Header.{Header, header_at}
 use Rattle.tiff_base.specs.Directory.{link_offset, link, directory_at}
 use Rattle.tiff_page.specs.Page.{PageRecord}
 use Rattle.tiff_encode.specs.FileBytes.{entry_bytes}
-use Rattle.tiff_encode.specs.Model.{In, FinishedDirectory, Model, own_link, whole_len, Stands, header_model, with_link, with_directory}
+use Rattle.tiff_encode.specs.Model.{In, FinishedDirectory, Model, own_link, whole_len, FileContains, header_model, with_link, with_directory}
 use Rattle.tiff_encode.specs.WriteOps.{Listed, standing_fields, model_after}
 use Rattle.tiff_encode.specs.Laws.{IsListable, AreListable}
 use Rattle.tiff_encode.specs.Shows.{Image, Shows, ShowsFirst, gray_image}
@@ -74,7 +74,7 @@ wide_listable =
 stands : s.wide_stands
 stands =
     let m : Model = model_after Classic header (header_model Classic) (Listed s.wide_fields ∷ []) in
-    subst (λ file. Stands Classic file m) listed
+    subst (λ file. FileContains Classic file m) listed
     (ops_stand Classic header (header_model Classic) (Listed s.wide_fields ∷ []) (its_header.header_stands Classic) (wide_listable, tt))
 
 -- the record of the directory at 8 in a model
@@ -87,7 +87,7 @@ either true n = refl
 either false n = refl
 
 its_directory : (fields : FinMap nat_cmp Field)
-    → Stands Classic s.wide_file (with_directory Classic (header_model Classic) (record { offset = 8; fields = fields }))
+    → FileContains Classic s.wide_file (with_directory Classic (header_model Classic) (record { offset = 8; fields = fields }))
     → directory_at Classic LittleEndian s.wide_file 8 ≡ Ok (wide_by fields)
 its_directory fields t =
     let d : FinishedDirectory = record { offset = 8; fields = fields } in

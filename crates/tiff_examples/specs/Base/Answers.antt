@@ -11,7 +11,7 @@ use Rattle.tiff_base.specs.declared.tags.PhotometricInterpretation.TheVariants a
 use Rattle.tiff_base.specs.declared.tags.ResolutionUnit.TheVariants as unit
 use Rattle.tiff_base.specs.declared.tags.SampleFormat.TheVariants as format
 use Rattle.tiff_base.specs.declared.tags.Tag.TheVariants as tag
-use Rattle.tiff_base.specs.Answers.{AsksOnly, Answers, AnswersWithoutMemory, AnswersWithoutSource, Gives, IsKept, FailsFrom}
+use Rattle.tiff_base.specs.Answers.{ReadsOnly, Answers, AnswersWithoutMemory, AnswersWithoutSource, Gives, IsKept, FailsFrom}
 use Rattle.tiff_base.specs.declared.tags.«Type».TheVariants.{SHORT}
 use Rattle.tiff_base.specs.Field.{Field, In, IsEntry, AreEntries}
 use Rattle.tiff_base.specs.SourceAndSink.{sink_error}
@@ -116,15 +116,15 @@ swallowed =
     × Never (IsKept bytes_of failures_of ended (7, 1) (7, 2))
     × Never (IsKept bytes_of failures_of memory_wanted (7, 1) (7, 2))
 
--- mistake: `AsksOnly` refuses another error
+-- mistake: `ReadsOnly` refuses another error
 -- a call whose bytes are readable may return other errors, and else a device error too
 abbrev pub asks : Type 0
-asks = AsksOnly (Unit {0}) ended × AsksOnly (Unit {0}) memory_wanted × AsksOnly ⊥ device_failed
+asks = ReadsOnly (Unit {0}) ended × ReadsOnly (Unit {0}) memory_wanted × ReadsOnly ⊥ device_failed
 
--- mistake: `AsksOnly` allows a device error if the bytes can be read
+-- mistake: `ReadsOnly` allows a device error if the bytes can be read
 -- a call whose bytes are readable doesn't return a device error
 abbrev pub asks_not : Type 0
-asks_not = Never (AsksOnly (Unit {0}) device_failed)
+asks_not = Never (ReadsOnly (Unit {0}) device_failed)
 
 -- a source that can fail, and a source that can't
 abbrev pub fails_from : Type 0

@@ -76,8 +76,8 @@ three_wrong = (jobs : List Job) (replies : List JobReply) → AreThree jobs
 abbrev pub SinkRecord : Type 0
 SinkRecord = List ℕ × (ℕ × Option SinkFault)
 
-abbrev pub told : SinkRecord → List ℕ
-told s = s.0
+abbrev pub contents : SinkRecord → List ℕ
+contents s = s.0
 
 abbrev pub failures : SinkRecord → ℕ
 failures s = s.1.0
@@ -91,38 +91,38 @@ fresh = ([], (0, None))
 
 -- no memory for the replies, and no reply is added
 abbrev pub no_room : Type 0
-no_room = RefusesJobs told failures last_fault Classic fresh OutOfMemory
+no_room = RefusesJobs contents failures last_fault Classic fresh OutOfMemory
 
 abbrev pub no_room_run : Type 0
 no_room_run = (jobs : List Job) (earlier : List JobReply)
-    → RunsJobs told failures last_fault Classic jobs fresh earlier earlier (Err OutOfMemory)
+    → RunsJobs contents failures last_fault Classic jobs fresh earlier earlier (Err OutOfMemory)
 
 -- the device fails after three bytes of the header
 abbrev pub cut_sink : SinkRecord
 cut_sink = (take 3 header, (1, Some fault.Device))
 
 abbrev pub header_cut : Type 0
-header_cut = (r : HeaderFails Classic told failures last_fault fresh (IoError Device))
+header_cut = (r : HeaderFails Classic contents failures last_fault fresh (IoError Device))
     × (r.last ≡ cut_sink)
 
 abbrev pub header_cut_run : Type 0
 header_cut_run = (jobs : List Job)
-    → RunsJobs told failures last_fault Classic jobs fresh [] [] (Err (IoError Device))
+    → RunsJobs contents failures last_fault Classic jobs fresh [] [] (Err (IoError Device))
 
 -- a device error in the header isn't returned as an out-of-memory error
 abbrev pub header_swapped : Type 0
-header_swapped = (r : HeaderFails Classic told failures last_fault fresh OutOfMemory)
+header_swapped = (r : HeaderFails Classic contents failures last_fault fresh OutOfMemory)
     → r.last ≡ cut_sink → ⊥
 
 -- if the whole header is written, it didn't fail
 abbrev pub header_whole : Type 0
-header_whole = (e : TiffError) (r : HeaderFails Classic told failures last_fault fresh e)
-    → told r.last ≡ header → ⊥
+header_whole = (e : TiffError) (r : HeaderFails Classic contents failures last_fault fresh e)
+    → contents r.last ≡ header → ⊥
 
 -- jobs aren't refused with another error, and there is no reply
 abbrev pub other_cause : Type 0
-other_cause = RefusesJobs told failures last_fault Classic fresh IntSizeError → ⊥
+other_cause = RefusesJobs contents failures last_fault Classic fresh IntSizeError → ⊥
 
 abbrev pub replied : Type 0
 replied = (jobs : List Job) (e : TiffError) (r : JobReply)
-    → RunsJobs told failures last_fault Classic jobs fresh [] (r ∷ []) (Err e) → ⊥
+    → RunsJobs contents failures last_fault Classic jobs fresh [] (r ∷ []) (Err e) → ⊥

@@ -35,7 +35,7 @@ use Rattle.tiff_encode.specs.WriteOps.{WriteOp, Appended, Listed, Linked, standi
 use Rattle.tiff_encode.specs.Machine.{FileState, OpenDirectory, answers, gives, does}
 use Rattle.tiff_encode.specs.Calls as calls
 use Rattle.tiff_encode.specs.Calls.{Offsets, new_directory}
-use Rattle.tiff_encode.specs.Ends.{EndsAsDefined, IsCutOff, IsTornOff, IsShortOfMemory, Ends, EndsSilently, EndsRefused}
+use Rattle.tiff_encode.specs.Ends.{EndsAsDefined, AppendFailed, LinkWriteFailed, IsShortOfMemory, Ends, EndsSilently, EndsRefused}
 use Rattle.tiff_encode.specs.Extending.{Extends}
 use Rattle.tiff_value.specs.Data.{u16s, data_of}
 use Rattle.tiff_encode.specs.JobValues.{value_data, buffer_in, cut_to}
@@ -72,34 +72,34 @@ told_other = EndsAsDefined (gives {A = ℕ} 5 (new_file Classic)) (Ok 6) (new_fi
 -- the sink fails after the first byte
 abbrev pub cut_off : Type 0
 cut_off =
-    IsCutOff three (IoError Device) (new_file Classic)
+    AppendFailed three (IoError Device) (new_file Classic)
     (failed_with fault.Device (header ++ (1 ∷ [])))
 
 -- a device error isn't returned if the sink didn't fail
 abbrev pub not_cut_off : Type 0
 not_cut_off = (e : TiffError) (new : FileState) → new.failures ≡ 0
-    → IsCutOff three e (new_file Classic) new → ⊥
+    → AppendFailed three e (new_file Classic) new → ⊥
 
--- mistake: `IsCutOff` allows another error than the sink's
+-- mistake: `AppendFailed` allows another error than the sink's
 -- only the sink's error is returned, and none if everything is written
 abbrev pub swapped : Type 0
 swapped =
-    IsCutOff three OutOfMemory (new_file Classic) (failed_with fault.Device (header ++ (1 ∷ [])))
+    AppendFailed three OutOfMemory (new_file Classic) (failed_with fault.Device (header ++ (1 ∷ [])))
     → ⊥
 
--- mistake: `IsCutOff` allows that all was written
+-- mistake: `AppendFailed` allows that all was written
 abbrev pub cut_whole : Type 0
 cut_whole = (e : TiffError) (told : SinkFault)
-    → IsCutOff three e (new_file Classic) (failed_with told (header ++ (1 ∷ 2 ∷ 3 ∷ []))) → ⊥
+    → AppendFailed three e (new_file Classic) (failed_with told (header ++ (1 ∷ 2 ∷ 3 ∷ []))) → ⊥
 
 -- the sink fails after the first byte of the link
 abbrev pub torn_off : Type 0
-torn_off = IsTornOff linked OutOfMemory (new_file Classic)
+torn_off = LinkWriteFailed linked OutOfMemory (new_file Classic)
     (failed_with fault.OutOfMemory (0x49 ∷ 0x49 ∷ 0x2a ∷ 0x00 ∷ 0x08 ∷ 0x00 ∷ 0x00 ∷ 0x00 ∷ 1 ∷ []))
 
--- mistake: `IsTornOff` lets a link be torn on a file that had failed
+-- mistake: `LinkWriteFailed` lets a link be torn on a file that had failed
 abbrev pub not_torn_off : Type 0
-not_torn_off = (e : TiffError) (new : FileState) → IsTornOff linked e failed_file new → ⊥
+not_torn_off = (e : TiffError) (new : FileState) → LinkWriteFailed linked e failed_file new → ⊥
 
 -- a directory is appended, and the sink fails after the first byte of the link to it: the file
 -- contains the directory, with link 0

@@ -9,7 +9,7 @@ use Rattle.tiff_base.specs.declared.tags.«Type».TheVariants.{SHORT}
 use Rattle.tiff_base.specs.Field.{Field}
 use Rattle.tiff_base.specs.Directory.{directory_at}
 use Rattle.tiff_encode.specs.Laws.{OpFits, OpsFit, AreAppending}
-use Rattle.tiff_encode.specs.Model.{BytesAreApart, In, FinishedDirectory, SuppliedField, ByteRegion, Model, IsLink, IsClear, IsApart, own_link, whole_len, Stands, header_model, with_link, with_directory, with_region, with_supplied, Grows}
+use Rattle.tiff_encode.specs.Model.{BytesAreApart, In, FinishedDirectory, SuppliedField, ByteRegion, Model, IsLink, IsClear, IsApart, own_link, whole_len, FileContains, header_model, with_link, with_directory, with_region, with_supplied, Grows}
 use Rattle.tiff_encode.specs.Shows.{Image, Shows, ShowsFirst, ShowsGray, gray_image}
 use Rattle.tiff_encode.specs.WriteOps.{Appended, Supplied, Listed, Linked, after_op, bytes_after, all_appended, standing_field, model_after}
 use Rattle.tiff_encode.specs.Machine.{begun_file, answers, gives, does, by_cause, ◌>>=◌}
@@ -27,23 +27,23 @@ is_not_in = In {A = ℕ} 3 (1 ∷ 2 ∷ []) → ⊥
 
 -- the header contains the header's model; without its last byte it contains no model
 abbrev pub header_stands : Type 0
-header_stands = Stands Classic header (header_model Classic)
+header_stands = FileContains Classic header (header_model Classic)
 
 abbrev pub cut_header : Type 0
-cut_header = (m : Model) → Stands Classic (take 7 header) m → ⊥
+cut_header = (m : Model) → FileContains Classic (take 7 header) m → ⊥
 
--- mistake: `Stands` doesn't test the header's link
+-- mistake: `FileContains` doesn't test the header's link
 -- if the header's link is 9, the file contains no model whose link is 0
 abbrev pub other_target : Type 0
 other_target =
-    Stands Classic (0x49 ∷ 0x49 ∷ 0x2a ∷ 0x00 ∷ 0x09 ∷ 0x00 ∷ 0x00 ∷ 0x00 ∷ [])
+    FileContains Classic (0x49 ∷ 0x49 ∷ 0x2a ∷ 0x00 ∷ 0x09 ∷ 0x00 ∷ 0x00 ∷ 0x00 ∷ [])
     (header_model Classic) → ⊥
 
--- mistake: `Stands` allows regions past the end
+-- mistake: `FileContains` allows regions past the end
 -- a file doesn't contain a region that reaches past its end
 abbrev pub past_end : Type 0
 past_end =
-    Stands Classic header
+    FileContains Classic header
     (with_region (header_model Classic) (record { offset = 7; bytes = 0 ∷ 0 ∷ [] })) → ⊥
 
 -- a model with the link of one directory, at 22
@@ -97,7 +97,7 @@ whole_18 = whole_len Classic directory_8 ≡ 18
 
 abbrev pub overlaid : Type 0
 overlaid = (file : List ℕ)
-    → Stands Classic file (with_region first_model (record { offset = 9; bytes = 7 ∷ [] })) → ⊥
+    → FileContains Classic file (with_region first_model (record { offset = 9; bytes = 7 ∷ [] })) → ⊥
 
 -- a link at 4 fits into 8 bytes, and not into 7
 abbrev pub apart : Type 0
@@ -252,12 +252,12 @@ wide_read =
 
 abbrev pub wide_stands : Type 0
 wide_stands =
-    Stands Classic wide_file
+    FileContains Classic wide_file
     (model_after Classic header (header_model Classic) (Listed wide_fields ∷ []))
 
 abbrev pub wide_as_given : Type 0
 wide_as_given =
-    Stands Classic wide_file
+    FileContains Classic wide_file
     (with_directory Classic (header_model Classic) (record { offset = 8; fields = wide_fields }))
     → ⊥
 

@@ -21,7 +21,7 @@ behind_refused = offset_behind {X = ℕ} (Err (IoError UnexpectedEof)) 2 5 ≡ 5
 -- a reader of nine bytes at an offset
 abbrev pub at : ℕ → Reading
 at offset = record {
-  told = record {
+  contents = record {
     bytes = 0xff ∷ 0xfe ∷ 0x3f ∷ 0x80 ∷ 0x00 ∷ 0x00 ∷ 0x00 ∷ 0x00 ∷ 0x01 ∷ [];
     readable = Some ((0, 9) ∷ []);
   };

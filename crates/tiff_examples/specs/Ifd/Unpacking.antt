@@ -102,7 +102,7 @@ broken_read = GivesNext (gives [] Broken) (0x09 ∷ []) 0 (0x09 ∷ []) (gives [
 
 abbrev pub left : Unpacked → ℕ → Unpacking
 left rest failures = record {
-  told = record { bytes = []; readable = None };
+  contents = record { bytes = []; readable = None };
   failures = failures;
   at = 0;
   len = 0;

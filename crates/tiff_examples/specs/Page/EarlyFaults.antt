@@ -9,7 +9,7 @@ use Rattle.tiff_base.specs.declared.tags.SampleFormat.TheVariants as format
 use Rattle.tiff_base.specs.Sparing.{IsListFault}
 use Rattle.tiff_ifd.specs.Limits.{unlimited}
 use Rattle.tiff_page.specs.Page.{PageRecord}
-use Rattle.tiff_page.specs.EarlyFaults.{WantsWhere, WantsAfter, chunk_bytes_early, image_bytes_early, unit_bytes_early, image_early, planes_early, chunk_early, strided_early}
+use Rattle.tiff_page.specs.EarlyFaults.{WantsWhere, AllocatesAfter, chunk_bytes_early, image_bytes_early, unit_bytes_early, image_early, planes_early, chunk_early, strided_early}
 use Rattle.tiff_examples.specs.Files.{gray_file}
 use Rattle.tiff_examples.specs.Page.Pixels.{pixel_page, limits}
 use Rattle.tiff_examples.specs.Page.PixelCalls.{two_planes, two_faults, tiles}
@@ -19,12 +19,12 @@ abbrev pub claiming_page : PageRecord
 claiming_page =
     record pixel_page { width = 16384; height = 16384; chunk_width = 16384; chunk_height = 16384 }
 
--- mistake: `early_fault` doesn't look for the first chunk
+-- mistake: `check_first_chunk` doesn't look for the first chunk
 -- the file doesn't contain the last byte of the claimed image
 abbrev pub claim_cut : Type 0
 claim_cut = image_early gray_file claiming_page unlimited ≡ Err (IoError UnexpectedEof)
 
--- mistake: `early_fault` ignores the limit
+-- mistake: `check_first_chunk` ignores the limit
 -- the limit is checked before the end of the file
 abbrev pub claim_past_limit : Type 0
 claim_past_limit = image_early gray_file claiming_page (limits 99 99) ≡ Err LimitsExceeded
@@ -43,7 +43,7 @@ packed_claim_cut =
 abbrev pub pixel_held : Type 0
 pixel_held = image_early gray_file pixel_page unlimited ≡ Ok tt
 
--- mistake: `early_fault` ignores its form
+-- mistake: `check_first_chunk` ignores its form
 -- an unsupported compression method is found early, and a missing number type before it
 abbrev pub unpacked_not : Type 0
 unpacked_not =
@@ -88,16 +88,16 @@ stride_first =
 abbrev pub strided_past_limit : Type 0
 strided_past_limit = strided_early tiles two_planes (limits 13 99) 0 7 ≡ Err LimitsExceeded
 
--- mistake: `WantsAfter` allows out of memory in every case (`method_wants_none` fails too)
+-- mistake: `AllocatesAfter` allows out of memory in every case (`method_wants_none` fails too)
 -- a call doesn't return an out-of-memory error for a file that claims too much
 abbrev pub claim_wants_none : Type 0
 claim_wants_none =
-    WantsAfter {X = ℕ} (image_early gray_file claiming_page unlimited) (Err OutOfMemory) → ⊥
+    AllocatesAfter {X = ℕ} (image_early gray_file claiming_page unlimited) (Err OutOfMemory) → ⊥
 
--- mistake: `WantsAfter` never allows out of memory (`format_may_want` fails too)
+-- mistake: `AllocatesAfter` never allows out of memory (`format_may_want` fails too)
 -- a call may return an out-of-memory error for a page of one pixel
 abbrev pub pixel_may_want : Type 0
-pixel_may_want = WantsAfter {X = ℕ} (image_early gray_file pixel_page unlimited) (Err OutOfMemory)
+pixel_may_want = AllocatesAfter {X = ℕ} (image_early gray_file pixel_page unlimited) (Err OutOfMemory)
 
 -- mistake: `IsListFault` counts the end of the source
 -- an error without a list, and no error
@@ -121,12 +121,12 @@ format_has_list =
 -- an unsupported method isn't an out-of-memory error; the list of an error may be out of memory
 abbrev pub method_wants_none : Type 0
 method_wants_none =
-    WantsAfter {X = ℕ} (image_early gray_file (record pixel_page { method = method.LZW }) unlimited)
+    AllocatesAfter {X = ℕ} (image_early gray_file (record pixel_page { method = method.LZW }) unlimited)
     (Err OutOfMemory) → ⊥
 
 abbrev pub format_may_want : Type 0
 format_may_want =
-    WantsAfter {X = ℕ}
+    AllocatesAfter {X = ℕ}
     (image_early gray_file (record pixel_page { format = format.Void }) unlimited) (Err OutOfMemory)
 
 -- mistake: `image_bytes_early` tests the form before the room (`chunk_without_room` fails too)

@@ -2,7 +2,7 @@
 use Rattle.std.specs.Prelude.{◌≡◌, ℕ, List, [], ◌∷◌}
 use Rattle.tiff_base.specs.declared.tags.ByteOrder.TheVariants.{LittleEndian, BigEndian}
 use Rattle.tiff_page.specs.Pixels.{row_number, summed_number, summed_byte, joined_number}
-use Rattle.tiff_page.specs.Row.{RowReplaced, TurnsNumbers}
+use Rattle.tiff_page.specs.Row.{RowReplaced, SwapsBytes}
 
 -- mistake: `row_number` takes the first one
 -- the second 2-byte number, in either byte order
@@ -72,5 +72,5 @@ row_end_changed = turned (0x02 ∷ 0x01 ∷ 0x00 ∷ []) → ⊥
 
 -- a row of two numbers with the byte order reversed; the second number doesn't stay unchanged
 abbrev pub second_unturned : Type 0
-second_unturned = TurnsNumbers 2 (0x01 ∷ 0x02 ∷ 0x03 ∷ 0x04 ∷ []) (0x02 ∷ 0x01 ∷ 0x03 ∷ 0x04 ∷ [])
+second_unturned = SwapsBytes 2 (0x01 ∷ 0x02 ∷ 0x03 ∷ 0x04 ∷ []) (0x02 ∷ 0x01 ∷ 0x03 ∷ 0x04 ∷ [])
     → ⊥

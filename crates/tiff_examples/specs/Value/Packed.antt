@@ -58,7 +58,7 @@ cmyk32_float =
       formats = IEEEFP ∷ IEEEFP ∷ IEEEFP ∷ IEEEFP ∷ [];
     }
 
--- mistake: `form_of` gives YCbCr8 the family of RGB
+-- mistake: `family_and_type` gives YCbCr8 the family of RGB
 abbrev pub ycbcr8 : Type 0
 ycbcr8 =
     color_type n.YCbCr8

@@ -1,5 +1,5 @@
 use Rattle.std.proofs.Common.{◌≡◌, ℕ, ◌<◌, List, length, Ok, Err, ap, sym, subst, refl, ◌∙◌, arith, rules}
-use Rattle.tiff.specs.Model.{IsLink, Stands, header_model}
+use Rattle.tiff.specs.Model.{IsLink, FileContains, header_model}
 use Rattle.tiff.specs.Shows.{ShowsGray}
 use Rattle.tiff_base.specs.declared.tags.FileKind.TheVariants.{Classic}
 use Rattle.tiff.proofs.MemoryFaults.{only_memory}
@@ -31,7 +31,7 @@ returns-clause-shows c =
     let is = c.in_ok-encoder.ensures.answer in
     let kind = sym (ap (λ e. e.kind) is) in
     let m = header_model Classic in
-    let image = c.in_ok-written.ensures.leaves m (subst (λ k. Stands k encoder.bytes m) kind header.stands) (subst (λ k. IsLink k m encoder.chain) kind header.link) in
+    let image = c.in_ok-written.ensures.leaves m (subst (λ k. FileContains k encoder.bytes m) kind header.stands) (subst (λ k. IsLink k m encoder.chain) kind header.link) in
     let file = c.into_vec-file.ensures ∙ c.into_inner.ensures.bytes in
     let some : 0 < length encoder.bytes = (let e : length encoder.bytes ≡ 8 = ap (λ e. length e.bytes) is ∙ rw empty refl in omega (arith, e)) in
     subst (λ (l : List ℕ). ShowsGray l c.args.width c.args.height c.args.samples.now) (sym file)

@@ -4,7 +4,7 @@ use Rattle.tiff_base.specs.declared.error.TiffError.{TiffError}
 use Rattle.tiff_decode.specs.declared.result.DecodingResult.{DecodingResult}
 use Rattle.tiff_decode.specs.Result.{decoded_as}
 use Rattle.tiff.proofs.MemoryFaults.{only_memory}
-use Rattle.tiff.specs.Model.{IsLink, Stands, header_model}
+use Rattle.tiff.specs.Model.{IsLink, FileContains, header_model}
 use Rattle.tiff_base.specs.declared.tags.FileKind.TheVariants.{Classic}
 use Rattle.tiff_base.specs.Types.{type_size}
 use Rattle.tiff_value.specs.ColorType.{columns_of, sample_number}
@@ -24,7 +24,7 @@ returns-clause-comes_back g c =
     let is = c.in_ok-encoder.ensures.answer in
     let kind = sym (ap (λ e. e.kind) is) in
     let m = header_model Classic in
-    let image = c.in_ok-written.ensures.leaves m (subst (λ k. Stands k encoder.bytes m) kind header.stands) (subst (λ k. IsLink k m encoder.chain) kind header.link) in
+    let image = c.in_ok-written.ensures.leaves m (subst (λ k. FileContains k encoder.bytes m) kind header.stands) (subst (λ k. IsLink k m encoder.chain) kind header.link) in
     let file = c.into_vec-bytes.ensures ∙ c.into_inner.ensures.bytes in
     let some : 0 < length encoder.bytes = (let e : length encoder.bytes ≡ 8 = ap (λ e. length e.bytes) is ∙ rw empty refl in omega (arith, e)) in
     let chain = subst (λ k. encoder.chain ≡ header_link k) kind (header_chain Classic encoder.chain header.link) in

@@ -10,7 +10,7 @@ ghost use Rattle.tiff_value.specs.Packed.{ArePackedRows, IsPacked};
 ghost use Rattle.tiff_value.specs.Written.{WritesCounted};
 
 use super::compression::{push_packed, push_packed_rows, reserve_packed};
-use super::differences::Sample;
+use super::horizontal_predictor::Sample;
 use super::writer::TiffWriter;
 use tiff_base::error::{TiffError, TiffResult};
 use tiff_base::io::Sink;

@@ -12,8 +12,8 @@ use tiff_base::error::{TiffError, TiffResult};
 use tiff_base::io::ByteWitness;
 use tiff_base::tags::{Bits32, Bits64};
 
-/// A number that is written as `N` bytes.
-pub(crate) trait Octets<const N: usize>: Copy {
+/// A number that is written as `N` bytes, the least significant first.
+pub(crate) trait LittleEndianBytes<const N: usize>: Copy {
     ghost use Rattle.std.specs.Prelude.{◌≡◌, ◌+◌, ◌-◌, ℕ, List};
 
     // The bytes of the number, as they are written.
@@ -27,7 +27,7 @@ pub(crate) trait Octets<const N: usize>: Copy {
     ghost small: { N + (8 - N) ≡ 8 };
 }
 
-impl Octets<1> for i8 {
+impl LittleEndianBytes<1> for i8 {
     ghost written = { signed_le w8 };
 
     fn octets(self) -> [u8; 1] {
@@ -37,7 +37,7 @@ impl Octets<1> for i8 {
     ghost small = { refl };
 }
 
-impl Octets<2> for u16 {
+impl LittleEndianBytes<2> for u16 {
     ghost written = { le 2 };
 
     fn octets(self) -> [u8; 2] {
@@ -47,7 +47,7 @@ impl Octets<2> for u16 {
     ghost small = { refl };
 }
 
-impl Octets<2> for i16 {
+impl LittleEndianBytes<2> for i16 {
     ghost written = { signed_le w16 };
 
     fn octets(self) -> [u8; 2] {
@@ -57,7 +57,7 @@ impl Octets<2> for i16 {
     ghost small = { refl };
 }
 
-impl Octets<4> for u32 {
+impl LittleEndianBytes<4> for u32 {
     ghost written = { le 4 };
 
     fn octets(self) -> [u8; 4] {
@@ -67,7 +67,7 @@ impl Octets<4> for u32 {
     ghost small = { refl };
 }
 
-impl Octets<4> for i32 {
+impl LittleEndianBytes<4> for i32 {
     ghost written = { signed_le w32 };
 
     fn octets(self) -> [u8; 4] {
@@ -77,7 +77,7 @@ impl Octets<4> for i32 {
     ghost small = { refl };
 }
 
-impl Octets<8> for u64 {
+impl LittleEndianBytes<8> for u64 {
     ghost written = { le 8 };
 
     fn octets(self) -> [u8; 8] {
@@ -87,7 +87,7 @@ impl Octets<8> for u64 {
     ghost small = { refl };
 }
 
-impl Octets<8> for i64 {
+impl LittleEndianBytes<8> for i64 {
     ghost written = { signed_le w64 };
 
     fn octets(self) -> [u8; 8] {
@@ -97,7 +97,7 @@ impl Octets<8> for i64 {
     ghost small = { refl };
 }
 
-impl Octets<4> for Bits32 {
+impl LittleEndianBytes<4> for Bits32 {
     ghost written = { λ n. le 4 n.0 };
 
     fn octets(self) -> [u8; 4] {
@@ -107,7 +107,7 @@ impl Octets<4> for Bits32 {
     ghost small = { refl };
 }
 
-impl Octets<8> for Bits64 {
+impl LittleEndianBytes<8> for Bits64 {
     ghost written = { λ n. le 8 n.0 };
 
     fn octets(self) -> [u8; 8] {
@@ -133,7 +133,7 @@ fn push_octets<const N: usize>(list: Vec<u8>, octets: [u8; N]) -> Vec<u8>
 }
 
 // Returns a list, which has room for them, with the bytes of numbers after it.
-fn push_each<T: Octets<N>, const N: usize>(list: Vec<u8>, numbers: &[T]) -> Vec<u8>
+fn push_each<T: LittleEndianBytes<N>, const N: usize>(list: Vec<u8>, numbers: &[T]) -> Vec<u8>
     requires { vec_len list + length numbers.now * N ≤ vec_capacity list }
     ensures { result.items ≡ list.items ++ flat_map T.written numbers.now }
 {
@@ -146,7 +146,7 @@ fn push_each<T: Octets<N>, const N: usize>(list: Vec<u8>, numbers: &[T]) -> Vec<
 
 /// Appends the bytes of the numbers. The only error is `OutOfMemory`, after which `out` has its
 /// earlier contents.
-pub(crate) fn push_numbers<T: Octets<N>, const N: usize>(
+pub(crate) fn push_numbers<T: LittleEndianBytes<N>, const N: usize>(
     numbers: &[T],
     out: &mut Vec<u8>,
 ) -> TiffResult<()>
@@ -172,7 +172,7 @@ fn show_octets<const N: usize, S: ByteWitness>(octets: [u8; N], witness: &mut S)
 
 /// Shows each byte of the numbers. The loops do nothing that is left when the program runs, if the
 /// witness keeps nothing.
-pub(crate) fn show_numbers<T: Octets<N>, const N: usize, S: ByteWitness>(
+pub(crate) fn show_numbers<T: LittleEndianBytes<N>, const N: usize, S: ByteWitness>(
     numbers: &[T],
     witness: &mut S,
 )

@@ -39,7 +39,7 @@ impl<W: Sink> Model for TiffWriter<W> {
 
     // The field `fault` is the last error of the sink.
     ghost view = { λ w. record {
-      bytes = W.told w.sink;
+      bytes = W.contents w.sink;
       at = w.at;
       fault = (if w.failed then W.fault w.sink else None);
       failures = W.failures w.sink;
@@ -47,7 +47,7 @@ impl<W: Sink> Model for TiffWriter<W> {
       method = compressor_method w.compressor;
     } };
 
-    ghost invariant = { λ w. (w.at ≤ length (W.told w.sink))
+    ghost invariant = { λ w. (w.at ≤ length (W.contents w.sink))
         × (w.failed ≡ is_some (if w.failed then W.fault w.sink else None)) };
 }
 
@@ -64,7 +64,7 @@ fn error_of(fault: SinkFault) -> TiffError
 impl<W: Sink> TiffWriter<W> {
     /// Makes a writer at the end of the sink, without compression.
     pub fn new(sink: W) -> Self
-        ensures { result ≡ new_writer (W.told sink) (W.failures sink) }
+        ensures { result ≡ new_writer (W.contents sink) (W.failures sink) }
     {
         let at = sink.len();
         TiffWriter {
@@ -327,7 +327,7 @@ impl<W: Sink> TiffWriter<W> {
 
     /// Returns the sink.
     pub fn into_inner(self) -> W
-        ensures bytes { W.told result ≡ self.bytes }
+        ensures bytes { W.contents result ≡ self.bytes }
         ensures failures { W.failures result ≡ self.failures }
         ensures fault { IsSome self.fault → W.fault result ≡ self.fault }
     {

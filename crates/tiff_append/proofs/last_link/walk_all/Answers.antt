@@ -4,5 +4,5 @@ use Rattle.tiff_append.proofs.last_link.walk_all.Goals as goal
 
 pub returns-clause-begins : goal.returns-clause-begins
 returns-clause-begins g c =
-    let bytes : List ℕ = (g.R.Source.told c.args.source.now).bytes in
+    let bytes : List ℕ = (g.R.Source.contents c.args.source.now).bytes in
     c.offset_of.ensures.begins c.args.first (c.new-walk.ensures.begins c.args.kind LittleEndian bytes)

@@ -8,7 +8,7 @@ ghost use Rattle.tiff_encode.specs.WriteOps.{model_after};
 ghost use Rattle.tiff_encode.specs.Ends.{Ends, EndsSilently, EndsAsDefined};
 ghost use Rattle.tiff_encode.specs.Extending.{Extends};
 ghost use Rattle.tiff_encode.specs.Leaves.{Leaves, LeavesLinked};
-ghost use Rattle.tiff_encode.specs.Model.{IsLink, Model, Stands};
+ghost use Rattle.tiff_encode.specs.Model.{IsLink, Model, FileContains};
 ghost use Rattle.tiff_encode.specs.Rooms.{StaysUnlessCut};
 
 use crate::encoder::TiffEncoder;
@@ -63,9 +63,9 @@ impl<W: Sink, K: TiffKind> TiffEncoder<W, K> {
 
         // Everything that the file contained before the call is still in it. If the call fails,
         // `rests` states this.
-        ensures leaves { (m : Model) → Stands self.entry.now.kind self.entry.now.bytes m
+        ensures leaves { (m : Model) → FileContains self.entry.now.kind self.entry.now.bytes m
             → IfOk result
-            (λ d. Stands self.entry.now.kind d.encoder.now.bytes
+            (λ d. FileContains self.entry.now.kind d.encoder.now.bytes
             (model_after self.entry.now.kind self.entry.now.bytes m
             (calls.image_directory self.entry.now).ops)) }
     {
@@ -93,9 +93,9 @@ impl<W: Sink, K: TiffKind> TiffEncoder<W, K> {
 
         // Everything that the file contained before the call is still in it. If the call fails,
         // `rests` states this.
-        ensures leaves { (m : Model) → Stands self.entry.now.kind self.entry.now.bytes m
+        ensures leaves { (m : Model) → FileContains self.entry.now.kind self.entry.now.bytes m
             → IfOk result
-            (λ d. Stands self.entry.now.kind d.encoder.now.bytes
+            (λ d. FileContains self.entry.now.kind d.encoder.now.bytes
             (model_after self.entry.now.kind self.entry.now.bytes m
             (calls.extra_directory self.entry.now).ops)) }
     {
@@ -137,7 +137,7 @@ impl<'a, W: Sink, K: TiffKind, D: HasDirectory> DirectoryEncoder<'a, W, K, D> {
         ensures unwritten { OnErr result (StaysUnlessCut self.old.encoder.now self.new.encoder.now) }
 
         // Everything that the file contained before the call is still in it.
-        ensures leaves { (m : Model) → Stands self.old.encoder.now.kind self.old.encoder.now.bytes m
+        ensures leaves { (m : Model) → FileContains self.old.encoder.now.kind self.old.encoder.now.bytes m
             → Leaves (calls.write_entry (T.field_data value) self.old.encoder.now) result
             self.old.encoder.now self.new.encoder.now m }
     {
@@ -159,7 +159,7 @@ impl<'a, W: Sink, K: TiffKind, D: HasDirectory> DirectoryEncoder<'a, W, K, D> {
         ensures unwritten { OnErr result (StaysUnlessCut self.old.encoder.now self.new.encoder.now) }
 
         // Everything that the file contained before the call is still in it.
-        ensures leaves { (m : Model) → Stands self.old.encoder.now.kind self.old.encoder.now.bytes m
+        ensures leaves { (m : Model) → FileContains self.old.encoder.now.kind self.old.encoder.now.bytes m
             → Leaves (calls.write_entry_buf buffer.now self.old.encoder.now) result
             self.old.encoder.now self.new.encoder.now m }
     {
@@ -183,7 +183,7 @@ impl<'a, W: Sink, K: TiffKind, D: HasDirectory> DirectoryEncoder<'a, W, K, D> {
         ensures unwritten { OnErr result (StaysUnlessCut self.old.encoder.now self.new.encoder.now) }
 
         // Everything that the file contained before the call is still in it.
-        ensures leaves { (m : Model) → Stands self.old.encoder.now.kind self.old.encoder.now.bytes m
+        ensures leaves { (m : Model) → FileContains self.old.encoder.now.kind self.old.encoder.now.bytes m
             → Leaves (calls.write_entry_bytes field_type bytes.now self.old.encoder.now) result
             self.old.encoder.now self.new.encoder.now m }
     {
@@ -209,7 +209,7 @@ impl<'a, W: Sink, K: TiffKind, D: HasDirectory> DirectoryEncoder<'a, W, K, D> {
         ensures unwritten { OnErr result (StaysUnlessCut self.old.encoder.now self.new.encoder.now) }
 
         // Everything that the file contained before the call is still in it.
-        ensures leaves { (m : Model) → Stands self.old.encoder.now.kind self.old.encoder.now.bytes m
+        ensures leaves { (m : Model) → FileContains self.old.encoder.now.kind self.old.encoder.now.bytes m
             → Leaves (calls.write_tag (D.open_directory self.old.state) tag (T.field_data value)
             self.old.encoder.now) result self.old.encoder.now self.new.encoder.now m }
     {
@@ -236,7 +236,7 @@ impl<'a, W: Sink, K: TiffKind, D: HasDirectory> DirectoryEncoder<'a, W, K, D> {
         ensures unwritten { OnErr result (StaysUnlessCut self.old.encoder.now self.new.encoder.now) }
 
         // Everything that the file contained before the call is still in it.
-        ensures leaves { (m : Model) → Stands self.old.encoder.now.kind self.old.encoder.now.bytes m
+        ensures leaves { (m : Model) → FileContains self.old.encoder.now.kind self.old.encoder.now.bytes m
             → Leaves (calls.write_tag_buf (D.open_directory self.old.state) tag buffer.now
             self.old.encoder.now) result self.old.encoder.now self.new.encoder.now m }
     {
@@ -258,7 +258,7 @@ impl<'a, W: Sink, K: TiffKind, D: HasDirectory> DirectoryEncoder<'a, W, K, D> {
             self.old.encoder.now self.new.encoder.now }
 
         // Everything that the file contained before the call is still in it.
-        ensures leaves { (m : Model) → Stands self.old.encoder.now.kind self.old.encoder.now.bytes m
+        ensures leaves { (m : Model) → FileContains self.old.encoder.now.kind self.old.encoder.now.bytes m
             → Leaves (calls.write_data_buf buffer.now self.old.encoder.now) result
             self.old.encoder.now self.new.encoder.now m }
     {
@@ -293,7 +293,7 @@ impl<'a, W: Sink, K: TiffKind> DirectoryEncoder<'a, W, K, DirectoryState> {
             self.old.encoder.now self.new.encoder.now }
 
         // Everything that the file contained before the call is still in it.
-        ensures leaves { (m : Model) → Stands self.old.encoder.now.kind self.old.encoder.now.bytes m
+        ensures leaves { (m : Model) → FileContains self.old.encoder.now.kind self.old.encoder.now.bytes m
             → Leaves (calls.write_data (T.field_data value) self.old.encoder.now) result
             self.old.encoder.now self.new.encoder.now m }
     {
@@ -324,7 +324,7 @@ impl<'a, W: Sink, K: TiffKind> DirectoryEncoder<'a, W, K, DirectoryState> {
         // Everything that the file contained before the call is still in it, except the parent's
         // link if the write of that link failed partway.
         ensures leaves { (m : Model)
-            → Stands self.entry.encoder.now.kind self.entry.encoder.now.bytes m
+            → FileContains self.entry.encoder.now.kind self.entry.encoder.now.bytes m
             → ((offset : ℕ) → self.entry.state.parent ≡ Some offset
             → IsLink self.entry.encoder.now.kind m offset)
             → LeavesLinked (calls.finish self.entry.state self.entry.encoder.now) result
@@ -347,7 +347,7 @@ impl<'a, W: Sink, K: TiffKind> DirectoryEncoder<'a, W, K, DirectoryState> {
         // Everything that the file contained before the call is still in it, except the parent's
         // link if the write of that link failed partway.
         ensures leaves { (m : Model)
-            → Stands self.entry.encoder.now.kind self.entry.encoder.now.bytes m
+            → FileContains self.entry.encoder.now.kind self.entry.encoder.now.bytes m
             → ((offset : ℕ) → self.entry.state.parent ≡ Some offset
             → IsLink self.entry.encoder.now.kind m offset)
             → LeavesLinked (calls.finish self.entry.state self.entry.encoder.now) result
@@ -368,7 +368,7 @@ impl<'a, W: Sink, K: TiffKind> DirectoryEncoder<'a, W, K, DirectoryState> {
         // Everything that the file contained before the call is still in it, except the parent's
         // link if the write of that link failed partway.
         ensures leaves { (m : Model)
-            → Stands self.entry.encoder.now.kind self.entry.encoder.now.bytes m
+            → FileContains self.entry.encoder.now.kind self.entry.encoder.now.bytes m
             → ((offset : ℕ) → self.entry.state.parent ≡ Some offset
             → IsLink self.entry.encoder.now.kind m offset)
             → LeavesLinked (calls.finish self.entry.state self.entry.encoder.now) result
@@ -409,7 +409,7 @@ impl<'a, W: Sink, K: TiffKind, C: ColorType> DirectoryEncoder<'a, W, K, ImageSta
             self.old.encoder.now self.new.encoder.now }
 
         // Everything that the file contained before the call is still in it.
-        ensures leaves { (m : Model) → Stands self.old.encoder.now.kind self.old.encoder.now.bytes m
+        ensures leaves { (m : Model) → FileContains self.old.encoder.now.kind self.old.encoder.now.bytes m
             → Leaves (calls.write_data (T.field_data value) self.old.encoder.now) result
             self.old.encoder.now self.new.encoder.now m }
     {

@@ -16,7 +16,7 @@ ghost use Rattle.tiff_encode.specs.FileBytes.{resolutions_offset};
 use crate::encoder::TiffEncoder;
 use crate::encoder::directory::state::DirectoryState;
 use crate::encoder::directory::tags::TagValue;
-use crate::encoder::image::chunk_rooms::ChunkRooms;
+use crate::encoder::image::chunk_scratch::ChunkScratch;
 use crate::encoder::image::state::{ChunkLayout, ImageState, first_bits, is_packed};
 use crate::encoder::kind::TiffKind;
 use crate::encoder::settings::Compression;
@@ -149,7 +149,7 @@ impl<W: Sink, K: TiffKind> TiffEncoder<W, K> {
 
     // Returns an image of a width in pixels without chunks, with a directory of the IFD chain that
     // has no fields.
-    fn blank<C: ColorType>(&self, width: u32, height: u32) -> ImageState<C>
+    fn new_state<C: ColorType>(&self, width: u32, height: u32) -> ImageState<C>
         requires sides { (0 < width) × (0 < height) }
         ensures { result ≡ image_in self.now (new_directory (Some self.now.chain) true) C.described
             (type_size C.Inner.value_type) width height }
@@ -177,7 +177,7 @@ impl<W: Sink, K: TiffKind> TiffEncoder<W, K> {
                 planar: PlanarConfiguration::Chunky,
             },
             chunks: Vec::new(self.alloc),
-            rooms: ChunkRooms::empty(self.alloc),
+            scratch: ChunkScratch::empty(self.alloc),
             color: PhantomData,
         }
     }
@@ -186,7 +186,7 @@ impl<W: Sink, K: TiffKind> TiffEncoder<W, K> {
 // Returns the tags of the width, the height, the compression, the predictor and the interpretation
 // of the samples.
 #[tactic(auto, unfolding(tiff_value::specs::Data::data_of))]
-fn meaning_values<C: ColorType>(image: &ImageState<C>) -> [TagValue; 5]
+fn color_tags<C: ColorType>(image: &ImageState<C>) -> [TagValue; 5]
     ensures { result ≡ fields_of (calls.meaning_tags image.now) }
 {
     [
@@ -239,7 +239,7 @@ impl<W: Sink, K: TiffKind> TiffEncoder<W, K> {
             self.old self.new }
     {
         self.check_new_image::<C>(width, height)?;
-        let mut image = self.blank::<C>(width, height);
+        let mut image = self.new_state::<C>(width, height);
         let Ok(values) = first_values(self.alloc, &image) else {
             return Err(TiffError::OutOfMemory);
         };
@@ -258,7 +258,7 @@ fn first_values<C: ColorType>(
     ensures { IfOk result (λ v. v.items ≡ fields_of (calls.first_tags image.now)) }
 {
     let mut values = Vec::new(alloc);
-    values.extend_from_slice(&meaning_values(image))?;
+    values.extend_from_slice(&color_tags(image))?;
     if let Some(chroma) = chroma_value(image) {
         values.push(chroma)?;
     }

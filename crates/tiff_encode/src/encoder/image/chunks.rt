@@ -15,7 +15,7 @@ ghost use Rattle.tiff_encode.specs.Stored as stored;
 ghost use Rattle.tiff_encode.specs.Stored.{IsChunkStored};
 
 use crate::encoder::TiffEncoder;
-use crate::encoder::image::chunk_rooms::ChunkRooms;
+use crate::encoder::image::chunk_scratch::ChunkScratch;
 use crate::encoder::image::state::{Chunk, ImageState};
 use crate::encoder::kind::TiffKind;
 use crate::encoder::limits::is_past_offset;
@@ -26,7 +26,7 @@ use tiff_base::error::{TiffError, TiffResult, UsageError};
 use tiff_base::io::{IoKind, Sink};
 use tiff_base::tags::{FileKind, Predictor};
 use tiff_value::encoder::colortype::ColorType;
-use tiff_value::encoder::differences::Sample;
+use tiff_value::encoder::horizontal_predictor::Sample;
 
 // Returns the number of bytes of `count` samples. The only error is `OutOfMemory`, if `count` is
 // `usize::MAX` or the number of bytes exceeds it: no memory holds so many samples.
@@ -60,19 +60,19 @@ impl<C: ColorType> ImageState<C> {
 
     // Compresses the samples of the next chunk. The only error is `OutOfMemory`, also if the number
     // of bytes exceeds `usize`: no memory holds so many samples.
-    fn pack_samples(&self, samples: &[C::Inner], rooms: &mut ChunkRooms) -> TiffResult<()>
+    fn pack_samples(&self, samples: &[C::Inner], scratch: &mut ChunkScratch) -> TiffResult<()>
         requires next { length samples.now ≡ next_chunk_sample_count self.now }
         requires packed { compression_method self.now.compression ≡ method.PackBits }
         ensures { MatchResult result
-            (λ _. IsChunkStored self.now rooms.new.packed.items
+            (λ _. IsChunkStored self.now scratch.new.packed.items
             (map (sample_number (type_size C.Inner.value_type) C.Inner.bits) samples.now))
             (λ e. e ≡ TiffError.OutOfMemory) }
     {
         byte_count::<C::Inner>(samples.len())?;
         let (row, stride) = self.row_and_stride();
         match self.compression {
-            Compression::PackbitsRows => rooms.pack_rows(samples, self.predictor, row, stride),
-            _ => rooms.pack(samples, self.predictor, row, stride),
+            Compression::PackbitsRows => scratch.pack_rows(samples, self.predictor, row, stride),
+            _ => scratch.pack(samples, self.predictor, row, stride),
         }
     }
 
@@ -189,7 +189,7 @@ impl<W: Sink, K: TiffKind> TiffEncoder<W, K> {
         &mut self,
         image: &mut ImageState<C>,
         samples: &[C::Inner],
-        rooms: &mut ChunkRooms,
+        scratch: &mut ChunkScratch,
     ) -> TiffResult<()>
         requires next { length samples.now ≡ next_chunk_sample_count image.old }
         requires packed { compression_method image.old.compression ≡ method.PackBits }
@@ -197,8 +197,8 @@ impl<W: Sink, K: TiffKind> TiffEncoder<W, K> {
             (map (sample_number (type_size C.Inner.value_type) C.Inner.bits)
             samples.now) result self.old self.new image.new }
     {
-        image.pack_samples(samples, rooms)?;
-        self.append_chunk(image, samples.len(), &rooms.packed)
+        image.pack_samples(samples, scratch)?;
+        self.append_chunk(image, samples.len(), &scratch.packed)
     }
 
     // Appends the next chunk of an image that is compressed, with the image's own buffers. The
@@ -215,9 +215,9 @@ impl<W: Sink, K: TiffKind> TiffEncoder<W, K> {
             samples.now) result self.old self.new image.new }
     {
         // Taken out, since `append_packed` borrows the image beside them.
-        let mut rooms = mem::replace(&mut image.rooms, ChunkRooms::empty(self.alloc));
-        let result = self.append_packed(image, samples, &mut rooms);
-        image.rooms = rooms;
+        let mut scratch = mem::replace(&mut image.scratch, ChunkScratch::empty(self.alloc));
+        let result = self.append_packed(image, samples, &mut scratch);
+        image.scratch = scratch;
         result
     }
 

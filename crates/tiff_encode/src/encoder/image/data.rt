@@ -21,7 +21,7 @@ use tiff_base::error::{TiffError, TiffResult};
 use tiff_base::io::{IoKind, Sink};
 use tiff_base::tags::PlanarConfiguration;
 use tiff_value::encoder::colortype::ColorType;
-use tiff_value::encoder::differences::Sample;
+use tiff_value::encoder::horizontal_predictor::Sample;
 use tiff_value::encoder::tiff_value::TiffValue;
 
 // Appends samples of value 0.
@@ -75,7 +75,7 @@ pub struct ChunkArea {
 impl<C: ColorType> ImageState<C> {
     // Returns the part of the image that a chunk contains.
     #[tactic(auto, unfolding(tiff_page::specs::Rect::rect))]
-    fn patch(&self, chunk: u64) -> ChunkArea
+    fn chunk_area(&self, chunk: u64) -> ChunkArea
         ensures { rect_of result ≡ rect (image_page self.now) chunk }
     {
         let (wide, high) = (
@@ -99,34 +99,34 @@ impl<C: ColorType> ImageState<C> {
     fn push_pixels(
         &self,
         samples: &[C::Inner],
-        patch: ChunkArea,
+        chunk_area: ChunkArea,
         row: u64,
         out: &mut Vec<C::Inner>,
     ) -> TiffResult<()>
-        requires part { IsPatch (image_page self.now) (rect_of patch) }
-        requires row { row < patch.height }
+        requires part { IsPatch (image_page self.now) (rect_of chunk_area) }
+        requires row { row < chunk_area.height }
         requires fits { image_samples self.now < 2 ^ 64 }
         requires whole { image_samples self.now ≤ length samples.now }
         ensures { MatchResult result
             (λ _. map (sample_number (type_size C.Inner.value_type) C.Inner.bits) out.new.items
             ≡ map (sample_number (type_size C.Inner.value_type) C.Inner.bits) out.old.items
-            ++ tabulate (patch.width * stored_samples (image_page self.now))
+            ++ tabulate (chunk_area.width * stored_samples (image_page self.now))
             (pixel_sample (image_page self.now)
             (map (sample_number (type_size C.Inner.value_type) C.Inner.bits) samples.now)
-            (rect_of patch) row))
+            (rect_of chunk_area) row))
             (λ e. e ≡ TiffError.OutOfMemory) }
     {
         let width = u64::from(self.width);
         let all = self.samples();
-        let start = ((patch.y + row) * width + patch.x) * all;
-        let end = start + patch.width * all;
+        let start = ((chunk_area.y + row) * width + chunk_area.x) * all;
+        let end = start + chunk_area.width * all;
         let pixels = &samples[start as usize..end as usize];
         match self.form.planar {
             PlanarConfiguration::Planar => push_plane(
                 pixels,
-                patch.width as usize,
+                chunk_area.width as usize,
                 all as usize,
-                patch.plane as usize,
+                chunk_area.plane as usize,
                 out,
             ),
             _ => Ok(out.extend_from_slice(pixels)?),
@@ -138,11 +138,11 @@ impl<C: ColorType> ImageState<C> {
     fn push_row(
         &self,
         samples: &[C::Inner],
-        patch: ChunkArea,
+        chunk_area: ChunkArea,
         row: u64,
         out: &mut Vec<C::Inner>,
     ) -> TiffResult<()>
-        requires part { IsPatch (image_page self.now) (rect_of patch) }
+        requires part { IsPatch (image_page self.now) (rect_of chunk_area) }
         requires fits { image_samples self.now < 2 ^ 64 }
         requires whole { image_samples self.now ≤ length samples.now }
         ensures { MatchResult result
@@ -151,16 +151,16 @@ impl<C: ColorType> ImageState<C> {
             ++ tabulate (row_samples (image_page self.now))
             (row_sample (image_page self.now)
             (map (sample_number (type_size C.Inner.value_type) C.Inner.bits) samples.now)
-            (rect_of patch) row))
+            (rect_of chunk_area) row))
             (λ e. e ≡ TiffError.OutOfMemory) }
     {
         let stored = self.stored_samples();
         let len = u64::from(self.form.chunk_width) * stored;
-        if row >= patch.height {
+        if row >= chunk_area.height {
             return push_zeros(len, out);
         }
-        self.push_pixels(samples, patch, row, out)?;
-        push_zeros(len - patch.width * stored, out)
+        self.push_pixels(samples, chunk_area, row, out)?;
+        push_zeros(len - chunk_area.width * stored, out)
     }
 
     // Returns the samples of a chunk out of all samples of the image, with zeros beyond the edges
@@ -175,7 +175,7 @@ impl<C: ColorType> ImageState<C> {
             (map (sample_number (type_size C.Inner.value_type) C.Inner.bits) samples.now) chunk)
             (λ e. e ≡ TiffError.OutOfMemory) }
     {
-        let patch = self.patch(chunk);
+        let chunk_area = self.chunk_area(chunk);
         let rows = self.rows_of(chunk);
         let row = u64::from(self.form.chunk_width) * self.stored_samples();
         let Some(count) = rows.checked_mul(row) else {
@@ -183,7 +183,7 @@ impl<C: ColorType> ImageState<C> {
         };
         let mut out = Vec::with_capacity(alloc, count as usize)?;
         for at in 0..rows {
-            self.push_row(samples, patch, at, &mut out)?;
+            self.push_row(samples, chunk_area, at, &mut out)?;
         }
         Ok(out)
     }

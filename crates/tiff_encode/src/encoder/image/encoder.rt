@@ -9,8 +9,8 @@ ghost use Rattle.tiff_encode.specs.Chunks as chunks;
 ghost use Rattle.tiff_encode.specs.Ends.{EndsSilently, EndsAsDefined};
 ghost use Rattle.tiff_encode.specs.ImageData.{LeavesChunk, LeavesData, LeavesNewImage, ShowsFinished, WritesImage, WritesImageData};
 ghost use Rattle.tiff_encode.specs.Leaves.{LeavesLinked};
-ghost use Rattle.tiff_encode.specs.Model.{IsLink, Model, Stands};
-ghost use Rattle.tiff_encode.specs.Open.{HoldsOpen, model_by};
+ghost use Rattle.tiff_encode.specs.Model.{IsLink, Model, FileContains};
+ghost use Rattle.tiff_encode.specs.Open.{RecordsImage, model_by};
 ghost use Rattle.tiff_encode.specs.Storing.{WritesStoredChunk};
 
 use crate::encoder::TiffEncoder;
@@ -60,9 +60,9 @@ impl<W: Sink, K: TiffKind> TiffEncoder<W, K> {
 
         // Everything that the file contained before the call is still in it. If the call fails,
         // `rests` states this.
-        ensures leaves { (m : Model) → Stands self.entry.now.kind self.entry.now.bytes m
+        ensures leaves { (m : Model) → FileContains self.entry.now.kind self.entry.now.bytes m
             → IfOk result
-            (λ i. Stands self.entry.now.kind i.encoder.now.bytes
+            (λ i. FileContains self.entry.now.kind i.encoder.now.bytes
             (model_by self.entry.now m
             (calls.new_image C.described (type_size C.Inner.value_type) width height
             self.entry.now))) }
@@ -92,7 +92,7 @@ impl<W: Sink, K: TiffKind> TiffEncoder<W, K> {
         // Everything that the file contained before the call is still in it, and the page shows the
         // samples. If the write of the last link of the IFD chain failed partway, everything except
         // that link is still in the file.
-        ensures leaves { (m : Model) → Stands self.old.kind self.old.bytes m
+        ensures leaves { (m : Model) → FileContains self.old.kind self.old.bytes m
             → IsLink self.old.kind m self.old.chain
             → LeavesNewImage C.described (type_size C.Inner.value_type) width height
             (map (sample_number (type_size C.Inner.value_type) C.Inner.bits) samples.now) result
@@ -149,7 +149,7 @@ impl<'a, W: Sink, K: TiffKind, C: ColorType> DirectoryEncoder<'a, W, K, ImageSta
             result self.old.encoder.now self.new.encoder.now self.new.state }
 
         // Everything that the file contained before the call is still in it.
-        ensures leaves { (m : Model) → Stands self.old.encoder.now.kind self.old.encoder.now.bytes m
+        ensures leaves { (m : Model) → FileContains self.old.encoder.now.kind self.old.encoder.now.bytes m
             → LeavesChunk calls.write_chunk self.old.state
             (map (sample_number (type_size C.Inner.value_type) C.Inner.bits) samples.now) result
             self.old.encoder.now self.new.encoder.now self.new.state m }
@@ -179,7 +179,7 @@ impl<'a, W: Sink, K: TiffKind, C: ColorType> DirectoryEncoder<'a, W, K, ImageSta
             result self.old.encoder.now self.new.encoder.now self.new.state }
 
         // Everything that the file contained before the call is still in it.
-        ensures leaves { (m : Model) → Stands self.old.encoder.now.kind self.old.encoder.now.bytes m
+        ensures leaves { (m : Model) → FileContains self.old.encoder.now.kind self.old.encoder.now.bytes m
             → LeavesChunk calls.write_strip self.old.state
             (map (sample_number (type_size C.Inner.value_type) C.Inner.bits) samples.now) result
             self.old.encoder.now self.new.encoder.now self.new.state m }
@@ -213,7 +213,7 @@ impl<'a, W: Sink, K: TiffKind, C: ColorType> DirectoryEncoder<'a, W, K, ImageSta
         // Everything that the file contained before the call is still in it, except the parent's
         // link if the write of that link failed partway.
         ensures leaves { (m : Model)
-            → Stands self.entry.encoder.now.kind self.entry.encoder.now.bytes m
+            → FileContains self.entry.encoder.now.kind self.entry.encoder.now.bytes m
             → ((offset : ℕ) → self.entry.state.directory.parent ≡ Some offset
             → IsLink self.entry.encoder.now.kind m offset)
             → LeavesLinked (calls.finish_image self.entry.state self.entry.encoder.now) result
@@ -221,10 +221,10 @@ impl<'a, W: Sink, K: TiffKind, C: ColorType> DirectoryEncoder<'a, W, K, ImageSta
 
         // If all chunks of the image are in the file, the page shows the samples of the image.
         ensures shows { (m : Model) (samples : List (List ℕ))
-            → Stands self.entry.encoder.now.kind self.entry.encoder.now.bytes m
+            → FileContains self.entry.encoder.now.kind self.entry.encoder.now.bytes m
             → ((offset : ℕ) → self.entry.state.directory.parent ≡ Some offset
             → IsLink self.entry.encoder.now.kind m offset)
-            → HoldsOpen self.entry.encoder.now.kind m self.entry.state samples
+            → RecordsImage self.entry.encoder.now.kind m self.entry.state samples
             → chunks.is_left self.entry.state ≡ false
             → ShowsFinished self.entry.state samples result self.entry.encoder.now self.exit.0.now }
 
@@ -256,7 +256,7 @@ impl<'a, W: Sink, K: TiffKind, C: ColorType> DirectoryEncoder<'a, W, K, ImageSta
         // Everything that the file contained before the call is still in it, except the parent's
         // link if the write of that link failed partway.
         ensures leaves { (m : Model)
-            → Stands self.entry.encoder.now.kind self.entry.encoder.now.bytes m
+            → FileContains self.entry.encoder.now.kind self.entry.encoder.now.bytes m
             → ((offset : ℕ) → self.entry.state.directory.parent ≡ Some offset
             → IsLink self.entry.encoder.now.kind m offset)
             → LeavesLinked (calls.finish_image self.entry.state self.entry.encoder.now) result
@@ -264,10 +264,10 @@ impl<'a, W: Sink, K: TiffKind, C: ColorType> DirectoryEncoder<'a, W, K, ImageSta
 
         // If all chunks of the image are in the file, the page shows the samples of the image.
         ensures shows { (m : Model) (samples : List (List ℕ))
-            → Stands self.entry.encoder.now.kind self.entry.encoder.now.bytes m
+            → FileContains self.entry.encoder.now.kind self.entry.encoder.now.bytes m
             → ((offset : ℕ) → self.entry.state.directory.parent ≡ Some offset
             → IsLink self.entry.encoder.now.kind m offset)
-            → HoldsOpen self.entry.encoder.now.kind m self.entry.state samples
+            → RecordsImage self.entry.encoder.now.kind m self.entry.state samples
             → chunks.is_left self.entry.state ≡ false
             → ShowsFinished self.entry.state samples result self.entry.encoder.now self.exit.0.now }
 
@@ -308,7 +308,7 @@ impl<'a, W: Sink, K: TiffKind, C: ColorType> DirectoryEncoder<'a, W, K, ImageSta
         // Everything that the file contained before the call is still in it, and the page shows the
         // samples, except the parent's link if the write of that link failed partway.
         ensures leaves { (m : Model)
-            → Stands self.entry.encoder.now.kind self.entry.encoder.now.bytes m
+            → FileContains self.entry.encoder.now.kind self.entry.encoder.now.bytes m
             → ((offset : ℕ) → self.entry.state.directory.parent ≡ Some offset
             → IsLink self.entry.encoder.now.kind m offset)
             → LeavesData self.entry.state

@@ -56,12 +56,12 @@ fn push_first<T: TiffScalar>(items: &[T], count: usize, out: &mut Vec<u8>) -> Ti
 
 /// A list of values, followed by `more` copies of its first value.
 #[derive(Drop)]
-pub(crate) struct Repeated<'a, T> {
+pub(crate) struct RepeatFirst<'a, T> {
     items: &'a [T],
     more: usize,
 }
 
-impl<'a, T> Model for Repeated<'a, T> {
+impl<'a, T> Model for RepeatFirst<'a, T> {
     ghost use Rattle.std.specs.Prelude.{List, ◌+◌, ◌^◌, ◌<◌, length};
     ghost use Rattle.tiff_encode.specs.Calls.{extended_by_first};
 
@@ -72,17 +72,17 @@ impl<'a, T> Model for Repeated<'a, T> {
     ghost invariant = { λ r. length r.items.now + r.more < 2 ^ 64 };
 }
 
-impl<'a, T> Repeated<'a, T> {
+impl<'a, T> RepeatFirst<'a, T> {
     // Returns a list of values, followed by `more` copies of its first value.
     fn of(items: &'a [T], more: usize) -> Self
         requires { length items.now + more < 2 ^ 64 }
         ensures { result ≡ calls.extended_by_first items.now more }
     {
-        Repeated { items, more }
+        RepeatFirst { items, more }
     }
 }
 
-impl<'a, T: TiffScalar> TiffValue for Repeated<'a, T> {
+impl<'a, T: TiffScalar> TiffValue for RepeatFirst<'a, T> {
     ghost use Rattle.std.specs.Prelude.{length, Ok};
     ghost use Rattle.tiff_value.specs.Data.{data_of};
     ghost use Rattle.tiff_value.specs.ValueLaws.{several};
@@ -240,7 +240,7 @@ impl<W: Sink, K: TiffKind> TiffEncoder<W, K> {
             (write_fields fields.old (fields_of (bits_tags bits.now extra)) self.old) result
             self.old self.new }
     {
-        self.set_tag(fields, Tag::BitsPerSample, &Repeated::of(bits, extra))?;
+        self.set_tag(fields, Tag::BitsPerSample, &RepeatFirst::of(bits, extra))?;
         if extra == 0 {
             return Ok(());
         }
@@ -265,7 +265,7 @@ impl<W: Sink, K: TiffKind> TiffEncoder<W, K> {
             result self.old self.new }
     {
         self.set_bits(fields, bits, extra)?;
-        self.set_tag(fields, Tag::SampleFormat, &Repeated::of(formats, extra))?;
+        self.set_tag(fields, Tag::SampleFormat, &RepeatFirst::of(formats, extra))?;
         Ok(())
     }
 

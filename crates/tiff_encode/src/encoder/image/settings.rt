@@ -8,7 +8,7 @@ ghost use Rattle.tiff_encode.specs.Causes as causes;
 ghost use Rattle.tiff_encode.specs.Causes.{end_of, field_cause};
 ghost use Rattle.tiff_encode.specs.Ends.{Ends};
 ghost use Rattle.tiff_encode.specs.Leaves.{Leaves};
-ghost use Rattle.tiff_encode.specs.Model.{Model, Stands};
+ghost use Rattle.tiff_encode.specs.Model.{Model, FileContains};
 ghost use Rattle.tiff_encode.specs.Placing.{Checks};
 ghost use Rattle.tiff_encode.specs.Tagging.{StopsResolving, fields_of};
 
@@ -364,7 +364,7 @@ impl<'a, W: Sink, K: TiffKind, C: ColorType> DirectoryEncoder<'a, W, K, ImageSta
             self.old.encoder.now self.new.encoder.now }
 
         // Everything that the file contained before the call is still in it.
-        ensures leaves { (m : Model) → Stands self.old.encoder.now.kind self.old.encoder.now.bytes m
+        ensures leaves { (m : Model) → FileContains self.old.encoder.now.kind self.old.encoder.now.bytes m
             → Leaves (calls.extra_samples self.old.state extra.now self.old.encoder.now) result
             self.old.encoder.now self.new.encoder.now m }
     {
@@ -387,7 +387,7 @@ impl<'a, W: Sink, K: TiffKind, C: ColorType> DirectoryEncoder<'a, W, K, ImageSta
             self.old.encoder.now self.new.encoder.now }
 
         // Everything that the file contained before the call is still in it.
-        ensures leaves { (m : Model) → Stands self.old.encoder.now.kind self.old.encoder.now.bytes m
+        ensures leaves { (m : Model) → FileContains self.old.encoder.now.kind self.old.encoder.now.bytes m
             → Leaves (calls.set_rows_per_strip self.old.state value self.old.encoder.now) result
             self.old.encoder.now self.new.encoder.now m }
     {
@@ -410,7 +410,7 @@ impl<'a, W: Sink, K: TiffKind, C: ColorType> DirectoryEncoder<'a, W, K, ImageSta
             self.old.encoder.now self.new.encoder.now }
 
         // Everything that the file contained before the call is still in it.
-        ensures leaves { (m : Model) → Stands self.old.encoder.now.kind self.old.encoder.now.bytes m
+        ensures leaves { (m : Model) → FileContains self.old.encoder.now.kind self.old.encoder.now.bytes m
             → Leaves (calls.tiles self.old.state width length self.old.encoder.now) result
             self.old.encoder.now self.new.encoder.now m }
     {
@@ -431,7 +431,7 @@ impl<'a, W: Sink, K: TiffKind, C: ColorType> DirectoryEncoder<'a, W, K, ImageSta
             self.old.encoder.now self.new.encoder.now }
 
         // Everything that the file contained before the call is still in it.
-        ensures leaves { (m : Model) → Stands self.old.encoder.now.kind self.old.encoder.now.bytes m
+        ensures leaves { (m : Model) → FileContains self.old.encoder.now.kind self.old.encoder.now.bytes m
             → Leaves (calls.planar self.old.state self.old.encoder.now) result self.old.encoder.now
             self.new.encoder.now m }
     {
@@ -456,7 +456,7 @@ impl<'a, W: Sink, K: TiffKind, C: ColorType> DirectoryEncoder<'a, W, K, ImageSta
             self.old.encoder.now) result self.old.encoder.now self.new.encoder.now }
 
         // Everything that the file contained before the call is still in it.
-        ensures leaves { (m : Model) → Stands self.old.encoder.now.kind self.old.encoder.now.bytes m
+        ensures leaves { (m : Model) → FileContains self.old.encoder.now.kind self.old.encoder.now.bytes m
             → Leaves (calls.resolution self.old.state unit (value.n, value.d) self.old.encoder.now)
             result self.old.encoder.now self.new.encoder.now m }
     {
@@ -478,7 +478,7 @@ impl<'a, W: Sink, K: TiffKind, C: ColorType> DirectoryEncoder<'a, W, K, ImageSta
             result self.old.encoder.now self.new.encoder.now }
 
         // Everything that the file contained before the call is still in it.
-        ensures leaves { (m : Model) → Stands self.old.encoder.now.kind self.old.encoder.now.bytes m
+        ensures leaves { (m : Model) → FileContains self.old.encoder.now.kind self.old.encoder.now.bytes m
             → Leaves (calls.x_resolution self.old.state (value.n, value.d) self.old.encoder.now)
             result self.old.encoder.now self.new.encoder.now m }
     {
@@ -500,7 +500,7 @@ impl<'a, W: Sink, K: TiffKind, C: ColorType> DirectoryEncoder<'a, W, K, ImageSta
             result self.old.encoder.now self.new.encoder.now }
 
         // Everything that the file contained before the call is still in it.
-        ensures leaves { (m : Model) → Stands self.old.encoder.now.kind self.old.encoder.now.bytes m
+        ensures leaves { (m : Model) → FileContains self.old.encoder.now.kind self.old.encoder.now.bytes m
             → Leaves (calls.y_resolution self.old.state (value.n, value.d) self.old.encoder.now)
             result self.old.encoder.now self.new.encoder.now m }
     {
@@ -520,7 +520,7 @@ impl<'a, W: Sink, K: TiffKind, C: ColorType> DirectoryEncoder<'a, W, K, ImageSta
             self.old.encoder.now self.new.encoder.now }
 
         // Everything that the file contained before the call is still in it.
-        ensures leaves { (m : Model) → Stands self.old.encoder.now.kind self.old.encoder.now.bytes m
+        ensures leaves { (m : Model) → FileContains self.old.encoder.now.kind self.old.encoder.now.bytes m
             → Leaves (calls.resolution_unit self.old.state unit self.old.encoder.now) result
             self.old.encoder.now self.new.encoder.now m }
     {

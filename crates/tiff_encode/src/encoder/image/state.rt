@@ -11,7 +11,7 @@ ghost use Rattle.tiff_encode.specs.Causes.{image_samples, is_past_chunks};
 ghost use Rattle.tiff_encode.specs.Chunks.{all_samples, chunk_rows, chunks_left, image_page, is_begun, is_in_order, is_left, next_chunk_sample_count, next_strip_sample_count};
 
 use crate::encoder::directory::state::{DirectoryState, HasDirectory, Room};
-use crate::encoder::image::chunk_rooms::ChunkRooms;
+use crate::encoder::image::chunk_scratch::ChunkScratch;
 use crate::encoder::settings::Compression;
 use std::marker::{Model, PhantomData};
 use tiff_base::color::ChunkType;
@@ -53,7 +53,7 @@ pub struct ImageState<C: ColorType> {
     pub(crate) compression: Compression,
     pub(crate) form: ChunkLayout,
     pub(crate) chunks: Vec<Chunk>,
-    pub(crate) rooms: ChunkRooms,
+    pub(crate) scratch: ChunkScratch,
     pub(crate) color: PhantomData<C>,
 }
 
@@ -62,7 +62,7 @@ impl<C: ColorType> Model for ImageState<C> {
     ghost use Rattle.std.specs.FinMap as map;
     ghost use Rattle.std.specs.Prelude.{length};
     ghost use Rattle.tiff_base.specs.Types.{type_size};
-    ghost use Rattle.tiff_encode.specs.Drawn.{IsDrawn};
+    ghost use Rattle.tiff_encode.specs.Drawn.{IsValidImage};
     ghost use Rattle.tiff_encode.specs.Machine.{OpenImage};
 
     ghost Value = { OpenImage };
@@ -83,7 +83,7 @@ impl<C: ColorType> Model for ImageState<C> {
       chunks = i.chunks.items;
     } };
 
-    ghost invariant = { λ i. IsDrawn i.width i.height (length C.described.bits) (length i.extra.items) i.form };
+    ghost invariant = { λ i. IsValidImage i.width i.height (length C.described.bits) (length i.extra.items) i.form };
 }
 
 impl<C: ColorType> HasDirectory for ImageState<C> {

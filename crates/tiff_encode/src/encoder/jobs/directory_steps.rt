@@ -6,7 +6,7 @@ ghost use Rattle.tiff_encode.specs.Ends.{Ends};
 ghost use Rattle.tiff_encode.specs.JobValues.{buffer_in, value_data};
 ghost use Rattle.tiff_encode.specs.Jobs.{AllStepped, DirectoryStepped};
 ghost use Rattle.tiff_encode.specs.Leaves.{Leaves};
-ghost use Rattle.tiff_encode.specs.Model.{Model, Stands};
+ghost use Rattle.tiff_encode.specs.Model.{Model, FileContains};
 ghost use Rattle.tiff_encode.specs.Stepping.{Moves};
 
 use crate::encoder::directory::encoder::DirectoryEncoder;
@@ -39,7 +39,7 @@ impl<'a, W: Sink, K: TiffKind, D: HasDirectory> DirectoryEncoder<'a, W, K, D> {
             (calls.write_tag (D.open_directory self.old.state) tag (value_data value.now)
             self.old.encoder.now) result
             self.old.encoder.now self.new.encoder.now }
-        ensures leaves { (m : Model) → Stands self.old.encoder.now.kind self.old.encoder.now.bytes m
+        ensures leaves { (m : Model) → FileContains self.old.encoder.now.kind self.old.encoder.now.bytes m
             → Leaves (calls.write_tag (D.open_directory self.old.state) tag (value_data value.now)
             self.old.encoder.now) result self.old.encoder.now self.new.encoder.now m }
     {
@@ -57,7 +57,7 @@ impl<'a, W: Sink, K: TiffKind, D: HasDirectory> DirectoryEncoder<'a, W, K, D> {
             (calls.write_tag_buf (D.open_directory self.old.state) tag (buffer_in buffer.now)
             self.old.encoder.now) result
             self.old.encoder.now self.new.encoder.now }
-        ensures leaves { (m : Model) → Stands self.old.encoder.now.kind self.old.encoder.now.bytes m
+        ensures leaves { (m : Model) → FileContains self.old.encoder.now.kind self.old.encoder.now.bytes m
             → Leaves (calls.write_tag_buf (D.open_directory self.old.state) tag
             (buffer_in buffer.now) self.old.encoder.now) result self.old.encoder.now
             self.new.encoder.now m }

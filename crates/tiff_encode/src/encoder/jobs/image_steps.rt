@@ -2,7 +2,7 @@
 
 ghost use Rattle.std.specs.Prelude.{◌≡◌, [], ◌≤◌, length, vec_capacity};
 ghost use Rattle.tiff_encode.specs.ImageStepping.{ChunkDraws, ResolutionDraws, StripDraws, reply_to};
-ghost use Rattle.tiff_encode.specs.Stepping.{StepDraws, StepsDraw};
+ghost use Rattle.tiff_encode.specs.Stepping.{KeepsImage, StepsDraw};
 
 use crate::encoder::directory::encoder::DirectoryEncoder;
 use crate::encoder::image::state::ImageState;
@@ -80,7 +80,7 @@ impl<'a, W: Sink, K: TiffKind, C: ColorType> DirectoryEncoder<'a, W, K, ImageSta
     // Runs one step of an image.
     fn image_step(&mut self, step: &ImageStep<'_>) -> TiffResult<StepReply>
         ensures same_reference { self.new.encoder.ghost_name ≡ self.old.encoder.ghost_name }
-        ensures draws { StepDraws self.old.state step.now result self.old.encoder.now self.new.encoder.now
+        ensures draws { KeepsImage self.old.state step.now result self.old.encoder.now self.new.encoder.now
             self.new.state }
     {
         match step {

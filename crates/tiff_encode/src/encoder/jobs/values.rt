@@ -4,7 +4,7 @@ ghost use Rattle.tiff_encode.specs.Calls as calls;
 ghost use Rattle.tiff_encode.specs.Ends.{Ends};
 ghost use Rattle.tiff_encode.specs.JobValues.{buffer_in, value_data};
 ghost use Rattle.tiff_encode.specs.Leaves.{Leaves};
-ghost use Rattle.tiff_encode.specs.Model.{Model, Stands};
+ghost use Rattle.tiff_encode.specs.Model.{Model, FileContains};
 ghost use Rattle.tiff_encode.specs.Rooms.{IsInRoom};
 
 use crate::encoder::TiffEncoder;
@@ -73,13 +73,13 @@ impl<W: Sink, K: TiffKind> ValueVisitor<TiffEncoder<W, K>, Entry> for ForField {
     ghost use Rattle.tiff_encode.specs.Calls as calls;
     ghost use Rattle.tiff_encode.specs.Ends.{Ends};
     ghost use Rattle.tiff_encode.specs.Leaves.{Leaves};
-    ghost use Rattle.tiff_encode.specs.Model.{Model, Stands};
+    ghost use Rattle.tiff_encode.specs.Model.{Model, FileContains};
     ghost use Rattle.std.specs.Prelude.{true};
     ghost use Rattle.tiff_encode.specs.Rooms.{IsInRoom};
 
     ghost hands = { λ given old result new.
         Ends (λ (e : Field). e) (calls.write_entry given old) result old new
-        × ((m : Model) → Stands old.kind old.bytes m
+        × ((m : Model) → FileContains old.kind old.bytes m
         → Leaves (calls.write_entry given old) result old new m)
         × IsInRoom true old new result };
 
@@ -100,13 +100,13 @@ impl<W: Sink, K: TiffKind> ValueVisitor<TiffEncoder<W, K>, Entry> for ForNoField
     ghost use Rattle.tiff_encode.specs.Calls as calls;
     ghost use Rattle.tiff_encode.specs.Ends.{Ends};
     ghost use Rattle.tiff_encode.specs.Leaves.{Leaves};
-    ghost use Rattle.tiff_encode.specs.Model.{Model, Stands};
+    ghost use Rattle.tiff_encode.specs.Model.{Model, FileContains};
     ghost use Rattle.std.specs.Prelude.{false};
     ghost use Rattle.tiff_encode.specs.Rooms.{IsInRoom};
 
     ghost hands = { λ given old result new.
         Ends (λ (e : Field). e) (calls.write_entry given old) result old new
-        × ((m : Model) → Stands old.kind old.bytes m
+        × ((m : Model) → FileContains old.kind old.bytes m
         → Leaves (calls.write_entry given old) result old new m)
         × IsInRoom false old new result };
 
@@ -127,10 +127,10 @@ impl<W: Sink, K: TiffKind> ValueVisitor<TiffEncoder<W, K>, u64> for ForData {
     ghost use Rattle.tiff_encode.specs.Calls as calls;
     ghost use Rattle.tiff_encode.specs.Ends.{Ends};
     ghost use Rattle.tiff_encode.specs.Leaves.{Leaves};
-    ghost use Rattle.tiff_encode.specs.Model.{Model, Stands};
+    ghost use Rattle.tiff_encode.specs.Model.{Model, FileContains};
 
     ghost hands = { λ given old result new. Ends (λ (n : ℕ). n) (calls.write_data given old) result old new
-        × ((m : Model) → Stands old.kind old.bytes m
+        × ((m : Model) → FileContains old.kind old.bytes m
         → Leaves (calls.write_data given old) result old new m) };
 
     fn list<T: TiffScalar>(state: &mut TiffEncoder<W, K>, values: &Vec<T>) -> TiffResult<u64> {
@@ -153,7 +153,7 @@ impl<W: Sink, K: TiffKind> TiffEncoder<W, K> {
         ensures answer { Ends (λ e. e) (calls.write_entry (T.field_data value.now) self.old) result self.old
             self.new }
         ensures room { IsInRoom has_room self.old self.new result }
-        ensures leaves { (m : Model) → Stands self.old.kind self.old.bytes m
+        ensures leaves { (m : Model) → FileContains self.old.kind self.old.bytes m
             → Leaves (calls.write_entry (T.field_data value.now) self.old) result self.old self.new
             m }
     {
@@ -166,7 +166,7 @@ impl<W: Sink, K: TiffKind> TiffEncoder<W, K> {
     fn append_given<T: TiffValue>(&mut self, value: &T) -> TiffResult<u64>
         ensures answer { Ends (λ n. n) (calls.write_data (T.field_data value.now) self.old) result self.old
             self.new }
-        ensures leaves { (m : Model) → Stands self.old.kind self.old.bytes m
+        ensures leaves { (m : Model) → FileContains self.old.kind self.old.bytes m
             → Leaves (calls.write_data (T.field_data value.now) self.old) result self.old self.new m }
     {
         self.append_value(value)
@@ -177,7 +177,7 @@ impl<W: Sink, K: TiffKind> TiffEncoder<W, K> {
         ensures answer { Ends (λ e. e) (calls.write_entry (value_data value.now) self.old) result self.old
             self.new }
         ensures room { IsInRoom has_room self.old self.new result }
-        ensures leaves { (m : Model) → Stands self.old.kind self.old.bytes m
+        ensures leaves { (m : Model) → FileContains self.old.kind self.old.bytes m
             → Leaves (calls.write_entry (value_data value.now) self.old) result self.old self.new m }
     {
         if !has_room {
@@ -190,7 +190,7 @@ impl<W: Sink, K: TiffKind> TiffEncoder<W, K> {
     pub(crate) fn append_job_value(&mut self, value: &JobValue) -> TiffResult<u64>
         ensures answer { Ends (λ n. n) (calls.write_data (value_data value.now) self.old) result self.old
             self.new }
-        ensures leaves { (m : Model) → Stands self.old.kind self.old.bytes m
+        ensures leaves { (m : Model) → FileContains self.old.kind self.old.bytes m
             → Leaves (calls.write_data (value_data value.now) self.old) result self.old self.new m }
     {
         hand_in::<_, _, ForData>(self, value)
@@ -205,7 +205,7 @@ impl<W: Sink, K: TiffKind> TiffEncoder<W, K> {
         ensures answer { Ends (λ e. e) (calls.write_entry_buf (buffer_in buffer.now) self.old) result self.old
             self.new }
         ensures room { IsInRoom has_room self.old self.new result }
-        ensures leaves { (m : Model) → Stands self.old.kind self.old.bytes m
+        ensures leaves { (m : Model) → FileContains self.old.kind self.old.bytes m
             → Leaves (calls.write_entry_buf (buffer_in buffer.now) self.old) result self.old
             self.new m }
     {
@@ -218,7 +218,7 @@ impl<W: Sink, K: TiffKind> TiffEncoder<W, K> {
     pub(crate) fn append_job_buffer(&mut self, buffer: &JobBuffer) -> TiffResult<u64>
         ensures answer { Ends (λ n. n) (calls.write_data_buf (buffer_in buffer.now) self.old) result self.old
             self.new }
-        ensures leaves { (m : Model) → Stands self.old.kind self.old.bytes m
+        ensures leaves { (m : Model) → FileContains self.old.kind self.old.bytes m
             → Leaves (calls.write_data_buf (buffer_in buffer.now) self.old) result self.old self.new
             m }
     {

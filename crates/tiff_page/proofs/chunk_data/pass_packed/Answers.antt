@@ -1,15 +1,15 @@
 use Rattle.std.proofs.Common.{arith, rules, ◌≡◌, ◌∙◌, drop, length, length-drop}
 use Rattle.std.proofs.lemmas.List.{length-append, length-take-le}
-use Rattle.tiff_base.proofs.Told.{same_bytes}
+use Rattle.tiff_base.proofs.Contents.{same_bytes}
 use Rattle.tiff_ifd.specs.Unpacking.{left_at}
 use Rattle.tiff_page.proofs.ChunkRows.{more_passed}
 use Rattle.tiff_page.proofs.chunk_data.pass_packed.Goals as goal
 
 pub loop-left-preserved : goal.loop-left-preserved
 loop-left-preserved g c =
-    let bytes = (g.R.Source.told c.args.source.now).bytes in
+    let bytes = (g.R.Source.contents c.args.source.now).bytes in
     let same = (same_bytes c.loop-left.invariant.same) in
-    let told = c.in-Ok.ensures.kept.told ∙ c.loop-left.invariant.same in
+    let told = c.in-Ok.ensures.kept.contents ∙ c.loop-left.invariant.same in
     let given = rw (same_bytes told, same) at c.in-Ok.ensures.filled in
     let len : length c.read_exact.new.buf ≡ c.min-len.result = c.read_exact.auto.buf ∙ length-take-le c.min-len.result c.loop-left.piece (omega (arith, c.loop-left.invariant.room)) in
     record {

@@ -5,11 +5,11 @@ use Rattle.tiff_page.proofs.chunk_data.pass_packed.Given as goal
 -- what is left after the bytes that were skipped
 abbrev pub invariant-loop-left : goal.invariant-loop-left
 invariant-loop-left g l =
-    let bytes = (g.R.Source.told l.fn.source).bytes in
+    let bytes = (g.R.Source.contents l.fn.source).bytes in
     record {
       within : l.left ≤ l.fn.n;
       room : length l.piece ≡ 512;
-      same : g.R.Source.told l.source ≡ g.R.Source.told l.fn.source;
+      same : g.R.Source.contents l.source ≡ g.R.Source.contents l.fn.source;
       count : g.R.Source.failures l.source ≡ g.R.Source.failures l.fn.source;
       behind : IsLastPart l.fn.position.at l.fn.position.len l.position;
       passed : (left_at bytes l.position).out ≡ drop (l.fn.n - l.left) (left_at bytes l.fn.position).out;

@@ -23,71 +23,71 @@ check_failed view look size page (Err y) e wanting failed failed' given q s grew
 pub returns-in_err-interpretation-clause-answer : goal.returns-in_err-interpretation-clause-answer
 unfolding page_of
 returns-in_err-interpretation-clause-answer g c =
-    check_failed view.page (g.T.Tags.told c.args.tags.now).look _ _ _ c.in_err-interpretation.field-0.0 _ _ _ _ c.from_residual-in_err-interpretation.ensures.1
+    check_failed view.page (g.T.Tags.contents c.args.tags.now).look _ _ _ c.in_err-interpretation.field-0.0 _ _ _ _ c.from_residual-in_err-interpretation.ensures.1
     c.in_ok-width.ensures.answer (λ f. omega arith) (λ h. grind (arith, common_steps)) c.in_err-interpretation.ensures.answer
 
 pub returns-in_err-method-clause-answer : goal.returns-in_err-method-clause-answer
 unfolding page_of
 returns-in_err-method-clause-answer g c =
-    check_failed view.page (g.T.Tags.told c.args.tags.now).look _ _ _ c.in_err-method.field-0.0 _ _ _ _ c.from_residual-in_err-method.ensures.1
+    check_failed view.page (g.T.Tags.contents c.args.tags.now).look _ _ _ c.in_err-method.field-0.0 _ _ _ _ c.from_residual-in_err-method.ensures.1
     c.in_ok-width.ensures.answer (λ f. omega arith) (λ h. grind (arith, common_steps)) c.in_err-method.ensures.answer
 
 pub returns-in_err-samples-clause-answer : goal.returns-in_err-samples-clause-answer
 unfolding page_of
 returns-in_err-samples-clause-answer g c =
-    check_failed view.page (g.T.Tags.told c.args.tags.now).look _ _ _ c.in_err-samples.field-0.0 _ _ _ _ c.from_residual-in_err-samples.ensures.1
+    check_failed view.page (g.T.Tags.contents c.args.tags.now).look _ _ _ c.in_err-samples.field-0.0 _ _ _ _ c.from_residual-in_err-samples.ensures.1
     c.in_ok-width.ensures.answer (λ f. omega arith) (λ h. grind (arith, common_steps)) c.in_err-samples.ensures.answer
 
 pub returns-in_err-extra-clause-answer : goal.returns-in_err-extra-clause-answer
 unfolding page_of
 returns-in_err-extra-clause-answer g c =
-    check_failed view.page (g.T.Tags.told c.args.tags.now).look _ _ _ c.in_err-extra.field-0.0 _ _ _ _ c.from_residual-in_err-extra.ensures.1
+    check_failed view.page (g.T.Tags.contents c.args.tags.now).look _ _ _ c.in_err-extra.field-0.0 _ _ _ _ c.from_residual-in_err-extra.ensures.1
     c.in_ok-width.ensures.answer (λ f. omega arith) (λ h. grind (arith, common_steps)) c.in_err-extra.ensures.answer
 
 pub returns-in_err-format-clause-answer : goal.returns-in_err-format-clause-answer
 unfolding page_of
 returns-in_err-format-clause-answer g c =
-    check_failed view.page (g.T.Tags.told c.args.tags.now).look _ _ _ c.in_err-format.field-0.0 _ _ _ _ c.from_residual-in_err-format.ensures.1
+    check_failed view.page (g.T.Tags.contents c.args.tags.now).look _ _ _ c.in_err-format.field-0.0 _ _ _ _ c.from_residual-in_err-format.ensures.1
     c.in_ok-width.ensures.answer (λ f. omega arith) (λ h. grind (arith, common_steps)) c.in_err-format.ensures.answer
 
 pub returns-in_err-depth-clause-answer : goal.returns-in_err-depth-clause-answer
 unfolding page_of
 returns-in_err-depth-clause-answer g c =
-    check_failed view.page (g.T.Tags.told c.args.tags.now).look _ _ _ c.in_err-depth.field-0.0 _ _ _ _ c.from_residual-in_err-depth.ensures.1
+    check_failed view.page (g.T.Tags.contents c.args.tags.now).look _ _ _ c.in_err-depth.field-0.0 _ _ _ _ c.from_residual-in_err-depth.ensures.1
     c.in_ok-width.ensures.answer (λ f. omega arith) (λ h. grind (arith, common_steps)) c.in_err-depth.ensures.answer
 
 pub returns-in_err-predictor-clause-answer : goal.returns-in_err-predictor-clause-answer
 unfolding page_of
 returns-in_err-predictor-clause-answer g c =
-    check_failed view.page (g.T.Tags.told c.args.tags.now).look _ _ _ c.in_err-predictor.field-0.0 _ _ _ _ c.from_residual-in_err-predictor.ensures.1
+    check_failed view.page (g.T.Tags.contents c.args.tags.now).look _ _ _ c.in_err-predictor.field-0.0 _ _ _ _ c.from_residual-in_err-predictor.ensures.1
     c.in_ok-width.ensures.answer (λ f. omega arith) (λ h. grind (arith, common_steps)) c.in_err-predictor.ensures.answer
 
 pub returns-in_err-planar-clause-answer : goal.returns-in_err-planar-clause-answer
 unfolding page_of
 returns-in_err-planar-clause-answer g c =
-    check_failed view.page (g.T.Tags.told c.args.tags.now).look _ _ _ c.in_err-planar.field-0.0 _ _ _ _ c.from_residual-in_err-planar.ensures.1
+    check_failed view.page (g.T.Tags.contents c.args.tags.now).look _ _ _ c.in_err-planar.field-0.0 _ _ _ _ c.from_residual-in_err-planar.ensures.1
     c.in_ok-width.ensures.answer (λ f. omega arith) (λ h. grind (arith, common_steps)) c.in_err-planar.ensures.answer
 
 pub returns-in_err-subsampling-clause-answer : goal.returns-in_err-subsampling-clause-answer
 unfolding page_of
 returns-in_err-subsampling-clause-answer g c =
-    check_failed view.page (g.T.Tags.told c.args.tags.now).look _ _ _ c.in_err-subsampling.field-0.0 _ _ _ _ c.from_residual-in_err-subsampling.ensures.1
+    check_failed view.page (g.T.Tags.contents c.args.tags.now).look _ _ _ c.in_err-subsampling.field-0.0 _ _ _ _ c.from_residual-in_err-subsampling.ensures.1
     c.in_ok-width.ensures.answer (λ f. omega arith) (λ h. grind (arith, common_steps)) c.in_err-subsampling.ensures.answer
 
 pub returns-in_err-chunk_type-clause-answer : goal.returns-in_err-chunk_type-clause-answer
 unfolding page_of
 returns-in_err-chunk_type-clause-answer g c =
-    check_failed view.page (g.T.Tags.told c.args.tags.now).look _ _ _ c.in_err-chunk_type.field-0.0 _ _ _ _ c.from_residual-in_err-chunk_type.ensures.1
+    check_failed view.page (g.T.Tags.contents c.args.tags.now).look _ _ _ c.in_err-chunk_type.field-0.0 _ _ _ _ c.from_residual-in_err-chunk_type.ensures.1
     c.in_ok-width.ensures.answer (λ f. absurd f) (λ h. grind (arith, common_steps)) c.in_err-chunk_type.ensures
 
 pub returns-in_err-chunks-in-Strip-clause-answer : goal.returns-in_err-chunks-in-Strip-clause-answer
 unfolding page_of
 returns-in_err-chunks-in-Strip-clause-answer g c =
-    check_failed view.page (g.T.Tags.told c.args.tags.now).look _ _ _ c.in_err-chunks-in-Strip.field-0.0 _ _ _ _ c.from_residual-in_err-chunks-in-Strip.ensures.1
+    check_failed view.page (g.T.Tags.contents c.args.tags.now).look _ _ _ c.in_err-chunks-in-Strip.field-0.0 _ _ _ _ c.from_residual-in_err-chunks-in-Strip.ensures.1
     c.in_ok-width.ensures.answer (λ f. omega arith) (λ h. grind (arith, common_steps)) c.in_err-chunks-in-Strip.ensures.answer
 
 pub returns-in_err-chunks-in-Tile-clause-answer : goal.returns-in_err-chunks-in-Tile-clause-answer
 unfolding page_of
 returns-in_err-chunks-in-Tile-clause-answer g c =
-    check_failed view.page (g.T.Tags.told c.args.tags.now).look _ _ _ c.in_err-chunks-in-Tile.field-0.0 _ _ _ _ c.from_residual-in_err-chunks-in-Tile.ensures.1
+    check_failed view.page (g.T.Tags.contents c.args.tags.now).look _ _ _ c.in_err-chunks-in-Tile.field-0.0 _ _ _ _ c.from_residual-in_err-chunks-in-Tile.ensures.1
     c.in_ok-width.ensures.answer (λ f. omega arith) (λ h. grind (arith, common_steps)) c.in_err-chunks-in-Tile.ensures.answer

@@ -16,4 +16,4 @@ pub returns : goal.returns
 returns g c =
     let P : Result DecodingResult TiffError → Type 0 = λ r. VisitsPage decoded_as page_image r c.args.page c.args.decoder.now c.replies_to_both.new.decoder in
     subst P (sym c.and.ensures)
-    (image_visit c.args.decoder.now c.replies_to_both.new.decoder c.args.page c.in_ok-seek.seek c.in_ok-seek.image c.sought.result c.image_read.result c.in_ok-seek.ensures c.sought.ensures c.image_read.ensures)
+    (image_visit c.args.decoder.now c.replies_to_both.new.decoder c.args.page c.in_ok-seek.seek c.in_ok-seek.image c.seek_result.result c.image_read.result c.in_ok-seek.ensures c.seek_result.ensures c.image_read.ensures)

@@ -11,8 +11,8 @@ entries_seen-requires g c = record { of = of_order c.args.seen.now c.in-Some.win
 pub returns-in-Ok : goal.returns-in-Ok
 returns-in-Ok g c =
     let entries = c.args.entries.now in
-    λ of. tells_of c.args.seen.now c.in-Some.windows.seen g.file c.given.result c.args.wanted.now _
-    (λ file. StatusPuts (list_tags file c.args.page entries) c.given.result (c.args.count.now, entries) (c.given.new.out, c.entries_seen.new.out))
+    λ of. tells_of c.args.seen.now c.in-Some.windows.seen g.file c.put_value.result c.args.wanted.now _
+    (λ file. StatusPuts (list_tags file c.args.page entries) c.put_value.result (c.args.count.now, entries) (c.put_value.new.out, c.entries_seen.new.out))
     (c.in-Some.ensures).order of
-    (puts_both c.in-Ok.told (list_tags (file_of g.file c.in-Some.windows.seen) c.args.page entries) c.given.result c.args.count.now c.given.new.out entries c.entries_seen.new.out
-    c.in-Ok.ensures.answer c.given.ensures.status c.given.ensures.put c.given.ensures.kept c.in-Ok.ensures.stays)
+    (puts_both c.in-Ok.told (list_tags (file_of g.file c.in-Some.windows.seen) c.args.page entries) c.put_value.result c.args.count.now c.put_value.new.out entries c.entries_seen.new.out
+    c.in-Ok.ensures.answer c.put_value.ensures.status c.put_value.ensures.put c.put_value.ensures.kept c.in-Ok.ensures.stays)

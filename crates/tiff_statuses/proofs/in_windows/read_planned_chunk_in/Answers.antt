@@ -11,8 +11,8 @@ planned_seen-requires g c = record { of = of_order c.args.seen.now c.in-Some.win
 
 pub returns-in-Ok : goal.returns-in-Ok
 returns-in-Ok g c =
-    λ of. tells_of c.args.seen.now c.in-Some.windows.seen g.file c.done.result c.args.wanted.now _
-    (λ file. StatusTells (read_planned_chunk file c.args.plan.now c.args.chunk c.args.buffer.now) c.done.result c.planned_seen.new.buffer)
+    λ of. tells_of c.args.seen.now c.in-Some.windows.seen g.file c.unit_status.result c.args.wanted.now _
+    (λ file. StatusTells (read_planned_chunk file c.args.plan.now c.args.chunk c.args.buffer.now) c.unit_status.result c.planned_seen.new.buffer)
     (c.in-Some.ensures).order of
-    (tells_left (λ _. c.planned_seen.new.buffer) c.in-Ok.read (read_planned_chunk (file_of g.file c.in-Some.windows.seen) c.args.plan.now c.args.chunk c.args.buffer.now) c.done.result
-    c.planned_seen.new.buffer c.in-Ok.ensures c.done.ensures (search rules))
+    (tells_left (λ _. c.planned_seen.new.buffer) c.in-Ok.read (read_planned_chunk (file_of g.file c.in-Some.windows.seen) c.args.plan.now c.args.chunk c.args.buffer.now) c.unit_status.result
+    c.planned_seen.new.buffer c.in-Ok.ensures c.unit_status.ensures (search rules))

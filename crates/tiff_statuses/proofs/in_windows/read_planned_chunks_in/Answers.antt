@@ -11,8 +11,8 @@ range_seen-requires g c = record { of = of_order c.args.seen.now c.in-Some.windo
 
 pub returns-in-Ok : goal.returns-in-Ok
 returns-in-Ok g c =
-    λ of. tells_of c.args.seen.now c.in-Some.windows.seen g.file c.done.result c.args.wanted.now _
-    (λ file. StatusTells (read_planned_chunks file c.args.plan.now c.args.first c.args.count c.args.buffer.now) c.done.result c.range_seen.new.buffer)
+    λ of. tells_of c.args.seen.now c.in-Some.windows.seen g.file c.unit_status.result c.args.wanted.now _
+    (λ file. StatusTells (read_planned_chunks file c.args.plan.now c.args.first c.args.count c.args.buffer.now) c.unit_status.result c.range_seen.new.buffer)
     (c.in-Some.ensures).order of
-    (tells_left (λ _. c.range_seen.new.buffer) c.in-Ok.read (read_planned_chunks (file_of g.file c.in-Some.windows.seen) c.args.plan.now c.args.first c.args.count c.args.buffer.now) c.done.result
-    c.range_seen.new.buffer c.in-Ok.ensures c.done.ensures (search rules))
+    (tells_left (λ _. c.range_seen.new.buffer) c.in-Ok.read (read_planned_chunks (file_of g.file c.in-Some.windows.seen) c.args.plan.now c.args.first c.args.count c.args.buffer.now) c.unit_status.result
+    c.range_seen.new.buffer c.in-Ok.ensures c.unit_status.ensures (search rules))

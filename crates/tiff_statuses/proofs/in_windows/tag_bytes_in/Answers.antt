@@ -13,9 +13,9 @@ bytes_seen-requires g c = record { of = of_order c.args.seen.now c.in-Some.windo
 pub returns-in-Ok : goal.returns-in-Ok
 returns-in-Ok g c =
     let bytes : List ℕ → Result (ℕ × List ℕ) TiffError = λ file. tag_bytes file c.args.page c.args.number c.args.at c.args.buffer.now in
-    λ of. tells_of c.args.seen.now c.in-Some.windows.seen g.file c.given.result c.args.wanted.now _
-    (λ file. StatusTells (bytes file) c.given.result (c.given.new.out, c.bytes_seen.new.buffer) × ((c.given.result ≡ 0) ⊎ (c.given.new.out ≡ c.args.written.now)))
+    λ of. tells_of c.args.seen.now c.in-Some.windows.seen g.file c.put_value.result c.args.wanted.now _
+    (λ file. StatusTells (bytes file) c.put_value.result (c.put_value.new.out, c.bytes_seen.new.buffer) × ((c.put_value.result ≡ 0) ⊎ (c.put_value.new.out ≡ c.args.written.now)))
     (c.in-Some.ensures).order of (
-      tells_both c.in-Ok.told (bytes (file_of g.file c.in-Some.windows.seen)) c.given.result c.given.new.out c.bytes_seen.new.buffer c.in-Ok.ensures c.given.ensures.status c.given.ensures.put,
-      kept_told c.in-Ok.told c.given.result c.args.written.now c.given.new.out c.given.ensures.status c.given.ensures.kept,
+      tells_both c.in-Ok.told (bytes (file_of g.file c.in-Some.windows.seen)) c.put_value.result c.put_value.new.out c.bytes_seen.new.buffer c.in-Ok.ensures c.put_value.ensures.status c.put_value.ensures.put,
+      kept_told c.in-Ok.told c.put_value.result c.args.written.now c.put_value.new.out c.put_value.ensures.status c.put_value.ensures.kept,
     )

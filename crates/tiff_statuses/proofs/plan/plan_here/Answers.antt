@@ -8,7 +8,7 @@ use Rattle.tiff_statuses.proofs.plan.plan_here.Goals as goal
 
 pub returns-clause-plan : goal.returns-clause-plan
 returns-clause-plan g c =
-    let file = (g.R.Source.told c.args.source).bytes in
+    let file = (g.R.Source.contents c.args.source).bytes in
     let page = c.args.page in
     subst (λ (l : Limits). IfOk c.page_plan-plan.result (λ found. IfSome found (λ plan. (p : PageRecord)
     → page_of (look_in page.kind page.order file l page.directory.entries) ≡ Ok p → IsPlanOf plan file l p)))

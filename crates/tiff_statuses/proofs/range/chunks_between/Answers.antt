@@ -23,7 +23,7 @@ loop-chunk-preserved g c =
     let fits = c.if-provided-len.false in
     record {
       stays = c.in_ok-read.ensures.stays ∙ same;
-      told = c.in_ok-read.ensures.kept.told ∙ c.in_ok-len.ensures.kept.told ∙ i.told;
+      contents = c.in_ok-read.ensures.kept.contents ∙ c.in_ok-len.ensures.kept.contents ∙ i.contents;
       failures = c.in_ok-read.ensures.kept.swallowed ∙ c.in_ok-len.ensures.kept.swallowed ∙ i.failures;
       room = grind (arith, common_steps);
       left = goes_on by c.args.first c.args.end c.loop-chunk.chunk c.loop-chunk.at c.args.buffer.now c.loop-chunk.buffer c.loop-chunk-test.true i.room i.left c.in_ok-len.len len

@@ -9,7 +9,7 @@ invariant-loop-chunk g l =
     let by = g.R.ReadsChunks.reading l.fn.chunks in
     record {
       stays : g.R.ReadsChunks.reading l.chunks ≡ by;
-      told : g.R.ReadsChunks.told l.chunks ≡ g.R.ReadsChunks.told l.fn.chunks;
+      contents : g.R.ReadsChunks.contents l.chunks ≡ g.R.ReadsChunks.contents l.fn.chunks;
       failures : g.R.ReadsChunks.failures l.chunks ≡ g.R.ReadsChunks.failures l.fn.chunks;
       room : l.at ≤ length l.buffer;
       left : chunks_in by (l.fn.end - l.fn.first) l.fn.first l.fn.buffer

@@ -9,7 +9,7 @@ ghost use Rattle.tiff_value.specs.Differences.{differences, predicted_row};
 ghost use Rattle.tiff_value.specs.Written.{writer_after, IsCut, WritesCounted, WritesRaw};
 
 use super::TiffWriter;
-use crate::encoder::differences::Sample;
+use crate::encoder::horizontal_predictor::Sample;
 use std::alloc::AllocError;
 use tiff_base::error::{TiffError, TiffResult, UsageError};
 use tiff_base::io::{ByteRun, ByteWitness, Sink};

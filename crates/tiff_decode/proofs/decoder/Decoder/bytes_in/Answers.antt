@@ -12,7 +12,7 @@ use Rattle.tiff_decode.proofs.decoder.Decoder.bytes_in.Goals as goal
 pub returns-in_err-n-clause-answer : goal.returns-in_err-n-clause-answer
 returns-in_err-n-clause-answer g c =
     let s = c.self.inside in
-    let d : Decoding = decoding (g.R.Source.told s.tags.source) s.tags.kind s.tags.order s.first (g.R.Source.failures s.tags.source) s.standing.pointer s.standing.more
+    let d : Decoding = decoding (g.R.Source.contents s.tags.source) s.tags.kind s.tags.order s.first (g.R.Source.failures s.tags.source) s.standing.pointer s.standing.more
     (view.page s.page) s.tags.directory s.offset s.tags.limits in
     let other = option_map (λ (x : Bor DirectoryRecord). x.now) c.args.other in
     let answered = err_from_is_err_and c.from_residual.result c.from_residual.ensures.1 in

@@ -1,5 +1,5 @@
 use Rattle.std.proofs.Common.{Err, refl, sym, ◌∙◌}
-use Rattle.tiff_base.proofs.Told.{same_bytes}
+use Rattle.tiff_base.proofs.Contents.{same_bytes}
 use Rattle.tiff_page.specs.PageView as view
 use Rattle.tiff_decode.specs.Machine.{State, Decoding, decoding}
 use Rattle.tiff_decode.specs.Outcome.{seek_to_image}
@@ -11,8 +11,8 @@ pub invariant_of-self : goal.invariant_of-self
 invariant_of-self g c =
     let s = c.self.inside in
     let longer = c.offset_of.ensures.longer in
-    along_on s.tags.kind _ s.tags.order _ (g.R.Source.told s.tags.source).bytes _ s.first c.offset_of.new.self _ _
-    c.enter_offset.ensures.kind c.enter_offset.ensures.order (same_bytes (c.enter_offset.ensures.kept.told ∙ c.offset_of.ensures.kept.told))
+    along_on s.tags.kind _ s.tags.order _ (g.R.Source.contents s.tags.source).bytes _ s.first c.offset_of.new.self _ _
+    c.enter_offset.ensures.kind c.enter_offset.ensures.order (same_bytes (c.enter_offset.ensures.kept.contents ∙ c.offset_of.ensures.kept.contents))
     (c.offset_of.ensures.begins s.first c.self.invariant.begins)
     (c.enter_offset.ensures.stands c.offset_of.new.self.offsets
     (stands_longer s.walk.offsets c.offset_of.new.self.offsets longer.0 s.standing.pointer s.standing.at longer.1 c.self.invariant.stands)
@@ -23,16 +23,16 @@ invariant_of-self-in-Ok-None g c =
     let s = c.self.inside in
     let longer = c.offset_of.ensures.longer in
     let past = c.past-self-inside in
-    along_on s.tags.kind _ s.tags.order _ (g.R.Source.told s.tags.source).bytes _ s.first c.offset_of.new.self past.result.pointer past.result.at
-    refl refl (same_bytes c.offset_of.ensures.kept.told) (c.offset_of.ensures.begins s.first c.self.invariant.begins)
+    along_on s.tags.kind _ s.tags.order _ (g.R.Source.contents s.tags.source).bytes _ s.first c.offset_of.new.self past.result.pointer past.result.at
+    refl refl (same_bytes c.offset_of.ensures.kept.contents) (c.offset_of.ensures.begins s.first c.self.invariant.begins)
     past.ensures.stands
 
 pub invariant_of-self-then-keeps_state : goal.invariant_of-self-then-keeps_state
 invariant_of-self-then-keeps_state g c =
     let s = c.self.inside in
     let longer = c.offset_of.ensures.longer in
-    along_on s.tags.kind _ s.tags.order _ (g.R.Source.told s.tags.source).bytes _ s.first c.offset_of.new.self _ _
-    refl refl (same_bytes c.offset_of.ensures.kept.told) (c.offset_of.ensures.begins s.first c.self.invariant.begins)
+    along_on s.tags.kind _ s.tags.order _ (g.R.Source.contents s.tags.source).bytes _ s.first c.offset_of.new.self _ _
+    refl refl (same_bytes c.offset_of.ensures.kept.contents) (c.offset_of.ensures.begins s.first c.self.invariant.begins)
     (stands_longer s.walk.offsets c.offset_of.new.self.offsets longer.0 s.standing.pointer s.standing.at longer.1 c.self.invariant.stands)
 
 pub invariant_of-self-in-Err : goal.invariant_of-self-in-Err
@@ -40,25 +40,25 @@ invariant_of-self-in-Err g c =
     let s = c.self.inside in
     let longer = c.offset_of.ensures.longer in
     let past = c.past-self-inside-in-Err in
-    along_on s.tags.kind _ s.tags.order _ (g.R.Source.told s.tags.source).bytes _ s.first c.offset_of.new.self past.result.pointer past.result.at
-    refl refl (same_bytes c.offset_of.ensures.kept.told) (c.offset_of.ensures.begins s.first c.self.invariant.begins)
+    along_on s.tags.kind _ s.tags.order _ (g.R.Source.contents s.tags.source).bytes _ s.first c.offset_of.new.self past.result.pointer past.result.at
+    refl refl (same_bytes c.offset_of.ensures.kept.contents) (c.offset_of.ensures.begins s.first c.self.invariant.begins)
     past.ensures.stands
 
 pub returns-in-Ok-Some-clause-follows : goal.returns-in-Ok-Some-clause-follows
 returns-in-Ok-Some-clause-follows g c =
     let s = c.self.inside in
-    let d : Decoding = decoding (g.R.Source.told s.tags.source) s.tags.kind s.tags.order s.first (g.R.Source.failures s.tags.source) s.standing.pointer s.standing.more
+    let d : Decoding = decoding (g.R.Source.contents s.tags.source) s.tags.kind s.tags.order s.first (g.R.Source.failures s.tags.source) s.standing.pointer s.standing.more
     (view.page s.page) s.tags.directory s.offset s.tags.limits in
-    let mid : Decoding = record d { bytes = (g.R.Source.told c.offset_of.new.source).bytes; readable = (g.R.Source.told c.offset_of.new.source).readable; failures = g.R.Source.failures c.offset_of.new.source } in
+    let mid : Decoding = record d { bytes = (g.R.Source.contents c.offset_of.new.source).bytes; readable = (g.R.Source.contents c.offset_of.new.source).readable; failures = g.R.Source.failures c.offset_of.new.source } in
     let h = rw c.in-Ok-Some.field-0-is at c.in-Ok-Some.ensures.offset in
     shown (λ x. seek_to_image x c.args.ifd_index) c.enter_offset.result d _ _ c.self.view_is
     (seek_known c.enter_offset.result d mid _ c.args.ifd_index c.in-Ok-Some.offset (h s.first c.self.invariant.begins)
-    (told_same d _ _ c.offset_of.ensures.kept.told c.in-Ok-Some.ensures.kept.swallowed) (c.enter_offset.ensures.follows s.first s.offset))
+    (told_same d _ _ c.offset_of.ensures.kept.contents c.in-Ok-Some.ensures.kept.swallowed) (c.enter_offset.ensures.follows s.first s.offset))
 
 pub returns-in-Ok-None-clause-follows : goal.returns-in-Ok-None-clause-follows
 returns-in-Ok-None-clause-follows g c =
     let s = c.self.inside in
-    let d : Decoding = decoding (g.R.Source.told s.tags.source) s.tags.kind s.tags.order s.first (g.R.Source.failures s.tags.source) s.standing.pointer s.standing.more
+    let d : Decoding = decoding (g.R.Source.contents s.tags.source) s.tags.kind s.tags.order s.first (g.R.Source.failures s.tags.source) s.standing.pointer s.standing.more
     (view.page s.page) s.tags.directory s.offset s.tags.limits in
     let past = c.past-self-inside in
     let next : State = record d.state { pointer = past.result.pointer; more = past.result.more } in
@@ -68,21 +68,21 @@ returns-in-Ok-None-clause-follows g c =
     (none_found c.into.result (seek_to_image d c.args.ifd_index) next d _ c.into.ensures
     (seek_past d c.args.ifd_index c.offset_of.new.self.offsets past.result.pointer past.result.more (none s.first c.self.invariant.begins) (ends s.first c.self.invariant.begins)
     past.ensures.pointer past.ensures.more)
-    (stands_told next d _ _ c.offset_of.ensures.kept.told c.in-Ok-None.ensures.kept.swallowed))
+    (stands_told next d _ _ c.offset_of.ensures.kept.contents c.in-Ok-None.ensures.kept.swallowed))
 
 pub returns-then-keeps_state-clause-follows : goal.returns-then-keeps_state-clause-follows
 returns-then-keeps_state-clause-follows g c =
     let s = c.self.inside in
-    let d : Decoding = decoding (g.R.Source.told s.tags.source) s.tags.kind s.tags.order s.first (g.R.Source.failures s.tags.source) s.standing.pointer s.standing.more
+    let d : Decoding = decoding (g.R.Source.contents s.tags.source) s.tags.kind s.tags.order s.first (g.R.Source.failures s.tags.source) s.standing.pointer s.standing.more
     (view.page s.page) s.tags.directory s.offset s.tags.limits in
     shown (λ x. seek_to_image x c.args.ifd_index) (Err c.in-Err.fault) d _ _ c.self.view_is
-    (stays_refused _ c.in-Err.fault (seek_to_image d c.args.ifd_index) d (g.R.Source.told c.offset_of.new.source) _ (sym c.keeps_state.ensures ∙ c.if-keeps_state.true)
-    c.offset_of.ensures.kept.told c.in-Err.ensures.cut c.offset_of.ensures.kept.failures c.in-Err.ensures.kept.swallowed)
+    (stays_refused _ c.in-Err.fault (seek_to_image d c.args.ifd_index) d (g.R.Source.contents c.offset_of.new.source) _ (sym c.keeps_state.ensures ∙ c.if-keeps_state.true)
+    c.offset_of.ensures.kept.contents c.in-Err.ensures.cut c.offset_of.ensures.kept.failures c.in-Err.ensures.kept.swallowed)
 
 pub returns-in-Err-clause-follows : goal.returns-in-Err-clause-follows
 returns-in-Err-clause-follows g c =
     let s = c.self.inside in
-    let d : Decoding = decoding (g.R.Source.told s.tags.source) s.tags.kind s.tags.order s.first (g.R.Source.failures s.tags.source) s.standing.pointer s.standing.more
+    let d : Decoding = decoding (g.R.Source.contents s.tags.source) s.tags.kind s.tags.order s.first (g.R.Source.failures s.tags.source) s.standing.pointer s.standing.more
     (view.page s.page) s.tags.directory s.offset s.tags.limits in
     let past = c.past-self-inside-in-Err in
     let next : State = record d.state { pointer = past.result.pointer; more = past.result.more } in
@@ -90,23 +90,23 @@ returns-in-Err-clause-follows g c =
     shown (λ x. seek_to_image x c.args.ifd_index) (Err c.shown_fault.result) d _ _ c.self.view_is
     (seek_cut _ _ _ c.in-Err.fault c.shown_fault.result d _ c.args.ifd_index c.offset_of.new.self.offsets past.result.pointer past.result.more moves c.in-Err.ensures.cut
     (λ cut. cut s.first c.self.invariant.begins) past.ensures.pointer past.ensures.more c.shown_fault.ensures
-    (stands_told next d _ _ c.offset_of.ensures.kept.told (unfailed c.in-Err.fault _ _ moves c.in-Err.ensures.kept.swallowed)))
+    (stands_told next d _ _ c.offset_of.ensures.kept.contents (unfailed c.in-Err.fault _ _ moves c.in-Err.ensures.kept.swallowed)))
 
 -- ---- the bytes that the call reads
 
 pub returns-in-Ok-Some-clause-asked : goal.returns-in-Ok-Some-clause-asked
 returns-in-Ok-Some-clause-asked g c =
     let s = c.self.inside in
-    let d : Decoding = decoding (g.R.Source.told s.tags.source) s.tags.kind s.tags.order s.first (g.R.Source.failures s.tags.source) s.standing.pointer s.standing.more
+    let d : Decoding = decoding (g.R.Source.contents s.tags.source) s.tags.kind s.tags.order s.first (g.R.Source.failures s.tags.source) s.standing.pointer s.standing.more
     (view.page s.page) s.tags.directory s.offset s.tags.limits in
     let h = rw c.in-Ok-Some.field-0-is at c.in-Ok-Some.ensures.offset in
-    sought_entry d _ (g.R.Source.told c.offset_of.new.source) c.args.ifd_index c.in-Ok-Some.offset c.enter_offset.result c.self.view_is c.offset_of.ensures.kept.told
+    sought_entry d _ (g.R.Source.contents c.offset_of.new.source) c.args.ifd_index c.in-Ok-Some.offset c.enter_offset.result c.self.view_is c.offset_of.ensures.kept.contents
     (h s.first c.self.invariant.begins) c.enter_offset.ensures.asked
 
 pub returns-then-keeps_state-clause-asked : goal.returns-then-keeps_state-clause-asked
 returns-then-keeps_state-clause-asked g c =
     let s = c.self.inside in
-    let d : Decoding = decoding (g.R.Source.told s.tags.source) s.tags.kind s.tags.order s.first (g.R.Source.failures s.tags.source) s.standing.pointer s.standing.more
+    let d : Decoding = decoding (g.R.Source.contents s.tags.source) s.tags.kind s.tags.order s.first (g.R.Source.failures s.tags.source) s.standing.pointer s.standing.more
     (view.page s.page) s.tags.directory s.offset s.tags.limits in
     sought_way d _ c.args.ifd_index c.in-Err.fault c.self.view_is (c.in-Err.ensures.asked s.first c.self.invariant.begins)
 
@@ -116,6 +116,6 @@ returns-in-Ok-None-clause-asked g c = none_asks c.into.result c.into.ensures
 pub returns-in-Err-clause-asked : goal.returns-in-Err-clause-asked
 returns-in-Err-clause-asked g c =
     let s = c.self.inside in
-    let d : Decoding = decoding (g.R.Source.told s.tags.source) s.tags.kind s.tags.order s.first (g.R.Source.failures s.tags.source) s.standing.pointer s.standing.more
+    let d : Decoding = decoding (g.R.Source.contents s.tags.source) s.tags.kind s.tags.order s.first (g.R.Source.failures s.tags.source) s.standing.pointer s.standing.more
     (view.page s.page) s.tags.directory s.offset s.tags.limits in
     sought_past d _ c.args.ifd_index c.in-Err.fault c.shown_fault.result s.standing.more c.self.view_is (c.in-Err.ensures.asked s.first c.self.invariant.begins) c.shown_fault.ensures

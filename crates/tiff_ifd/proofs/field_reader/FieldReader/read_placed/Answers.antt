@@ -12,7 +12,7 @@ use Rattle.tiff_ifd.proofs.field_reader.FieldReader.read_placed.Goals as goal
 pub returns-in_err-bytes-clause-answer : goal.returns-in_err-bytes-clause-answer
 unfolding field_bytes
 returns-in_err-bytes-clause-answer g c =
-    let bytes : List ℕ = (g.R.Source.told c.args.source.now).bytes in
+    let bytes : List ℕ = (g.R.Source.contents c.args.source.now).bytes in
     let failed : Type 0 = g.R.Source.failures c.args.source.now < g.R.Source.failures c.read_bytes_at.new.source in
     let e : TiffError = c.in_err-bytes.field-0.0 in
     let elsewhere : exactly_at bytes c.offset_in-offset.result c.args.len ≡ field_bytes c.args.self.now.kind c.args.self.now.order bytes c.args.entry.now = grind (arith, common_steps) in

@@ -5,38 +5,38 @@ use Rattle.tiff_ifd.proofs.walk.IfdChainWalk.enter_next.Goals as goal
 
 pub returns-in_default-clause-end : goal.returns-in_default-clause-end
 returns-in_default-clause-end g c = λ first b.
-    ends_none c.args.kind c.args.order (g.R.Source.told c.args.source.now).bytes first c.args.self.now (search rules) b
+    ends_none c.args.kind c.args.order (g.R.Source.contents c.args.source.now).bytes first c.args.self.now (search rules) b
 
 pub returns-in_err-directory-clause-err : goal.returns-in_err-directory-clause-err
 returns-in_err-directory-clause-err g c =
     let answered = err_from_is_err_and c.from_residual.result c.from_residual.ensures.1 in
-    rw (answered.1, answered.2) (refused_unread c.args.kind c.args.order (g.R.Source.told c.args.source.now).bytes _ c.args.self.now c.args.self.now c.in-Some.offset
+    rw (answered.1, answered.2) (refused_unread c.args.kind c.args.order (g.R.Source.contents c.args.source.now).bytes _ c.args.self.now c.args.self.now c.in-Some.offset
     c.in_err-directory.field-0.0 (search rules) refl c.in_err-directory.ensures.answer)
 
 pub returns-in_err-directory-clause-cut : goal.returns-in_err-directory-clause-cut
 returns-in_err-directory-clause-cut g c =
     let answered = err_from_is_err_and c.from_residual.result c.from_residual.ensures.1 in
-    rw (answered.1, answered.2) (cut_unread c.args.kind c.args.order (g.R.Source.told c.args.source.now).bytes _ c.args.self.now c.in-Some.offset c.in_err-directory.field-0.0
+    rw (answered.1, answered.2) (cut_unread c.args.kind c.args.order (g.R.Source.contents c.args.source.now).bytes _ c.args.self.now c.in-Some.offset c.in_err-directory.field-0.0
     (search rules) c.in_err-directory.ensures.answer)
 
 pub returns-in_err-add-clause-err : goal.returns-in_err-add-clause-err
 returns-in_err-add-clause-err g c =
     let answered = err_from_is_err_and c.from_residual-in_err-add.result c.from_residual-in_err-add.ensures.1 in
-    rw (answered.1, answered.2) (refused_unentered c.args.kind c.args.order (g.R.Source.told c.args.source.now).bytes _ c.args.self.now c.add.new.self c.in-Some.offset
+    rw (answered.1, answered.2) (refused_unentered c.args.kind c.args.order (g.R.Source.contents c.args.source.now).bytes _ c.args.self.now c.add.new.self c.in-Some.offset
     c.in_ok-directory.directory c.behind.result c.in_err-add.field-0.0 (search rules) c.in_ok-directory.ensures.answer c.behind.ensures c.in_err-add.ensures.stays c.in_err-add.ensures.err)
 
 pub returns-in_err-add-clause-cut : goal.returns-in_err-add-clause-cut
 returns-in_err-add-clause-cut g c =
     let answered = err_from_is_err_and c.from_residual-in_err-add.result c.from_residual-in_err-add.ensures.1 in
-    rw (answered.1, answered.2) (cut_unentered c.args.kind c.args.order (g.R.Source.told c.args.source.now).bytes _ c.args.self.now c.in-Some.offset c.in_ok-directory.directory
+    rw (answered.1, answered.2) (cut_unentered c.args.kind c.args.order (g.R.Source.contents c.args.source.now).bytes _ c.args.self.now c.in-Some.offset c.in_ok-directory.directory
     c.behind.result c.in_err-add.field-0.0 (search rules) c.in_ok-directory.ensures.answer c.behind.ensures c.in_err-add.ensures.err)
 
 pub returns-clause-ok : goal.returns-clause-ok
 returns-clause-ok g c =
-    entered_by c.args.kind c.args.order (g.R.Source.told c.args.source.now).bytes c.args.self.now c.add.new.self c.in-Some.offset c.in_ok-directory.directory c.behind.result
+    entered_by c.args.kind c.args.order (g.R.Source.contents c.args.source.now).bytes c.args.self.now c.add.new.self c.in-Some.offset c.in_ok-directory.directory c.behind.result
     (search rules) c.in_ok-directory.ensures.answer c.behind.ensures c.in_ok-add.ensures.unmet c.in_ok-add.ensures.added
 
 pub returns-clause-begins : goal.returns-clause-begins
 returns-clause-begins g c = λ first b.
-    begins_entered c.args.kind c.args.order (g.R.Source.told c.args.source.now).bytes first c.args.self.now c.add.new.self c.in-Some.offset c.in_ok-directory.directory c.behind.result
+    begins_entered c.args.kind c.args.order (g.R.Source.contents c.args.source.now).bytes first c.args.self.now c.add.new.self c.in-Some.offset c.in_ok-directory.directory c.behind.result
     (search rules) c.in_ok-directory.ensures.answer c.behind.ensures c.in_ok-add.ensures.unmet c.in_ok-add.ensures.added b

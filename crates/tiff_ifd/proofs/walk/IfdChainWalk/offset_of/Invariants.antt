@@ -4,9 +4,9 @@ use Rattle.tiff_ifd.proofs.walk.IfdChainWalk.offset_of.Given as goal
 
 abbrev pub invariant-way : goal.invariant-way
 invariant-way g l =
-    let bytes = (g.R.Source.told l.fn.source).bytes in
+    let bytes = (g.R.Source.contents l.fn.source).bytes in
     record {
-      same : g.R.Source.told l.source ≡ g.R.Source.told l.fn.source;
+      same : g.R.Source.contents l.source ≡ g.R.Source.contents l.fn.source;
       failures : g.R.Source.failures l.source ≡ g.R.Source.failures l.fn.source;
       longer : (more : List ℕ) × (l.self.offsets ≡ l.fn.self.offsets ++ more);
       no_further : length l.fn.self.offsets ≤ l.index → length l.self.offsets ≤ l.index + 1;

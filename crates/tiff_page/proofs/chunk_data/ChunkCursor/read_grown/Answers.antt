@@ -9,7 +9,7 @@ returns-in_err-read-clause-asked g c =
     let piece = take (length c.deref_mut.result.now - c.len-from.result) (drop c.len-from.result c.deref_mut.result.now) in
     let within : length c.loop-row.row.items + length piece ≤ c.args.len = grind (arith, common_steps) in
     let answered = err_from_is_err_and c.from_residual-in_err-read.result c.from_residual-in_err-read.ensures.1 in
-    rw (answered.1, answered.2) (more_asked c.args.self.now c.loop-row.self _ _ c.args.len _ (g.R.Source.told c.args.source.now) (g.R.Source.told c.loop-row.source) c.loop-row.invariant.same within c.loop-row.invariant.moves c.in_err-read.ensures.asked)
+    rw (answered.1, answered.2) (more_asked c.args.self.now c.loop-row.self _ _ c.args.len _ (g.R.Source.contents c.args.source.now) (g.R.Source.contents c.loop-row.source) c.loop-row.invariant.same within c.loop-row.invariant.moves c.in_err-read.ensures.asked)
 
 pub loop-row-preserved : goal.loop-row-preserved
 loop-row-preserved g c =

@@ -6,10 +6,10 @@ use Rattle.tiff_page.proofs.chunk_data.ChunkCursor.read_grown.Given as goal
 -- what was read, then what is left
 abbrev pub invariant-loop-row : goal.invariant-loop-row
 invariant-loop-row g l =
-    let bytes = (g.R.Source.told l.fn.source).bytes in
+    let bytes = (g.R.Source.contents l.fn.source).bytes in
     record {
       within : length l.row.items ≤ l.fn.len;
-      same : g.R.Source.told l.source ≡ g.R.Source.told l.fn.source;
+      same : g.R.Source.contents l.source ≡ g.R.Source.contents l.fn.source;
       count : g.R.Source.failures l.source ≡ g.R.Source.failures l.fn.source;
       moves : Moves l.fn.self (length l.row.items) l.self;
       read : bytes_left bytes l.fn.self ≡ l.row.items ++ bytes_left bytes l.self;

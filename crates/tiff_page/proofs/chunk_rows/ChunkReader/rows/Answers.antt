@@ -1,6 +1,6 @@
 use Rattle.std.proofs.Common.{arith, ◌≡◌, ℕ, ◌<◌, ◌≤◌, ◌∙◌, ◌+◌, ◌-◌, ◌*◌, ◌/◌, ◌%◌, length, refl, drop, ap, subst}
 use Rattle.std.proofs.lemmas.Result.{err_from_is_err_and, on_ok_weaker}
-use Rattle.tiff_base.proofs.Told.{same_bytes}
+use Rattle.tiff_base.proofs.Contents.{same_bytes}
 use Rattle.tiff_page.specs.Counts.{all_chunks}
 use Rattle.tiff_page.specs.Layout.{row_bytes}
 use Rattle.tiff_page.specs.Pixels.{chunk_data}
@@ -16,7 +16,7 @@ use Rattle.tiff_page.proofs.chunk_rows.ChunkReader.rows.Goals as goal
 
 pub loop-row-init : goal.loop-row-init
 loop-row-init g c =
-    let bytes = (g.R.Source.told c.args.source.now).bytes in
+    let bytes = (g.R.Source.contents c.args.source.now).bytes in
     let p = view.page c.args.self.now.format.page.now in
     let none : 0 ≡ 0 * c.args.destination.stride = omega arith in
     record {
@@ -24,8 +24,8 @@ loop-row-init g c =
       within = omega arith;
       same = refl;
       count = omega arith;
-      stands = front_stands p c.args.self.now.index (0 * c.args.destination.stride) c.front-cursor.result c.front-cursor.ensures.readable;
-      position = c.front-cursor.ensures.rest bytes c.args.self.now.format.order ∙ ap (λ (m : ℕ). drop m (chunk_data bytes c.args.self.now.format.order p c.args.self.now.index)) none;
+      stands = front_stands p c.args.self.now.index (0 * c.args.destination.stride) c.cursor-cursor.result c.cursor-cursor.ensures.readable;
+      position = c.cursor-cursor.ensures.rest bytes c.args.self.now.format.order ∙ ap (λ (m : ℕ). drop m (chunk_data bytes c.args.self.now.format.order p c.args.self.now.index)) none;
       enough = omega arith;
       written = λ total _. no_row (chunk_byte bytes c.args.self.now.format.order p c.args.self.now.format.color c.args.self.now.index) c.args.destination.stride c.args.destination.top c.args.destination.left (row_bytes p c.args.self.now.format.color (rect p c.args.self.now.index).width) (filled_to total (g.W.RowSink.bytes c.args.sink.now));
     }
@@ -54,7 +54,7 @@ rows-requires g c =
 
 pub returns-in_err-rows-clause-answer : goal.returns-in_err-rows-clause-answer
 returns-in_err-rows-clause-answer g c =
-    let bytes = (g.R.Source.told c.args.source.now).bytes in
+    let bytes = (g.R.Source.contents c.args.source.now).bytes in
     let p = view.page c.args.self.now.format.page.now in
     let destination = c.args.destination in
     let row = c.loop-row.row in
@@ -69,7 +69,7 @@ returns-in_err-rows-clause-answer g c =
 
 pub loop-row-preserved : goal.loop-row-preserved
 loop-row-preserved g c =
-    let bytes = (g.R.Source.told c.args.source.now).bytes in
+    let bytes = (g.R.Source.contents c.args.source.now).bytes in
     let p = view.page c.args.self.now.format.page.now in
     let order = c.args.self.now.format.order in
     let color = c.args.self.now.format.color in
@@ -98,7 +98,7 @@ loop-row-preserved g c =
     record {
       later = g.met.W.RowSink.further c.args.sink.now c.loop-row.sink c.rows.new.self c.loop-row.invariant.later c.in_ok-rows.ensures.later;
       within = rl;
-      same = c.in_ok-rows.ensures.kept.told ∙ c.loop-row.invariant.same;
+      same = c.in_ok-rows.ensures.kept.contents ∙ c.loop-row.invariant.same;
       count = omega (arith, c.in_ok-rows.ensures.kept.swallowed, c.loop-row.invariant.count);
       stands = stands_on p k (row * destination.stride) (more * destination.stride) ((row + more) * destination.stride) c.loop-row.cursor c.rows.new.cursor (omega arith) c.loop-row.invariant.stands c.in_ok-rows.ensures.moves;
       position = next_band bytes order p color k destination.left destination.stride sides stored listed together row more ahead rest given.row out from given.takes;
@@ -112,7 +112,7 @@ loop-row-preserved g c =
 
 pub returns-then-is_contiguous-clause-ok : goal.returns-then-is_contiguous-clause-ok
 returns-then-is_contiguous-clause-ok g c =
-    let bytes = (g.R.Source.told c.args.source.now).bytes in
+    let bytes = (g.R.Source.contents c.args.source.now).bytes in
     let p = view.page c.args.self.now.format.page.now in
     let len = row_bytes p c.args.self.now.format.color (rect p c.args.self.now.index).width in
     let destination = c.args.destination in
@@ -129,10 +129,10 @@ returns-in_err-rows-clause-asked g c =
     let h = c.args.self.now.high in
     let rl : row + more ≤ (rect p k).height = omega (arith, h, c.loop-row-test.true, c.min-more.ensures) in
     let listed : k < all_chunks p = omega (arith, c.requires.listed, c.args.self.now.format.page.now.counted) in
-    let ends = band_within (g.R.Source.told c.args.source.now).bytes c.args.self.now.format.order p c.args.self.now.format.color k destination.left destination.stride (sides_of c.args.self.now.format.page.now) c.requires.read.stored listed (c.if-is_contiguous.ensures.0 refl)
+    let ends = band_within (g.R.Source.contents c.args.source.now).bytes c.args.self.now.format.order p c.args.self.now.format.color k destination.left destination.stride (sides_of c.args.self.now.format.page.now) c.requires.read.stored listed (c.if-is_contiguous.ensures.0 refl)
     row more (omega (arith, h, c.loop-row-test.true)) rl in
     let answered = err_from_is_err_and c.from_residual.result c.from_residual.ensures.1 in
-    rw (answered.1, answered.2) (chunk_asked p c.args.self.now.format.color k (row * destination.stride) (more * destination.stride) c.loop-row.cursor _ (g.R.Source.told c.args.source.now) (g.R.Source.told c.loop-row.source) c.loop-row.invariant.same (omega (arith, ends)) c.loop-row.invariant.stands c.in_err-rows.ensures.asked)
+    rw (answered.1, answered.2) (chunk_asked p c.args.self.now.format.color k (row * destination.stride) (more * destination.stride) c.loop-row.cursor _ (g.R.Source.contents c.args.source.now) (g.R.Source.contents c.loop-row.source) c.loop-row.invariant.same (omega (arith, ends)) c.loop-row.invariant.stands c.in_err-rows.ensures.asked)
 
 pub returns-clause-ok : goal.returns-clause-ok
 returns-clause-ok g c =
@@ -141,7 +141,7 @@ returns-clause-ok g c =
     let k = c.args.self.now.index in
     let to = c.args.destination in
     let bytes = g.W.RowSink.bytes in
-    let file = (g.R.Source.told c.args.source.now).bytes in
+    let file = (g.R.Source.contents c.args.source.now).bytes in
     let order = c.args.self.now.format.order in
     let h = (rect p k).height in
     let len = row_bytes p color (rect p k).width in

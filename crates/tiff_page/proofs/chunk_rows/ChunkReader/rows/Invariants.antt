@@ -12,14 +12,14 @@ use Rattle.tiff_page.proofs.chunk_rows.ChunkReader.rows.Given as goal
 -- at the position
 abbrev pub invariant-loop-row : goal.invariant-loop-row
 invariant-loop-row g l =
-    let bytes = (g.R.Source.told l.fn.source).bytes in
+    let bytes = (g.R.Source.contents l.fn.source).bytes in
     let p = view.page l.self.format.page.now in
     let stored = chunk_data bytes l.self.format.order p l.self.index in
     let destination = l.destination in
     record {
       later : g.W.RowSink.goes_on l.fn.sink l.sink;
       within : l.row ≤ (rect p l.self.index).height;
-      same : g.R.Source.told l.source ≡ g.R.Source.told l.fn.source;
+      same : g.R.Source.contents l.source ≡ g.R.Source.contents l.fn.source;
       count : g.R.Source.failures l.source ≡ g.R.Source.failures l.fn.source;
       stands : StandsAt p l.self.index (l.row * destination.stride) l.cursor;
       position : bytes_left bytes l.cursor ≡ drop (l.row * destination.stride) stored;

@@ -1,7 +1,7 @@
 use Rattle.std.proofs.Common.{arith, ◌≡◌, ℕ, ◌<◌, ◌≤◌, ◌∙◌, ◌+◌, ◌-◌, ◌*◌, List, length, refl, drop, ap, sym, subst}
 use Rattle.std.proofs.Math.Nat.{mul-le-mul_right}
 use Rattle.std.proofs.lemmas.Result.{err_from_is_err_and}
-use Rattle.tiff_base.proofs.Told.{same_bytes}
+use Rattle.tiff_base.proofs.Contents.{same_bytes}
 use Rattle.tiff_page.specs.Pixels.{chunk_data, stored_row_bytes, needed_of_row}
 use Rattle.tiff_page.specs.Counts.{all_chunks}
 use Rattle.tiff_page.specs.Layout.{row_bytes}
@@ -19,7 +19,7 @@ use Rattle.tiff_page.proofs.chunk_rows.ChunkReader.separate_rows.Goals as goal
 
 pub loop-row-init : goal.loop-row-init
 loop-row-init g c =
-    let bytes = (g.R.Source.told c.args.source.now).bytes in
+    let bytes = (g.R.Source.contents c.args.source.now).bytes in
     let p = view.page c.args.self.now.format.page.now in
     let order = c.args.self.now.format.order in
     let color = c.args.self.now.format.color in
@@ -27,14 +27,14 @@ loop-row-init g c =
     let band = c.args.band in
     let start = band.from * stored_row_bytes p in
     let s : band.from * c.stored_row_bytes.result ≡ start = ap (λ (m : ℕ). band.from * m) c.stored_row_bytes.ensures.value in
-    let front = front_stands p k 0 c.front-cursor.result c.front-cursor.ensures.readable in
+    let front = front_stands p k 0 c.cursor-cursor.result c.cursor-cursor.ensures.readable in
     let none : band.from - band.from ≡ 0 = omega arith in
     record {
       later = g.met.W.RowSink.itself c.args.sink.now;
-      same = c.in_ok-pass.ensures.kept.told;
+      same = c.in_ok-pass.ensures.kept.contents;
       count = omega (arith, c.in_ok-pass.ensures.kept.swallowed);
-      stands = stands_on p k 0 start start c.front-cursor.result c.pass.new.self (omega arith) front (subst (λ (m : ℕ). Moves c.front-cursor.result m c.pass.new.self) s c.in_ok-pass.ensures.moves);
-      position = λ z. c.in_ok-pass.ensures.passed ∙ ap (λ (xs : List ℕ). drop (band.from * c.stored_row_bytes.result) xs) (c.front-cursor.ensures.rest bytes order) ∙ ap (λ (m : ℕ). drop m (chunk_data bytes order p k)) s;
+      stands = stands_on p k 0 start start c.cursor-cursor.result c.pass.new.self (omega arith) front (subst (λ (m : ℕ). Moves c.cursor-cursor.result m c.pass.new.self) s c.in_ok-pass.ensures.moves);
+      position = λ z. c.in_ok-pass.ensures.passed ∙ ap (λ (xs : List ℕ). drop (band.from * c.stored_row_bytes.result) xs) (c.cursor-cursor.ensures.rest bytes order) ∙ ap (λ (m : ℕ). drop m (chunk_data bytes order p k)) s;
       enough = λ z. Prim.absurd (omega (arith, z));
       written = subst (λ (m : ℕ). Writes (IsIn band.destination.stride band.destination.top m band.destination.left (row_bytes p color (rect p k).width)) (in_rect (λ r b. chunk_byte bytes order p color k (band.from + r) b) band.destination.stride band.destination.top band.destination.left) (g.W.RowSink.bytes c.args.sink.now) (g.W.RowSink.bytes c.args.sink.now)) (sym none)
           (no_row (λ r b. chunk_byte bytes order p color k (band.from + r) b) band.destination.stride band.destination.top band.destination.left (row_bytes p color (rect p k).width) (g.W.RowSink.bytes c.args.sink.now));
@@ -83,7 +83,7 @@ row-requires g c =
 
 pub returns-in_err-row-clause-answer : goal.returns-in_err-row-clause-answer
 returns-in_err-row-clause-answer g c =
-    let bytes = (g.R.Source.told c.args.source.now).bytes in
+    let bytes = (g.R.Source.contents c.args.source.now).bytes in
     let p = view.page c.args.self.now.format.page.now in
     let rl : c.loop-row.row < c.args.band.to = omega (arith, c.loop-row-test.true) in
     let below : c.loop-row.row < (rect p c.args.self.now.index).height = omega (arith, rl, c.requires.within) in
@@ -95,7 +95,7 @@ returns-in_err-row-clause-answer g c =
 
 pub loop-row-preserved : goal.loop-row-preserved
 loop-row-preserved g c =
-    let bytes = (g.R.Source.told c.args.source.now).bytes in
+    let bytes = (g.R.Source.contents c.args.source.now).bytes in
     let p = view.page c.args.self.now.format.page.now in
     let order = c.args.self.now.format.order in
     let color = c.args.self.now.format.color in
@@ -112,13 +112,13 @@ loop-row-preserved g c =
     let behind : from ≤ row = c.loop-row.auto.row in
     let same = (same_bytes c.loop-row.invariant.same) in
     let given = rw same at c.in_ok-row.ensures.row in
-    let passed = rw (same_bytes (c.in_ok-row.ensures.kept.told ∙ c.loop-row.invariant.same)) at c.in_ok-pass-2.ensures.passed in
+    let passed = rw (same_bytes (c.in_ok-row.ensures.kept.contents ∙ c.loop-row.invariant.same)) at c.in_ok-pass-2.ensures.passed in
     let listed : k < all_chunks p = omega (arith, c.requires.listed, c.args.self.now.format.page.now.counted) in
     let out : length given.row ≡ c.row_len-len.result = given.all in
     let sides = sides_of c.args.self.now.format.page.now in
     let stored = c.requires.read.stored in
     let wide : 0 < (rect p k).width = omega (arith, c.args.self.now.some_columns, w) in
-    let some : 0 < len = row_some p color (rect p k).width wide c.args.self.now.format.page.now.deep stored.shows in
+    let some : 0 < len = row_some p color (rect p k).width wide c.args.self.now.format.page.now.has_bits stored.shows in
     let left = bytes_left bytes c.loop-row.cursor in
     let rest = bytes_left bytes c.row.new.cursor in
     let position = c.loop-row.invariant.position rl in
@@ -138,7 +138,7 @@ loop-row-preserved g c =
     let last : row + 1 ≡ (rect p k).height → c.gap_behind.result ≡ 0 = λ z. c.gap_behind.ensures.last (omega (arith, z, h)) in
     record {
       later = g.met.W.RowSink.further c.args.sink.now c.loop-row.sink c.row.new.self c.loop-row.invariant.later c.in_ok-row.ensures.later;
-      same = c.in_ok-pass-2.ensures.kept.told ∙ (c.in_ok-row.ensures.kept.told ∙ c.loop-row.invariant.same);
+      same = c.in_ok-pass-2.ensures.kept.contents ∙ (c.in_ok-row.ensures.kept.contents ∙ c.loop-row.invariant.same);
       count = omega (arith, c.in_ok-pass-2.ensures.kept.swallowed, c.in_ok-row.ensures.kept.swallowed, c.loop-row.invariant.count);
       stands = next_stands p color k row c.row_len-len.result c.loop-row.cursor rl n c.loop-row.invariant.stands
           c.row.new.cursor c.gap_behind.result (need_within bytes order p color k row 0 sides stored listed rl some) c.in_ok-row.ensures.moves between last c.pass-in-loop-row.new.self c.in_ok-pass-2.ensures.moves;
@@ -149,7 +149,7 @@ loop-row-preserved g c =
 
 pub returns-clause-ok : goal.returns-clause-ok
 returns-clause-ok g c =
-    let bytes = (g.R.Source.told c.args.source.now).bytes in
+    let bytes = (g.R.Source.contents c.args.source.now).bytes in
     let p = view.page c.args.self.now.format.page.now in
     let color = c.args.self.now.format.color in
     let k = c.args.self.now.index in
@@ -168,7 +168,7 @@ returns-in_err-pass-clause-asked g c =
     let s : n ≡ band.from * stored_row_bytes p = ap (λ (m : ℕ). band.from * m) c.stored_row_bytes.ensures.value in
     let x : band.from * stored_row_bytes p ≤ ((rect p k).height - 1) * stored_row_bytes p = mul-le-mul_right (stored_row_bytes p) (omega (arith, c.requires.some_rows, c.requires.within)) in
     let answered = err_from_is_err_and c.from_residual.result c.from_residual.ensures.1 in
-    rw (answered.1, answered.2) (chunk_asked p c.args.self.now.format.color k 0 n c.front-cursor.result _ (g.R.Source.told c.args.source.now) (g.R.Source.told c.args.source.now) refl (omega (arith, s, x)) (front_stands p k 0 c.front-cursor.result c.front-cursor.ensures.readable) c.in_err-pass.ensures.asked)
+    rw (answered.1, answered.2) (chunk_asked p c.args.self.now.format.color k 0 n c.cursor-cursor.result _ (g.R.Source.contents c.args.source.now) (g.R.Source.contents c.args.source.now) refl (omega (arith, s, x)) (front_stands p k 0 c.cursor-cursor.result c.cursor-cursor.ensures.readable) c.in_err-pass.ensures.asked)
 
 pub returns-in_err-row-clause-asked : goal.returns-in_err-row-clause-asked
 returns-in_err-row-clause-asked g c =
@@ -177,7 +177,7 @@ returns-in_err-row-clause-asked g c =
     let k = c.args.self.now.index in
     let n : c.row_len-len.result ≡ row_bytes p color (rect p k).width = c.row_len-len.ensures.value ∙ ap (row_bytes p color) c.args.self.now.wide in
     let answered = err_from_is_err_and c.from_residual-in_err-row.result c.from_residual-in_err-row.ensures.1 in
-    rw (answered.1, answered.2) (row_asked p color k c.loop-row.row c.row_len-len.result c.loop-row.cursor (omega (arith, c.loop-row-test.true, c.requires.within)) n c.loop-row.invariant.stands _ (g.R.Source.told c.args.source.now) (g.R.Source.told c.loop-row.source) c.loop-row.invariant.same c.in_err-row.ensures.asked)
+    rw (answered.1, answered.2) (row_asked p color k c.loop-row.row c.row_len-len.result c.loop-row.cursor (omega (arith, c.loop-row-test.true, c.requires.within)) n c.loop-row.invariant.stands _ (g.R.Source.contents c.args.source.now) (g.R.Source.contents c.loop-row.source) c.loop-row.invariant.same c.in_err-row.ensures.asked)
 
 pub returns-in_err-pass-2-clause-asked : goal.returns-in_err-pass-2-clause-asked
 returns-in_err-pass-2-clause-asked g c =
@@ -193,11 +193,11 @@ returns-in_err-pass-2-clause-asked g c =
     let listed : k < all_chunks p = omega (arith, c.requires.listed, c.args.self.now.format.page.now.counted) in
     let stored = c.requires.read.stored in
     let wide : 0 < (rect p k).width = omega (arith, c.args.self.now.some_columns, w) in
-    let some : 0 < len = row_some p color (rect p k).width wide c.args.self.now.format.page.now.deep stored.shows in
-    let within = need_within ((g.R.Source.told c.args.source.now).bytes) c.args.self.now.format.order p color k row 0 (sides_of c.args.self.now.format.page.now) stored listed rl some in
+    let some : 0 < len = row_some p color (rect p k).width wide c.args.self.now.format.page.now.has_bits stored.shows in
+    let within = need_within ((g.R.Source.contents c.args.source.now).bytes) c.args.self.now.format.order p color k row 0 (sides_of c.args.self.now.format.page.now) stored listed rl some in
     let between : row + 1 < (rect p k).height → c.gap_behind.result ≡ stored_row_bytes p - needed_of_row p color len = λ z.
     c.gap_behind.ensures.between (omega (arith, z, h)) ∙ (c.gap-gap.ensures ∙ ap (λ (m : ℕ). stored_row_bytes p - needed_of_row p color m) n) in
     let last : row + 1 ≡ (rect p k).height → c.gap_behind.result ≡ 0 = λ z. c.gap_behind.ensures.last (omega (arith, z, h)) in
     let answered = err_from_is_err_and c.from_residual-in_err-pass-2.result c.from_residual-in_err-pass-2.ensures.1 in
     rw (answered.1, answered.2) (behind_asked p color k row c.row_len-len.result c.loop-row.cursor rl n c.loop-row.invariant.stands c.row.new.cursor c.gap_behind.result within c.in_ok-row.ensures.moves between last
-    _ (g.R.Source.told c.args.source.now) (g.R.Source.told c.row.new.source) (c.in_ok-row.ensures.kept.told ∙ c.loop-row.invariant.same) c.in_err-pass-2.ensures.asked)
+    _ (g.R.Source.contents c.args.source.now) (g.R.Source.contents c.row.new.source) (c.in_ok-row.ensures.kept.contents ∙ c.loop-row.invariant.same) c.in_err-pass-2.ensures.asked)

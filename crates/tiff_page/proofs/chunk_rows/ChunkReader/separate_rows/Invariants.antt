@@ -11,13 +11,13 @@ use Rattle.tiff_page.proofs.chunk_rows.ChunkReader.separate_rows.Given as goal
 -- the rows so far are in the buffer, and the data contain them; the next row is at the position
 abbrev pub invariant-loop-row : goal.invariant-loop-row
 invariant-loop-row g l =
-    let bytes = (g.R.Source.told l.fn.source).bytes in
+    let bytes = (g.R.Source.contents l.fn.source).bytes in
     let p = view.page l.self.format.page.now in
     let stored = chunk_data bytes l.self.format.order p l.self.index in
     let len = row_bytes p l.self.format.color (rect p l.self.index).width in
     record {
       later : g.W.RowSink.goes_on l.fn.sink l.sink;
-      same : g.R.Source.told l.source ≡ g.R.Source.told l.fn.source;
+      same : g.R.Source.contents l.source ≡ g.R.Source.contents l.fn.source;
       count : g.R.Source.failures l.source ≡ g.R.Source.failures l.fn.source;
       stands : StandsAt p l.self.index (l.row * stored_row_bytes p) l.cursor;
       position : l.row < (rect p l.self.index).height → bytes_left bytes l.cursor ≡ drop (l.row * stored_row_bytes p) stored;

@@ -9,13 +9,13 @@ use Rattle.tiff_page.proofs.page_reader.PageReader.image.Given as goal
 -- the chunks so far have no error, and are in the sink, filled up with zeros
 abbrev pub invariant-loop-chunk : goal.invariant-loop-chunk
 invariant-loop-chunk g l =
-    let bytes = (g.R.Source.told l.fn.source).bytes in
+    let bytes = (g.R.Source.contents l.fn.source).bytes in
     let p = view.page l.self.page.now in
     let color = l.part.layout.color in
     let stride = l.part.layout.row_bytes in
     record {
       later : g.W.RowSink.goes_on l.fn.sink l.sink;
-      same : g.R.Source.told l.source ≡ g.R.Source.told l.fn.source;
+      same : g.R.Source.contents l.source ≡ g.R.Source.contents l.fn.source;
       count : g.R.Source.failures l.source ≡ g.R.Source.failures l.fn.source;
       below : l.chunk ≤ chunks_of_plane p;
       none : each_below (λ j. each_below (λ plane. chunk_fault p l.self.limits.now (is_short bytes l.self.order p color) color (plane * chunks_of_plane p + (0 + j))) l.part.planes) l.chunk ≡ Ok tt;

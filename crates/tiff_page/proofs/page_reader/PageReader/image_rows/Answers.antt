@@ -15,7 +15,7 @@ pub overflow_add-end : goal.overflow_add-end
 overflow_add-end g c =
     let p = c.args.self.now.page.now in
     let part = c.args.part in
-    let some : part.top + (part.to - part.from) ≤ (part.top + (part.to - part.from)) * part.layout.row_bytes = le-mul_of_pos_right (part.top + (part.to - part.from)) (stride_some (g.R.Source.told c.args.source.now).bytes c.args.self.now.order (view.page p) c.args.self.now.limits.now (view.layout part.layout) (sides_of p) p.sampled p.deep c.requires.tiles.laid) in
+    let some : part.top + (part.to - part.from) ≤ (part.top + (part.to - part.from)) * part.layout.row_bytes = le-mul_of_pos_right (part.top + (part.to - part.from)) (stride_some (g.R.Source.contents c.args.source.now).bytes c.args.self.now.order (view.page p) c.args.self.now.limits.now (view.layout part.layout) (sides_of p) p.sampled p.has_bits c.requires.tiles.laid) in
     omega (arith, c.requires.fits, some)
 
 pub overflow_mul-len : goal.overflow_mul-len
@@ -43,7 +43,7 @@ pub returns-then-uses_scratch-clause-ok : goal.returns-then-uses_scratch-clause-
 returns-then-uses_scratch-clause-ok g c =
     let p = c.args.self.now.page.now in
     let part = c.args.part in
-    let file = (g.R.Source.told c.args.source.now).bytes in
+    let file = (g.R.Source.contents c.args.source.now).bytes in
     let order = c.args.self.now.order in
     let color = part.layout.color in
     let stride = part.layout.row_bytes in
@@ -53,8 +53,8 @@ returns-then-uses_scratch-clause-ok g c =
     let rows = c.deref.result.now in
     let count = part.to - part.from in
     let at = part.top * stride in
-    let some = stride_some (g.R.Source.told c.args.source.now).bytes c.args.self.now.order (view.page p) c.args.self.now.limits.now (view.layout part.layout) (sides_of p) p.sampled p.deep c.requires.tiles.laid in
-    let row = row_is (g.R.Source.told c.args.source.now).bytes c.args.self.now.order (view.page p) c.args.self.now.limits.now (view.layout part.layout) (sides_of p) p.sampled p.deep c.requires.tiles.laid in
+    let some = stride_some (g.R.Source.contents c.args.source.now).bytes c.args.self.now.order (view.page p) c.args.self.now.limits.now (view.layout part.layout) (sides_of p) p.sampled p.has_bits c.requires.tiles.laid in
+    let row = row_is (g.R.Source.contents c.args.source.now).bytes c.args.self.now.order (view.page p) c.args.self.now.limits.now (view.layout part.layout) (sides_of p) p.sampled p.has_bits c.requires.tiles.laid in
     let split : (part.top + count) * stride ≡ at + count * stride = omega arith in
     let room_len : length c.resize.new.self.items ≡ count * stride = search rules in
     let all : length c.tile_row_part.new.sink.bytes.items ≡ count * stride = omega (arith, c.in_ok-tile_row_part.ensures.ok.0, room_len) in
@@ -74,7 +74,7 @@ pub returns-clause-ok : goal.returns-clause-ok
 returns-clause-ok g c =
     let p = c.args.self.now.page.now in
     let part = c.args.part in
-    let file = (g.R.Source.told c.args.source.now).bytes in
+    let file = (g.R.Source.contents c.args.source.now).bytes in
     let order = c.args.self.now.order in
     let color = part.layout.color in
     let stride = part.layout.row_bytes in
@@ -88,7 +88,7 @@ returns-clause-ok g c =
     let high : count ≡ part.top + count - part.top = omega arith in
     let put = subst (λ (m : ℕ). PutsImageRows file order (view.page p) color stride part.top m part.top mid new) high
     (subst (λ (m : ℕ). PutsImageRows file order (view.page p) color stride m count part.top mid new) (sym c.requires.top) c.in_ok-tile_row_part-2.ensures.ok) in
-    let some = stride_some (g.R.Source.told c.args.source.now).bytes c.args.self.now.order (view.page p) c.args.self.now.limits.now (view.layout part.layout) (sides_of p) p.sampled p.deep c.requires.tiles.laid in
+    let some = stride_some (g.R.Source.contents c.args.source.now).bytes c.args.self.now.order (view.page p) c.args.self.now.limits.now (view.layout part.layout) (sides_of p) p.sampled p.has_bits c.requires.tiles.laid in
     let wrote = bands.rows_in_place file order (view.page p) color stride part.top (part.top + count) mid new some put in
     let enough = g.met.W.RowSink.enough end part.layout.plane_stride c.requires.fits in
     let last : (part.top + (part.top + count - part.top)) * stride ≡ end = ap (λ (m : ℕ). m * stride) (omega arith) in

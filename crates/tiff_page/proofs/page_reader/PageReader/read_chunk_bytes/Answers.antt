@@ -14,10 +14,10 @@ returns-in_err-form_fault-clause-answer g c =
     let l = view.layout c.in_ok-layout.layout in
     let room : room_fault (length c.args.buf.now) l.plane_stride ≡ Ok tt = grind (arith, common_steps) in
     rw (answered.1, answered.2)
-    (chunk_form _ _ (g.R.Source.told c.args.source.now).bytes c.args.self.now.order (view.page c.args.self.now.page.now) c.args.self.now.limits.now c.args.buf.now l c.in_err-form_fault.field-0.0 c.args.index c.in_ok-layout.ensures.answer room c.in_err-form_fault.ensures.answer)
+    (chunk_form _ _ (g.R.Source.contents c.args.source.now).bytes c.args.self.now.order (view.page c.args.self.now.page.now) c.args.self.now.limits.now c.args.buf.now l c.in_err-form_fault.field-0.0 c.args.index c.in_ok-layout.ensures.answer room c.in_err-form_fault.ensures.answer)
 
 pub returns-clause-asked : goal.returns-clause-asked
 returns-clause-asked g c =
     let p = view.page c.args.self.now.page.now in
     let l = view.layout c.in_ok-layout.layout in
-    laid_asked p (planes_layout p (rect p c.args.index).width (rect p c.args.index).height) (λ l. chunk_part p c.args.index 1 l.row_bytes) l (chunk_part p c.args.index 1 l.row_bytes) (g.R.Source.told c.args.source.now) _ c.in_ok-layout.ensures.answer refl c.request_into.ensures.asked
+    laid_asked p (planes_layout p (rect p c.args.index).width (rect p c.args.index).height) (λ l. chunk_part p c.args.index 1 l.row_bytes) l (chunk_part p c.args.index 1 l.row_bytes) (g.R.Source.contents c.args.source.now) _ c.in_ok-layout.ensures.answer refl c.request_into.ensures.asked

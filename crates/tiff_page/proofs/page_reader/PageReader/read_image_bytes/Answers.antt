@@ -14,10 +14,10 @@ returns-in_err-form_fault-clause-answer g c =
     let room : room_fault (length c.args.buf.now) l.plane_stride ≡ Ok tt = grind (arith, common_steps) in
     let some : 0 < planes_used (view.page c.args.self.now.page.now) l (length c.args.buf.now) = grind (arith, common_steps) in
     rw (answered.1, answered.2)
-    (image_form _ _ (g.R.Source.told c.args.source.now).bytes c.args.self.now.order (view.page c.args.self.now.page.now) c.args.self.now.limits.now c.args.buf.now l c.in_err-form_fault.field-0.0 (grind (arith, common_steps)) (grind (arith, common_steps)) (grind (arith, common_steps)) (grind (arith, common_steps)) c.in_ok-layout.ensures.answer room some c.in_err-form_fault.ensures.answer)
+    (image_form _ _ (g.R.Source.contents c.args.source.now).bytes c.args.self.now.order (view.page c.args.self.now.page.now) c.args.self.now.limits.now c.args.buf.now l c.in_err-form_fault.field-0.0 (grind (arith, common_steps)) (grind (arith, common_steps)) (grind (arith, common_steps)) (grind (arith, common_steps)) c.in_ok-layout.ensures.answer room some c.in_err-form_fault.ensures.answer)
 
 pub returns-clause-asked : goal.returns-clause-asked
 returns-clause-asked g c =
     let p = view.page c.args.self.now.page.now in
     let l = view.layout c.in_ok-layout.layout in
-    laid_asked p (planes_layout p p.width p.height) (λ l. image_part p (planes_used p l (length c.args.buf.now)) l.row_bytes) l (image_part p c.planes_used-planes.result l.row_bytes) (g.R.Source.told c.args.source.now) _ c.in_ok-layout.ensures.answer (ap (λ (m : ℕ). image_part p m l.row_bytes) c.planes_used-planes.ensures.value) c.request_into.ensures.asked
+    laid_asked p (planes_layout p p.width p.height) (λ l. image_part p (planes_used p l (length c.args.buf.now)) l.row_bytes) l (image_part p c.planes_used-planes.result l.row_bytes) (g.R.Source.contents c.args.source.now) _ c.in_ok-layout.ensures.answer (ap (λ (m : ℕ). image_part p m l.row_bytes) c.planes_used-planes.ensures.value) c.request_into.ensures.asked

@@ -7,7 +7,7 @@ use Rattle.tiff_page.proofs.page_reader.PageReader.request_into.Goals as goal
 
 pub returns-clause-answer : goal.returns-clause-answer
 returns-clause-answer g c =
-    let fill = request_bytes (g.R.Source.told c.args.source.now).bytes c.args.self.now c.args.request in
+    let fill = request_bytes (g.R.Source.contents c.args.source.now).bytes c.args.self.now c.args.request in
     let was = g.R.Source.failures c.args.source.now in
     let now = g.R.Source.failures c.requested.new.source in
     let total = length c.args.buf.now in

@@ -12,7 +12,7 @@ use Rattle.tiff_page.proofs.row_sink.ByteListRowSink.rows.Goals as goal
 pub returns-then-next-le-LONGEST_COPIED-clause-row : goal.returns-then-next-le-LONGEST_COPIED-clause-row
 returns-then-next-le-LONGEST_COPIED-clause-row g c =
     let next = c.args.next.now in
-    let bytes = (g.R.Source.told c.args.source.now).bytes in
+    let bytes = (g.R.Source.contents c.args.source.now).bytes in
     let left = bytes_left bytes c.args.cursor.now in
     let rest = bytes_left bytes c.read_finished.new.cursor in
     let row = c.deref.result.now in
@@ -25,7 +25,7 @@ pub returns-clause-row : goal.returns-clause-row
 returns-clause-row g c =
     let next = c.args.next.now in
     let p = view.page next.format.page.now in
-    let file = (g.R.Source.told c.args.source.now).bytes in
+    let file = (g.R.Source.contents c.args.source.now).bytes in
     let failed = g.R.Source.failures c.args.source.now < g.R.Source.failures c.read_finished-2.new.source in
     let list = c.zeros_to.new.self.bytes in
     let mid = c.deref_mut-2.result.now in

@@ -10,7 +10,7 @@ pub returns-clause-row : goal.returns-clause-row
 returns-clause-row g c =
     let next = c.args.next.now in
     let p = view.page next.format.page.now in
-    let file = (g.R.Source.told c.args.source.now).bytes in
+    let file = (g.R.Source.contents c.args.source.now).bytes in
     let failed = g.R.Source.failures c.args.source.now < g.R.Source.failures c.read_finished.new.source in
     let out = c.args.self.now.out.now in
     let row = c.read_finished.new.out in

@@ -15,13 +15,13 @@ push_row-requires-clause-part g c =
     let sides : HasSides p =
     subst (λ i. HasSides (image_page i)) c.self.view_is
     (record { wide = held.wide.0; high = held.high.0; chunk_wide = held.cut.wide.0; chunk_high = held.cut.high.0 }) in
-    subst (λ r. IsPatch p r) (sym c.patch-patch.ensures) (is_patch p c.args.chunk sides c.requires.one)
+    subst (λ r. IsPatch p r) (sym c.chunk_area-chunk_area.ensures) (is_patch p c.args.chunk sides c.requires.one)
 
 pub loop-at-preserved : goal.loop-at-preserved
 loop-at-preserved g c =
     let number = sample_number (type_size g.C.Inner.TiffValue.value_type) g.C.Inner.Sample.bits in
-    rows_pushed (image_page c.args.self.now) (map number c.args.samples.now) c.args.chunk c.loop-at.at (rect_of c.patch-patch.result)
-    (map number c.loop-at.out.items) (map number c.push_row.new.out.items) c.patch-patch.ensures c.loop-at.invariant c.in_ok-push_row.ensures
+    rows_pushed (image_page c.args.self.now) (map number c.args.samples.now) c.args.chunk c.loop-at.at (rect_of c.chunk_area-chunk_area.result)
+    (map number c.loop-at.out.items) (map number c.push_row.new.out.items) c.chunk_area-chunk_area.ensures c.loop-at.invariant c.in_ok-push_row.ensures
 
 pub returns : goal.returns
 returns g c =

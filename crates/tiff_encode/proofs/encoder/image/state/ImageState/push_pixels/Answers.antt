@@ -14,7 +14,7 @@ use Rattle.tiff_encode.proofs.encoder.image.state.ImageState.push_pixels.Goals a
 pub overflow_mul-start-2 : goal.overflow_mul-start-2
 overflow_mul-start-2 g c =
     let p = image_page c.args.self.now in
-    let r = rect_of c.args.patch in
+    let r = rect_of c.args.chunk_area in
     let wide : c.from-width.result ≡ p.width = c.from-width.ensures ∙ ap (λ i. i.width) c.self.view_is in
     let all : c.samples-all.result ≡ p.samples = c.samples-all.ensures.count in
     let first : ((r.y + c.args.row) * c.from-width.result + r.x) * c.samples-all.result ≡ ((r.y + c.args.row) * p.width + r.x) * p.samples =
@@ -27,7 +27,7 @@ overflow_mul-start-2 g c =
 pub overflow_add-end : goal.overflow_add-end
 overflow_add-end g c =
     let p = image_page c.args.self.now in
-    let r = rect_of c.args.patch in
+    let r = rect_of c.args.chunk_area in
     let wide : c.from-width.result ≡ p.width = c.from-width.ensures ∙ ap (λ i. i.width) c.self.view_is in
     let all : c.samples-all.result ≡ p.samples = c.samples-all.ensures.count in
     let first : ((r.y + c.args.row) * c.from-width.result + r.x) * c.samples-all.result ≡ ((r.y + c.args.row) * p.width + r.x) * p.samples =
@@ -40,7 +40,7 @@ overflow_add-end g c =
 pub offset_bounds-samples-start : goal.offset_bounds-samples-start
 offset_bounds-samples-start g c =
     let p = image_page c.args.self.now in
-    let r = rect_of c.args.patch in
+    let r = rect_of c.args.chunk_area in
     let wide : c.from-width.result ≡ p.width = c.from-width.ensures ∙ ap (λ i. i.width) c.self.view_is in
     let all : c.samples-all.result ≡ p.samples = c.samples-all.ensures.count in
     let first : ((r.y + c.args.row) * c.from-width.result + r.x) * c.samples-all.result ≡ ((r.y + c.args.row) * p.width + r.x) * p.samples =
@@ -53,7 +53,7 @@ offset_bounds-samples-start g c =
 pub slice_bounds-pixels-end : goal.slice_bounds-pixels-end
 slice_bounds-pixels-end g c =
     let p = image_page c.args.self.now in
-    let r = rect_of c.args.patch in
+    let r = rect_of c.args.chunk_area in
     let wide : c.from-width.result ≡ p.width = c.from-width.ensures ∙ ap (λ i. i.width) c.self.view_is in
     let all : c.samples-all.result ≡ p.samples = c.samples-all.ensures.count in
     let first : ((r.y + c.args.row) * c.from-width.result + r.x) * c.samples-all.result ≡ ((r.y + c.args.row) * p.width + r.x) * p.samples =
@@ -68,7 +68,7 @@ returns-in-Planar g c =
     let number = sample_number (type_size g.C.Inner.TiffValue.value_type) g.C.Inner.Sample.bits in
     let numbers = map number c.args.samples.now in
     let p = image_page c.args.self.now in
-    let r = rect_of c.args.patch in
+    let r = rect_of c.args.chunk_area in
     let wide : c.from-width.result ≡ p.width = c.from-width.ensures ∙ ap (λ i. i.width) c.self.view_is in
     let all : c.samples-all.result ≡ p.samples = c.samples-all.ensures.count in
     let first : ((r.y + c.args.row) * c.from-width.result + r.x) * c.samples-all.result ≡ ((r.y + c.args.row) * p.width + r.x) * p.samples =
@@ -93,7 +93,7 @@ returns-in_ok-extend_from_slice-in_default g c =
     let number = sample_number (type_size g.C.Inner.TiffValue.value_type) g.C.Inner.Sample.bits in
     let numbers = map number c.args.samples.now in
     let p = image_page c.args.self.now in
-    let r = rect_of c.args.patch in
+    let r = rect_of c.args.chunk_area in
     let wide : c.from-width.result ≡ p.width = c.from-width.ensures ∙ ap (λ i. i.width) c.self.view_is in
     let all : c.samples-all.result ≡ p.samples = c.samples-all.ensures.count in
     let first : ((r.y + c.args.row) * c.from-width.result + r.x) * c.samples-all.result ≡ ((r.y + c.args.row) * p.width + r.x) * p.samples =

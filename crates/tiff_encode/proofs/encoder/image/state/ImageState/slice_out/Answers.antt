@@ -2,14 +2,14 @@ use Rattle.std.proofs.Common.{◌≡◌, ◌≤◌, ◌*◌, ◌^◌, ◌<◌, l
 use Rattle.std.proofs.Math.Nat.{mul_assoc}
 use Rattle.tiff_encode.specs.Causes.{image_samples}
 use Rattle.tiff_encode.specs.Chunks.{image_page, row_samples}
-use Rattle.tiff_encode.specs.Drawn.{IsDrawn}
+use Rattle.tiff_encode.specs.Drawn.{IsValidImage}
 use Rattle.tiff_encode.proofs.Data.Offsets.{above, within, count_is, slice_is}
 use Rattle.tiff_encode.proofs.encoder.image.state.ImageState.slice_out.Goals as goal
 
 pub overflow_mul-start : goal.overflow_mul-start
 overflow_mul-start g c =
     let i = c.args.self.now in
-    let drawn = subst (λ i. IsDrawn i.width i.height (length i.color.bits) (length i.extra) i.form) c.self.view_is c.self.invariant in
+    let drawn = subst (λ i. IsValidImage i.width i.height (length i.color.bits) (length i.extra) i.form) c.self.view_is c.self.invariant in
     let h = c.from-2.ensures ∙ ap (λ i. i.form.chunk_height) c.self.view_is in
     let a : c.args.written * i.form.chunk_height < i.height = above i drawn c.requires.order c.requires.left c.args.written c.requires.known in
     let b : i.height < 2 ^ 32 = drawn.high.1 in
@@ -19,7 +19,7 @@ overflow_mul-start g c =
 pub overflow_mul-start-2 : goal.overflow_mul-start-2
 overflow_mul-start-2 g c =
     let i = c.args.self.now in
-    let drawn = subst (λ i. IsDrawn i.width i.height (length i.color.bits) (length i.extra) i.form) c.self.view_is c.self.invariant in
+    let drawn = subst (λ i. IsValidImage i.width i.height (length i.color.bits) (length i.extra) i.form) c.self.view_is c.self.invariant in
     let h = c.from-2.ensures ∙ ap (λ i. i.form.chunk_height) c.self.view_is in
     let w = c.from.ensures ∙ ap (λ i. i.form.chunk_width) c.self.view_is in
     let at : c.args.written * c.from-2.result * (c.from.result * c.stored_samples.result) ≡ c.args.written * i.form.chunk_height * row_samples (image_page i) =
@@ -31,7 +31,7 @@ overflow_mul-start-2 g c =
 pub overflow_add-end : goal.overflow_add-end
 overflow_add-end g c =
     let i = c.args.self.now in
-    let drawn = subst (λ i. IsDrawn i.width i.height (length i.color.bits) (length i.extra) i.form) c.self.view_is c.self.invariant in
+    let drawn = subst (λ i. IsValidImage i.width i.height (length i.color.bits) (length i.extra) i.form) c.self.view_is c.self.invariant in
     let h = c.from-2.ensures ∙ ap (λ i. i.form.chunk_height) c.self.view_is in
     let w = c.from.ensures ∙ ap (λ i. i.form.chunk_width) c.self.view_is in
     let at : c.args.written * c.from-2.result * (c.from.result * c.stored_samples.result) ≡ c.args.written * i.form.chunk_height * row_samples (image_page i) =
@@ -44,7 +44,7 @@ overflow_add-end g c =
 pub offset_bounds-samples-start : goal.offset_bounds-samples-start
 offset_bounds-samples-start g c =
     let i = c.args.self.now in
-    let drawn = subst (λ i. IsDrawn i.width i.height (length i.color.bits) (length i.extra) i.form) c.self.view_is c.self.invariant in
+    let drawn = subst (λ i. IsValidImage i.width i.height (length i.color.bits) (length i.extra) i.form) c.self.view_is c.self.invariant in
     let h = c.from-2.ensures ∙ ap (λ i. i.form.chunk_height) c.self.view_is in
     let w = c.from.ensures ∙ ap (λ i. i.form.chunk_width) c.self.view_is in
     let at : c.args.written * c.from-2.result * (c.from.result * c.stored_samples.result) ≡ c.args.written * i.form.chunk_height * row_samples (image_page i) =
@@ -56,7 +56,7 @@ offset_bounds-samples-start g c =
 pub slice_bounds-result-end : goal.slice_bounds-result-end
 slice_bounds-result-end g c =
     let i = c.args.self.now in
-    let drawn = subst (λ i. IsDrawn i.width i.height (length i.color.bits) (length i.extra) i.form) c.self.view_is c.self.invariant in
+    let drawn = subst (λ i. IsValidImage i.width i.height (length i.color.bits) (length i.extra) i.form) c.self.view_is c.self.invariant in
     let h = c.from-2.ensures ∙ ap (λ i. i.form.chunk_height) c.self.view_is in
     let w = c.from.ensures ∙ ap (λ i. i.form.chunk_width) c.self.view_is in
     let at : c.args.written * c.from-2.result * (c.from.result * c.stored_samples.result) ≡ c.args.written * i.form.chunk_height * row_samples (image_page i) =
@@ -69,7 +69,7 @@ slice_bounds-result-end g c =
 pub returns-clause-part : goal.returns-clause-part
 returns-clause-part g c =
     let i = c.args.self.now in
-    let drawn = subst (λ i. IsDrawn i.width i.height (length i.color.bits) (length i.extra) i.form) c.self.view_is c.self.invariant in
+    let drawn = subst (λ i. IsValidImage i.width i.height (length i.color.bits) (length i.extra) i.form) c.self.view_is c.self.invariant in
     let h = c.from-2.ensures ∙ ap (λ i. i.form.chunk_height) c.self.view_is in
     let w = c.from.ensures ∙ ap (λ i. i.form.chunk_width) c.self.view_is in
     let at : c.args.written * c.from-2.result * (c.from.result * c.stored_samples.result) ≡ c.args.written * i.form.chunk_height * row_samples (image_page i) =

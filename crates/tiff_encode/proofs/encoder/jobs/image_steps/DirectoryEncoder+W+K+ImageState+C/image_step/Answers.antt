@@ -8,7 +8,7 @@ use Rattle.tiff_encode.specs.declared.encoder.script.StepReply.TheVariants as re
 use Rattle.tiff_encode.specs.Machine.{FileState, OpenImage}
 use Rattle.tiff_encode.specs.ImageStepping.{ResolutionDraws, reply_to}
 use Rattle.tiff_encode.specs.Jobs.{ImageStepped}
-use Rattle.tiff_encode.specs.Stepping.{StepDraws}
+use Rattle.tiff_encode.specs.Stepping.{KeepsImage}
 use Rattle.tiff_encode.proofs.Image.Steps.{CallDraws, asked, setting_draws}
 use Rattle.tiff_encode.proofs.Image.StepsDirected.{directed}
 use Rattle.tiff_encode.proofs.Image.Table.{Extra, Rows, Sides, Planes, Across, Down, Measure, call_of}
@@ -16,9 +16,9 @@ use Rattle.tiff_encode.proofs.encoder.jobs.image_steps.DirectoryEncoder+W+K+Imag
 
 -- equal steps with equal replies do the same
 so : {i j : OpenImage} {old new : FileState} {step one : ImageStep} {r said : Result StepReply TiffError} → step ≡ one → r ≡ said
-    → StepDraws i one said old new j → StepDraws i step r old new j
+    → KeepsImage i one said old new j → KeepsImage i step r old new j
 so {i = i} {j = j} {old = old} {new = new} {one = one} {r = r} s q d =
-    subst (λ x. StepDraws i x r old new j) (sym s) (subst (λ y. StepDraws i one y old new j) (sym q) d)
+    subst (λ x. KeepsImage i x r old new j) (sym s) (subst (λ y. KeepsImage i one y old new j) (sym q) d)
 
 pub returns-in-Directory-clause-draws : goal.returns-in-Directory-clause-draws
 returns-in-Directory-clause-draws g c =
