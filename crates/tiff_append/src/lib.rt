@@ -2,8 +2,8 @@
 //! change, which are bytes behind the file and that link.
 #![tactic(auto)]
 
+pub mod ghost_bytes;
 pub mod last_link;
 pub mod run;
 pub mod sink;
 pub mod source;
-pub mod ghost_bytes;

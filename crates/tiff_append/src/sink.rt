@@ -3,8 +3,8 @@
 ghost use Rattle.std.specs.Prelude.{◌≡◌, ◌+◌, ◌^◌, ◌≤◌, ◌<◌, ◌++◌, length, None, Some, IfErr, IfOk, IfSome, OnErr, OnOk};
 ghost use Rattle.tiff_base.specs.SourceAndSink.{put};
 
-use crate::source::AddedSource;
 use crate::ghost_bytes::GhostBytes;
+use crate::source::AddedSource;
 use std::alloc::Global;
 use tiff_base::error::{TiffError, TiffResult};
 use tiff_base::io::{ByteRun, IoKind, Sink, SinkFault};

@@ -380,7 +380,12 @@ pub fn chunk_count(
 }
 
 #[tactic(auto, unfolding(crate::specs::Checks::chunks_counted))]
-fn check_chunk_count(width: u32, height: u32, planes: u16, chunks: ChunkTable) -> TiffResult<ChunkTable>
+fn check_chunk_count(
+    width: u32,
+    height: u32,
+    planes: u16,
+    chunks: ChunkTable,
+) -> TiffResult<ChunkTable>
     requires wide { 0 < chunks.chunk_width }
     requires high { 0 < chunks.chunk_height }
     ensures answer { Gives view.chunks result (checks.chunks_counted width height planes (view.chunks chunks)) }

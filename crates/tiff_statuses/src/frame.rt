@@ -4,8 +4,8 @@ ghost use Rattle.std.specs.Prelude.{◌≡◌, ◌+◌, ◌^◌, ◌≤◌, ◌<
 ghost use Rattle.tiff_statuses.specs.Writer as writer;
 
 use std::alloc::Global;
-use tiff_append::sink::{MAX_LEN, grow};
 use tiff_append::ghost_bytes::GhostBytes;
+use tiff_append::sink::{MAX_LEN, grow};
 use tiff_base::io::{ByteRun, Sink, SinkFault};
 use tiff_base::tags::FileKind;
 

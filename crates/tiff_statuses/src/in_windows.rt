@@ -21,7 +21,7 @@ use crate::plan::{
     PageDirectory, PlannedPage, find_plan, found_numbers, page_directory, planned_by,
 };
 use crate::range::{ReadsChunks, chunks_from};
-use crate::status::{Status, unit_status, put_value};
+use crate::status::{Status, put_value, unit_status};
 use crate::values::fill;
 use std::alloc::Global;
 use std::marker::Brand;

@@ -9,7 +9,7 @@ ghost use Rattle.tiff_statuses.specs.Writer as writer;
 
 use crate::frame::NewFile;
 use crate::status::{Status, fault_number, status_of};
-use crate::writer::{put_file, kind_of};
+use crate::writer::{kind_of, put_file};
 use std::alloc::Global;
 use std::str;
 use tiff_base::error::{TiffError, TiffFormatError, TiffResult};

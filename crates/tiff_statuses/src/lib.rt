@@ -58,12 +58,12 @@ pub use crate::in_windows::{
     list_directories_in, list_pages_in, list_tags_in, page_plan_in, read_planned_chunk_in,
     read_planned_chunks_in, tag_bytes_in,
 };
-use crate::jobs::{JobsEnd, run_version, put_jobs};
+use crate::jobs::{JobsEnd, put_jobs, run_version};
 use crate::list::{ListedPage, list_into};
 use crate::pages::{NewPage, PagesEnd, run_pages, tell_pages};
 use crate::plan::PlannedPage;
 use crate::rewrite::PlacedChunk;
-use crate::status::{unit_status, put_value};
+use crate::status::{put_value, unit_status};
 use crate::texts::{put_part, text_of};
 use crate::writer::{NewImage, put_file, put_file_around, write_new};
 

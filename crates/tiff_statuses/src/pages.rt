@@ -12,7 +12,7 @@ use crate::frame::NewFile;
 use crate::jobs::run;
 use crate::parents::{Links, go_on};
 use crate::status::fault_number;
-use crate::writer::{color_named, put_file, kind_of, packing_named, predictor_named};
+use crate::writer::{color_named, kind_of, packing_named, predictor_named, put_file};
 use std::alloc::Global;
 use tiff_append::last_link::header_link;
 use tiff_base::error::{TiffError, TiffFormatError, TiffResult, TiffUnsupportedError, UsageError};

@@ -7,11 +7,11 @@ pub use super::colors::{
     CMYK8, CMYK16, CMYK32, CMYK32Float, CMYK64, CMYK64Float, CMYKA8, RGB8, RGB16, RGB32,
     RGB32Float, RGB64, RGB64Float, RGBA8, RGBA16, RGBA32, RGBA32Float, RGBA64, RGBA64Float, YCbCr8,
 };
-use super::horizontal_predictor::Sample;
 pub use super::grays::{
     Gray1, Gray2, Gray4, Gray16, Gray32, Gray32Float, Gray64, Gray64Float, GrayI8, GrayI16,
     GrayI32, GrayI64,
 };
+use super::horizontal_predictor::Sample;
 use tiff_base::error::TiffResult;
 use tiff_base::tags::{PhotometricInterpretation, SampleFormat};
 
