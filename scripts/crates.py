@@ -88,7 +88,7 @@ def costs():
     found = {}
     for part, seconds in parts():
         names = (
-            re.findall(r"`(tiff\w*)`", part.partition(":")[0]) if part.startswith("`tiff") else []
+            re.findall(r"`((?:tiff|test_)\w*)`", part.partition(":")[0]) if part.startswith(("`tiff", "`test_")) else []
         )
         if names:
             found.update({name: (proof, 0) for name, proof in zip(names, seconds)})

@@ -9,7 +9,7 @@ import numpy
 import pytest
 import tifffile
 
-DATA = Path(__file__).resolve().parents[2] / "crates" / "tiff_replay" / "data"
+DATA = Path(__file__).resolve().parents[2] / "crates" / "test_lists" / "data"
 
 
 @pytest.fixture(scope="session")

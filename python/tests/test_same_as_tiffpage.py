@@ -21,7 +21,7 @@ PLACES = [
 ]
 PROGRAM = next((str(place) for place in PLACES if place.is_file()), "")
 COLORS = "Gray RGB Palette GrayA RGBA CMYK CMYKA YCbCr Lab Multiband".split()
-NAMES = sorted(path.name for path in (ROOT / "crates/tiff_replay/data").glob("*.tif"))
+NAMES = sorted(path.name for path in (ROOT / "crates/test_lists/data").glob("*.tif"))
 # Of a file one length in so many is tried, and so many changes of a byte.
 STEP, CHANGES = 29, 12
 

@@ -147,7 +147,7 @@ fn read(file: &[u8]) -> bool {
 
 #[test]
 fn files_with_changed_bytes_are_read_or_refused() {
-    let data = Path::new(env!("CARGO_MANIFEST_DIR")).join("../crates/tiff_replay/data");
+    let data = Path::new(env!("CARGO_MANIFEST_DIR")).join("../crates/test_lists/data");
     let mut files: Vec<Vec<u8>> = fs::read_dir(data)
         .unwrap()
         .map(|entry| entry.unwrap().path())

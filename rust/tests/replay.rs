@@ -1,4 +1,4 @@
-//! The lists of calls of `crates/tiff_replay`, with the replies in them.
+//! The lists of calls of `crates/test_lists`, with the replies in them.
 
 mod common;
 
@@ -34,7 +34,7 @@ const BY_READER: [&str; 15] = [
 const MOVES: [&str; 2] = ["check", "list"];
 
 fn data() -> PathBuf {
-    Path::new(env!("CARGO_MANIFEST_DIR")).join("../crates/tiff_replay/data")
+    Path::new(env!("CARGO_MANIFEST_DIR")).join("../crates/test_lists/data")
 }
 
 /// Returns bytes by their hexadecimal digits.

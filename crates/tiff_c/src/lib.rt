@@ -1,4 +1,4 @@
-//! A static library for C: the calls of `tiff_statuses` under their names in C.
+//! A static library for C: the calls of `tiff_ffi` under their names in C.
 //! `include/mangohatch_tiff.h` describes each call. Each call but `tiff_version` and
 //! `tiff_fault_text` returns a status: 0 if it is done, else the number of its error; any of them
 //! but `tiff_byte_order` may return the number of `OutOfMemory`.
@@ -7,38 +7,38 @@
 ghost use Rattle.std.specs.Prelude.{◌≡◌, ◌⊎◌, length, ℕ, List};
 ghost use Rattle.tiff_base.specs.Windows.{AreWindowsOf};
 ghost use Rattle.tiff_pages.specs.OfFile.{list_of, tree_of};
-ghost use Rattle.tiff_statuses.specs.Appended.{AppendTells};
-ghost use Rattle.tiff_statuses.specs.Calls as calls;
-ghost use Rattle.tiff_statuses.specs.Directories.{TreeTells};
-ghost use Rattle.tiff_statuses.specs.Entries.{list_tags};
-ghost use Rattle.tiff_statuses.specs.InWindows as in_windows;
-ghost use Rattle.tiff_statuses.specs.InWindows.{SeenTells};
-ghost use Rattle.tiff_statuses.specs.Jobs.{JobsTell};
-ghost use Rattle.tiff_statuses.specs.List.{ListTells};
-ghost use Rattle.tiff_statuses.specs.Pages.{PagesTell};
-ghost use Rattle.tiff_statuses.specs.Plan as plans;
-ghost use Rattle.tiff_statuses.specs.Plan.{ReadsPage};
-ghost use Rattle.tiff_statuses.specs.Rewrite as rewriting;
-ghost use Rattle.tiff_statuses.specs.Status.{StatusIs, StatusPuts, StatusTells};
-ghost use Rattle.tiff_statuses.specs.Texts.{PutsText};
-ghost use Rattle.tiff_statuses.specs.Texts as texts;
-ghost use Rattle.tiff_statuses.specs.Values as values;
-ghost use Rattle.tiff_statuses.specs.Writer as writer;
-ghost use Rattle.tiff_statuses.specs.Writer.{IsShown};
+ghost use Rattle.tiff_ffi.specs.Appended.{AppendTells};
+ghost use Rattle.tiff_ffi.specs.Calls as calls;
+ghost use Rattle.tiff_ffi.specs.Directories.{TreeTells};
+ghost use Rattle.tiff_ffi.specs.Entries.{list_tags};
+ghost use Rattle.tiff_ffi.specs.InWindows as in_windows;
+ghost use Rattle.tiff_ffi.specs.InWindows.{SeenTells};
+ghost use Rattle.tiff_ffi.specs.Jobs.{JobsTell};
+ghost use Rattle.tiff_ffi.specs.List.{ListTells};
+ghost use Rattle.tiff_ffi.specs.Pages.{PagesTell};
+ghost use Rattle.tiff_ffi.specs.Plan as plans;
+ghost use Rattle.tiff_ffi.specs.Plan.{ReadsPage};
+ghost use Rattle.tiff_ffi.specs.Rewrite as rewriting;
+ghost use Rattle.tiff_ffi.specs.Status.{StatusIs, StatusPuts, StatusTells};
+ghost use Rattle.tiff_ffi.specs.Texts.{PutsText};
+ghost use Rattle.tiff_ffi.specs.Texts as texts;
+ghost use Rattle.tiff_ffi.specs.Values as values;
+ghost use Rattle.tiff_ffi.specs.Writer as writer;
+ghost use Rattle.tiff_ffi.specs.Writer.{IsShown};
 
 use std::alloc::Global;
 use tiff_base::windows::{Stretch, Windows};
-use tiff_statuses::appended::Appended;
-use tiff_statuses::calls::{Chunks, Color, FieldSize, Layout, PageSamples, Sides};
-use tiff_statuses::directories::ListedDirectory;
-use tiff_statuses::entries::TagEntry;
-use tiff_statuses::jobs::JobsEnd;
-use tiff_statuses::list::ListedPage;
-use tiff_statuses::pages::{NewPage, PagesEnd};
-use tiff_statuses::plan::PlannedPage;
-use tiff_statuses::rewrite::PlacedChunk;
-use tiff_statuses::writer::NewImage;
-use tiff_statuses::{FrameLengths, VERSION};
+use tiff_ffi::appended::Appended;
+use tiff_ffi::calls::{Chunks, Color, FieldSize, Layout, PageSamples, Sides};
+use tiff_ffi::directories::ListedDirectory;
+use tiff_ffi::entries::TagEntry;
+use tiff_ffi::jobs::JobsEnd;
+use tiff_ffi::list::ListedPage;
+use tiff_ffi::pages::{NewPage, PagesEnd};
+use tiff_ffi::plan::PlannedPage;
+use tiff_ffi::rewrite::PlacedChunk;
+use tiff_ffi::writer::NewImage;
+use tiff_ffi::{FrameLengths, VERSION};
 
 /// Puts the width and the height of a page, in pixels, into `sides`. Returns 0, or the number of
 /// the error that refuses the file or the page. An error leaves `sides` as it was.
@@ -46,7 +46,7 @@ use tiff_statuses::{FrameLengths, VERSION};
 pub extern "C" fn tiff_page_sides(alloc: Global, file: &[u8], page: usize, sides: &mut Sides) -> u32
     ensures { StatusPuts (calls.page_sides file.now page) result sides.old sides.new }
 {
-    tiff_statuses::page_sides(alloc, file, page, sides)
+    tiff_ffi::page_sides(alloc, file, page, sides)
 }
 
 /// Reads the image of a page into `buffer`, under no limits: rows from the top, each of whole
@@ -63,7 +63,7 @@ pub extern "C" fn tiff_read_image_bytes(
 ) -> u32
     ensures { StatusTells (calls.read_image_bytes file.now page buffer.old) result buffer.new }
 {
-    tiff_statuses::read_image_bytes(alloc, file, page, buffer)
+    tiff_ffi::read_image_bytes(alloc, file, page, buffer)
 }
 
 /// Puts the color of a page into `color`. Returns 0, or the number of the first error: of the file
@@ -72,7 +72,7 @@ pub extern "C" fn tiff_read_image_bytes(
 pub extern "C" fn tiff_page_color(alloc: Global, file: &[u8], page: usize, color: &mut Color) -> u32
     ensures { StatusPuts (calls.page_color file.now page) result color.old color.new }
 {
-    tiff_statuses::page_color(alloc, file, page, color)
+    tiff_ffi::page_color(alloc, file, page, color)
 }
 
 /// Puts what the samples of a page are, and how they lie, into `samples`. Returns 0, or the number
@@ -87,7 +87,7 @@ pub extern "C" fn tiff_page_samples(
 ) -> u32
     ensures { StatusPuts (calls.page_samples file.now page) result samples.old samples.new }
 {
-    tiff_statuses::page_samples(alloc, file, page, samples)
+    tiff_ffi::page_samples(alloc, file, page, samples)
 }
 
 /// Puts the kind, the count and the sides of a page's strips or tiles into `chunks`. Returns 0, or
@@ -102,7 +102,7 @@ pub extern "C" fn tiff_page_chunks(
 ) -> u32
     ensures { StatusPuts (calls.page_chunks file.now page) result chunks.old chunks.new }
 {
-    tiff_statuses::page_chunks(alloc, file, page, chunks)
+    tiff_ffi::page_chunks(alloc, file, page, chunks)
 }
 
 /// Puts how many bytes the image of a page has, in one plane and in all planes, into `layout`.
@@ -117,7 +117,7 @@ pub extern "C" fn tiff_page_layout(
 ) -> u32
     ensures { StatusPuts (calls.page_layout file.now page) result layout.old layout.new }
 {
-    tiff_statuses::page_layout(alloc, file, page, layout)
+    tiff_ffi::page_layout(alloc, file, page, layout)
 }
 
 /// Reads the chunk of a page with the number `chunk`, from 0, into `buffer`, under no limits, as it
@@ -134,7 +134,7 @@ pub extern "C" fn tiff_read_chunk_bytes(
 ) -> u32
     ensures { StatusTells (calls.read_chunk_bytes file.now page chunk buffer.old) result buffer.new }
 {
-    tiff_statuses::read_chunk_bytes(alloc, file, page, chunk, buffer)
+    tiff_ffi::read_chunk_bytes(alloc, file, page, chunk, buffer)
 }
 
 /// Reads `count` chunks of a page, from the number `first` on, into `buffer`, one behind the other,
@@ -153,7 +153,7 @@ pub extern "C" fn tiff_read_chunks(
 ) -> u32
     ensures { StatusTells (calls.read_chunks file.now page first count buffer.old) result buffer.new }
 {
-    tiff_statuses::read_chunks(alloc, file, page, first, count, buffer)
+    tiff_ffi::read_chunks(alloc, file, page, first, count, buffer)
 }
 
 /// Puts the plan of a page, what its tags define as numbers, into `plan`. By this plan
@@ -171,7 +171,7 @@ pub extern "C" fn tiff_page_plan(
     ensures answer { StatusPuts (plans.page_plan file.now page) result plan.old plan.new }
     ensures reads { result ≡ 0 → ReadsPage file.now page plan.new }
 {
-    tiff_statuses::page_plan(alloc, file, page, plan)
+    tiff_ffi::page_plan(alloc, file, page, plan)
 }
 
 /// Reads the chunk with the number `chunk`, from 0, into `buffer`, by the plan of its page and under
@@ -194,7 +194,7 @@ pub extern "C" fn tiff_read_planned_chunk(
 ) -> u32
     ensures { StatusTells (plans.read_planned_chunk file.now plan.now chunk buffer.old) result buffer.new }
 {
-    tiff_statuses::read_planned_chunk(alloc, file, plan, chunk, buffer)
+    tiff_ffi::read_planned_chunk(alloc, file, plan, chunk, buffer)
 }
 
 /// Reads `count` chunks, from the number `first` on, into `buffer`, one behind the other, by the plan
@@ -217,7 +217,7 @@ pub extern "C" fn tiff_read_planned_chunks(
     ensures { StatusTells (plans.read_planned_chunks file.now plan.now first count buffer.old) result
         buffer.new }
 {
-    tiff_statuses::read_planned_chunks(alloc, file, plan, first, count, buffer)
+    tiff_ffi::read_planned_chunks(alloc, file, plan, first, count, buffer)
 }
 
 /// Puts the offset and the byte count of the chunk with the number `chunk`, from 0, into `place`, by
@@ -235,7 +235,7 @@ pub extern "C" fn tiff_chunk_place(
 ) -> u32
     ensures { StatusPuts (rewriting.chunk_place file.now plan.now chunk) result place.old place.new }
 {
-    tiff_statuses::chunk_place(alloc, file, plan, chunk, place)
+    tiff_ffi::chunk_place(alloc, file, plan, chunk, place)
 }
 
 /// Makes the bytes that the file has of the chunk with the number `chunk`, from 0, from new samples,
@@ -267,7 +267,7 @@ pub extern "C" fn tiff_rewrite_chunk(
         → rewriting.ShowsSamples file.now plan.now chunk samples.now stored.new }
     ensures refused { (result ≡ 0 → ⊥) → stored.new ≡ stored.old }
 {
-    tiff_statuses::rewrite_chunk(alloc, file, plan, chunk, samples, stored)
+    tiff_ffi::rewrite_chunk(alloc, file, plan, chunk, samples, stored)
 }
 
 /// Reads the coding unit of a page with the number `unit`, from 0, into `buffer`, under no limits:
@@ -285,7 +285,7 @@ pub extern "C" fn tiff_read_coding_unit_bytes(
 ) -> u32
     ensures { StatusTells (calls.read_unit_bytes file.now page unit buffer.old) result buffer.new }
 {
-    tiff_statuses::read_coding_unit_bytes(alloc, file, page, unit, buffer)
+    tiff_ffi::read_coding_unit_bytes(alloc, file, page, unit, buffer)
 }
 
 /// Puts the number of the type of a tag, and how many values it has, into `field`. `tag` is the
@@ -301,7 +301,7 @@ pub extern "C" fn tiff_tag_field(
 ) -> u32
     ensures { StatusPuts (calls.tag_field file.now page tag) result field.old field.new }
 {
-    tiff_statuses::tag_field(alloc, file, page, tag, field)
+    tiff_ffi::tag_field(alloc, file, page, tag, field)
 }
 
 /// Puts the value of a tag, which has to have one, into `number`. `tag` is the tag's number.
@@ -318,7 +318,7 @@ pub extern "C" fn tiff_tag_number(
 ) -> u32
     ensures { StatusPuts (calls.tag_number_at file.now page tag) result number.old number.new }
 {
-    tiff_statuses::tag_number(alloc, file, page, tag, number)
+    tiff_ffi::tag_number(alloc, file, page, tag, number)
 }
 
 /// Copies the bytes of the values of a tag into `buffer`, in the file's byte order, from byte `at`
@@ -342,7 +342,7 @@ pub extern "C" fn tiff_tag_bytes(
         (written.new, buffer.new) }
     ensures stays { (result ≡ 0) ⊎ (written.new ≡ written.old) }
 {
-    tiff_statuses::tag_bytes(alloc, file, page, tag, at, buffer, written)
+    tiff_ffi::tag_bytes(alloc, file, page, tag, at, buffer, written)
 }
 
 /// Puts the values of a tag into `numbers`, from the first one on, as many as fit, and how many
@@ -362,7 +362,7 @@ pub extern "C" fn tiff_tag_numbers(
     ensures { StatusPuts (values.tag_numbers file.now page tag numbers.old) result
         (count.old, numbers.old) (count.new, numbers.new) }
 {
-    tiff_statuses::tag_numbers(alloc, file, page, tag, numbers, count)
+    tiff_ffi::tag_numbers(alloc, file, page, tag, numbers, count)
 }
 
 /// Puts the bits of a tag's values, floating-point numbers of 8 bytes, into `numbers`, from the
@@ -382,7 +382,7 @@ pub extern "C" fn tiff_tag_floats(
     ensures { StatusPuts (values.tag_floats file.now page tag numbers.old) result
         (count.old, numbers.old) (count.new, numbers.new) }
 {
-    tiff_statuses::tag_floats(alloc, file, page, tag, numbers, count)
+    tiff_ffi::tag_floats(alloc, file, page, tag, numbers, count)
 }
 
 /// Puts the bytes of a tag's text into `text`, from the first one on, as many as fit, and how many
@@ -402,7 +402,7 @@ pub extern "C" fn tiff_tag_text(
     ensures { StatusPuts (values.tag_text file.now page tag text.old) result (len_of_text.old, text.old)
         (len_of_text.new, text.new) }
 {
-    tiff_statuses::tag_text(alloc, file, page, tag, text, len_of_text)
+    tiff_ffi::tag_text(alloc, file, page, tag, text, len_of_text)
 }
 
 /// Puts the entries of the directory of a page into `entries`, in the order of their tags, as many
@@ -419,7 +419,7 @@ pub extern "C" fn tiff_list_tags(
     ensures { StatusPuts (list_tags file.now page entries.old) result (count.old, entries.old)
         (count.new, entries.new) }
 {
-    tiff_statuses::list_tags(alloc, file, page, entries, count)
+    tiff_ffi::list_tags(alloc, file, page, entries, count)
 }
 
 /// Puts the byte order of a file into `order`: 0 for little-endian, 1 for big-endian. Returns 0, or
@@ -428,7 +428,7 @@ pub extern "C" fn tiff_list_tags(
 pub extern "C" fn tiff_byte_order(file: &[u8], order: &mut u32) -> u32
     ensures { StatusIs (calls.file_byte_order file.now) result order.old order.new }
 {
-    tiff_statuses::byte_order(file, order)
+    tiff_ffi::byte_order(file, order)
 }
 
 /// Puts how many pages a file has, along its chain of directories, into `pages`. Returns 0, or the
@@ -438,7 +438,7 @@ pub extern "C" fn tiff_byte_order(file: &[u8], order: &mut u32) -> u32
 pub extern "C" fn tiff_page_count(alloc: Global, file: &[u8], pages: &mut usize) -> u32
     ensures { StatusPuts (calls.page_count file.now) result pages.old pages.new }
 {
-    tiff_statuses::page_count(alloc, file, pages)
+    tiff_ffi::page_count(alloc, file, pages)
 }
 
 /// Puts the pages of a file into `pages`, along its chain of directories, as many as fit, and how
@@ -454,7 +454,7 @@ pub extern "C" fn tiff_list_pages(
 ) -> u32
     ensures { ListTells (list_of file.now) result pages.old pages.new count.new }
 {
-    tiff_statuses::list_pages(alloc, file, pages, count)
+    tiff_ffi::list_pages(alloc, file, pages, count)
 }
 
 /// Puts the directories of a file into `directories`, those of its chain and those that tags name,
@@ -471,7 +471,7 @@ pub extern "C" fn tiff_list_directories(
 ) -> u32
     ensures { TreeTells (tree_of file.now) result directories.old directories.new count.new }
 {
-    tiff_statuses::list_directories(alloc, file, directories, count)
+    tiff_ffi::list_directories(alloc, file, directories, count)
 }
 
 /// Puts the pages of a file of which the caller has the windows `seen` into `pages`, as many as fit,
@@ -493,7 +493,7 @@ pub extern "C" fn tiff_list_pages_in(
         ((count.new ≡ 0) × (pages.new ≡ pages.old))
         (ListTells (list_of file) result pages.old pages.new count.new) }
 {
-    tiff_statuses::list_pages_in(alloc, seen, pages, count, wanted)
+    tiff_ffi::list_pages_in(alloc, seen, pages, count, wanted)
 }
 
 /// Puts the directories of a file of which the caller has the windows `seen` into `directories`, as
@@ -513,7 +513,7 @@ pub extern "C" fn tiff_list_directories_in(
         ((count.new ≡ 0) × (directories.new ≡ directories.old))
         (TreeTells (tree_of file) result directories.old directories.new count.new) }
 {
-    tiff_statuses::list_directories_in(alloc, seen, directories, count, wanted)
+    tiff_ffi::list_directories_in(alloc, seen, directories, count, wanted)
 }
 
 /// Puts the plan of a page of a file of which the caller has the windows `seen` into `plan`, as
@@ -532,7 +532,7 @@ pub extern "C" fn tiff_page_plan_in(
         (plan.new ≡ plan.old) (StatusPuts (plans.page_plan file page) result plan.old plan.new) }
     ensures reads { AreWindowsOf file seen.now → result ≡ 0 → ReadsPage file page plan.new }
 {
-    tiff_statuses::page_plan_in(alloc, seen, page, plan, wanted)
+    tiff_ffi::page_plan_in(alloc, seen, page, plan, wanted)
 }
 
 /// Reads the chunk with the number `chunk`, from 0, into `buffer`, by the plan of its page, as
@@ -552,7 +552,7 @@ pub extern "C" fn tiff_read_planned_chunk_in(
     ensures { AreWindowsOf file seen.now → SeenTells seen.now result wanted.new (Unit {0})
         (StatusTells (plans.read_planned_chunk file plan.now chunk buffer.old) result buffer.new) }
 {
-    tiff_statuses::read_planned_chunk_in(alloc, seen, plan, chunk, buffer, wanted)
+    tiff_ffi::read_planned_chunk_in(alloc, seen, plan, chunk, buffer, wanted)
 }
 
 /// Reads `count` chunks, from the number `first` on, into `buffer`, one behind the other, by the plan
@@ -573,7 +573,7 @@ pub extern "C" fn tiff_read_planned_chunks_in(
     ensures { AreWindowsOf file seen.now → SeenTells seen.now result wanted.new (Unit {0})
         (StatusTells (plans.read_planned_chunks file plan.now first count buffer.old) result buffer.new) }
 {
-    tiff_statuses::read_planned_chunks_in(alloc, seen, plan, first, count, buffer, wanted)
+    tiff_ffi::read_planned_chunks_in(alloc, seen, plan, first, count, buffer, wanted)
 }
 
 /// Puts the entries of the directory of a page of a file of which the caller has the windows `seen`
@@ -596,7 +596,7 @@ pub extern "C" fn tiff_list_tags_in(
         (StatusPuts (in_windows.list_tags file page entries.old) result (count.old, entries.old)
         (count.new, entries.new)) }
 {
-    tiff_statuses::list_tags_in(alloc, seen, page, entries, count, wanted)
+    tiff_ffi::list_tags_in(alloc, seen, page, entries, count, wanted)
 }
 
 /// Copies the bytes of the values of a tag of a file of which the caller has the windows `seen` into
@@ -621,7 +621,7 @@ pub extern "C" fn tiff_tag_bytes_in(
         (StatusTells (in_windows.tag_bytes file page tag at buffer.old) result (written.new, buffer.new)
         × ((result ≡ 0) ⊎ (written.new ≡ written.old))) }
 {
-    tiff_statuses::tag_bytes_in(alloc, seen, page, tag, at, buffer, written, wanted)
+    tiff_ffi::tag_bytes_in(alloc, seen, page, tag, at, buffer, written, wanted)
 }
 
 /// Writes a file of one image into `buffer`, and puts how many bytes the file has into `len`.
@@ -645,7 +645,7 @@ pub extern "C" fn tiff_write_image(
     ensures shows { result ≡ 0 → IsShown image.now samples.now buffer.old buffer.new len.new }
     ensures stays { (result ≡ 0) ⊎ (buffer.new ≡ buffer.old) }
 {
-    tiff_statuses::write_image(alloc, image, samples, buffer, len)
+    tiff_ffi::write_image(alloc, image, samples, buffer, len)
 }
 
 /// As `tiff_write_image`, but puts into `buffer` only the bytes of the file before `samples` and
@@ -666,7 +666,7 @@ pub extern "C" fn tiff_image_frame(
         frame.old frame.new }
     ensures stays { (result ≡ 0) ⊎ (buffer.new ≡ buffer.old) }
 {
-    tiff_statuses::image_frame(alloc, image, samples, buffer, frame)
+    tiff_ffi::image_frame(alloc, image, samples, buffer, frame)
 }
 
 /// Writes the file of the jobs that the text `jobs` lists into `buffer`, puts how many bytes the
@@ -687,7 +687,7 @@ pub extern "C" fn tiff_write_jobs(
     ensures answer { JobsTell version jobs.now result buffer.old buffer.new len.old len.new end.new }
     ensures stays { (result ≡ 0) ⊎ (buffer.new ≡ buffer.old) }
 {
-    tiff_statuses::write_jobs(alloc, version, jobs, buffer, len, end)
+    tiff_ffi::write_jobs(alloc, version, jobs, buffer, len, end)
 }
 
 /// Writes the file of these pages into `buffer`, puts how many bytes the file has into `len`, and
@@ -716,7 +716,7 @@ pub extern "C" fn tiff_write_pages(
         end.new }
     ensures stays { (result ≡ 0) ⊎ (buffer.new ≡ buffer.old) }
 {
-    tiff_statuses::write_pages(alloc, version, pages, buffer, len, end)
+    tiff_ffi::write_pages(alloc, version, pages, buffer, len, end)
 }
 
 /// Writes these pages behind a little-endian TIFF file, classic or BigTIFF: puts the bytes to append
@@ -742,7 +742,7 @@ pub extern "C" fn tiff_append_pages(
     ensures answer { AppendTells file.now pages.now result buffer.old buffer.new appended.new }
     ensures stays { (result ≡ 0) ⊎ (buffer.new ≡ buffer.old) }
 {
-    tiff_statuses::append_pages(alloc, file, pages, buffer, appended)
+    tiff_ffi::append_pages(alloc, file, pages, buffer, appended)
 }
 
 /// Returns the version of these calls, which is `MANGOHATCH_TIFF_VERSION` of the header for C. It
@@ -751,7 +751,7 @@ pub extern "C" fn tiff_append_pages(
 pub extern "C" fn tiff_version() -> u32
     ensures { result ≡ VERSION }
 {
-    tiff_statuses::version()
+    tiff_ffi::version()
 }
 
 /// Writes the text of a status into `buffer`, as much of it as fits, and returns how many bytes the
@@ -760,5 +760,5 @@ pub extern "C" fn tiff_version() -> u32
 pub extern "C" fn tiff_fault_text(status: u32, buffer: &mut [u8]) -> usize
     ensures { PutsText (texts.text_of status) result buffer.old buffer.new }
 {
-    tiff_statuses::fault_text(status, buffer)
+    tiff_ffi::fault_text(status, buffer)
 }

@@ -9,7 +9,7 @@ use std::os::unix::fs::PermissionsExt;
 use std::rt::Files as Machine;
 use tiff::io::IoKind;
 use tiff::{TiffError, TiffResult};
-use tiff_program::files::Files;
+use tiffpage_lib::files::Files;
 
 /// The files of the machine, and its standard output.
 #[derive(Drop)]

@@ -10,7 +10,7 @@ use files::MachineFiles;
 use std::io;
 use std::marker::Brand;
 use std::process::ExitCode;
-use tiff_program::program::run;
+use tiffpage_lib::program::run;
 use words::words;
 
 fn main(rt: HostRuntime) -> io::Result<ExitCode> {

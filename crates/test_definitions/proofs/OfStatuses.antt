@@ -1,0 +1,2 @@
+-- Proofs of the worked examples of `tiff_ffi`.
+pub mod InWindows

@@ -1,0 +1,3 @@
+-- Worked examples of the definitions of `tiff_ffi`.
+pub mod InWindows
+pub mod Parents

@@ -1,0 +1,6 @@
+use Rattle.std.proofs.Common.{◌≡◌, length}
+use Rattle.test_program.proofs.program.filled.Given as goal
+
+-- there is a byte for each turn
+abbrev pub invariant-loop-i : goal.invariant-loop-i
+invariant-loop-i l = length l.part.items ≡ l.i

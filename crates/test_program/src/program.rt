@@ -1,0 +1,379 @@
+//! What the program `tiffpage` does, over files in memory.
+
+ghost use Rattle.std.specs.Prelude.{◌≡◌, IfOk, length};
+
+use std::alloc::Global;
+use std::marker::Brand;
+use std::test::Fail;
+use tiff::io::IoKind;
+use tiff::{TiffError, TiffResult};
+use tiffpage_lib::files::Files;
+use tiffpage_lib::program::run;
+
+// A file in memory.
+#[derive(Drop)]
+struct File {
+    name: String,
+    bytes: Vec<u8>,
+}
+
+// Files in memory, of which the latest of a name counts; standard input is the file with the name
+// `-`. One name can't be written, and one can't be read.
+#[derive(Drop)]
+struct MemoryFiles {
+    alloc: Global,
+    files: Vec<File>,
+}
+
+const UNWRITABLE: &str = "FULL";
+
+const UNREADABLE: &str = "LOCKED";
+
+// The file that has zeros behind its bytes, up to a length.
+const HOLED: &str = "HOLED";
+
+const HOLED_LEN: u64 = 67_108_870;
+
+// `len` bytes from an offset on, with zeros behind those that are there.
+fn filled(alloc: Global, bytes: &[u8], at: u64, len: u64) -> TiffResult<Vec<u8>>
+    ensures { IfOk result (λ part. length part.items ≡ len) }
+{
+    let mut part = Vec::new(alloc);
+    for i in 0..len {
+        let place = usize::try_from(at.saturating_add(i)).unwrap_or(usize::MAX);
+        part.push(bytes.get(place).copied().unwrap_or(0))?;
+    }
+    Ok(part)
+}
+
+impl Files for MemoryFiles {
+    fn read(&mut self, name: &str) -> TiffResult<Vec<u8>> {
+        if name == UNREADABLE {
+            return Err(TiffError::IoError(IoKind::Device));
+        }
+        for file in self.files.iter() {
+            if file.name.as_str() == name {
+                return Ok(Vec::from_slice(self.alloc, file.bytes.as_slice())?);
+            }
+        }
+        Err(TiffError::IoError(IoKind::Device))
+    }
+
+    fn len(&mut self, name: &str) -> TiffResult<Option<u64>> {
+        let bytes = self.read(name)?;
+        Ok(match name {
+            "-" => None,
+            HOLED => Some(HOLED_LEN),
+            _ => Some(bytes.len() as u64),
+        })
+    }
+
+    fn read_at(&mut self, name: &str, at: u64, len: u64) -> TiffResult<Vec<u8>> {
+        let bytes = self.read(name)?;
+        filled(self.alloc, &bytes, at, len)
+    }
+
+    fn write(&mut self, name: &str, bytes: &[u8]) -> TiffResult<()> {
+        if name == UNWRITABLE {
+            return Err(TiffError::IoError(IoKind::Device));
+        }
+        let name = String::from_str(self.alloc, name)?;
+        let bytes = Vec::from_slice(self.alloc, bytes)?;
+        self.files.insert(0, File { name, bytes })?;
+        Ok(())
+    }
+
+    // The file is written whole, with both.
+    fn append(&mut self, name: &str, more: &[u8], at: usize, over: &[u8]) -> TiffResult<()> {
+        let mut bytes = self.read(name)?;
+        bytes.extend_from_slice(more)?;
+        if at > bytes.len() || over.len() > bytes.len() - at {
+            return Err(TiffError::IoError(IoKind::InvalidInput));
+        }
+        bytes[at..at + over.len()].copy_from_slice(over);
+        self.write(name, &bytes)
+    }
+
+    fn are_same(&mut self, one: &str, other: &str) -> TiffResult<bool> {
+        Ok(one == other && one != "-")
+    }
+}
+
+/// The file of one gray sample 7, byte by byte.
+const ONE: [u8; 199] = [
+    0x49, 0x49, 0x2a, 0x00, 0x19, 0x00, 0x00, 0x00, // header
+    0x01, 0x00, 0x00, 0x00, 0x01, 0x00, 0x00, 0x00, // resolutions
+    0x01, 0x00, 0x00, 0x00, 0x01, 0x00, 0x00, 0x00, //
+    0x07, // strip
+    0x0e, 0x00, // directory
+    0x00, 0x01, 0x04, 0x00, 0x01, 0x00, 0x00, 0x00, 0x01, 0x00, 0x00, 0x00, //
+    0x01, 0x01, 0x04, 0x00, 0x01, 0x00, 0x00, 0x00, 0x01, 0x00, 0x00, 0x00, //
+    0x02, 0x01, 0x03, 0x00, 0x01, 0x00, 0x00, 0x00, 0x08, 0x00, 0x00, 0x00, //
+    0x03, 0x01, 0x03, 0x00, 0x01, 0x00, 0x00, 0x00, 0x01, 0x00, 0x00, 0x00, //
+    0x06, 0x01, 0x03, 0x00, 0x01, 0x00, 0x00, 0x00, 0x01, 0x00, 0x00, 0x00, //
+    0x11, 0x01, 0x04, 0x00, 0x01, 0x00, 0x00, 0x00, 0x18, 0x00, 0x00, 0x00, //
+    0x15, 0x01, 0x03, 0x00, 0x01, 0x00, 0x00, 0x00, 0x01, 0x00, 0x00, 0x00, //
+    0x16, 0x01, 0x04, 0x00, 0x01, 0x00, 0x00, 0x00, 0x40, 0x42, 0x0f, 0x00, //
+    0x17, 0x01, 0x04, 0x00, 0x01, 0x00, 0x00, 0x00, 0x01, 0x00, 0x00, 0x00, //
+    0x1a, 0x01, 0x05, 0x00, 0x01, 0x00, 0x00, 0x00, 0x08, 0x00, 0x00, 0x00, //
+    0x1b, 0x01, 0x05, 0x00, 0x01, 0x00, 0x00, 0x00, 0x10, 0x00, 0x00, 0x00, //
+    0x28, 0x01, 0x03, 0x00, 0x01, 0x00, 0x00, 0x00, 0x01, 0x00, 0x00, 0x00, //
+    0x3d, 0x01, 0x03, 0x00, 0x01, 0x00, 0x00, 0x00, 0x01, 0x00, 0x00, 0x00, //
+    0x53, 0x01, 0x03, 0x00, 0x01, 0x00, 0x00, 0x00, 0x01, 0x00, 0x00, 0x00, //
+    0x00, 0x00, 0x00, 0x00, // link
+];
+
+// Files that are others with one byte changed: the name, the other, the place of the byte, and its
+// value. LONG is ONE with six zeros behind it.
+const CHANGED: [(&str, &str, usize, u8); 5] = [
+    ("EMPTY", "ONE", 151, 0), // the count of YResolution
+    ("PAST", "ONE", 155, 255), // where its value is
+    ("LINKED", "LONG", 195, 199), // the link, to a directory without entries
+    ("CYCLE", "LINKED", 201, 25), // its link, to the first directory
+    (HOLED, "ONE", 198, 4), // the link, to 67108864
+];
+
+// What standard input has, and command lines, each with what it prints, standard error behind `2> `,
+// and its status. `cmp` compares two files. BYTE has the byte 7, IN three bytes.
+const ROWS: [(&str, &str); 3] = [
+    (
+        "",
+        "\
+$ tiffpage
+usage: tiffpage gray|raw|tags|list ..
+status 0
+$ tiffpage gray OUT 1 1 BYTE
+status 0
+$ cmp OUT ONE
+status 0
+$ tiffpage raw OUT 0 BACK
+status 0
+$ cmp BACK BYTE
+status 0
+$ tiffpage gray OUT 0 5 IN
+2> error: format error: invalid dimensions: 0x5
+status 1
+$ tiffpage gray OUT 2 2 IN
+2> error: invalid data
+status 1
+$ tiffpage tags ONE 0
+256 4 1 01000000
+257 4 1 01000000
+258 3 1 0800
+259 3 1 0100
+262 3 1 0100
+273 4 1 18000000
+277 3 1 0100
+278 4 1 40420f00
+279 4 1 01000000
+282 5 1 0100000001000000
+283 5 1 0100000001000000
+296 3 1 0100
+317 3 1 0100
+339 3 1 0100
+status 0
+$ tiffpage tags EMPTY 0
+256 4 1 01000000
+257 4 1 01000000
+258 3 1 0800
+259 3 1 0100
+262 3 1 0100
+273 4 1 18000000
+277 3 1 0100
+278 4 1 40420f00
+279 4 1 01000000
+282 5 1 0100000001000000
+283 5 0 -
+296 3 1 0100
+317 3 1 0100
+339 3 1 0100
+status 0
+$ tiffpage tags PAST 0
+2> error: unexpected end of file
+status 1
+$ tiffpage list ONE
+0 25 1x1 Gray8 1 strip 1
+status 0
+$ tiffpage list LINKED
+0 25 1x1 Gray8 1 strip 1
+1 199 error: format error: required tag `ImageWidth` not found
+status 0
+$ tiffpage list CYCLE
+0 25 1x1 Gray8 1 strip 1
+2> error: format error: file contained a cycle in the list of IFDs
+status 1
+$ tiffpage directories HOLED
+25 - 14 1x1 Gray8 1 strip 1
+67108864 - 0 error: format error: required tag `ImageWidth` not found
+status 0
+$ tiffpage check HOLED
+0 25 ok 1 00080008
+1 67108864 error: format error: required tag `ImageWidth` not found
+status 1
+$ tiffpage check ONE
+0 25 ok 1 00080008
+status 0
+$ tiffpage check LOCKED
+2> error: cannot read LOCKED
+status 1
+$ tiffpage tags ONE
+2> usage: tiffpage gray|raw|tags|list ..
+status 2
+$ tiffpage gray FULL 0 -5 NONE
+2> usage: tiffpage gray|raw|tags|list ..
+status 2
+$ tiffpage gray FULL 0 5 NONE
+2> error: cannot read NONE
+status 1
+$ tiffpage gray FULL 0 5 IN
+2> error: format error: invalid dimensions: 0x5
+status 1
+$ tiffpage gray FULL 1 1 IN
+2> error: cannot write FULL
+status 1
+$ tiffpage raw NONE 0x1 FULL
+2> usage: tiffpage gray|raw|tags|list ..
+status 2
+$ tiffpage raw LOCKED 1 FULL
+2> error: cannot read LOCKED
+status 1
+$ tiffpage raw ONE 1 FULL
+2> error: format error: image file directory not found
+status 1
+$ tiffpage raw ONE 0 FULL
+2> error: cannot write FULL
+status 1
+",
+    ),
+    (
+        "\
+image Gray8 1 1
+write_data 7
+image Gray8 1 1
+write_data 8",
+        "\
+$ tiffpage jobs OUT
+nothing
+nothing
+status 0
+$ tiffpage list OUT
+0 25 1x1 Gray8 1 strip 1
+1 217 1x1 Gray8 1 strip 1
+status 0
+",
+    ),
+    (
+        "\
+image Gray8 20 20
+tiles 16 16
+write_data 0*400",
+        "\
+$ tiffpage jobs OUT
+nothing
+nothing
+status 0
+$ tiffpage list OUT
+0 1080 20x20 Gray8 1 tile 4
+status 0
+",
+    ),
+];
+
+// The words of a command line behind the name of the program.
+fn words_of(alloc: Global, line: &str) -> TiffResult<Vec<String>> {
+    let mut words = Vec::new(alloc);
+    if let Some(rest) = line.strip_prefix("tiffpage ") {
+        for word in rest.split(' ') {
+            words.push(String::from_str(alloc, word)?)?;
+        }
+    }
+    Ok(words)
+}
+
+// Whether two files, with a space between their names, have the same bytes.
+fn are_same(files: &mut MemoryFiles, names: &str) -> TiffResult<bool> {
+    let Some((first, second)) = names.split_once(' ') else {
+        return Ok(false);
+    };
+    let first = files.read(first)?;
+    let second = files.read(second)?;
+    Ok(first.as_slice() == second.as_slice())
+}
+
+// What a command line prints and returns.
+fn answer(alloc: Global, files: &mut MemoryFiles, line: &str) -> TiffResult<String> {
+    if let Some(names) = line.strip_prefix("cmp ") {
+        let status = u8::from(!are_same(files, names)?);
+        return Ok(format!(in alloc; "status {status}\n")?);
+    }
+    let words = words_of(alloc, line)?;
+    let mut out = Vec::new(alloc);
+    let mut err = Vec::new(alloc);
+    let status = run::<_, _, _, Brand>(alloc, words.as_slice(), files, &mut out, &mut err);
+    let (out, err) = (String::from_utf8(out)?, String::from_utf8(err)?);
+    let mark = if err.is_empty() { "" } else { "2> " };
+    Ok(format!(in alloc; "{out}{mark}{err}status {status}\n")?)
+}
+
+// The files that the command lines begin with.
+fn given(alloc: Global, stdin: &str) -> TiffResult<MemoryFiles> {
+    let mut files = MemoryFiles {
+        alloc,
+        files: Vec::new(alloc),
+    };
+    files.write("-", stdin.as_bytes())?;
+    files.write("IN", &[1, 2, 3])?;
+    files.write("BYTE", &[7])?;
+    files.write("ONE", ONE.as_slice())?;
+    let mut long = Vec::from_slice(alloc, ONE.as_slice())?;
+    long.extend_from_slice(&[0; 6])?;
+    files.write("LONG", long.as_slice())?;
+    for (name, other, place, byte) in CHANGED {
+        let mut bytes = files.read(other)?;
+        if let Some(changed) = bytes.get_mut(place) {
+            *changed = byte;
+        }
+        files.write(name, bytes.as_slice())?;
+    }
+    Ok(files)
+}
+
+#[test]
+fn command_lines_are_answered(rt: HostRuntime) -> Result<(), Fail> {
+    for (stdin, rows) in ROWS {
+        let mut files = given(rt.alloc(), stdin)?;
+        for row in rows.split("$ ") {
+            if let Some((line, wanted)) = row.split_once('\n') {
+                let told = answer(rt.alloc(), &mut files, line)?;
+                assert_eq!(rt; told.as_str(), wanted, "{line}");
+            }
+        }
+    }
+    Ok(())
+}
+
+// Streams that take five bytes each.
+#[test]
+fn streams_that_are_full_are_an_error(rt: HostRuntime) -> Result<(), Fail> {
+    let mut files = given(rt.alloc(), "")?;
+    for line in [
+        "",
+        "tiffpage --version",
+        "tiffpage tags ONE 0",
+        "tiffpage tags ONE",
+        "tiffpage tags NONE 0",
+    ] {
+        let words = words_of(rt.alloc(), line)?;
+        let (mut out_room, mut err_room) = ([0u8; 5], [0u8; 5]);
+        let (mut out, mut err) = (out_room.as_mut_slice(), err_room.as_mut_slice());
+        let status = run::<_, _, _, Brand>(
+            rt.alloc(),
+            words.as_slice(),
+            &mut files,
+            &mut out,
+            &mut err,
+        );
+        assert_eq!(rt; status, 1);
+    }
+    Ok(())
+}

@@ -1,2 +1,0 @@
--- Proofs of the worked examples of `tiff_statuses`.
-pub mod InWindows

@@ -1,6 +1,0 @@
--- Automation doesn't see that these lemmas are the examples.
-use Rattle.tiff_examples.proofs.OfEncode.ImageDataWholes as p
-use Rattle.tiff_examples.proofs.encode.image_data_wholes.data.Goals as goal
-
-pub returns-clause-by_answer : goal.returns-clause-by_answer
-returns-clause-by_answer c = (p.data_left, p.data_other)

@@ -1,6 +1,0 @@
--- Automation doesn't see that these lemmas are the examples.
-use Rattle.tiff_examples.proofs.OfEncode.Model as p
-use Rattle.tiff_examples.proofs.encode.model.shown.Goals as goal
-
-pub returns-clause-by_answer : goal.returns-clause-by_answer
-returns-clause-by_answer c = (p.gray_shows, p.other_sample, p.other_width)

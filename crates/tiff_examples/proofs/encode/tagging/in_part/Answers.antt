@@ -1,6 +1,0 @@
--- Automation doesn't see that these lemmas are the examples.
-use Rattle.tiff_examples.proofs.OfEncode.Tagging as p
-use Rattle.tiff_examples.proofs.encode.tagging.in_part.Goals as goal
-
-pub returns-clause-by_answer : goal.returns-clause-by_answer
-returns-clause-by_answer c = (p.all_stopped, p.left_out)

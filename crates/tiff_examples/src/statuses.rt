@@ -1,5 +1,0 @@
-//! Worked examples of the definitions of `tiff_statuses`: calls on windows of a file, and pages with
-//! parents.
-
-pub mod in_windows;
-pub mod parents;

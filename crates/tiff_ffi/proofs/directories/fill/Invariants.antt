@@ -1,0 +1,6 @@
+use Rattle.std.proofs.Common.{◌≡◌, ◌++◌, map, take, drop}
+use Rattle.tiff_ffi.specs.Directories.{directory_told}
+use Rattle.tiff_ffi.proofs.directories.fill.Given as goal
+
+abbrev pub invariant-loop-i : goal.invariant-loop-i
+invariant-loop-i l = l.out ≡ take l.i (map directory_told l.items) ++ drop l.i l.initial.out

@@ -1,0 +1,18 @@
+use Rattle.std.proofs.Common.{rules}
+use Rattle.tiff_ffi.specs.Plan.{read_planned_chunks}
+use Rattle.tiff_ffi.specs.Status.{StatusTells}
+use Rattle.tiff_base.specs.Windows.{file_of}
+use Rattle.tiff_ffi.proofs.StatusTells.{tells_left}
+use Rattle.tiff_ffi.proofs.SeenFiles.{of_order, tells_of}
+use Rattle.tiff_ffi.proofs.in_windows.read_planned_chunks_in.Goals as goal
+
+pub range_seen-requires : goal.range_seen-requires
+range_seen-requires g c = record { of = of_order c.args.seen.now c.in-Some.windows.seen (c.in-Some.ensures).order.0 (c.in-Some.ensures).file g.file }
+
+pub returns-in-Ok : goal.returns-in-Ok
+returns-in-Ok g c =
+    λ of. tells_of c.args.seen.now c.in-Some.windows.seen g.file c.unit_status.result c.args.wanted.now _
+    (λ file. StatusTells (read_planned_chunks file c.args.plan.now c.args.first c.args.count c.args.buffer.now) c.unit_status.result c.range_seen.new.buffer)
+    (c.in-Some.ensures).order of
+    (tells_left (λ _. c.range_seen.new.buffer) c.in-Ok.read (read_planned_chunks (file_of g.file c.in-Some.windows.seen) c.args.plan.now c.args.first c.args.count c.args.buffer.now) c.unit_status.result
+    c.range_seen.new.buffer c.in-Ok.ensures c.unit_status.ensures (search rules))

@@ -1,7 +1,0 @@
-use Rattle.std.proofs.Common.{◌≡◌, ◌++◌, replicate}
-use Rattle.std.specs.List.{concat}
-use Rattle.tiff_lists.specs.Samples.{ascending}
-use Rattle.tiff_lists.proofs.samples.SampleWords.push_range.Given as goal
-
-abbrev pub invariant-loop : goal.invariant-loop
-invariant-loop l = l.samples.items ≡ l.initial.samples.items ++ concat (replicate l.counter (ascending l.range))

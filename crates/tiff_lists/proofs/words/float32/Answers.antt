@@ -1,7 +1,0 @@
-use Rattle.std.proofs.Common.{◌∙◌}
-use Rattle.std.specs.Float.{binary32}
-use Rattle.tiff_lists.proofs.Folds.{parsed_float}
-use Rattle.tiff_lists.proofs.words.float32.Goals as goal
-
-pub returns : goal.returns
-returns c = c.ok.ensures.value ∙ parsed_float binary32 _ _ c.parse.ensures.value.1

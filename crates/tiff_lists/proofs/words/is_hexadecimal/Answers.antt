@@ -1,6 +1,0 @@
-use Rattle.std.specs.Prelude.{codes}
-use Rattle.std.proofs.lemmas.Str.Pattern.{starts_text}
-use Rattle.tiff_lists.proofs.words.is_hexadecimal.Goals as goal
-
-pub returns : goal.returns
-returns c = starts_text _ (codes "0x") c.args.word.now c.starts_with.ensures.cases

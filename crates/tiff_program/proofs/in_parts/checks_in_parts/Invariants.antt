@@ -1,7 +1,0 @@
-use Rattle.tiff_program.specs.Parts.{Saw}
-use Rattle.tiff_program.proofs.InParts.{ChecksSoFar}
-use Rattle.tiff_program.proofs.in_parts.checks_in_parts.Given as goal
-
-abbrev pub invariant-loop-page : goal.invariant-loop-page
-invariant-loop-page g l =
-    Saw g.F.Files.reads_part l.name l.len g.S.SeenFile.bytes (ChecksSoFar l.limits g.S.SeenFile.bytes l.page-items l.end l.page-index l.checks.items) l.fn.files l.files

@@ -1,5 +1,0 @@
-use Rattle.std.proofs.Common.{◌≡◌}
-use Rattle.tiff_program.proofs.links.follow.Given as goal
-
-abbrev pub invariant-loop : goal.invariant-loop
-invariant-loop g l = g.R.Source.contents l.source ≡ g.R.Source.contents l.fn.source

@@ -1,6 +1,0 @@
-use Rattle.std.proofs.Common.{ℕ, ◌<◌, ◌≤◌, get_or}
-use Rattle.tiff_program.specs.declared.parts.Part.{Part}
-use Rattle.tiff_program.proofs.parts.count_until.Given as goal
-
-abbrev pub invariant-loop-i : goal.invariant-loop-i
-invariant-loop-i l = (k : ℕ) (d : Part) → k < l.i → (get_or l.parts k d).offset ≤ l.at

@@ -1,7 +1,0 @@
-use Rattle.tiff_program.proofs.program.samples_by.Goals as goal
-
-pub returns-then-planes : goal.returns-then-planes
-returns-then-planes c = rw c.if-planes.true c.page_planes.ensures
-
-pub returns-else-planes : goal.returns-else-planes
-returns-else-planes c = rw c.if-planes.false c.page_samples.ensures

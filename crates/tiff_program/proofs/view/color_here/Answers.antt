@@ -1,7 +1,0 @@
-use Rattle.tiff.specs.Outcome as outcome
-use Rattle.tiff_program.proofs.Shown.{tells_page}
-use Rattle.tiff_program.proofs.view.color_here.Goals as goal
-
-pub returns : goal.returns
-unfolding outcome.colortype
-returns g c = tells_page _ (λ c. c) (outcome.colortype c.args.decoder.now).answer c.colortype.result c.args.decoder.now c.colortype.new.self c.colortype.ensures

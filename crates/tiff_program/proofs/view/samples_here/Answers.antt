@@ -1,9 +1,0 @@
-use Rattle.tiff.specs.Outcome.{read_image}
-use Rattle.tiff.specs.Result.{decoded_as}
-use Rattle.tiff_program.specs.Samples.{page_image}
-use Rattle.tiff_pages.proofs.PageReads.{reads_page}
-use Rattle.tiff_program.proofs.view.samples_here.Goals as goal
-
-pub returns : goal.returns
-unfolding read_image
-returns g c = reads_page decoded_as (page_image c.args.decoder.now) c.read_image.result c.args.decoder.now c.read_image.new.self c.read_image.ensures.follows

@@ -1,7 +1,0 @@
-use Rattle.tiff.specs.Outcome as outcome
-use Rattle.tiff_program.proofs.Shown.{tells_page}
-use Rattle.tiff_program.proofs.view.sides_here.Goals as goal
-
-pub returns : goal.returns
-unfolding outcome.dimensions
-returns g c = tells_page _ (λ s. s) (outcome.dimensions c.args.decoder.now).answer c.dimensions.result c.args.decoder.now c.dimensions.new.self c.dimensions.ensures

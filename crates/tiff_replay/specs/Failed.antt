@@ -1,9 +1,0 @@
--- The number of times a source or a sink failed.
-use Rattle.std.specs.Prelude.{ℕ}
-use Rattle.tiff_replay.specs.declared.failure.Failure.{Failure}
-use Rattle.tiff_replay.specs.declared.failure.Failure.TheVariants.{Never, Behind, Past}
-
-abbrev pub failed : Failure → ℕ
-failed Never = 0
-failed (Behind calls) = 0
-failed Past = 1

@@ -1,0 +1,10 @@
+use Rattle.std.proofs.Common.{◌≡◌, length, drop}
+use Rattle.std.specs.Prelude.{◌==◌}
+use Rattle.std.specs.List.{slice_split}
+use Rattle.tiff_script.specs.Line.{after_all, space}
+use Rattle.tiff_script.specs.Values.{no_fields, with_field}
+use Rattle.tiff_script.proofs.values.directory_of.Given as goal
+
+abbrev pub invariant-loop-word : goal.invariant-loop-word
+invariant-loop-word l =
+    after_all with_field l.directory (drop (length l.yielded) (slice_split (λ b. b == space) l.words)) ≡ after_all with_field no_fields (slice_split (λ b. b == space) l.words)

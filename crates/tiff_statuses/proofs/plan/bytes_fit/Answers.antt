@@ -1,4 +1,0 @@
-use Rattle.tiff_statuses.proofs.plan.bytes_fit.Goals as goal
-
-pub returns : goal.returns
-returns g c = g.met.R.Source.offsets c.args.source.now

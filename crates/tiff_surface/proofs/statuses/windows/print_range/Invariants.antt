@@ -1,5 +1,0 @@
-use Rattle.std.proofs.Common.{[]}
-use Rattle.tiff_surface.proofs.statuses.windows.print_range.Given as goal
-
-abbrev pub ghost-read_planned_chunks_in : goal.ghost-read_planned_chunks_in
-ghost-read_planned_chunks_in a = []

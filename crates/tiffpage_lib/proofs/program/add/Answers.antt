@@ -1,0 +1,5 @@
+use Rattle.tiffpage_lib.proofs.Steps.{gives}
+use Rattle.tiffpage_lib.proofs.program.add.Goals as goal
+
+pub returns-in-Some : goal.returns-in-Some
+returns-in-Some g c = rw (c.and.ensures, c.in-Some.is) (gives _ _ _ _ _ c.append.ensures)
