@@ -8,8 +8,8 @@ use tiff_base::error::TiffResult;
 use tiff_decode::decoder::Decoder;
 use tiff_decode::reply::{refusal_text, reply_text};
 use tiff_decode::script::Call;
-use tiff_script::call::call_of;
 use tiff_pages::lines::{Lines, check_lines, list_lines};
+use tiff_script::call::call_of;
 
 /// The decoder of the file opened last, if it opened.
 #[derive(Drop)]

@@ -15,8 +15,8 @@ use tiff::{TiffError, TiffResult};
 use tiff_append::last_link::LastLink;
 use tiff_append::run::run_behind;
 use tiff_append::sink::Addition;
-use tiff_script::replies::lines_of_jobs;
 use tiff_pages::lines::Lines;
+use tiff_script::replies::lines_of_jobs;
 
 /// What jobs left: their file, if it is to be written, and the lines of the replies. The lines are
 /// well if no step and no end of a job was refused.

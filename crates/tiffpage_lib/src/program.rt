@@ -36,9 +36,9 @@ use tiff::{TiffError, TiffResult};
 use tiff_append::last_link::last_link;
 use tiff_append::sink::Addition;
 use tiff_base::windows::SeenFile;
+use tiff_pages::lines::Lines;
 use tiff_script::call::calls_of;
 use tiff_script::jobs::jobs_of;
-use tiff_pages::lines::Lines;
 use tiff_uses::gray_file;
 
 // All bytes of a file.

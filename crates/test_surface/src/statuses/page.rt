@@ -198,14 +198,7 @@ fn print_range(
     count: u32,
 ) -> io::Result<()> {
     let mut chunks = [0u8; 14];
-    let status = tiff_ffi::read_planned_chunks(
-        rt.alloc(),
-        file,
-        plan,
-        first,
-        count,
-        &mut chunks,
-    );
+    let status = tiff_ffi::read_planned_chunks(rt.alloc(), file, plan, first, count, &mut chunks);
     println!(rt; "read_planned_chunks {first} {count}: {status}, {chunks:?}")
 }
 

@@ -11,13 +11,7 @@ const NOTHING: Stretch = Stretch { offset: 0, len: 0 };
 // Prints the lists of a file of which these windows are.
 fn print_lists(rt: &HostRuntime, seen: &Windows<'_>) -> io::Result<()> {
     let (mut pages, mut count, mut wanted) = ([NO_PAGE], 7, NOTHING);
-    let status = tiff_ffi::list_pages_in(
-        rt.alloc(),
-        seen,
-        &mut pages,
-        &mut count,
-        &mut wanted,
-    );
+    let status = tiff_ffi::list_pages_in(rt.alloc(), seen, &mut pages, &mut count, &mut wanted);
     println!(rt;
         "list_pages_in: {status}, {count}, {}, {wanted:?}",
         pages[0].offset
@@ -72,14 +66,7 @@ fn print_range(rt: &HostRuntime, seen: &Windows<'_>, count: u32) -> io::Result<(
 fn print_tags(rt: &HostRuntime, seen: &Windows<'_>) -> io::Result<()> {
     let (mut entries, mut count) = ([NO_ENTRY], 9);
     let mut wanted = Stretch { offset: 9, len: 9 };
-    let status = tiff_ffi::list_tags_in(
-        rt.alloc(),
-        seen,
-        0,
-        &mut entries,
-        &mut count,
-        &mut wanted,
-    );
+    let status = tiff_ffi::list_tags_in(rt.alloc(), seen, 0, &mut entries, &mut count, &mut wanted);
     println!(rt;
         "list_tags_in: {status}, {count}, {}, {wanted:?}",
         entries[0].number
