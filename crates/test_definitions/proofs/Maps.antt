@@ -20,7 +20,8 @@ module _ {X : Type 0} where
       none_long (entries (empty {X = X} {R = nat_cmp}))
       (sym (len-entries (empty {X = X} {R = nat_cmp})) ∙ len-empty nat_cmp X)
   entries_puts (e ∷ es) =
-      entries-insert nat_cmp_total (from_entries es) e.0 e.1 ∙ ap (put nat_cmp e.0 e.1) (entries_puts es)
+      entries-insert nat_cmp_total (from_entries es) e.0 e.1
+      ∙ ap (put nat_cmp e.0 e.1) (entries_puts es)
 
   -- `puts` gives the number of entries of a map that is made from a list
   pub len_puts : (es : List (ℕ × X)) → len (from_entries {R = nat_cmp} es) ≡ length (puts es)

@@ -57,7 +57,9 @@ supplied_long n = record { field = long_field n; bytes = le 4 n }
 
 -- what the image writes after its resolutions, and the file then
 abbrev pub image_ops : List WriteOp
-image_ops = Appended (7 ∷ []) ∷ Supplied (supplied_short 8) ∷ Supplied (supplied_short 1) ∷ Supplied (supplied_long 24) ∷ Supplied (supplied_long 1)
+image_ops =
+    Appended (7 ∷ []) ∷ Supplied (supplied_short 8) ∷ Supplied (supplied_short 1)
+    ∷ Supplied (supplied_long 24) ∷ Supplied (supplied_long 1)
     ∷ Listed (from_entries all_fields) ∷ Linked 4 25 ∷ []
 
 abbrev pub image_file : FileState
@@ -68,7 +70,9 @@ behind_strip = record (new_file Classic) { bytes = header ++ (resolutions ++ (7 
 
 pub finishes : finish (with_fields (new_directory (Some 4) true) all_fields) behind_strip
     ≡ finish_told_by behind_strip (with_fields (new_directory (Some 4) true) all_fields) 14 (puts all_fields)
-finishes = finish_told behind_strip (with_fields (new_directory (Some 4) true) all_fields) 14 (puts all_fields) (len_puts all_fields) (entries_puts all_fields)
+finishes =
+    finish_told behind_strip (with_fields (new_directory (Some 4) true) all_fields) 14
+    (puts all_fields) (len_puts all_fields) (entries_puts all_fields)
 
 -- ---- what the file contains
 
@@ -77,7 +81,8 @@ abbrev EachListable : List (ℕ × Field) → Type 0
 EachListable [] = Unit {0}
 EachListable (e ∷ es) = IsListable Classic e.0 e.1 × EachListable es
 
-each_of : (es : List (ℕ × Field)) → EachListable es → (e : ℕ × Field) → In e es → IsListable Classic e.0 e.1
+each_of : (es : List (ℕ × Field)) → EachListable es → (e : ℕ × Field) → In e es
+    → IsListable Classic e.0 e.1
 each_of [] t e h = absurd h
 each_of (x ∷ es) t e (inl p) =
     let P : ℕ × Field → Type 0 = λ y. IsListable Classic y.0 y.1 in
@@ -85,9 +90,11 @@ each_of (x ∷ es) t e (inl p) =
 each_of (x ∷ es) t e (inr h) = each_of es t.1 e h
 
 -- the fields of a map that is made from a list can be written
-pub listable : (es : List (ℕ × Field)) → EachListable (puts es) → length (puts es) < 256 ^ 2 → AreListable Classic (from_entries es)
+pub listable : (es : List (ℕ × Field)) → EachListable (puts es) → length (puts es) < 256 ^ 2
+    → AreListable Classic (from_entries es)
 listable es t l =
-    let P : List (ℕ × Field) → Type 0 = λ xs. (e : ℕ × Field) → In e xs → IsListable Classic e.0 e.1 in
+    let P : List (ℕ × Field) → Type 0 =
+    λ xs. (e : ℕ × Field) → In e xs → IsListable Classic e.0 e.1 in
     record {
       each = subst P (sym (entries_puts es)) (each_of (puts es) t);
       few = subst (λ n. n < 256 ^ 2) (sym (len_puts es)) l;
@@ -187,7 +194,9 @@ begun_fits = (
 
 pub begun_stands : FileContains Classic (header ++ resolutions) tasks.after_begin.model
 unfolding new_image new_image_cause image_cause image_directory begin_cause first_tags write_tag write_entry write_tag_cause data_of
-begun_stands = ops_stand Classic header (header_model Classic) (new_image gray 1 1 1 (new_file Classic)).ops (header_stands Classic) begun_fits
+begun_stands =
+    ops_stand Classic header (header_model Classic) (new_image gray 1 1 1 (new_file Classic)).ops
+    (header_stands Classic) begun_fits
 
 -- the writes of the image after the resolutions fit
 image_fits : OpsFit Classic (header ++ resolutions) tasks.after_begin.model image_ops
@@ -209,7 +218,9 @@ image_fits = (
 )
 
 image_bytes : bytes_after Classic (header ++ resolutions) image_ops ≡ gray_file
-image_bytes = ap (λ d. bytes.put ((header ++ resolutions) ++ (7 ∷ []) ++ d) 4 (le 4 25)) (directory_by Classic all_fields)
+image_bytes =
+    ap (λ d. bytes.put ((header ++ resolutions) ++ (7 ∷ [])
+    ++ d) 4 (le 4 25)) (directory_by Classic all_fields)
 
 pub image_stands : FileContains Classic gray_file image_model
 image_stands =
@@ -229,7 +240,9 @@ octets (suc k) = lit< tt
 -- the model holds the open image after its resolutions
 pub begin_held : RecordsImage Classic tasks.after_begin.model new_pixel []
 unfolding color_type inner_type
-begin_held = begins_open (new_file Classic) (header_model Classic) name.Gray8 1 1 new_pixel (lit< tt) (lit< tt) images.gray_begun.0
+begin_held =
+    begins_open (new_file Classic) (header_model Classic) name.Gray8 1 1 new_pixel (lit< tt)
+    (lit< tt) images.gray_begun.0
 
 -- the image after its strip
 strip_is : (write_strip new_pixel 1 (7 ∷ []) tasks.after_begin.file).answer ≡ Ok pixel_in_file
@@ -239,7 +252,8 @@ strip_is = refl
 strip_held : RecordsImage Classic tasks.after_strip.model pixel_in_file sevens
 unfolding write_strip write_strip_cause next_chunk_sample_count rect unpacked_chunk differences
 strip_held =
-    (chunks_keep_open tasks.after_begin.file tasks.after_begin.model new_pixel pixel_in_file [] (7 ∷ []) (7 ∷ []) begin_held octets (lit< tt) refl (lit< tt) (lit< tt)).1
+    (chunks_keep_open tasks.after_begin.file tasks.after_begin.model new_pixel pixel_in_file [] (7
+    ∷ []) (7 ∷ []) begin_held octets (lit< tt) refl (lit< tt) (lit< tt)).1
     strip_is
 
 -- no chunk is left at the image's end
@@ -247,7 +261,8 @@ none_left : is_left pixel_in_file ≡ false
 none_left = refl
 
 pub end_held : HoldsEnded Classic tasks.after_end.model pixel_in_file sevens 25
-end_held = ends_held tasks.after_strip.file tasks.after_strip.model pixel_in_file sevens tasks.page_offset strip_held none_left images.pixel_finished.0
+end_held =
+    ends_held tasks.after_strip.file tasks.after_strip.model pixel_in_file sevens tasks.page_offset strip_held none_left images.pixel_finished.0
 
 end_is : tasks.after_end.model ≡ image_model
 unfolding finish_image last_tags write_tag write_entry write_tag_cause data_of
@@ -264,9 +279,11 @@ image_held = subst (λ m. HoldsEnded Classic m pixel_in_file sevens 25) end_is e
 abbrev pub pixel_image : Image
 pixel_image = image_with pixel_in_file sevens
 
-pub pixel_shown : (file : List ℕ) (m : Model) → Grows image_model m → FileContains Classic file m → Shows Classic file 25 pixel_image
+pub pixel_shown : (file : List ℕ) (m : Model) → Grows image_model m → FileContains Classic file m
+    → Shows Classic file 25 pixel_image
 pixel_shown file m g t =
-    ended_shown_by (images_show_by page_told) Classic file m pixel_in_file sevens 25 t (grown_ended Classic image_model m pixel_in_file sevens 25 g image_held)
+    ended_shown_by (images_show_by page_told) Classic file m pixel_in_file sevens 25 t
+    (grown_ended Classic image_model m pixel_in_file sevens 25 g image_held)
 
 -- a page without the places of its chunks
 abbrev pub bare : PageRecord → PageRecord
@@ -278,7 +295,8 @@ is_seven = refl
 
 module _ (file : List ℕ) (t : Shows Classic file 25 pixel_image) where
   -- the page of the image, and its color
-  page_is : record pixel_image.page { offsets = t.page.offsets; byte_counts = t.page.byte_counts } ≡ t.page
+  page_is : record pixel_image.page { offsets = t.page.offsets; byte_counts = t.page.byte_counts }
+      ≡ t.page
   page_is = sym t.is_image
 
   color_is : Gray 8 ≡ t.color
@@ -290,22 +308,30 @@ module _ (file : List ℕ) (t : Shows Classic file 25 pixel_image) where
   one_column = λ k. shown_columns (page_is k) (color_is k)
 
   -- each image of the page of `pixel_image` is shown if its first sample is 7
-  pub shown_alike : (i : Image) → bare pixel_image.page ≡ bare i.page → i.sample_at 0 0 0 ≡ 7 → Shows Classic file 25 i
+  pub shown_alike : (i : Image) → bare pixel_image.page ≡ bare i.page → i.sample_at 0 0 0 ≡ 7
+      → Shows Classic file 25 i
   shown_alike i p q = record {
     page = t.page;
     is_page = t.is_page;
     is_image =
-        let placed : PageRecord → PageRecord = λ page. record page { offsets = t.page.offsets; byte_counts = t.page.byte_counts } in
+        let placed : PageRecord → PageRecord =
+        λ page. record page { offsets = t.page.offsets; byte_counts = t.page.byte_counts } in
         t.is_image ∙ ap placed p;
     color = t.color;
     is_color = t.is_color;
     whole = t.whole;
     shows = λ x y sample a b c.
-        let column : 0 ≡ x = (let d : x < 1 = subst (λ n. x < n) (sym one_column) a in omega arith) in
-        let row : 0 ≡ y = (let d : y < 1 = subst (λ n. y < n) (sym (ap (λ page. page.height) page_is)) b in omega arith) in
-        let one : 0 ≡ sample = (let d : sample < 1 = subst (λ k. sample < num_samples k) (sym color_is) c in omega arith) in
-        let Q : ℕ → ℕ → ℕ → Type 0 = λ x y sample. shown_at file t.page t.color x y sample ≡ i.sample_at x y sample in
-        let first = t.shows 0 0 0 (subst (λ n. n < shown_columns t.page t.color) (sym column) a) (subst (λ n. n < t.page.height) (sym row) b)
+        let column : 0 ≡ x =
+        (let d : x < 1 = subst (λ n. x < n) (sym one_column) a in omega arith) in
+        let row : 0 ≡ y =
+        (let d : y < 1 = subst (λ n. y < n) (sym (ap (λ page. page.height) page_is)) b in omega arith) in
+        let one : 0 ≡ sample =
+        (let d : sample < 1 = subst (λ k. sample < num_samples k) (sym color_is) c in omega arith) in
+        let Q : ℕ → ℕ → ℕ → Type 0 =
+        λ x y sample. shown_at file t.page t.color x y sample ≡ i.sample_at x y sample in
+        let first =
+        t.shows 0 0 0 (subst (λ n. n < shown_columns t.page t.color) (sym column) a)
+        (subst (λ n. n < t.page.height) (sym row) b)
         (subst (λ n. n < num_samples t.color) (sym one) c) in
         subst (λ x. Q x y sample) column (subst (λ y. Q 0 y sample) row (subst (λ n. Q 0 0 n) one (first ∙ is_seven ∙ sym q)));
   }
@@ -319,12 +345,16 @@ module _ (file : List ℕ) (t : Shows Classic file 25 pixel_image) where
   sample_alike i u =
       let same : t.page ≡ u.page = ok_inj t.page u.page (sym t.is_page ∙ u.is_page) in
       let wide : 0 < shown_columns t.page t.color = subst (λ n. 0 < n) one_column (lit< tt) in
-      let high : 0 < t.page.height = subst (λ n. 0 < n) (ap (λ page. page.height) page_is) (lit< tt) in
+      let high : 0 < t.page.height =
+      subst (λ n. 0 < n) (ap (λ page. page.height) page_is) (lit< tt) in
       let some : 0 < num_samples t.color = subst (λ k. 0 < num_samples k) color_is (lit< tt) in
-      let hue : t.color ≡ u.color = ok_inj t.color u.color (sym t.is_color ∙ ap color_of same ∙ u.is_color) in
+      let hue : t.color ≡ u.color =
+      ok_inj t.color u.color (sym t.is_color ∙ ap color_of same ∙ u.is_color) in
       sym (u.shows 0 0 0 (subst (λ k. 0 < shown_columns u.page k) hue (subst (λ page. 0 < shown_columns page t.color) same wide)) (subst (λ page. 0 < page.height) same high) (subst (λ k. 0 < num_samples k) hue some))
-      ∙ (λ k. shown_at file (sym same k) (sym hue k) 0 0 0) ∙ t.shows 0 0 0 wide high some ∙ is_seven
+      ∙ (λ k. shown_at file (sym same k) (sym hue k) 0 0 0) ∙ t.shows 0 0 0 wide high some
+      ∙ is_seven
 
 -- `gray_file` shows the image
 pub gray_shown : Shows Classic gray_file 25 pixel_image
-gray_shown = pixel_shown gray_file image_model (record { directories = λ d h. h; supplied = λ x h. h; regions = λ r h. h }) image_stands
+gray_shown =
+    pixel_shown gray_file image_model (record { directories = λ d h. h; supplied = λ x h. h; regions = λ r h. h }) image_stands

@@ -13,13 +13,15 @@ abbrev is_in : ℕ → ℕ × ℕ → Bool
 is_in k s = nat_le s.0 k && nat_lt k (s.0 + s.1)
 
 -- a byte of the first stretch is readable
-pub in_first : (from len : ℕ) (others : List (ℕ × ℕ)) (k : ℕ) → from ≤ k → k < from + len → answers_for (Some ((from, len) ∷ others)) k ≡ true
+pub in_first : (from len : ℕ) (others : List (ℕ × ℕ)) (k : ℕ) → from ≤ k → k < from + len
+    → answers_for (Some ((from, len) ∷ others)) k ≡ true
 unfolding answers_for
 in_first from len others k l h =
     ap (λ b. (b && nat_lt k (from + len)) || list_any (is_in k) others) (le-leb from k l)
     ∙ ap (λ b. b || list_any (is_in k) others) (lt-ltb k (from + len) h)
 
 -- a byte of a later stretch is readable
-pub in_later : (s : ℕ × ℕ) (others : List (ℕ × ℕ)) (k : ℕ) → answers_for (Some others) k ≡ true → answers_for (Some (s ∷ others)) k ≡ true
+pub in_later : (s : ℕ × ℕ) (others : List (ℕ × ℕ)) (k : ℕ) → answers_for (Some others) k ≡ true
+    → answers_for (Some (s ∷ others)) k ≡ true
 unfolding answers_for
 in_later s others k e = ap (λ b. is_in k s || b) e ∙ or_true (is_in k s)

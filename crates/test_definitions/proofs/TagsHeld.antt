@@ -29,9 +29,11 @@ fits (Some f) = nat_le (field_len f) 4
 
 fits_held : (source : SourceRecord) (f : Option Field) → fits f ≡ true → IsHeld source f
 fits_held source None e = tt
-fits_held source (Some f) e = record { placed = λ w. absurd (omega (arith, w, leb-true (field_len f) 4 e)) }
+fits_held source (Some f) e =
+    record { placed = λ w. absurd (omega (arith, w, leb-true (field_len f) 4 e)) }
 
--- the values of each of some tags, by their numbers, are in their entries, except those of the offsets of strips
+-- the values of each of some tags, by their numbers, are in their entries, except those of the
+-- offsets of strips
 abbrev pub each_fits : List (ℕ × Field) → List ℕ → Bool
 each_fits fields [] = true
 each_fits fields (n ∷ ns) = (n == 273 || fits (find nat_cmp n fields)) && each_fits fields ns
@@ -41,31 +43,43 @@ module _ (source : SourceRecord) (fields : List (ℕ × Field)) (next : Option �
   abbrev directory : DirectoryRecord
   directory = record { entries = from_entries fields; next = next }
 
-  pub tag_held : (t : Tag) → IsHeld source (find nat_cmp (tag_number t) fields) → TagReadable source Classic LittleEndian directory t
-  tag_held t h = record { field = λ f e. subst (IsHeld source) (sym (get-from_entries nat_cmp_total fields (tag_number t)) ∙ e) h }
+  pub tag_held : (t : Tag) → IsHeld source (find nat_cmp (tag_number t) fields)
+      → TagReadable source Classic LittleEndian directory t
+  tag_held t h =
+      record { field = λ f e. subst (IsHeld source) (sym (get-from_entries nat_cmp_total fields (tag_number t)) ∙ e) h }
 
-  one_held : (b : Bool) (n : ℕ) → (n == 273) ≡ b → IsHeld source (find nat_cmp 273 fields) → (b || fits (find nat_cmp n fields)) ≡ true
+  one_held : (b : Bool) (n : ℕ) → (n == 273) ≡ b → IsHeld source (find nat_cmp 273 fields)
+      → (b || fits (find nat_cmp n fields)) ≡ true
       → IsHeld source (find nat_cmp n fields)
-  one_held true n q offsets e = subst (λ k. IsHeld source (find nat_cmp k fields)) (sym (eqb-true n 273 q)) offsets
+  one_held true n q offsets e =
+      subst (λ k. IsHeld source (find nat_cmp k fields)) (sym (eqb-true n 273 q)) offsets
   one_held false n q offsets e = fits_held source (find nat_cmp n fields) e
 
   -- the values of a tag among some, of which the first are readable
-  held_from : (b : Bool) (m n : ℕ) (rest : Bool) → (m == n) ≡ b → IsHeld source (find nat_cmp m fields)
-      → (rest ≡ true → IsHeld source (find nat_cmp n fields)) → (b || rest) ≡ true → IsHeld source (find nat_cmp n fields)
-  held_from true m n rest q first more h = subst (λ k. IsHeld source (find nat_cmp k fields)) (eqb-true m n q) first
+  held_from : (b : Bool) (m n : ℕ) (rest : Bool) → (m == n) ≡ b
+      → IsHeld source (find nat_cmp m fields)
+      → (rest ≡ true → IsHeld source (find nat_cmp n fields)) → (b || rest) ≡ true
+      → IsHeld source (find nat_cmp n fields)
+  held_from true m n rest q first more h =
+      subst (λ k. IsHeld source (find nat_cmp k fields)) (eqb-true m n q) first
   held_from false m n rest q first more h = more h
 
-  each_held : (ns : List ℕ) (n : ℕ) → IsHeld source (find nat_cmp 273 fields) → each_fits fields ns ≡ true → list_any (λ m. m == n) ns ≡ true
+  each_held : (ns : List ℕ) (n : ℕ) → IsHeld source (find nat_cmp 273 fields)
+      → each_fits fields ns ≡ true → list_any (λ m. m == n) ns ≡ true
       → IsHeld source (find nat_cmp n fields)
   each_held [] n offsets e h = absurd cc
   each_held (m ∷ ms) n offsets e h =
       let both = and_parts (m == 273 || fits (find nat_cmp m fields)) (each_fits fields ms) e in
       held_from (m == n) m n (list_any (λ k. k == n) ms) refl (one_held (m == 273) m refl offsets both.0) (each_held ms n offsets both.1) h
 
-  pub page_held : IsHeld source (find nat_cmp 273 fields) → each_fits fields page_tag_numbers ≡ true → PageReadable source Classic LittleEndian directory
-  page_held offsets e = record { each = λ t h. tag_held t (each_held page_tag_numbers (tag_number t) offsets e h) }
+  pub page_held : IsHeld source (find nat_cmp 273 fields) → each_fits fields page_tag_numbers ≡ true
+      → PageReadable source Classic LittleEndian directory
+  page_held offsets e =
+      record { each = λ t h. tag_held t (each_held page_tag_numbers (tag_number t) offsets e h) }
 
   -- if the field of a tag isn't readable in a source, the tag isn't either
-  pub tag_unheld : (t : Tag) (f : Field) → find nat_cmp (tag_number t) fields ≡ Some f → (FieldReadable source Classic LittleEndian f → ⊥)
+  pub tag_unheld : (t : Tag) (f : Field) → find nat_cmp (tag_number t) fields ≡ Some f
+      → (FieldReadable source Classic LittleEndian f → ⊥)
       → TagReadable source Classic LittleEndian directory t → ⊥
-  tag_unheld t f e not r = not (r.field f (get-from_entries nat_cmp_total fields (tag_number t) ∙ e))
+  tag_unheld t f e not r =
+      not (r.field f (get-from_entries nat_cmp_total fields (tag_number t) ∙ e))

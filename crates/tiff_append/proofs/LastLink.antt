@@ -23,12 +23,15 @@ use Rattle.tiff_append.specs.LastLink.{last_by, last_in}
 
 -- ---- within the file
 
-pub header_within : (kind : FileKind) (file : List ℕ) (first : ℕ) → number_at LittleEndian (offset_width kind) file (header_link kind) ≡ Ok first
+pub header_within : (kind : FileKind) (file : List ℕ) (first : ℕ)
+    → number_at LittleEndian (offset_width kind) file (header_link kind) ≡ Ok first
     → header_link kind + offset_len kind ≤ length file
-header_within kind file first h = number_within file (offset_width kind) (header_link kind) first (some_offset kind) h
+header_within kind file first h =
+    number_within file (offset_width kind) (header_link kind) first (some_offset kind) h
 
 module _ (kind : FileKind) (file : List ℕ) (p count : ℕ) (counted : number_at LittleEndian (count_width kind) file p ≡ Ok count) where
-  within_by : (r : Result (Option ℕ) TiffError) → link_from kind LittleEndian file p ≡ r → IsOk r → link_offset kind p count + offset_len kind ≤ length file
+  within_by : (r : Result (Option ℕ) TiffError) → link_from kind LittleEndian file p ≡ r → IsOk r
+      → link_offset kind p count + offset_len kind ≤ length file
   within_by (Ok after) h ok =
       let s = link_parts kind file p after h in
       let same : s.0 ≡ count = ok_inj s.0 count (sym s.2.0 ∙ counted) in
@@ -37,7 +40,8 @@ module _ (kind : FileKind) (file : List ℕ) (p count : ℕ) (counted : number_a
   within_by (Err e) h ok = absurd (cc)
 
   -- the link of a directory that is read is within the file
-  pub link_within : IsOk (link_from kind LittleEndian file p) → link_offset kind p count + offset_len kind ≤ length file
+  pub link_within : IsOk (link_from kind LittleEndian file p)
+      → link_offset kind p count + offset_len kind ≤ length file
   link_within ok = within_by (link_from kind LittleEndian file p) refl ok
 
 -- ---- the last directory
@@ -53,25 +57,30 @@ last_of (x ∷ xs) =
     last_more x xs ∙ ap (slice_get (x ∷ xs)) (sym e)
 
 -- no list has an item at a number of 64 bits that is the greatest
-pub none_there : (offsets : List ℕ) (n x : ℕ) → slice_get offsets n ≡ Some x → length offsets ≤ n → ⊥
+pub none_there : (offsets : List ℕ) (n x : ℕ) → slice_get offsets n ≡ Some x → length offsets ≤ n
+    → ⊥
 none_there offsets n x h l = let w = slice_get_within offsets n x h in omega (arith, w, l)
 
 module _ (kind : FileKind) (file : List ℕ) (first : ℕ) (w : Walked) where
-  pub ended : (last : Option ℕ) → ChainEnds kind LittleEndian file first w None → last ≡ slice_get w.offsets (length w.offsets - 1)
+  pub ended : (last : Option ℕ) → ChainEnds kind LittleEndian file first w None
+      → last ≡ slice_get w.offsets (length w.offsets - 1)
       → last_in (chain kind LittleEndian file first) ≡ Ok last
   ended last e h =
       let Told : Option ℕ → Result (Option ℕ) TiffError = λ o. Ok o in
       ap last_in e ∙ ap Told (last_of w.offsets ∙ sym h)
 
-  reads : ChainBegins kind LittleEndian file first w → (last : Option ℕ) → last_or None w.offsets ≡ last → IfSome last (λ p. IsOk (link_from kind LittleEndian file p))
+  reads : ChainBegins kind LittleEndian file first w → (last : Option ℕ)
+      → last_or None w.offsets ≡ last → IfSome last (λ p. IsOk (link_from kind LittleEndian file p))
   reads b None h = tt
   reads b (Some p) h =
-      let is : link_from kind LittleEndian file p ≡ Ok w.next = ap (walk.link_behind kind LittleEndian file first) (sym h) ∙ b.linked in
+      let is : link_from kind LittleEndian file p ≡ Ok w.next =
+      ap (walk.link_behind kind LittleEndian file first) (sym h) ∙ b.linked in
       let Reads : Result (Option ℕ) TiffError → Type 0 = λ r. IsOk r in
       subst Reads (sym is) refl
 
   -- the last directory that was entered can be read
-  pub last_reads : (last : Option ℕ) → ChainBegins kind LittleEndian file first w → last ≡ slice_get w.offsets (length w.offsets - 1)
+  pub last_reads : (last : Option ℕ) → ChainBegins kind LittleEndian file first w
+      → last ≡ slice_get w.offsets (length w.offsets - 1)
       → IfSome last (λ p. IsOk (link_from kind LittleEndian file p))
   last_reads last b h = reads b last (last_of w.offsets ∙ sym h)
 
@@ -96,7 +105,8 @@ module _ (kind : FileKind) (file : List ℕ) where
   by_end (Ok last) = by_last last
   by_end (Err e) = Err e
 
-  linked_by : (offsets : List ℕ) (end : Option TiffError) → unless_cut end (link_behind kind file offsets) ≡ by_end (last_by offsets end)
+  linked_by : (offsets : List ℕ) (end : Option TiffError)
+      → unless_cut end (link_behind kind file offsets) ≡ by_end (last_by offsets end)
   linked_by offsets None = behind_last offsets
   linked_by offsets (Some e) = refl
 
@@ -107,7 +117,8 @@ module _ (kind : FileKind) (file : List ℕ) where
   Linked c = unless_cut c.end (link_behind kind file c.offsets)
 
   -- the header's link can't be read
-  pub unread : (e : TiffError) → number_at LittleEndian (offset_width kind) file (header_link kind) ≡ Err e → last_link_at kind file ≡ Err e
+  pub unread : (e : TiffError) → number_at LittleEndian (offset_width kind) file (header_link kind)
+      ≡ Err e → last_link_at kind file ≡ Err e
   unread e h = ap (λ r. r >>= Behind >>= Linked) h
 
   module _ (first : ℕ) (read : number_at LittleEndian (offset_width kind) file (header_link kind) ≡ Ok first) where
@@ -120,15 +131,21 @@ module _ (kind : FileKind) (file : List ℕ) where
     pub no_chain : first ≡ 0 → last_link_at kind file ≡ Ok (header_link kind)
     no_chain none = by_first ∙ ap (λ n. by_end (last_in (chain_behind kind file (link n)))) none
 
-    by_chain : (first ≡ 0 → ⊥) → last_link_at kind file ≡ by_end (last_in (chain kind LittleEndian file first))
-    by_chain some = by_first ∙ ap (λ o. by_end (last_in (chain_behind kind file o))) (link_some first some)
+    by_chain : (first ≡ 0 → ⊥) → last_link_at kind file
+        ≡ by_end (last_in (chain kind LittleEndian file first))
+    by_chain some =
+        by_first ∙ ap (λ o. by_end (last_in (chain_behind kind file o))) (link_some first some)
 
     -- the chain has no directory, or this last one, or ends by an error
-    pub in_header : (first ≡ 0 → ⊥) → last_in (chain kind LittleEndian file first) ≡ Ok None → last_link_at kind file ≡ Ok (header_link kind)
+    pub in_header : (first ≡ 0 → ⊥) → last_in (chain kind LittleEndian file first) ≡ Ok None
+        → last_link_at kind file ≡ Ok (header_link kind)
     in_header some h = by_chain some ∙ ap by_end h
 
-    pub in_last : (first ≡ 0 → ⊥) → (p : ℕ) → last_in (chain kind LittleEndian file first) ≡ Ok (Some p) → last_link_at kind file ≡ link_offset_at kind file p
+    pub in_last : (first ≡ 0 → ⊥) → (p : ℕ)
+        → last_in (chain kind LittleEndian file first) ≡ Ok (Some p)
+        → last_link_at kind file ≡ link_offset_at kind file p
     in_last some p h = by_chain some ∙ ap by_end h
 
-    pub cut_off : (first ≡ 0 → ⊥) → (e : TiffError) → last_in (chain kind LittleEndian file first) ≡ Err e → last_link_at kind file ≡ Err e
+    pub cut_off : (first ≡ 0 → ⊥) → (e : TiffError)
+        → last_in (chain kind LittleEndian file first) ≡ Err e → last_link_at kind file ≡ Err e
     cut_off some e h = by_chain some ∙ ap by_end h

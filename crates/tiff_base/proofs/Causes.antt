@@ -6,7 +6,8 @@ use Rattle.tiff_base.specs.Answers.{IsCause}
 
 -- a cause remains one under weaker conditions
 pub cause_along : {wanting failed wanting' failed' given given' : Type 0} (e : TiffError)
-    → (wanting → wanting') → (failed → failed') → (given → given') → IsCause wanting failed e given → IsCause wanting' failed' e given'
+    → (wanting → wanting') → (failed → failed') → (given → given') → IsCause wanting failed e given
+    → IsCause wanting' failed' e given'
 cause_along OutOfMemory w f g h = w h
 cause_along (IoError Device) w f g h = f h
 cause_along (IoError UnexpectedEof) w f g h = g h

@@ -30,12 +30,14 @@ first_fits x es all = all x (inl refl)
 under : (k n : ℕ) (f : Field) → n < 2 ^ 16 → IsEntry (k, f) → IsEntry (n, f)
 under k n f h e = record { tag = h; count = e.count; whole = e.whole; octets = e.octets }
 
-choice_fits : (o : Ordering) (a b c : List (ℕ × Field)) → Fit a → Fit b → Fit c → Fit (by_order o a b c)
+choice_fits : (o : Ordering) (a b c : List (ℕ × Field)) → Fit a → Fit b → Fit c
+    → Fit (by_order o a b c)
 choice_fits Less a b c p q r = p
 choice_fits Equal a b c p q r = q
 choice_fits Greater a b c p q r = r
 
-put_fits : (k : ℕ) (f : Field) (es : List (ℕ × Field)) → IsEntry (k, f) → Fit es → Fit (put nat_cmp k f es)
+put_fits : (k : ℕ) (f : Field) (es : List (ℕ × Field)) → IsEntry (k, f) → Fit es
+    → Fit (put nat_cmp k f es)
 put_fits k f [] new all = more_fits (k, f) [] new all
 put_fits k f (x ∷ es) new all =
     choice_fits (nat_cmp k x.0) ((k, f) ∷ x ∷ es) ((x.0, f) ∷ es) (x ∷ put nat_cmp k f es)

@@ -15,18 +15,21 @@ same_part bytes from count k (suc n) h =
     ∙ take-take (suc n) (count - k) (drop k (drop from bytes)) fits
     ∙ ap (take (suc n)) (drop-drop k from bytes)
 
-pub held_read : (bytes held : List ℕ) (from count at : ℕ) (old : List ℕ) (n : ℕ) (new : List ℕ) → held ≡ bytes_at bytes from count
+pub held_read : (bytes held : List ℕ) (from count at : ℕ) (old : List ℕ) (n : ℕ) (new : List ℕ)
+    → held ≡ bytes_at bytes from count
     → HoldsByte bytes from count at → Reads held (at - from) old n new → Reads bytes at old n new
 held_read bytes held from count at old n new e h r =
     let f = h.before in
     let long = ap length e ∙ length-take count (drop from bytes) in
     let rest = length-drop from bytes in
     let offset : from + (at - from) ≡ at = omega (arith, f) in
-    let in_part : n ≤ length (bytes_at bytes from count) - (at - from) = subst (λ l. n ≤ length l - (at - from)) e r.in_bytes in
+    let in_part : n ≤ length (bytes_at bytes from count) - (at - from) =
+    subst (λ l. n ≤ length l - (at - from)) e r.in_bytes in
     record {
       in_buffer = r.in_buffer;
       in_bytes = omega (arith, f, long, rest, r.in_bytes);
       some = λ b a. r.some b (let g = h.behind a in omega (arith, f, a, g, long, rest));
       next = r.next ∙ ap (λ l. l ++ drop n old)
-          (ap (λ l. bytes_at l (at - from) n) e ∙ same_part bytes from count (at - from) n in_part ∙ ap (λ p. bytes_at bytes p n) offset);
+          (ap (λ l. bytes_at l (at - from) n) e ∙ same_part bytes from count (at - from) n in_part
+          ∙ ap (λ p. bytes_at bytes p n) offset);
     }

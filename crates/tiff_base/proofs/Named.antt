@@ -32,7 +32,8 @@ none_some x h = (let P : Option _ → Type 0 = λ o. is_none o in subst P h tt)
 
 module _ {A : Type 0} (number : A → ℕ) (n : ℕ) where
   -- a value that is found by a number has this number
-  by_test : (b : Bool) (x : A) (other : Option A) (y : A) → (n == number x) ≡ b → (if b then Some x else other) ≡ Some y
+  by_test : (b : Bool) (x : A) (other : Option A) (y : A) → (n == number x) ≡ b
+      → (if b then Some x else other) ≡ Some y
       → (other ≡ Some y → number y ≡ n) → number y ≡ n
   by_test true x other y h e later =
       let same : x ≡ y = cc in
@@ -43,11 +44,13 @@ module _ {A : Type 0} (number : A → ℕ) (n : ℕ) where
   found [] y e = absurd (none_some y e)
   found (x ∷ rest) y e = by_test (n == number x) x (find_by number n rest) y refl e (found rest y)
 
-  or_other : (o : Option A) (other : A) → ((y : A) → o ≡ Some y → number y ≡ n) → number other ≡ n → number (unwrap_or o other) ≡ n
+  or_other : (o : Option A) (other : A) → ((y : A) → o ≡ Some y → number y ≡ n) → number other ≡ n
+      → number (unwrap_or o other) ≡ n
   or_other (Some y) other h k = h y refl
   or_other None other h k = k
 
-  comes_back : (values : List A) (other : A) → number other ≡ n → number (unwrap_or (find_by number n values) other) ≡ n
+  comes_back : (values : List A) (other : A) → number other ≡ n
+      → number (unwrap_or (find_by number n values) other) ≡ n
   comes_back values other = or_other (find_by number n values) other (found values)
 
 pub tags : (n : ℕ) → tag_number (tag_of n) ≡ n
@@ -77,12 +80,14 @@ unfolding type_of
 types_named y.BYTE = refl
 types_named x = refl
 
-methods_named : (x named : CompressionMethod) → named_method x ≡ Some named → named_method (method_of (method_number x)) ≡ Some x
+methods_named : (x named : CompressionMethod) → named_method x ≡ Some named
+    → named_method (method_of (method_number x)) ≡ Some x
 unfolding method_of
 methods_named (m.Unknown n) named h = absurd (none_some named h)
 methods_named x named h = refl
 
-interpretations_named : (x : PhotometricInterpretation) → interpretation_of (interpretation_number x) ≡ Some x
+interpretations_named : (x : PhotometricInterpretation)
+    → interpretation_of (interpretation_number x) ≡ Some x
 unfolding interpretation_of
 interpretations_named i.WhiteIsZero = refl
 interpretations_named x = refl
@@ -102,7 +107,8 @@ unfolding unit_of
 units_named u.None = refl
 units_named x = refl
 
-formats_named : (x named : SampleFormat) → named_format x ≡ Some named → named_format (format_of (format_number x)) ≡ Some x
+formats_named : (x named : SampleFormat) → named_format x ≡ Some named
+    → named_format (format_of (format_number x)) ≡ Some x
 unfolding format_of
 formats_named (f.Unknown n) named h = absurd (none_some named h)
 formats_named x named h = refl

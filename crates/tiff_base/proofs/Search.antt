@@ -15,34 +15,42 @@ use Rattle.tiff_base.specs.Place.{IsAscending, IsGapFor, IsPlaceOf, key_at}
 
 -- ---- numbers that ascend
 
-each_at : (P : ℕ → Type 0) (xs : List ℕ) (i : ℕ) → i < length xs → AllByRecursion P xs → P (get_or xs i 0)
+each_at : (P : ℕ → Type 0) (xs : List ℕ) (i : ℕ) → i < length xs → AllByRecursion P xs
+    → P (get_or xs i 0)
 each_at P [] i h all = absurd (omega arith)
 each_at P (x ∷ xs) zero h all = all.0
 each_at P (x ∷ xs) (suc i) h all = each_at P xs i (omega arith) all.1
 
-pub ascends : (xs : List ℕ) → IsStrictlySortedBy nat_cmp xs → (i j : ℕ) → i < j → j < length xs → get_or xs i 0 < get_or xs j 0
+pub ascends : (xs : List ℕ) → IsStrictlySortedBy nat_cmp xs → (i j : ℕ) → i < j → j < length xs
+    → get_or xs i 0 < get_or xs j 0
 unfolding IsStrictlySortedBy
 ascends [] h i j l m = absurd (omega arith)
 ascends (x ∷ xs) h i zero l m = absurd (omega arith)
-ascends (x ∷ xs) h zero (suc j) l m = ranked x (get_or xs j 0) Less (sym (each_at (λ y. nat_cmp x y ≡ Less) xs j (omega arith) h.0))
+ascends (x ∷ xs) h zero (suc j) l m =
+    ranked x (get_or xs j 0) Less (sym (each_at (λ y. nat_cmp x y ≡ Less) xs j (omega arith) h.0))
 ascends (x ∷ xs) h (suc i) (suc j) l m = ascends xs h.1 i j (omega arith) (omega arith)
 
-pub numbers_ascend : (entries : List (ℕ × Field)) → IsAscending entries → (i j : ℕ) → i < j → j < length entries → key_at entries i < key_at entries j
-numbers_ascend entries h i j l m = ascends (keys_of entries) h i j l (omega (arith, m, length-map entries (λ (e : ℕ × Field). e.0)))
+pub numbers_ascend : (entries : List (ℕ × Field)) → IsAscending entries → (i j : ℕ) → i < j
+    → j < length entries → key_at entries i < key_at entries j
+numbers_ascend entries h i j l m =
+    ascends (keys_of entries) h i j l (omega (arith, m, length-map entries (λ (e : ℕ × Field). e.0)))
 
 -- ---- halves
 
 -- what remains of a list after some halvings, each of which leaves at most half
-halved : (size left spent whole : ℕ) → left ≤ size / 2 → size * 2 ^ spent ≤ whole → left * 2 ^ (spent + 1) ≤ whole
+halved : (size left spent whole : ℕ) → left ≤ size / 2 → size * 2 ^ spent ≤ whole
+    → left * 2 ^ (spent + 1) ≤ whole
 halved size left spent whole h l =
     let two : left * 2 ≤ size = omega (arith, h) in
     let e : left * 2 ^ (spent + 1) ≡ left * 2 * 2 ^ spent =
-    ap (λ n. left * n) (ap (λ n. 2 ^ n) (omega arith) ∙ pow-succ' 2 spent) ∙ sym (mul_assoc left 2 (2 ^ spent)) in
+    ap (λ n. left * n) (ap (λ n. 2 ^ n) (omega arith) ∙ pow-succ' 2 spent)
+    ∙ sym (mul_assoc left 2 (2 ^ spent)) in
     let m : left * 2 * 2 ^ spent ≤ size * 2 ^ spent = mul-le-mul_right (2 ^ spent) two in
     omega (arith, e, m, l)
 
 -- while something remains, there were fewer halvings than the length of the list has binary digits
-fewer : (size spent whole digits : ℕ) → 0 < size → size * 2 ^ spent ≤ whole → whole < 2 ^ digits → spent + 1 ≤ digits
+fewer : (size spent whole digits : ℕ) → 0 < size → size * 2 ^ spent ≤ whole → whole < 2 ^ digits
+    → spent + 1 ≤ digits
 fewer size spent whole digits some l d =
     elim (cases_lt spent digits) [
       | inl below ↦ omega (arith, below)
@@ -63,7 +71,8 @@ pub record Halves (number : ℕ) (entries : List (ℕ × Field)) (before now low
   pub left : (high - low) * 2 ^ spent ≤ length entries
   pub few : (digits : ℕ) → length entries < 2 ^ digits → spent ≤ digits
 
-pub begin : (number : ℕ) (entries : List (ℕ × Field)) (count : ℕ) → Halves number entries count count 0 (length entries)
+pub begin : (number : ℕ) (entries : List (ℕ × Field)) (count : ℕ)
+    → Halves number entries count count 0 (length entries)
 begin number entries count = record {
   order = omega arith;
   within = omega arith;
@@ -75,7 +84,8 @@ begin number entries count = record {
   few = λ digits l. omega arith;
 }
 
-module _ (number : ℕ) (entries : List (ℕ × Field)) (sorted : IsAscending entries) (before now next low high : ℕ) (x : ℕ × Field)
+module _ (number : ℕ) (entries : List (ℕ × Field)) (sorted : IsAscending entries)
+    (before now next low high : ℕ) (x : ℕ × Field)
     (h : Halves number entries before now low high) (some : low < high) (more : next ≡ now + 1) where
   abbrev middle : ℕ
   middle = low + (high - low) / 2
@@ -84,13 +94,15 @@ module _ (number : ℕ) (entries : List (ℕ × Field)) (sorted : IsAscending en
   key = (get_or entries middle x).0
 
   found : key ≡ key_at entries middle
-  found = sym (get_or-map (λ (e : ℕ × Field). e.0) entries middle x 0 (omega (arith, h.within, some)))
+  found =
+      sym (get_or-map (λ (e : ℕ × Field). e.0) entries middle x 0 (omega (arith, h.within, some)))
 
   spent_less : (left : ℕ) → left ≤ (high - low) / 2 → left * 2 ^ (h.spent + 1) ≤ length entries
   spent_less left l = halved (high - low) left h.spent (length entries) l h.left
 
   few_more : (digits : ℕ) → length entries < 2 ^ digits → h.spent + 1 ≤ digits
-  few_more digits d = fewer (high - low) h.spent (length entries) digits (omega (arith, some)) h.left d
+  few_more digits d =
+      fewer (high - low) h.spent (length entries) digits (omega (arith, some)) h.left d
 
   pub right : Less ≡ nat_cmp key number → Halves number entries before next (middle + 1) high
   right c =
@@ -100,7 +112,8 @@ module _ (number : ℕ) (entries : List (ℕ × Field)) (sorted : IsAscending en
         within = h.within;
         smaller = λ i l. elim (cases_lt i middle) [
           | inl below ↦ omega (arith, numbers_ascend entries sorted i middle below (omega (arith, h.within, some)), found, less)
-          | inr above ↦ let e : i ≡ middle = omega (arith, l, above) in omega (arith, ap (key_at entries) e, found, less)
+          | inr above ↦ let e : i ≡ middle =
+              omega (arith, l, above) in omega (arith, ap (key_at entries) e, found, less)
         ];
         greater = h.greater;
         spent = h.spent + 1;
@@ -118,7 +131,8 @@ module _ (number : ℕ) (entries : List (ℕ × Field)) (sorted : IsAscending en
         smaller = h.smaller;
         greater = λ i l m. elim (cases_lt middle i) [
           | inl above ↦ omega (arith, numbers_ascend entries sorted middle i above m, found, more_than)
-          | inr below ↦ let e : i ≡ middle = omega (arith, l, below) in omega (arith, ap (key_at entries) e, found, more_than)
+          | inr below ↦ let e : i ≡ middle =
+              omega (arith, l, below) in omega (arith, ap (key_at entries) e, found, more_than)
         ];
         spent = h.spent + 1;
         counted = omega (arith, more, h.counted);
@@ -127,9 +141,11 @@ module _ (number : ℕ) (entries : List (ℕ × Field)) (sorted : IsAscending en
       }
 
   pub here : Equal ≡ nat_cmp key number → IsPlaceOf number entries middle
-  here c = record { within = omega (arith, some, h.within); same = sym found ∙ ranked key number Equal c }
+  here c =
+      record { within = omega (arith, some, h.within); same = sym found ∙ ranked key number Equal c }
 
-pub gap : (number : ℕ) (entries : List (ℕ × Field)) (before now low high : ℕ) → Halves number entries before now low high → high ≤ low
+pub gap : (number : ℕ) (entries : List (ℕ × Field)) (before now low high : ℕ)
+    → Halves number entries before now low high → high ≤ low
     → IsGapFor number entries low
 gap number entries before now low high h met = record {
   within = omega (arith, h.order, h.within, met);

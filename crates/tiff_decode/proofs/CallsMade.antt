@@ -25,8 +25,10 @@ pub stands_here : (d : Decoding) → StandsAt d.state d d
 stands_here d = record { stands = refl; failures = omega arith }
 
 -- a call that may run out of memory only after certain errors
-pub wanted_after : {X Y : Type 0} (early : Result (Unit {0}) TiffError) (view : X → Y) (o : Outcome Y) (r : Result X TiffError) (old new : Decoding)
-    → Follows view o r old new → AllocatesAfter early r → FollowsBut (IsOkOrList early) view o r old new
+pub wanted_after : {X Y : Type 0} (early : Result (Unit {0}) TiffError) (view : X → Y)
+    (o : Outcome Y) (r : Result X TiffError) (old new : Decoding)
+    → Follows view o r old new → AllocatesAfter early r
+    → FollowsBut (IsOkOrList early) view o r old new
 wanted_after early view o (Ok x) old new h w = h
 wanted_after early view o (Err OutOfMemory) old new h w = (w refl, h.1)
 wanted_after early view o (Err (IoError Device)) old new h w = h
@@ -42,29 +44,36 @@ wanted_after early view o (Err (UsageError x)) old new h w = h
 
 -- ---- slices of zeros
 
-pub image_bytes : (old new : Decoding) (len : ℕ) (xs : List ℕ) (r : Result (Unit {0}) TiffError) (b : Vec ℕ Global)
+pub image_bytes : (old new : Decoding) (len : ℕ) (xs : List ℕ) (r : Result (Unit {0}) TiffError)
+    (b : Vec ℕ Global)
     → xs ≡ replicate len 0 → Follows (λ _. items_of b) (outcome.read_image_bytes old xs) r old new
     → Follows (λ _. items_of b) (outcome.read_image_bytes old (replicate len 0)) r old new
 image_bytes old new len xs r b zeros h =
-    let P : List ℕ → Type 0 = λ xs. Follows (λ _. items_of b) (outcome.read_image_bytes old xs) r old new in
+    let P : List ℕ → Type 0 =
+    λ xs. Follows (λ _. items_of b) (outcome.read_image_bytes old xs) r old new in
     subst P zeros h
 
-pub chunk_bytes : (old new : Decoding) (chunk len : ℕ) (xs : List ℕ) (r : Result (Unit {0}) TiffError) (b : Vec ℕ Global)
+pub chunk_bytes : (old new : Decoding) (chunk len : ℕ) (xs : List ℕ)
+    (r : Result (Unit {0}) TiffError) (b : Vec ℕ Global)
     → xs ≡ replicate len 0 → Follows (λ _. items_of b) (outcome.read_chunk_bytes old chunk xs) r old new
     → Follows (λ _. items_of b) (outcome.read_chunk_bytes old chunk (replicate len 0)) r old new
 chunk_bytes old new chunk len xs r b zeros h =
-    let P : List ℕ → Type 0 = λ xs. Follows (λ _. items_of b) (outcome.read_chunk_bytes old chunk xs) r old new in
+    let P : List ℕ → Type 0 =
+    λ xs. Follows (λ _. items_of b) (outcome.read_chunk_bytes old chunk xs) r old new in
     subst P zeros h
 
-pub unit_bytes : (old new : Decoding) (unit len : ℕ) (xs : List ℕ) (r : Result (Unit {0}) TiffError) (b : Vec ℕ Global)
+pub unit_bytes : (old new : Decoding) (unit len : ℕ) (xs : List ℕ) (r : Result (Unit {0}) TiffError)
+    (b : Vec ℕ Global)
     → xs ≡ replicate len 0 → Follows (λ _. items_of b) (outcome.read_coding_unit_bytes old unit xs) r old new
     → Follows (λ _. items_of b) (outcome.read_coding_unit_bytes old unit (replicate len 0)) r old new
 unit_bytes old new unit len xs r b zeros h =
-    let P : List ℕ → Type 0 = λ xs. Follows (λ _. items_of b) (outcome.read_coding_unit_bytes old unit xs) r old new in
+    let P : List ℕ → Type 0 =
+    λ xs. Follows (λ _. items_of b) (outcome.read_coding_unit_bytes old unit xs) r old new in
     subst P zeros h
 
 -- a call that cannot run out of memory follows the outcome of a call that can
-may_want : {X Y : Type 0} (view : X → Y) (r : Result X TiffError) (given : Result Y TiffError) (before after : ℕ)
+may_want : {X Y : Type 0} (view : X → Y) (r : Result X TiffError) (given : Result Y TiffError)
+    (before after : ℕ)
     → AnswersWithoutMemory view r given before after → Answers view r given before after
 may_want view (Ok x) given before after h = h
 may_want view (Err (FormatError e)) given before after h = h
@@ -79,58 +88,77 @@ may_want view (Err IntSizeError) given before after h = h
 may_want view (Err (UsageError e)) given before after h = h
 may_want view (Err OutOfMemory) given before after h = tt
 
-pub tag_bytes : (old new : Decoding) (tag : Tag) (len at : ℕ) (xs : List ℕ) (r : Result (Option ℕ) TiffError) (b : Vec ℕ Global)
+pub tag_bytes : (old new : Decoding) (tag : Tag) (len at : ℕ) (xs : List ℕ)
+    (r : Result (Option ℕ) TiffError) (b : Vec ℕ Global)
     → xs ≡ replicate len 0
     → AnswersWithoutMemory (λ n. (n, items_of b)) r (outcome.find_tag_bytes old tag xs at).answer old.failures new.failures
-    → new ≡ record old { failures = new.failures } → old.failures ≤ new.failures → NoneSwallowed r old.failures new.failures
+    → new ≡ record old { failures = new.failures } → old.failures ≤ new.failures
+    → NoneSwallowed r old.failures new.failures
     → TagsRead (Unit {0}) (λ n. (n, items_of b)) (outcome.find_tag_bytes old tag (replicate len 0) at) r old new
 tag_bytes old new tag len at xs r b zeros h state l swallowed =
-    let P : List ℕ → Type 0 = λ xs. Answers (λ n. (n, items_of b)) r (outcome.find_tag_bytes old tag xs at).answer old.failures new.failures in
+    let P : List ℕ → Type 0 =
+    λ xs. Answers (λ n. (n, items_of b)) r (outcome.find_tag_bytes old tag xs at).answer old.failures new.failures in
     record { answer = subst P zeros (may_want _ r _ old.failures new.failures h); state = state; failures = l; swallowed = swallowed }
 
-pub nothing_read : {Y : Type 0} (view : Option ℕ → Y) (given : Outcome Y) (d : Decoding) → TagsRead (Unit {0}) view given (Err OutOfMemory) d d
-nothing_read view given d = record { answer = tt; state = refl; failures = omega arith; swallowed = refl }
+pub nothing_read : {Y : Type 0} (view : Option ℕ → Y) (given : Outcome Y) (d : Decoding)
+    → TagsRead (Unit {0}) view given (Err OutOfMemory) d d
+nothing_read view given d =
+    record { answer = tt; state = refl; failures = omega arith; swallowed = refl }
 
 -- ---- lists of calls
 
-steps_more : (old between new : Decoding) (calls : List Call) (replies : List Reply) (call : Call) (reply : Reply)
-    → Steps old calls replies between → Step between call reply new → Steps old (calls ++ call ∷ []) (replies ++ reply ∷ []) new
-steps_more old between new [] [] call reply s t = (new, (let P : Decoding → Type 0 = λ d. Step d call reply new in subst P s t), refl)
+steps_more : (old between new : Decoding) (calls : List Call) (replies : List Reply) (call : Call)
+    (reply : Reply)
+    → Steps old calls replies between → Step between call reply new
+    → Steps old (calls ++ call ∷ []) (replies ++ reply ∷ []) new
+steps_more old between new [] [] call reply s t =
+    (new, (let P : Decoding → Type 0 = λ d. Step d call reply new in subst P s t), refl)
 steps_more old between new [] (r ∷ replies) call reply s t = absurd s
 steps_more old between new (c ∷ calls) [] call reply s t = absurd s
 steps_more old between new (c ∷ calls) (r ∷ replies) call reply s t =
     (s.0, s.1, steps_more s.0 between new calls replies call reply s.2 t)
 
-steps_fail : (old new : Decoding) (calls : List Call) (replies : List Reply) → Steps old calls replies new → old.failures + all_failures replies ≤ new.failures
+steps_fail : (old new : Decoding) (calls : List Call) (replies : List Reply)
+    → Steps old calls replies new → old.failures + all_failures replies ≤ new.failures
 steps_fail old new [] [] s =
     let same : new.failures ≡ old.failures = ap (λ (d : Decoding). d.failures) s in
     omega (arith, same)
 steps_fail old new [] (r ∷ replies) s = absurd s
 steps_fail old new (c ∷ calls) [] s = absurd s
-steps_fail old new (c ∷ calls) (r ∷ replies) s = omega (arith, (along old c r s.0 s.1).failed, steps_fail s.0 new calls replies s.2)
+steps_fail old new (c ∷ calls) (r ∷ replies) s =
+    omega (arith, (along old c r s.0 s.1).failed, steps_fail s.0 new calls replies s.2)
 
 -- no call
 pub none_made : (d : Decoding) (earlier : List Reply) → Ran d [] earlier earlier d
-none_made d earlier = record { replies = []; added = sym (append-nil earlier); steps = refl; failed = omega arith }
+none_made d earlier =
+    record { replies = []; added = sym (append-nil earlier); steps = refl; failed = omega arith }
 
 -- one more
-one_more : (old between new : Decoding) (calls : List Call) (earlier all : List Reply) (call : Call) (reply : Reply)
-    → Ran old calls earlier all between → Step between call reply new → Ran old (calls ++ call ∷ []) earlier (all ++ reply ∷ []) new
+one_more : (old between new : Decoding) (calls : List Call) (earlier all : List Reply) (call : Call)
+    (reply : Reply)
+    → Ran old calls earlier all between → Step between call reply new
+    → Ran old (calls ++ call ∷ []) earlier (all ++ reply ∷ []) new
 one_more old between new calls earlier all call reply m t =
-    let steps : Steps old (calls ++ call ∷ []) (m.replies ++ reply ∷ []) new = steps_more old between new calls m.replies call reply m.steps t in
+    let steps : Steps old (calls ++ call ∷ []) (m.replies ++ reply ∷ []) new =
+    steps_more old between new calls m.replies call reply m.steps t in
     record {
       replies = m.replies ++ reply ∷ [];
-      added = ap (λ (xs : List Reply). xs ++ reply ∷ []) m.added ∙ append_assoc earlier m.replies (reply ∷ []);
+      added =
+          ap (λ (xs : List Reply). xs ++ reply ∷ []) m.added
+          ∙ append_assoc earlier m.replies (reply ∷ []);
       steps = steps;
       failed = steps_fail old new (calls ++ call ∷ []) (m.replies ++ reply ∷ []) steps;
     }
 
 -- a turn of the loop
-pub turn : (old between new : Decoding) (calls : List Call) (earlier all after : List Reply) (i : ℕ) (d : Call) (reply : Reply)
-    → i < length calls → Ran old (take i calls) earlier all between → Step between (get_or calls i d) reply new → after ≡ all ++ reply ∷ []
+pub turn : (old between new : Decoding) (calls : List Call) (earlier all after : List Reply) (i : ℕ)
+    (d : Call) (reply : Reply)
+    → i < length calls → Ran old (take i calls) earlier all between
+    → Step between (get_or calls i d) reply new → after ≡ all ++ reply ∷ []
     → Ran old (take (i + 1) calls) earlier after new
 turn old between new calls earlier all after i d reply l m t e =
-    let made : Ran old (take i calls ++ get_or calls i d ∷ []) earlier (all ++ reply ∷ []) new = one_more old between new (take i calls) earlier all (get_or calls i d) reply m t in
+    let made : Ran old (take i calls ++ get_or calls i d ∷ []) earlier (all ++ reply ∷ []) new =
+    one_more old between new (take i calls) earlier all (get_or calls i d) reply m t in
     let P : List Reply → Type 0 = λ xs. Ran old (take (i + 1) calls) earlier xs new in
     let Q : List Call → Type 0 = λ cs. Ran old cs earlier (all ++ reply ∷ []) new in
     subst P (sym e) (subst Q (sym (take_more calls i d l)) made)
@@ -138,4 +166,5 @@ turn old between new calls earlier all after i d reply l m t e =
 -- the last turn
 pub all_made : (old new : Decoding) (calls : List Call) (earlier all : List Reply) (i : ℕ)
     → length calls ≤ i → Ran old (take i calls) earlier all new → Ran old calls earlier all new
-all_made old new calls earlier all i l m = (let Q : List Call → Type 0 = λ cs. Ran old cs earlier all new in subst Q (take_all i calls l) m)
+all_made old new calls earlier all i l m =
+    (let Q : List Call → Type 0 = λ cs. Ran old cs earlier all new in subst Q (take_all i calls l) m)

@@ -13,17 +13,20 @@ zero_in (suc n) zero = refl
 zero_in (suc n) (suc i) = zero_in n i
 
 -- a list of bytes followed by zeros has the same bytes as the list, which is zero past its end
-pub behind : (bytes zeros : List ℕ) (k : ℕ) → ((i : ℕ) → get_or zeros i 0 ≡ 0) → get_or (bytes ++ zeros) k 0 ≡ get_or bytes k 0
+pub behind : (bytes zeros : List ℕ) (k : ℕ) → ((i : ℕ) → get_or zeros i 0 ≡ 0)
+    → get_or (bytes ++ zeros) k 0 ≡ get_or bytes k 0
 behind [] zeros k none = none k
 behind (b ∷ bytes) zeros zero none = refl
 behind (b ∷ bytes) zeros (suc k) none = behind bytes zeros k none
 
 -- the number at index n of a list of bytes
 abbrev pub number_in : ℕ → List ℕ → ℕ → ℕ
-number_in size bytes n = number LittleEndian (width_of size) (tabulate size (λ j. slice_index bytes (n * size + j)))
+number_in size bytes n =
+    number LittleEndian (width_of size) (tabulate size (λ j. slice_index bytes (n * size + j)))
 
 -- a whole piece of bytes
-pub whole : (size : ℕ) (bytes : List ℕ) (n : ℕ) → n * size + size ≤ length bytes → take size (drop (n * size) bytes) ≡ tabulate size (λ j. slice_index bytes (n * size + j))
+pub whole : (size : ℕ) (bytes : List ℕ) (n : ℕ) → n * size + size ≤ length bytes
+    → take size (drop (n * size) bytes) ≡ tabulate size (λ j. slice_index bytes (n * size + j))
 whole size bytes n h =
     fill_by_all (λ j. slice_index bytes (n * size + j)) (take size (drop (n * size) bytes)) size 0
     (length-take-le size (drop (n * size) bytes) (omega (arith, length-drop (n * size) bytes)))

@@ -19,12 +19,14 @@ use Rattle.tiff_decode.specs.Reader.{FirstUnfit}
 use Rattle.tiff_ifd.specs.TagLookup.{TagLookup, if_found, find, ok_or_fault, require}
 
 -- a value that is there is the required value
-there : {A : Type 0} (fault : TiffError) (x : Result A TiffError) → ((x >>= λ y. Ok (Some y)) >>= λ found. ok_or_fault found fault) ≡ x
+there : {A : Type 0} (fault : TiffError) (x : Result A TiffError)
+    → ((x >>= λ y. Ok (Some y)) >>= λ found. ok_or_fault found fault) ≡ x
 there fault (Ok y) = refl
 there fault (Err e) = refl
 
 -- a conversion of a required value is what the value converts to
-by_value : {A : Type 0} (into : PlainValue → Result A TiffError) (fault : TiffError) (r : Result (Option PlainValue) TiffError)
+by_value : {A : Type 0} (into : PlainValue → Result A TiffError) (fault : TiffError)
+    (r : Result (Option PlainValue) TiffError)
     → ((r >>= if_found into) >>= λ found. ok_or_fault found fault)
     ≡ (((r >>= if_found (λ d. Ok d)) >>= λ found. ok_or_fault found fault) >>= into)
 by_value into fault (Err e) = refl
@@ -37,7 +39,8 @@ unfolding require find
 required_by into look tag = by_value into (FormatError (RequiredTagNotFound tag)) (look.value tag)
 
 -- a required value that is not found is not converted
-pub unconverted : {A : Type 0} (wanting failed : Type 0) (into : PlainValue → Result A TiffError) (look : TagLookup) (tag : Tag) (e : TiffError)
+pub unconverted : {A : Type 0} (wanting failed : Type 0) (into : PlainValue → Result A TiffError)
+    (look : TagLookup) (tag : Tag) (e : TiffError)
     → IsCause wanting failed e (require (λ d. Ok d) look tag ≡ Err e)
     → IsCause wanting failed e (require into look tag ≡ Err e)
 unconverted wanting failed into look tag e c =
@@ -46,29 +49,37 @@ unconverted wanting failed into look tag e c =
 -- ---- where memory is allocated
 
 -- a required value that the call reads is found
-pub value_found : (look : TagLookup) (tag : Tag) (d : PlainValue) → require (λ d. Ok d) look tag ≡ Ok d → IsFoundWithin (look.value tag)
+pub value_found : (look : TagLookup) (tag : Tag) (d : PlainValue)
+    → require (λ d. Ok d) look tag ≡ Ok d → IsFoundWithin (look.value tag)
 value_found look tag d h = required_found (λ d. Ok d) look tag d h
 
-found_before : {A B : Type 0} (r : Result (Option A) TiffError) (read : A → Result B TiffError) (y : B) → (r >>= if_found read) ≡ Ok (Some y) → (x : A) × (r ≡ Ok (Some x))
+found_before : {A B : Type 0} (r : Result (Option A) TiffError) (read : A → Result B TiffError)
+    (y : B) → (r >>= if_found read) ≡ Ok (Some y) → (x : A) × (r ≡ Ok (Some x))
 found_before (Ok (Some x)) read y h = (x, refl)
 found_before (Ok None) read y h = absurd (cc)
 found_before (Err e) read y h = absurd (cc)
 
 -- numbers that the call finds belong to a tag that is found
-pub numbers_found : (limit : ℕ) (look : TagLookup) (tag : Tag) (ns : List ℕ) → find_unsigned_vec limit look tag ≡ Ok (Some ns) → IsFoundWithin (look.value tag)
+pub numbers_found : (limit : ℕ) (look : TagLookup) (tag : Tag) (ns : List ℕ)
+    → find_unsigned_vec limit look tag ≡ Ok (Some ns) → IsFoundWithin (look.value tag)
 unfolding find_unsigned_vec
 numbers_found limit look tag ns h =
     let numbers = found_before (find into_u64_vec look tag) (fitted_numbers tag limit) ns h in
     number_found into_u64_vec look tag numbers.0 numbers.1
 
 -- the numbers of a tag that a decoder finds belong to a tag that it finds
-wanted_by : (d : Decoding) (tag : Tag) (ns : List ℕ) → (find_tag_unsigned_vec d tag).answer ≡ Ok (Some ns) → WantsTag d tag
+wanted_by : (d : Decoding) (tag : Tag) (ns : List ℕ)
+    → (find_tag_unsigned_vec d tag).answer ≡ Ok (Some ns) → WantsTag d tag
 unfolding find_tag_unsigned_vec
 wanted_by d tag ns h = numbers_found (2 ^ 64) (page_tags d) tag ns h
 
 -- the first of the numbers that does not fit
-pub unfit_found : {X E : Type 0} (gives : ℕ → Result X E → Type 0) (d : Decoding) (failed : Type 0) (tag : Tag) (ns : List ℕ) (e : TiffError)
-    → (find_tag_unsigned_vec d tag).answer ≡ Ok (Some ns) → IsCause (Unit {0}) ⊥ e (FirstUnfit {X = X} gives tag ns e)
+pub unfit_found : {X E : Type 0} (gives : ℕ → Result X E → Type 0) (d : Decoding) (failed : Type 0)
+    (tag : Tag) (ns : List ℕ) (e : TiffError)
+    → (find_tag_unsigned_vec d tag).answer ≡ Ok (Some ns)
+    → IsCause (Unit {0}) ⊥ e (FirstUnfit {X = X} gives tag ns e)
     → IsCause (WantsTag d tag) failed e
-    (((find_tag_unsigned_vec d tag).answer ≡ Err e) ⊎ ((ns : List ℕ) × ((find_tag_unsigned_vec d tag).answer ≡ Ok (Some ns)) × FirstUnfit {X = X} gives tag ns e))
-unfit_found gives d failed tag ns e h c = cause_along e (λ w. wanted_by d tag ns h) (λ f. absurd f) (λ u. inr (ns, h, u)) c
+    (((find_tag_unsigned_vec d tag).answer ≡ Err e)
+    ⊎ ((ns : List ℕ) × ((find_tag_unsigned_vec d tag).answer ≡ Ok (Some ns)) × FirstUnfit {X = X} gives tag ns e))
+unfit_found gives d failed tag ns e h c =
+    cause_along e (λ w. wanted_by d tag ns h) (λ f. absurd f) (λ u. inr (ns, h, u)) c

@@ -14,7 +14,9 @@ abbrev copied_into : List ℕ → Result (List ℕ) TiffError → Result (Option
 copied_into buf r = r >>= λ found. Ok (Some (length found), found ++ drop (length found) buf)
 
 module _ (d : Decoding) (tag : Tag) (buf : List ℕ) (at : ℕ) where
-  of_field : (f : Field) → find_entry d tag ≡ Some f → (find_tag_bytes d tag buf at).answer ≡ copied_into buf (part_of_field d.kind d.order d.bytes f (length buf) at)
+  of_field : (f : Field) → find_entry d tag ≡ Some f
+      → (find_tag_bytes d tag buf at).answer
+      ≡ copied_into buf (part_of_field d.kind d.order d.bytes f (length buf) at)
   unfolding find_tag_bytes
   of_field f h = ap (bytes_in_slice d buf at) h
 
@@ -22,4 +24,5 @@ module _ (d : Decoding) (tag : Tag) (buf : List ℕ) (at : ℕ) where
   pub part_refused : (failed : Type 0) (f : Field) (e : TiffError) → find_entry d tag ≡ Some f
       → IsCause ⊥ failed e (part_of_field d.kind d.order d.bytes f (length buf) at ≡ Err e)
       → IsCause ⊥ failed e ((find_tag_bytes d tag buf at).answer ≡ Err e)
-  part_refused failed f e h c = cause_along e (λ w. w) (λ f. f) (λ r. of_field f h ∙ ap (copied_into buf) r) c
+  part_refused failed f e h c =
+      cause_along e (λ w. w) (λ f. f) (λ r. of_field f h ∙ ap (copied_into buf) r) c

@@ -24,7 +24,8 @@ unfolding tag_iter tag_items
 begun d = record { state = refl; count = omega arith; given = []; is = refl; items = refl }
 
 -- an item from an equal count of failed reads
-earlier : (g : Result (Tag × PlainValue) TiffError) (x : Result (Tag × Value) TiffError) (a b c : ℕ) → b ≡ a → ItemIs g x b c → ItemIs g x a c
+earlier : (g : Result (Tag × PlainValue) TiffError) (x : Result (Tag × Value) TiffError) (a b c : ℕ)
+    → b ≡ a → ItemIs g x b c → ItemIs g x a c
 earlier g x a b c e h = (let P : ℕ → Type 0 = λ n. ItemIs g x n c in subst P e h)
 
 -- one more item after the others
@@ -36,27 +37,38 @@ behind (f ∷ gs) [] g x a b c h i = absurd h
 behind (f ∷ gs) (y ∷ xs) g x a b c h i = (h.0, h.1, behind gs xs g x h.0 b c h.2 i)
 
 -- the items of the decoder are the same as before
-same_left : (old now : Decoding) → now ≡ record old { failures = now.failures } → (last : Option ℕ) → items_left now last ≡ items_left old last
+same_left : (old now : Decoding) → now ≡ record old { failures = now.failures } → (last : Option ℕ)
+    → items_left now last ≡ items_left old last
 same_left old now s last = ap (λ (d : Decoding). items_left d last) s
 
 -- the decoder returns one more item
-pub one_more : (old now new : Decoding) (last after : Option ℕ) (made more : List (Result (Tag × Value) TiffError)) (item : Result (Tag × Value) TiffError)
-    → Taken old now last made → new ≡ record now { failures = new.failures } → now.failures ≤ new.failures
-    → NextItem (items_left now last) (Some item) (items_left now after) now.failures new.failures → more ≡ made ++ item ∷ [] → Taken old new after more
+pub one_more : (old now new : Decoding) (last after : Option ℕ)
+    (made more : List (Result (Tag × Value) TiffError)) (item : Result (Tag × Value) TiffError)
+    → Taken old now last made → new ≡ record now { failures = new.failures }
+    → now.failures ≤ new.failures
+    → NextItem (items_left now last) (Some item) (items_left now after) now.failures new.failures
+    → more ≡ made ++ item ∷ [] → Taken old new after more
 one_more old now new last after made more item t s l n m = record {
   state = s ∙ ap (λ (d : Decoding). record d { failures = new.failures }) t.state;
   count = omega (arith, t.count, l);
   given = t.given ++ n.0 ∷ [];
   is = t.is
-      ∙ ap (λ (gs : List (Result (Tag × PlainValue) TiffError)). t.given ++ gs) (sym (same_left old now t.state last) ∙ n.1 ∙ ap (λ (gs : List (Result (Tag × PlainValue) TiffError)). n.0 ∷ gs) (same_left old now t.state after))
+      ∙ ap (λ (gs : List (Result (Tag × PlainValue) TiffError)). t.given
+      ++ gs) (sym (same_left old now t.state last) ∙ n.1
+      ∙ ap (λ (gs : List (Result (Tag × PlainValue) TiffError)). n.0 ∷ gs) (same_left old now t.state after))
       ∙ sym (append_assoc t.given (n.0 ∷ []) (items_left old after));
-  items = subst (λ (xs : List (Result (Tag × Value) TiffError)). ItemsAre (t.given ++ n.0 ∷ []) xs old.failures new.failures) (sym m)
+  items =
+      subst (λ (xs : List (Result (Tag × Value) TiffError)). ItemsAre (t.given ++ n.0
+      ∷ []) xs old.failures new.failures) (sym m)
       (behind t.given made n.0 item old.failures now.failures new.failures t.items n.2);
 }
 
 -- at the end the decoder has returned all items
 pub ended : (old now : Decoding) (last : Option ℕ) (made : List (Result (Tag × Value) TiffError))
-    → Taken old now last made → items_left now last ≡ [] → ItemsAre (tag_iter old) made old.failures now.failures
+    → Taken old now last made → items_left now last ≡ []
+    → ItemsAre (tag_iter old) made old.failures now.failures
 ended old now last made t e =
-    let all : tag_iter old ≡ t.given = t.is ∙ ap (λ (gs : List (Result (Tag × PlainValue) TiffError)). t.given ++ gs) (sym (same_left old now t.state last) ∙ e) ∙ append-nil t.given in
+    let all : tag_iter old ≡ t.given =
+    t.is ∙ ap (λ (gs : List (Result (Tag × PlainValue) TiffError)). t.given
+    ++ gs) (sym (same_left old now t.state last) ∙ e) ∙ append-nil t.given in
     subst (λ (gs : List (Result (Tag × PlainValue) TiffError)). ItemsAre gs made old.failures now.failures) (sym all) t.items

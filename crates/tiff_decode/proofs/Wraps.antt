@@ -19,16 +19,20 @@ use Rattle.tiff_page.specs.declared.layout.DecodingSampleType.TheVariants as typ
 
 -- what the variant k owns, where its one field is s of the row S
 abbrev pub one_field : (S : RattleType) → ℕ → S.Denot → List Val → List Val → Fml
-one_field S k s vs us = fsep (feq (List Val) vs (live k (of_list us) ∷ [])) (fex (Valss (S ∷ [])) (in_a_row (S ∷ []) (owns (S ∷ []) (s, tt)) us))
+one_field S k s vs us =
+    fsep (feq (List Val) vs (live k (of_list us)
+    ∷ [])) (fex (Valss (S ∷ [])) (in_a_row (S ∷ []) (owns (S ∷ []) (s, tt)) us))
 
 module _ {M : Type 1} {𝓤 : Ura M} (𝓛 : Logic 𝓤) (E S : RattleType) (k : ℕ) (d : E.Denot) (s : S.Denot)
     (is : (vs : List Val) → E.own_val d vs ≡ fex (List Val) (one_field S k s vs)) where
   -- a value becomes the one field of an enum's variant
-  pub wraps : (w : Val) → ent 𝓤 (sem 𝓛 (S.own_val s (w ∷ []))) (sem 𝓛 (E.own_val d (live k (vcons w vnil) ∷ [])))
+  pub wraps : (w : Val) → ent 𝓤 (sem 𝓛 (S.own_val s (w
+      ∷ []))) (sem 𝓛 (E.own_val d (live k (vcons w vnil) ∷ [])))
   wraps w =
       let u = live k (vcons w vnil) ∷ [] in
       qed 𝓛 (‵ (S.own_val s (w ∷ [])) ∷ []) ∵
-      nothing ! $ move ! (1 ∷ 0 ∷ []) $ fjoin ! $ feq_i ! (List Val) (w ∷ []) (w ∷ []) refl $ fjoin ! $
+      nothing ! $ move ! (1 ∷ 0 ∷ []) $ fjoin ! $ feq_i ! (List Val) (w ∷ []) (w
+      ∷ []) refl $ fjoin ! $
       fpack ! (Valss (S ∷ [])) (in_a_row (S ∷ []) (owns (S ∷ []) (s, tt)) (w ∷ [])) (w ∷ [], tt) $
       feq_i ! (List Val) u u refl $ fjoin ! $ fpack ! (List Val) (one_field S k s u) (w ∷ []) $
       rewrite ! 0 (λ (G : Fml). ‵ G) (sym (is u)) refl $ done !
@@ -41,7 +45,10 @@ module _ {M : Type 1} {𝓤 : Ura M} (𝓛 : Logic 𝓤) where
   then_runs C Λ E b q = any_q (after_seq 𝓤 H (Wp 𝓤 H C Λ E b (post 𝓤 H q)) (post 𝓤 H q))
 
 -- a number type is one of eleven
-pub by_kind : {A : Type 1} (k : DecodingSampleType) → (k ≡ type.U8 → A) → (k ≡ type.U16 → A) → (k ≡ type.U32 → A) → (k ≡ type.U64 → A) → (k ≡ type.F16 → A) → (k ≡ type.F32 → A) → (k ≡ type.F64 → A) → (k ≡ type.I8 → A) → (k ≡ type.I16 → A) → (k ≡ type.I32 → A) → (k ≡ type.I64 → A) → A
+pub by_kind : {A : Type 1} (k : DecodingSampleType) → (k ≡ type.U8 → A) → (k ≡ type.U16 → A)
+    → (k ≡ type.U32 → A) → (k ≡ type.U64 → A) → (k ≡ type.F16 → A) → (k ≡ type.F32 → A)
+    → (k ≡ type.F64 → A) → (k ≡ type.I8 → A) → (k ≡ type.I16 → A) → (k ≡ type.I32 → A)
+    → (k ≡ type.I64 → A) → A
 by_kind type.U8 a0 a1 a2 a3 a4 a5 a6 a7 a8 a9 a10 = a0 refl
 by_kind type.U16 a0 a1 a2 a3 a4 a5 a6 a7 a8 a9 a10 = a1 refl
 by_kind type.U32 a0 a1 a2 a3 a4 a5 a6 a7 a8 a9 a10 = a2 refl

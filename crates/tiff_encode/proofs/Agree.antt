@@ -16,14 +16,16 @@ target (Some offset) = offset
 
 target_link : (t : ℕ) → target (link t) ≡ t
 target_link zero = refl
-target_link (suc t) = ap (λ b. target (cond b None (Some (suc t)))) (ne_eqb (suc t) 0 (λ e. omega arith))
+target_link (suc t) =
+    ap (λ b. target (cond b None (Some (suc t)))) (ne_eqb (suc t) 0 (λ e. omega arith))
 
 -- the directory that a model records at an offset
 abbrev told_of : FileKind → Model → FinishedDirectory → DirectoryRecord
 told_of kind m d = record { entries = d.fields; next = link (m.links (own_link kind d)) }
 
 -- two models that describe the same file record the same directory
-same : (kind : FileKind) (m n : Model) (file : List ℕ) → FileContains kind file m → FileContains kind file n
+same : (kind : FileKind) (m n : Model) (file : List ℕ) → FileContains kind file m
+    → FileContains kind file n
     → (d e : FinishedDirectory) → In d m.directories → In e n.directories → d.offset ≡ e.offset
     → told_of kind m d ≡ told_of kind n e
 same kind m n file s t d e in_m in_n p =
@@ -36,6 +38,7 @@ models_agree kind m n file s t = (
   λ d e in_m in_n p.
       let q = same kind m n file s t d e in_m in_n p in (
         ap (λ r. r.entries) q,
-        sym (target_link (m.links (own_link kind d))) ∙ ap (λ r. target r.next) q ∙ target_link (n.links (own_link kind e)),
+        sym (target_link (m.links (own_link kind d))) ∙ ap (λ r. target r.next) q
+            ∙ target_link (n.links (own_link kind e)),
       ),
 )

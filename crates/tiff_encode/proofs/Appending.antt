@@ -56,43 +56,57 @@ image_calls_append = record {
 -- ---- ends
 
 -- the end of a directory changes no link except its parent's, whether its checks refuse it or not
-finish_links : (cause : Option TiffError) (parent : Option ℕ) (chained : Bool) (fields : FinMap nat_cmp Field) (offsets : Offsets) (file : FileState)
+finish_links : (cause : Option TiffError) (parent : Option ℕ) (chained : Bool)
+    (fields : FinMap nat_cmp Field) (offsets : Offsets) (file : FileState)
     → offsets.pointer ≡ length file.bytes
-    → LinksParent parent (by_cause cause (does (Listed fields ∷ links_to parent (length file.bytes)) >>= (λ _. chains chained offsets)) file) file
+    → LinksParent parent (by_cause cause (does (Listed fields ∷ links_to parent (length file.bytes))
+    >>= (λ _. chains chained offsets)) file) file
 finish_links (Some e) parent chained fields offsets file p = sym (append-nil file.bytes)
-finish_links None None true fields offsets file p = ap (λ xs. file.bytes ++ xs) (sym (append-nil (directory_bytes file.kind fields)))
-finish_links None None false fields offsets file p = ap (λ xs. file.bytes ++ xs) (sym (append-nil (directory_bytes file.kind fields)))
+finish_links None None true fields offsets file p =
+    ap (λ xs. file.bytes ++ xs) (sym (append-nil (directory_bytes file.kind fields)))
+finish_links None None false fields offsets file p =
+    ap (λ xs. file.bytes ++ xs) (sym (append-nil (directory_bytes file.kind fields)))
 finish_links None (Some parent) true fields offsets file p =
-    λ i. put (file.bytes ++ sym (append-nil (directory_bytes file.kind fields)) i) parent (le (offset_len file.kind) (sym p i))
+    λ i. put (file.bytes ++ sym (append-nil (directory_bytes file.kind fields)) i) parent
+    (le (offset_len file.kind) (sym p i))
 finish_links None (Some parent) false fields offsets file p =
-    λ i. put (file.bytes ++ sym (append-nil (directory_bytes file.kind fields)) i) parent (le (offset_len file.kind) (sym p i))
+    λ i. put (file.bytes ++ sym (append-nil (directory_bytes file.kind fields)) i) parent
+    (le (offset_len file.kind) (sym p i))
 
 directory_links : (d : OpenDirectory) (file : FileState) → LinksParent d.parent (finish d file) file
 unfolding finish
 directory_links d file =
-    finish_links (finish_cause file d) d.parent d.chained d.fields (offsets_of file.kind (length file.bytes) (len d.fields)) file refl
+    finish_links (finish_cause file d) d.parent d.chained d.fields
+    (offsets_of file.kind (length file.bytes) (len d.fields)) file refl
 
 -- a call that only appends, followed by the end of a directory, changes no other link
 module _ {A : Type 0} (parent : Option ℕ) (rest : A → WriteCall Offsets) where
-  joined_links : (r : Result A TiffError) (ops : List WriteOp) (next file : FileState) → next ≡ file_with_bytes file (all_appended file.kind ops)
-      → ((x : A) → r ≡ Ok x → LinksParent parent (rest x next) next) → LinksParent parent (and_then r ops next rest) file
+  joined_links : (r : Result A TiffError) (ops : List WriteOp) (next file : FileState)
+      → next ≡ file_with_bytes file (all_appended file.kind ops)
+      → ((x : A) → r ≡ Ok x → LinksParent parent (rest x next) next)
+      → LinksParent parent (and_then r ops next rest) file
   joined_links (Err e) ops next file n l = ap (λ f. f.bytes) n
   joined_links (Ok x) ops next file n l =
       let second : WriteOutcome Offsets = rest x next in
-      let grown : LinksParent parent second (file_with_bytes file (all_appended file.kind ops)) = subst (λ f. LinksParent parent second f) n (l x refl) in
+      let grown : LinksParent parent second (file_with_bytes file (all_appended file.kind ops)) =
+      subst (λ f. LinksParent parent second f) n (l x refl) in
       grown ∙ ap (linked_by second.answer file.kind parent) (appended_both file.kind file.bytes ops second.ops)
 
-bind_links : {A : Type 0} (parent : Option ℕ) (call : WriteCall A) (rest : A → WriteCall Offsets) (file : FileState) → IsAdding (call file) file
+bind_links : {A : Type 0} (parent : Option ℕ) (call : WriteCall A) (rest : A → WriteCall Offsets)
+    (file : FileState) → IsAdding (call file) file
     → ((x : A) → (call file).answer ≡ Ok x → LinksParent parent (rest x (call file).next) (call file).next)
     → LinksParent parent ((call >>= rest) file) file
-bind_links parent call rest file a l = joined_links parent rest (call file).answer (call file).ops (call file).next file a.next l
+bind_links parent call rest file a l =
+    joined_links parent rest (call file).answer (call file).ops (call file).next file a.next l
 
-caused_links : (parent : Option ℕ) (cause : Option TiffError) (call : WriteCall Offsets) (file : FileState) → LinksParent parent (call file) file
+caused_links : (parent : Option ℕ) (cause : Option TiffError) (call : WriteCall Offsets)
+    (file : FileState) → LinksParent parent (call file) file
     → LinksParent parent (by_cause cause call file) file
 caused_links parent None call file l = l
 caused_links parent (Some e) call file l = sym (append-nil file.bytes)
 
-image_links : (i : OpenImage) (file : FileState) → LinksParent i.directory.parent (finish_image i file) file
+image_links : (i : OpenImage) (file : FileState)
+    → LinksParent i.directory.parent (finish_image i file) file
 unfolding finish_image
 image_links i file =
     let call : WriteCall OpenDirectory = write_tags i.directory (last_tags file.kind i) in
@@ -106,22 +120,27 @@ unfolding write_image_data
 data_links i samples stored file =
     let call : WriteCall OpenImage = write_chunks i (parts_left i samples) stored in
     let mid : FileState = (call file).next in
-    caused_links i.directory.parent (write_image_data_cause file i (length samples)) (call >>= finish_image) file
+    caused_links i.directory.parent (write_image_data_cause file i (length samples)) (call
+    >>= finish_image) file
     (bind_links i.directory.parent call finish_image file (chunks_adding i (parts_left i samples) stored file)
     (λ last h. subst (λ p. LinksParent p (finish_image last mid) mid)
     (ap (λ d. d.parent) (directory_kept i (parts_left i samples) stored last file h)) (image_links last mid)))
 
-whole_links : (color : ColorTypeRecord) (size width height : ℕ) (samples : List ℕ) (stored : List (List ℕ)) (file : FileState)
+whole_links : (color : ColorTypeRecord) (size width height : ℕ) (samples : List ℕ)
+    (stored : List (List ℕ)) (file : FileState)
     → LinksParent (Some file.chain) (write_image color size width height samples stored file) file
 unfolding write_image
 whole_links color size width height samples stored file =
     let call : WriteCall OpenImage = new_image color size width height in
     let mid : FileState = (call file).next in
-    bind_links (Some file.chain) call (λ i. write_image_data i samples stored) file (new_adding color size width height file)
+    bind_links (Some file.chain) call (λ i. write_image_data i samples stored) file
+    (new_adding color size width height file)
     (λ i h.
     let n = new_is color size width height file i h in
-    let parent : i.directory.parent ≡ Some file.chain = ap (λ j. j.directory.parent) (sym n.1.0) ∙ n.1.1.parent in
+    let parent : i.directory.parent ≡ Some file.chain =
+    ap (λ j. j.directory.parent) (sym n.1.0) ∙ n.1.1.parent in
     subst (λ p. LinksParent p (write_image_data i samples stored mid) mid) parent (data_links i samples stored mid))
 
 pub ends_link_parent : EndsLinkParent
-ends_link_parent = record { directory = directory_links; image = image_links; samples = data_links; whole = whole_links }
+ends_link_parent =
+    record { directory = directory_links; image = image_links; samples = data_links; whole = whole_links }

@@ -30,15 +30,18 @@ use Rattle.std.specs.FinMap.{len}
 -- ---- calls
 
 -- the changes of two calls in sequence
-going_on_fits : {A B : Type 0} (r : Result A TiffError) (ops : List WriteOp) (next : FileState) (rest : A → WriteCall B)
+going_on_fits : {A B : Type 0} (r : Result A TiffError) (ops : List WriteOp) (next : FileState)
+    (rest : A → WriteCall B)
     (kind : FileKind) (bytes : List ℕ) (m : Model) → OpsFit kind bytes m ops
     → ((x : A) → r ≡ Ok x → OpsFit kind (bytes_after kind bytes ops) (model_after kind bytes m ops) (rest x next).ops)
     → OpsFit kind bytes m (and_then r ops next rest).ops
-going_on_fits (Ok x) ops next rest kind bytes m f g = fits_joined kind bytes m ops (rest x next).ops f (g x refl)
+going_on_fits (Ok x) ops next rest kind bytes m f g =
+    fits_joined kind bytes m ops (rest x next).ops f (g x refl)
 going_on_fits (Err e) ops next rest kind bytes m f g = f
 
 -- the changes of two calls in sequence fit if the changes of each call fit
-pub followed_fits : {A B : Type 0} (call : WriteCall A) (rest : A → WriteCall B) (file : FileState) (m : Model)
+pub followed_fits : {A B : Type 0} (call : WriteCall A) (rest : A → WriteCall B) (file : FileState)
+    (m : Model)
     → OpsFit file.kind file.bytes m (call file).ops
     → ((x : A) → (call file).answer ≡ Ok x
     → OpsFit file.kind (bytes_after file.kind file.bytes (call file).ops)
@@ -57,7 +60,8 @@ caused_fits (Some e) call file m f = tt
 -- ---- a value that a call writes
 
 -- an offset within the limit of the file kind fits the width of its offsets
-pub offset_fits : (kind : FileKind) (n : ℕ) → is_past kind n ≡ false → n < 2 ^ 64 → n < 256 ^ offset_len kind
+pub offset_fits : (kind : FileKind) (n : ℕ) → is_past kind n ≡ false → n < 2 ^ 64
+    → n < 256 ^ offset_len kind
 offset_fits Classic n h l = leb-false (2 ^ 32) n h
 offset_fits Big n h l = l
 
@@ -84,12 +88,15 @@ field_by long offset value = record {
 -- the changes that write a value, by whether the value is too long for the entry
 abbrev ops_by : Bool → ℕ → FieldData → List WriteOp
 ops_by long offset value =
-    let supplied : WriteOp = Supplied (record { field = field_by long offset value; bytes = value.bytes }) in
+    let supplied : WriteOp =
+    Supplied (record { field = field_by long offset value; bytes = value.bytes }) in
     cond long (Appended value.bytes ∷ supplied ∷ []) (supplied ∷ [])
 
 -- the changes that write a value fit
-supplied_fits : (kind : FileKind) (bytes : List ℕ) (m : Model) (value : FieldData) (long : Bool) → is_long kind value ≡ long
-    → IsWhole value → length value.bytes < 2 ^ 64 → (long ≡ true → length bytes < 256 ^ offset_len kind)
+supplied_fits : (kind : FileKind) (bytes : List ℕ) (m : Model) (value : FieldData) (long : Bool)
+    → is_long kind value ≡ long
+    → IsWhole value → length value.bytes < 2 ^ 64
+    → (long ≡ true → length bytes < 256 ^ offset_len kind)
     → OpsFit kind bytes m (ops_by long (length bytes) value)
 supplied_fits kind bytes m value true t w s p =
     let n : ℕ = length bytes in
@@ -119,12 +126,14 @@ supplied_fits kind bytes m value false t w s p =
     let below = ltb-false (offset_len kind) n t in
     let eight = offset_len_8 kind in
     let taken : take n (filled_field v) ≡ v =
-    take-take n 8 (v ++ replicate 8 0) (omega (arith, below, eight)) ∙ take_at v (replicate 8 0) n refl in
+    take-take n 8 (v ++ replicate 8 0) (omega (arith, below, eight))
+    ∙ take_at v (replicate 8 0) n refl in
     let P : ℕ → Type 0 = λ k. v ≡ take k (filled_field v) in
     (inl (record { short = omega (arith, w, below); bytes = subst P w (sym taken) }), tt)
 
 -- if the tests of a field return no error and the second test holds, the third doesn't
-tests : (a b c : Bool) (e : TiffError) → cond a (Some e) (cond (b && c) (Some e) None) ≡ None → b ≡ true → c ≡ false
+tests : (a b c : Bool) (e : TiffError) → cond a (Some e) (cond (b && c) (Some e) None) ≡ None
+    → b ≡ true → c ≡ false
 tests true b c e h t = absurd cc
 tests false true true e h t = absurd cc
 tests false true false e h t = refl
@@ -142,8 +151,10 @@ placed_fits file m value w h l s =
 -- ---- the end of a directory
 
 -- appending a directory and pointing its parent's link to it fits
-listed_fits : (kind : FileKind) (bytes : List ℕ) (m : Model) (d : OpenDirectory) (parent : Option ℕ) → AreListable kind d.fields
-    → ((offset : ℕ) → parent ≡ Some offset → IsLink kind m offset) → length bytes < 256 ^ offset_len kind
+listed_fits : (kind : FileKind) (bytes : List ℕ) (m : Model) (d : OpenDirectory) (parent : Option ℕ)
+    → AreListable kind d.fields
+    → ((offset : ℕ) → parent ≡ Some offset → IsLink kind m offset)
+    → length bytes < 256 ^ offset_len kind
     → OpsFit kind bytes m (Listed d.fields ∷ links_to parent (length bytes))
 listed_fits kind bytes m d None a p l = (a, tt)
 listed_fits kind bytes m d (Some offset) a p l =
@@ -153,7 +164,8 @@ pub finish_fits : FinishFits
 unfolding finish
 finish_fits file m d a p l =
     let ops : List WriteOp = Listed d.fields ∷ links_to d.parent (end_of file) in
-    let rest : Unit {0} → WriteCall Offsets = λ _. chains d.chained (offsets_of file.kind (end_of file) (len d.fields)) in
+    let rest : Unit {0} → WriteCall Offsets =
+    λ _. chains d.chained (offsets_of file.kind (end_of file) (len d.fields)) in
     caused_fits (finish_cause file d) (does ops >>= rest) file m
     (λ h. followed_fits (does ops) rest file m
     (listed_fits file.kind file.bytes m d d.parent a p (offset_fits file.kind (end_of file) (near file d h) l)) (λ _ _. tt))

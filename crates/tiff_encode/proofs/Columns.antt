@@ -26,12 +26,14 @@ pub size_some : (name : ColorTypeName) → 0 < inner_size name
 size_some name = type_some (inner_type name)
 
 -- the first of samples of whole bytes isn't narrow
-wide_bits : (size : ℕ) (bits : List ℕ) → 0 < length bits → All (λ (b : ℕ). b ≡ 8 * size) bits → 0 < size → get_or bits 0 0 < 8 → ⊥
+wide_bits : (size : ℕ) (bits : List ℕ) → 0 < length bits → All (λ (b : ℕ). b ≡ 8 * size) bits
+    → 0 < size → get_or bits 0 0 < 8 → ⊥
 wide_bits size [] some full s l = omega (arith, some)
 wide_bits size (b ∷ bits) some full s l = omega (arith, s, l, full)
 
 -- samples of fewer than 8 bits are packed
-pub packed_bits : (size : ℕ) (c : ColorTypeRecord) → IsColorType size c → 0 < size → is_packed c ≡ true → ArePacked size c
+pub packed_bits : (size : ℕ) (c : ColorTypeRecord) → IsColorType size c → 0 < size
+    → is_packed c ≡ true → ArePacked size c
 packed_bits size c l s p = elim l.full [
   | inl full ↦ absurd (wide_bits size c.bits l.some full s (ltb-true (first_bits c) 8 p))
   | inr packed ↦ packed
@@ -54,11 +56,14 @@ filled width bits some few w =
     let a = w.0 in let b = w.1 in
     (omega (arith, least, a), omega (arith, most, b))
 
-pub columns_side : (size : ℕ) (c : ColorTypeRecord) (width : ℕ) → IsColorType size c → 0 < size → IsSide width → IsSide (columns_of c width)
+pub columns_side : (size : ℕ) (c : ColorTypeRecord) (width : ℕ) → IsColorType size c → 0 < size
+    → IsSide width → IsSide (columns_of c width)
 columns_side size c width l s w =
-    let P : Bool → Type 0 = λ b. is_packed c ≡ b → IsSide (cond b ((width * first_bits c + 7) / 8) width) in
+    let P : Bool → Type 0 =
+    λ b. is_packed c ≡ b → IsSide (cond b ((width * first_bits c + 7) / 8) width) in
     elim (is_packed c) as P [
-      | true ↦ λ p. filled width (first_bits c) (some_bits size c (packed_bits size c l s p)) (ltb-true (first_bits c) 8 p) w
+      | true ↦ λ p. filled width (first_bits c) (some_bits size c (packed_bits size c l s p))
+          (ltb-true (first_bits c) 8 p) w
       | false ↦ λ p. w
     ] refl
 
@@ -66,23 +71,30 @@ columns_side size c width l s w =
 
 -- pixels that aren't packed are columns
 pub columns_plain : (i : OpenImage) → HoldsPixels i → is_packed i.color ≡ false → i.width ≡ i.pixels
-columns_plain i h n = h.columns ∙ ap (λ b. cond b ((i.pixels * first_bits i.color + 7) / 8) i.pixels) n
+columns_plain i h n =
+    h.columns ∙ ap (λ b. cond b ((i.pixels * first_bits i.color + 7) / 8) i.pixels) n
 
-pub columns_packed : (i : OpenImage) → HoldsPixels i → is_packed i.color ≡ true → i.width ≡ (i.pixels * first_bits i.color + 7) / 8
-columns_packed i h p = h.columns ∙ ap (λ b. cond b ((i.pixels * first_bits i.color + 7) / 8) i.pixels) p
+pub columns_packed : (i : OpenImage) → HoldsPixels i → is_packed i.color ≡ true
+    → i.width ≡ (i.pixels * first_bits i.color + 7) / 8
+columns_packed i h p =
+    h.columns ∙ ap (λ b. cond b ((i.pixels * first_bits i.color + 7) / 8) i.pixels) p
 
 no_strip : Tile ≡ Strip → ⊥
 no_strip e = cc
 
 -- an image of tiles has no packed pixels
-tiles_plain : (i : OpenImage) → HoldsPixels i → i.form.chunk_type ≡ Tile → (b : Bool) → is_packed i.color ≡ b → i.width ≡ i.pixels
+tiles_plain : (i : OpenImage) → HoldsPixels i → i.form.chunk_type ≡ Tile → (b : Bool)
+    → is_packed i.color ≡ b → i.width ≡ i.pixels
 tiles_plain i h e true p = absurd (no_strip (sym e ∙ (h.plain p).0))
 tiles_plain i h e false n = columns_plain i h n
 
 -- as many chunks are side by side in the page that the reader finds
-pub across_same : (i : OpenImage) → IsSide i.width → IsForm i.width i.form → HoldsPixels i → (c : ChunkType) → i.form.chunk_type ≡ c
-    → parts i.pixels (pixels_across c i.pixels i.form.chunk_width) ≡ parts i.width i.form.chunk_width
+pub across_same : (i : OpenImage) → IsSide i.width → IsForm i.width i.form → HoldsPixels i
+    → (c : ChunkType) → i.form.chunk_type ≡ c
+    → parts i.pixels (pixels_across c i.pixels i.form.chunk_width)
+    ≡ parts i.width i.form.chunk_width
 across_same i w f h Strip e =
     one_part i.pixels i.pixels h.some.0 (omega arith)
     ∙ sym (ap (λ n. parts i.width n) (f.strips e) ∙ one_part i.width i.width w.0 (omega arith))
-across_same i w f h Tile e = ap (λ n. parts n i.form.chunk_width) (sym (tiles_plain i h e (is_packed i.color) refl))
+across_same i w f h Tile e =
+    ap (λ n. parts n i.form.chunk_width) (sym (tiles_plain i h e (is_packed i.color) refl))

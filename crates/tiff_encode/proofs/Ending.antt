@@ -28,11 +28,14 @@ use Rattle.tiff_encode.proofs.Slices.{length-le}
 
 -- ---- the length of a directory
 
-length-entry : (kind : FileKind) (e : ℕ × Field) → length e.1.value ≡ 8 → length (entry_bytes kind e) ≡ entry_len kind
+length-entry : (kind : FileKind) (e : ℕ × Field) → length e.1.value ≡ 8
+    → length (entry_bytes kind e) ≡ entry_len kind
 length-entry Classic e w =
-    let t : length (take 4 e.1.value) ≡ 4 = length-take-le 4 e.1.value (omega (arith, w)) in omega (arith, t)
+    let t : length (take 4 e.1.value) ≡ 4 =
+    length-take-le 4 e.1.value (omega (arith, w)) in omega (arith, t)
 length-entry Big e w =
-    let t : length (take 8 e.1.value) ≡ 8 = length-take-le 8 e.1.value (omega (arith, w)) in omega (arith, t)
+    let t : length (take 8 e.1.value) ≡ 8 =
+    length-take-le 8 e.1.value (omega (arith, w)) in omega (arith, t)
 
 length-entries : (kind : FileKind) (es : List (ℕ × Field)) → ((e : ℕ × Field) → In e es → IsEntry e)
     → length (flat_map (entry_bytes kind) es) ≡ entry_len kind * length es
@@ -43,8 +46,10 @@ length-entries kind (e ∷ es) w =
     omega (arith, a, b, length-append (entry_bytes kind e) (flat_map (entry_bytes kind) es))
 
 -- the link of a directory is its last part
-pub length-listed : (kind : FileKind) (offset : ℕ) (fields : FinMap nat_cmp Field) → AreEntries fields
-    → offset + length (directory_bytes kind fields) ≡ link_offset kind offset (len fields) + offset_len kind
+pub length-listed : (kind : FileKind) (offset : ℕ) (fields : FinMap nat_cmp Field)
+    → AreEntries fields
+    → offset + length (directory_bytes kind fields) ≡ link_offset kind offset (len fields)
+    + offset_len kind
 unfolding directory_bytes
 length-listed kind offset fields w =
     let n : ℕ = len fields in
@@ -52,7 +57,8 @@ length-listed kind offset fields w =
     let B : List ℕ = flat_map (entry_bytes kind) (entries fields) in
     let Z : List ℕ = le (offset_len kind) 0 in
     let x : length B ≡ entry_len kind * n =
-    length-entries kind (entries fields) w ∙ ap (λ (n : ℕ). entry_len kind * n) (sym (len-entries fields)) in
+    length-entries kind (entries fields) w
+    ∙ ap (λ (n : ℕ). entry_len kind * n) (sym (len-entries fields)) in
     omega (
       arith,
       length-append C (B ++ Z),
@@ -63,67 +69,85 @@ length-listed kind offset fields w =
     )
 
 -- the own link of a directory ends the file that the directory is appended to
-pub own_link_is : (old new : FileState) (fields : FinMap nat_cmp Field) (width at : ℕ) → AreEntries fields
-    → new ≡ file_with_bytes old (directory_bytes old.kind fields) → at ≡ end_of new → width ≡ offset_len old.kind
+pub own_link_is : (old new : FileState) (fields : FinMap nat_cmp Field) (width at : ℕ)
+    → AreEntries fields
+    → new ≡ file_with_bytes old (directory_bytes old.kind fields) → at ≡ end_of new
+    → width ≡ offset_len old.kind
     → at - width ≡ link_offset old.kind (end_of old) (len fields)
 own_link_is old new fields width at w s a k =
     let D : List ℕ = directory_bytes old.kind fields in
     let l = length-listed old.kind (end_of old) fields w in
-    let g : length new.bytes ≡ length old.bytes + length D = ap (λ m. length m.bytes) s ∙ length-append old.bytes D in
+    let g : length new.bytes ≡ length old.bytes + length D =
+    ap (λ m. length m.bytes) s ∙ length-append old.bytes D in
     omega (arith, l, g, a, k)
 
-pub own_link_within : (old new : FileState) (fields : FinMap nat_cmp Field) (link : ℕ) (kind : FileKind) → AreEntries fields
-    → new ≡ file_with_bytes old (directory_bytes old.kind fields) → link ≡ link_offset old.kind (end_of old) (len fields) → old.kind ≡ kind
+pub own_link_within : (old new : FileState) (fields : FinMap nat_cmp Field) (link : ℕ)
+    (kind : FileKind) → AreEntries fields
+    → new ≡ file_with_bytes old (directory_bytes old.kind fields)
+    → link ≡ link_offset old.kind (end_of old) (len fields) → old.kind ≡ kind
     → link + offset_len kind ≤ end_of new
 own_link_within old new fields link kind w s l k =
     let D : List ℕ = directory_bytes old.kind fields in
     let x = length-listed old.kind (end_of old) fields w in
-    let g : length new.bytes ≡ length old.bytes + length D = ap (λ m. length m.bytes) s ∙ length-append old.bytes D in
+    let g : length new.bytes ≡ length old.bytes + length D =
+    ap (λ m. length m.bytes) s ∙ length-append old.bytes D in
     omega (arith, x, g, l, ap offset_len k)
 
 -- ---- errors that refuse the end of a directory
 
 -- the test of a parent's link returns the error of its check
-parent_tested : (file : FileState) (parent : Option ℕ) → parent_cause file parent ≡ parent_test file.kind (end_of file) parent
+parent_tested : (file : FileState) (parent : Option ℕ)
+    → parent_cause file parent ≡ parent_test file.kind (end_of file) parent
 parent_tested file None = refl
 parent_tested file (Some offset) = refl
 
 -- without an earlier failed write, the test of a directory's end returns the error that refuses it
-pub end_cause : (file : FileState) (d : OpenDirectory) (kind : FileKind) (end : ℕ) → file.fault ≡ None → kind ≡ file.kind
+pub end_cause : (file : FileState) (d : OpenDirectory) (kind : FileKind) (end : ℕ)
+    → file.fault ≡ None → kind ≡ file.kind
     → end ≡ end_of file → end_test kind end d ≡ finish_cause file d
 unfolding finish_cause end_test
 end_cause file d kind end f k a =
-    let c : Option TiffError → Option TiffError = λ rest. cond (is_past_count file.kind (len d.fields)
+    let c : Option TiffError → Option TiffError =
+    λ rest. cond (is_past_count file.kind (len d.fields)
     || (list_any (λ entry. is_past file.kind entry.1.count) (entries d.fields) || is_past file.kind (end_of file))) (Some IntSizeError) rest in
-    (λ i. end_test (k i) (a i) d) ∙ ap c (sym (parent_tested file d.parent)) ∙ sym (fresh_cause file.fault _ f)
+    (λ i. end_test (k i) (a i) d) ∙ ap c (sym (parent_tested file d.parent))
+    ∙ sym (fresh_cause file.fault _ f)
 
 -- after an error of the sink, `WriterFailed` refuses the end of a directory
-pub end_stopped : (file : FileState) (d : OpenDirectory) (e : TiffError) → IsSome file.fault → e ≡ UsageError WriterFailed
+pub end_stopped : (file : FileState) (d : OpenDirectory) (e : TiffError) → IsSome file.fault
+    → e ≡ UsageError WriterFailed
     → finish_cause file d ≡ Some e
 unfolding finish_cause
 end_stopped file d e s q = stopped_cause file.fault _ s ∙ ap Some (sym q)
 
 -- if the tests return no error, the first test isn't met and the others return none
-passed : (b : Bool) (e : TiffError) (cause : Option TiffError) → cond b (Some e) cause ≡ None → (b ≡ false) × (cause ≡ None)
+passed : (b : Bool) (e : TiffError) (cause : Option TiffError) → cond b (Some e) cause ≡ None
+    → (b ≡ false) × (cause ≡ None)
 passed true e cause h = absurd cc
 passed false e cause h = (refl, h)
 
 -- where nothing refuses the end of a directory, its parent's link lies within the file
-pub end_within : (file : FileState) (d : OpenDirectory) → file.fault ≡ None → finish_cause file d ≡ None
+pub end_within : (file : FileState) (d : OpenDirectory) → file.fault ≡ None
+    → finish_cause file d ≡ None
     → (offset : ℕ) → d.parent ≡ Some offset → offset + offset_len file.kind ≤ end_of file
 unfolding finish_cause
 end_within file d f h offset p =
     let rest = (passed _ _ _ (sym (fresh_cause file.fault _ f) ∙ h)).1 in
-    let b = passed (nat_lt (end_of file) (offset + offset_len file.kind)) _ None (sym (ap (parent_cause file) p) ∙ rest) in
+    let b =
+    passed (nat_lt (end_of file) (offset + offset_len file.kind)) _ None
+    (sym (ap (parent_cause file) p) ∙ rest) in
     ltb-false (end_of file) (offset + offset_len file.kind) b.0
 
 -- the parent's link stays within a file that grows
-pub within_grown : (old mid : FileState) (d : OpenDirectory) (kind : FileKind) (more : List ℕ) (parent : Option ℕ) → old.kind ≡ kind
-    → old.fault ≡ None → finish_cause old d ≡ None → mid ≡ file_with_bytes old more → parent ≡ d.parent
+pub within_grown : (old mid : FileState) (d : OpenDirectory) (kind : FileKind) (more : List ℕ)
+    (parent : Option ℕ) → old.kind ≡ kind
+    → old.fault ≡ None → finish_cause old d ≡ None → mid ≡ file_with_bytes old more
+    → parent ≡ d.parent
     → (offset : ℕ) → parent ≡ Some offset → offset + offset_len kind ≤ length mid.bytes
 within_grown old mid d kind more parent k f h s q offset p =
     let w = end_within old d f h offset (sym q ∙ p) in
-    let g : length mid.bytes ≡ length old.bytes + length more = ap (λ m. length m.bytes) s ∙ length-append old.bytes more in
+    let g : length mid.bytes ≡ length old.bytes + length more =
+    ap (λ m. length m.bytes) s ∙ length-append old.bytes more in
     omega (arith, w, g, ap offset_len k)
 
 -- ---- links
@@ -138,7 +162,8 @@ chain_is file false offsets = refl
 
 -- the end of a directory appends the directory
 appended_is : (kind : FileKind) (fields : FinMap nat_cmp Field) (parent : Option ℕ) (target : ℕ)
-    → all_appended kind ((Listed fields ∷ links_to parent target) ++ []) ≡ directory_bytes kind fields
+    → all_appended kind ((Listed fields ∷ links_to parent target) ++ [])
+    ≡ directory_bytes kind fields
 appended_is kind fields None target = append-nil (directory_bytes kind fields)
 appended_is kind fields (Some offset) target = append-nil (directory_bytes kind fields)
 
@@ -153,16 +178,19 @@ module _ {X : Type 0} (view : X → Offsets) (d : OpenDirectory) (old : FileStat
   abbrev call : WriteCall Offsets
   call = does ops >>= (λ _. chains d.chained offsets)
 
-  pub end_refused : (e : TiffError) → finish_cause old d ≡ Some e → Ends view (finish d old) (Err e) old old
+  pub end_refused : (e : TiffError) → finish_cause old d ≡ Some e
+      → Ends view (finish d old) (Err e) old old
   unfolding finish
   end_refused e c = refused view (finish_cause old d) call old e c
 
-  uncaused_end : (r : Result X TiffError) (new : FileState) → finish_cause old d ≡ None → Ends view (call old) r old new
+  uncaused_end : (r : Result X TiffError) (new : FileState) → finish_cause old d ≡ None
+      → Ends view (call old) r old new
       → Ends view (finish d old) r old new
   unfolding finish
   uncaused_end r new c h = uncaused view (finish_cause old d) call r old new c h
 
-  pub end_cut : (e : TiffError) (new : FileState) → finish_cause old d ≡ None → AppendIsCut (directory_bytes old.kind d.fields) e old new
+  pub end_cut : (e : TiffError) (new : FileState) → finish_cause old d ≡ None
+      → AppendIsCut (directory_bytes old.kind d.fields) e old new
       → Ends view (finish d old) (Err e) old new
   end_cut e new c cut =
       uncaused_end (Err e) new c
@@ -174,8 +202,10 @@ module _ {X : Type 0} (view : X → Offsets) (d : OpenDirectory) (old : FileStat
   end_wanting e c f q = uncaused_end (Err e) old c (wanting view (call old) e old f q tt)
 
   -- the end fails before it appends the whole directory
-  pub end_unlisted : (e : TiffError) (new : FileState) → finish_cause old d ≡ None → old.fault ≡ None
-      → AppendIsCut (directory_bytes old.kind d.fields) e old new ⊎ ((e ≡ OutOfMemory) × (new ≡ old))
+  pub end_unlisted : (e : TiffError) (new : FileState) → finish_cause old d ≡ None
+      → old.fault ≡ None
+      → AppendIsCut (directory_bytes old.kind d.fields) e old new
+      ⊎ ((e ≡ OutOfMemory) × (new ≡ old))
       → Ends view (finish d old) (Err e) old new
   end_unlisted e new c f h = elim h as (λ _. Ends view (finish d old) (Err e) old new) [
     | inl cut ↦ end_cut e new c cut
@@ -183,8 +213,10 @@ module _ {X : Type 0} (view : X → Offsets) (d : OpenDirectory) (old : FileStat
   ]
 
   -- the end appends the directory, and the sink fails at its parent's link
-  pub end_torn : (e : TiffError) (mid new : FileState) (target : ℕ) (parent : Option ℕ) → finish_cause old d ≡ None → old.fault ≡ None
-      → target ≡ end_of old → mid ≡ file_with_bytes old (directory_bytes old.kind d.fields) → parent ≡ d.parent
+  pub end_torn : (e : TiffError) (mid new : FileState) (target : ℕ) (parent : Option ℕ)
+      → finish_cause old d ≡ None → old.fault ≡ None
+      → target ≡ end_of old → mid ≡ file_with_bytes old (directory_bytes old.kind d.fields)
+      → parent ≡ d.parent
       → (offset : ℕ) × ((parent ≡ Some offset) × IsTorn [] offset target e mid new)
       → Ends view (finish d old) (Err e) old new
   end_torn e mid new target parent c f a s q (offset, (p, t)) =
@@ -201,12 +233,14 @@ module _ {X : Type 0} (view : X → Offsets) (d : OpenDirectory) (old : FileStat
         within = subst (λ m. t.count < offset_len m.kind) s t.within;
         state = t.state
             ∙ (λ i. record (s i) {
-              bytes = put ((s i).bytes ++ []) offset (take t.count (le (offset_len (s i).kind) (a i)));
+              bytes =
+                  put ((s i).bytes ++ []) offset (take t.count (le (offset_len (s i).kind) (a i)));
               failures = (s i).failures + 1;
               fault = Some t.fault;
             })
             ∙ (λ i. record old {
-              bytes = put (append_assoc old.bytes D [] i) offset (take t.count (le (offset_len old.kind) (end_of old)));
+              bytes =
+                  put (append_assoc old.bytes D [] i) offset (take t.count (le (offset_len old.kind) (end_of old)));
               failures = old.failures + 1;
               fault = Some t.fault;
             });
@@ -214,11 +248,13 @@ module _ {X : Type 0} (view : X → Offsets) (d : OpenDirectory) (old : FileStat
       uncaused_end (Err e) new c (inr (inr (inl torn)))
 
   -- the end of a directory succeeds
-  pub end_done : (x : X) (mid linked new : FileState) (target link : ℕ) (parent : Option ℕ) (chained : Bool) → finish_cause old d ≡ None → target ≡ end_of old
+  pub end_done : (x : X) (mid linked new : FileState) (target link : ℕ) (parent : Option ℕ)
+      (chained : Bool) → finish_cause old d ≡ None → target ≡ end_of old
       → mid ≡ file_with_bytes old (directory_bytes old.kind d.fields)
       → linked ≡ record mid { bytes = bytes_after mid.kind mid.bytes (links_to parent target) }
       → parent ≡ d.parent → chained ≡ d.chained
-      → link ≡ link_offset old.kind (end_of old) (len d.fields) → view x ≡ record { pointer = target; link = link }
+      → link ≡ link_offset old.kind (end_of old) (len d.fields)
+      → view x ≡ record { pointer = target; link = link }
       → new ≡ cond chained (record linked { chain = link }) linked
       → Ends view (finish d old) (Ok x) old new
   end_done x mid linked new target link parent chained c a s l q b k v n =
@@ -227,6 +263,8 @@ module _ {X : Type 0} (view : X → Offsets) (d : OpenDirectory) (old : FileStat
       l ∙ λ i. record (s i) { bytes = bytes_after (s i).kind (s i).bytes (links_to (q i) (a i)) } in
       let told : EndsAsDefined (call old) (Ok (view x)) new = record {
         answer = ap Ok (sym found);
-        state = n ∙ (λ i. cond (b i) (record (all i) { chain = k i }) (all i)) ∙ chain_is _ d.chained offsets;
+        state =
+            n ∙ (λ i. cond (b i) (record (all i) { chain = k i }) (all i))
+            ∙ chain_is _ d.chained offsets;
       } in
       uncaused_end (Ok x) new c told

@@ -38,11 +38,13 @@ less_than Equal h = absurd h
 less_than Greater h = absurd h
 
 -- a key below all others is not found
-find_below : {X : Type 0} (q : ℕ) (es : List (ℕ × X)) → T (below_all nat_cmp q es) → find nat_cmp q es ≡ None
+find_below : {X : Type 0} (q : ℕ) (es : List (ℕ × X)) → T (below_all nat_cmp q es)
+    → find nat_cmp q es ≡ None
 find_below q [] h = refl
 find_below q (e ∷ es) h =
     let p = and_parts _ _ h in
-    ap (λ o. cond (is_eq o) (Some e.1) (find nat_cmp q es)) (less_than (nat_cmp q e.0) p.0) ∙ find_below q es p.1
+    ap (λ o. cond (is_eq o) (Some e.1) (find nat_cmp q es)) (less_than (nat_cmp q e.0) p.0)
+    ∙ find_below q es p.1
 
 -- an entry below all others is put first
 put_first : {X : Type 0} (k : ℕ) (v : X) (es : List (ℕ × X)) → T (below_all nat_cmp k es)
@@ -50,7 +52,8 @@ put_first : {X : Type 0} (k : ℕ) (v : X) (es : List (ℕ × X)) → T (below_a
 put_first k v [] h = refl
 put_first k v (e ∷ es) h =
     let p = and_parts _ _ h in
-    ap (λ o. by_order o ((k, v) ∷ e ∷ es) ((e.0, v) ∷ es) (e ∷ put nat_cmp k v es)) (less_than (nat_cmp k e.0) p.0)
+    ap (λ o. by_order o ((k, v) ∷ e ∷ es) ((e.0, v) ∷ es) (e
+    ∷ put nat_cmp k v es)) (less_than (nat_cmp k e.0) p.0)
 
 -- a list of length 0 is empty
 none_long : {A : Type 0} (es : List A) → length es ≡ 0 → es ≡ []
@@ -81,7 +84,8 @@ entries_of_reverse {X} (e ∷ es) h =
     let back = entries_of_reverse es p.1 in
     let m : FinMap nat_cmp X = from_entries (reverse es) in
     let none : find nat_cmp e.0 (reverse es) ≡ None =
-    sym (get-from_entries nat_cmp_total (reverse es) e.0) ∙ get-entries m e.0 ∙ ap (find nat_cmp e.0) back
+    sym (get-from_entries nat_cmp_total (reverse es) e.0) ∙ get-entries m e.0
+    ∙ ap (find nat_cmp e.0) back
     ∙ find_below e.0 es p.0 in
     ap (λ (l : List (ℕ × X)). entries (from_entries {R = nat_cmp} l)) (reverse-append (e ∷ []) es)
     ∙ ap (entries {R = nat_cmp}) (from_entries_push nat_cmp_total nat_cmp-IsAntisymmetric (reverse es) e.0 e.1 none)
@@ -136,7 +140,8 @@ value_read Classic e w =
 value_read Big e w =
     let v : List ℕ = e.1.value in
     let l = w.whole in
-    take_all 8 (take 8 v) (omega (arith, length-take-le 8 v (omega arith))) ∙ take_all 8 v (omega arith)
+    take_all 8 (take 8 v) (omega (arith, length-take-le 8 v (omega arith)))
+    ∙ take_all 8 v (omega arith)
 
 -- an entry is read back as written
 pub entry_read : (kind : FileKind) (e : ℕ × Field) → IsWritable kind e.0 e.1
@@ -146,9 +151,11 @@ entry_read kind e w =
     let k : ℕ = offset_len kind in
     let f : Field = e.1 in
     let S : List ℕ = entry_bytes kind e in
-    let F : «Type» → ℕ × Field = λ t. (number LittleEndian w16 (bytes_at S 0 2), field_of kind LittleEndian S t) in
+    let F : «Type» → ℕ × Field =
+    λ t. (number LittleEndian w16 (bytes_at S 0 2), field_of kind LittleEndian S t) in
     let tag : number LittleEndian w16 (le 2 e.0) ≡ e.0 = number-le w16 e.0 (inl refl) w.tag_fits in
-    let count : number LittleEndian (offset_width kind) (take k (le k f.count ++ take k f.value)) ≡ f.count =
+    let count : number LittleEndian (offset_width kind) (take k (le k f.count ++ take k f.value))
+    ≡ f.count =
     ap (number LittleEndian (offset_width kind)) (take_at (le k f.count) (take k f.value) k (length-le 0 k f.count))
     ∙ number-le (offset_width kind) f.count (is_offset_width kind) w.count in
     let value = value_read kind e w in
@@ -184,10 +191,12 @@ length-entries kind (e ∷ es) w =
 
 -- the entry read at index i from an offset
 nth_entry : FileKind → ℕ → List ℕ → ℕ → Option (ℕ × Field)
-nth_entry kind first file i = entry_of kind LittleEndian (bytes_at file (first + entry_len kind * i) (entry_len kind))
+nth_entry kind first file i =
+    entry_of kind LittleEndian (bytes_at file (first + entry_len kind * i) (entry_len kind))
 
 -- the entries from index a on are read back as written
-entries_back : (kind : FileKind) (es : List (ℕ × Field)) (before rest : List ℕ) (first a : ℕ) → AllWritable kind es
+entries_back : (kind : FileKind) (es : List (ℕ × Field)) (before rest : List ℕ) (first a : ℕ)
+    → AllWritable kind es
     → length before ≡ first + entry_len kind * a
     → filter_map (nth_entry kind first (before ++ (flat_map (entry_bytes kind) es ++ rest)))
     (range_with_len a (length es)) ≡ es
@@ -207,7 +216,8 @@ entries_back kind (x ∷ es) before rest first a w l =
     ap (λ (f : List ℕ). bytes_at f (first + k * a) k) (append_assoc before X (B ++ rest))
     ∙ (is_exact (before ++ (X ++ (B ++ rest))) (first + k * a) k X
     (exact_mid before X (B ++ rest) (first + k * a) k l lx)).1 in
-    let head : nth_entry kind first next a ≡ Some x = ap (entry_of kind LittleEndian) here ∙ entry_read kind x wx in
+    let head : nth_entry kind first next a ≡ Some x =
+    ap (entry_of kind LittleEndian) here ∙ entry_read kind x wx in
     let more : length (before ++ X) ≡ first + k * (a + 1) = omega (arith, length-append before X) in
     ap (λ (f : List ℕ). filter_map (nth_entry kind first f) (range_with_len a (suc n))) g
     ∙ ap (λ (o : Option (ℕ × Field)).
@@ -216,8 +226,11 @@ entries_back kind (x ∷ es) before rest first a w l =
     (entries_back kind es (before ++ X) rest first (a + 1) (λ y i. w y (inr i)) more)
 
 -- all entries are read back as written
-pub entries_read : (kind : FileKind) (es : List (ℕ × Field)) (before rest : List ℕ) (first : ℕ) → AllWritable kind es
+pub entries_read : (kind : FileKind) (es : List (ℕ × Field)) (before rest : List ℕ) (first : ℕ)
+    → AllWritable kind es
     → length before ≡ first
-    → entries_from kind LittleEndian (before ++ (flat_map (entry_bytes kind) es ++ rest)) first (length es) ≡ es
+    → entries_from kind LittleEndian (before ++ (flat_map (entry_bytes kind) es
+    ++ rest)) first (length es) ≡ es
 unfolding entries_from nth_entry
-entries_read kind es before rest first w l = entries_back kind es before rest first 0 w (omega arith)
+entries_read kind es before rest first w l =
+    entries_back kind es before rest first 0 w (omega arith)

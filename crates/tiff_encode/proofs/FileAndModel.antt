@@ -47,7 +47,8 @@ entries_standing kind fields =
     (subst T (sym (sorted_map kind (entries fields))) (entries_sorted fields))
 
 -- the file contains as many entries as the directory has
-pub len_standing : (kind : FileKind) (fields : FinMap nat_cmp Field) → len (standing_fields kind fields) ≡ len fields
+pub len_standing : (kind : FileKind) (fields : FinMap nat_cmp Field)
+    → len (standing_fields kind fields) ≡ len fields
 len_standing kind fields =
     len-entries (standing_fields kind fields) ∙ ap length (entries_standing kind fields)
     ∙ length-map (entries fields) (standing_entry kind) ∙ sym (len-entries fields)
@@ -64,23 +65,29 @@ entry_standing : (kind : FileKind) (e : ℕ × Field) → IsListable kind e.0 e.
 entry_standing Classic e w =
     let t : take 4 (take 4 e.1.value ++ (0 ∷ 0 ∷ 0 ∷ 0 ∷ [])) ≡ take 4 e.1.value =
     take_at (take 4 e.1.value) (0 ∷ 0 ∷ 0 ∷ 0 ∷ []) 4 (four e.1.value w.whole) in
-    ap (λ (v : List ℕ). le 2 e.0 ++ (le 2 (type_number e.1.field_type) ++ (le (offset_len Classic) e.1.count ++ v))) t
+    ap (λ (v : List ℕ). le 2 e.0 ++ (le 2 (type_number e.1.field_type)
+    ++ (le (offset_len Classic) e.1.count ++ v))) t
 entry_standing Big e w = refl
 
 -- all entries have the same bytes as in the file
 all_standing : (kind : FileKind) (es : List (ℕ × Field)) → AllListable kind es
     → flat_map (entry_bytes kind) (map (standing_entry kind) es) ≡ flat_map (entry_bytes kind) es
 all_standing kind [] w = refl
-all_standing kind (e ∷ es) w = λ i. entry_standing kind e (w e (inl refl)) i ++ all_standing kind es (λ x j. w x (inr j)) i
+all_standing kind (e ∷ es) w =
+    λ i. entry_standing kind e (w e (inl refl)) i ++ all_standing kind es (λ x j. w x (inr j)) i
 
 -- a directory has the same bytes as in the file
-pub bytes_standing : (kind : FileKind) (fields : FinMap nat_cmp Field) → AllListable kind (entries fields)
+pub bytes_standing : (kind : FileKind) (fields : FinMap nat_cmp Field)
+    → AllListable kind (entries fields)
     → directory_bytes kind fields ≡ directory_bytes kind (standing_fields kind fields)
 unfolding directory_bytes
 bytes_standing kind fields w =
-    let body : flat_map (entry_bytes kind) (entries (standing_fields kind fields)) ≡ flat_map (entry_bytes kind) (entries fields) =
-    ap (flat_map (entry_bytes kind)) (entries_standing kind fields) ∙ all_standing kind (entries fields) w in
-    sym (λ i. le (count_len kind) (len_standing kind fields i) ++ (body i ++ le (offset_len kind) 0))
+    let body : flat_map (entry_bytes kind) (entries (standing_fields kind fields))
+    ≡ flat_map (entry_bytes kind) (entries fields) =
+    ap (flat_map (entry_bytes kind)) (entries_standing kind fields)
+    ∙ all_standing kind (entries fields) w in
+    sym (λ i. le (count_len kind) (len_standing kind fields i)
+    ++ (body i ++ le (offset_len kind) 0))
 
 -- ---- fields that can be written
 
@@ -115,7 +122,8 @@ map_writable kind (e ∷ es) w x i = elim i [
 ]
 
 -- the fields from the file can be written
-pub standing_writable : (kind : FileKind) (fields : FinMap nat_cmp Field) → AllListable kind (entries fields)
+pub standing_writable : (kind : FileKind) (fields : FinMap nat_cmp Field)
+    → AllListable kind (entries fields)
     → AllWritable kind (entries (standing_fields kind fields))
 standing_writable kind fields w =
     let P : List (ℕ × Field) → Type 0 = λ es. AllWritable kind es in

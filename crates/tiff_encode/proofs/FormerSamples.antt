@@ -22,12 +22,14 @@ use Rattle.tiff_encode.proofs.GoingOn.{bytes_stay}
 not_less : (a b : ℕ) → b ≤ a → nat_lt a b ≡ false
 not_less a b h = grind (arith, nat_tests)
 
-module _ (kind : FileKind) (q : ℕ) (file new : List ℕ) (room : q + offset_len kind ≤ length file) (on : Continues kind q file new) where
+module _ (kind : FileKind) (q : ℕ) (file new : List ℕ) (room : q + offset_len kind ≤ length file)
+    (on : Continues kind q file new) where
   -- the new file is as long at least
   longer : length file ≤ length new
   longer =
       let size = length_put file q on.over (omega (arith, on.whole, room)) in
-      let long : length new ≡ length (put file q on.over) + length on.more = ap length on.bytes ∙ length-append (put file q on.over) on.more in
+      let long : length new ≡ length (put file q on.over) + length on.more =
+      ap length on.bytes ∙ length-append (put file q on.over) on.more in
       omega (arith, size, long)
 
   -- bytes apart from the link are the same
@@ -38,16 +40,21 @@ module _ (kind : FileKind) (q : ℕ) (file new : List ℕ) (room : q + offset_le
 
   -- a row of a chunk that isn't compressed
   plain_row : (offset count at n : ℕ) → AreBytesClear kind file q (offset + at) n
-      → bytes_at (data_by_method new method.None offset count) at n ≡ bytes_at (data_by_method file method.None offset count) at n
+      → bytes_at (data_by_method new method.None offset count) at n
+      ≡ bytes_at (data_by_method file method.None offset count) at n
   plain_row offset count at n c =
-      ap (take n) (drop-drop at offset new) ∙ same_there (offset + at) n c ∙ sym (ap (take n) (drop-drop at offset file))
+      ap (take n) (drop-drop at offset new) ∙ same_there (offset + at) n c
+      ∙ sym (ap (take n) (drop-drop at offset file))
 
   -- the data of a chunk of PackBits data
   packed_data : (offset count : ℕ) → AreBytesClear kind file q offset count
-      → data_by_method new method.PackBits offset count ≡ data_by_method file method.PackBits offset count
+      → data_by_method new method.PackBits offset count
+      ≡ data_by_method file method.PackBits offset count
   packed_data offset count c =
-      let a : nat_lt (length new - offset) count ≡ false = not_less (length new - offset) count (omega (arith, c.0, longer)) in
-      let b : nat_lt (length file - offset) count ≡ false = not_less (length file - offset) count (omega (arith, c.0)) in
+      let a : nat_lt (length new - offset) count ≡ false =
+      not_less (length new - offset) count (omega (arith, c.0, longer)) in
+      let b : nat_lt (length file - offset) count ≡ false =
+      not_less (length file - offset) count (omega (arith, c.0)) in
       let s = same_there offset count c in
       λ i. (runs ((a ∙ sym b) i) (s i)).out
 
@@ -58,7 +65,9 @@ module _ (kind : FileKind) (q : ℕ) (file new : List ℕ) (room : q + offset_le
       let offset : ℕ = slice_index p.offsets chunk in
       let count : ℕ = slice_index p.byte_counts chunk in
       let n : ℕ = stored_row_bytes p in
-      let Same : CompressionMethod → Type 0 = λ m. bytes_at (data_by_method new m offset count) (row * n) n ≡ bytes_at (data_by_method file m offset count) (row * n) n in
+      let Same : CompressionMethod → Type 0 =
+      λ m. bytes_at (data_by_method new m offset count) (row * n) n
+      ≡ bytes_at (data_by_method file m offset count) (row * n) n in
       elim c as (λ _. Same p.method) [
         | inl w ↦ subst Same (sym w.0) (plain_row offset count (row * n) n w.1)
         | inr w ↦ subst Same (sym w.0) (ap (λ d. bytes_at d (row * n) n) (packed_data offset count w.1))

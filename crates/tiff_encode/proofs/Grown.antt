@@ -31,7 +31,8 @@ pub grown_by_region : GrownByRegion
 grown_by_region kind m file more h =
     let g = kept_by_appending kind m file more h in
     let new : ByteRegion = record { offset = length file; bytes = more } in
-    let behind : (r : ByteRegion) → In r m.regions → r.offset + length r.bytes ≤ length file = h.within in
+    let behind : (r : ByteRegion) → In r m.regions
+    → r.offset + length r.bytes ≤ length file = h.within in
     record {
       header = g.header;
       first = g.first;
@@ -130,7 +131,8 @@ grown_by_supplied kind m file new b c h = record {
 }
 
 -- the bytes of a field that fits its entry
-inline_bytes : (kind : FileKind) (file : List ℕ) (f : Field) → field_len f ≤ offset_len kind → field_len f < 2 ^ 64
+inline_bytes : (kind : FileKind) (file : List ℕ) (f : Field) → field_len f ≤ offset_len kind
+    → field_len f < 2 ^ 64
     → field_bytes kind LittleEndian file f ≡ Ok (take (field_len f) f.value)
 unfolding field_bytes
 inline_bytes kind file f l b =
@@ -138,18 +140,22 @@ inline_bytes kind file f l b =
     let x : Result (List ℕ) TiffError = Ok (take n f.value) in
     let y : Result (List ℕ) TiffError = exactly_at file (field_offset kind LittleEndian f) n in
     let z : Result (List ℕ) TiffError = Err LimitsExceeded in
-    ap (λ t. cond t (cond (leb n (offset_len kind)) x y) z) (le-leb _ _ b) ∙ ap (λ t. cond t x y) (le-leb _ _ l)
+    ap (λ t. cond t (cond (leb n (offset_len kind)) x y) z) (le-leb _ _ b)
+    ∙ ap (λ t. cond t x y) (le-leb _ _ l)
 
 -- the bytes of a field that has its value at an offset
-placed_bytes : (kind : FileKind) (file : List ℕ) (f : Field) → offset_len kind < field_len f → field_len f < 2 ^ 64
-    → field_bytes kind LittleEndian file f ≡ exactly_at file (field_offset kind LittleEndian f) (field_len f)
+placed_bytes : (kind : FileKind) (file : List ℕ) (f : Field) → offset_len kind < field_len f
+    → field_len f < 2 ^ 64
+    → field_bytes kind LittleEndian file f
+    ≡ exactly_at file (field_offset kind LittleEndian f) (field_len f)
 unfolding field_bytes
 placed_bytes kind file f l b =
     let n : ℕ = field_len f in
     let x : Result (List ℕ) TiffError = Ok (take n f.value) in
     let y : Result (List ℕ) TiffError = exactly_at file (field_offset kind LittleEndian f) n in
     let z : Result (List ℕ) TiffError = Err LimitsExceeded in
-    ap (λ t. cond t (cond (leb n (offset_len kind)) x y) z) (le-leb _ _ b) ∙ ap (λ t. cond t x y) (lt-leb _ _ l)
+    ap (λ t. cond t (cond (leb n (offset_len kind)) x y) z) (le-leb _ _ b)
+    ∙ ap (λ t. cond t x y) (lt-leb _ _ l)
 
 -- a value field is short
 offset_short : (kind : FileKind) → offset_len kind < 2 ^ 64
@@ -167,25 +173,30 @@ grown_by_inline kind m file f l h =
 pub grown_by_placed : GrownByPlaced
 grown_by_placed kind m file f r i p n l b h =
     let e : exactly_at file (field_offset kind LittleEndian f) (field_len f) ≡ Ok r.bytes =
-    ap (λ (x : ℕ). exactly_at file x (field_len f)) p ∙ ap (λ (x : ℕ). exactly_at file r.offset x) n ∙ h.regions r i in
+    ap (λ (x : ℕ). exactly_at file x (field_len f)) p ∙ ap (λ (x : ℕ). exactly_at file r.offset x) n
+    ∙ h.regions r i in
     let c : (q : ℕ) → IsLink kind m q
-    → (field_len f ≤ offset_len kind) ⊎ IsClear kind q (field_offset kind LittleEndian f) (field_len f) = λ q j.
+    → (field_len f ≤ offset_len kind)
+    ⊎ IsClear kind q (field_offset kind LittleEndian f) (field_len f) = λ q j.
     let P : ℕ → Type 0 = λ x. IsClear kind q x (field_len f) in
     let Q : ℕ → Type 0 = λ x. IsClear kind q r.offset x in
     inr (subst P (sym p) (subst Q (sym n) ((h.apart q j).regions r i))) in
-    grown_by_supplied kind m file (record { field = f; bytes = r.bytes }) (placed_bytes kind file f l b ∙ e) c h
+    grown_by_supplied kind m file (record { field = f; bytes = r.bytes })
+    (placed_bytes kind file f l b ∙ e) c h
 
 -- ---- directories
 
 -- if the second test doesn't hold and the result is a success, it is the last result
-last_answer : {A : Type 0} (a b : Bool) (x y : Result A TiffError) (e : TiffError) (z : A) → b ≡ false
+last_answer : {A : Type 0} (a b : Bool) (x y : Result A TiffError) (e : TiffError) (z : A)
+    → b ≡ false
     → cond a (cond b x y) (Err e) ≡ Ok z → y ≡ Ok z
 last_answer true true x y e z f h = absurd cc
 last_answer true false x y e z f h = h
 last_answer false b x y e z f h = absurd cc
 
 -- the bytes of a field with its value at an offset are within the file
-placed_within : (kind : FileKind) (file : List ℕ) (f : Field) (b : List ℕ) → offset_len kind < field_len f
+placed_within : (kind : FileKind) (file : List ℕ) (f : Field) (b : List ℕ)
+    → offset_len kind < field_len f
     → field_bytes kind LittleEndian file f ≡ Ok b
     → field_offset kind LittleEndian f + field_len f ≤ length file
 unfolding field_bytes
@@ -218,7 +229,9 @@ module _ (kind : FileKind) (m : Model) (file : List ℕ) (fields : FinMap nat_cm
 
   -- the length of its entries
   length-body : length (flat_map (entry_bytes kind) (entries fields)) ≡ entry_len kind * len fields
-  length-body = length-entries kind (entries fields) w ∙ ap (λ (n : ℕ). entry_len kind * n) (sym (len-entries fields))
+  length-body =
+      length-entries kind (entries fields) w
+      ∙ ap (λ (n : ℕ). entry_len kind * n) (sym (len-entries fields))
 
   -- the count of the appended directory is readable
   count_at : number_at LittleEndian (count_width kind) grown_file (length file) ≡ Ok (len fields)
@@ -239,10 +252,13 @@ module _ (kind : FileKind) (m : Model) (file : List ℕ) (fields : FinMap nat_cm
       let C : List ℕ = le (count_len kind) n in
       let B : List ℕ = flat_map (entry_bytes kind) es in
       let Z : List ℕ = le (offset_len kind) 0 in
-      let g : file ++ (C ++ (B ++ Z)) ≡ (file ++ C) ++ (B ++ Z) = sym (append_assoc file C (B ++ Z)) in
-      let l : length (file ++ C) ≡ first = omega (arith, length-append file C, length-le 0 (count_len kind) n) in
+      let g : file ++ (C ++ (B ++ Z)) ≡ (file ++ C) ++ (B ++ Z) =
+      sym (append_assoc file C (B ++ Z)) in
+      let l : length (file ++ C) ≡ first =
+      omega (arith, length-append file C, length-le 0 (count_len kind) n) in
       ap (λ (f : List ℕ). last_of_each (entries_from kind LittleEndian f first n)) g
-      ∙ ap (λ (k : ℕ). last_of_each (entries_from kind LittleEndian ((file ++ C) ++ (B ++ Z)) first k))
+      ∙ ap (λ (k : ℕ). last_of_each (entries_from kind LittleEndian ((file ++ C)
+      ++ (B ++ Z)) first k))
       (len-entries fields)
       ∙ ap last_of_each (entries_read kind es (file ++ C) Z first w l)
       ∙ last_of_entries fields
@@ -262,7 +278,8 @@ module _ (kind : FileKind) (m : Model) (file : List ℕ) (fields : FinMap nat_cm
       sym (append_assoc file C (B ++ Z)) ∙ sym (append_assoc (file ++ C) B Z)
       ∙ ap (λ z. ((file ++ C) ++ B) ++ z) (sym (append-nil Z)) in
       ap (λ (f : List ℕ). number_at LittleEndian (offset_width kind) f own) g
-      ∙ number_mid (offset_width kind) ((file ++ C) ++ B) [] own 0 (is_offset_width kind) l (zero_fits kind)
+      ∙ number_mid (offset_width kind) ((file ++ C)
+      ++ B) [] own 0 (is_offset_width kind) l (zero_fits kind)
 
   -- the link of the appended directory is the end of the file
   length-grown : length grown_file ≡ own + offset_len kind
@@ -335,7 +352,8 @@ module _ (kind : FileKind) (m : Model) (file : List ℕ) (fields : FinMap nat_cm
     ];
     supplied = λ y i. elim (cases_Bool (leb (field_len y.field) (offset_len kind))) [
       | inl t ↦ inl (leb-true _ _ t)
-      | inr f ↦ inr (inl (let x = placed_within kind file y.field y.bytes (leb-false _ _ f) (h.supplied y i) in
+      | inr f ↦ inr (inl (let x =
+          placed_within kind file y.field y.bytes (leb-false _ _ f) (h.supplied y i) in
           omega (arith, x)))
     ];
     regions = λ r i. inl (let x = h.within r i in omega (arith, x));
@@ -346,7 +364,8 @@ module _ (kind : FileKind) (m : Model) (file : List ℕ) (fields : FinMap nat_cm
   }
 
   -- all directories lie in the file
-  all_within : FileContains kind grown_file m → (d : FinishedDirectory) → In d (with_directory kind m fresh).directories
+  all_within : FileContains kind grown_file m → (d : FinishedDirectory)
+      → In d (with_directory kind m fresh).directories
       → d.offset + whole_len kind d ≤ length grown_file
   all_within g d i = elim i [
     | inl s ↦ (let P : FinishedDirectory → Type 0 = λ x. x.offset + whole_len kind x ≤ length grown_file in
@@ -374,7 +393,8 @@ module _ (kind : FileKind) (m : Model) (file : List ℕ) (fields : FinMap nat_cm
   ]
 
   -- no directory overlaps a region
-  all_apart_of_regions : (d : FinishedDirectory) (r : ByteRegion) → In d (with_directory kind m fresh).directories
+  all_apart_of_regions : (d : FinishedDirectory) (r : ByteRegion)
+      → In d (with_directory kind m fresh).directories
       → In r m.regions
       → BytesAreApart d.offset (whole_len kind d) r.offset (length r.bytes)
   all_apart_of_regions d r i j = elim i [
@@ -401,11 +421,13 @@ module _ (kind : FileKind) (m : Model) (file : List ℕ) (fields : FinMap nat_cm
               (links own) count_at fields_at
               (own_at ∙ ap (λ t. Ok (cond t 0 (m.links own))) (sym (eq-eqb own own refl)))))
           | inr j ↦ rw (ne_eqb (own_link kind d) own
-              (not_own (own_link kind d) (old_within (own_link kind d) (inr (d, (j, refl)))))) (g.directories d j)
+              (not_own (own_link kind d) (old_within (own_link kind d) (inr (d, (j, refl))))))
+              (g.directories d j)
         ];
         counts = λ d i. elim i [
           | inl s ↦ (let P : FinishedDirectory → Type 0 =
-              λ x. number_at LittleEndian (count_width kind) grown_file x.offset ≡ Ok (len x.fields) in
+              λ x. number_at LittleEndian (count_width kind) grown_file x.offset
+              ≡ Ok (len x.fields) in
               subst P (sym s) count_at)
           | inr j ↦ g.counts d j
         ];
@@ -431,14 +453,19 @@ pub grown_by_listing : GrownByListing
 grown_by_listing kind m file fields a h =
     let stood : FinMap nat_cmp Field = standing_fields kind fields in
     let d : FinishedDirectory = record { offset = length file; fields = stood } in
-    let few : len stood < 256 ^ count_len kind = (let f = a.few in omega (arith, f, len_standing kind fields)) in
-    let P : List ℕ → Type 0 = λ bytes. FileContains kind (file ++ bytes) (with_directory kind m d) in
+    let few : len stood < 256 ^ count_len kind =
+    (let f = a.few in omega (arith, f, len_standing kind fields)) in
+    let P : List ℕ → Type 0 =
+    λ bytes. FileContains kind (file ++ bytes) (with_directory kind m d) in
     subst P (sym (bytes_standing kind fields a.each))
     (directory_stands kind m file stood (standing_writable kind fields a.each) few h)
 
 -- a directory that a call appends and links to is part of the model
 pub finished : FinishStep
 finished kind m file fields parent a l i h =
-    let d : FinishedDirectory = record { offset = length file; fields = standing_fields kind fields } in
-    kept_by_patching kind (with_directory kind m d) (file ++ directory_bytes kind fields) parent (length file)
-    (elim i [ inl x ↦ inl x | inr y ↦ inr (y.0, (inr y.1.0, y.1.1)) ]) l (grown_by_listing kind m file fields a h)
+    let d : FinishedDirectory =
+    record { offset = length file; fields = standing_fields kind fields } in
+    kept_by_patching kind (with_directory kind m d) (file
+    ++ directory_bytes kind fields) parent (length file)
+    (elim i [ inl x ↦ inl x | inr y ↦ inr (y.0, (inr y.1.0, y.1.1)) ]) l
+    (grown_by_listing kind m file fields a h)

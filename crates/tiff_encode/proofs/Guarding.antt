@@ -38,12 +38,14 @@ use Rattle.tiff_encode.proofs.Leaving.{refused_leaves, ok_err, unended, in_order
 abbrev opens : OpenDirectory → WriteCall OpenDirectory
 opens d = pad >>= (λ _. gives d)
 
-opens_told : (d : OpenDirectory) (old new : FileState) → old.fault ≡ None → new ≡ file_with_bytes old (padding (end_of old))
+opens_told : (d : OpenDirectory) (old new : FileState) → old.fault ≡ None
+    → new ≡ file_with_bytes old (padding (end_of old))
     → EndsAsDefined (by_cause (begin_cause old) (opens d) old) (Ok d) new
 unfolding begin_cause
 opens_told d old new f s =
     let view : OpenDirectory → OpenDirectory = λ x. x in
-    uncaused view (begin_cause old) (opens d) (Ok d) old new (fresh_cause old.fault None f) (record { answer = refl; state = s })
+    uncaused view (begin_cause old) (opens d) (Ok d) old new (fresh_cause old.fault None f)
+    (record { answer = refl; state = s })
 
 opens_fails : (d : OpenDirectory) (e : TiffError) (old new : FileState)
     → AppendIsStopped e old new ⊎ AppendIsCut (padding (end_of old)) e old new
@@ -54,7 +56,8 @@ opens_fails d e old new h =
     let told : WriteOutcome OpenDirectory = by_cause (begin_cause old) (opens d) old in
     elim h as (λ _. CallFails told e old new) [
       | inl s ↦ subst (λ n. CallFails told e old n) (sym s.same)
-          (refused view (begin_cause old) (opens d) old e (stopped_cause old.fault None s.failed ∙ ap Some (sym s.fault)))
+          (refused view (begin_cause old) (opens d) old e (stopped_cause old.fault None s.failed
+          ∙ ap Some (sym s.fault)))
       | inr c ↦ uncaused view (begin_cause old) (opens d) (Err e) old new (fresh_cause old.fault None c.fresh)
           (inr (inl (cut_off (Appended (padding (end_of old)) ∷ []) e old new
           (subst (λ xs. AppendIsCut xs e old new) (sym (append-nil (padding (end_of old)))) c))))
@@ -62,7 +65,8 @@ opens_fails d e old new h =
 
 -- `image_directory` succeeds
 pub begun_told : (old new : FileState) (fields : FinMap nat_cmp Field) (chain : ℕ)
-    → (old.fault ≡ None) × (new ≡ file_with_bytes old (padding (end_of old))) → fields ≡ empty → chain ≡ new.chain
+    → (old.fault ≡ None) × (new ≡ file_with_bytes old (padding (end_of old))) → fields ≡ empty
+    → chain ≡ new.chain
     → EndsAsDefined (image_directory old) (Ok (record { fields = fields; parent = Some chain; chained = true })) new
 unfolding image_directory
 begun_told old new fields chain h f c =
@@ -71,7 +75,8 @@ begun_told old new fields chain h f c =
     (sym (λ i. record { fields = f i; parent = Some (last i); chained = true }))
     (opens_told (new_directory (Some old.chain) true) old new h.0 h.1)
 
-pub begun_fails : (e : TiffError) (old new : FileState) → AppendIsStopped e old new ⊎ AppendIsCut (padding (end_of old)) e old new
+pub begun_fails : (e : TiffError) (old new : FileState)
+    → AppendIsStopped e old new ⊎ AppendIsCut (padding (end_of old)) e old new
     → CallFails (image_directory old) e old new
 unfolding image_directory
 begun_fails e old new h = opens_fails (new_directory (Some old.chain) true) e old new h
@@ -85,7 +90,8 @@ extra_told old new fields h f =
     subst (λ d. EndsAsDefined (extra_directory old) (Ok d) new) (sym (λ i. record { fields = f i; parent = None; chained = false }))
     (opens_told (new_directory None false) old new h.0 h.1)
 
-pub extra_fails : (e : TiffError) (old new : FileState) → AppendIsStopped e old new ⊎ AppendIsCut (padding (end_of old)) e old new
+pub extra_fails : (e : TiffError) (old new : FileState)
+    → AppendIsStopped e old new ⊎ AppendIsCut (padding (end_of old)) e old new
     → CallFails (extra_directory old) e old new
 unfolding extra_directory
 extra_fails e old new h = opens_fails (new_directory None false) e old new h
@@ -108,7 +114,8 @@ uncaused_by None call file x h = refl
 uncaused_by (Some e) call file x h = absurd (ok_err (sym h))
 
 -- no sink error precedes a call that nothing refuses
-pub fresh_by : (fault : Option SinkFault) (cause : Option TiffError) → unless_ended fault cause ≡ None → fault ≡ None
+pub fresh_by : (fault : Option SinkFault) (cause : Option TiffError)
+    → unless_ended fault cause ≡ None → fault ≡ None
 fresh_by None cause h = refl
 fresh_by (Some f) cause h = absurd cc
 
@@ -127,7 +134,8 @@ entry_of (Bytes type bytes) = write_entry_bytes type bytes
 abbrev pub tag_of : OpenDirectory → Tag → Value → WriteCall OpenDirectory
 tag_of d t (Given value) = write_tag d t value
 tag_of d t (Lent b) = write_tag_buf d t b
-tag_of d t (Bytes type bytes) = write_entry_bytes type bytes >>= (λ field. gives (with_field d t field))
+tag_of d t (Bytes type bytes) =
+    write_entry_bytes type bytes >>= (λ field. gives (with_field d t field))
 
 pub tag_called : (d : OpenDirectory) (t : Tag) (v : Value) (file : FileState)
     → tag_of d t v file ≡ (entry_of v >>= (λ field. gives (with_field d t field))) file
@@ -141,17 +149,21 @@ value_adds (Given value) file = entry_adds value file
 value_adds (Lent b) file = entry_buf_adds b file
 value_adds (Bytes type bytes) file = entry_bytes_adds type bytes file
 
-value_fresh : (v : Value) (file : FileState) (field : Field) → (entry_of v file).answer ≡ Ok field → file.fault ≡ None
+value_fresh : (v : Value) (file : FileState) (field : Field) → (entry_of v file).answer ≡ Ok field
+    → file.fault ≡ None
 unfolding write_entry write_entry_buf write_entry_bytes write_tag_cause write_buf_cause write_entry_bytes_cause
 value_fresh (Given value) file field h =
-    fresh_by file.fault _ (uncaused_by (write_tag_cause file value) (λ f. (answers value >>= placed_field) f) file field h)
-value_fresh (Lent b) file field h = fresh_by file.fault _ (uncaused_by (write_buf_cause file b) (placed_field (buffer_data b)) file field h)
+    fresh_by file.fault _ (uncaused_by (write_tag_cause file value) (λ f. (answers value
+    >>= placed_field) f) file field h)
+value_fresh (Lent b) file field h =
+    fresh_by file.fault _ (uncaused_by (write_buf_cause file b) (placed_field (buffer_data b)) file field h)
 value_fresh (Bytes type bytes) file field h =
     fresh_by file.fault _ (uncaused_by (write_entry_bytes_cause file type bytes) (placed_field (data_in type bytes)) file field h)
 
 -- the call that sets the field succeeds
 pub tag_told : (d : OpenDirectory) (t : Tag) (v : Value) (field : Field) (old new : FileState)
-    → EndsAsDefined (entry_of v old) (Ok field) new → EndsAsDefined (tag_of d t v old) (Ok (with_field d t field)) new
+    → EndsAsDefined (entry_of v old) (Ok field) new
+    → EndsAsDefined (tag_of d t v old) (Ok (with_field d t field)) new
 tag_told d t v field old new h =
     subst (λ told. EndsAsDefined told (Ok (with_field d t field)) new) (sym (tag_called d t v old))
     (given_told (with_field d t) (entry_of v) field old new h)
@@ -169,29 +181,37 @@ opens_fits : (cause : Option TiffError) (d : OpenDirectory) (file : FileState) (
     → OpsFit file.kind file.bytes m (by_cause cause (opens d) file).ops
 opens_fits cause d file m = caused_fits cause (opens d) file m (λ _. (tt, tt))
 
-pub begin_leaves : {X : Type 0} (view : X → OpenDirectory) (r : Result X TiffError) (old new : FileState) (m : Model)
-    → FileContains old.kind old.bytes m → Ends view (image_directory old) r old new → Leaves (image_directory old) r old new m
+pub begin_leaves : {X : Type 0} (view : X → OpenDirectory) (r : Result X TiffError)
+    (old new : FileState) (m : Model)
+    → FileContains old.kind old.bytes m → Ends view (image_directory old) r old new
+    → Leaves (image_directory old) r old new m
 unfolding image_directory
 begin_leaves view r old new m s e =
     let d : OpenDirectory = new_directory (Some old.chain) true in
-    adds_leaves view (by_cause (begin_cause old) (opens d) old) r old new m (begin_adds old) (opens_fits (begin_cause old) d old m) s e
+    adds_leaves view (by_cause (begin_cause old) (opens d) old) r old new m (begin_adds old)
+    (opens_fits (begin_cause old) d old m) s e
 
-pub extra_leaves : {X : Type 0} (view : X → OpenDirectory) (r : Result X TiffError) (old new : FileState) (m : Model)
-    → FileContains old.kind old.bytes m → Ends view (extra_directory old) r old new → Leaves (extra_directory old) r old new m
+pub extra_leaves : {X : Type 0} (view : X → OpenDirectory) (r : Result X TiffError)
+    (old new : FileState) (m : Model)
+    → FileContains old.kind old.bytes m → Ends view (extra_directory old) r old new
+    → Leaves (extra_directory old) r old new m
 unfolding extra_directory
 extra_leaves view r old new m s e =
     let d : OpenDirectory = new_directory None false in
-    adds_leaves view (by_cause (begin_cause old) (opens d) old) r old new m (extra_adds old) (opens_fits (begin_cause old) d old m) s e
+    adds_leaves view (by_cause (begin_cause old) (opens d) old) r old new m (extra_adds old)
+    (opens_fits (begin_cause old) d old m) s e
 
 -- what `write_data` and `write_data_buf` leave
 data_fits : (value : Result FieldData TiffError) (file : FileState) (m : Model)
     → OpsFit file.kind file.bytes m (write_data value file).ops
 unfolding write_data
 data_fits (Ok value) file m =
-    caused_fits (write_data_cause file (Ok value)) (answers (Ok value) >>= (λ (known : FieldData). appends known.bytes)) file m
+    caused_fits (write_data_cause file (Ok value)) (answers (Ok value)
+    >>= (λ (known : FieldData). appends known.bytes)) file m
     (λ _. (tt, tt))
 data_fits (Err e) file m =
-    caused_fits (write_data_cause file (Err e)) (answers (Err e) >>= (λ (known : FieldData). appends known.bytes)) file m (λ _. tt)
+    caused_fits (write_data_cause file (Err e)) (answers (Err e)
+    >>= (λ (known : FieldData). appends known.bytes)) file m (λ _. tt)
 
 pub data_leaves : {X : Type 0} (view : X → ℕ) (r : Result X TiffError) (old new : FileState) (m : Model)
     (value : Result FieldData TiffError) → FileContains old.kind old.bytes m
@@ -199,9 +219,11 @@ pub data_leaves : {X : Type 0} (view : X → ℕ) (r : Result X TiffError) (old 
 data_leaves view r old new m value s e =
     adds_leaves view (write_data value old) r old new m (data_adds value old) (data_fits value old m) s e
 
-data_buf_fits : (b : BufferRecord) (file : FileState) (m : Model) → OpsFit file.kind file.bytes m (write_data_buf b file).ops
+data_buf_fits : (b : BufferRecord) (file : FileState) (m : Model)
+    → OpsFit file.kind file.bytes m (write_data_buf b file).ops
 unfolding write_data_buf
-data_buf_fits b file m = caused_fits (write_data_buf_cause file b) (appends b.bytes) file m (λ _. (tt, tt))
+data_buf_fits b file m =
+    caused_fits (write_data_buf_cause file b) (appends b.bytes) file m (λ _. (tt, tt))
 
 pub data_buf_leaves : {X : Type 0} (view : X → ℕ) (r : Result X TiffError) (old new : FileState) (m : Model)
     (b : BufferRecord) → FileContains old.kind old.bytes m
@@ -211,7 +233,8 @@ data_buf_leaves view r old new m b s e =
 
 -- ---- the changes of a call that writes a value fit
 
-entry_fits : (value : Result FieldData TiffError) (file : FileState) (m : Model) → IsGiven value → end_of file < 2 ^ 64
+entry_fits : (value : Result FieldData TiffError) (file : FileState) (m : Model) → IsGiven value
+    → end_of file < 2 ^ 64
     → OpsFit file.kind file.bytes m (write_entry value file).ops
 unfolding write_entry write_tag_cause
 entry_fits (Ok value) file m g l =
@@ -220,7 +243,8 @@ entry_fits (Ok value) file m g l =
 entry_fits (Err e) file m g l =
     caused_fits (write_tag_cause file (Err e)) (answers (Err e) >>= placed_field) file m (λ _. tt)
 
-buf_fits : (b : BufferRecord) (file : FileState) (m : Model) → length b.bytes < 2 ^ 64 → end_of file < 2 ^ 64
+buf_fits : (b : BufferRecord) (file : FileState) (m : Model) → length b.bytes < 2 ^ 64
+    → end_of file < 2 ^ 64
     → OpsFit file.kind file.bytes m (write_entry_buf b file).ops
 unfolding write_entry_buf write_buf_cause
 buf_fits b file m n l =
@@ -228,7 +252,8 @@ buf_fits b file m n l =
     (λ h. placed_fits file m (buffer_data b) (data_whole b.data_type b.bytes)
     (in_order b.order (field_cause file (buffer_data b)) (unended file.fault _ h)) l (data_short b.data_type b.bytes n))
 
-bytes_fit : (type : «Type») (bytes : List ℕ) (file : FileState) (m : Model) → length bytes < 2 ^ 64 → end_of file < 2 ^ 64
+bytes_fit : (type : «Type») (bytes : List ℕ) (file : FileState) (m : Model) → length bytes < 2 ^ 64
+    → end_of file < 2 ^ 64
     → OpsFit file.kind file.bytes m (write_entry_bytes type bytes file).ops
 unfolding write_entry_bytes write_entry_bytes_cause
 bytes_fit type bytes file m n l =
@@ -241,13 +266,15 @@ abbrev EndFits : FileState → Type 0
 EndFits file = file.fault ≡ None → end_of file < 2 ^ 64
 
 -- if the end of a file after an append is a 64-bit number, the end before it is one
-module _ {A : Type 0} (told : WriteOutcome A) (old new : FileState) (g : Adds told old) (s : new ≡ told.next) (f : old.fault ≡ None)
+module _ {A : Type 0} (told : WriteOutcome A) (old new : FileState) (g : Adds told old)
+    (s : new ≡ told.next) (f : old.fault ≡ None)
     (fits : EndFits new) where
   grown_short : end_of old + length (all_appended old.kind told.ops) < 2 ^ 64
   grown_short =
       let all : List ℕ = all_appended old.kind told.ops in
       let same : new ≡ file_with_bytes old all = s ∙ g.next in
-      let sum : end_of new ≡ end_of old + length all = ap end_of same ∙ length-append old.bytes all in
+      let sum : end_of new ≡ end_of old + length all =
+      ap end_of same ∙ length-append old.bytes all in
       let short = fits (ap (λ file. file.fault) same ∙ f) in
       omega (arith, short, sum)
 
@@ -255,8 +282,10 @@ module _ {A : Type 0} (told : WriteOutcome A) (old new : FileState) (g : Adds to
   old_short = let h = grown_short in omega (arith, h)
 
 -- the number of bytes of a written value is a 64-bit number
-value_short : (kind : FileKind) (long : Bool) (bytes : List ℕ) (h : SuppliedField) → nat_lt (offset_len kind) (length bytes) ≡ long
-    → length (all_appended kind (cond long (Appended bytes ∷ Supplied h ∷ []) (Supplied h ∷ []) ++ [])) < 2 ^ 64
+value_short : (kind : FileKind) (long : Bool) (bytes : List ℕ) (h : SuppliedField)
+    → nat_lt (offset_len kind) (length bytes) ≡ long
+    → length (all_appended kind (cond long (Appended bytes ∷ Supplied h ∷ []) (Supplied h ∷ [])
+    ++ [])) < 2 ^ 64
     → length bytes < 2 ^ 64
 value_short kind true bytes h t l = subst (λ xs. length xs < 2 ^ 64) (append-nil bytes) l
 value_short kind false bytes h t l =
@@ -265,8 +294,10 @@ value_short kind false bytes h t l =
     omega (arith, below, eight)
 
 -- a value that a call writes is valid data
-entry_given : (value : Result FieldData TiffError) (type : «Type») (count : ℕ) (field : Field) (old new : FileState)
-    → IsValue type count value → EndFits new → EndsAsDefined (write_entry value old) (Ok field) new → IsGiven value × (end_of old < 2 ^ 64)
+entry_given : (value : Result FieldData TiffError) (type : «Type») (count : ℕ) (field : Field)
+    (old new : FileState)
+    → IsValue type count value → EndFits new → EndsAsDefined (write_entry value old) (Ok field) new
+    → IsGiven value × (end_of old < 2 ^ 64)
 unfolding write_entry
 entry_given (Err e) type count field old new v fits h =
     let told : WriteOutcome Field = write_entry (Err e) old in
@@ -293,8 +324,10 @@ IsAllowed (Given value) = (type : «Type») × ((count : ℕ) × IsValue type co
 IsAllowed (Lent b) = length b.bytes < 2 ^ 64
 IsAllowed (Bytes type bytes) = length bytes < 2 ^ 64
 
-value_fits : (v : Value) (field : Field) (old new : FileState) (m : Model) → IsAllowed v → EndFits new
-    → EndsAsDefined (entry_of v old) (Ok field) new → OpsFit old.kind old.bytes m (entry_of v old).ops
+value_fits : (v : Value) (field : Field) (old new : FileState) (m : Model) → IsAllowed v
+    → EndFits new
+    → EndsAsDefined (entry_of v old) (Ok field) new
+    → OpsFit old.kind old.bytes m (entry_of v old).ops
 value_fits (Given value) field old new m a fits h =
     let x = entry_given value a.0 a.1.0 field old new a.1.1 fits h in entry_fits value old m x.0 x.1
 value_fits (Lent b) field old new m a fits h =
@@ -304,48 +337,64 @@ value_fits (Bytes type bytes) field old new m a fits h =
     (old_short (write_entry_bytes type bytes old) old new (entry_bytes_adds type bytes old) h.state (value_fresh (Bytes type bytes) old field h.answer) fits)
 
 -- what a call leaves that writes a value
-pub entry_left : (v : Value) (field : Field) (old new : FileState) (m : Model) → IsAllowed v → EndFits new
+pub entry_left : (v : Value) (field : Field) (old new : FileState) (m : Model) → IsAllowed v
+    → EndFits new
     → EndsAsDefined (entry_of v old) (Ok field) new → FileContains old.kind old.bytes m
     → FileContains old.kind new.bytes (model_after old.kind old.bytes m (entry_of v old).ops)
 entry_left v field old new m a fits h s =
     let view : Field → Field = λ f. f in
-    adds_leaves view (entry_of v old) (Ok field) old new m (value_adds v old) (value_fits v field old new m a fits h) s h
+    adds_leaves view (entry_of v old) (Ok field) old new m (value_adds v old)
+    (value_fits v field old new m a fits h) s h
 
-pub entry_leaves : (v : Value) (r : Result Field TiffError) (old new : FileState) (m : Model) → IsAllowed v → EndFits new
-    → Ends (λ (field : Field). field) (entry_of v old) r old new → FileContains old.kind old.bytes m → Leaves (entry_of v old) r old new m
+pub entry_leaves : (v : Value) (r : Result Field TiffError) (old new : FileState) (m : Model)
+    → IsAllowed v → EndFits new
+    → Ends (λ (field : Field). field) (entry_of v old) r old new → FileContains old.kind old.bytes m
+    → Leaves (entry_of v old) r old new m
 entry_leaves v (Ok field) old new m a fits h s = entry_left v field old new m a fits h s
-entry_leaves v (Err e) old new m a fits h s = failed_leaves (entry_of v old) e old new m (value_adds v old) h s
+entry_leaves v (Err e) old new m a fits h s =
+    failed_leaves (entry_of v old) e old new m (value_adds v old) h s
 
 -- ---- a directory after its opening
 
-pub begun_left : (old new : FileState) (d : OpenDirectory) (m : Model) → EndsAsDefined (image_directory old) (Ok d) new
-    → FileContains old.kind old.bytes m → FileContains old.kind new.bytes (model_after old.kind old.bytes m (image_directory old).ops)
-begun_left old new d m h s = let view : OpenDirectory → OpenDirectory = λ f. f in begin_leaves view (Ok d) old new m s h
+pub begun_left : (old new : FileState) (d : OpenDirectory) (m : Model)
+    → EndsAsDefined (image_directory old) (Ok d) new
+    → FileContains old.kind old.bytes m
+    → FileContains old.kind new.bytes (model_after old.kind old.bytes m (image_directory old).ops)
+begun_left old new d m h s =
+    let view : OpenDirectory → OpenDirectory = λ f. f in begin_leaves view (Ok d) old new m s h
 
-pub extra_left : (old new : FileState) (d : OpenDirectory) (m : Model) → EndsAsDefined (extra_directory old) (Ok d) new
-    → FileContains old.kind old.bytes m → FileContains old.kind new.bytes (model_after old.kind old.bytes m (extra_directory old).ops)
-extra_left old new d m h s = let view : OpenDirectory → OpenDirectory = λ f. f in extra_leaves view (Ok d) old new m s h
+pub extra_left : (old new : FileState) (d : OpenDirectory) (m : Model)
+    → EndsAsDefined (extra_directory old) (Ok d) new
+    → FileContains old.kind old.bytes m
+    → FileContains old.kind new.bytes (model_after old.kind old.bytes m (extra_directory old).ops)
+extra_left old new d m h s =
+    let view : OpenDirectory → OpenDirectory = λ f. f in extra_leaves view (Ok d) old new m s h
 
 -- ---- the end of a directory
 
-finish_fresh : (d : OpenDirectory) (file : FileState) (offsets : Offsets) → (finish d file).answer ≡ Ok offsets → file.fault ≡ None
+finish_fresh : (d : OpenDirectory) (file : FileState) (offsets : Offsets)
+    → (finish d file).answer ≡ Ok offsets → file.fault ≡ None
 unfolding finish finish_cause
 finish_fresh d file offsets h =
     let ops : List WriteOp = Listed d.fields ∷ links_to d.parent (end_of file) in
-    let call : WriteCall Offsets = does ops >>= (λ _. chains d.chained (offsets_of file.kind (end_of file) (len d.fields))) in
+    let call : WriteCall Offsets =
+    does ops >>= (λ _. chains d.chained (offsets_of file.kind (end_of file) (len d.fields))) in
     fresh_by file.fault _ (uncaused_by (finish_cause file d) call file offsets h)
 
 -- a sink error differs from no error
 no_fault : {fault : SinkFault} → let a : Option SinkFault = Some fault in a ≡ None → ⊥
 no_fault h = cc
 
-module _ (old new : FileState) (m : Model) (d : OpenDirectory) (a : AreEntries d.fields) (n : len d.fields < 2 ^ 64) (fits : EndFits old)
+module _ (old new : FileState) (m : Model) (d : OpenDirectory) (a : AreEntries d.fields)
+    (n : len d.fields < 2 ^ 64) (fits : EndFits old)
     (s : FileContains old.kind old.bytes m) (p : (offset : ℕ) → d.parent ≡ Some offset → IsLink old.kind m offset) where
   -- what the end of a directory leaves, by whether the sink fails before it
-  ended_left : {X : Type 0} (view : X → Offsets) (fault : Option SinkFault) (r : Result X TiffError) → old.fault ≡ fault
+  ended_left : {X : Type 0} (view : X → Offsets) (fault : Option SinkFault) (r : Result X TiffError)
+      → old.fault ≡ fault
       → Ends view (finish d old) r old new → LeavesLinked (finish d old) r old new m
   ended_left view None r f h = finish_leaves view r old new m d a n p (fits f) s h
-  ended_left view (Some fault) (Ok x) f h = absurd (no_fault (sym f ∙ finish_fresh d old (view x) h.answer))
+  ended_left view (Some fault) (Ok x) f h =
+      absurd (no_fault (sym f ∙ finish_fresh d old (view x) h.answer))
   ended_left view (Some fault) (Err e) f h =
       elim h as (λ _. FileContains old.kind new.bytes m ⊎ LeavesTorn (finish d old) e old new m) [
         | inl t ↦ inl (refused_leaves (finish d old) e old new m (finish_plain d old) s t)
@@ -355,7 +404,8 @@ module _ (old new : FileState) (m : Model) (d : OpenDirectory) (a : AreEntries d
         ]
       ]
 
-  pub finish_left : {X : Type 0} (view : X → Offsets) (r : Result X TiffError) → Ends view (finish d old) r old new
+  pub finish_left : {X : Type 0} (view : X → Offsets) (r : Result X TiffError)
+      → Ends view (finish d old) r old new
       → LeavesLinked (finish d old) r old new m
   finish_left view r h = ended_left view old.fault r refl h
 
@@ -365,17 +415,22 @@ pub extended_none : (d : OpenDirectory) → d ≡ extend_from d []
 unfolding extend_from
 extended_none d = refl
 
-pub extended_more : (old now : OpenDirectory) (done : List (ℕ × Field)) (tag : ℕ) (field : Field) → now ≡ extend_from old done
-    → record now { fields = insert now.fields tag field } ≡ extend_from old (done ++ (tag, field) ∷ [])
+pub extended_more : (old now : OpenDirectory) (done : List (ℕ × Field)) (tag : ℕ) (field : Field)
+    → now ≡ extend_from old done
+    → record now { fields = insert now.fields tag field }
+    ≡ extend_from old (done ++ (tag, field) ∷ [])
 unfolding extend_from
 extended_more old now done tag field h =
-    let set : FinMap nat_cmp Field → ℕ × Field → FinMap nat_cmp Field = λ fields e. insert fields e.0 e.1 in
-    let more : OpenDirectory → OpenDirectory = λ d. record d { fields = insert d.fields tag field } in
+    let set : FinMap nat_cmp Field → ℕ × Field → FinMap nat_cmp Field =
+    λ fields e. insert fields e.0 e.1 in
+    let more : OpenDirectory → OpenDirectory =
+    λ d. record d { fields = insert d.fields tag field } in
     let having : FinMap nat_cmp Field → OpenDirectory = λ fields. record old { fields = fields } in
     ap more h ∙ sym (ap having (fold-append set old.fields done ((tag, field) ∷ [])))
 
 -- the fields copied before a failure are the first ones of all fields
-pub some_taken : (old now : OpenDirectory) (done rest given : List (ℕ × Field)) → done ++ rest ≡ given → now ≡ extend_from old done
+pub some_taken : (old now : OpenDirectory) (done rest given : List (ℕ × Field))
+    → done ++ rest ≡ given → now ≡ extend_from old done
     → (count : ℕ) × (now ≡ extend_from old (take count given))
 some_taken old now done rest given e h =
     (length done, h ∙ sym (ap (extend_from old) (ap (take (length done)) (sym e) ∙ take_at done rest (length done) refl)))

@@ -26,7 +26,8 @@ header_stands kind =
     let mark : List ℕ = header_mark kind in
     let file : List ℕ = header_bytes kind in
     let first : number_at LittleEndian (offset_width kind) file (header_link kind) ≡ Ok 0 =
-    ap (λ (z : List ℕ). number_at LittleEndian (offset_width kind) (mark ++ z) (length mark)) (sym (append-nil (le k 0)))
+    ap (λ (z : List ℕ). number_at LittleEndian (offset_width kind) (mark
+    ++ z) (length mark)) (sym (append-nil (le k 0)))
     ∙ number_mid (offset_width kind) mark [] (length mark) 0 (is_offset_width kind) refl (zero_fits kind) in
     record {
       header = exact_mid [] mark (le k 0) 0 (length mark) refl refl;

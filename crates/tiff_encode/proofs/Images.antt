@@ -25,27 +25,34 @@ use Rattle.tiff_encode.proofs.Joining.{Adds, bind_told, bind_ends, bind_fails, b
 use Rattle.tiff_encode.proofs.Tagging.{tags_are_fields, fields_adds}
 
 -- the tags of a new image, part by part
-pub first_of : (i : OpenImage) (head chroma tail all : List (Tag × FieldData)) → head ≡ fields_of (meaning_tags i)
-    → fields_of (chroma_tags i.color.interpretation) ≡ chroma → tail ≡ fields_of (layout_tags i) → all ≡ (head ++ chroma) ++ tail
+pub first_of : (i : OpenImage) (head chroma tail all : List (Tag × FieldData))
+    → head ≡ fields_of (meaning_tags i)
+    → fields_of (chroma_tags i.color.interpretation) ≡ chroma → tail ≡ fields_of (layout_tags i)
+    → all ≡ (head ++ chroma) ++ tail
     → all ≡ fields_of (first_tags i)
 unfolding first_tags
 first_of i head chroma tail all h c t a =
     let tell : Tag × Scalars → Tag × FieldData = λ v. (v.0, data_of v.1) in
     let C = fields_of (chroma_tags i.color.interpretation) in
-    a ∙ (λ j. (h j ++ sym c j) ++ t j) ∙ append_assoc (fields_of (meaning_tags i)) C (fields_of (layout_tags i))
+    a ∙ (λ j. (h j ++ sym c j) ++ t j)
+    ∙ append_assoc (fields_of (meaning_tags i)) C (fields_of (layout_tags i))
     ∙ ap (λ x. fields_of (meaning_tags i) ++ x) (sym (map-append tell (chroma_tags i.color.interpretation) (layout_tags i)))
     ∙ sym (map-append tell (meaning_tags i) (chroma_tags i.color.interpretation ++ layout_tags i))
 
 -- the checks of an image return the error that refuses `new_image`
-pub begins_uncaused : (file : FileState) (color : ColorTypeRecord) (kind : FileKind) (end : ℕ) (predictor : Predictor)
-    (unpredicted : Bool) (width height : ℕ) (cause : Option TiffError) → file.fault ≡ None → kind ≡ file.kind → end ≡ end_of file
-    → predictor ≡ file.predictor → unpredicted ≡ is_unpredicted color → image_cause kind end predictor unpredicted width height ≡ cause
+pub begins_uncaused : (file : FileState) (color : ColorTypeRecord) (kind : FileKind) (end : ℕ)
+    (predictor : Predictor)
+    (unpredicted : Bool) (width height : ℕ) (cause : Option TiffError) → file.fault ≡ None
+    → kind ≡ file.kind → end ≡ end_of file
+    → predictor ≡ file.predictor → unpredicted ≡ is_unpredicted color
+    → image_cause kind end predictor unpredicted width height ≡ cause
     → new_image_cause file color width height ≡ cause
 unfolding new_image_cause
 begins_uncaused file color kind end predictor unpredicted width height cause f k e p s c =
     fresh_cause file.fault _ f ∙ sym (λ i. image_cause (k i) (e i) (p i) (s i) width height) ∙ c
 
-none_by : (b : Bool) (e : TiffError) (cause : Option TiffError) → cond b (Some e) cause ≡ None → b ≡ false
+none_by : (b : Bool) (e : TiffError) (cause : Option TiffError) → cond b (Some e) cause ≡ None
+    → b ≡ false
 none_by true e cause h = absurd cc
 none_by false e cause h = refl
 
@@ -84,10 +91,13 @@ module _ (color : ColorTypeRecord) (size width height : ℕ) (old : FileState) w
   abbrev begun_image : WriteCall OpenImage
   begun_image = image_directory >>= tagged
 
-  uncaused_image : (r : Result OpenImage TiffError) (new : FileState) → new_image_cause old color width height ≡ None
-      → Ends (λ i. i) (begun_image old) r old new → Ends (λ i. i) (new_image color size width height old) r old new
+  uncaused_image : (r : Result OpenImage TiffError) (new : FileState)
+      → new_image_cause old color width height ≡ None
+      → Ends (λ i. i) (begun_image old) r old new
+      → Ends (λ i. i) (new_image color size width height old) r old new
   unfolding new_image
-  uncaused_image r new c h = uncaused (λ i. i) (new_image_cause old color width height) begun_image r old new c h
+  uncaused_image r new c h =
+      uncaused (λ i. i) (new_image_cause old color width height) begun_image r old new c h
 
   pub image_refused : (e : TiffError) → new_image_cause old color width height ≡ Some e
       → Ends (λ i. i) (new_image color size width height old) (Err e) old old
@@ -100,51 +110,71 @@ module _ (color : ColorTypeRecord) (size width height : ℕ) (old : FileState) w
   tags_add d file =
       let i : OpenImage = image_in old d color size width height in
       let first : Tag × FieldData = (tag.ImageWidth, data_of (u32s (width ∷ []))) in
-      let others : List (Tag × FieldData) = fields_of (drop 1 (meaning_tags i) ++ (chroma_tags color.interpretation ++ layout_tags i)) in
-      subst (λ told. Adds told file) (sym (tags_are_fields d (tags_in d) file)) (fields_adds d first others file)
+      let others : List (Tag × FieldData) =
+      fields_of (drop 1 (meaning_tags i) ++ (chroma_tags color.interpretation
+      ++ layout_tags i)) in
+      subst (λ told. Adds told file) (sym (tags_are_fields d (tags_in d) file))
+      (fields_adds d first others file)
 
-  directory_short : (e : TiffError) → old.fault ≡ None → e ≡ OutOfMemory → CallFails (image_directory old) e old old
+  directory_short : (e : TiffError) → old.fault ≡ None → e ≡ OutOfMemory
+      → CallFails (image_directory old) e old old
   unfolding image_directory begin_cause
   directory_short e f q =
       let opens : WriteCall OpenDirectory = pad >>= (λ _. gives blank) in
       let d : OpenDirectory → OpenDirectory = λ d. d in
-      uncaused d (begin_cause old) opens (Err e) old old (fresh_cause old.fault None f) (wanting d (opens old) e old f q tt)
+      uncaused d (begin_cause old) opens (Err e) old old (fresh_cause old.fault None f)
+      (wanting d (opens old) e old f q tt)
 
   -- `new_image` runs out of memory for its tags
-  pub image_short : (e : TiffError) → new_image_cause old color width height ≡ None → old.fault ≡ None → e ≡ OutOfMemory
+  pub image_short : (e : TiffError) → new_image_cause old color width height ≡ None
+      → old.fault ≡ None → e ≡ OutOfMemory
       → Ends (λ i. i) (new_image color size width height old) (Err e) old old
-  image_short e c f q = uncaused_image (Err e) old c (bind_fails image_directory tagged e old old (begin_adds old) (directory_short e f q))
+  image_short e c f q =
+      uncaused_image (Err e) old c (bind_fails image_directory tagged e old old (begin_adds old) (directory_short e f q))
 
   -- `new_image` fails to append the zeros before its directory
-  pub image_unpadded : (e : TiffError) (new : FileState) → new_image_cause old color width height ≡ None
-      → AppendIsStopped e old new ⊎ AppendIsCut (padding (end_of old)) e old new → Ends (λ i. i) (new_image color size width height old) (Err e) old new
+  pub image_unpadded : (e : TiffError) (new : FileState)
+      → new_image_cause old color width height ≡ None
+      → AppendIsStopped e old new ⊎ AppendIsCut (padding (end_of old)) e old new
+      → Ends (λ i. i) (new_image color size width height old) (Err e) old new
   image_unpadded e new c h =
       uncaused_image (Err e) new c (bind_fails image_directory tagged e old new (begin_adds old) (begun_fails e old new h))
 
   -- `new_image` appends the zeros and continues with the tags
-  image_padded : (r : Result OpenImage TiffError) (mid new : FileState) → new_image_cause old color width height ≡ None
-      → old.fault ≡ None → mid ≡ file_with_bytes old (padding (end_of old)) → Ends (λ i. i) (tagged blank mid) r mid new
+  image_padded : (r : Result OpenImage TiffError) (mid new : FileState)
+      → new_image_cause old color width height ≡ None
+      → old.fault ≡ None → mid ≡ file_with_bytes old (padding (end_of old))
+      → Ends (λ i. i) (tagged blank mid) r mid new
       → Ends (λ i. i) (new_image color size width height old) r old new
   image_padded r mid new c f s h =
-      let told : EndsAsDefined (image_directory old) (Ok blank) mid = begun_told old mid empty old.chain (f, s) refl (sym (ap (λ n. n.chain) s)) in
+      let told : EndsAsDefined (image_directory old) (Ok blank) mid =
+      begun_told old mid empty old.chain (f, s) refl (sym (ap (λ n. n.chain) s)) in
       uncaused_image r new c (bind_ends (λ i. i) image_directory tagged blank r old mid new (begin_adds old) told h)
 
   -- `new_image` fails at the tags
-  pub image_untagged : (values : List (Tag × FieldData)) (e : TiffError) (mid new : FileState) → new_image_cause old color width height ≡ None
-      → old.fault ≡ None → mid ≡ file_with_bytes old (padding (end_of old)) → values ≡ fields_of (tags_in blank)
-      → CallFails (write_fields blank values mid) e mid new → Ends (λ i. i) (new_image color size width height old) (Err e) old new
+  pub image_untagged : (values : List (Tag × FieldData)) (e : TiffError) (mid new : FileState)
+      → new_image_cause old color width height ≡ None
+      → old.fault ≡ None → mid ≡ file_with_bytes old (padding (end_of old))
+      → values ≡ fields_of (tags_in blank)
+      → CallFails (write_fields blank values mid) e mid new
+      → Ends (λ i. i) (new_image color size width height old) (Err e) old new
   image_untagged values e mid new c f s v h =
       image_padded (Err e) mid new c f s
       (bind_fails (write_tags blank (tags_in blank)) ends_with e mid new (tags_add blank mid)
       (subst (λ told. CallFails told e mid new) (ap (λ xs. write_fields blank xs mid) v ∙ sym (tags_are_fields blank (tags_in blank) mid)) h))
 
   -- `new_image` succeeds
-  pub image_begun : (values : List (Tag × FieldData)) (last : OpenDirectory) (i : OpenImage) (mid new : FileState)
-      → new_image_cause old color width height ≡ None → old.fault ≡ None → mid ≡ file_with_bytes old (padding (end_of old))
-      → values ≡ fields_of (tags_in blank) → EndsAsDefined (write_fields blank values mid) (Ok last) new
-      → i ≡ image_in old last color size width height → Ends (λ i. i) (new_image color size width height old) (Ok i) old new
+  pub image_begun : (values : List (Tag × FieldData)) (last : OpenDirectory) (i : OpenImage)
+      (mid new : FileState)
+      → new_image_cause old color width height ≡ None → old.fault ≡ None
+      → mid ≡ file_with_bytes old (padding (end_of old))
+      → values ≡ fields_of (tags_in blank)
+      → EndsAsDefined (write_fields blank values mid) (Ok last) new
+      → i ≡ image_in old last color size width height
+      → Ends (λ i. i) (new_image color size width height old) (Ok i) old new
   image_begun values last i mid new c f s v h q =
       let tagged_so : EndsAsDefined (write_tags blank (tags_in blank) mid) (Ok last) new =
-      subst (λ told. EndsAsDefined told (Ok last) new) (ap (λ xs. write_fields blank xs mid) v ∙ sym (tags_are_fields blank (tags_in blank) mid)) h in
+      subst (λ told. EndsAsDefined told (Ok last) new) (ap (λ xs. write_fields blank xs mid) v
+      ∙ sym (tags_are_fields blank (tags_in blank) mid)) h in
       image_padded (Ok i) mid new c f s
       (bind_told (write_tags blank (tags_in blank)) ends_with last (Ok i) mid new new tagged_so (record { answer = ap Ok (sym q); state = refl }))

@@ -27,7 +27,8 @@ Keeps file new from to = (p n : ℕ) (s : List ℕ) → from ≤ p → p + n ≤
     → exactly_at new p n ≡ Ok s
 
 pub keeps : (file new : List ℕ) (from to : ℕ)
-    → ((p n : ℕ) (s : List ℕ) → from ≤ p → p + n ≤ to → exactly_at file p n ≡ Ok s → exactly_at new p n ≡ Ok s)
+    → ((p n : ℕ) (s : List ℕ) → from ≤ p → p + n ≤ to → exactly_at file p n ≡ Ok s
+    → exactly_at new p n ≡ Ok s)
     → Keeps file new from to
 unfolding Keeps
 keeps file new from to f = f
@@ -35,19 +36,22 @@ keeps file new from to f = f
 -- ---- entries
 
 -- two functions that agree give the same list
-pub filter_map_same : {A : Type 0} (f g : ℕ → Option A) (a n : ℕ) → ((i : ℕ) → a ≤ i → i < a + n → f i ≡ g i)
+pub filter_map_same : {A : Type 0} (f g : ℕ → Option A) (a n : ℕ)
+    → ((i : ℕ) → a ≤ i → i < a + n → f i ≡ g i)
     → filter_map f (range_with_len a n) ≡ filter_map g (range_with_len a n)
 filter_map_same f g a zero h = refl
 filter_map_same f g a (suc n) h =
     ap (λ o. cons_option o (filter_map f (range_with_len (a + 1) n))) (h a (omega arith) (omega arith))
-    ∙ ap (cons_option (g a)) (filter_map_same f g (a + 1) n (λ i l u. h i (omega arith) (omega arith)))
+    ∙ ap (cons_option (g a)) (filter_map_same f g (a
+    + 1) n (λ i l u. h i (omega arith) (omega arith)))
 
 -- a piece of a row of pieces lies in the row
 pub piece_within : (e i n : ℕ) → i < n → e * i + e ≤ e * n
 piece_within e i n h = let l : i + 1 ≤ n = omega arith in omega (arith, mul-le-mul_left e l)
 
 -- bytes that both files contain are the same
-pub same_bytes : (file new : List ℕ) (from to p n : ℕ) → Keeps file new from to → from ≤ p → p + n ≤ to
+pub same_bytes : (file new : List ℕ) (from to p n : ℕ) → Keeps file new from to → from ≤ p
+    → p + n ≤ to
     → to ≤ length file → bytes_at file p n ≡ bytes_at new p n
 unfolding Keeps
 same_bytes file new from to p n f l u b =
@@ -58,7 +62,8 @@ same_bytes file new from to p n f l u b =
 entries_kept : (kind : FileKind) (file new : List ℕ) (first count : ℕ)
     → Keeps file new first (first + entry_len kind * count)
     → first + entry_len kind * count ≤ length file
-    → entries_from kind LittleEndian file first count ≡ entries_from kind LittleEndian new first count
+    → entries_from kind LittleEndian file first count
+    ≡ entries_from kind LittleEndian new first count
 unfolding entries_from
 entries_kept kind file new first count f b =
     let e : ℕ = entry_len kind in
@@ -114,7 +119,8 @@ directory_parts kind file p n fields t c e =
     } in
     let F : ℕ → Result DirectoryRecord TiffError = λ next. Ok (made next) in
     let g : counted kind file p n ≡ Ok found = sym (ap (λ r. r >>= counted kind file p) c) ∙ e in
-    let i = bind_ok (number_at LittleEndian (offset_width kind) file (link_offset kind p n)) F found g in
+    let i =
+    bind_ok (number_at LittleEndian (offset_width kind) file (link_offset kind p n)) F found g in
     let same : made i.0 ≡ found = ok_inj (made i.0) found i.1.1 in
     let x : i.0 ≡ t = link_inj i.0 t (ap (λ (d : DirectoryRecord). d.next) same) in
     (ap (λ (d : DirectoryRecord). d.entries) same, i.1.0 ∙ ap (λ y. Ok y) x)
@@ -134,7 +140,8 @@ directory_from kind file p n fields t c e l =
     }) in
     ap (λ r. r >>= counted kind file p) c
     ∙ ap (λ r. r >>= F) l
-    ∙ ap (λ (m : FinMap nat_cmp Field). let d : DirectoryRecord = record { entries = m; next = link t } in
+    ∙ ap (λ (m : FinMap nat_cmp Field). let d : DirectoryRecord =
+    record { entries = m; next = link t } in
     let r : Result DirectoryRecord TiffError = Ok d in r) e
 
 -- a directory whose bytes stay the same keeps its entries
@@ -146,7 +153,8 @@ pub body_kept : (kind : FileKind) (file new : List ℕ) (p n : ℕ) (fields : Fi
 unfolding Keeps
 body_kept kind file new p n fields f b e =
     let first : ℕ = first_entry kind p in
-    let g : Keeps file new first (first + entry_len kind * n) = λ a k s l u. f a k s (omega arith) (omega arith) in
+    let g : Keeps file new first (first + entry_len kind * n) =
+    λ a k s l u. f a k s (omega arith) (omega arith) in
     ap last_of_each (sym (entries_kept kind file new first n g (omega arith))) ∙ e
 
 -- ---- written fields
@@ -156,13 +164,15 @@ tests_kept : {A : Type 0} (a b : Bool) (x y new : Result A TiffError) (e : TiffE
     → cond a (cond b x y) (Err e) ≡ Ok z
     → (b ≡ true) ⊎ (y ≡ Ok z → new ≡ Ok z) → cond a (cond b x new) (Err e) ≡ Ok z
 tests_kept true true x y new e z h k = h
-tests_kept true false x y new e z h k = elim k as (λ _. new ≡ Ok z) [ inl t ↦ absurd (false≢true t) | inr f ↦ f h ]
+tests_kept true false x y new e z h k =
+    elim k as (λ _. new ≡ Ok z) [ inl t ↦ absurd (false≢true t) | inr f ↦ f h ]
 tests_kept false b x y new e z h k = absurd cc
 
 -- the bytes of a field stay the same, in its entry or at its offset
 supplied_kept : (kind : FileKind) (file new : List ℕ) (f : Field) (b : List ℕ)
     → field_bytes kind LittleEndian file f ≡ Ok b
-    → (field_len f ≤ offset_len kind) ⊎ (exactly_at file (field_offset kind LittleEndian f) (field_len f) ≡ Ok b
+    → (field_len f ≤ offset_len kind)
+    ⊎ (exactly_at file (field_offset kind LittleEndian f) (field_len f) ≡ Ok b
     → exactly_at new (field_offset kind LittleEndian f) (field_len f) ≡ Ok b)
     → field_bytes kind LittleEndian new f ≡ Ok b
 unfolding field_bytes
@@ -177,19 +187,24 @@ supplied_kept kind file new f b e c =
 -- ---- appending
 
 -- the entries of a directory in the file, and the number in its own link
-pub own_parts : (kind : FileKind) (m : Model) (file : List ℕ) (d : FinishedDirectory) → In d m.directories
+pub own_parts : (kind : FileKind) (m : Model) (file : List ℕ) (d : FinishedDirectory)
+    → In d m.directories
     → FileContains kind file m
-    → (last_of_each (entries_from kind LittleEndian file (first_entry kind d.offset) (len d.fields)) ≡ d.fields)
-    × (number_at LittleEndian (offset_width kind) file (own_link kind d) ≡ Ok (m.links (own_link kind d)))
+    → (last_of_each (entries_from kind LittleEndian file (first_entry kind d.offset) (len d.fields))
+    ≡ d.fields)
+    × (number_at LittleEndian (offset_width kind) file (own_link kind d)
+    ≡ Ok (m.links (own_link kind d)))
 own_parts kind m file d i h =
     directory_parts kind file d.offset (len d.fields) d.fields (m.links (own_link kind d)) (h.counts d i)
     (h.directories d i)
 
 -- a finished directory and its link lie in the file
-pub directory_within : (kind : FileKind) (m : Model) (file : List ℕ) (d : FinishedDirectory) → In d m.directories
+pub directory_within : (kind : FileKind) (m : Model) (file : List ℕ) (d : FinishedDirectory)
+    → In d m.directories
     → FileContains kind file m
     → d.offset + body_len kind d + offset_len kind ≤ length file
-directory_within kind m file d i h = let w = (h.apart (own_link kind d) (inr (d, (i, refl)))).within in omega (arith, w)
+directory_within kind m file d i h =
+    let w = (h.apart (own_link kind d) (inr (d, (i, refl)))).within in omega (arith, w)
 
 -- what a file contains is in each longer file
 pub kept_by_appending : KeptByAppending
@@ -207,13 +222,15 @@ kept_by_appending kind m file more h =
           (body_kept kind file new d.offset (len d.fields) d.fields (λ p n s _ _. exact_append file more p n s)
           (omega (arith, w)) o.0)
           (number_kept file new (offset_width kind) _ _ (exact_append file more _ _) o.1);
-      counts = λ d i. number_kept file new (count_width kind) _ _ (exact_append file more _ _) (h.counts d i);
+      counts =
+          λ d i. number_kept file new (count_width kind) _ _ (exact_append file more _ _) (h.counts d i);
       supplied = λ y i. supplied_kept kind file new y.field y.bytes (h.supplied y i)
           (inr (exact_append file more _ _ y.bytes));
       regions = λ r i. exact_append file more _ _ _ (h.regions r i);
       within = λ r i. let w = h.within r i in omega (arith, w, length-append file more);
       disjoint = h.disjoint;
-      directories_within = λ d i. let w = h.directories_within d i in omega (arith, w, length-append file more);
+      directories_within =
+          λ d i. let w = h.directories_within d i in omega (arith, w, length-append file more);
       directories_apart = h.directories_apart;
       regions_apart = h.regions_apart;
       apart = λ q l.
@@ -232,7 +249,8 @@ kept_by_appending kind m file more h =
 -- ---- patching
 
 -- bytes are written over a link field at q, which then contains t
-module _ (kind : FileKind) (file : List ℕ) (q : ℕ) (over : List ℕ) (t : ℕ) (room : q + offset_len kind ≤ length file)
+module _ (kind : FileKind) (file : List ℕ) (q : ℕ) (over : List ℕ) (t : ℕ)
+    (room : q + offset_len kind ≤ length file)
     (short : length over ≤ offset_len kind)
     (here : number_at LittleEndian (offset_width kind) (put file q over) q ≡ Ok t) where
   -- the patched file
@@ -240,7 +258,8 @@ module _ (kind : FileKind) (file : List ℕ) (q : ℕ) (over : List ℕ) (t : �
   patched = put file q over
 
   -- bytes apart from the link field stay readable
-  clear_kept : (p n : ℕ) (s : List ℕ) → IsClear kind q p n → exactly_at file p n ≡ Ok s → exactly_at patched p n ≡ Ok s
+  clear_kept : (p n : ℕ) (s : List ℕ) → IsClear kind q p n → exactly_at file p n ≡ Ok s
+      → exactly_at patched p n ≡ Ok s
   unfolding patched
   clear_kept p n s c e =
       elim c as (λ _. exactly_at patched p n ≡ Ok s) [
@@ -254,7 +273,8 @@ module _ (kind : FileKind) (file : List ℕ) (q : ℕ) (over : List ℕ) (t : �
       → number_at LittleEndian (offset_width kind) patched p ≡ Ok (cond (eqb p q) t x)
   unfolding patched
   link_kept p x c e = elim (cases_eq p q) [
-    | inl s ↦ rw (eq-eqb p q s) (ap (λ n. number_at LittleEndian (offset_width kind) patched n) s ∙ here)
+    | inl s ↦ rw (eq-eqb p q s) (ap (λ n. number_at LittleEndian (offset_width kind) patched n) s
+        ∙ here)
     | inr d ↦ rw (ne_eqb p q d) (elim c [
       | inl s ↦ absurd (d s)
       | inr a ↦ number_kept file patched (offset_width kind) p x (λ z. clear_kept p (offset_len kind) z a) e
@@ -264,18 +284,23 @@ module _ (kind : FileKind) (file : List ℕ) (q : ℕ) (over : List ℕ) (t : �
   -- bytes apart from the link field stay the same
   body_keeps : (p n : ℕ) → IsClear kind q p n → Keeps file patched p (p + n)
   unfolding Keeps
-  body_keeps p n c a k s l u e = clear_kept a k s (elim c [ inl b ↦ inl (omega arith) | inr b ↦ inr (omega arith) ]) e
+  body_keeps p n c a k s l u e =
+      clear_kept a k s (elim c [ inl b ↦ inl (omega arith) | inr b ↦ inr (omega arith) ]) e
 
   -- a prefix of bytes that are apart from the link field is apart from it
   front_clear : (p n k : ℕ) → k ≤ n → IsClear kind q p n → IsClear kind q p k
   front_clear p n k l c = elim c [ inl b ↦ inl (omega arith) | inr b ↦ inr b ]
 
   -- the model with the changed link describes the patched file
-  relinked_stands : (m : Model) → IsApart kind file m q → FileContains kind file m → FileContains kind patched (with_link kind m q t)
+  relinked_stands : (m : Model) → IsApart kind file m q → FileContains kind file m
+      → FileContains kind patched (with_link kind m q t)
   unfolding patched
   relinked_stands m a h = record {
-    header = clear_kept 0 (header_link kind) (header_mark kind) (inl (let g = a.header in omega (arith, g))) h.header;
-    first = link_kept (header_link kind) (m.links (header_link kind)) (a.links (header_link kind) (inl refl)) h.first;
+    header =
+        clear_kept 0 (header_link kind) (header_mark kind) (inl (let g = a.header in
+        omega (arith, g))) h.header;
+    first =
+        link_kept (header_link kind) (m.links (header_link kind)) (a.links (header_link kind) (inl refl)) h.first;
     directories = λ d i.
         let o = own_parts kind m file d i h in
         let w = directory_within kind m file d i h in
@@ -289,7 +314,8 @@ module _ (kind : FileKind) (file : List ℕ) (q : ℕ) (over : List ℕ) (t : �
         (link_kept (own_link kind d) (m.links (own_link kind d)) (a.links (own_link kind d) (inr (d, (i, refl)))) o.1);
     counts = λ d i. number_kept file patched (count_width kind) _ _
         (λ z. clear_kept _ _ z
-        (front_clear d.offset (body_len kind d) (count_len kind) (omega arith) (a.directories d i))) (h.counts d i);
+        (front_clear d.offset (body_len kind d) (count_len kind) (omega arith) (a.directories d i)))
+        (h.counts d i);
     supplied = λ y i. supplied_kept kind file patched y.field y.bytes (h.supplied y i)
         (elim (a.supplied y i) [
           | inl x ↦ inl x
@@ -326,7 +352,8 @@ kept_by_patching kind m file q t l b h =
     let a = h.apart q l in
     let room = a.within in
     let over : List ℕ = le k t in
-    let e : exactly_at (put file q over) q k ≡ Ok over = ap (λ n. exactly_at (put file q over) q n) (sym w)
+    let e : exactly_at (put file q over) q k ≡ Ok over =
+    ap (λ n. exactly_at (put file q over) q n) (sym w)
     ∙ exact_put_here file q over (omega (arith, w, room)) in
     let F : List ℕ → Result ℕ TiffError = λ s. Ok (number LittleEndian (offset_width kind) s) in
     relinked_stands kind file q over t room (omega (arith, w))

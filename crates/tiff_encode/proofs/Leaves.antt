@@ -11,17 +11,23 @@ use Rattle.tiff_encode.proofs.Header.{header_stands}
 use Rattle.tiff_value.proofs.Put.{put_end}
 
 -- the model of a header describes the file of a header that is written to an empty sink
-pub leaves_header : (kind : FileKind) (contents : List ℕ) (failures at width : ℕ) (first last : Written) → first ≡ new_writer contents failures
-    → last ≡ record (writer_after first (header_bytes kind)) { last = offset_len kind } → at ≡ last.at → width ≡ offset_len kind → contents ≡ []
+pub leaves_header : (kind : FileKind) (contents : List ℕ) (failures at width : ℕ)
+    (first last : Written) → first ≡ new_writer contents failures
+    → last ≡ record (writer_after first (header_bytes kind)) { last = offset_len kind }
+    → at ≡ last.at → width ≡ offset_len kind → contents ≡ []
     → LeavesHeader kind last.bytes (at - width)
 leaves_header kind contents failures at width first last s t a k empty =
     let header : List ℕ = header_bytes kind in
     let new = λ (w : Written). record (writer_after w header) { last = offset_len kind } in
-    let whole : last ≡ new (new_writer [] failures) = t ∙ ap new (s ∙ ap (λ (l : List ℕ). new_writer l failures) empty) in
-    let bytes : header ≡ last.bytes = sym (ap (λ (w : Written). w.bytes) whole ∙ put_end [] header 0 (omega arith)) in
+    let whole : last ≡ new (new_writer [] failures) =
+    t ∙ ap new (s ∙ ap (λ (l : List ℕ). new_writer l failures) empty) in
+    let bytes : header ≡ last.bytes =
+    sym (ap (λ (w : Written). w.bytes) whole ∙ put_end [] header 0 (omega arith)) in
     let end : last.at ≡ 0 + length header = ap (λ (w : Written). w.at) whole in
-    let chain : at - width ≡ header_link kind = omega (arith, a, k, end, length-append (header_mark kind) (le (offset_len kind) 0), length-le 0 (offset_len kind) 0) in
+    let chain : at - width ≡ header_link kind =
+    omega (arith, a, k, end, length-append (header_mark kind) (le (offset_len kind) 0), length-le 0 (offset_len kind) 0) in
     record {
-      stands = subst (λ (l : List ℕ). FileContains kind l (header_model kind)) bytes (header_stands kind);
+      stands =
+          subst (λ (l : List ℕ). FileContains kind l (header_model kind)) bytes (header_stands kind);
       link = inl chain;
     }

@@ -25,9 +25,11 @@ le_zero kind = le_offset kind 0
 filled_by : (n m : ℕ) (xs : List ℕ) → length xs ≤ n → n ≤ m
     → xs ++ drop (length xs) (replicate n 0) ≡ take n (xs ++ replicate m 0)
 filled_by n m [] l h = sym (take-replicate n m 0 h)
-filled_by (suc n) m (x ∷ xs) l h = ap (λ ys. x ∷ ys) (filled_by n m xs (omega (arith, l)) (omega (arith, h)))
+filled_by (suc n) m (x ∷ xs) l h =
+    ap (λ ys. x ∷ ys) (filled_by n m xs (omega (arith, l)) (omega (arith, h)))
 filled_by zero m (x ∷ xs) l h = absurd (omega (arith, l))
 
 -- a value field of eight zeros with bytes over its first zeros
-pub filled_whole : (xs : List ℕ) → length xs ≤ 8 → xs ++ drop (length xs) (replicate 8 0) ≡ filled_field xs
+pub filled_whole : (xs : List ℕ) → length xs ≤ 8
+    → xs ++ drop (length xs) (replicate 8 0) ≡ filled_field xs
 filled_whole xs l = filled_by 8 8 xs l (omega arith)

@@ -31,7 +31,8 @@ Link = Result (Option ℕ) TiffError
 -- ---- the link of one directory
 
 -- a directory that is read has a count, entries and a link
-pub directory_split : (kind : FileKind) (file : List ℕ) (p : ℕ) (d : DirectoryRecord) → directory_at kind LittleEndian file p ≡ Ok d
+pub directory_split : (kind : FileKind) (file : List ℕ) (p : ℕ) (d : DirectoryRecord)
+    → directory_at kind LittleEndian file p ≡ Ok d
     → (count x : ℕ) × ((number_at LittleEndian (count_width kind) file p ≡ Ok count)
     × ((number_at LittleEndian (offset_width kind) file (link_offset kind p count) ≡ Ok x)
     × (d ≡ record { entries = last_of_each (entries_from kind LittleEndian file (first_entry kind p) count); next = link x })))
@@ -43,13 +44,17 @@ directory_split kind file p d h =
     } in
     let Made : ℕ → ℕ → Result DirectoryRecord TiffError = λ count next. Ok (made count next) in
     let Counted : ℕ → Result DirectoryRecord TiffError =
-    λ count. number_at LittleEndian (offset_width kind) file (link_offset kind p count) >>= Made count in
+    λ count. number_at LittleEndian (offset_width kind) file (link_offset kind p count)
+    >>= Made count in
     let c = bind_ok (number_at LittleEndian (count_width kind) file p) Counted d h in
-    let x = bind_ok (number_at LittleEndian (offset_width kind) file (link_offset kind p c.0)) (Made c.0) d c.1.1 in
+    let x =
+    bind_ok (number_at LittleEndian (offset_width kind) file (link_offset kind p c.0))
+    (Made c.0) d c.1.1 in
     (c.0, x.0, (c.1.0, (x.1.0, sym (ok_inj (made c.0 x.0) d x.1.1))))
 
 -- a directory whose link is read has a count and a link
-pub link_parts : (kind : FileKind) (file : List ℕ) (p : ℕ) (after : Option ℕ) → link_from kind LittleEndian file p ≡ Ok after
+pub link_parts : (kind : FileKind) (file : List ℕ) (p : ℕ) (after : Option ℕ)
+    → link_from kind LittleEndian file p ≡ Ok after
     → (count x : ℕ) × ((number_at LittleEndian (count_width kind) file p ≡ Ok count)
     × ((number_at LittleEndian (offset_width kind) file (link_offset kind p count) ≡ Ok x) × (after ≡ link x)))
 link_parts kind file p after h =
@@ -59,7 +64,8 @@ link_parts kind file p after h =
     (s.0, s.1, (s.2.0, (s.2.1.0, sym (ok_inj d.0.next after d.1.1) ∙ ap (λ (r : DirectoryRecord). r.next) s.2.1.1)))
 
 -- the link of a directory whose count and link are read
-link_whole : (kind : FileKind) (file : List ℕ) (p count x : ℕ) → number_at LittleEndian (count_width kind) file p ≡ Ok count
+link_whole : (kind : FileKind) (file : List ℕ) (p count x : ℕ)
+    → number_at LittleEndian (count_width kind) file p ≡ Ok count
     → number_at LittleEndian (offset_width kind) file (link_offset kind p count) ≡ Ok x
     → link_from kind LittleEndian file p ≡ Ok (link x)
 link_whole kind file p count x c l =
@@ -90,12 +96,15 @@ pub later : (len least : ℕ) (met : List ℕ) → len ≤ least → NotMet len 
 unfolding NotMet
 later len least met l n z b = n z (omega (arith, l, b))
 
-pub not_met : (len : ℕ) (met : List ℕ) → NotMet len met → (z : ℕ) → len ≤ z → list_any (nat_eq z) met ≡ false
+pub not_met : (len : ℕ) (met : List ℕ) → NotMet len met → (z : ℕ) → len ≤ z
+    → list_any (nat_eq z) met ≡ false
 unfolding NotMet
 not_met len met n = n
 
 -- a link that is entered is the link of the directory, and isn't met
-entered_by : (b : Bool) (n : ℕ) (after : Option ℕ) → cond b (Err (FormatError CycleInOffsets)) (Ok (Some n)) ≡ Ok after → (b ≡ false) × (after ≡ Some n)
+entered_by : (b : Bool) (n : ℕ) (after : Option ℕ)
+    → cond b (Err (FormatError CycleInOffsets)) (Ok (Some n)) ≡ Ok after
+    → (b ≡ false) × (after ≡ Some n)
 entered_by true n after h = absurd cc
 entered_by false n after h = (refl, cc)
 
@@ -103,7 +112,8 @@ entered_by false n after h = (refl, cc)
 pub Entered : List ℕ → Link → Option ℕ → Type 0
 Entered met r after = (r ≡ Ok after) × ((n : ℕ) → after ≡ Some n → list_any (nat_eq n) met ≡ false)
 
-pub entered : (met : List ℕ) (r : Link) (after : Option ℕ) → (r >>= unless_met met) ≡ Ok after → Entered met r after
+pub entered : (met : List ℕ) (r : Link) (after : Option ℕ) → (r >>= unless_met met) ≡ Ok after
+    → Entered met r after
 unfolding Entered
 entered met (Err e) after h = absurd cc
 entered met (Ok None) after h = (h, λ n s. absurd cc)
@@ -116,33 +126,41 @@ entered met (Ok (Some n)) after h =
           subst P same t.0),
     )
 
-pub entered_link : (met : List ℕ) (r : Link) (after : Option ℕ) → (r >>= unless_met met) ≡ Ok after → r ≡ Ok after
+pub entered_link : (met : List ℕ) (r : Link) (after : Option ℕ) → (r >>= unless_met met) ≡ Ok after
+    → r ≡ Ok after
 unfolding Entered
 entered_link met r after h = (entered met r after h).0
 
 -- a link is entered if it is none, or not met
-pub enters : (met : List ℕ) (r : Link) (after : Option ℕ) → r ≡ Ok after → ((n : ℕ) → after ≡ Some n → list_any (nat_eq n) met ≡ false)
+pub enters : (met : List ℕ) (r : Link) (after : Option ℕ) → r ≡ Ok after
+    → ((n : ℕ) → after ≡ Some n → list_any (nat_eq n) met ≡ false)
     → (r >>= unless_met met) ≡ Ok after
 enters met r None h f = ap (λ z. z >>= unless_met met) h
 enters met r (Some n) h f = ap (λ z. z >>= unless_met met) h ∙ (rw (f n refl) refl)
 
 -- a link that fails still fails behind more offsets
-failed_by : (b : Bool) (n : ℕ) (e : TiffError) → cond b (Err (FormatError CycleInOffsets)) (Ok (Some n)) ≡ Err e → (b ≡ true) × (FormatError CycleInOffsets ≡ e)
+failed_by : (b : Bool) (n : ℕ) (e : TiffError)
+    → cond b (Err (FormatError CycleInOffsets)) (Ok (Some n)) ≡ Err e
+    → (b ≡ true) × (FormatError CycleInOffsets ≡ e)
 failed_by true n e h = (refl, cc)
 failed_by false n e h = absurd cc
 
-still_fails : (former met : List ℕ) (r : Link) (e : TiffError) → (r >>= unless_met met) ≡ Err e → (r >>= unless_met (met ++ former)) ≡ Err e
+still_fails : (former met : List ℕ) (r : Link) (e : TiffError) → (r >>= unless_met met) ≡ Err e
+    → (r >>= unless_met (met ++ former)) ≡ Err e
 still_fails former met (Err f) e h = h
 still_fails former met (Ok None) e h = absurd cc
 still_fails former met (Ok (Some n)) e h =
     let t = failed_by (list_any (nat_eq n) met) n e h in
-    let m : list_any (nat_eq n) (met ++ former) ≡ true = list_any-append (nat_eq n) met former ∙ (rw t.0 refl) in
+    let m : list_any (nat_eq n) (met ++ former) ≡ true =
+    list_any-append (nat_eq n) met former ∙ (rw t.0 refl) in
     rw m (ap (λ (x : TiffError). let r : Link = Err x in r) t.1)
 
 -- a chain whose links are at or behind an end stays the same behind offsets that are not
 behind_more : (kind : FileKind) (new : List ℕ) (len : ℕ) (former : List ℕ) → NotMet len former
-    → (met : List ℕ) (next : Option ℕ) (rest : List ℕ) (end : Option TiffError) → LinkBehind kind new len rest
-    → IsChain (link_from kind LittleEndian new) met next rest end → IsChain (link_from kind LittleEndian new) (met ++ former) next rest end
+    → (met : List ℕ) (next : Option ℕ) (rest : List ℕ) (end : Option TiffError)
+    → LinkBehind kind new len rest
+    → IsChain (link_from kind LittleEndian new) met next rest end
+    → IsChain (link_from kind LittleEndian new) (met ++ former) next rest end
 unfolding NotMet Entered
 behind_more kind new len former f met None [] end b c = c
 behind_more kind new len former f met None (x ∷ xs) end b c = absurd c
@@ -152,7 +170,8 @@ behind_more kind new len former f met (Some p) (x ∷ xs) end b c =
     let e = entered (p ∷ met) (link_from kind LittleEndian new p) c.1 c.2 in
     let free : (n : ℕ) → c.1 ≡ Some n → list_any (nat_eq n) ((p ∷ met) ++ former) ≡ false = λ n s.
     let P : ℕ → Type 0 = λ y. link_from kind LittleEndian new y ≡ Ok (Some n) in
-    let own : link_from kind LittleEndian new x ≡ Ok (Some n) = subst P (sym c.0) (e.0 ∙ ap (λ (o : Option ℕ). let r : Link = Ok o in r) s) in
+    let own : link_from kind LittleEndian new x ≡ Ok (Some n) =
+    subst P (sym c.0) (e.0 ∙ ap (λ (o : Option ℕ). let r : Link = Ok o in r) s) in
     list_any-append (nat_eq n) (p ∷ met) former ∙ (rw (e.1 n s) (f n (b x n (inl refl) own))) in (
       c.0,
       c.1,
@@ -170,15 +189,18 @@ pub some_link : (x : ℕ) → 0 < x → link x ≡ Some x
 some_link x p = other_link x (λ s. omega (arith, s, p))
 
 pub zero_link : (x : ℕ) → link x ≡ None → x ≡ 0
-zero_link x h = elim (cases_eq x 0) [ inl s ↦ s | inr d ↦ absurd (none_some {x = x} (sym h ∙ other_link x d)) ]
+zero_link x h =
+    elim (cases_eq x 0) [ inl s ↦ s | inr d ↦ absurd (none_some {x = x} (sym h ∙ other_link x d)) ]
 
 -- a chain without an offset that ends well begins at no directory
-pub ended : (l : ℕ → Link) (met : List ℕ) (next : Option ℕ) → IsChain l met next [] None → next ≡ None
+pub ended : (l : ℕ → Link) (met : List ℕ) (next : Option ℕ) → IsChain l met next [] None
+    → next ≡ None
 ended l met None c = refl
 ended l met (Some n) c = absurd (none_some c.2)
 
 -- the link of a directory, by its count
-pub own_link_at : (kind : FileKind) (file : List ℕ) (p count : ℕ) → number_at LittleEndian (count_width kind) file p ≡ Ok count
+pub own_link_at : (kind : FileKind) (file : List ℕ) (p count : ℕ)
+    → number_at LittleEndian (count_width kind) file p ≡ Ok count
     → link_offset_at kind file p ≡ Ok (link_offset kind p count)
 own_link_at kind file p count c =
     let F : ℕ → Result ℕ TiffError = λ n. Ok (link_offset kind p n) in
@@ -190,24 +212,33 @@ module _ (kind : FileKind) (file : List ℕ) (q : ℕ) where
   former_link = link_from kind LittleEndian file
 
   -- the link behind a chain that ends well is 0
-  last_zero : (met : List ℕ) (next : Option ℕ) (p : ℕ) (ps : List ℕ) → IsChain former_link met next (p ∷ ps) None
-      → link_behind kind file (p ∷ ps) ≡ Ok q → number_at LittleEndian (offset_width kind) file q ≡ Ok 0
+  last_zero : (met : List ℕ) (next : Option ℕ) (p : ℕ) (ps : List ℕ)
+      → IsChain former_link met next (p ∷ ps) None
+      → link_behind kind file (p ∷ ps) ≡ Ok q
+      → number_at LittleEndian (offset_width kind) file q ≡ Ok 0
   unfolding former_link Entered
   last_zero met None p ps c l = absurd c
   last_zero met (Some n) p [] c l =
       let e = entered (n ∷ met) (former_link n) c.1 c.2 in
       let parts = link_parts kind file n c.1 e.0 in
-      let zero : parts.1 ≡ 0 = zero_link parts.1 (sym parts.2.1.1 ∙ ended former_link (n ∷ met) c.1 c.3) in
+      let zero : parts.1 ≡ 0 =
+      zero_link parts.1 (sym parts.2.1.1 ∙ ended former_link (n ∷ met) c.1 c.3) in
       let P : ℕ → Type 0 = λ y. link_offset_at kind file y ≡ Ok q in
-      let here : link_offset kind n parts.0 ≡ q = ok_inj (link_offset kind n parts.0) q (sym (own_link_at kind file n parts.0 parts.2.0) ∙ subst P c.0 l) in
+      let here : link_offset kind n parts.0 ≡ q =
+      ok_inj (link_offset kind n parts.0) q (sym (own_link_at kind file n parts.0 parts.2.0)
+      ∙ subst P c.0 l) in
       let Q : ℕ → Type 0 = λ y. number_at LittleEndian (offset_width kind) file y ≡ Ok 0 in
       subst Q here (parts.2.1.0 ∙ ap (λ (y : ℕ). let r : Result ℕ TiffError = Ok y in r) zero)
   last_zero met (Some n) p (p2 ∷ ps) c l = last_zero (n ∷ met) c.1 p2 ps c.3 l
 
-  module _ (new : List ℕ) (d : ℕ) (room : q + offset_len kind ≤ length file) (behind : (d ≡ 0) ⊎ (length file ≤ d)) (continues : Continues kind q file new) (here : number_at LittleEndian (offset_width kind) new q ≡ Ok d) where
+  module _ (new : List ℕ) (d : ℕ) (room : q + offset_len kind ≤ length file)
+      (behind : (d ≡ 0) ⊎ (length file ≤ d)) (continues : Continues kind q file new)
+      (here : number_at LittleEndian (offset_width kind) new q ≡ Ok d) where
     -- numbers apart from the link stay
-    number_stays : (w : Width) (p x : ℕ) → IsClear kind q p (byte_len w) → number_at LittleEndian w file p ≡ Ok x → number_at LittleEndian w new p ≡ Ok x
-    number_stays w p x c = number_kept file new w p x (λ s. bytes_stay kind q file new room continues p (byte_len w) s c)
+    number_stays : (w : Width) (p x : ℕ) → IsClear kind q p (byte_len w)
+        → number_at LittleEndian w file p ≡ Ok x → number_at LittleEndian w new p ≡ Ok x
+    number_stays w p x c =
+        number_kept file new w p x (λ s. bytes_stay kind q file new room continues p (byte_len w) s c)
 
     -- the new link is to a directory behind the former end, if to any
     link_far : (y : ℕ) → link d ≡ Some y → length file ≤ y
@@ -221,8 +252,10 @@ module _ (kind : FileKind) (file : List ℕ) (q : ℕ) where
     module _ (rest : List ℕ) (end : Option TiffError) (goes : IsChain (link_from kind LittleEndian new) [] (link d) rest end)
         (links : LinkBehind kind new (length file) rest) where
       -- a chain goes on
-      chain_on : (met : List ℕ) (next : Option ℕ) (p : ℕ) (ps : List ℕ) → NotMet (length file) met → IsChain former_link met next (p ∷ ps) None
-          → link_behind kind file (p ∷ ps) ≡ Ok q → number_at LittleEndian (offset_width kind) file q ≡ Ok 0
+      chain_on : (met : List ℕ) (next : Option ℕ) (p : ℕ) (ps : List ℕ) → NotMet (length file) met
+          → IsChain former_link met next (p ∷ ps) None
+          → link_behind kind file (p ∷ ps) ≡ Ok q
+          → number_at LittleEndian (offset_width kind) file q ≡ Ok 0
           → IsReadOnce kind file q (p ∷ ps)
           → IsChain (link_from kind LittleEndian new) met next ((p ∷ ps) ++ rest) end
       unfolding former_link Entered NotMet
@@ -232,15 +265,19 @@ module _ (kind : FileKind) (file : List ℕ) (q : ℕ) where
           let parts = link_parts kind file n c.1 e.0 in
           let C : ℕ → Type 0 = λ y. IsClear kind q y (count_len kind) in
           let P : ℕ → Type 0 = λ y. link_offset_at kind file y ≡ Ok q in
-          let place : link_offset kind n parts.0 ≡ q = ok_inj (link_offset kind n parts.0) q (sym (own_link_at kind file n parts.0 parts.2.0) ∙ subst P c.0 l) in
-          let count = number_stays (count_width kind) n parts.0 (subst C c.0 (r.counts p (inl refl))) parts.2.0 in
+          let place : link_offset kind n parts.0 ≡ q =
+          ok_inj (link_offset kind n parts.0) q (sym (own_link_at kind file n parts.0 parts.2.0)
+          ∙ subst P c.0 l) in
+          let count =
+          number_stays (count_width kind) n parts.0 (subst C c.0 (r.counts p (inl refl))) parts.2.0 in
           let Q : ℕ → Type 0 = λ y. number_at LittleEndian (offset_width kind) new y ≡ Ok d in
           let own = link_whole kind new n parts.0 d count (subst Q (sym place) here) in
           let w = number_within file (count_width kind) n parts.0 (some_count kind) parts.2.0 in
           let so_far = more_met (length file) n met (omega (arith, w, some_count kind)) m in (
             c.0,
             link d,
-            enters (n ∷ met) (link_from kind LittleEndian new n) (link d) own (λ y s. so_far y (link_far y s)),
+            enters (n ∷ met) (link_from kind LittleEndian new n) (link d) own
+                (λ y s. so_far y (link_far y s)),
             behind_more kind new (length file) (n ∷ met) so_far [] (link d) rest end links goes,
           )
       chain_on met (Some n) p (p2 ∷ ps) m c l z r =
@@ -249,10 +286,12 @@ module _ (kind : FileKind) (file : List ℕ) (q : ℕ) where
           let C : ℕ → Type 0 = λ y. IsClear kind q y (count_len kind) in
           let own : ℕ = link_offset kind n parts.0 in
           let P : ℕ → Type 0 = λ y. link_offset_at kind file y ≡ Ok own in
-          let count = number_stays (count_width kind) n parts.0 (subst C c.0 (r.counts p (inl refl))) parts.2.0 in
+          let count =
+          number_stays (count_width kind) n parts.0 (subst C c.0 (r.counts p (inl refl))) parts.2.0 in
           let w = number_within file (count_width kind) n parts.0 (some_count kind) parts.2.0 in
           let below : n < length file = omega (arith, w, some_count kind) in
-          let kept : link_from kind LittleEndian new n ≡ Ok c.1 = elim (r.links p own (inl refl) (subst P (sym c.0) (own_link_at kind file n parts.0 parts.2.0))) as (λ _. link_from kind LittleEndian new n ≡ Ok c.1) [
+          let kept : link_from kind LittleEndian new n ≡ Ok c.1 =
+          elim (r.links p own (inl refl) (subst P (sym c.0) (own_link_at kind file n parts.0 parts.2.0))) as (λ _. link_from kind LittleEndian new n ≡ Ok c.1) [
             | inl s ↦
                 (let Q : ℕ → Type 0 = λ y. number_at LittleEndian (offset_width kind) file y ≡ Ok parts.1 in
                 let none : parts.1 ≡ 0 = ok_inj parts.1 0 (sym (subst Q s parts.2.1.0) ∙ z) in
@@ -272,26 +311,35 @@ module _ (kind : FileKind) (file : List ℕ) (q : ℕ) where
 -- ---- the chain from the header on
 
 pub chain_of : (kind : FileKind) (file : List ℕ) (next : Option ℕ)
-    → IsChain (link_from kind LittleEndian file) [] next (chain_behind kind file next).offsets (chain_behind kind file next).end
+    → IsChain (link_from kind LittleEndian file) [] next (chain_behind kind file next).offsets
+    (chain_behind kind file next).end
 chain_of kind file None = refl
 chain_of kind file (Some first) = the_chain kind LittleEndian file first
 
 pub chain_is : (kind : FileKind) (file : List ℕ) (next : Option ℕ) (offsets : List ℕ) (end : Option TiffError)
-    → IsChain (link_from kind LittleEndian file) [] next offsets end → chain_behind kind file next ≡ record { offsets = offsets; end = end }
+    → IsChain (link_from kind LittleEndian file) [] next offsets end
+    → chain_behind kind file next ≡ record { offsets = offsets; end = end }
 chain_is kind file next offsets end h =
-    let e = one_chain kind LittleEndian file [] next (chain_behind kind file next).offsets offsets (chain_behind kind file next).end end (chain_of kind file next) h in
+    let e =
+    one_chain kind LittleEndian file [] next (chain_behind kind file next).offsets offsets
+    (chain_behind kind file next).end end (chain_of kind file next) h in
     λ i. record { offsets = e.0 i; end = e.1 i }
 
-pub uncut : (end : Option TiffError) (r : Result ℕ TiffError) (q : ℕ) → unless_cut end r ≡ Ok q → (end ≡ None) × (r ≡ Ok q)
+pub uncut : (end : Option TiffError) (r : Result ℕ TiffError) (q : ℕ) → unless_cut end r ≡ Ok q
+    → (end ≡ None) × (r ≡ Ok q)
 uncut None r q h = (refl, h)
 uncut (Some e) r q h = absurd cc
 
 -- the header's link and the chain from it on, in the longer file
-from_header : (kind : FileKind) (file new : List ℕ) (q d first : ℕ) (offsets rest : List ℕ) (end : Option TiffError)
+from_header : (kind : FileKind) (file new : List ℕ) (q d first : ℕ) (offsets rest : List ℕ)
+    (end : Option TiffError)
     → number_at LittleEndian (offset_width kind) file (header_link kind) ≡ Ok first
-    → IsChain (link_from kind LittleEndian file) [] (link first) offsets None → link_behind kind file offsets ≡ Ok q → IsReadOnce kind file q offsets
-    → Continues kind q file new → number_at LittleEndian (offset_width kind) new q ≡ Ok d → (d ≡ 0) ⊎ (length file ≤ d)
-    → IsChain (link_from kind LittleEndian new) [] (link d) rest end → LinkBehind kind new (length file) rest
+    → IsChain (link_from kind LittleEndian file) [] (link first) offsets None
+    → link_behind kind file offsets ≡ Ok q → IsReadOnce kind file q offsets
+    → Continues kind q file new → number_at LittleEndian (offset_width kind) new q ≡ Ok d
+    → (d ≡ 0) ⊎ (length file ≤ d)
+    → IsChain (link_from kind LittleEndian new) [] (link d) rest end
+    → LinkBehind kind new (length file) rest
     → (begin : ℕ) × ((number_at LittleEndian (offset_width kind) new (header_link kind) ≡ Ok begin)
     × IsChain (link_from kind LittleEndian new) [] (link begin) (offsets ++ rest) end)
 unfolding former_link
@@ -300,13 +348,17 @@ from_header kind file new q d first [] rest end n c l r on here behind goes b =
     (d, (subst Q (sym (ok_inj (header_link kind) q l)) here, goes))
 from_header kind file new q d first (p ∷ ps) rest end n c l r on here behind goes b =
     let z = last_zero kind file q [] (link first) p ps c l in
-    let room : q + offset_len kind ≤ length file = number_within file (offset_width kind) q 0 (some_offset kind) z in
+    let room : q + offset_len kind ≤ length file =
+    number_within file (offset_width kind) q 0 (some_offset kind) z in
     let Q : ℕ → Type 0 = λ y. number_at LittleEndian (offset_width kind) file y ≡ Ok 0 in
-    let P : ℕ → Type 0 = λ y. IsChain (link_from kind LittleEndian file) [] (link y) (p ∷ ps) None in
+    let P : ℕ → Type 0 =
+    λ y. IsChain (link_from kind LittleEndian file) [] (link y) (p ∷ ps) None in
     let header : number_at LittleEndian (offset_width kind) new (header_link kind) ≡ Ok first =
-    elim r.header as (λ _. number_at LittleEndian (offset_width kind) new (header_link kind) ≡ Ok first) [
+    elim r.header as (λ _. number_at LittleEndian (offset_width kind) new (header_link kind)
+    ≡ Ok first) [
       | inl s ↦ absurd (subst P (ok_inj first 0 (sym n ∙ subst Q s z)) c)
-      | inr a ↦ number_stays kind file q new d room behind on here (offset_width kind) (header_link kind) first (inl a) n
+      | inr a ↦ number_stays kind file q new d room behind on here (offset_width kind)
+          (header_link kind) first (inl a) n
     ] in
     (first, (header, chain_on kind file q new d room behind on here rest end goes b [] (link first) p ps (none_met (length file)) c l z r))
 
@@ -314,16 +366,26 @@ pub chain_goes_on : ChainGoesOn
 chain_goes_on kind file new q d former rest f l r on here behind c b =
     let F : ℕ → Result Chain TiffError = λ first. Ok (chain_behind kind file (link first)) in
     let G : ℕ → Result Chain TiffError = λ first. Ok (chain_behind kind new (link first)) in
-    let Last : Chain → Result ℕ TiffError = λ found. unless_cut found.end (link_behind kind file found.offsets) in
-    let i = bind_ok (number_at LittleEndian (offset_width kind) file (header_link kind)) F former f in
-    let same : chain_behind kind file (link i.0) ≡ former = ok_inj (chain_behind kind file (link i.0)) former i.1.1 in
-    let u = uncut former.end (link_behind kind file former.offsets) q (sym (ap (λ x. x >>= Last) f) ∙ l) in
-    let P : Chain → Type 0 = λ x. IsChain (link_from kind LittleEndian file) [] (link i.0) x.offsets x.end in
-    let E : Option TiffError → Type 0 = λ e. IsChain (link_from kind LittleEndian file) [] (link i.0) former.offsets e in
+    let Last : Chain → Result ℕ TiffError =
+    λ found. unless_cut found.end (link_behind kind file found.offsets) in
+    let i =
+    bind_ok (number_at LittleEndian (offset_width kind) file (header_link kind)) F former f in
+    let same : chain_behind kind file (link i.0) ≡ former =
+    ok_inj (chain_behind kind file (link i.0)) former i.1.1 in
+    let u =
+    uncut former.end (link_behind kind file former.offsets) q (sym (ap (λ x. x >>= Last) f)
+    ∙ l) in
+    let P : Chain → Type 0 =
+    λ x. IsChain (link_from kind LittleEndian file) [] (link i.0) x.offsets x.end in
+    let E : Option TiffError → Type 0 =
+    λ e. IsChain (link_from kind LittleEndian file) [] (link i.0) former.offsets e in
     let walked = subst E u.0 (subst P same (chain_of kind file (link i.0))) in
-    let R : Chain → Type 0 = λ x. IsChain (link_from kind LittleEndian new) [] (link d) x.offsets x.end in
+    let R : Chain → Type 0 =
+    λ x. IsChain (link_from kind LittleEndian new) [] (link d) x.offsets x.end in
     let goes = subst R c (chain_of kind new (link d)) in
-    let h = from_header kind file new q d i.0 former.offsets rest.offsets rest.end i.1.0 walked u.1 r on here behind goes b in
+    let h =
+    from_header kind file new q d i.0 former.offsets rest.offsets rest.end i.1.0 walked u.1 r on here behind goes b in
     let all : Chain = record { offsets = former.offsets ++ rest.offsets; end = rest.end } in
     ok_bind (number_at LittleEndian (offset_width kind) new (header_link kind)) G h.0 all h.1.0
-    (ap (λ (x : Chain). let y : Result Chain TiffError = Ok x in y) (chain_is kind new (link h.0) (former.offsets ++ rest.offsets) rest.end h.1.1))
+    (ap (λ (x : Chain). let y : Result Chain TiffError = Ok x in
+    y) (chain_is kind new (link h.0) (former.offsets ++ rest.offsets) rest.end h.1.1))

@@ -1,4 +1,5 @@
--- A call leads from each `FileAndModel` of the file before it to a `FileAndModel` of the file after it.
+-- A call leads from each `FileAndModel` of the file before it to a `FileAndModel` of the file after
+-- it.
 use Rattle.std.proofs.Common.{◌≡◌, Bool, Result, Ok, Err, refl, ap, sym, ◌∙◌, inl, inr, subst}
 use Rattle.tiff_base.specs.declared.error.TiffError.{TiffError}
 use Rattle.tiff_encode.specs.Model.{Model, FileContains, Grows}
@@ -24,28 +25,33 @@ grows_on m n o g h = record {
 }
 
 -- a call succeeds as specified, or it fails
-abbrev pub Seen : {X Y : Type 0} → (X → Y) → WriteOutcome Y → Result X TiffError → FileAndModel → FileAndModel → Type 0
+abbrev pub Seen : {X Y : Type 0} → (X → Y) → WriteOutcome Y → Result X TiffError → FileAndModel
+    → FileAndModel → Type 0
 Seen view told (Ok x) s t = IsDone told (Ok (view x)) s t
 Seen view told (Err e) s t = Refuses told e s t
 
 -- a `FileAndModel` of the file that a call leaves
 abbrev pub Led : (FileAndModel → Type 0) → Bool → FileAndModel → FileState → Type 0
-Led P known s new = (t : FileAndModel) × ((t.file ≡ new) × (P t × (StandsIfKnown known t × Grows s.model t.model)))
+Led P known s new =
+    (t : FileAndModel) × ((t.file ≡ new) × (P t × (StandsIfKnown known t × Grows s.model t.model)))
 
-module _ {X Y : Type 0} (view : X → Y) (told : WriteOutcome Y) (s : FileAndModel) (new : FileState) (known : Bool) (k : StandsIfKnown known s)
+module _ {X Y : Type 0} (view : X → Y) (told : WriteOutcome Y) (s : FileAndModel) (new : FileState)
+    (known : Bool) (k : StandsIfKnown known s)
     (a : IsAdding told s.file) where
   abbrev here : FileAndModel
   here = record { file = new; model = s.model }
 
   -- where each model that describes the file before also describes the file after the call
   stays_known : (P : FileAndModel → Type 0) → new.kind ≡ s.file.kind
-      → ((m : Model) → FileContains s.file.kind s.file.bytes m → FileContains s.file.kind new.bytes m) → P here → Led P known s new
+      → ((m : Model) → FileContains s.file.kind s.file.bytes m
+      → FileContains s.file.kind new.bytes m) → P here → Led P known s new
   stays_known P same l p =
       (here, (refl, (p, ((λ q. subst (λ kind. FileContains kind new.bytes s.model) (sym same) (l s.model (k q))), grows_here s.model))))
 
   -- A call that only appends succeeds as specified, or it fails.
   pub seen : (r : Result X TiffError) → Ends view told r s.file new
-      → ((m : Model) → FileContains s.file.kind s.file.bytes m → Leaves told r s.file new m) → Led (Seen view told r s) known s new
+      → ((m : Model) → FileContains s.file.kind s.file.bytes m → Leaves told r s.file new m)
+      → Led (Seen view told r s) known s new
   seen (Ok x) e l =
       let m : Model = model_after s.file.kind s.file.bytes s.model told.ops in
       let same : new.kind ≡ s.file.kind = ap (λ f. f.kind) (e.state ∙ a.next) in (
@@ -73,11 +79,13 @@ module _ {X Y : Type 0} (view : X → Y) (told : WriteOutcome Y) (s : FileAndMod
       ]
 
 -- a call that only appends leads on from each `FileAndModel` of the file
-pub moves_so : {X Y : Type 0} (view : X → Y) (call : WriteCall Y) (r : Result X TiffError) (old new : FileState)
+pub moves_so : {X Y : Type 0} (view : X → Y) (call : WriteCall Y) (r : Result X TiffError)
+    (old new : FileState)
     → IsAdding (call old) old → Ends view (call old) r old new
     → ((m : Model) → FileContains old.kind old.bytes m → Leaves (call old) r old new m)
     → Moves (λ s t. Seen view (call s.file) r s t) old new
 moves_so {X = X} {Y = Y} view call r old new a e l known s q k =
     let Q : FileState → Type 0 = λ old. IsAdding (call old) old → Ends view (call old) r old new
-    → ((m : Model) → FileContains old.kind old.bytes m → Leaves (call old) r old new m) → Led (λ t. Seen view (call s.file) r s t) known s new in
+    → ((m : Model) → FileContains old.kind old.bytes m → Leaves (call old) r old new m)
+    → Led (λ t. Seen view (call s.file) r s t) known s new in
     subst Q q (λ a e l. seen view (call s.file) s new known k a r e l) a e l

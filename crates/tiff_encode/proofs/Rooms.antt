@@ -54,7 +54,8 @@ module _ {X : Type 0} (m : FinMap nat_cmp X) (k : ℕ) (v : X) where
 -- ---- the room for a field
 
 -- a room that is made has a field of the tag
-pub room_there : (t : Tag) (d : OpenDirectory) (room : Room) → IsRoomFor t d room → is_made room ≡ true
+pub room_there : (t : Tag) (d : OpenDirectory) (room : Room) → IsRoomFor t d room
+    → is_made room ≡ true
     → contains_key (with_room d t room).fields (tag_number t) ≡ true
 room_there t d Taken is made = is
 room_there t d Held is made = there d.fields (tag_number t) blank_field
@@ -64,25 +65,31 @@ room_there t d Missing is made = cc
 pub room_set : (t : Tag) (d : OpenDirectory) (room : Room) (field : Field)
     → with_field (with_room d t room) t field ≡ with_field d t field
 room_set t d Taken field = refl
-room_set t d Held field = λ i. record d { fields = set_again d.fields (tag_number t) blank_field field i }
+room_set t d Held field =
+    λ i. record d { fields = set_again d.fields (tag_number t) blank_field field i }
 room_set t d Missing field = refl
 
 -- without the field that holds the place, the directory is as it was
-pub room_left : (t : Tag) (d : OpenDirectory) → IsRoomFor t d Held → without_field (with_room d t Held) t ≡ d
-room_left t d is = λ i. record d { fields = set_and_removed d.fields (tag_number t) blank_field is i }
+pub room_left : (t : Tag) (d : OpenDirectory) → IsRoomFor t d Held
+    → without_field (with_room d t Held) t ≡ d
+room_left t d is =
+    λ i. record d { fields = set_and_removed d.fields (tag_number t) blank_field is i }
 
 -- ---- a value in its room
 
-pub room_kept : (room : Room) (made : Bool) (placed : Result Field TiffError) (old new : FileState) → made ≡ is_made room
+pub room_kept : (room : Room) (made : Bool) (placed : Result Field TiffError) (old new : FileState)
+    → made ≡ is_made room
     → IsInRoom made old new placed → IfOk placed (λ _. is_made room ≡ true)
 room_kept room made (Ok field) old new m h = sym m ∙ h
 room_kept room made (Err e) old new m h = tt
 
 -- an image with the directory
-pub image_settled : {A : Type 0} (i now : OpenImage) (next : OpenDirectory) (t : Tag) (room : Room) (placed : Result Field TiffError)
+pub image_settled : {A : Type 0} (i now : OpenImage) (next : OpenDirectory) (t : Tag) (room : Room)
+    (placed : Result Field TiffError)
     (r : Result A TiffError) → now ≡ with_directory_of i (with_room i.directory t room)
     → IsSettled (λ field. with_field i.directory t field) i.directory placed r next
-    → IsSettled (λ field. with_directory_of i (with_field i.directory t field)) i placed r (with_directory_of now next)
+    → IsSettled (λ field. with_directory_of i (with_field i.directory t field)) i placed r
+    (with_directory_of now next)
 image_settled i now next t room placed (Ok x) e (field, (q, n)) =
     (field, (q, ap (λ s. with_directory_of s next) e ∙ ap (with_directory_of i) n))
 image_settled i now next t room placed (Err fault) e (q, n) =
@@ -103,25 +110,33 @@ module _ {S A : Type 0} (opened : S → OpenDirectory) (having : S → OpenDirec
   settled_rest (Err e) (q, n) = n ∙ sym (own s) ∙ ap (having s) (sym (ap opened n))
 
   module _ (v : Value) (old new : FileState) (ends : Ends (λ (f : Field). f) (entry_of v old) placed old new) where
-    pub settled_ends : (r : Result A TiffError) → Settled r → Ends (λ (_ : A). opened next) (tag_of (opened s) t v old) r old new
+    pub settled_ends : (r : Result A TiffError) → Settled r
+        → Ends (λ (_ : A). opened next) (tag_of (opened s) t v old) r old new
     settled_ends (Ok x) (field, (q, n)) =
-        let P : Result Field TiffError → Type 0 = λ p. Ends (λ (f : Field). f) (entry_of v old) p old new in
-        subst (λ d. EndsAsDefined (tag_of (opened s) t v old) (Ok d) new) (sym (ap opened n ∙ given s _))
+        let P : Result Field TiffError → Type 0 =
+        λ p. Ends (λ (f : Field). f) (entry_of v old) p old new in
+        subst (λ d. EndsAsDefined (tag_of (opened s) t v old) (Ok d) new) (sym (ap opened n
+        ∙ given s _))
         (tag_told (opened s) t v field old new (subst P q ends))
     settled_ends (Err e) (q, n) =
-        let P : Result Field TiffError → Type 0 = λ p. Ends (λ (f : Field). f) (entry_of v old) p old new in
+        let P : Result Field TiffError → Type 0 =
+        λ p. Ends (λ (f : Field). f) (entry_of v old) p old new in
         tag_fails (opened s) t v e old new (subst P q ends)
 
-    pub settled_leaves : (r : Result A TiffError) (m : Model) → Leaves (entry_of v old) placed old new m → Settled r
+    pub settled_leaves : (r : Result A TiffError) (m : Model)
+        → Leaves (entry_of v old) placed old new m → Settled r
         → Leaves (tag_of (opened s) t v old) r old new m
     settled_leaves (Ok x) m leaves (field, (q, n)) =
-        let P : Result Field TiffError → Type 0 = λ p. Ends (λ (f : Field). f) (entry_of v old) p old new in
+        let P : Result Field TiffError → Type 0 =
+        λ p. Ends (λ (f : Field). f) (entry_of v old) p old new in
         let L : Result Field TiffError → Type 0 = λ p. Leaves (entry_of v old) p old new m in
         tag_kept (opened s) t field old new m v (subst P q ends) (subst L q leaves)
     settled_leaves (Err e) m leaves (q, n) =
-        let L : Result Field TiffError → Type 0 = λ p. Leaves (entry_of v old) p old new m in subst L q leaves
+        let L : Result Field TiffError → Type 0 =
+        λ p. Leaves (entry_of v old) p old new m in subst L q leaves
 
-  pub settled_unwritten : (r : Result A TiffError) (room : Bool) (old new : FileState) → IsInRoom room old new placed → Settled r
+  pub settled_unwritten : (r : Result A TiffError) (room : Bool) (old new : FileState)
+      → IsInRoom room old new placed → Settled r
       → OnErr r (StaysUnlessCut old new)
   settled_unwritten (Ok x) room old new in_room h = tt
   settled_unwritten (Err e) room old new in_room (q, n) =

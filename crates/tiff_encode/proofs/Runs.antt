@@ -30,20 +30,23 @@ one_step = (one_of Field, (one_of ℕ, (one_of OpenDirectory, (one_of OpenImage,
 
 pub one_stored : OneStored
 one_stored i samples stored other p a b =
-    let P : Compression → List ℕ → Type 0 = λ c xs. IsCompressed c (row_samples (image_page i) * i.size) xs (unpacked_chunk i samples) in
+    let P : Compression → List ℕ → Type 0 =
+    λ c xs. IsCompressed c (row_samples (image_page i) * i.size) xs (unpacked_chunk i samples) in
     let x : stored ≡ unpacked_chunk i samples = subst (λ c. P c stored) p a in
     let y : other ≡ unpacked_chunk i samples = subst (λ c. P c other) p b in
     x ∙ sym y
 
 -- an error is no success, and an error that refuses a call differs from no error
-err_ok : {A : Type 0} {e : TiffError} {x : A} → let a : Result A TiffError = Err e in let b : Result A TiffError = Ok x in a ≡ b → ⊥
+err_ok : {A : Type 0} {e : TiffError} {x : A} → let a : Result A TiffError =
+    Err e in let b : Result A TiffError = Ok x in a ≡ b → ⊥
 err_ok h = cc
 
 some_none : {e : TiffError} → let a : Option TiffError = Some e in a ≡ None → ⊥
 some_none h = cc
 
 -- nothing refuses a call that succeeds
-pub uncaused : {A : Type 0} (c : Option TiffError) (call : WriteCall A) (file : FileState) (x : A) → (by_cause c call file).answer ≡ Ok x
+pub uncaused : {A : Type 0} (c : Option TiffError) (call : WriteCall A) (file : FileState) (x : A)
+    → (by_cause c call file).answer ≡ Ok x
     → (c ≡ None) × ((call file).answer ≡ Ok x)
 uncaused None call file x h = (refl, h)
 uncaused (Some e) call file x h = absurd (err_ok h)
@@ -57,12 +60,14 @@ last_test None false true c e rest h = absurd (some_none h)
 last_test None false false true e rest h = absurd (some_none h)
 last_test None false false false e rest h = refl
 
-pub near : (file : FileState) (d : OpenDirectory) → finish_cause file d ≡ None → is_past file.kind (end_of file) ≡ false
+pub near : (file : FileState) (d : OpenDirectory) → finish_cause file d ≡ None
+    → is_past file.kind (end_of file) ≡ false
 unfolding finish_cause
 near file d h = last_test file.fault _ _ _ _ _ h
 
 -- an offset that passes the tests is accepted
-tests : (kind : FileKind) (p n : ℕ) → is_past kind p ≡ false → 0 < p → link_offset kind p n < 2 ^ 64 → offset_cause kind p n ≡ None
+tests : (kind : FileKind) (p n : ℕ) → is_past kind p ≡ false → 0 < p → link_offset kind p n < 2 ^ 64
+    → offset_cause kind p n ≡ None
 unfolding offset_cause
 tests kind p n a z l =
     ap (λ b. cond b (Some IntSizeError) (cond (p == 0 || nat_le (2 ^ 64) (link_offset kind p n)) (Some (UsageError ZeroIfdPointer)) None)) a
@@ -75,7 +80,8 @@ offsets_agree file d offsets h z l =
     let c = uncaused (finish_cause file d) _ file offsets h in
     let o : Offsets = offsets_of file.kind (end_of file) (len d.fields) in
     let same : o ≡ offsets = ok_inj o offsets c.1 in
-    let cause : offset_cause file.kind o.pointer (len d.fields) ≡ None = tests file.kind o.pointer (len d.fields) (near file d c.0)
+    let cause : offset_cause file.kind o.pointer (len d.fields) ≡ None =
+    tests file.kind o.pointer (len d.fields) (near file d c.0)
     (subst (λ x. 0 < x.pointer) (sym same) z) (subst (λ x. x.link < 2 ^ 64) (sym same) l) in
     subst (λ x. result_by (offset_cause file.kind x.pointer (len d.fields)) (offsets_of file.kind x.pointer (len d.fields)) ≡ Ok x) same
     (ap (λ k. result_by k o) cause)

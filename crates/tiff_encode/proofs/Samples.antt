@@ -14,13 +14,15 @@ some_bytes zero = lit< tt
 some_bytes (suc n) = let l = some_bytes n in omega (arith, l)
 
 -- the numbers of samples fit their number of bytes
-pub are_numbers : {A : Type 0} (size : ℕ) (bits : A → ℕ) (xs : List A) → AreNumbers size (map (sample_number size bits) xs)
+pub are_numbers : {A : Type 0} (size : ℕ) (bits : A → ℕ) (xs : List A)
+    → AreNumbers size (map (sample_number size bits) xs)
 are_numbers size bits [] n = some_bytes size
 are_numbers size bits (x ∷ xs) zero = mod-lt (bits x) (some_bytes size)
 are_numbers size bits (x ∷ xs) (suc n) = are_numbers size bits xs n
 
 -- images have one of two compression methods
-pub some_method : (c : Compression) → (compression_method c ≡ method.None) ⊎ (compression_method c ≡ method.PackBits)
+pub some_method : (c : Compression)
+    → (compression_method c ≡ method.None) ⊎ (compression_method c ≡ method.PackBits)
 some_method Uncompressed = inl refl
 some_method Packbits = inr refl
 some_method PackbitsRows = inr refl

@@ -17,24 +17,29 @@ use Rattle.tiff_base.specs.Directory.{count_width, offset_width}
 -- ---- results
 
 -- two steps that succeed
-pub ok_bind : {A B : Type 0} (r : Result A TiffError) (f : A → Result B TiffError) (x : A) (y : B) → r ≡ Ok x
+pub ok_bind : {A B : Type 0} (r : Result A TiffError) (f : A → Result B TiffError) (x : A) (y : B)
+    → r ≡ Ok x
     → f x ≡ Ok y → (r >>= f) ≡ Ok y
 ok_bind r f x y e h = ap (λ z. z >>= f) e ∙ h
 
 -- equal results have equal values
-pub ok_inj : {A : Type 0} (x y : A) → let a : Result A TiffError = Ok x in let b : Result A TiffError = Ok y in a ≡ b
+pub ok_inj : {A : Type 0} (x y : A) → let a : Result A TiffError =
+    Ok x in let b : Result A TiffError = Ok y in a ≡ b
     → x ≡ y
 ok_inj x y e = cc
 
 -- equal options have equal values
-pub some_inj : {A : Type 0} (x y : A) → (let a : Option A = Some x in let b : Option A = Some y in a ≡ b) → x ≡ y
+pub some_inj : {A : Type 0} (x y : A)
+    → (let a : Option A = Some x in let b : Option A = Some y in a ≡ b) → x ≡ y
 some_inj x y h = cc
 
-pub none_some : {A : Type 0} {x : A} → (let a : Option A = None in let b : Option A = Some x in a ≡ b) → ⊥
+pub none_some : {A : Type 0} {x : A}
+    → (let a : Option A = None in let b : Option A = Some x in a ≡ b) → ⊥
 none_some h = cc
 
 -- a test that chooses between a value and an error holds if the choice succeeds
-opened : (b : Bool) (x s : List ℕ) (e : TiffError) → cond b (Ok x) (Err e) ≡ Ok s → (b ≡ true) × (x ≡ s)
+opened : (b : Bool) (x s : List ℕ) (e : TiffError) → cond b (Ok x) (Err e) ≡ Ok s
+    → (b ≡ true) × (x ≡ s)
 opened true x s e h = (refl, cc)
 opened false x s e h = absurd cc
 
@@ -53,7 +58,8 @@ is_exact file p n s e = let o = opened _ _ s _ e in (leb-true _ _ o.0, o.1)
 -- bytes that are read from a file are read from each longer file
 pub exact_append : (file more : List ℕ) (p n : ℕ) (s : List ℕ) → exactly_at file p n ≡ Ok s
     → exactly_at (file ++ more) p n ≡ Ok s
-exact_append file more p zero s e = let o = is_exact file p zero s e in exact (file ++ more) p zero s (omega arith) o.1
+exact_append file more p zero s e =
+    let o = is_exact file p zero s e in exact (file ++ more) p zero s (omega arith) o.1
 exact_append file more p (suc n) s e =
     let o = is_exact file p (suc n) s e in
     exact (file ++ more) p (suc n) s (omega (arith, length-append file more, o.0))
@@ -76,7 +82,8 @@ length_put file q over h =
     )
 
 -- bytes before a patch stay
-pub exact_put_before : (file : List ℕ) (q : ℕ) (over : List ℕ) (p n : ℕ) (s : List ℕ) → q + length over ≤ length file
+pub exact_put_before : (file : List ℕ) (q : ℕ) (over : List ℕ) (p n : ℕ) (s : List ℕ)
+    → q + length over ≤ length file
     → p + n ≤ q
     → exactly_at file p n ≡ Ok s → exactly_at (put file q over) p n ≡ Ok s
 exact_put_before file q over p n s h b e =
@@ -85,13 +92,15 @@ exact_put_before file q over p n s h b e =
     let l = length_put file q over h in
     exact (put file q over) p n s (omega (arith, l, o.0))
     (sym (drop-take p n (put file q over))
-    ∙ ap (λ f. drop p f) (take-append-le (p + n) (take q file) (over ++ drop (q + length over) file) (omega arith)
+    ∙ ap (λ f. drop p f) (take-append-le (p + n) (take q file) (over
+    ++ drop (q + length over) file) (omega arith)
     ∙ take-take (p + n) q file b)
     ∙ drop-take p n file
     ∙ o.1)
 
 -- bytes behind a patch stay
-pub exact_put_behind : (file : List ℕ) (q : ℕ) (over : List ℕ) (p n : ℕ) (s : List ℕ) → q + length over ≤ length file
+pub exact_put_behind : (file : List ℕ) (q : ℕ) (over : List ℕ) (p n : ℕ) (s : List ℕ)
+    → q + length over ≤ length file
     → q + length over ≤ p
     → exactly_at file p n ≡ Ok s → exactly_at (put file q over) p n ≡ Ok s
 exact_put_behind file q over p n s h b e =
@@ -116,20 +125,24 @@ pub exact_put_here : (file : List ℕ) (q : ℕ) (over : List ℕ) → q + lengt
 exact_put_here file q over h =
     let t : length (take q file) ≡ q = length-take-le q file (omega arith) in
     exact (put file q over) q (length over) over (omega (arith, length_put file q over h))
-    (ap (λ d. take (length over) d) (drop_at (take q file) (over ++ drop (q + length over) file) q t)
+    (ap (λ d. take (length over) d) (drop_at (take q file) (over
+    ++ drop (q + length over) file) q t)
     ∙ take_at over (drop (q + length over) file) (length over) refl)
 
 -- bytes between two others are read
-pub exact_mid : (a s b : List ℕ) (p n : ℕ) → length a ≡ p → length s ≡ n → exactly_at (a ++ (s ++ b)) p n ≡ Ok s
+pub exact_mid : (a s b : List ℕ) (p n : ℕ) → length a ≡ p → length s ≡ n
+    → exactly_at (a ++ (s ++ b)) p n ≡ Ok s
 exact_mid a s b p n e h =
     exact (a ++ (s ++ b)) p n s (omega (arith, length-append a (s ++ b), length-append s b))
     (ap (λ d. take n d) (drop_at a (s ++ b) p e) ∙ take_at s b n h)
 
 -- the last bytes are read
-pub exact_end : (file more : List ℕ) → exactly_at (file ++ more) (length file) (length more) ≡ Ok more
+pub exact_end : (file more : List ℕ)
+    → exactly_at (file ++ more) (length file) (length more) ≡ Ok more
 exact_end file more =
     exact (file ++ more) (length file) (length more) more (omega (arith, length-append file more))
-    (ap (λ d. take (length more) d) (drop_at file more (length file) refl) ∙ take_all (length more) more (omega arith))
+    (ap (λ d. take (length more) d) (drop_at file more (length file) refl)
+    ∙ take_all (length more) more (omega arith))
 
 -- ---- numbers
 
@@ -143,7 +156,8 @@ pub number-le : (w : Width) (n : ℕ) → (w ≡ w16) ⊎ ((w ≡ w32) ⊎ (w �
     → number LittleEndian w (le (byte_len w) n) ≡ n
 unfolding number
 number-le w n c =
-    let P : Width → Type 0 = λ v. n < 256 ^ byte_len v → number LittleEndian v (le (byte_len v) n) ≡ n in
+    let P : Width → Type 0 =
+    λ v. n < 256 ^ byte_len v → number LittleEndian v (le (byte_len v) n) ≡ n in
     elim c as (λ _. P w) [
       | inl e ↦ subst P (sym e) (from_le_bytes-to_le_bytes_2 n)
       | inr d ↦ elim d as (λ _. P w) [
@@ -174,7 +188,8 @@ number_kept file new w p x f e =
     ok_bind (exactly_at new p (byte_len w)) F i.0 x (f i.0 i.1.0) i.1.1
 
 -- a number written between two pieces is read
-pub number_mid : (w : Width) (a b : List ℕ) (p x : ℕ) → (w ≡ w16) ⊎ ((w ≡ w32) ⊎ (w ≡ w64)) → length a ≡ p
+pub number_mid : (w : Width) (a b : List ℕ) (p x : ℕ) → (w ≡ w16) ⊎ ((w ≡ w32) ⊎ (w ≡ w64))
+    → length a ≡ p
     → x < 256 ^ byte_len w
     → number_at LittleEndian w (a ++ (le (byte_len w) x ++ b)) p ≡ Ok x
 number_mid w a b p x c e l =

@@ -29,7 +29,8 @@ model_joined kind bytes m (op ∷ ops) more =
     model_joined kind (after_op kind bytes op) (model_after_op kind (length bytes) m op) ops more
 
 -- two lists of changes in sequence fit if each of the two fits
-pub fits_joined : (kind : FileKind) (bytes : List ℕ) (m : Model) (ops more : List WriteOp) → OpsFit kind bytes m ops
+pub fits_joined : (kind : FileKind) (bytes : List ℕ) (m : Model) (ops more : List WriteOp)
+    → OpsFit kind bytes m ops
     → OpsFit kind (bytes_after kind bytes ops) (model_after kind bytes m ops) more
     → OpsFit kind bytes m (ops ++ more)
 fits_joined kind bytes m [] more f g = g
@@ -42,7 +43,8 @@ pub fits_parted : (kind : FileKind) (bytes : List ℕ) (m : Model) (ops more : L
     → OpsFit kind bytes m ops × OpsFit kind (bytes_after kind bytes ops) (model_after kind bytes m ops) more
 fits_parted kind bytes m [] more f = (tt, f)
 fits_parted kind bytes m (op ∷ ops) more f =
-    let p = fits_parted kind (after_op kind bytes op) (model_after_op kind (length bytes) m op) ops more f.1 in
+    let p =
+    fits_parted kind (after_op kind bytes op) (model_after_op kind (length bytes) m op) ops more f.1 in
     ((f.0, p.0), p.1)
 
 pub ops_join : OpsJoin
@@ -63,12 +65,14 @@ ops_append kind bytes (Linked offset target ∷ ops) a = absurd a
 -- ---- what the model describes
 
 -- after one change, the changed model describes the file
-pub op_stands : (kind : FileKind) (bytes : List ℕ) (m : Model) (op : WriteOp) → FileContains kind bytes m
+pub op_stands : (kind : FileKind) (bytes : List ℕ) (m : Model) (op : WriteOp)
+    → FileContains kind bytes m
     → OpFits kind m op
     → FileContains kind (after_op kind bytes op) (model_after_op kind (length bytes) m op)
 op_stands kind bytes m (Appended more) h f = grown_by_region kind m bytes more h
 op_stands kind bytes m (Supplied supplied) h f =
-    let P : List ℕ → Type 0 = λ b. FileContains kind bytes (with_supplied m (record { field = supplied.field; bytes = b })) in
+    let P : List ℕ → Type 0 =
+    λ b. FileContains kind bytes (with_supplied m (record { field = supplied.field; bytes = b })) in
     elim f as (λ _. FileContains kind bytes (with_supplied m supplied)) [
       | inl x ↦ subst P (sym x.bytes) (grown_by_inline kind m bytes supplied.field x.short h)
       | inr y ↦ (let r : ByteRegion = y.0 in let a = y.1.1 in
@@ -76,7 +80,8 @@ op_stands kind bytes m (Supplied supplied) h f =
           (grown_by_placed kind m bytes supplied.field r y.1.0 a.offset a.whole a.long a.short h))
     ]
 op_stands kind bytes m (Listed fields) h f = grown_by_listing kind m bytes fields f h
-op_stands kind bytes m (Linked offset target) h f = kept_by_patching kind m bytes offset target f.0 f.1 h
+op_stands kind bytes m (Linked offset target) h f =
+    kept_by_patching kind m bytes offset target f.0 f.1 h
 
 -- after several changes, the changed model describes the file
 pub ops_stand : OpsStand
@@ -88,18 +93,25 @@ ops_stand kind bytes m (op ∷ ops) h f =
 -- ---- what is kept
 
 -- one change removes nothing from the model
-op_grows : (kind : FileKind) (n : ℕ) (m : Model) (op : WriteOp) → Grows m (model_after_op kind n m op)
-op_grows kind n m (Appended more) = record { directories = λ d i. i; supplied = λ h i. i; regions = λ r i. inr i }
-op_grows kind n m (Supplied supplied) = record { directories = λ d i. i; supplied = λ h i. inr i; regions = λ r i. i }
-op_grows kind n m (Listed fields) = record { directories = λ d i. inr i; supplied = λ h i. i; regions = λ r i. i }
-op_grows kind n m (Linked offset target) = record { directories = λ d i. i; supplied = λ h i. i; regions = λ r i. i }
+op_grows : (kind : FileKind) (n : ℕ) (m : Model) (op : WriteOp)
+    → Grows m (model_after_op kind n m op)
+op_grows kind n m (Appended more) =
+    record { directories = λ d i. i; supplied = λ h i. i; regions = λ r i. inr i }
+op_grows kind n m (Supplied supplied) =
+    record { directories = λ d i. i; supplied = λ h i. inr i; regions = λ r i. i }
+op_grows kind n m (Listed fields) =
+    record { directories = λ d i. inr i; supplied = λ h i. i; regions = λ r i. i }
+op_grows kind n m (Linked offset target) =
+    record { directories = λ d i. i; supplied = λ h i. i; regions = λ r i. i }
 
 -- several changes remove nothing from the model
 pub ops_grow : OpsGrow
-ops_grow kind bytes m [] = record { directories = λ d i. i; supplied = λ h i. i; regions = λ r i. i }
+ops_grow kind bytes m [] =
+    record { directories = λ d i. i; supplied = λ h i. i; regions = λ r i. i }
 ops_grow kind bytes m (op ∷ ops) =
     let first = op_grows kind (length bytes) m op in
-    let rest = ops_grow kind (after_op kind bytes op) (model_after_op kind (length bytes) m op) ops in
+    let rest =
+    ops_grow kind (after_op kind bytes op) (model_after_op kind (length bytes) m op) ops in
     record {
       directories = λ d i. rest.directories d (first.directories d i);
       supplied = λ h i. rest.supplied h (first.supplied h i);
@@ -107,14 +119,17 @@ ops_grow kind bytes m (op ∷ ops) =
     }
 
 -- a link of a model is a link of each model that grows from it
-pub link_kept : (kind : FileKind) (m n : Model) (q : ℕ) → Grows m n → IsLink kind m q → IsLink kind n q
-link_kept kind m n q g l = elim l [ inl x ↦ inl x | inr y ↦ inr (y.0, (g.directories y.0 y.1.0, y.1.1)) ]
+pub link_kept : (kind : FileKind) (m n : Model) (q : ℕ) → Grows m n → IsLink kind m q
+    → IsLink kind n q
+link_kept kind m n q g l =
+    elim l [ inl x ↦ inl x | inr y ↦ inr (y.0, (g.directories y.0 y.1.0, y.1.1)) ]
 
 -- ---- partial writes
 
 -- after a partial append, the model still describes the file
 pub ops_begun : OpsBegun
-ops_begun kind bytes m ops count h = kept_by_appending kind m bytes (take count (all_appended kind ops)) h
+ops_begun kind bytes m ops count h =
+    kept_by_appending kind m bytes (take count (all_appended kind ops)) h
 
 -- after a partial write of the last link, the model with a changed link describes the file
 pub ops_torn : OpsTorn
@@ -124,6 +139,7 @@ ops_torn kind bytes m before offset target count a h f =
     let p = fits_parted kind bytes m before (Linked offset target ∷ []) f in
     let short : length over ≤ offset_len kind =
     omega (arith, length-take count (le (offset_len kind) target), length-le 0 (offset_len kind) target) in
-    let P : List ℕ → Type 0 = λ file. (t : ℕ) × FileContains kind (put file offset over) (with_link kind n offset t) in
+    let P : List ℕ → Type 0 =
+    λ file. (t : ℕ) × FileContains kind (put file offset over) (with_link kind n offset t) in
     subst P (ops_append kind bytes before a)
     (kept_by_tearing kind n (bytes_after kind bytes before) offset over p.1.0.0 short (ops_stand kind bytes m before h p.0))

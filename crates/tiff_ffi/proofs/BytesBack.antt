@@ -12,26 +12,35 @@ use Rattle.tiff_encode.proofs.Shown.Color.{IsSize, of_family}
 
 -- ---- whole samples
 
-whole_by : (size : ℕ) → Returns size → (bytes : List ℕ) → AreOctets bytes → length bytes % size ≡ 0 → length bytes ≡ div_ceil (length bytes) size * size
+whole_by : (size : ℕ) → Returns size → (bytes : List ℕ) → AreOctets bytes → length bytes % size ≡ 0
+    → length bytes ≡ div_ceil (length bytes) size * size
     → flat_map (le size) (numbers_in size bytes) ≡ bytes
 unfolding numbers_in
 whole_by size returns bytes octets none len =
-    each_back size returns bytes octets (div_ceil (length bytes) size) (omega (arith, len)) ∙ take_all (div_ceil (length bytes) size * size) bytes (omega (arith, len))
+    each_back size returns bytes octets (div_ceil (length bytes) size) (omega (arith, len))
+    ∙ take_all (div_ceil (length bytes) size * size) bytes (omega (arith, len))
 
-sized_back : (size : ℕ) → IsSize size → (bytes : List ℕ) → AreOctets bytes → length bytes % size ≡ 0 → flat_map (le size) (numbers_in size bytes) ≡ bytes
-sized_back size (inl e) bytes octets none = subst (λ n. flat_map (le n) (numbers_in n bytes) ≡ bytes) (sym e) (whole_by 1 returns_1 bytes octets (omega arith) (omega arith))
+sized_back : (size : ℕ) → IsSize size → (bytes : List ℕ) → AreOctets bytes → length bytes % size ≡ 0
+    → flat_map (le size) (numbers_in size bytes) ≡ bytes
+sized_back size (inl e) bytes octets none =
+    subst (λ n. flat_map (le n) (numbers_in n bytes)
+    ≡ bytes) (sym e) (whole_by 1 returns_1 bytes octets (omega arith) (omega arith))
 sized_back size (inr (inl e)) bytes octets none =
     let m : length bytes % 2 ≡ 0 = subst (λ n. length bytes % n ≡ 0) e none in
-    subst (λ n. flat_map (le n) (numbers_in n bytes) ≡ bytes) (sym e) (whole_by 2 returns_2 bytes octets m (omega (arith, m)))
+    subst (λ n. flat_map (le n) (numbers_in n bytes)
+    ≡ bytes) (sym e) (whole_by 2 returns_2 bytes octets m (omega (arith, m)))
 sized_back size (inr (inr (inl e))) bytes octets none =
     let m : length bytes % 4 ≡ 0 = subst (λ n. length bytes % n ≡ 0) e none in
-    subst (λ n. flat_map (le n) (numbers_in n bytes) ≡ bytes) (sym e) (whole_by 4 returns_4 bytes octets m (omega (arith, m)))
+    subst (λ n. flat_map (le n) (numbers_in n bytes)
+    ≡ bytes) (sym e) (whole_by 4 returns_4 bytes octets m (omega (arith, m)))
 sized_back size (inr (inr (inr e))) bytes octets none =
     let m : length bytes % 8 ≡ 0 = subst (λ n. length bytes % n ≡ 0) e none in
-    subst (λ n. flat_map (le n) (numbers_in n bytes) ≡ bytes) (sym e) (whole_by 8 returns_8 bytes octets m (omega (arith, m)))
+    subst (λ n. flat_map (le n) (numbers_in n bytes)
+    ≡ bytes) (sym e) (whole_by 8 returns_8 bytes octets m (omega (arith, m)))
 
 -- Samples that were made of bytes have these bytes.
-pub bytes_back : (name : ColorTypeName) (size : ℕ) (bytes samples : List ℕ) → size ≡ inner_size name → ((i : ℕ) → Fits w8 (get_or bytes i 0))
+pub bytes_back : (name : ColorTypeName) (size : ℕ) (bytes samples : List ℕ) → size ≡ inner_size name
+    → ((i : ℕ) → Fits w8 (get_or bytes i 0))
     → length bytes % size ≡ 0 → samples ≡ numbers_in size bytes → flat_map (le size) samples ≡ bytes
 bytes_back name size bytes samples is octets none are =
     ap (flat_map (le size)) are ∙ sized_back size (subst IsSize (sym is) (of_family name).is_size) bytes (λ k. let f = octets k in omega (arith, f)) none

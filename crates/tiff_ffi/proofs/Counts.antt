@@ -35,7 +35,8 @@ abbrev has_parent : ℕ → NewPage → Bool
 has_parent parent page = page.parent == parent
 
 -- a count of the first pages is at most their number
-pub count_below : (pages : List NewPage) (i parent : ℕ) → i ≤ length pages → count_of (take i pages) parent ≤ i
+pub count_below : (pages : List NewPage) (i parent : ℕ) → i ≤ length pages
+    → count_of (take i pages) parent ≤ i
 count_below pages i parent within =
     let some = count_by-le-length (has_parent parent) (take i pages) in
     let size : length (take i pages) ≡ i = length-take-le i pages within in
@@ -48,20 +49,24 @@ none_counted n p within =
     let l : length (replicate n z) ≡ n = length-replicate n z in
     get_or-replicate n p z z (omega (arith, within, l))
 
-module _ (counts : List ℕ) (pages : List NewPage) (i : ℕ) (d : NewPage) (within : i < length pages) (counted : AreCounts counts (take i pages)) where
+module _ (counts : List ℕ) (pages : List NewPage) (i : ℕ) (d : NewPage) (within : i < length pages)
+    (counted : AreCounts counts (take i pages)) where
   abbrev Parent : ℕ
   Parent = (get_or pages i d).parent
 
   another : (p : ℕ) → p ≢ Parent → count_of (take (i + 1) pages) p ≡ count_of (take i pages) p
-  another p other = count_by_more_no (has_parent p) pages i d within (ne_eqb Parent p (λ e. other (sym e)))
+  another p other =
+      count_by_more_no (has_parent p) pages i d within (ne_eqb Parent p (λ e. other (sym e)))
 
   -- its parent has no count
   pub not_counted : length counts ≤ Parent → AreCounts counts (take (i + 1) pages)
-  not_counted none p inside = counted p inside ∙ sym (another p (λ e. omega (arith, none, inside, e)))
+  not_counted none p inside =
+      counted p inside ∙ sym (another p (λ e. omega (arith, none, inside, e)))
 
   pub none_before : length counts ≤ Parent → CountsBefore (length counts) pages i 0
   none_before none page is below =
-      let same : (get_or pages i d).parent ≡ page.parent = ap (λ (x : NewPage). x.parent) (get_or_from_slice_get pages i page d is) in
+      let same : (get_or pages i d).parent ≡ page.parent =
+      ap (λ (x : NewPage). x.parent) (get_or_from_slice_get pages i page d is) in
       absurd (omega (arith, none, below, same))
 
   module _ (v : ℕ) (is : v ≡ get_or counts Parent v) (here : Parent < length counts) where
@@ -76,24 +81,32 @@ module _ (counts : List ℕ) (pages : List NewPage) (i : ℕ) (d : NewPage) (wit
     one_more p inside =
         elim (cases_eq p Parent) [
           | inl same ↦ (
-              let e = count_by_more_yes (has_parent p) pages i d within (eq-eqb Parent p (sym same)) in
-              let value = ap (λ k. get_or (set counts Parent (v + 1)) k 0) same ∙ get_or-set_same counts Parent (v + 1) 0 here in
+              let e =
+              count_by_more_yes (has_parent p) pages i d within (eq-eqb Parent p (sym same)) in
+              let value =
+              ap (λ k. get_or (set counts Parent (v + 1)) k 0) same
+              ∙ get_or-set_same counts Parent (v + 1) 0 here in
               let first = before ∙ ap (λ k. count_of (take i pages) k) (sym same) in
               omega (arith, e, value, first)
               )
           | inr other ↦ (
               let l = length-set counts Parent (v + 1) in
-              get_or-set_other counts Parent p (v + 1) 0 other ∙ counted p (omega (arith, inside, l)) ∙ sym (another p other)
+              get_or-set_other counts Parent p (v + 1) 0 other
+              ∙ counted p (omega (arith, inside, l)) ∙ sym (another p other)
               )
         ]
 
     pub some_before : CountsBefore (length counts) pages i v
-    some_before page at below = before ∙ ap (λ (x : NewPage). count_of (take i pages) x.parent) (get_or_from_slice_get pages i page d at)
+    some_before page at below =
+        before ∙ ap (λ (x : NewPage). count_of (take i pages) x.parent)
+        (get_or_from_slice_get pages i page d at)
 
 -- the count of an earlier page's number is the index of a page at its place
-pub index_so : (pages : List NewPage) (i : ℕ) (d : NewPage) (n index : ℕ) → i < length pages → n ≡ length pages + 1 → CountsBefore n pages i index
+pub index_so : (pages : List NewPage) (i : ℕ) (d : NewPage) (n index : ℕ) → i < length pages
+    → n ≡ length pages + 1 → CountsBefore n pages i index
     → (get_or pages i d).parent < i + 1 → index ≡ (place_in pages (i + 1) (get_or pages i d)).index
 index_so pages i d n index within all counts before =
-    let first = counts (get_or pages i d) (slice_get-get_or pages i d within) (omega (arith, before, within, all)) in
+    let first =
+    counts (get_or pages i d) (slice_get-get_or pages i d within) (omega (arith, before, within, all)) in
     let here : i ≡ i + 1 - 1 = omega arith in
     first ∙ ap (λ k. count_of (take k pages) (get_or pages i d).parent) here

@@ -107,19 +107,25 @@ none e n is zero = let h = some_fault e in omega (arith, is, zero, h)
 -- ---- a file that was delivered
 
 -- An error is no file.
-err_ok : {e : TiffError} {file : List ℕ} → let a : Result (List ℕ) TiffError = Ok file in let b : Result (List ℕ) TiffError = Err e in a ≡ b → ⊥
+err_ok : {e : TiffError} {file : List ℕ} → let a : Result (List ℕ) TiffError =
+    Ok file in let b : Result (List ℕ) TiffError = Err e in a ≡ b → ⊥
 err_ok h = cc
 
-module _ (image : NewImage) (bytes file old new : List ℕ) (len : ℕ) (is : len ≡ length file) (fits : length file ≤ length old)
+module _ (image : NewImage) (bytes file old new : List ℕ) (len : ℕ) (is : len ≡ length file)
+    (fits : length file ≤ length old)
     (put : new ≡ file ++ drop (length file) old) where
   front : take len new ≡ file
-  front = ap (λ n. take n new) is ∙ ap (take (length file)) put ∙ take-append_seam file (drop (length file) old)
+  front =
+      ap (λ n. take n new) is ∙ ap (take (length file)) put
+      ∙ take-append_seam file (drop (length file) old)
 
   rest : drop len new ≡ drop len old
   rest =
-      ap (λ n. drop n new) is ∙ ap (drop (length file)) put ∙ drop-append_seam file (drop (length file) old) ∙ ap (λ n. drop n old) (sym is)
+      ap (λ n. drop n new) is ∙ ap (drop (length file)) put
+      ∙ drop-append_seam file (drop (length file) old) ∙ ap (λ n. drop n old) (sym is)
 
-  by_samples : (s : Settings) → settings_of image ≡ Ok s → (r : Result (List ℕ) TiffError) → samples_from_bytes s.color bytes ≡ r
+  by_samples : (s : Settings) → settings_of image ≡ Ok s → (r : Result (List ℕ) TiffError)
+      → samples_from_bytes s.color bytes ≡ r
       → WritesBytes s image.width image.height r (Ok file) → IsShown image bytes old new len
   by_samples s asked (Ok samples) are (inl w) = absurd (err_ok w)
   by_samples s asked (Ok samples) are (inr w) = record {
@@ -128,21 +134,28 @@ module _ (image : NewImage) (bytes file old new : List ℕ) (len : ℕ) (is : le
     samples = samples;
     are = are;
     room = subst (λ n. n ≤ length old) (sym is) fits;
-    shows = subst (λ (f : List ℕ). ShowsFirst s.kind f (image_by s image.width image.height samples)) (sym front) w.shows;
+    shows =
+        subst (λ (f : List ℕ). ShowsFirst s.kind f (image_by s image.width image.height samples))
+        (sym front) w.shows;
     rest = rest;
   }
   by_samples s asked (Err e) are w = absurd (err_ok w)
 
-  by_settings : (r : Result Settings TiffError) → settings_of image ≡ r → WritesBy r image.width image.height bytes (Ok file) → IsShown image bytes old new len
+  by_settings : (r : Result Settings TiffError) → settings_of image ≡ r
+      → WritesBy r image.width image.height bytes (Ok file) → IsShown image bytes old new len
   by_settings (Ok s) asked w = by_samples s asked (samples_from_bytes s.color bytes) refl w
   by_settings (Err e) asked w = absurd (err_ok w)
 
-delivered : (image : NewImage) (bytes : List ℕ) (answer : Result (List ℕ) TiffError) (status : ℕ) (old new : List ℕ) (len_old len_new : ℕ)
-    → WritesNew image bytes answer → Delivers answer status old new len_old len_new → status ≡ 0 → IsShown image bytes old new len_new
+delivered : (image : NewImage) (bytes : List ℕ) (answer : Result (List ℕ) TiffError) (status : ℕ)
+    (old new : List ℕ) (len_old len_new : ℕ)
+    → WritesNew image bytes answer → Delivers answer status old new len_old len_new → status ≡ 0
+    → IsShown image bytes old new len_new
 delivered image bytes (Ok file) status old new len_old len_new w (is, inl put) zero =
     by_settings image bytes file old new len_new is put.0 put.1.1 (settings_of image) refl w
-delivered image bytes (Ok file) status old new len_old len_new w (is, inr none_put) zero = absurd (none (UsageError (InsufficientOutputBufferSize (length file) (length old))) status none_put.1.0 zero)
-delivered image bytes (Err e) status old new len_old len_new w d zero = absurd (none e status d.0 zero)
+delivered image bytes (Ok file) status old new len_old len_new w (is, inr none_put) zero =
+    absurd (none (UsageError (InsufficientOutputBufferSize (length file) (length old))) status none_put.1.0 zero)
+delivered image bytes (Err e) status old new len_old len_new w d zero =
+    absurd (none e status d.0 zero)
 
 kept : (answer : Result (List ℕ) TiffError) (status : ℕ) (old new : List ℕ) (len_old len_new : ℕ)
     → Delivers answer status old new len_old len_new → (status ≡ 0) ⊎ (new ≡ old)
@@ -151,71 +164,102 @@ kept (Ok file) status old new len_old len_new (is, inr none_put) = inr none_put.
 kept (Err e) status old new len_old len_new d = inr d.1.0
 
 -- What C gets for an image that was written.
-pub told_new : (image : NewImage) (bytes : List ℕ) (answer : Result (List ℕ) TiffError) (status : ℕ) (old new : List ℕ) (len_old len_new : ℕ)
-    → WritesNew image bytes answer → Delivers answer status old new len_old len_new → WriterTells image bytes status old new len_old len_new
+pub told_new : (image : NewImage) (bytes : List ℕ) (answer : Result (List ℕ) TiffError) (status : ℕ)
+    (old new : List ℕ) (len_old len_new : ℕ)
+    → WritesNew image bytes answer → Delivers answer status old new len_old len_new
+    → WriterTells image bytes status old new len_old len_new
 told_new image bytes answer status old new len_old len_new w d = (answer, (w, d))
 
-pub told_shown : (image : NewImage) (bytes : List ℕ) (answer : Result (List ℕ) TiffError) (status : ℕ) (old new : List ℕ) (len_old len_new : ℕ)
-    → WritesNew image bytes answer → Delivers answer status old new len_old len_new → status ≡ 0 → IsShown image bytes old new len_new
-told_shown image bytes answer status old new len_old len_new w d zero = delivered image bytes answer status old new len_old len_new w d zero
+pub told_shown : (image : NewImage) (bytes : List ℕ) (answer : Result (List ℕ) TiffError)
+    (status : ℕ) (old new : List ℕ) (len_old len_new : ℕ)
+    → WritesNew image bytes answer → Delivers answer status old new len_old len_new → status ≡ 0
+    → IsShown image bytes old new len_new
+told_shown image bytes answer status old new len_old len_new w d zero =
+    delivered image bytes answer status old new len_old len_new w d zero
 
-pub told_kept : (image : NewImage) (bytes : List ℕ) (answer : Result (List ℕ) TiffError) (status : ℕ) (old new : List ℕ) (len_old len_new : ℕ)
-    → WritesNew image bytes answer → Delivers answer status old new len_old len_new → (status ≡ 0) ⊎ (new ≡ old)
-told_kept image bytes answer status old new len_old len_new w d = kept answer status old new len_old len_new d
+pub told_kept : (image : NewImage) (bytes : List ℕ) (answer : Result (List ℕ) TiffError)
+    (status : ℕ) (old new : List ℕ) (len_old len_new : ℕ)
+    → WritesNew image bytes answer → Delivers answer status old new len_old len_new
+    → (status ≡ 0) ⊎ (new ≡ old)
+told_kept image bytes answer status old new len_old len_new w d =
+    kept answer status old new len_old len_new d
 
 -- ---- the parts of a file around samples
 
 -- What C gets for an image around its samples.
-pub told_around : (image : NewImage) (bytes : List ℕ) (answer : Result NewFile TiffError) (status : ℕ) (old new : List ℕ) (len_old len_new : FrameLengths)
-    → WritesNew image bytes (view_of_result file_of answer) → IfOk answer (λ file. IsAround bytes file)
-    → ((samples : List ℕ) → IfOk answer (λ file. IsAround samples file) → DeliversParts (view_of_result file_of answer) samples status old new len_old len_new)
+pub told_around : (image : NewImage) (bytes : List ℕ) (answer : Result NewFile TiffError)
+    (status : ℕ) (old new : List ℕ) (len_old len_new : FrameLengths)
+    → WritesNew image bytes (view_of_result file_of answer)
+    → IfOk answer (λ file. IsAround bytes file)
+    → ((samples : List ℕ) → IfOk answer (λ file. IsAround samples file)
+    → DeliversParts (view_of_result file_of answer) samples status old new len_old len_new)
     → FrameTells image bytes status old new len_old len_new
-told_around image bytes answer status old new len_old len_new w around d = (view_of_result file_of answer, (w, d bytes around))
+told_around image bytes answer status old new len_old len_new w around d =
+    (view_of_result file_of answer, (w, d bytes around))
 
-kept_parts : (answer : Result (List ℕ) TiffError) (bytes : List ℕ) (status : ℕ) (old new : List ℕ) (len_old len_new : FrameLengths)
+kept_parts : (answer : Result (List ℕ) TiffError) (bytes : List ℕ) (status : ℕ) (old new : List ℕ)
+    (len_old len_new : FrameLengths)
     → DeliversParts answer bytes status old new len_old len_new → (status ≡ 0) ⊎ (new ≡ old)
 kept_parts (Ok file) bytes status old new len_old len_new (is, (all, inl put)) = inl put.1.0
-kept_parts (Ok file) bytes status old new len_old len_new (is, (all, inr none_put)) = inr none_put.1.1
+kept_parts (Ok file) bytes status old new len_old len_new (is, (all, inr none_put)) =
+    inr none_put.1.1
 kept_parts (Err e) bytes status old new len_old len_new d = inr d.1.0
 
-pub kept_around : (bytes : List ℕ) (answer : Result NewFile TiffError) (status : ℕ) (old new : List ℕ) (len_old len_new : FrameLengths)
+pub kept_around : (bytes : List ℕ) (answer : Result NewFile TiffError) (status : ℕ)
+    (old new : List ℕ) (len_old len_new : FrameLengths)
     → IfOk answer (λ file. IsAround bytes file)
-    → ((samples : List ℕ) → IfOk answer (λ file. IsAround samples file) → DeliversParts (view_of_result file_of answer) samples status old new len_old len_new)
+    → ((samples : List ℕ) → IfOk answer (λ file. IsAround samples file)
+    → DeliversParts (view_of_result file_of answer) samples status old new len_old len_new)
     → (status ≡ 0) ⊎ (new ≡ old)
-kept_around bytes answer status old new len_old len_new around d = kept_parts (view_of_result file_of answer) bytes status old new len_old len_new (d bytes around)
+kept_around bytes answer status old new len_old len_new around d =
+    kept_parts (view_of_result file_of answer) bytes status old new len_old len_new (d bytes around)
 
 -- ---- the file of jobs
 
 -- What C gets for jobs.
-pub told_jobs : (version : ℕ) (text : List ℕ) (answer : Result Answer TiffError) (status : ℕ) (old new : List ℕ) (len_old len_new : ℕ) (end : JobsEnd)
-    → AnswersKind (kind_of version) text answer → TellsAnswer answer status old new len_old len_new end → JobsTell version text status old new len_old len_new end
+pub told_jobs : (version : ℕ) (text : List ℕ) (answer : Result Answer TiffError) (status : ℕ)
+    (old new : List ℕ) (len_old len_new : ℕ) (end : JobsEnd)
+    → AnswersKind (kind_of version) text answer
+    → TellsAnswer answer status old new len_old len_new end
+    → JobsTell version text status old new len_old len_new end
 told_jobs version text answer status old new len_old len_new end a t = (answer, (a, t))
 
-kept_ran : (file : List ℕ) (refused : Option (ℕ × ℕ)) (status : ℕ) (old new : List ℕ) (len_old len_new : ℕ) (end : JobsEnd)
+kept_ran : (file : List ℕ) (refused : Option (ℕ × ℕ)) (status : ℕ) (old new : List ℕ)
+    (len_old len_new : ℕ) (end : JobsEnd)
     → TellsRan file refused status old new len_old len_new end → (status ≡ 0) ⊎ (new ≡ old)
-kept_ran file None status old new len_old len_new end t = kept (Ok file) status old new len_old len_new t.0
+kept_ran file None status old new len_old len_new end t =
+    kept (Ok file) status old new len_old len_new t.0
 kept_ran file (Some r) status old new len_old len_new end t = inr t.1.0.0
 
-pub kept_jobs : (answer : Result Answer TiffError) (status : ℕ) (old new : List ℕ) (len_old len_new : ℕ) (end : JobsEnd)
+pub kept_jobs : (answer : Result Answer TiffError) (status : ℕ) (old new : List ℕ)
+    (len_old len_new : ℕ) (end : JobsEnd)
     → TellsAnswer answer status old new len_old len_new end → (status ≡ 0) ⊎ (new ≡ old)
-kept_jobs (Ok (Ran ran)) status old new len_old len_new end t = kept_ran ran.file.items ran.refused status old new len_old len_new end t
+kept_jobs (Ok (Ran ran)) status old new len_old len_new end t =
+    kept_ran ran.file.items ran.refused status old new len_old len_new end t
 kept_jobs (Ok (NoJob line)) status old new len_old len_new end t = inr t.1.0.0
 kept_jobs (Err e) status old new len_old len_new end t = inr t.1.0.0
 
 -- ---- the file of pages
 
 -- What C gets for pages.
-pub told_pages : (version : ℕ) (pages : List NewPage) (answer : Result PagesAnswer TiffError) (status : ℕ) (old new : List ℕ) (len_old len_new : ℕ) (end : PagesEnd)
-    → AnswersVersion (kind_of version) pages answer → TellsPages answer status old new len_old len_new end → PagesTell version pages status old new len_old len_new end
+pub told_pages : (version : ℕ) (pages : List NewPage) (answer : Result PagesAnswer TiffError)
+    (status : ℕ) (old new : List ℕ) (len_old len_new : ℕ) (end : PagesEnd)
+    → AnswersVersion (kind_of version) pages answer
+    → TellsPages answer status old new len_old len_new end
+    → PagesTell version pages status old new len_old len_new end
 told_pages version pages answer status old new len_old len_new end a t = (answer, (a, t))
 
-kept_written : (file : List ℕ) (refused : Option RefusedPage) (status : ℕ) (old new : List ℕ) (len_old len_new : ℕ) (end : PagesEnd)
+kept_written : (file : List ℕ) (refused : Option RefusedPage) (status : ℕ) (old new : List ℕ)
+    (len_old len_new : ℕ) (end : PagesEnd)
     → TellsWritten file refused status old new len_old len_new end → (status ≡ 0) ⊎ (new ≡ old)
-kept_written file None status old new len_old len_new end t = kept (Ok file) status old new len_old len_new t.0
+kept_written file None status old new len_old len_new end t =
+    kept (Ok file) status old new len_old len_new t.0
 kept_written file (Some page) status old new len_old len_new end t = inr t.1.0.0
 
-pub kept_pages : (answer : Result PagesAnswer TiffError) (status : ℕ) (old new : List ℕ) (len_old len_new : ℕ) (end : PagesEnd)
+pub kept_pages : (answer : Result PagesAnswer TiffError) (status : ℕ) (old new : List ℕ)
+    (len_old len_new : ℕ) (end : PagesEnd)
     → TellsPages answer status old new len_old len_new end → (status ≡ 0) ⊎ (new ≡ old)
-kept_pages (Ok (pages_ran ran)) status old new len_old len_new end t = kept_written ran.file.items ran.refused status old new len_old len_new end t
+kept_pages (Ok (pages_ran ran)) status old new len_old len_new end t =
+    kept_written ran.file.items ran.refused status old new len_old len_new end t
 kept_pages (Ok (pages_refused page refusal)) status old new len_old len_new end t = inr t.1.0.0
 kept_pages (Err e) status old new len_old len_new end t = inr t.1.0.0

@@ -1,4 +1,5 @@
--- The file of an image of zeros makes the file of each image of as many samples: its frame around their bytes.
+-- The file of an image of zeros makes the file of each image of as many samples: its frame around
+-- their bytes.
 use Rattle.std.proofs.Common.{◌≡◌, ℕ, zero, suc, ◌+◌, ◌*◌, ◌^◌, ◌<◌, ◌≤◌, ⊎_elim, inl, inr, List, ◌++◌, get_or, Fits, w8, lit<, length, take, drop, None, Ok, refl, sym, ap, subst, ◌∙◌, arith, length-append}
 use Rattle.std.proofs.Math.Seq.{take-append_seam, drop-append_seam}
 use Rattle.std.proofs.Math.Nat.{mul-div_cancel, mul-mod_left}
@@ -47,12 +48,14 @@ same_front : (a m c x n z : List ℕ) → a ++ (m ++ c) ≡ x ++ (n ++ z) → le
 same_front a m c x n z h l =
     sym (take-append_seam a (m ++ c)) ∙ (λ j. take (l j) (h j)) ∙ take-append_seam x (n ++ z)
 
-same_rest : (a m c x n z : List ℕ) → a ++ (m ++ c) ≡ x ++ (n ++ z) → length a ≡ length x → m ++ c ≡ n ++ z
+same_rest : (a m c x n z : List ℕ) → a ++ (m ++ c) ≡ x ++ (n ++ z) → length a ≡ length x
+    → m ++ c ≡ n ++ z
 same_rest a m c x n z h l =
     sym (drop-append_seam a (m ++ c)) ∙ (λ j. drop (l j) (h j)) ∙ drop-append_seam x (n ++ z)
 
 same_behind : (m c n z : List ℕ) → m ++ c ≡ n ++ z → length m ≡ length n → c ≡ z
-same_behind m c n z h l = sym (drop-append_seam m c) ∙ (λ j. drop (l j) (h j)) ∙ drop-append_seam n z
+same_behind m c n z h l =
+    sym (drop-append_seam m c) ∙ (λ j. drop (l j) (h j)) ∙ drop-append_seam n z
 
 module _ (s : Settings) (width height failures : ℕ) (samples : List ℕ) (last : FileState)
     (z : WritesZeros (color_type s.color) (inner_size s.color) width height (file_by s failures) last)
@@ -71,10 +74,12 @@ module _ (s : Settings) (width height failures : ℕ) (samples : List ℕ) (last
   plain = kept.packs
 
   new : IsNewImage i
-  new = begun_new s.color (color_type s.color) (inner_size s.color) width height old i refl refl wide tall plain few z.begun.answer
+  new =
+      begun_new s.color (color_type s.color) (inner_size s.color) width height old i refl refl wide tall plain few z.begun.answer
 
   open_image : IsOpen i
-  open_image = (begins_open old (header_model s.kind) s.color width height i wide tall z.begun.answer).open_so
+  open_image =
+      (begins_open old (header_model s.kind) s.color width height i wide tall z.begun.answer).open_so
 
   many : length zeros ≡ columns_of (color_type s.color) width * height * length (color_type s.color).bits
   many =
@@ -90,7 +95,9 @@ module _ (s : Settings) (width height failures : ℕ) (samples : List ℕ) (last
   zeros_kept = record { packs = kept.packs; differs = kept.differs; whole = many }
 
   fresh : z.mid.fault ≡ None
-  fresh = ap (λ f. f.fault) z.begun.state ∙ ap (λ f. f.fault) (new_adding (color_type s.color) (inner_size s.color) width height old).next
+  fresh =
+      ap (λ f. f.fault) z.begun.state
+      ∙ ap (λ f. f.fault) (new_adding (color_type s.color) (inner_size s.color) width height old).next
 
   zeros_written : leaves.IsWritten i zeros z.mid last
   zeros_written =
@@ -99,28 +106,39 @@ module _ (s : Settings) (width height failures : ℕ) (samples : List ℕ) (last
       (none_refuses i new z.mid (length zeros) fresh (length-replicate (image_samples i) 0)) z.strips z.offsets z.ends)
 
   abbrev frame_of : IsFramed s width height failures zeros samples same zeros_kept i z.mid last z.begun open_image zeros_written
-  frame_of = framed_alike s width height failures zeros samples same zeros_kept i z.mid last z.begun open_image zeros_written
+  frame_of =
+      framed_alike s width height failures zeros samples same zeros_kept i z.mid last z.begun open_image zeros_written
 
   abbrev given : FileState
-  given = (told_given s width height failures zeros samples same zeros_kept i z.mid last z.begun open_image zeros_written).next
+  given =
+      (told_given s width height failures zeros samples same zeros_kept i z.mid last z.begun open_image zeros_written).next
 
   -- The frame around the bytes of the samples is the file that shows them.
-  pub framed_written : (frame : Frame) (contents bytes : List ℕ) → AreNumbers (inner_size s.color) samples → flat_map (le (inner_size s.color)) samples ≡ bytes
-      → contents ≡ last.bytes → length contents < 2 ^ 63 → IsFrameOf contents (front_len s.kind) bytes frame → WritesImageFile s width height samples (Ok (framed frame))
+  pub framed_written : (frame : Frame) (contents bytes : List ℕ)
+      → AreNumbers (inner_size s.color) samples → flat_map (le (inner_size s.color)) samples ≡ bytes
+      → contents ≡ last.bytes → length contents < 2 ^ 63
+      → IsFrameOf contents (front_len s.kind) bytes frame
+      → WritesImageFile s width height samples (Ok (framed frame))
   framed_written frame contents bytes small are is_told short f =
       let raw : List ℕ = flat_map (le (inner_size s.color)) samples in
       let blank : List ℕ = flat_map (le (inner_size s.color)) zeros in
-      let cut : frame.front.items ++ (f.passed ++ frame.behind.items) ≡ frame_of.before ++ (blank ++ frame_of.after) = sym f.whole ∙ is_told ∙ frame_of.with_zeros in
-      let fronts : length frame.front.items ≡ length frame_of.before = f.front_len ∙ sym frame_of.as_long in
+      let cut : frame.front.items ++ (f.passed ++ frame.behind.items) ≡ frame_of.before
+      ++ (blank ++ frame_of.after) = sym f.whole ∙ is_told ∙ frame_of.with_zeros in
+      let fronts : length frame.front.items ≡ length frame_of.before =
+      f.front_len ∙ sym frame_of.as_long in
       let blanks : length f.passed ≡ length blank =
-      f.passed_len ∙ ap (λ (bs : List ℕ). length bs) (sym are) ∙ length_written (inner_size s.color) samples ∙ ap (λ n. n * inner_size s.color) same
+      f.passed_len ∙ ap (λ (bs : List ℕ). length bs) (sym are)
+      ∙ length_written (inner_size s.color) samples ∙ ap (λ n. n * inner_size s.color) same
       ∙ sym (length_written (inner_size s.color) zeros) in
-      let front = same_front frame.front.items f.passed frame.behind.items frame_of.before blank frame_of.after cut fronts in
+      let front =
+      same_front frame.front.items f.passed frame.behind.items frame_of.before blank frame_of.after cut fronts in
       let behind =
       same_behind f.passed frame.behind.items blank frame_of.after
       (same_rest frame.front.items f.passed frame.behind.items frame_of.before blank frame_of.after cut fronts) blanks in
-      let file : framed frame ≡ given.bytes = (λ j. front j ++ ((f.samples_are ∙ sym are) j ++ behind j)) ∙ sym frame_of.with_samples in
-      let raws : length raw ≡ length f.passed = ap (λ (bs : List ℕ). length bs) are ∙ sym f.passed_len in
+      let file : framed frame ≡ given.bytes =
+      (λ j. front j ++ ((f.samples_are ∙ sym are) j ++ behind j)) ∙ sym frame_of.with_samples in
+      let raws : length raw ≡ length f.passed =
+      ap (λ (bs : List ℕ). length bs) are ∙ sym f.passed_len in
       let end : end_of given ≡ length (framed frame) = ap (λ (bs : List ℕ). length bs) (sym file) in
       let parts : length (framed frame) ≡ length contents =
       (let a = length-append frame.front.items (frame.samples.now ++ frame.behind.items) in
@@ -128,46 +146,64 @@ module _ (s : Settings) (width height failures : ℕ) (samples : List ℕ) (last
       let c = ap (λ (bs : List ℕ). length bs) f.whole in
       let d = length-append frame.front.items (f.passed ++ frame.behind.items) in
       let g = length-append f.passed frame.behind.items in
-      let h : length frame.samples.now ≡ length f.passed = ap (λ (bs : List ℕ). length bs) f.samples_are ∙ sym f.passed_len in
+      let h : length frame.samples.now ≡ length f.passed =
+      ap (λ (bs : List ℕ). length bs) f.samples_are ∙ sym f.passed_len in
       omega (arith, a, b, c, d, g, h)) in
       let is_short : IsShortFile given = omega (arith, end, parts, short) in
-      let writes = samples_written s width height failures zeros samples same zeros_kept i z.mid last z.begun open_image zeros_written in
+      let writes =
+      samples_written s width height failures zeros samples same zeros_kept i z.mid last z.begun open_image zeros_written in
       let left =
-      image_leaves_by parts_show (color_type s.color) (inner_size s.color) width height samples (Ok tt) old given (header_model s.kind) wide tall small is_short
+      image_leaves_by parts_show (color_type s.color) (inner_size s.color) width height samples
+      (Ok tt) old given (header_model s.kind) wide tall small is_short
       (header_stands s.kind) (inl (chain_of s.kind)) writes in
       let written : IsWritten s width height samples (Ok (framed frame)) = record {
         failures = failures;
         last = given;
         written = writes;
-        fault = inl (samples_fault s width height failures zeros samples same zeros_kept i z.mid last z.begun open_image zeros_written);
+        fault =
+            inl (samples_fault s width height failures zeros samples same zeros_kept i z.mid last z.begun open_image zeros_written);
         file = file;
-        shows = subst (λ (bs : List ℕ). ShowsFirst s.kind bs (image_by s width height samples)) (sym file) (shown s width height failures samples given left);
+        shows =
+            subst (λ (bs : List ℕ). ShowsFirst s.kind bs (image_by s width height samples))
+            (sym file) (shown s width height failures samples given left);
       } in
       inr written
 
 -- ---- samples that are bytes
 
-octet_number : (f : ℕ → ℕ) → ((j : ℕ) → f j < 256) → number LittleEndian (width_of 1) (tabulate 1 f) < 256 ^ 1
+octet_number : (f : ℕ → ℕ) → ((j : ℕ) → f j < 256)
+    → number LittleEndian (width_of 1) (tabulate 1 f) < 256 ^ 1
 unfolding number
 octet_number f h = omega (arith, h 0)
 
-short_number : (f : ℕ → ℕ) → ((j : ℕ) → f j < 256) → number LittleEndian (width_of 2) (tabulate 2 f) < 256 ^ 2
+short_number : (f : ℕ → ℕ) → ((j : ℕ) → f j < 256)
+    → number LittleEndian (width_of 2) (tabulate 2 f) < 256 ^ 2
 unfolding number
 short_number f h = omega (arith, h 0, h 1)
 
-long_number : (f : ℕ → ℕ) → ((j : ℕ) → f j < 256) → number LittleEndian (width_of 4) (tabulate 4 f) < 256 ^ 4
+long_number : (f : ℕ → ℕ) → ((j : ℕ) → f j < 256)
+    → number LittleEndian (width_of 4) (tabulate 4 f) < 256 ^ 4
 unfolding number
 long_number f h = omega (arith, h 0, h 1, h 2, h 3)
 
-long8_number : (f : ℕ → ℕ) → ((j : ℕ) → f j < 256) → number LittleEndian (width_of 8) (tabulate 8 f) < 256 ^ 8
+long8_number : (f : ℕ → ℕ) → ((j : ℕ) → f j < 256)
+    → number LittleEndian (width_of 8) (tabulate 8 f) < 256 ^ 8
 unfolding number
 long8_number f h = omega (arith, h 0, h 1, h 2, h 3, h 4, h 5, h 6, h 7)
 
-number_fits : (size : ℕ) → IsSize size → (f : ℕ → ℕ) → ((j : ℕ) → f j < 256) → number LittleEndian (width_of size) (tabulate size f) < 256 ^ size
-number_fits size (inl e) f h = subst (λ n. number LittleEndian (width_of n) (tabulate n f) < 256 ^ n) (sym e) (octet_number f h)
-number_fits size (inr (inl e)) f h = subst (λ n. number LittleEndian (width_of n) (tabulate n f) < 256 ^ n) (sym e) (short_number f h)
-number_fits size (inr (inr (inl e))) f h = subst (λ n. number LittleEndian (width_of n) (tabulate n f) < 256 ^ n) (sym e) (long_number f h)
-number_fits size (inr (inr (inr e))) f h = subst (λ n. number LittleEndian (width_of n) (tabulate n f) < 256 ^ n) (sym e) (long8_number f h)
+number_fits : (size : ℕ) → IsSize size → (f : ℕ → ℕ) → ((j : ℕ) → f j < 256)
+    → number LittleEndian (width_of size) (tabulate size f) < 256 ^ size
+number_fits size (inl e) f h =
+    subst (λ n. number LittleEndian (width_of n) (tabulate n f)
+    < 256 ^ n) (sym e) (octet_number f h)
+number_fits size (inr (inl e)) f h =
+    subst (λ n. number LittleEndian (width_of n) (tabulate n f)
+    < 256 ^ n) (sym e) (short_number f h)
+number_fits size (inr (inr (inl e))) f h =
+    subst (λ n. number LittleEndian (width_of n) (tabulate n f) < 256 ^ n) (sym e) (long_number f h)
+number_fits size (inr (inr (inr e))) f h =
+    subst (λ n. number LittleEndian (width_of n) (tabulate n f)
+    < 256 ^ n) (sym e) (long8_number f h)
 
 some_size : (size : ℕ) → IsSize size → 0 < size
 some_size size (inl e) = subst (λ n. 0 < n) (sym e) (lit< tt)
@@ -180,7 +216,8 @@ some_power zero = lit< tt
 some_power (suc n) = let p = some_power n in omega (arith, p)
 
 -- the numbers that bytes are have their number of bytes
-numbers_fit : (size : ℕ) → IsSize size → (bytes : List ℕ) → AreOctets bytes → AreNumbers size (numbers_in size bytes)
+numbers_fit : (size : ℕ) → IsSize size → (bytes : List ℕ) → AreOctets bytes
+    → AreNumbers size (numbers_in size bytes)
 unfolding numbers_in
 numbers_fit size is bytes octets n =
     let many : ℕ = div_ceil (length bytes) size in
@@ -191,28 +228,37 @@ numbers_fit size is bytes octets n =
     (cases_lt n many)
 
 -- so many samples are in bytes
-numbers_many : (size all : ℕ) → 0 < size → (bytes : List ℕ) → length bytes ≡ all * size → length (numbers_in size bytes) ≡ all
+numbers_many : (size all : ℕ) → 0 < size → (bytes : List ℕ) → length bytes ≡ all * size
+    → length (numbers_in size bytes) ≡ all
 unfolding numbers_in
 numbers_many size all pos bytes h =
     let whole : all * size / size ≡ all = mul-div_cancel all pos in
     let none : all * size % size ≡ 0 = mul-mod_left all size in
     length-map-range_with_len (row_number LittleEndian size bytes) 0 (div_ceil (length bytes) size)
-    ∙ ap (λ n. n / size + min 1 (n % size)) h ∙ (let e : all * size / size + min 1 (all * size % size) ≡ all = omega (arith, whole, none) in e)
+    ∙ ap (λ n. n / size + min 1 (n % size)) h
+    ∙ (let e : all * size / size + min 1 (all * size % size) ≡ all = omega (arith, whole, none) in e)
 
 -- The frame around the bytes of an image is the file that shows them.
-pub around_written : (s : Settings) (width height failures : ℕ) (bytes : List ℕ) (old last : FileState) (color : ColorTypeRecord) (size : ℕ)
-    → old ≡ file_by s failures → color ≡ color_type s.color → size ≡ inner_size s.color → WritesZeros color size width height old last
-    → width < 2 ^ 32 → height < 2 ^ 32 → AreKept s (columns_of color width * height * length color.bits) size (length bytes) → ((k : ℕ) → Fits w8 (get_or bytes k 0))
-    → (frame : Frame) (contents : List ℕ) → contents ≡ last.bytes → length contents < 2 ^ 63 → IsFrameOf contents (front_len s.kind) bytes frame
+pub around_written : (s : Settings) (width height failures : ℕ) (bytes : List ℕ)
+    (old last : FileState) (color : ColorTypeRecord) (size : ℕ)
+    → old ≡ file_by s failures → color ≡ color_type s.color → size ≡ inner_size s.color
+    → WritesZeros color size width height old last
+    → width < 2 ^ 32 → height < 2 ^ 32
+    → AreKept s (columns_of color width * height * length color.bits) size (length bytes)
+    → ((k : ℕ) → Fits w8 (get_or bytes k 0))
+    → (frame : Frame) (contents : List ℕ) → contents ≡ last.bytes → length contents < 2 ^ 63
+    → IsFrameOf contents (front_len s.kind) bytes frame
     → WritesBytes s width height (samples_from_bytes s.color bytes) (Ok (framed frame))
 around_written s width height failures bytes old last color size is colored sized z wide tall kept fit frame contents is_told short f =
     let n : ℕ = inner_size s.color in
-    let all : ℕ = columns_of (color_type s.color) width * height * length (color_type s.color).bits in
+    let all : ℕ =
+    columns_of (color_type s.color) width * height * length (color_type s.color).bits in
     let zeros : WritesZeros (color_type s.color) n width height (file_by s failures) last =
     subst (λ c. WritesZeros c n width height (file_by s failures) last) colored
     (subst (λ k. WritesZeros color k width height (file_by s failures) last) sized (subst (λ (x : FileState). WritesZeros color size width height x last) is z)) in
     let are : AreKept s all n (length bytes) =
-    subst (λ c. AreKept s (columns_of c width * height * length c.bits) n (length bytes)) colored (subst (λ k. AreKept s (columns_of color width * height * length color.bits) k (length bytes)) sized kept) in
+    subst (λ c. AreKept s (columns_of c width * height * length c.bits) n (length bytes)) colored
+    (subst (λ k. AreKept s (columns_of color width * height * length color.bits) k (length bytes)) sized kept) in
     let is_size : IsSize n = (of_family s.color).is_size in
     let octets : AreOctets bytes = λ k. (let h = fit k in omega (arith, h)) in
     let samples : List ℕ = numbers_in n bytes in

@@ -1,4 +1,5 @@
--- The file of an image without compression and predictor is the bytes of its samples in a frame, which depends only on how
+-- The file of an image without compression and predictor is the bytes of its samples in a frame,
+-- which depends only on how
 -- many samples there are.
 use Rattle.std.proofs.Common.{◌≡◌, ℕ, ◌+◌, ◌*◌, ◌<◌, ◌≤◌, inl, inr, List, [], ◌∷◌, ◌++◌, length, map, take, drop, Some, None, Result, Ok, refl, ap, ap₂, sym, ◌∙◌, subst, arith, lit<, append_assoc, length-append, append-nil}
 use Rattle.std.proofs.lemmas.List.{take-append-le, drop-append-le, length-take-le, length-drop, length-map}
@@ -39,36 +40,47 @@ use Rattle.tiff_ffi.proofs.FrameAlike.{TellsAlike, other, sizes, image_alike, im
 
 -- ---- a frame
 
--- The bytes that are left of a file when some writes were made to it: a frame around the bytes in its middle, whatever these are.
+-- The bytes that are left of a file when some writes were made to it: a frame around the bytes in
+-- its middle, whatever these are.
 record HasFrame (kind : FileKind) (front behind : List ℕ) (ops : List WriteOp) : Type 0 where
   before : List ℕ
   after : List ℕ
   as_long : length before ≡ length front
-  is : (middle : List ℕ) → bytes_after kind (front ++ (middle ++ behind)) ops ≡ before ++ (middle ++ after)
+  is : (middle : List ℕ) → bytes_after kind (front ++ (middle ++ behind)) ops ≡ before
+      ++ (middle ++ after)
 
-put_within : (q : ℕ) (over front rest : List ℕ) → q + length over ≤ length front → put (front ++ rest) q over ≡ put front q over ++ rest
+put_within : (q : ℕ) (over front rest : List ℕ) → q + length over ≤ length front
+    → put (front ++ rest) q over ≡ put front q over ++ rest
 put_within q over front rest l =
-    ap₂ (λ xs ys. xs ++ (over ++ ys)) (take-append-le q front rest (omega (arith, l))) (drop-append-le (q + length over) front rest l)
+    ap₂ (λ xs ys. xs ++ (over ++ ys)) (take-append-le q front rest (omega (arith, l)))
+    (drop-append-le (q + length over) front rest l)
     ∙ ap (λ ys. take q front ++ ys) (sym (append_assoc over (drop (q + length over) front) rest))
     ∙ sym (append_assoc (take q front) (over ++ drop (q + length over) front) rest)
 
-put_len : (q : ℕ) (over xs : List ℕ) → q + length over ≤ length xs → length (put xs q over) ≡ length xs
+put_len : (q : ℕ) (over xs : List ℕ) → q + length over ≤ length xs
+    → length (put xs q over) ≡ length xs
 put_len q over xs l =
     omega (arith, l, length-append (take q xs) (over ++ drop (q + length over) xs), length-append over (drop (q + length over) xs), length-take-le q xs (omega (arith, l)), length-drop (q + length over) xs)
 
-appended : (front behind more : List ℕ) (middle : List ℕ) → (front ++ (middle ++ behind)) ++ more ≡ front ++ (middle ++ (behind ++ more))
+appended : (front behind more : List ℕ) (middle : List ℕ)
+    → (front ++ (middle ++ behind)) ++ more ≡ front ++ (middle ++ (behind ++ more))
 appended front behind more middle =
-    append_assoc front (middle ++ behind) more ∙ ap (λ xs. front ++ xs) (append_assoc middle behind more)
+    append_assoc front (middle ++ behind) more
+    ∙ ap (λ xs. front ++ xs) (append_assoc middle behind more)
 
 -- Writes that append, and set a link in front of the middle, leave a frame.
-framed_by : (kind : FileKind) (q : ℕ) (front behind : List ℕ) (ops : List WriteOp) → AreAt (Some q) ops → q + offset_len kind ≤ length front
+framed_by : (kind : FileKind) (q : ℕ) (front behind : List ℕ) (ops : List WriteOp)
+    → AreAt (Some q) ops → q + offset_len kind ≤ length front
     → HasFrame kind front behind ops
-framed_by kind q front behind [] a l = record { before = front; after = behind; as_long = refl; is = λ middle. refl }
+framed_by kind q front behind [] a l =
+    record { before = front; after = behind; as_long = refl; is = λ middle. refl }
 framed_by kind q front behind (Appended more ∷ ops) a l =
     let h = framed_by kind q front (behind ++ more) ops a l in
     record { before = h.before; after = h.after; as_long = h.as_long; is = λ middle. ap (λ bs. bytes_after kind bs ops) (appended front behind more middle) ∙ h.is middle }
 framed_by kind q front behind (Supplied s ∷ ops) a l =
-    let h = framed_by kind q front behind ops a l in record { before = h.before; after = h.after; as_long = h.as_long; is = h.is }
+    let h =
+    framed_by kind q front behind ops a l in
+    record { before = h.before; after = h.after; as_long = h.as_long; is = h.is }
 framed_by kind q front behind (Listed fields ∷ ops) a l =
     let more : List ℕ = directory_bytes kind fields in
     let h = framed_by kind q front (behind ++ more) ops a l in
@@ -85,7 +97,9 @@ framed_by kind q front behind (Linked offset target ∷ ops) a l =
       before = h.before;
       after = h.after;
       as_long = h.as_long ∙ len;
-      is = λ middle. ap (λ bs. bytes_after kind bs ops) (put_within offset over front (middle ++ behind) fits) ∙ h.is middle;
+      is =
+          λ middle. ap (λ bs. bytes_after kind bs ops) (put_within offset over front (middle
+          ++ behind) fits) ∙ h.is middle;
     }
 
 -- ---- the whole file
@@ -104,26 +118,31 @@ link_before Big = lit< tt
 abbrev pub given_for : OpenImage → List ℕ → List (List ℕ)
 given_for i samples = map (unpacked_chunk i) (parts_left i samples)
 
-all_stored : (i : OpenImage) (parts : List (List ℕ)) → i.compression ≡ Uncompressed → AreStored i parts (map (unpacked_chunk i) parts)
+all_stored : (i : OpenImage) (parts : List (List ℕ)) → i.compression ≡ Uncompressed
+    → AreStored i parts (map (unpacked_chunk i) parts)
 all_stored i [] m = tt
 all_stored i (part ∷ parts) m =
     (subst (λ k. IsCompressed k (row_samples (image_page i) * i.size) (unpacked_chunk i part) (unpacked_chunk i part)) (sym m) refl, all_stored i parts m)
 
 -- strips of as many samples have as many bytes
-stored_sizes : (i : OpenImage) (parts others stored : List (List ℕ)) → i.compression ≡ Uncompressed → i.predictor ≡ predictor.None
-    → sizes others ≡ sizes parts → length stored ≡ length parts → AreStored i parts stored → sizes (map (unpacked_chunk i) others) ≡ sizes stored
+stored_sizes : (i : OpenImage) (parts others stored : List (List ℕ)) → i.compression ≡ Uncompressed
+    → i.predictor ≡ predictor.None
+    → sizes others ≡ sizes parts → length stored ≡ length parts → AreStored i parts stored
+    → sizes (map (unpacked_chunk i) others) ≡ sizes stored
 stored_sizes i [] [] [] m p s n a = refl
 stored_sizes i [] (o ∷ others) stored m p s n a = absurd cc
 stored_sizes i (part ∷ parts) [] stored m p s n a = absurd cc
 stored_sizes i [] [] (b ∷ stored) m p s n a = absurd (omega (arith, n))
 stored_sizes i (part ∷ parts) (o ∷ others) [] m p s n a = absurd (omega (arith, n))
 stored_sizes i (part ∷ parts) (o ∷ others) (b ∷ stored) m p s n a =
-    let is : b ≡ unpacked_chunk i part = subst (λ k. IsCompressed k (row_samples (image_page i) * i.size) b (unpacked_chunk i part)) m a.0 in
+    let is : b ≡ unpacked_chunk i part =
+    subst (λ k. IsCompressed k (row_samples (image_page i) * i.size) b (unpacked_chunk i part)) m a.0 in
     let first : length o ≡ length part = cc in
     let rest : sizes others ≡ sizes parts = cc in
     let len : (xs : List ℕ) → length (unpacked_chunk i xs) ≡ length xs * i.size =
     λ xs. ap (λ (bs : List ℕ). length bs) (unpacked_plain i xs p) ∙ length_written i.size xs in
-    ap₂ ◌∷◌ (len o ∙ ap (λ k. k * i.size) first ∙ sym (len part) ∙ ap (λ (bs : List ℕ). length bs) (sym is))
+    ap₂ ◌∷◌ (len o ∙ ap (λ k. k * i.size) first ∙ sym (len part)
+    ∙ ap (λ (bs : List ℕ). length bs) (sym is))
     (stored_sizes i parts others stored m p rest (omega (arith, n)) a.1)
 
 -- ---- the same image with other samples
@@ -134,7 +153,8 @@ pub record IsKept (s : Settings) (all count : ℕ) : Type 0 where
   pub differs : s.predictor ≡ predictor.None
   pub whole : count ≡ all
 
-module _ (s : Settings) (width height failures : ℕ) (zeros samples : List ℕ) (same : length samples ≡ length zeros)
+module _ (s : Settings) (width height failures : ℕ) (zeros samples : List ℕ)
+    (same : length samples ≡ length zeros)
     (kept : IsKept s (columns_of (color_type s.color) width * height * length (color_type s.color).bits) (length zeros))
     (i : OpenImage) (mid last : FileState)
     (begun : EndsAsDefined (new_image (color_type s.color) (inner_size s.color) width height (file_by s failures)) (Ok i) mid)
@@ -189,19 +209,23 @@ module _ (s : Settings) (width height failures : ℕ) (zeros samples : List ℕ)
       (stored_sizes i (parts_left i zeros) (parts_left i samples) w.stored plain whole parts_sizes w.all w.are_stored) ended.1.0
 
   -- what the samples of these strips are in bytes
-  strips_in : (xs : List ℕ) (stored : List (List ℕ)) (end : OpenImage) → length xs ≡ length zeros → AreStored i (parts_left i xs) stored
+  strips_in : (xs : List ℕ) (stored : List (List ℕ)) (end : OpenImage) → length xs ≡ length zeros
+      → AreStored i (parts_left i xs) stored
       → length stored ≡ length (parts_left i xs) → (data_chunks i xs stored mid mid).answer ≡ Ok end
       → (data_mid i xs stored mid).bytes ≡ mid.bytes ++ (raw xs ++ [])
   strips_in xs stored end as_many are all h =
-      let samples_are : length xs ≡ image_samples here = let k = kept.whole in omega (arith, k, as_many) in
+      let samples_are : length xs ≡ image_samples here =
+      let k = kept.whole in omega (arith, k, as_many) in
       let wide : 0 < here.width = subst (λ j. 0 < j.width) (sym is) o.wide.0 in
-      let high : 0 < here.form.chunk_height = subst (λ j. 0 < j.form.chunk_height) (sym is) o.form.high.0 in
+      let high : 0 < here.form.chunk_height =
+      subst (λ j. 0 < j.form.chunk_height) (sym is) o.form.high.0 in
       let parts : joined (parts_left i xs) ≡ xs =
       subst (λ j. joined (parts_left j xs) ≡ xs) is (parts_are old d (color_type s.color) (inner_size s.color) width height wide high xs samples_are) in
       let size : i.size ≡ inner_size s.color = ap (λ j. j.size) (sym is) in
       strips_appended i end (parts_left i xs) stored mid all h
       ∙ ap (λ bs. mid.bytes ++ bs)
-      (strips_are i (parts_left i xs) stored plain whole all are ∙ (λ k. flat_map (le (size k)) (parts k)) ∙ sym (append-nil (raw xs)))
+      (strips_are i (parts_left i xs) stored plain whole all are
+      ∙ (λ k. flat_map (le (size k)) (parts k)) ∙ sym (append-nil (raw xs)))
 
   abbrev given_stored : AreStored i (parts_left i samples) given
   given_stored = all_stored i (parts_left i samples) plain
@@ -230,8 +254,10 @@ module _ (s : Settings) (width height failures : ℕ) (zeros samples : List ℕ)
 
   long : length then_given.bytes ≡ end_of then
   long =
-      let a : length then_given.bytes ≡ length (mid.bytes ++ (raw samples ++ [])) = ap (λ (bs : List ℕ). length bs) samples_in in
-      let b : end_of then ≡ length (mid.bytes ++ (raw zeros ++ [])) = ap (λ (bs : List ℕ). length bs) zeros_in in
+      let a : length then_given.bytes ≡ length (mid.bytes ++ (raw samples ++ [])) =
+      ap (λ (bs : List ℕ). length bs) samples_in in
+      let b : end_of then ≡ length (mid.bytes ++ (raw zeros ++ [])) =
+      ap (λ (bs : List ℕ). length bs) zeros_in in
       omega (arith, a, b, raw_long, length-append mid.bytes (raw samples ++ []), length-append mid.bytes (raw zeros ++ []), length-append (raw samples) [], length-append (raw zeros) [])
 
   abbrev told : WriteOutcome Offsets
@@ -241,7 +267,9 @@ module _ (s : Settings) (width height failures : ℕ) (zeros samples : List ℕ)
   told_given = finish_image end then_given
 
   alike : TellsAlike told told_given
-  alike = subst (λ f. TellsAlike told (finish_image end f)) (sym then_is) (image_alike end then then_given.bytes long)
+  alike =
+      subst (λ f. TellsAlike told (finish_image end f)) (sym then_is) (image_alike end then
+      then_given.bytes long)
 
   uncaused : write_image_data_cause mid i (length samples) ≡ None
   uncaused = ap (λ n. write_image_data_cause mid i n) same ∙ w.uncaused
@@ -250,8 +278,10 @@ module _ (s : Settings) (width height failures : ℕ) (zeros samples : List ℕ)
   unfolding write_image_data
   written =
       let chunks = data_chunks i samples given mid in
-      let finished : told.answer ≡ Ok w.offsets = ap (λ t. t.answer) (sym ended.1.1) ∙ w.told.answer in
-      subst (λ c. EndsAsDefined (by_cause c (chunks >>= finish_image) mid) (Ok w.offsets) told_given.next) (sym uncaused)
+      let finished : told.answer ≡ Ok w.offsets =
+      ap (λ t. t.answer) (sym ended.1.1) ∙ w.told.answer in
+      subst (λ c. EndsAsDefined (by_cause c (chunks
+      >>= finish_image) mid) (Ok w.offsets) told_given.next) (sym uncaused)
       (bind_told chunks finish_image end (Ok w.offsets) mid then_given told_given.next
       (record { answer = answered; state = refl }) (record { answer = alike.answer ∙ finished; state = refl }))
 
@@ -281,26 +311,33 @@ module _ (s : Settings) (width height failures : ℕ) (zeros samples : List ℕ)
       let patches = image_patches end then in
       let at : AreAt (Some (header_link s.kind)) told.ops =
       subst (λ p. AreAt p told.ops)
-      (ap (λ x. x.parent) (same_directory i zeros w.stored mid end ended.1.0) ∙ ap (λ j. j.directory.parent) (sym is)
+      (ap (λ x. x.parent) (same_directory i zeros w.stored mid end ended.1.0)
+      ∙ ap (λ j. j.directory.parent) (sym is)
       ∙ (new_is (color_type s.color) (inner_size s.color) width height old i begun.answer).1.1.parent ∙ ap Some (chain_of s.kind))
       patches.at in
       let kind : then.kind ≡ s.kind =
       (chunks_done i (parts_left i zeros) w.stored mid).kind ∙ ap (λ f. f.kind) begun.state
       ∙ ap (λ f. f.kind) (new_adding (color_type s.color) (inner_size s.color) width height old).next in
       let begins : length mid.bytes ≡ front_len s.kind =
-      ap (λ f. end_of f) begun.state ∙ new_front (color_type s.color) (inner_size s.color) width height old i begun.answer refl in
+      ap (λ f. end_of f) begun.state
+      ∙ new_front (color_type s.color) (inner_size s.color) width height old i begun.answer refl in
       let before : header_link s.kind + offset_len then.kind ≤ length mid.bytes =
-      (let b = link_before s.kind in let k : offset_len then.kind ≡ offset_len s.kind = ap offset_len kind in omega (arith, b, k, begins)) in
+      (let b = link_before s.kind in let k : offset_len then.kind
+      ≡ offset_len s.kind = ap offset_len kind in omega (arith, b, k, begins)) in
       let h = framed_by then.kind (header_link s.kind) mid.bytes [] told.ops at before in
       let ends : last.bytes ≡ bytes_after then.kind then.bytes told.ops =
       ap (λ f. f.bytes) w.told.state ∙ ap (λ t. t.next.bytes) ended.1.1 ∙ patches.done.bytes in
       let given_kind : then_given.kind ≡ then.kind = ap (λ f. f.kind) then_is in
       let given_ends : told_given.next.bytes ≡ bytes_after then.kind then_given.bytes told.ops =
-      (image_patches end then_given).done.bytes ∙ (λ j. bytes_after (given_kind j) then_given.bytes (alike.ops j)) in
+      (image_patches end then_given).done.bytes
+      ∙ (λ j. bytes_after (given_kind j) then_given.bytes (alike.ops j)) in
       record {
         before = h.before;
         after = h.after;
         as_long = h.as_long ∙ begins;
-        with_zeros = ends ∙ ap (λ bs. bytes_after then.kind bs told.ops) zeros_in ∙ h.is (raw zeros);
-        with_samples = given_ends ∙ ap (λ bs. bytes_after then.kind bs told.ops) samples_in ∙ h.is (raw samples);
+        with_zeros =
+            ends ∙ ap (λ bs. bytes_after then.kind bs told.ops) zeros_in ∙ h.is (raw zeros);
+        with_samples =
+            given_ends ∙ ap (λ bs. bytes_after then.kind bs told.ops) samples_in
+            ∙ h.is (raw samples);
       }

@@ -55,7 +55,8 @@ use Rattle.tiff_ffi.specs.Plan.{chunk_type_named, depth_named, numbers_of, order
 -- ---- a plan and its numbers
 
 -- a step without an error
-step : {A B : Type 0} (r : Result A TiffError) (f : A → Result B TiffError) (x : A) {y : Result B TiffError} → r ≡ Ok x → f x ≡ y → (r >>= f) ≡ y
+step : {A B : Type 0} (r : Result A TiffError) (f : A → Result B TiffError) (x : A)
+    {y : Result B TiffError} → r ≡ Ok x → f x ≡ y → (r >>= f) ≡ y
 step r f x h k = ap (λ (s : Result _ TiffError). s >>= f) h ∙ k
 
 found : {A : Type 0} (o : Option A) (e : TiffError) (x : A) → o ≡ Some x → ok_or_fault o e ≡ Ok x
@@ -74,7 +75,8 @@ chunks_back Strip = refl
 chunks_back Tile = refl
 
 depth_back : (n : ℕ) → n < 2 ^ 8 → depth_named n ≡ Ok n
-depth_back n l = ap (λ (b : Bool). if b then Ok n else Err (IoError InvalidInput)) (lt-ltb n (2 ^ 8) l)
+depth_back n l =
+    ap (λ (b : Bool). if b then Ok n else Err (IoError InvalidInput)) (lt-ltb n (2 ^ 8) l)
 
 pub plans_come_back : NamesComeBack → PlansComeBack
 unfolding numbers_of plan_from
@@ -100,32 +102,43 @@ module _ {B : Type 0} (g : List ℕ → FileKind → ByteOrder → DirectoryReco
 
   -- of a directory
   abbrev of_directory : List ℕ → FileKind × ByteOrder × DirectoryRecord → Result B TiffError
-  of_directory file found = page_in found.0 found.1 file default_limits found.2 >>= g file found.0 found.1 found.2
+  of_directory file found =
+      page_in found.0 found.1 file default_limits found.2 >>= g file found.0 found.1 found.2
 
   module _ (file : List ℕ) (header : Header) where
     abbrev d : Decoding
     d = opened_by file 0 header
 
     abbrev directory_then : Result DirectoryRecord TiffError → Result B TiffError
-    directory_then r = (r >>= λ directory. Ok (header.kind, header.order, directory)) >>= of_directory file
+    directory_then r =
+        (r >>= λ directory. Ok (header.kind, header.order, directory)) >>= of_directory file
 
-    by_page : (pointer : Option IfdPointer) (more : Bool) (directory : DirectoryRecord) (r : Result PageRecord TiffError)
-        → (moved d (with_page (record d.state { pointer = pointer; more = more }) directory r) >>= told) ≡ (r >>= g file header.kind header.order directory)
+    by_page : (pointer : Option IfdPointer) (more : Bool) (directory : DirectoryRecord)
+        (r : Result PageRecord TiffError)
+        → (moved d (with_page (record d.state { pointer = pointer; more = more }) directory r)
+        >>= told) ≡ (r >>= g file header.kind header.order directory)
     by_page pointer more directory (Ok page) = refl
     by_page pointer more directory (Err e) = refl
 
-    by_entry : (offset : ℕ) (r : Result DirectoryRecord TiffError) → (moved d (entry_outcome d offset r) >>= told) ≡ directory_then r
-    by_entry offset (Ok directory) = by_page _ _ directory (page_in header.kind header.order file default_limits directory)
+    by_entry : (offset : ℕ) (r : Result DirectoryRecord TiffError)
+        → (moved d (entry_outcome d offset r) >>= told) ≡ directory_then r
+    by_entry offset (Ok directory) =
+        by_page _ _ directory (page_in header.kind header.order file default_limits directory)
     by_entry offset (Err e) = refl
 
-    by_show : (r : Result DirectoryRecord TiffError) → (moved d (show_outcome d r) >>= told) ≡ directory_then r
-    by_show (Ok directory) = by_page _ _ directory (page_in header.kind header.order file default_limits directory)
+    by_show : (r : Result DirectoryRecord TiffError)
+        → (moved d (show_outcome d r) >>= told) ≡ directory_then r
+    by_show (Ok directory) =
+        by_page _ _ directory (page_in header.kind header.order file default_limits directory)
     by_show (Err e) = refl
 
     abbrev offset_then : Result ℕ TiffError → Result B TiffError
-    offset_then r = (r >>= λ offset. directory_at header.kind header.order file offset >>= λ directory. Ok (header.kind, header.order, directory)) >>= of_directory file
+    offset_then r =
+        (r >>= λ offset. directory_at header.kind header.order file offset
+        >>= λ directory. Ok (header.kind, header.order, directory)) >>= of_directory file
 
-    by_seek : (o : Option ℕ) → (moved d (seek_outcome d o) >>= told) ≡ offset_then (ok_or_fault o (end_fault (chain_from header file).end))
+    by_seek : (o : Option ℕ) → (moved d (seek_outcome d o) >>= told)
+        ≡ offset_then (ok_or_fault o (end_fault (chain_from header file).end))
     unfolding enter
     by_seek None = refl
     by_seek (Some offset) = by_entry offset (directory_at header.kind header.order file offset)
@@ -138,61 +151,80 @@ module _ {B : Type 0} (g : List ℕ → FileKind → ByteOrder → DirectoryReco
     by_number page false = by_show (directory_at header.kind header.order file (page - 2 ^ 63))
 
   by_header : (file : List ℕ) (page : ℕ) (r : Result Header TiffError)
-      → (((r >>= λ header. Ok (opened_by file 0 header)) >>= λ d. moved d (page_outcome d page)) >>= told)
-      ≡ ((r >>= λ header. page_offset header file page >>= λ offset. directory_at header.kind header.order file offset >>= λ directory. Ok (header.kind, header.order, directory)) >>= of_directory file)
+      → (((r >>= λ header. Ok (opened_by file 0 header)) >>= λ d. moved d (page_outcome d page))
+      >>= told)
+      ≡ ((r >>= λ header. page_offset header file page
+      >>= λ offset. directory_at header.kind header.order file offset >>= λ directory. Ok (header.kind, header.order, directory)) >>= of_directory file)
   by_header file page (Ok header) = by_number file header page (nat_lt page (2 ^ 63))
   by_header file page (Err e) = refl
 
-  at_page : (file : List ℕ) (page : ℕ) → (decoder_at_page file page >>= told) ≡ (page_directory file page >>= of_directory file)
+  at_page : (file : List ℕ) (page : ℕ)
+      → (decoder_at_page file page >>= told) ≡ (page_directory file page >>= of_directory file)
   unfolding page_directory opened_of
   at_page file page = by_header file page (header_at file)
 
 -- ---- the plan of a page
 
-abbrev plan_given : List ℕ → FileKind → ByteOrder → DirectoryRecord → PageRecord → Result PlannedPage TiffError
+abbrev plan_given : List ℕ → FileKind → ByteOrder → DirectoryRecord → PageRecord
+    → Result PlannedPage TiffError
 plan_given file kind order directory p = plan_told (plan_of kind order directory p)
 
-after_page : (kind : FileKind) (order : ByteOrder) (file : List ℕ) (directory : DirectoryRecord) (r : Result PageRecord TiffError)
-    → (r >>= plan_given file kind order directory) ≡ ((r >>= λ p. Ok (plan_of kind order directory p)) >>= plan_told)
+after_page : (kind : FileKind) (order : ByteOrder) (file : List ℕ) (directory : DirectoryRecord)
+    (r : Result PageRecord TiffError)
+    → (r >>= plan_given file kind order directory)
+    ≡ ((r >>= λ p. Ok (plan_of kind order directory p)) >>= plan_told)
 after_page kind order file directory (Ok p) = refl
 after_page kind order file directory (Err e) = refl
 
 after_directory : (file : List ℕ) (r : Result (FileKind × ByteOrder × DirectoryRecord) TiffError)
-    → (r >>= of_directory plan_given file) ≡ ((r >>= λ found. plan_in found.0 found.1 file default_limits found.2) >>= plan_told)
+    → (r >>= of_directory plan_given file)
+    ≡ ((r >>= λ found. plan_in found.0 found.1 file default_limits found.2) >>= plan_told)
 unfolding plan_in
-after_directory file (Ok found) = after_page found.0 found.1 file found.2 (page_in found.0 found.1 file default_limits found.2)
+after_directory file (Ok found) =
+    after_page found.0 found.1 file found.2 (page_in found.0 found.1 file default_limits found.2)
 after_directory file (Err e) = refl
 
 plan_is : (file : List ℕ) (page : ℕ) → (plan_found file page >>= plan_told) ≡ page_plan file page
 unfolding plan_found page_plan
-plan_is file page = sym (at_page plan_given file page ∙ after_directory file (page_directory file page))
+plan_is file page =
+    sym (at_page plan_given file page ∙ after_directory file (page_directory file page))
 
 -- the numbers of a plan, or the error of a page without one, or of no page
-pub is_plan : (file : List ℕ) (page : ℕ) (plan : PagePlan) → plan_found file page ≡ Ok (Some plan) → page_plan file page ≡ Ok (numbers_of plan)
+pub is_plan : (file : List ℕ) (page : ℕ) (plan : PagePlan) → plan_found file page ≡ Ok (Some plan)
+    → page_plan file page ≡ Ok (numbers_of plan)
 is_plan file page plan h = sym (plan_is file page) ∙ step _ _ (Some plan) h refl
 
-pub no_plan : (file : List ℕ) (page : ℕ) → plan_found file page ≡ Ok None → page_plan file page ≡ Err (FormatError InvalidTypeForTag)
+pub no_plan : (file : List ℕ) (page : ℕ) → plan_found file page ≡ Ok None
+    → page_plan file page ≡ Err (FormatError InvalidTypeForTag)
 no_plan file page h = sym (plan_is file page) ∙ step _ _ None h refl
 
-pub no_page : (file : List ℕ) (page : ℕ) (e : TiffError) → plan_found file page ≡ Err e → page_plan file page ≡ Err e
-no_page file page e h = sym (plan_is file page) ∙ ap (λ (r : Result (Option PagePlan) TiffError). r >>= plan_told) h
+pub no_page : (file : List ℕ) (page : ℕ) (e : TiffError) → plan_found file page ≡ Err e
+    → page_plan file page ≡ Err e
+no_page file page e h =
+    sym (plan_is file page) ∙ ap (λ (r : Result (Option PagePlan) TiffError). r >>= plan_told) h
 
 -- ---- a chunk of a page
 
-abbrev chunk_given : ℕ → List ℕ → List ℕ → FileKind → ByteOrder → DirectoryRecord → PageRecord → Result (List ℕ) TiffError
-chunk_given chunk slice file kind order directory p = read_chunk_bytes file order p unlimited chunk slice
+abbrev chunk_given : ℕ → List ℕ → List ℕ → FileKind → ByteOrder → DirectoryRecord → PageRecord
+    → Result (List ℕ) TiffError
+chunk_given chunk slice file kind order directory p =
+    read_chunk_bytes file order p unlimited chunk slice
 
 freed : (chunk : ℕ) (slice : List ℕ) (r : Result Decoding TiffError)
-    → ((r >>= λ d. Ok (record d { state = (set_limits d unlimited).next })) >>= λ d. (outcome.read_chunk_bytes d chunk slice).answer)
+    → ((r >>= λ d. Ok (record d { state = (set_limits d unlimited).next }))
+    >>= λ d. (outcome.read_chunk_bytes d chunk slice).answer)
     ≡ (r >>= λ d. read_chunk_bytes d.bytes d.order d.state.page unlimited chunk slice)
 unfolding set_limits outcome.read_chunk_bytes
 freed chunk slice (Ok d) = refl
 freed chunk slice (Err e) = refl
 
 -- of a page whose directory is found
-chunk_is : (file : List ℕ) (page : ℕ) (kind : FileKind) (order : ByteOrder) (directory : DirectoryRecord) (p : PageRecord) (chunk : ℕ) (slice : List ℕ)
-    → page_directory file page ≡ Ok (kind, order, directory) → page_in kind order file default_limits directory ≡ Ok p
-    → calls.read_chunk_bytes file page chunk slice ≡ read_chunk_bytes file order p unlimited chunk slice
+chunk_is : (file : List ℕ) (page : ℕ) (kind : FileKind) (order : ByteOrder)
+    (directory : DirectoryRecord) (p : PageRecord) (chunk : ℕ) (slice : List ℕ)
+    → page_directory file page ≡ Ok (kind, order, directory)
+    → page_in kind order file default_limits directory ≡ Ok p
+    → calls.read_chunk_bytes file page chunk slice
+    ≡ read_chunk_bytes file order p unlimited chunk slice
 chunk_is file page kind order directory p chunk slice h k =
     freed chunk slice (decoder_at_page file page) ∙ at_page (chunk_given chunk slice) file page
     ∙ step _ _ (kind, order, directory) h (step _ _ p k refl)
@@ -206,58 +238,77 @@ reading_of file order p = record {
   read = read_chunk_bytes file order p unlimited;
 }
 
-abbrev range_given : ℕ → ℕ → List ℕ → List ℕ → FileKind → ByteOrder → DirectoryRecord → PageRecord → Result (List ℕ) TiffError
-range_given first count slice file kind order directory p = chunks_from (reading_of file order p) first count slice
+abbrev range_given : ℕ → ℕ → List ℕ → List ℕ → FileKind → ByteOrder → DirectoryRecord → PageRecord
+    → Result (List ℕ) TiffError
+range_given first count slice file kind order directory p =
+    chunks_from (reading_of file order p) first count slice
 
 range_freed : (first count : ℕ) (slice : List ℕ) (r : Result Decoding TiffError)
-    → ((r >>= λ d. Ok (record d { state = (set_limits d unlimited).next })) >>= λ d. chunks_from (page_reading d) first count slice)
+    → ((r >>= λ d. Ok (record d { state = (set_limits d unlimited).next }))
+    >>= λ d. chunks_from (page_reading d) first count slice)
     ≡ (r >>= λ d. chunks_from (reading_of d.bytes d.order d.state.page) first count slice)
 unfolding set_limits outcome.read_chunk_bytes outcome.image_chunk_buffer_layout
 range_freed first count slice (Ok d) = refl
 range_freed first count slice (Err e) = refl
 
 -- of a page whose directory is found
-range_is : (file : List ℕ) (page : ℕ) (kind : FileKind) (order : ByteOrder) (directory : DirectoryRecord) (p : PageRecord) (first count : ℕ) (slice : List ℕ)
-    → page_directory file page ≡ Ok (kind, order, directory) → page_in kind order file default_limits directory ≡ Ok p
-    → calls.read_chunks file page first count slice ≡ chunks_from (reading_of file order p) first count slice
+range_is : (file : List ℕ) (page : ℕ) (kind : FileKind) (order : ByteOrder)
+    (directory : DirectoryRecord) (p : PageRecord) (first count : ℕ) (slice : List ℕ)
+    → page_directory file page ≡ Ok (kind, order, directory)
+    → page_in kind order file default_limits directory ≡ Ok p
+    → calls.read_chunks file page first count slice
+    ≡ chunks_from (reading_of file order p) first count slice
 range_is file page kind order directory p first count slice h k =
-    range_freed first count slice (decoder_at_page file page) ∙ at_page (range_given first count slice) file page
+    range_freed first count slice (decoder_at_page file page)
+    ∙ at_page (range_given first count slice) file page
     ∙ step _ _ (kind, order, directory) h (step _ _ p k refl)
 
 -- ---- the plan of a page has named methods
 
 -- the byte order of a plan that was found
-order_found : (kind : FileKind) (order : ByteOrder) (p : PageRecord) (plan : PagePlan) (a b : Option Field) → pages.plan_found kind order p a b ≡ Some plan → plan.order ≡ order
+order_found : (kind : FileKind) (order : ByteOrder) (p : PageRecord) (plan : PagePlan)
+    (a b : Option Field) → pages.plan_found kind order p a b ≡ Some plan → plan.order ≡ order
 order_found kind order p plan None b h = absurd (cc)
 order_found kind order p plan (Some a) None h = absurd (cc)
 order_found kind order p plan (Some a) (Some b) h =
     let same : plan_with kind order p a b ≡ plan = cc in
     sym (ap (λ (k : PagePlan). k.order) same)
 
-order_is : (kind : FileKind) (order : ByteOrder) (directory : DirectoryRecord) (p : PageRecord) (plan : PagePlan) → plan_of kind order directory p ≡ Some plan → plan.order ≡ order
+order_is : (kind : FileKind) (order : ByteOrder) (directory : DirectoryRecord) (p : PageRecord)
+    (plan : PagePlan) → plan_of kind order directory p ≡ Some plan → plan.order ≡ order
 unfolding plan_of
 order_is kind order directory p plan h = order_found kind order p plan _ _ h
 
 module _ (back : NumbersComeBack) where
-  method_kept : (n : ℕ) (m : CompressionMethod) → good (method_of n) ≡ good m → method_of (method_number m) ≡ m
+  method_kept : (n : ℕ) (m : CompressionMethod) → good (method_of n) ≡ good m
+      → method_of (method_number m) ≡ m
   method_kept n m h =
       let same : method_of n ≡ m = ok_is _ m h in
-      subst (λ (k : CompressionMethod). method_of (method_number k) ≡ k) same (ap method_of (back.methods n))
+      subst (λ (k : CompressionMethod). method_of (method_number k)
+      ≡ k) same (ap method_of (back.methods n))
 
-  method_is : (look : TagLookup) (m : CompressionMethod) → method_in look ≡ Ok m → method_of (method_number m) ≡ m
+  method_is : (look : TagLookup) (m : CompressionMethod) → method_in look ≡ Ok m
+      → method_of (method_number m) ≡ m
   unfolding method_in
-  method_is look m h = let number = bind_ok (find_or into_u16 look tag.Compression 1) (λ number. Ok (method_of number)) m h in method_kept number.0 m number.1.1
+  method_is look m h =
+      let number =
+      bind_ok (find_or into_u16 look tag.Compression 1) (λ number. Ok (method_of number)) m h in
+      method_kept number.0 m number.1.1
 
-  format_kept : (n : ℕ) (f : SampleFormat) → good (format_of n) ≡ good f → format_of (format_number f) ≡ f
+  format_kept : (n : ℕ) (f : SampleFormat) → good (format_of n) ≡ good f
+      → format_of (format_number f) ≡ f
   format_kept n f h =
       let same : format_of n ≡ f = ok_is _ f h in
-      subst (λ (k : SampleFormat). format_of (format_number k) ≡ k) same (ap format_of (back.formats n))
+      subst (λ (k : SampleFormat). format_of (format_number k)
+      ≡ k) same (ap format_of (back.formats n))
 
-  format_chosen : (b : Bool) (n : ℕ) (e : TiffError) (f : SampleFormat) → (if b then Ok (format_of n) else Err e) ≡ Ok f → format_of (format_number f) ≡ f
+  format_chosen : (b : Bool) (n : ℕ) (e : TiffError) (f : SampleFormat)
+      → (if b then Ok (format_of n) else Err e) ≡ Ok f → format_of (format_number f) ≡ f
   format_chosen true n e f h = format_kept n f h
   format_chosen false n e f h = absurd (cc)
 
-  one_kept : (numbers : List ℕ) (f : SampleFormat) → one_format numbers ≡ Ok f → format_of (format_number f) ≡ f
+  one_kept : (numbers : List ℕ) (f : SampleFormat) → one_format numbers ≡ Ok f
+      → format_of (format_number f) ≡ f
   one_kept [] f h = absurd (cc)
   one_kept (n ∷ ns) f h = format_chosen _ n _ f h
 
@@ -265,90 +316,135 @@ module _ (back : NumbersComeBack) where
   unfolding format_of
   uint_kept = refl
 
-  from_kept : (found : Option (List ℕ)) (f : SampleFormat) → format_from found ≡ Ok f → format_of (format_number f) ≡ f
+  from_kept : (found : Option (List ℕ)) (f : SampleFormat) → format_from found ≡ Ok f
+      → format_of (format_number f) ≡ f
   from_kept None f h = format_kept 1 f (ap good uint_kept ∙ h)
-  from_kept (Some numbers) f h = let formats = bind_ok (fitted_numbers tag.SampleFormat (2 ^ 16) numbers) one_format f h in one_kept formats.0 f formats.1.1
+  from_kept (Some numbers) f h =
+      let formats =
+      bind_ok (fitted_numbers tag.SampleFormat (2 ^ 16) numbers) one_format f h in
+      one_kept formats.0 f formats.1.1
 
-  format_is : (look : TagLookup) (f : SampleFormat) → format_in look ≡ Ok f → format_of (format_number f) ≡ f
+  format_is : (look : TagLookup) (f : SampleFormat) → format_in look ≡ Ok f
+      → format_of (format_number f) ≡ f
   unfolding format_in
-  format_is look f h = let found = bind_ok (find into_u64_vec look tag.SampleFormat) format_from f h in from_kept found.0 f found.1.1
+  format_is look f h =
+      let found =
+      bind_ok (find into_u64_vec look tag.SampleFormat) format_from f h in
+      from_kept found.0 f found.1.1
 
-  named : (look : TagLookup) (plan : PagePlan) (file : List ℕ) (limits : Limits) (p : PageRecord) → page_of look ≡ Ok p → IsPlanOf plan file limits p → plan.depth < 2 ^ 8 → IsNamed plan
+  named : (look : TagLookup) (plan : PagePlan) (file : List ℕ) (limits : Limits) (p : PageRecord)
+      → page_of look ≡ Ok p → IsPlanOf plan file limits p → plan.depth < 2 ^ 8 → IsNamed plan
   named look plan file limits p h i deep =
       let passed = passed_checks look p h in
       let method : p.method ≡ plan.method = sym (ap (λ (q : PageRecord). q.method) i.facts) in
       let format : p.format ≡ plan.format = sym (ap (λ (q : PageRecord). q.format) i.facts) in
       record {
-        method = subst (λ (k : CompressionMethod). method_of (method_number k) ≡ k) method (method_is look p.method passed.method);
-        format = subst (λ (k : SampleFormat). format_of (format_number k) ≡ k) format (format_is look p.format passed.format);
+        method =
+            subst (λ (k : CompressionMethod). method_of (method_number k)
+            ≡ k) method (method_is look p.method passed.method);
+        format =
+            subst (λ (k : SampleFormat). format_of (format_number k)
+            ≡ k) format (format_is look p.format passed.format);
         depth = deep;
       }
 
 -- ---- the law
 
-page_found : (file : List ℕ) (kind : FileKind) (order : ByteOrder) (directory : DirectoryRecord) (plan : PagePlan)
+page_found : (file : List ℕ) (kind : FileKind) (order : ByteOrder) (directory : DirectoryRecord)
+    (plan : PagePlan)
     → plan_in kind order file default_limits directory ≡ Ok (Some plan)
-    → (p : PageRecord) × ((page_in kind order file default_limits directory ≡ Ok p) × (plan_of kind order directory p ≡ Some plan))
+    → (p : PageRecord) × ((page_in kind order file default_limits directory ≡ Ok p)
+    × (plan_of kind order directory p ≡ Some plan))
 unfolding plan_in
 page_found file kind order directory plan h =
-    let page = bind_ok (page_in kind order file default_limits directory) (λ p. Ok (plan_of kind order directory p)) (Some plan) h in
+    let page =
+    bind_ok (page_in kind order file default_limits directory) (λ p. Ok (plan_of kind order directory p)) (Some plan) h in
     let same : plan_of kind order directory page.0 ≡ Some plan = ok_is _ _ page.1.1 in
     (page.0, (page.1.0, same))
 
 -- by the numbers of a page's plan chunks are read as they are read of the page
-pub reads_page : (file : List ℕ) (page : ℕ) (kind : FileKind) (order : ByteOrder) (directory : DirectoryRecord) (plan : PagePlan)
+pub reads_page : (file : List ℕ) (page : ℕ) (kind : FileKind) (order : ByteOrder)
+    (directory : DirectoryRecord) (plan : PagePlan)
     → NumbersComeBack → NamesComeBack → PlansReadPages → length file < 2 ^ 64 → plan.depth < 2 ^ 8
-    → page_directory file page ≡ Ok (kind, order, directory) → plan_in kind order file default_limits directory ≡ Ok (Some plan)
-    → ((p : PageRecord) → page_in kind order file default_limits directory ≡ Ok p → IsPlanOf plan file default_limits p)
+    → page_directory file page ≡ Ok (kind, order, directory)
+    → plan_in kind order file default_limits directory ≡ Ok (Some plan)
+    → ((p : PageRecord) → page_in kind order file default_limits directory ≡ Ok p
+    → IsPlanOf plan file default_limits p)
     → ReadsPage file page (numbers_of plan)
 unfolding read_planned_chunk read_planned_chunks
 reads_page file page kind order directory plan numbers names law wide deep h found is =
     let p = page_found file kind order directory plan found in
     let i = is p.0 p.1.0 in
     let same : plan.order ≡ order = order_is kind order directory p.0 plan p.1.1 in
-    let back = plans_come_back names plan (named numbers _ plan file default_limits p.0 p.1.0 i deep) in
-    let read : (chunk : ℕ) (slice : List ℕ) → pages.read_planned file plan unlimited chunk slice ≡ read_chunk_bytes file order p.0 unlimited chunk slice
+    let back =
+    plans_come_back names plan (named numbers _ plan file default_limits p.0 p.1.0 i deep) in
+    let read : (chunk : ℕ) (slice : List ℕ)
+    → pages.read_planned file plan unlimited chunk slice
+    ≡ read_chunk_bytes file order p.0 unlimited chunk slice
     = λ chunk slice. law.bytes plan file default_limits p.0 unlimited chunk slice wide i
     ∙ ap (λ (o : ByteOrder). read_chunk_bytes file o p.0 unlimited chunk slice) same in
     let alike : AreAlike (plan_reading file plan unlimited) (reading_of file order p.0) = record {
-      len_of = λ k. ap (λ (r : Result BufferLayoutPreference TiffError). r >>= λ layout. Ok layout.len) (law.layout plan file default_limits p.0 k i);
+      len_of =
+          λ k. ap (λ (r : Result BufferLayoutPreference TiffError). r
+          >>= λ layout. Ok layout.len) (law.layout plan file default_limits p.0 k i);
       read = read;
     } in
     record {
-      chunk = λ chunk slice. step _ _ plan back (read chunk slice ∙ sym (chunk_is file page kind order directory p.0 chunk slice h p.1.0));
-      chunks = λ first count slice. step _ _ plan back (ranges_alike _ _ alike first count slice ∙ sym (range_is file page kind order directory p.0 first count slice h p.1.0));
+      chunk =
+          λ chunk slice. step _ _ plan back (read chunk slice
+          ∙ sym (chunk_is file page kind order directory p.0 chunk slice h p.1.0));
+      chunks =
+          λ first count slice. step _ _ plan back (ranges_alike _ _ alike first count slice
+          ∙ sym (range_is file page kind order directory p.0 first count slice h p.1.0));
     }
 
 -- what the numbers that a call put read
-pub given_reads : (file : List ℕ) (page : ℕ) (answer : Result PlannedPage TiffError) (n : ℕ) (new : PlannedPage)
-    → IfOk answer (λ x. ReadsPage file page x) → n ≡ status answer → IfOk answer (λ x. new ≡ x) → n ≡ 0 → ReadsPage file page new
+pub given_reads : (file : List ℕ) (page : ℕ) (answer : Result PlannedPage TiffError) (n : ℕ)
+    (new : PlannedPage)
+    → IfOk answer (λ x. ReadsPage file page x) → n ≡ status answer → IfOk answer (λ x. new ≡ x)
+    → n ≡ 0 → ReadsPage file page new
 given_reads file page (Ok x) n new h is put zero = subst (ReadsPage file page) (sym put) h
 given_reads file page (Err e) n new h is put zero = absurd (none e n is zero)
 
 -- ---- what a plan that was found reads
 
-found_by : (file : List ℕ) (page : ℕ) (kind : FileKind) (order : ByteOrder) (directory : DirectoryRecord) (answer : Result (Option PagePlan) TiffError) (before after : ℕ)
-    → NumbersComeBack → NamesComeBack → PlansReadPages → length file < 2 ^ 64 → page_directory file page ≡ Ok (kind, order, directory)
+found_by : (file : List ℕ) (page : ℕ) (kind : FileKind) (order : ByteOrder)
+    (directory : DirectoryRecord) (answer : Result (Option PagePlan) TiffError) (before after : ℕ)
+    → NumbersComeBack → NamesComeBack → PlansReadPages → length file < 2 ^ 64
+    → page_directory file page ≡ Ok (kind, order, directory)
     → Answers (λ plan. plan) answer (plan_in kind order file default_limits directory) before after
-    → IfOk answer (λ found. IfSome found (λ plan. (p : PageRecord) → page_of (look_in kind order file default_limits directory.entries) ≡ Ok p → IsPlanOf plan file default_limits p))
-    → IfOk answer (λ found. IfSome found (λ plan. plan.depth < 2 ^ 8 → ReadsPage file page (numbers_of plan)))
+    → IfOk answer (λ found. IfSome found (λ plan. (p : PageRecord)
+    → page_of (look_in kind order file default_limits directory.entries) ≡ Ok p → IsPlanOf plan file default_limits p))
+    → IfOk answer (λ found. IfSome found (λ plan. plan.depth < 2 ^ 8
+    → ReadsPage file page (numbers_of plan)))
 found_by file page kind order directory (Ok (Some plan)) before after numbers names law wide h found is =
     λ deep. reads_page file page kind order directory plan numbers names law wide deep h found is
-found_by file page kind order directory (Ok None) before after numbers names law wide h found is = tt
+found_by file page kind order directory (Ok None) before after numbers names law wide h found is =
+    tt
 found_by file page kind order directory (Err e) before after numbers names law wide h found is = tt
 
-pub found_reads : (file bytes : List ℕ) (page : ℕ) (kind : FileKind) (order : ByteOrder) (directory : DirectoryRecord) (limits : Limits) (answer : Result (Option PagePlan) TiffError) (before after : ℕ)
-    → NumbersComeBack → NamesComeBack → PlansReadPages → length file < 2 ^ 64 → bytes ≡ file → limits ≡ default_limits → page_directory file page ≡ Ok (kind, order, directory)
+pub found_reads : (file bytes : List ℕ) (page : ℕ) (kind : FileKind) (order : ByteOrder)
+    (directory : DirectoryRecord) (limits : Limits) (answer : Result (Option PagePlan) TiffError)
+    (before after : ℕ)
+    → NumbersComeBack → NamesComeBack → PlansReadPages → length file < 2 ^ 64 → bytes ≡ file
+    → limits ≡ default_limits → page_directory file page ≡ Ok (kind, order, directory)
     → Answers (λ plan. plan) answer (plan_in kind order bytes limits directory) before after
-    → IfOk answer (λ found. IfSome found (λ plan. (p : PageRecord) → page_of (look_in kind order bytes limits directory.entries) ≡ Ok p → IsPlanOf plan bytes limits p))
-    → IfOk answer (λ found. IfSome found (λ plan. plan.depth < 2 ^ 8 → ReadsPage file page (numbers_of plan)))
+    → IfOk answer (λ found. IfSome found (λ plan. (p : PageRecord)
+    → page_of (look_in kind order bytes limits directory.entries) ≡ Ok p → IsPlanOf plan bytes limits p))
+    → IfOk answer (λ found. IfSome found (λ plan. plan.depth < 2 ^ 8
+    → ReadsPage file page (numbers_of plan)))
 found_reads file bytes page kind order directory limits answer before after numbers names law wide same given h =
-    let P : List ℕ → Limits → Type 0 = λ b l. Answers (λ plan. plan) answer (plan_in kind order b l directory) before after
-    → IfOk answer (λ found. IfSome found (λ plan. (p : PageRecord) → page_of (look_in kind order b l directory.entries) ≡ Ok p → IsPlanOf plan b l p))
-    → IfOk answer (λ found. IfSome found (λ plan. plan.depth < 2 ^ 8 → ReadsPage file page (numbers_of plan))) in
+    let P : List ℕ → Limits → Type 0 =
+    λ b l. Answers (λ plan. plan) answer (plan_in kind order b l directory) before after
+    → IfOk answer (λ found. IfSome found (λ plan. (p : PageRecord)
+    → page_of (look_in kind order b l directory.entries) ≡ Ok p → IsPlanOf plan b l p))
+    → IfOk answer (λ found. IfSome found (λ plan. plan.depth < 2 ^ 8
+    → ReadsPage file page (numbers_of plan))) in
     subst (λ b. P b limits) (sym same) (subst (λ l. P file l) (sym given) (found_by file page kind order directory answer before after numbers names law wide h))
 
 -- the numbers of a plan that was found
-pub told_reads : (file : List ℕ) (page : ℕ) (plan : PagePlan) (n : PlannedPage) → (plan.depth < 2 ^ 8 → ReadsPage file page (numbers_of plan)) → plan.depth < 2 ^ 8 → n ≡ numbers_of plan
+pub told_reads : (file : List ℕ) (page : ℕ) (plan : PagePlan) (n : PlannedPage)
+    → (plan.depth < 2 ^ 8 → ReadsPage file page (numbers_of plan)) → plan.depth < 2 ^ 8
+    → n ≡ numbers_of plan
     → ReadsPage file page n
 told_reads file page plan n h deep same = subst (ReadsPage file page) (sym same) (h deep)

@@ -10,10 +10,12 @@ use Rattle.tiff_decode.specs.Machine.{Decoding, Follows, FollowsBut, Outcome, Re
 not_more : (m n : ℕ) → m ≡ 0 → n ≡ 0 → m < n → ⊥
 not_more m n a b h = omega (arith, a, b, h)
 
-refused : {X Y : Type 0} → (wanting : Type 0) (view : X → Y) → (o : Outcome Y) → (e : TiffError) → (old new : Decoding) → Refused wanting e o old new
+refused : {X Y : Type 0} → (wanting : Type 0) (view : X → Y) → (o : Outcome Y) → (e : TiffError)
+    → (old new : Decoding) → Refused wanting e o old new
     → old.failures ≡ 0 → new.failures ≡ 0 → AnswersWithoutSource view (Err e) o.answer
 refused wanting view o OutOfMemory old new r a b = tt
-refused wanting view o (IoError Device) old new r a b = not_more old.failures new.failures a b r.grew
+refused wanting view o (IoError Device) old new r a b =
+    not_more old.failures new.failures a b r.grew
 refused wanting view o (IoError UnexpectedEof) old new r a b = r.answer
 refused wanting view o (IoError InvalidData) old new r a b = r.answer
 refused wanting view o (IoError InvalidInput) old new r a b = r.answer
@@ -24,18 +26,21 @@ refused wanting view o (UsageError x) old new r a b = r.answer
 refused wanting view o LimitsExceeded old new r a b = r.answer
 refused wanting view o IntSizeError old new r a b = r.answer
 
-pub here : {X Y : Type 0} → (view : X → Y) → (o : Outcome Y) → (result : Result X TiffError) → (old new : Decoding) → Follows view o result old new
+pub here : {X Y : Type 0} → (view : X → Y) → (o : Outcome Y) → (result : Result X TiffError)
+    → (old new : Decoding) → Follows view o result old new
     → old.failures ≡ 0 → new.failures ≡ 0 → AnswersWithoutSource view result o.answer
 here view o (Ok x) old new f a b = f.answer
 here view o (Err e) old new f a b = refused (Unit {0}) view o e old new f a b
 
-pub gone : {X Y : Type 0} → (view : X → Y) → (o : Outcome Y) → (result : Result X TiffError) → (old new : Decoding) → Follows view o result old new
+pub gone : {X Y : Type 0} → (view : X → Y) → (o : Outcome Y) → (result : Result X TiffError)
+    → (old new : Decoding) → Follows view o result old new
     → old.failures ≡ 0 → new.failures ≡ 0 → OnOk result (new ≡ record old { state = o.next })
 gone view o (Ok x) old new f a b = f.at
 gone view o (Err e) old new f a b = tt
 
 -- The source of a decoder is the same after a call.
-source_refused : {Y : Type 0} → (wanting : Type 0) (o : Outcome Y) → (e : TiffError) → (old new : Decoding) → Refused wanting e o old new → source_of new ≡ source_of old
+source_refused : {Y : Type 0} → (wanting : Type 0) (o : Outcome Y) → (e : TiffError)
+    → (old new : Decoding) → Refused wanting e o old new → source_of new ≡ source_of old
 source_refused wanting o OutOfMemory old new r = ap source_of r.1
 source_refused wanting o (IoError Device) old new r = ap source_of r.at.stands
 source_refused wanting o (IoError UnexpectedEof) old new r = ap source_of r.at
@@ -48,22 +53,29 @@ source_refused wanting o (UsageError x) old new r = ap source_of r.at
 source_refused wanting o LimitsExceeded old new r = ap source_of r.at
 source_refused wanting o IntSizeError old new r = ap source_of r.at
 
-pub source_stays : {X Y : Type 0} → (view : X → Y) → (o : Outcome Y) → (result : Result X TiffError) → (old new : Decoding) → Follows view o result old new → source_of new ≡ source_of old
+pub source_stays : {X Y : Type 0} → (view : X → Y) → (o : Outcome Y) → (result : Result X TiffError)
+    → (old new : Decoding) → Follows view o result old new → source_of new ≡ source_of old
 source_stays view o (Ok x) old new f = ap source_of f.at
 source_stays view o (Err e) old new f = source_refused (Unit {0}) o e old new f
 
 -- The result of a call that allocates only where there is a next page.
-pub next_here : (result : Result (Unit {0}) TiffError) → (old new : Decoding) → FollowsBut (old.state.more ≡ true) (λ x. x) (next_image old) result old new
-    → old.failures ≡ 0 → new.failures ≡ 0 → AnswersWithoutSource (λ x. x) result (next_image old).answer
+pub next_here : (result : Result (Unit {0}) TiffError) → (old new : Decoding)
+    → FollowsBut (old.state.more ≡ true) (λ x. x) (next_image old) result old new
+    → old.failures ≡ 0 → new.failures ≡ 0
+    → AnswersWithoutSource (λ x. x) result (next_image old).answer
 next_here (Ok x) old new f a b = f.answer
-next_here (Err e) old new f a b = refused (old.state.more ≡ true) (λ x. x) (next_image old) e old new f a b
+next_here (Err e) old new f a b =
+    refused (old.state.more ≡ true) (λ x. x) (next_image old) e old new f a b
 
-pub next_gone : (result : Result (Unit {0}) TiffError) → (old new : Decoding) → FollowsBut (old.state.more ≡ true) (λ x. x) (next_image old) result old new
-    → old.failures ≡ 0 → new.failures ≡ 0 → OnOk result (new ≡ record old { state = (next_image old).next })
+pub next_gone : (result : Result (Unit {0}) TiffError) → (old new : Decoding)
+    → FollowsBut (old.state.more ≡ true) (λ x. x) (next_image old) result old new
+    → old.failures ≡ 0 → new.failures ≡ 0
+    → OnOk result (new ≡ record old { state = (next_image old).next })
 next_gone (Ok x) old new f a b = f.at
 next_gone (Err e) old new f a b = tt
 
-tag_refused : {X Y : Type 0} → (wanting : Type 0) (view : X → Y) → (given : Result Y TiffError) → (e : TiffError) → (m n : ℕ) → AnswersBut wanting (m < n) view (Err e) given
+tag_refused : {X Y : Type 0} → (wanting : Type 0) (view : X → Y) → (given : Result Y TiffError)
+    → (e : TiffError) → (m n : ℕ) → AnswersBut wanting (m < n) view (Err e) given
     → m ≡ 0 → n ≡ 0 → AnswersWithoutSource view (Err e) given
 tag_refused wanting view given OutOfMemory m n r a b = tt
 tag_refused wanting view given (IoError Device) m n r a b = not_more m n a b r
@@ -77,13 +89,15 @@ tag_refused wanting view given (UsageError x) m n r a b = r
 tag_refused wanting view given LimitsExceeded m n r a b = r
 tag_refused wanting view given IntSizeError m n r a b = r
 
-pub answer_here : {X Y : Type 0} → (view : X → Y) → (given : Result Y TiffError) → (result : Result X TiffError) → (m n : ℕ) → Answers view result given m n
+pub answer_here : {X Y : Type 0} → (view : X → Y) → (given : Result Y TiffError)
+    → (result : Result X TiffError) → (m n : ℕ) → Answers view result given m n
     → m ≡ 0 → n ≡ 0 → AnswersWithoutSource view result given
 answer_here view given (Ok x) m n r a b = r
 answer_here view given (Err e) m n r a b = tag_refused (Unit {0}) view given e m n r a b
 
 -- The result of a call that doesn't allocate.
-exact : {X Y : Type 0} → (view : X → Y) → (given : Result Y TiffError) → (e : TiffError) → (m n : ℕ) → AnswersWithoutMemory view (Err e) given m n
+exact : {X Y : Type 0} → (view : X → Y) → (given : Result Y TiffError) → (e : TiffError) → (m n : ℕ)
+    → AnswersWithoutMemory view (Err e) given m n
     → m ≡ 0 → n ≡ 0 → AnswersWithoutSource view (Err e) given
 exact view given OutOfMemory m n r a b = tt
 exact view given (IoError Device) m n r a b = not_more m n a b r
@@ -97,7 +111,8 @@ exact view given (UsageError x) m n r a b = r
 exact view given LimitsExceeded m n r a b = r
 exact view given IntSizeError m n r a b = r
 
-pub exactly_here : {X Y : Type 0} → (view : X → Y) → (given : Result Y TiffError) → (result : Result X TiffError) → (m n : ℕ) → AnswersWithoutMemory view result given m n
+pub exactly_here : {X Y : Type 0} → (view : X → Y) → (given : Result Y TiffError)
+    → (result : Result X TiffError) → (m n : ℕ) → AnswersWithoutMemory view result given m n
     → m ≡ 0 → n ≡ 0 → AnswersWithoutSource view result given
 exactly_here view given (Ok x) m n r a b = r
 exactly_here view given (Err e) m n r a b = exact view given e m n r a b

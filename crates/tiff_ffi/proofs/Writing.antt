@@ -30,10 +30,13 @@ use Rattle.tiff_ffi.specs.Writer.{IsWritten, WritesImageFile, WritesBytes, file_
 use Rattle.tiff_ffi.proofs.Framed.{chain_of}
 
 -- A new encoder over an empty sink has its settings.
-pub begun_by : (s : Settings) (failures : ℕ) (contents : List ℕ) (b p c : FileState) → contents ≡ [] → b ≡ begun_file s.kind contents failures
-    → p ≡ with_predictor s.predictor b → c ≡ with_compression s.compression p → c ≡ file_by s failures
+pub begun_by : (s : Settings) (failures : ℕ) (contents : List ℕ) (b p c : FileState) → contents ≡ []
+    → b ≡ begun_file s.kind contents failures
+    → p ≡ with_predictor s.predictor b → c ≡ with_compression s.compression p
+    → c ≡ file_by s failures
 begun_by s failures contents b p c empty b_is p_is c_is =
-    c_is ∙ ap (with_compression s.compression) (p_is ∙ ap (with_predictor s.predictor) (b_is ∙ ap (λ t. begun_file s.kind t failures) empty))
+    c_is ∙ ap (with_compression s.compression) (p_is
+    ∙ ap (with_predictor s.predictor) (b_is ∙ ap (λ t. begun_file s.kind t failures) empty))
 
 -- A header has bytes.
 some_header : (kind : FileKind) → 0 < length (header_bytes kind)
@@ -45,10 +48,12 @@ module _ (s : Settings) (width height failures : ℕ) (samples : List ℕ) (last
   old = file_by s failures
 
   -- An image that such an encoder left is shown.
-  pub shown : LeavesImage (color_type s.color) (inner_size s.color) width height samples old last (header_model s.kind)
+  pub shown : LeavesImage (color_type s.color) (inner_size s.color) width height samples old last
+      (header_model s.kind)
       → ShowsFirst s.kind last.bytes (image_by s width height samples)
   shown l =
-      let n = new_is (color_type s.color) (inner_size s.color) width height old l.image l.begun.answer in
+      let n =
+      new_is (color_type s.color) (inner_size s.color) width height old l.image l.begun.answer in
       subst (λ i. ShowsFirst s.kind last.bytes (image_of_samples i samples)) (sym n.1.0)
       (first_shown (color_type s.color) (inner_size s.color) width height samples old last (header_model s.kind) (chain_of s.kind) (some_header s.kind) l s.color refl refl)
 
@@ -57,34 +62,43 @@ module _ (s : Settings) (width height failures : ℕ) (samples : List ℕ) (last
   Answered r = WritesImage (color_type s.color) (inner_size s.color) width height samples r old last
 
   abbrev Left : Result (Unit {0}) TiffError → Type 0
-  Left r = (m : Model) → FileContains old.kind old.bytes m → IsLink old.kind m old.chain → LeavesNewImage (color_type s.color) (inner_size s.color) width height samples r old last m
+  Left r =
+      (m : Model) → FileContains old.kind old.bytes m → IsLink old.kind m old.chain
+      → LeavesNewImage (color_type s.color) (inner_size s.color) width height samples r old last m
 
   left_shown : Left (Ok tt) → ShowsFirst s.kind last.bytes (image_by s width height samples)
   left_shown l = shown (l (header_model s.kind) (header_stands s.kind) (inl (chain_of s.kind)))
 
 -- What an encoder with these settings returns is the file that was written.
-module _ (s : Settings) (width height failures : ℕ) (samples : List ℕ) (old last : FileState) (color : ColorTypeRecord) (size : ℕ)
+module _ (s : Settings) (width height failures : ℕ) (samples : List ℕ) (old last : FileState)
+    (color : ColorTypeRecord) (size : ℕ)
     (is : old ≡ file_by s failures) (colored : color ≡ color_type s.color) (sized : size ≡ inner_size s.color)
     (fault : (last.fault ≡ None) ⊎ (last.fault ≡ Some sink.OutOfMemory)) where
   abbrev Answers : Result (Unit {0}) TiffError → Type 0
   Answers r = WritesImage color size width height samples r old last
 
-  answered : (r : Result (Unit {0}) TiffError) → Answers r → WritesImage (color_type s.color) (inner_size s.color) width height samples r (file_by s failures) last
+  answered : (r : Result (Unit {0}) TiffError) → Answers r
+      → WritesImage (color_type s.color) (inner_size s.color) width height samples r (file_by s failures) last
   answered r w =
       subst (λ c. WritesImage c (inner_size s.color) width height samples r (file_by s failures) last) colored
       (subst (λ n. WritesImage color n width height samples r (file_by s failures) last) sized
       (subst (λ f. WritesImage color size width height samples r f last) is w))
 
   abbrev Leaves : Result (Unit {0}) TiffError → Type 0
-  Leaves r = (m : Model) → FileContains old.kind old.bytes m → IsLink old.kind m old.chain → LeavesNewImage color size width height samples r old last m
+  Leaves r =
+      (m : Model) → FileContains old.kind old.bytes m → IsLink old.kind m old.chain
+      → LeavesNewImage color size width height samples r old last m
 
   left : (r : Result (Unit {0}) TiffError) → Leaves r → Left s width height failures samples last r
   left r l =
-      subst (λ c. (m : Model) → FileContains s.kind (file_by s failures).bytes m → IsLink s.kind m (file_by s failures).chain → LeavesNewImage c (inner_size s.color) width height samples r (file_by s failures) last m) colored
-      (subst (λ n. (m : Model) → FileContains s.kind (file_by s failures).bytes m → IsLink s.kind m (file_by s failures).chain → LeavesNewImage color n width height samples r (file_by s failures) last m) sized
+      subst (λ c. (m : Model) → FileContains s.kind (file_by s failures).bytes m
+      → IsLink s.kind m (file_by s failures).chain → LeavesNewImage c (inner_size s.color) width height samples r (file_by s failures) last m) colored
+      (subst (λ n. (m : Model) → FileContains s.kind (file_by s failures).bytes m
+      → IsLink s.kind m (file_by s failures).chain → LeavesNewImage color n width height samples r (file_by s failures) last m) sized
       (subst (λ (f : FileState). (m : Model) → FileContains f.kind f.bytes m → IsLink f.kind m f.chain → LeavesNewImage color size width height samples r f last m) is l))
 
-  pub file_written : (file : List ℕ) → Answers (Ok tt) → Leaves (Ok tt) → file ≡ last.bytes → WritesImageFile s width height samples (Ok file)
+  pub file_written : (file : List ℕ) → Answers (Ok tt) → Leaves (Ok tt) → file ≡ last.bytes
+      → WritesImageFile s width height samples (Ok file)
   file_written file w l bytes =
       let written : IsWritten s width height samples (Ok file) = record {
         failures = failures;
@@ -92,11 +106,14 @@ module _ (s : Settings) (width height failures : ℕ) (samples : List ℕ) (old 
         written = answered (Ok tt) w;
         fault = fault;
         file = bytes;
-        shows = subst (λ (bs : List ℕ). ShowsFirst s.kind bs (image_by s width height samples)) (sym bytes) (left_shown s width height failures samples last (left (Ok tt) l));
+        shows =
+            subst (λ (bs : List ℕ). ShowsFirst s.kind bs (image_by s width height samples))
+            (sym bytes) (left_shown s width height failures samples last (left (Ok tt) l));
       } in
       inr written
 
-  pub fault_written : (e : TiffError) → Answers (Err e) → WritesImageFile s width height samples (Err e)
+  pub fault_written : (e : TiffError) → Answers (Err e)
+      → WritesImageFile s width height samples (Err e)
   fault_written e w =
       let written : IsWritten s width height samples (Err e) = record {
         failures = failures;
@@ -115,42 +132,58 @@ tested : (n : ℕ) → n ≡ 0 → (n == 0) ≡ true
 tested n h = rw h refl
 
 -- Samples that a test lets through, or refuses.
-let_through : (b : Bool) (xs lent : List ℕ) (e : TiffError) → Ok lent ≡ (if b then Ok xs else Err e) → lent ≡ xs
+let_through : (b : Bool) (xs lent : List ℕ) (e : TiffError) → Ok lent ≡ (if b then Ok xs else Err e)
+    → lent ≡ xs
 let_through true xs lent e h = ok_inj lent xs h
 let_through false xs lent e h = absurd cc
 
 module _ (s : Settings) (width height : ℕ) (bytes : List ℕ) where
-  typed_so : (type : «Type») (told : Result (List ℕ) TiffError) → type ≡ inner_type s.color → told ≡ samples_of_type type bytes → samples_from_bytes s.color bytes ≡ told
+  typed_so : (type : «Type») (told : Result (List ℕ) TiffError) → type ≡ inner_type s.color
+      → told ≡ samples_of_type type bytes → samples_from_bytes s.color bytes ≡ told
   typed_so type told typed is = sym (is ∙ ap (λ t. samples_of_type t bytes) typed)
 
   -- Bytes that are whole samples are written.
   pub whole_by : (answer : Result (List ℕ) TiffError) → length bytes % inner_size s.color ≡ 0
-      → WritesImageFile s width height (numbers_in (inner_size s.color) bytes) answer → WritesBytes s width height (samples_from_bytes s.color bytes) answer
+      → WritesImageFile s width height (numbers_in (inner_size s.color) bytes) answer
+      → WritesBytes s width height (samples_from_bytes s.color bytes) answer
   whole_by answer none w =
-      subst (λ b. WritesBytes s width height (if b then Ok (numbers_in (inner_size s.color) bytes) else Err (UsageError (MismatchedEntryLength (inner_type s.color) (length bytes)))) answer)
+      subst (λ b. WritesBytes s width height (if b then
+      Ok (numbers_in (inner_size s.color) bytes) else Err (UsageError (MismatchedEntryLength (inner_type s.color) (length bytes)))) answer)
       (sym (tested (length bytes % inner_size s.color) none)) w
 
   -- Samples that were made of bytes are written.
-  pub lent_written : (samples : List ℕ) (answer : Result (List ℕ) TiffError) → samples_from_bytes s.color bytes ≡ Ok samples
-      → WritesImageFile s width height samples answer → WritesBytes s width height (samples_from_bytes s.color bytes) answer
-  lent_written samples answer is w = subst (λ told. WritesBytes s width height told answer) (sym is) w
+  pub lent_written : (samples : List ℕ) (answer : Result (List ℕ) TiffError)
+      → samples_from_bytes s.color bytes ≡ Ok samples
+      → WritesImageFile s width height samples answer
+      → WritesBytes s width height (samples_from_bytes s.color bytes) answer
+  lent_written samples answer is w =
+      subst (λ told. WritesBytes s width height told answer) (sym is) w
 
   -- Lent samples stay as they are cut to the width of their type.
-  pub lent_made : (type : «Type») (lent numbers : List ℕ) → type ≡ inner_type s.color → Ok lent ≡ samples_of_type type bytes
-      → ((i : ℕ) → Fits w8 (get_or bytes i 0)) → numbers ≡ cut_to (type_size type) lent → samples_from_bytes s.color bytes ≡ Ok numbers
+  pub lent_made : (type : «Type») (lent numbers : List ℕ) → type ≡ inner_type s.color
+      → Ok lent ≡ samples_of_type type bytes
+      → ((i : ℕ) → Fits w8 (get_or bytes i 0)) → numbers ≡ cut_to (type_size type) lent
+      → samples_from_bytes s.color bytes ≡ Ok numbers
   lent_made type lent numbers typed is fit cut =
       let size : ℕ = type_size type in
-      let same : lent ≡ numbers_in size bytes = let_through (length bytes % size == 0) (numbers_in size bytes) lent (UsageError (MismatchedEntryLength type (length bytes))) is in
-      let whole : cut_to size lent ≡ lent = ap (cut_to size) same ∙ whole_cut type bytes fit ∙ sym same in
+      let same : lent ≡ numbers_in size bytes =
+      let_through (length bytes % size == 0) (numbers_in size bytes) lent
+      (UsageError (MismatchedEntryLength type (length bytes))) is in
+      let whole : cut_to size lent ≡ lent =
+      ap (cut_to size) same ∙ whole_cut type bytes fit ∙ sym same in
       typed_so type (Ok lent) typed is ∙ ap (λ (xs : List ℕ). Ok xs) (sym (cut ∙ whole))
 
   -- There is no memory for the samples.
-  pub lent_wanting : (type : «Type») (lent : List ℕ) (e : TiffError) → type ≡ inner_type s.color → Ok lent ≡ samples_of_type type bytes → e ≡ OutOfMemory
+  pub lent_wanting : (type : «Type») (lent : List ℕ) (e : TiffError) → type ≡ inner_type s.color
+      → Ok lent ≡ samples_of_type type bytes → e ≡ OutOfMemory
       → WritesBytes s width height (samples_from_bytes s.color bytes) (Err e)
-  lent_wanting type lent e typed is wanting = lent_written lent (Err e) (typed_so type (Ok lent) typed is)
+  lent_wanting type lent e typed is wanting =
+      lent_written lent (Err e) (typed_so type (Ok lent) typed is)
       (inl (ap (λ (x : TiffError). let r : Result (List ℕ) TiffError = Err x in r) wanting))
 
   -- Bytes that are no whole number of samples are refused.
-  pub lent_refused : (type : «Type») (e : TiffError) → type ≡ inner_type s.color → Err e ≡ samples_of_type type bytes
+  pub lent_refused : (type : «Type») (e : TiffError) → type ≡ inner_type s.color
+      → Err e ≡ samples_of_type type bytes
       → WritesBytes s width height (samples_from_bytes s.color bytes) (Err e)
-  lent_refused type e typed is = subst (λ told. WritesBytes s width height told (Err e)) (sym (typed_so type (Err e) typed is)) refl
+  lent_refused type e typed is =
+      subst (λ told. WritesBytes s width height told (Err e)) (sym (typed_so type (Err e) typed is)) refl

@@ -9,7 +9,8 @@ use Rattle.tiff_ifd.specs.View.{plain_value, plain_values}
 use Rattle.tiff_ifd.specs.declared.value.Value.{Value}
 use Rattle.tiff_ifd.specs.Item.{items}
 
-read_behind : {A : Type 0} (f g : ℕ → A) (a n : ℕ) → ((i : ℕ) → f (i + 1) ≡ g i) → map f (range_with_len (a + 1) n) ≡ map g (range_with_len a n)
+read_behind : {A : Type 0} (f g : ℕ → A) (a n : ℕ) → ((i : ℕ) → f (i + 1) ≡ g i)
+    → map f (range_with_len (a + 1) n) ≡ map g (range_with_len a n)
 read_behind f g a zero h = refl
 read_behind f g a (suc n) h = λ j. h a j ∷ read_behind f g (a + 1) n h j
 
@@ -17,7 +18,8 @@ behind_first : {A : Type 0} (read : List ℕ → A) (width : ℕ) (bs : List ℕ
     → read (bytes_at bs (width * (i + 1)) width) ≡ read (bytes_at (drop width bs) (width * i) width)
 behind_first read width bs i =
     let e : width * (i + 1) ≡ width + width * i = omega arith in
-    ap (λ (m : ℕ). read (bytes_at bs m width)) e ∙ ap (λ xs. read (take width xs)) (sym (drop-drop (width * i) width bs))
+    ap (λ (m : ℕ). read (bytes_at bs m width)) e
+    ∙ ap (λ xs. read (take width xs)) (sym (drop-drop (width * i) width bs))
 
 -- the first value, and then the others
 pub items-first : {A : Type 0} (read : List ℕ → A) (width n : ℕ) (bs : List ℕ)
@@ -31,14 +33,17 @@ items-first {A} read width n bs =
 items-step : {A : Type 0} (read : List ℕ → A) (width k : ℕ) (bs : List ℕ) → 0 < k
     → items read width k bs ≡ read (take width bs) ∷ items read width (k - 1) (drop width bs)
 items-step read width zero bs h = absurd (omega arith)
-items-step read width (suc k) bs h = let e : suc k - 1 ≡ k = omega arith in rw e (items-first read width k bs)
+items-step read width (suc k) bs h =
+    let e : suc k - 1 ≡ k = omega arith in rw e (items-first read width k bs)
 
 pub less_one : (k width : ℕ) → 0 < k → k * width ≡ (k - 1) * width + width
 less_one zero width h = absurd (omega arith)
 less_one (suc k) width h = let e : suc k - 1 ≡ k = omega arith in rw e (suc-mul k width)
 
-pub read_one_more : (read : List ℕ → PlainValue) (width k : ℕ) (bs front back : List ℕ) (all after : List Value) (v : Value) (whole : List PlainValue)
-    → whole ≡ plain_values all ++ items read width k bs → 0 < k → front ≡ take width bs → back ≡ drop width bs
+pub read_one_more : (read : List ℕ → PlainValue) (width k : ℕ) (bs front back : List ℕ)
+    (all after : List Value) (v : Value) (whole : List PlainValue)
+    → whole ≡ plain_values all ++ items read width k bs → 0 < k → front ≡ take width bs
+    → back ≡ drop width bs
     → plain_value v ≡ read front → after ≡ all ++ v ∷ []
     → whole ≡ plain_values after ++ items read width (k - 1) back
 read_one_more read width k bs front back all after v whole ih h f b e p =

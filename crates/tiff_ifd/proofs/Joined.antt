@@ -6,10 +6,12 @@ use Rattle.std.proofs.Math.Seq.{take-append_seam}
 use Rattle.std.proofs.lemmas.List.{map-append, take_all}
 use Rattle.tiff_base.specs.Answers.{AnswersWithoutSource}
 
-pub two_more : {A : Type 0} (xs ys zs : List A) (x y : A) → ys ≡ xs ++ x ∷ [] → zs ≡ ys ++ y ∷ [] → zs ≡ xs ++ x ∷ y ∷ []
+pub two_more : {A : Type 0} (xs ys zs : List A) (x y : A) → ys ≡ xs ++ x ∷ [] → zs ≡ ys ++ y ∷ []
+    → zs ≡ xs ++ x ∷ y ∷ []
 two_more xs ys zs x y p q = q ∙ ap (λ ws. ws ++ y ∷ []) p ∙ append_assoc xs (x ∷ []) (y ∷ [])
 
-pub one_seen : {A B : Type 0} (f : A → B) (xs ys : List A) (x : A) → ys ≡ xs ++ x ∷ [] → map f ys ≡ map f xs ++ f x ∷ []
+pub one_seen : {A B : Type 0} (f : A → B) (xs ys : List A) (x : A) → ys ≡ xs ++ x ∷ []
+    → map f ys ≡ map f xs ++ f x ∷ []
 one_seen f xs ys x p = ap (map f) p ∙ map-append f xs (x ∷ [])
 
 map_same : {A : Type 0} (xs : List A) → map (λ (x : A). x) xs ≡ xs
@@ -18,12 +20,14 @@ map_same (x ∷ xs) = ap (λ ys. x ∷ ys) (map_same xs)
 
 -- the identity on each item leaves a list as it is
 pub as_they_are : {A : Type 0} (r : Result (Vec A Global) TiffError) (given : Result (List A) TiffError)
-    → AnswersWithoutSource (λ v. map (λ (x : A). x) v.items) r given → AnswersWithoutSource (λ v. v.items) r given
+    → AnswersWithoutSource (λ v. map (λ (x : A). x) v.items) r given
+    → AnswersWithoutSource (λ v. v.items) r given
 as_they_are (Ok v) given h = h ∙ ap (λ xs. Ok xs) (map_same v.items)
 as_they_are (Err e) given h = h
 
 -- the front of a list stays when items are appended
-pub front_appended : {A : Type 0} (new old xs : List A) → new ≡ old ++ xs → take (length old) new ≡ old
+pub front_appended : {A : Type 0} (new old xs : List A) → new ≡ old ++ xs
+    → take (length old) new ≡ old
 front_appended new old xs e = ap (take (length old)) e ∙ take-append_seam old xs
 
 pub front_same : {A : Type 0} (new old : List A) → new ≡ old → take (length old) new ≡ old

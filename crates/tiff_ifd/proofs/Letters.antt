@@ -4,14 +4,18 @@ use Rattle.std.specs.Str.{encode_utf8_all}
 use Rattle.std.specs.Char.{encode_utf8}
 use Rattle.std.proofs.lemmas.Str.{encodes-append}
 
-pub step : (all more rest left text : List ℕ) (c : ℕ) → encode_utf8_all all ++ rest ≡ text → more ≡ all ++ c ∷ [] → rest ≡ encode_utf8 c ++ left
+pub step : (all more rest left text : List ℕ) (c : ℕ) → encode_utf8_all all ++ rest ≡ text
+    → more ≡ all ++ c ∷ [] → rest ≡ encode_utf8 c ++ left
     → encode_utf8_all more ++ left ≡ text
 step all more rest left text c h p e =
-    rw (p, encodes-append all (c ∷ [])) (append_assoc (encode_utf8_all all) (encode_utf8_all (c ∷ [])) left ∙ ap (λ r. encode_utf8_all all ++ r) (ap (λ x. x ++ left) (append-nil (encode_utf8 c)) ∙ sym e) ∙ h)
+    rw (p, encodes-append all (c ∷ [])) (append_assoc (encode_utf8_all all) (encode_utf8_all (c
+    ∷ [])) left ∙ ap (λ r. encode_utf8_all all ++ r) (ap (λ x. x ++ left) (append-nil (encode_utf8 c)) ∙ sym e) ∙ h)
 
 pub empty : (xs : List ℕ) → length xs ≡ 0 → xs ≡ []
 empty [] h = search rules
 empty (x ∷ xs) h = absurd (omega arith)
 
-pub whole : (all rest text : List ℕ) → encode_utf8_all all ++ rest ≡ text → rest ≡ [] → encode_utf8_all all ≡ text
-whole all rest text h e = sym (append-nil (encode_utf8_all all)) ∙ ap (λ r. encode_utf8_all all ++ r) (sym e) ∙ h
+pub whole : (all rest text : List ℕ) → encode_utf8_all all ++ rest ≡ text → rest ≡ []
+    → encode_utf8_all all ≡ text
+whole all rest text h e =
+    sym (append-nil (encode_utf8_all all)) ∙ ap (λ r. encode_utf8_all all ++ r) (sym e) ∙ h

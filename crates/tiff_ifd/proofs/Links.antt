@@ -39,23 +39,32 @@ both x t a b = subst IsFound (sym a ∙ b) tt
 same_target : (x : Found) (t u : Option ℕ) → x ≡ Some t → x ≡ Some u → t ≡ u
 same_target x t u a b = ap (found_or t) (sym a ∙ b)
 
-accepted_not_refused : (links : Links) (from : ℕ) (t : Option ℕ) → get links from ≡ Some t → HasAnother links from t ⊎ IsClosing links from t → ⊥
-accepted_not_refused links from t a (inl h) = h.differs (same_target (get links from) h.other t h.accepted a)
+accepted_not_refused : (links : Links) (from : ℕ) (t : Option ℕ) → get links from ≡ Some t
+    → HasAnother links from t ⊎ IsClosing links from t → ⊥
+accepted_not_refused links from t a (inl h) =
+    h.differs (same_target (get links from) h.other t h.accepted a)
 accepted_not_refused links from t a (inr h) = both (get links from) t a h.free
 
-new_not_refused : (links : Links) (from : ℕ) (t : Option ℕ) → IsNew links from t → HasAnother links from t ⊎ IsClosing links from t → ⊥
+new_not_refused : (links : Links) (from : ℕ) (t : Option ℕ) → IsNew links from t
+    → HasAnother links from t ⊎ IsClosing links from t → ⊥
 new_not_refused links from t n (inl h) = both (get links from) h.other h.accepted n.free
 new_not_refused links from t n (inr h) = n.unclosed h.closes
 
 pub one_answer : IsOneAnswer
 one_answer links from to (Ok false) (Ok false) after last c d = (refl, c.1 ∙ sym d.1)
 one_answer links from to (Ok true) (Ok true) after last c d = (refl, c.1 ∙ sym d.1)
-one_answer links from to (Ok false) (Ok true) after last c d = absurd (both (get links from) (link_target to) c.0 d.0.free)
-one_answer links from to (Ok true) (Ok false) after last c d = absurd (both (get links from) (link_target to) d.0 c.0.free)
-one_answer links from to (Ok false) (Err e) after last c d = absurd (accepted_not_refused links from (link_target to) c.0 d.1)
-one_answer links from to (Err e) (Ok false) after last c d = absurd (accepted_not_refused links from (link_target to) d.0 c.1)
-one_answer links from to (Ok true) (Err e) after last c d = absurd (new_not_refused links from (link_target to) c.0 d.1)
-one_answer links from to (Err e) (Ok true) after last c d = absurd (new_not_refused links from (link_target to) d.0 c.1)
+one_answer links from to (Ok false) (Ok true) after last c d =
+    absurd (both (get links from) (link_target to) c.0 d.0.free)
+one_answer links from to (Ok true) (Ok false) after last c d =
+    absurd (both (get links from) (link_target to) d.0 c.0.free)
+one_answer links from to (Ok false) (Err e) after last c d =
+    absurd (accepted_not_refused links from (link_target to) c.0 d.1)
+one_answer links from to (Err e) (Ok false) after last c d =
+    absurd (accepted_not_refused links from (link_target to) d.0 c.1)
+one_answer links from to (Ok true) (Err e) after last c d =
+    absurd (new_not_refused links from (link_target to) c.0 d.1)
+one_answer links from to (Err e) (Ok true) after last c d =
+    absurd (new_not_refused links from (link_target to) d.0 c.1)
 one_answer links from to (Err e) (Err f) after last c d = (ap Err (c.0 ∙ sym d.0), c.2 ∙ sym d.2)
 
 -- ---- at least one result
@@ -70,16 +79,22 @@ equal_order Equal h = refl
 equal_order Less h = absurd (subst IsFalseBit h tt)
 equal_order Greater h = absurd (subst IsFalseBit h tt)
 
-below_by : (b : Bool) (q : ℕ) (e : ℕ × Option ℕ) (es : List (ℕ × Option ℕ)) (x : Option ℕ) → eq_by_cmp nat_cmp q e.0 ≡ b
-    → (find nat_cmp q es ≡ Some x → q < most es) → cond b (Some e.1) (find nat_cmp q es) ≡ Some x → q < most (e ∷ es)
-below_by true q e es x t f h = (let same = nat_cmp-IsAntisymmetric q e.0 (equal_order (nat_cmp q e.0) t) in omega (arith, same))
+below_by : (b : Bool) (q : ℕ) (e : ℕ × Option ℕ) (es : List (ℕ × Option ℕ)) (x : Option ℕ)
+    → eq_by_cmp nat_cmp q e.0 ≡ b
+    → (find nat_cmp q es ≡ Some x → q < most es) → cond b (Some e.1) (find nat_cmp q es) ≡ Some x
+    → q < most (e ∷ es)
+below_by true q e es x t f h =
+    (let same = nat_cmp-IsAntisymmetric q e.0 (equal_order (nat_cmp q e.0) t) in
+    omega (arith, same))
 below_by false q e es x t f h = (let rest = f h in omega (arith, rest))
 
-found_below : (q : ℕ) (es : List (ℕ × Option ℕ)) (x : Option ℕ) → find nat_cmp q es ≡ Some x → q < most es
+found_below : (q : ℕ) (es : List (ℕ × Option ℕ)) (x : Option ℕ) → find nat_cmp q es ≡ Some x
+    → q < most es
 found_below q [] x h = absurd (subst IsFound (sym h) tt)
 found_below q (e ∷ es) x h = below_by (eq_by_cmp nat_cmp q e.0) q e es x refl (found_below q es x) h
 
-linked_below : (links : Links) (q : ℕ) (x : Option ℕ) → get links q ≡ Some x → q < most (entries links)
+linked_below : (links : Links) (q : ℕ) (x : Option ℕ) → get links q ≡ Some x
+    → q < most (entries links)
 linked_below links q x h = found_below q (entries links) x (sym (get-entries links q) ∙ h)
 
 -- membership
@@ -135,9 +150,12 @@ module _ (links : Links) (from : ℕ) where
     on : (q next : ℕ) → In q met → get links q ≡ Some (Some next) → In next (offset ∷ met)
 
   abbrev Decided : ℕ → Type 0
-  Decided offset = ((others : List ℕ) × Goes links offset others from) ⊎ ((others : List ℕ) → Goes links offset others from → ⊥)
+  Decided offset =
+      ((others : List ℕ) × Goes links offset others from)
+      ⊎ ((others : List ℕ) → Goes links offset others from → ⊥)
 
-  stuck : (offset : ℕ) (x : Found) → get links offset ≡ x → (IsLinked x → ⊥) → (offset ≡ from → ⊥) → (others : List ℕ) → Goes links offset others from → ⊥
+  stuck : (offset : ℕ) (x : Found) → get links offset ≡ x → (IsLinked x → ⊥) → (offset ≡ from → ⊥)
+      → (others : List ℕ) → Goes links offset others from → ⊥
   stuck offset x e none apart [] h = apart h
   stuck offset x e none apart (next ∷ others) h = none (subst IsLinked (sym h.0 ∙ e) tt)
 
@@ -145,22 +163,29 @@ module _ (links : Links) (from : ℕ) where
   abbrev Stays : List ℕ → Type 0
   Stays met = (q next : ℕ) → In q met → get links q ≡ Some (Some next) → In next met
 
-  trapped : (met : List ℕ) → ((q : ℕ) → In q met → q ≡ from → ⊥) → Stays met → (q : ℕ) → In q met → (others : List ℕ) → Goes links q others from → ⊥
+  trapped : (met : List ℕ) → ((q : ℕ) → In q met → q ≡ from → ⊥) → Stays met → (q : ℕ) → In q met
+      → (others : List ℕ) → Goes links q others from → ⊥
   trapped met apart stays q i [] h = apart q i h
-  trapped met apart stays q i (next ∷ others) h = trapped met apart stays next (stays q next i h.0) others h.1
+  trapped met apart stays q i (next ∷ others) h =
+      trapped met apart stays next (stays q next i h.0) others h.1
 
-  next_of : (offset n m : ℕ) → get links offset ≡ Some (Some n) → get links offset ≡ Some (Some m) → n ≡ m
+  next_of : (offset n m : ℕ) → get links offset ≡ Some (Some n) → get links offset ≡ Some (Some m)
+      → n ≡ m
   next_of offset n m a b = ap (λ (x : Found). some_or n (found_or None x)) (sym a ∙ b)
 
-  apart_by : (met : List ℕ) (offset q : ℕ) → Walked met offset → (offset ≡ from → ⊥) → (nat_eq q offset ≡ true) ⊎ In q met → q ≡ from → ⊥
+  apart_by : (met : List ℕ) (offset q : ℕ) → Walked met offset → (offset ≡ from → ⊥)
+      → (nat_eq q offset ≡ true) ⊎ In q met → q ≡ from → ⊥
   apart_by met offset q w a (inl h) e = a (sym (equal_numbers q offset h) ∙ e)
   apart_by met offset q w a (inr h) e = w.apart q h e
 
-  apart_more : (met : List ℕ) (offset : ℕ) → Walked met offset → (offset ≡ from → ⊥) → (q : ℕ) → In q (offset ∷ met) → q ≡ from → ⊥
-  apart_more met offset w a q i = apart_by met offset q w a (either (nat_eq q offset) (list_any (nat_eq q) met) i)
+  apart_more : (met : List ℕ) (offset : ℕ) → Walked met offset → (offset ≡ from → ⊥) → (q : ℕ)
+      → In q (offset ∷ met) → q ≡ from → ⊥
+  apart_more met offset w a q i =
+      apart_by met offset q w a (either (nat_eq q offset) (list_any (nat_eq q) met) i)
 
   -- where these offsets and this one lead, if it is known where this one leads
-  leads_by : (met : List ℕ) (offset next : ℕ) (all : List ℕ) → Walked met offset → get links offset ≡ Some (Some next)
+  leads_by : (met : List ℕ) (offset next : ℕ) (all : List ℕ) → Walked met offset
+      → get links offset ≡ Some (Some next)
       → In next all → ((q : ℕ) → In q (offset ∷ met) → In q all)
       → (q n : ℕ) → (nat_eq q offset ≡ true) ⊎ In q met → get links q ≡ Some (Some n) → In n all
   leads_by met offset next all w g i wide q n (inl h) l =
@@ -170,52 +195,70 @@ module _ (links : Links) (from : ℕ) where
       subst Q (next_of offset next n g (subst P same l)) i
   leads_by met offset next all w g i wide q n (inr h) l = wide n (w.on q n h l)
 
-  leads : (met : List ℕ) (offset next : ℕ) (all : List ℕ) → Walked met offset → get links offset ≡ Some (Some next)
+  leads : (met : List ℕ) (offset next : ℕ) (all : List ℕ) → Walked met offset
+      → get links offset ≡ Some (Some next)
       → In next all → ((q : ℕ) → In q (offset ∷ met) → In q all)
       → (q n : ℕ) → In q (offset ∷ met) → get links q ≡ Some (Some n) → In n all
-  leads met offset next all w g i wide q n j = leads_by met offset next all w g i wide q n (either (nat_eq q offset) (list_any (nat_eq q) met) j)
+  leads met offset next all w g i wide q n j =
+      leads_by met offset next all w g i wide q n (either (nat_eq q offset) (list_any (nat_eq q) met) j)
 
-  turn_back : (met : List ℕ) (offset next : ℕ) → Walked met offset → (offset ≡ from → ⊥) → get links offset ≡ Some (Some next)
+  turn_back : (met : List ℕ) (offset next : ℕ) → Walked met offset → (offset ≡ from → ⊥)
+      → get links offset ≡ Some (Some next)
       → In next (offset ∷ met) → Decided offset
   turn_back met offset next w a g i =
-      inr (trapped (offset ∷ met) (apart_more met offset w a) (leads met offset next (offset ∷ met) w g i (λ q h. h)) offset (here offset met))
+      inr (trapped (offset ∷ met) (apart_more met offset w a) (leads met offset next (offset
+      ∷ met) w g i (λ q h. h)) offset (here offset met))
 
-  not_on : (offset next : ℕ) → (offset ≡ from → ⊥) → get links offset ≡ Some (Some next) → ((others : List ℕ) → Goes links next others from → ⊥) → (others : List ℕ) → Goes links offset others from → ⊥
+  not_on : (offset next : ℕ) → (offset ≡ from → ⊥) → get links offset ≡ Some (Some next)
+      → ((others : List ℕ) → Goes links next others from → ⊥) → (others : List ℕ)
+      → Goes links offset others from → ⊥
   not_on offset next a g h [] e = a e
   not_on offset next a g h (n ∷ others) e =
       let P : ℕ → Type 0 = λ k. Goes links k others from in
       h others (subst P (sym (next_of offset next n g e.0)) e.1)
 
-  go_on : (offset next : ℕ) → (offset ≡ from → ⊥) → get links offset ≡ Some (Some next) → Decided next → Decided offset
+  go_on : (offset next : ℕ) → (offset ≡ from → ⊥) → get links offset ≡ Some (Some next)
+      → Decided next → Decided offset
   go_on offset next a g (inl h) = inl (next ∷ h.0, (g, h.1))
   go_on offset next a g (inr h) = inr (not_on offset next a g h)
 
-  by_member : (b : Bool) (met : List ℕ) (offset next : ℕ) → list_any (nat_eq next) (offset ∷ met) ≡ b → Walked met offset → (offset ≡ from → ⊥)
-      → get links offset ≡ Some (Some next) → (list_any (nat_eq next) (offset ∷ met) ≡ false → Decided next) → Decided offset
+  by_member : (b : Bool) (met : List ℕ) (offset next : ℕ)
+      → list_any (nat_eq next) (offset ∷ met) ≡ b → Walked met offset → (offset ≡ from → ⊥)
+      → get links offset ≡ Some (Some next)
+      → (list_any (nat_eq next) (offset ∷ met) ≡ false → Decided next) → Decided offset
   by_member true met offset next h w a g rest = turn_back met offset next w a g h
   by_member false met offset next h w a g rest = go_on offset next a g (rest h)
 
   -- a decision for the next offset is also a decision for this one
   abbrev Rest : List ℕ → ℕ → Type 0
-  Rest met offset = (next : ℕ) → (offset ≡ from → ⊥) → get links offset ≡ Some (Some next) → list_any (nat_eq next) (offset ∷ met) ≡ false → Decided next
+  Rest met offset =
+      (next : ℕ) → (offset ≡ from → ⊥) → get links offset ≡ Some (Some next)
+      → list_any (nat_eq next) (offset ∷ met) ≡ false → Decided next
 
-  by_found : (x : Found) (met : List ℕ) (offset : ℕ) → get links offset ≡ x → Walked met offset → (offset ≡ from → ⊥) → Rest met offset → Decided offset
+  by_found : (x : Found) (met : List ℕ) (offset : ℕ) → get links offset ≡ x → Walked met offset
+      → (offset ≡ from → ⊥) → Rest met offset → Decided offset
   by_found None met offset e w a rest = inr (stuck offset None e (λ x. x) a)
   by_found (Some None) met offset e w a rest = inr (stuck offset (Some None) e (λ x. x) a)
   by_found (Some (Some next)) met offset e w a rest =
       by_member (list_any (nat_eq next) (offset ∷ met)) met offset next refl w a e (rest next a e)
 
-  by_here : (b : Bool) (met : List ℕ) (offset : ℕ) → nat_eq offset from ≡ b → Walked met offset → Rest met offset → Decided offset
+  by_here : (b : Bool) (met : List ℕ) (offset : ℕ) → nat_eq offset from ≡ b → Walked met offset
+      → Rest met offset → Decided offset
   by_here true met offset h w rest = inl ([], equal_numbers offset from h)
-  by_here false met offset h w rest = by_found (get links offset) met offset refl w (λ e. not_equal offset from h e) rest
+  by_here false met offset h w rest =
+      by_found (get links offset) met offset refl w (λ e. not_equal offset from h e) rest
 
-  walked_more : (met : List ℕ) (offset next : ℕ) → Walked met offset → (offset ≡ from → ⊥) → get links offset ≡ Some (Some next) → Walked (offset ∷ met) next
+  walked_more : (met : List ℕ) (offset next : ℕ) → Walked met offset → (offset ≡ from → ⊥)
+      → get links offset ≡ Some (Some next) → Walked (offset ∷ met) next
   walked_more met offset next w a g = record {
     apart = apart_more met offset w a;
-    on = leads met offset next (next ∷ offset ∷ met) w g (here next (offset ∷ met)) (λ q h. more q next (offset ∷ met) h);
+    on =
+        leads met offset next (next ∷ offset ∷ met) w g (here next (offset
+        ∷ met)) (λ q h. more q next (offset ∷ met) h);
   }
 
-  decide : (steps : ℕ) (met : List ℕ) (offset : ℕ) → most (entries links) ≤ steps + length met → Known (most (entries links)) met
+  decide : (steps : ℕ) (met : List ℕ) (offset : ℕ) → most (entries links) ≤ steps + length met
+      → Known (most (entries links)) met
       → list_any (nat_eq offset) met ≡ false → Walked met offset → Decided offset
   decide zero met offset f k n w =
       by_here (nat_eq offset from) met offset refl w (λ next a g m.
@@ -225,7 +268,8 @@ module _ (links : Links) (from : ℕ) where
       decide steps (offset ∷ met) next (omega (arith, f))
       (known_more (most (entries links)) offset met (linked_below links offset (Some next) g) n k) m (walked_more met offset next w a g))
 
-  decided_of : (to : ℕ) → Decided to → Closes links from (Some to) ⊎ (Closes links from (Some to) → ⊥)
+  decided_of : (to : ℕ) → Decided to
+      → Closes links from (Some to) ⊎ (Closes links from (Some to) → ⊥)
   decided_of to (inl h) = inl h
   decided_of to (inr h) = inr (λ c. h c.0 c.1)
 
@@ -237,18 +281,23 @@ module _ (links : Links) (from : ℕ) where
 
   -- one of the results
   abbrev Answered : Option ℕ → Type 0
-  Answered to = (answer : Result Bool TiffError) × (after : Links) × Inserts links from to answer after
+  Answered to =
+      (answer : Result Bool TiffError) × (after : Links) × Inserts links from to answer after
 
-  refused : (to : Option ℕ) → HasAnother links from (link_target to) ⊎ IsClosing links from (link_target to) → Answered to
+  refused : (to : Option ℕ) → HasAnother links from (link_target to)
+      ⊎ IsClosing links from (link_target to) → Answered to
   refused to h = (Err (FormatError CycleInOffsets), links, (refl, h, refl))
 
-  by_target : (to t : Option ℕ) → get links from ≡ Some t → (t ≡ link_target to) ⊎ (t ≡ link_target to → ⊥) → Answered to
+  by_target : (to t : Option ℕ) → get links from ≡ Some t
+      → (t ≡ link_target to) ⊎ (t ≡ link_target to → ⊥) → Answered to
   by_target to t g (inl h) = (Ok false, links, (g ∙ ap Some h, refl))
   by_target to t g (inr h) = refused to (inl (record { other = t; accepted = g; differs = h }))
 
-  by_closing : (to : Option ℕ) → get links from ≡ None → Closes links from (link_target to) ⊎ (Closes links from (link_target to) → ⊥) → Answered to
+  by_closing : (to : Option ℕ) → get links from ≡ None
+      → Closes links from (link_target to) ⊎ (Closes links from (link_target to) → ⊥) → Answered to
   by_closing to g (inl h) = refused to (inr (record { free = g; closes = h }))
-  by_closing to g (inr h) = (Ok true, insert links from (link_target to), (record { free = g; unclosed = h }, refl))
+  by_closing to g (inr h) =
+      (Ok true, insert links from (link_target to), (record { free = g; unclosed = h }, refl))
 
   by_look : (to : Option ℕ) (x : Found) → get links from ≡ x → Answered to
   by_look to None g = by_closing to g (closes_or_not (link_target to))

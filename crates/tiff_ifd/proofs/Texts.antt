@@ -22,12 +22,15 @@ left true y h = refl
 left false y h = h
 
 all_ascii : (bs : List ℕ) → list_all is_ascii_byte bs ≡ true → IsAscii bs
-all_ascii bs h = IsAscii-from_all bs (λ k d l. ascii_byte _ (AllPass-from_list_all is_ascii_byte bs h k d l))
+all_ascii bs h =
+    IsAscii-from_all bs (λ k d l. ascii_byte _ (AllPass-from_list_all is_ascii_byte bs h k d l))
 
 trimmed_is_utf8 : (bs : List ℕ) → IsAscii bs → is_utf8 (without_zeros bs) ≡ true
 trimmed_is_utf8 bs h =
     is_utf8-from_IsUtf8 (without_zeros bs) (IsUtf8-from_ascii (without_zeros bs) (IsAscii-take _ _ (IsAscii-drop bs (prefix_len is_zero bs) h)))
 
-pub inline_is_utf8 : (bs : List ℕ) → (list_all is_ascii_byte bs && is_zero (slice_index bs (length bs - 1))) ≡ true
-    → (if is_utf8 (without_zeros bs) then Ok (f.ascii (without_zeros bs)) else Err (FormatError InvalidTag)) ≡ inline_text bs
+pub inline_is_utf8 : (bs : List ℕ)
+    → (list_all is_ascii_byte bs && is_zero (slice_index bs (length bs - 1))) ≡ true
+    → (if is_utf8 (without_zeros bs) then
+    Ok (f.ascii (without_zeros bs)) else Err (FormatError InvalidTag)) ≡ inline_text bs
 inline_is_utf8 bs h = rw (h, trimmed_is_utf8 bs (all_ascii bs (left _ _ h))) refl

@@ -6,17 +6,20 @@ use Rattle.std.specs.FinMap.{find, get, insert, from_entries, get-insert, get-fr
 use Rattle.std.specs.Map.{lookup}
 use Rattle.std.specs.Ordering.{nat_cmp, is_eq}
 
-find_lookup : {X : Type 0} (q : ℕ) (es : List (ℕ × X)) → lookup (is_at (nat_cmp q)) es ≡ find nat_cmp q es
+find_lookup : {X : Type 0} (q : ℕ) (es : List (ℕ × X))
+    → lookup (is_at (nat_cmp q)) es ≡ find nat_cmp q es
 find_lookup q [] = refl
 find_lookup q (e ∷ es) = ap (cond (is_eq (nat_cmp q e.0)) (Some e.1)) (find_lookup q es)
 
 -- the map of a tree's entries has what the tree has
-pub get_of_tree : {X : Type 0} (q : ℕ) (es : List (ℕ × X)) → lookup (is_at (nat_cmp q)) es ≡ get (from_entries {R = nat_cmp} es) q
+pub get_of_tree : {X : Type 0} (q : ℕ) (es : List (ℕ × X))
+    → lookup (is_at (nat_cmp q)) es ≡ get (from_entries {R = nat_cmp} es) q
 get_of_tree q es = find_lookup q es ∙ sym (get-from_entries nat_cmp_total es q)
 
 -- to put an entry into a tree is to put it into the map
 pub insert_of_tree : {X : Type 0} (es fs : List (ℕ × X)) (k : ℕ) (v : X)
-    → ((q : ℕ) → lookup (is_at (nat_cmp q)) fs ≡ cond (is_at (nat_cmp k) q) (Some v) (lookup (is_at (nat_cmp q)) es))
+    → ((q : ℕ) → lookup (is_at (nat_cmp q)) fs
+    ≡ cond (is_at (nat_cmp k) q) (Some v) (lookup (is_at (nat_cmp q)) es))
     → from_entries {R = nat_cmp} fs ≡ insert (from_entries es) k v
 insert_of_tree es fs k v updates =
     same_map nat_cmp_total nat_cmp-IsAntisymmetric _ _

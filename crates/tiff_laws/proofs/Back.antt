@@ -17,12 +17,15 @@ use Rattle.tiff_decode.proofs.Pieces.{zero_in, behind, number_in, whole}
 
 -- the bytes of a number are the bytes that it was made of
 abbrev pub Returns : ℕ → Type 0
-Returns size = (piece : List ℕ) → length piece ≡ size → AreOctets piece → le size (number LittleEndian (width_of size) piece) ≡ piece
+Returns size =
+    (piece : List ℕ) → length piece ≡ size → AreOctets piece
+    → le size (number LittleEndian (width_of size) piece) ≡ piece
 
 pub returns_1 : Returns 1
 unfolding number
 returns_1 [] len octets = absurd (omega arith)
-returns_1 (b ∷ []) len octets = let e : b % 256 ≡ b = omega (arith, octets 0) in ap (λ (n : ℕ). n ∷ []) e
+returns_1 (b ∷ []) len octets =
+    let e : b % 256 ≡ b = omega (arith, octets 0) in ap (λ (n : ℕ). n ∷ []) e
 returns_1 (b ∷ c ∷ piece) len octets = absurd (omega arith)
 
 pub returns_2 : Returns 2
@@ -39,17 +42,23 @@ returns_8 piece len octets = le_bytes_8 piece _ len octets refl
 
 pub take_next : (m n : ℕ) (xs : List ℕ) → take m xs ++ take n (drop m xs) ≡ take (m + n) xs
 take_next m n xs =
-    sym (ap₂ ◌++◌ (take-take m (m + n) xs (omega arith)) (drop-take m n xs)) ∙ take-append-drop m (take (m + n) xs)
+    sym (ap₂ ◌++◌ (take-take m (m + n) xs (omega arith)) (drop-take m n xs))
+    ∙ take-append-drop m (take (m + n) xs)
 
-octets_in : (size : ℕ) (bytes : List ℕ) (n : ℕ) → AreOctets bytes → AreOctets (take size (drop (n * size) bytes))
+octets_in : (size : ℕ) (bytes : List ℕ) (n : ℕ) → AreOctets bytes
+    → AreOctets (take size (drop (n * size) bytes))
 octets_in size bytes n octets k =
     ⊎_elim
-    (λ (l : k < size). let e : get_or (take size (drop (n * size) bytes)) k 0 ≡ get_or bytes (n * size + k) 0 = get_or-take size (drop (n * size) bytes) k 0 l ∙ get_or-drop (n * size) bytes k 0 in
+    (λ (l : k < size). let e : get_or (take size (drop (n * size) bytes)) k 0
+    ≡ get_or bytes (n * size + k) 0 =
+    get_or-take size (drop (n * size) bytes) k 0 l ∙ get_or-drop (n * size) bytes k 0 in
     omega (arith, octets (n * size + k), e))
-    (λ (l : size ≤ k). let e : get_or (take size (drop (n * size) bytes)) k 0 ≡ 0 = get_or_past (take size (drop (n * size) bytes)) k 0 (omega (arith, length-take size (drop (n * size) bytes))) in omega (arith, e))
+    (λ (l : size ≤ k). let e : get_or (take size (drop (n * size) bytes)) k 0
+    ≡ 0 = get_or_past (take size (drop (n * size) bytes)) k 0 (omega (arith, length-take size (drop (n * size) bytes))) in omega (arith, e))
     (cases_lt k size)
 
-number_back : (size : ℕ) → Returns size → (bytes : List ℕ) → AreOctets bytes → (n : ℕ) → n * size + size ≤ length bytes
+number_back : (size : ℕ) → Returns size → (bytes : List ℕ) → AreOctets bytes → (n : ℕ)
+    → n * size + size ≤ length bytes
     → le size (number_in size bytes n) ≡ take size (drop (n * size) bytes)
 number_back size returns bytes octets n h =
     let piece : List ℕ = take size (drop (n * size) bytes) in
@@ -57,9 +66,11 @@ number_back size returns bytes octets n h =
     ∙ returns piece (length-take-le size (drop (n * size) bytes) (omega (arith, length-drop (n * size) bytes))) (octets_in size bytes n octets)
 
 -- whole numbers have the bytes that they were made of
-pub each_back : (size : ℕ) → Returns size → (bytes : List ℕ) → AreOctets bytes → (n : ℕ) → n * size ≤ length bytes
+pub each_back : (size : ℕ) → Returns size → (bytes : List ℕ) → AreOctets bytes → (n : ℕ)
+    → n * size ≤ length bytes
     → flat_map (le size) (tabulate n (number_in size bytes)) ≡ take (n * size) bytes
-each_back size returns bytes octets zero h = let e : 0 ≡ 0 * size = omega arith in ap (λ (k : ℕ). take k bytes) e
+each_back size returns bytes octets zero h =
+    let e : 0 ≡ 0 * size = omega arith in ap (λ (k : ℕ). take k bytes) e
 each_back size returns bytes octets (suc n) h =
     let more : suc n ≡ n + 1 = omega arith in
     let len : n * size + size ≡ suc n * size = omega arith in
@@ -81,9 +92,12 @@ filled_back size returns bytes octets len =
     let missing : ℕ = (size - length bytes % size) % size in
     let all : List ℕ = whole_numbers size bytes in
     let count : ℕ = div_ceil (length bytes) size in
-    let same : (k : ℕ) → get_or all k 0 ≡ get_or bytes k 0 = λ k. behind bytes (replicate missing 0) k (zero_in missing) in
+    let same : (k : ℕ) → get_or all k 0 ≡ get_or bytes k 0 =
+    λ k. behind bytes (replicate missing 0) k (zero_in missing) in
     let all_octets : AreOctets all = λ k. omega (arith, same k, octets k) in
-    let all_len : length all ≡ count * size = length-append bytes (replicate missing 0) ∙ ap (λ (n : ℕ). length bytes + n) (length-replicate missing 0) ∙ len in
+    let all_len : length all ≡ count * size =
+    length-append bytes (replicate missing 0)
+    ∙ ap (λ (n : ℕ). length bytes + n) (length-replicate missing 0) ∙ len in
     (λ i. flat_map (le size) (tabulate count (λ n. number LittleEndian (width_of size) (tabulate size (λ j. sym (same (n * size + j)) i)))))
     ∙ each_back size returns all all_octets count (omega (arith, all_len))
     ∙ take_all (count * size) all (omega (arith, all_len))

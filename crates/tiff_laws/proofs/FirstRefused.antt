@@ -21,13 +21,18 @@ use Rattle.tiff_laws.proofs.WhereChunks.{fault_of, chunk_layout, chunk_laid, chu
 
 -- ---- refused reads
 
-pub fault_first : (r : Result (Unit {0}) TiffError) (x : List ℕ) (e : TiffError) → (r >>= (λ _. Ok x)) ≡ Err e → r ≡ Err e
+pub fault_first : (r : Result (Unit {0}) TiffError) (x : List ℕ) (e : TiffError)
+    → (r >>= (λ _. Ok x)) ≡ Err e → r ≡ Err e
 fault_first (Ok u) x e h = cc
 fault_first (Err f) x e h = cc
 
-module _ (file : List ℕ) (order : ByteOrder) (p : PageRecord) (limits : Limits) (width height : ℕ) (part : LayoutRecord → Part) (buf : List ℕ) (l : LayoutRecord) (whole : planes_layout p width height ≡ Ok l) (room : l.plane_stride ≤ length buf) where
+module _ (file : List ℕ) (order : ByteOrder) (p : PageRecord) (limits : Limits) (width height : ℕ)
+    (part : LayoutRecord → Part) (buf : List ℕ) (l : LayoutRecord)
+    (whole : planes_layout p width height ≡ Ok l) (room : l.plane_stride ≤ length buf) where
   abbrev answer : Result (List ℕ) TiffError
-  answer = planes_layout p width height >>= (λ l. room_fault (length buf) l.plane_stride >>= (λ _. fill_buffer file order p limits l.color (part l) buf))
+  answer =
+      planes_layout p width height >>= (λ l. room_fault (length buf) l.plane_stride
+      >>= (λ _. fill_buffer file order p limits l.color (part l) buf))
 
   abbrev none_or : Result (Unit {0}) TiffError
   none_or = part_fault file order p limits l.color (part l)
@@ -35,15 +40,19 @@ module _ (file : List ℕ) (order : ByteOrder) (p : PageRecord) (limits : Limits
   -- with a layout and room, the result is the error of the part, or bytes
   answer_is : answer ≡ (none_or >>= (λ _. Ok (bytes_with_region file order p l.color (part l).region (part l).stride (part l).planes buf)))
   unfolding fill_buffer
-  answer_is = let a : room_fault (length buf) l.plane_stride ≡ Ok tt = has_room (length buf) l.plane_stride room in rw (whole, a) refl
+  answer_is =
+      let a : room_fault (length buf) l.plane_stride ≡ Ok tt =
+      has_room (length buf) l.plane_stride room in rw (whole, a) refl
 
   pub refusal_of : (e : TiffError) → answer ≡ Err e → none_or ≡ Err e
-  refusal_of e h = fault_first none_or (bytes_with_region file order p l.color (part l).region (part l).stride (part l).planes buf) e (sym answer_is ∙ h)
+  refusal_of e h =
+      fault_first none_or (bytes_with_region file order p l.color (part l).region (part l).stride (part l).planes buf) e (sym answer_is ∙ h)
 
   pub refusal_by : (e : TiffError) → none_or ≡ Err e → answer ≡ Err e
   refusal_by e h = answer_is ∙ rw h refl
 
-module _ (within_image : ChunksWithin) (d : Decoding) (sides : HasSides d.state.page) (l : LayoutRecord) (whole : planes_layout d.state.page d.state.page.width d.state.page.height ≡ Ok l) where
+module _ (within_image : ChunksWithin) (d : Decoding) (sides : HasSides d.state.page)
+    (l : LayoutRecord) (whole : planes_layout d.state.page d.state.page.width d.state.page.height ≡ Ok l) where
   abbrev page : PageRecord
   page = d.state.page
 
@@ -58,7 +67,8 @@ module _ (within_image : ChunksWithin) (d : Decoding) (sides : HasSides d.state.
   unfolding outcome.read_chunk_bytes pixels.read_chunk_bytes
   chunk_refused i e h part room =
       refusal_by d.bytes d.order page d.state.limits (rect page i).width (rect page i).height (into i) part
-      (chunk_layout page l sides whole i (within_image page i sides)) (chunk_laid page l sides whole i (within_image page i sides)) room e
+      (chunk_layout page l sides whole i (within_image page i sides))
+      (chunk_laid page l sides whole i (within_image page i sides)) room e
       (one_fault d.bytes d.order page d.state.limits l.color i (chunk_row page l i) ∙ h)
 
   abbrev some_part : ℕ → List ℕ
@@ -72,12 +82,15 @@ module _ (within_image : ChunksWithin) (d : Decoding) (sides : HasSides d.state.
   unfolding outcome.read_chunk_bytes pixels.read_chunk_bytes
   fault_is i e h =
       sym (one_fault d.bytes d.order page d.state.limits l.color i (chunk_row page l i))
-      ∙ refusal_of d.bytes d.order page d.state.limits (rect page i).width (rect page i).height (into i) (some_part i)
-      (chunk_layout page l sides whole i (within_image page i sides)) (chunk_laid page l sides whole i (within_image page i sides)) (has_part i) e
+      ∙ refusal_of d.bytes d.order page d.state.limits (rect page i).width (rect page i).height
+      (into i) (some_part i)
+      (chunk_layout page l sides whole i (within_image page i sides))
+      (chunk_laid page l sides whole i (within_image page i sides)) (has_part i) e
       (h (some_part i) (has_part i))
 
   pub none_is : (no_fault : NoFault) (i : ℕ) → IsChunkRead d l i → fault i ≡ Ok tt
-  none_is no_fault i h = chunk_none within_image no_fault d sides l whole i (some_part i) (h (some_part i) (has_part i))
+  none_is no_fault i h =
+      chunk_none within_image no_fault d sides l whole i (some_part i) (h (some_part i) (has_part i))
 
   module _ (no_fault : NoFault) (first_fault : FirstFault) (used s : ℕ) where
     abbrev c : ℕ
@@ -92,20 +105,26 @@ module _ (within_image : ChunksWithin) (d : Decoding) (sides : HasSides d.state.
     at_chunk : (j plane : ℕ) → of_chunk j plane ≡ fault (plane * c + j)
     at_chunk j plane = let e : 0 + j ≡ j = omega arith in ap (λ (z : ℕ). fault (plane * c + z)) e
 
-    pub first_of : (e : TiffError) → part_fault d.bytes d.order page d.state.limits l.color (image_part page used s) ≡ Err e
+    pub first_of : (e : TiffError)
+        → part_fault d.bytes d.order page d.state.limits l.color (image_part page used s) ≡ Err e
         → (plane k : ℕ) × IsFirstRefused d l used plane k e
     first_of e h =
         let a : (k : ℕ) × ((k < c) × IsFirst of_column k e) = (first_fault of_column c e).0 h in
         let k : ℕ = a.0 in
-        let b : (m : ℕ) × ((m < used) × IsFirst (of_chunk k) m e) = (first_fault (of_chunk k) used e).0 a.1.1.found in (
+        let b : (m : ℕ) × ((m < used) × IsFirst (of_chunk k) m e) =
+        (first_fault (of_chunk k) used e).0 a.1.1.found in (
           b.0,
           k,
           record {
             used = b.1.0;
             of_plane = a.1.0;
             refused = chunk_refused (b.0 * c + k) e (sym (at_chunk k b.0) ∙ b.1.1.found);
-            before = λ n j nl jl. chunk_read within_image no_fault d sides l whole (n * c + j) (sym (at_chunk j n) ∙ (no_fault (of_chunk j) used).0 (a.1.1.none j jl) n nl);
-            above = λ n nl. chunk_read within_image no_fault d sides l whole (n * c + k) (sym (at_chunk k n) ∙ b.1.1.none n nl);
+            before =
+                λ n j nl jl. chunk_read within_image no_fault d sides l whole (n * c
+                + j) (sym (at_chunk j n) ∙ (no_fault (of_chunk j) used).0 (a.1.1.none j jl) n nl);
+            above =
+                λ n nl. chunk_read within_image no_fault d sides l whole (n * c
+                + k) (sym (at_chunk k n) ∙ b.1.1.none n nl);
           },
         )
 
@@ -119,7 +138,9 @@ module _ (within_image : ChunksWithin) (d : Decoding) (sides : HasSides d.state.
         }) in
         (first_fault of_column c e).1 k is.of_plane (record {
           found = found;
-          none = λ j jl. (no_fault (of_chunk j) used).1 (λ n nl. at_chunk j n ∙ none_is no_fault (n * c + j) (is.before n j nl jl));
+          none =
+              λ j jl. (no_fault (of_chunk j) used).1 (λ n nl. at_chunk j n
+              ∙ none_is no_fault (n * c + j) (is.before n j nl jl));
         })
 
 module _ (within_image : ChunksWithin) (no_fault : NoFault) (first_fault : FirstFault) where
@@ -127,7 +148,8 @@ module _ (within_image : ChunksWithin) (no_fault : NoFault) (first_fault : First
   unfolding outcome.read_image_bytes pixels.read_image_bytes
   refused_where_chunks d l buf e sides room =
       let p : PageRecord = d.state.page in
-      let to : LayoutRecord → Part = λ layout. image_part p (planes_used p layout (length buf)) layout.row_bytes in
+      let to : LayoutRecord → Part =
+      λ layout. image_part p (planes_used p layout (length buf)) layout.row_bytes in
       let used : ℕ = planes_used p l (length buf) in (
         λ h. first_of within_image d sides l room.laid no_fault first_fault used l.row_bytes e
             (refusal_of d.bytes d.order p d.state.limits p.width p.height to buf l room.laid room.room e h),

@@ -20,35 +20,40 @@ use Rattle.tiff_laws.specs.Whole.{EachUsed, HasRoom, IsChunkRead, IsLayout, IsMa
 use Rattle.tiff_laws.proofs.Laid.{IsLaid, IsReadInto, laid, planes_laid, read_gives}
 use Rattle.tiff_laws.proofs.WhereChunks.{ok_or, is_good}
 
-pub none_found : (a b : Bool) (x v : ℕ) → (a ≡ false) ⊎ (b ≡ false) → unwrap_or (if a && b then Some x else None) v ≡ v
+pub none_found : (a b : Bool) (x v : ℕ) → (a ≡ false) ⊎ (b ≡ false)
+    → unwrap_or (if a && b then Some x else None) v ≡ v
 none_found false b x v h = refl
 none_found true false x v h = refl
 none_found true true x v (inl h) = cc
 none_found true true x v (inr h) = cc
 
 -- after the planes there is no byte of the region
-pub none_at : (file : List ℕ) (order : ByteOrder) (p : PageRecord) (color : ColorType) (region : Region) (stride planes at v : ℕ)
+pub none_at : (file : List ℕ) (order : ByteOrder) (p : PageRecord) (color : ColorType)
+    (region : Region) (stride planes at v : ℕ)
     → (planes ≤ at / (stride * region.height)) ⊎ (row_bytes p color region.width ≤ at % stride)
     → unwrap_or (byte_at file order p color region stride planes at) v ≡ v
 unfolding byte_at
 none_at file order p color region stride planes at v h =
     let plane : ℕ = at / (stride * region.height) in
     none_found (nat_lt plane planes) (nat_lt (at % stride) (row_bytes p color region.width))
-    (region_byte file order p color region (region.plane + plane) (at % (stride * region.height) / stride) (at % stride)) v
+    (region_byte file order p color region (region.plane
+    + plane) (at % (stride * region.height) / stride) (at % stride)) v
     (⊎_elim
     (λ (a : planes ≤ plane). inl (le-ltb plane planes a))
     (λ (b : row_bytes p color region.width ≤ at % stride). inr (le-ltb (at % stride) (row_bytes p color region.width) b))
     h)
 
 -- a position after the planes is past them, or past its row
-pub past : (s h planes at row : ℕ) → 0 < h → s ≡ row → planes * (s * h) ≤ at → (planes ≤ at / (s * h)) ⊎ (row ≤ at % s)
+pub past : (s h planes at row : ℕ) → 0 < h → s ≡ row → planes * (s * h) ≤ at
+    → (planes ≤ at / (s * h)) ⊎ (row ≤ at % s)
 past s h planes at row some e l =
     ⊎_elim
     (λ (t : 0 < s). inl ((le-div_iff_mul-le {k = s * h} {x = planes} {y = at} (one-le-mul t some)).1 l))
     (λ (t : s ≤ 0). inr (omega (arith, t, e)))
     (cases_lt 0 s)
 
-module _ (placed_each : PlacedEach) (file : List ℕ) (order : ByteOrder) (p : PageRecord) (limits : Limits) (l : LayoutRecord) (sides : HasSides p) (given : layout_of p p.width p.height ≡ Ok l) (buf image : List ℕ) where
+module _ (placed_each : PlacedEach) (file : List ℕ) (order : ByteOrder) (p : PageRecord)
+    (limits : Limits) (l : LayoutRecord) (sides : HasSides p) (given : layout_of p p.width p.height ≡ Ok l) (buf image : List ℕ) where
   abbrev count : ℕ
   count = planes_used p l (length buf)
 
@@ -60,32 +65,41 @@ module _ (placed_each : PlacedEach) (file : List ℕ) (order : ByteOrder) (p : P
     all = bytes_with_region file order p l.color (image_region p) l.row_bytes count buf
 
     pub as_long : length image ≡ length buf
-    as_long = ap length read.filled.bytes ∙ (placed_each file order p l.color (image_region p) l.row_bytes count buf).0
+    as_long =
+        ap length read.filled.bytes ∙ (placed_each file order p l.color (image_region p) l.row_bytes count buf).0
 
-    pub stays : (at : ℕ) → count * l.plane_stride ≤ at → at < length buf → slice_index image at ≡ slice_index buf at
+    pub stays : (at : ℕ) → count * l.plane_stride ≤ at → at < length buf
+        → slice_index image at ≡ slice_index buf at
     stays at above below =
         let is : IsLaid p p.width p.height l = laid p p.width p.height l given in
-        let stride : l.plane_stride ≡ l.row_bytes * p.height = is.stride ∙ ap (λ (z : ℕ). z * p.height) (sym is.rows) in
-        let over : count * (l.row_bytes * p.height) ≤ at = subst (λ (z : ℕ). count * z ≤ at) stride above in
+        let stride : l.plane_stride ≡ l.row_bytes * p.height =
+        is.stride ∙ ap (λ (z : ℕ). z * p.height) (sym is.rows) in
+        let over : count * (l.row_bytes * p.height) ≤ at =
+        subst (λ (z : ℕ). count * z ≤ at) stride above in
         ap (λ (z : List ℕ). slice_index z at) read.filled.bytes
         ∙ (placed_each file order p l.color (image_region p) l.row_bytes count buf).1 at below
         ∙ none_at file order p l.color (image_region p) l.row_bytes count at (slice_index buf at)
         (past l.row_bytes p.height count at (row_bytes p l.color p.width) sides.high is.rows over)
 
 module _ (placed_each : PlacedEach) (plane_of_chunks : PlaneOfChunks) (planes_covered : PlanesCovered) where
-  image_byte : (d : Decoding) (l : LayoutRecord) (buf image made : List ℕ) → HasSides d.state.page → IsLayout d.state.page l
+  image_byte : (d : Decoding) (l : LayoutRecord) (buf image made : List ℕ) → HasSides d.state.page
+      → IsLayout d.state.page l
       → (outcome.read_image_bytes d buf).answer ≡ Ok image → IsMadeOfChunks d l buf made
-      → (at : ℕ) → at < planes_used d.state.page l (length buf) * l.plane_stride → slice_index made at ≡ slice_index image at
+      → (at : ℕ) → at < planes_used d.state.page l (length buf) * l.plane_stride
+      → slice_index made at ≡ slice_index image at
   image_byte d l buf image made sides given read is at below =
       let p : PageRecord = d.state.page in
-      let of : ByteIsOfChunk p l (planes_used p l (length buf)) at = planes_covered p l (planes_used p l (length buf)) at sides given below in
+      let of : ByteIsOfChunk p l (planes_used p l (length buf)) at =
+      planes_covered p l (planes_used p l (length buf)) at sides given below in
       let one = is.placed of.chunk of.used in
-      let e : slice_index image (at_image p l of.chunk of.row of.byte) ≡ slice_index made (at_image p l of.chunk of.row of.byte) =
+      let e : slice_index image (at_image p l of.chunk of.row of.byte)
+      ≡ slice_index made (at_image p l of.chunk of.row of.byte) =
       (plane_of_chunks d l buf image one.0 one.1 of.chunk sides given of.used read one.2.0).each of.row of.byte of.in_chunk of.in_row
       ∙ sym (one.2.1.each of.row of.byte of.in_chunk of.in_row) in
       ap (slice_index made) of.here ∙ sym e ∙ sym (ap (slice_index image) of.here)
 
-  module _ (d : Decoding) (l : LayoutRecord) (buf image : List ℕ) (sides : HasSides d.state.page) (given : IsLayout d.state.page l) (read : (outcome.read_image_bytes d buf).answer ≡ Ok image) where
+  module _ (d : Decoding) (l : LayoutRecord) (buf image : List ℕ) (sides : HasSides d.state.page)
+      (given : IsLayout d.state.page l) (read : (outcome.read_image_bytes d buf).answer ≡ Ok image) where
     abbrev page : PageRecord
     page = d.state.page
 
@@ -95,14 +109,18 @@ module _ (placed_each : PlacedEach) (plane_of_chunks : PlaneOfChunks) (planes_co
     is_read : IsReadInto d.bytes d.order page d.state.limits page.width page.height to buf image l
     unfolding outcome.read_image_bytes pixels.read_image_bytes
     is_read =
-        let a = read_gives d.bytes d.order page d.state.limits page.width page.height to buf image read in
-        let same : a.0 ≡ l = ok_is a.0 l (sym (planes_laid page page.width page.height a.0 a.1.laid).0 ∙ given) in
+        let a =
+        read_gives d.bytes d.order page d.state.limits page.width page.height to buf image read in
+        let same : a.0 ≡ l =
+        ok_is a.0 l (sym (planes_laid page page.width page.height a.0 a.1.laid).0 ∙ given) in
         subst (IsReadInto d.bytes d.order page d.state.limits page.width page.height to buf image) same a.1
 
     length_is : length image ≡ length buf
-    length_is = as_long placed_each d.bytes d.order page d.state.limits l sides given buf image is_read
+    length_is =
+        as_long placed_each d.bytes d.order page d.state.limits l sides given buf image is_read
 
-    past_is : (at : ℕ) → planes_used page l (length buf) * l.plane_stride ≤ at → at < length buf → slice_index image at ≡ slice_index buf at
+    past_is : (at : ℕ) → planes_used page l (length buf) * l.plane_stride ≤ at → at < length buf
+        → slice_index image at ≡ slice_index buf at
     past_is = stays placed_each d.bytes d.order page d.state.limits l sides given buf image is_read
 
     -- what the chunks make is the image
@@ -113,7 +131,8 @@ module _ (placed_each : PlacedEach) (plane_of_chunks : PlaneOfChunks) (planes_co
         let here : at < length buf = omega (arith, under, is.long) in
         ⊎_elim
         (λ (below : at < planes_used page l (length buf) * l.plane_stride). image_byte d l buf image made sides given read is at below)
-        (λ (above : planes_used page l (length buf) * l.plane_stride ≤ at). is.stays at above here ∙ sym (past_is at above here))
+        (λ (above : planes_used page l (length buf) * l.plane_stride ≤ at). is.stays at above here
+        ∙ sym (past_is at above here))
         (cases_lt at (planes_used page l (length buf) * l.plane_stride)))
 
     -- the image is made of the chunks
@@ -122,7 +141,8 @@ module _ (placed_each : PlacedEach) (plane_of_chunks : PlaneOfChunks) (planes_co
       long = length_is;
       placed = λ i below.
           let part : List ℕ = replicate (chunk_byte_count page l i) 0 in
-          let room : chunk_byte_count page l i ≤ length part = omega (arith, length-replicate {A = ℕ} (chunk_byte_count page l i) 0) in
+          let room : chunk_byte_count page l i ≤ length part =
+          omega (arith, length-replicate {A = ℕ} (chunk_byte_count page l i) 0) in
           let bytes = ok_or (outcome.read_chunk_bytes d i part).answer (each i below part room) in
           (part, bytes.0, (bytes.1, plane_of_chunks d l buf image part bytes.0 i sides given below read bytes.1));
       stays = past_is;
@@ -130,10 +150,13 @@ module _ (placed_each : PlacedEach) (plane_of_chunks : PlaneOfChunks) (planes_co
 
   module _ (read_where_chunks : ReadWhereChunks) where
     -- each chunk of an image that is read is read
-    each_read : (d : Decoding) (l : LayoutRecord) (buf image : List ℕ) → HasSides d.state.page → HasRoom d.state.page l (length buf)
-        → (outcome.read_image_bytes d buf).answer ≡ Ok image → EachUsed d.state.page l (length buf) (IsChunkRead d l)
+    each_read : (d : Decoding) (l : LayoutRecord) (buf image : List ℕ) → HasSides d.state.page
+        → HasRoom d.state.page l (length buf)
+        → (outcome.read_image_bytes d buf).answer ≡ Ok image
+        → EachUsed d.state.page l (length buf) (IsChunkRead d l)
     each_read d l buf image sides room read =
-        let w = (read_where_chunks d buf sides).0 (is_good (outcome.read_image_bytes d buf).answer image read) in
+        let w =
+        (read_where_chunks d buf sides).0 (is_good (outcome.read_image_bytes d buf).answer image read) in
         let same : w.0 ≡ l = ok_is w.0 l (sym w.1.0.laid ∙ room.laid) in
         subst (λ (z : LayoutRecord). EachUsed d.state.page z (length buf) (IsChunkRead d z)) same w.1.1
 

@@ -30,15 +30,18 @@ use Rattle.tiff_laws.proofs.Laid.{laid, planes_laid}
 use Rattle.tiff_laws.proofs.WhereChunks.{has_room}
 
 -- two chains that go on in the same way
-pub same_after : {A B : Type 0} (r : Result A TiffError) (f g : A → Result B TiffError) → ((x : A) → r ≡ Ok x → f x ≡ g x) → (r >>= f) ≡ (r >>= g)
+pub same_after : {A B : Type 0} (r : Result A TiffError) (f g : A → Result B TiffError)
+    → ((x : A) → r ≡ Ok x → f x ≡ g x) → (r >>= f) ≡ (r >>= g)
 same_after (Ok x) f g h = h x refl
 same_after (Err e) f g h = refl
 
-planes_some : (planar : PlanarConfiguration) (c : ColorType) → 0 < num_samples c → 0 < planes planar c
+planes_some : (planar : PlanarConfiguration) (c : ColorType) → 0 < num_samples c
+    → 0 < planes planar c
 planes_some Chunky c h = omega arith
 planes_some Planar c h = h
 
-pub all_or_one : (b : Bool) (all : ℕ) → 0 < all → (0 < (if b then all else 1)) × ((if b then all else 1) ≤ all)
+pub all_or_one : (b : Bool) (all : ℕ) → 0 < all
+    → (0 < (if b then all else 1)) × ((if b then all else 1) ≤ all)
 all_or_one true all h = (h, omega arith)
 all_or_one false all h = (omega arith, omega (arith, h))
 
@@ -49,13 +52,19 @@ used_of all used size l some =
     let b : size * used / size ≡ used = ap (λ (z : ℕ). z / size) a ∙ div-mul-add used size 0 some in
     omega (arith, b, l)
 
-module _ (file : List ℕ) (order : ByteOrder) (p : PageRecord) (limits : Limits) (width height : ℕ) (part : LayoutRecord → Part) (buf : List ℕ) (l : LayoutRecord) (whole : planes_layout p width height ≡ Ok l) (room : l.plane_stride ≤ length buf) where
+module _ (file : List ℕ) (order : ByteOrder) (p : PageRecord) (limits : Limits) (width height : ℕ)
+    (part : LayoutRecord → Part) (buf : List ℕ) (l : LayoutRecord)
+    (whole : planes_layout p width height ≡ Ok l) (room : l.plane_stride ≤ length buf) where
   -- with a layout and room, a slice is filled
-  pub fills_part : (planes_layout p width height >>= (λ l. room_fault (length buf) l.plane_stride >>= (λ _. fill_buffer file order p limits l.color (part l) buf)))
+  pub fills_part : (planes_layout p width height
+      >>= (λ l. room_fault (length buf) l.plane_stride >>= (λ _. fill_buffer file order p limits l.color (part l) buf)))
       ≡ fill_buffer file order p limits l.color (part l) buf
-  fills_part = let a : room_fault (length buf) l.plane_stride ≡ Ok tt = has_room (length buf) l.plane_stride room in rw (whole, a) refl
+  fills_part =
+      let a : room_fault (length buf) l.plane_stride ≡ Ok tt =
+      has_room (length buf) l.plane_stride room in rw (whole, a) refl
 
-module _ (some_bytes : SomeBytes) (d : Decoding) (sides : HasSides d.state.page) (has : HasSamples d.state.page) (l : LayoutRecord) (whole : planes_layout d.state.page d.state.page.width d.state.page.height ≡ Ok l) where
+module _ (some_bytes : SomeBytes) (d : Decoding) (sides : HasSides d.state.page)
+    (has : HasSamples d.state.page) (l : LayoutRecord) (whole : planes_layout d.state.page d.state.page.width d.state.page.height ≡ Ok l) where
   abbrev p : PageRecord
   p = d.state.page
 
@@ -63,11 +72,13 @@ module _ (some_bytes : SomeBytes) (d : Decoding) (sides : HasSides d.state.page)
   given = (planes_laid p p.width p.height l whole).0
 
   pub some_plane : 0 < l.plane_stride
-  some_plane = (some_bytes p p.width p.height l sides.wide sides.high has.has_bits has.sampled given).1
+  some_plane =
+      (some_bytes p p.width p.height l sides.wide sides.high has.has_bits has.sampled given).1
 
   pub all_some : 0 < planes p.planar l.color
   all_some =
-      let shows : 0 < num_samples l.color = subst Shows (laid p p.width p.height l given).color (color_shows p has.sampled) in
+      let shows : 0 < num_samples l.color =
+      subst Shows (laid p p.width p.height l given).color (color_shows p has.sampled) in
       planes_some p.planar l.color shows
 
   module _ (used : ℕ) (some : 0 < used) (few : used ≤ planes p.planar l.color) where
@@ -79,25 +90,32 @@ module _ (some_bytes : SomeBytes) (d : Decoding) (sides : HasSides d.state.page)
 
     room : l.plane_stride ≤ length zeros
     room =
-        let a : 1 * l.plane_stride ≤ used * l.plane_stride = mul-le-mul_right l.plane_stride (omega (arith, some)) in
+        let a : 1 * l.plane_stride ≤ used * l.plane_stride =
+        mul-le-mul_right l.plane_stride (omega (arith, some)) in
         omega (arith, a, long, mul_comm l.plane_stride used)
 
     used_is : planes_used p l (length zeros) ≡ used
-    used_is = ap (λ (z : ℕ). min (planes p.planar l.color) (z / l.plane_stride)) long ∙ used_of (planes p.planar l.color) used l.plane_stride few some_plane
+    used_is =
+        ap (λ (z : ℕ). min (planes p.planar l.color) (z / l.plane_stride)) long
+        ∙ used_of (planes p.planar l.color) used l.plane_stride few some_plane
 
-    pub bytes_are : image_read d zeros ≡ fill_buffer d.bytes d.order p d.state.limits l.color (image_part p used l.row_bytes) zeros
+    pub bytes_are : image_read d zeros
+        ≡ fill_buffer d.bytes d.order p d.state.limits l.color (image_part p used l.row_bytes) zeros
     unfolding outcome.read_image_bytes pixels.read_image_bytes
     bytes_are =
         fills_part d.bytes d.order p d.state.limits p.width p.height (λ layout. image_part p (planes_used p layout (length zeros)) layout.row_bytes) zeros l whole room
         ∙ (λ k. fill_buffer d.bytes d.order p d.state.limits l.color (image_part p (used_is k) l.row_bytes) zeros)
 
-    pub numbers_are : samples d.bytes d.order p d.state.limits l.color (image_part p used l.row_bytes) (l.plane_stride * used)
+    pub numbers_are : samples d.bytes d.order p d.state.limits l.color
+        (image_part p used l.row_bytes) (l.plane_stride * used)
         ≡ numbers_by d (image_read d) (l.plane_stride * used)
     unfolding samples
-    numbers_are = ap (λ (r : Result (List ℕ) TiffError). numbers_by d (λ _. r) (l.plane_stride * used)) (sym bytes_are)
+    numbers_are =
+        ap (λ (r : Result (List ℕ) TiffError). numbers_by d (λ _. r) (l.plane_stride * used)) (sym bytes_are)
 
   -- one plane
-  pub first_numbers : samples d.bytes d.order p d.state.limits l.color (image_part p 1 l.row_bytes) l.plane_stride
+  pub first_numbers : samples d.bytes d.order p d.state.limits l.color
+      (image_part p 1 l.row_bytes) l.plane_stride
       ≡ numbers_by d (image_read d) l.plane_stride
   first_numbers =
       let e : l.plane_stride * 1 ≡ l.plane_stride = omega arith in
@@ -105,11 +123,13 @@ module _ (some_bytes : SomeBytes) (d : Decoding) (sides : HasSides d.state.page)
       (numbers_are 1 (omega arith) (omega (arith, all_some)))
 
   -- the planes within the limit
-  pub let_numbers : samples d.bytes d.order p d.state.limits l.color (image_part p (planes_let d l) l.row_bytes) (l.plane_stride * planes_let d l)
+  pub let_numbers : samples d.bytes d.order p d.state.limits l.color
+      (image_part p (planes_let d l) l.row_bytes) (l.plane_stride * planes_let d l)
       ≡ numbers_by d (image_read d) (l.plane_stride * planes_let d l)
   let_numbers =
       let all : ℕ = planes p.planar l.color in
-      let a = all_or_one (nat_le (l.plane_stride * all) d.state.limits.decoding_buffer_size) all all_some in
+      let a =
+      all_or_one (nat_le (l.plane_stride * all) d.state.limits.decoding_buffer_size) all all_some in
       numbers_are (planes_let d l) a.0 a.1
 
 pub image_by : SomeBytes → ImageByBytes
@@ -125,11 +145,14 @@ pub buffer_by : SomeBytes → BufferByBytes
 unfolding outcome.read_image_to_buffer pixels.read_image_to_buffer
 buffer_by some_bytes d sides has =
     let p : PageRecord = d.state.page in
-    let named : LayoutRecord → Decoded → Result (BufferLayoutPreference × Decoded) TiffError = λ l numbers. Ok (all_planes p l, numbers) in
+    let named : LayoutRecord → Decoded → Result (BufferLayoutPreference × Decoded) TiffError =
+    λ l numbers. Ok (all_planes p l, numbers) in
     same_after (planes_layout p p.width p.height)
     (λ (l : LayoutRecord). samples d.bytes d.order p d.state.limits l.color (image_part p (planes_let d l) l.row_bytes) (l.plane_stride * planes_let d l) >>= named l)
-    (λ (l : LayoutRecord). numbers_by d (image_read d) (l.plane_stride * planes_let d l) >>= named l)
-    (λ l whole. ap (λ (r : Result Decoded TiffError). r >>= named l) (let_numbers some_bytes d sides has l whole))
+    (λ (l : LayoutRecord). numbers_by d (image_read d) (l.plane_stride * planes_let d l)
+    >>= named l)
+    (λ l whole. ap (λ (r : Result Decoded TiffError). r
+    >>= named l) (let_numbers some_bytes d sides has l whole))
 
 pub chunk_by : ChunkByBytes
 unfolding outcome.read_chunk outcome.read_chunk_bytes pixels.read_chunk pixels.read_chunk_bytes samples
@@ -141,6 +164,7 @@ chunk_by d i =
     (λ (l : LayoutRecord). numbers_by d (chunk_read d i) l.plane_stride)
     (λ l whole.
     let zeros : List ℕ = replicate l.plane_stride 0 in
-    let room : l.plane_stride ≤ length zeros = omega (arith, length-replicate {A = ℕ} l.plane_stride 0) in
+    let room : l.plane_stride ≤ length zeros =
+    omega (arith, length-replicate {A = ℕ} l.plane_stride 0) in
     ap (λ (r : Result (List ℕ) TiffError). numbers_by d (λ _. r) l.plane_stride)
     (sym (fills_part d.bytes d.order p d.state.limits (rect p i).width (rect p i).height into zeros l whole room)))

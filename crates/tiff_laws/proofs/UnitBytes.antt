@@ -47,29 +47,44 @@ module _ (n h s k : ℕ) (below : k < s * h) where
   pub is_at : n * (s * h) + k ≡ (n * h + k / s) * s + k % s
   is_at =
       let e : k / s * s + k % s ≡ k = div-add-mod' k s in
-      let f : (n * h + k / s) * s + k % s ≡ n * (s * h) + (k / s * s + k % s) = whole.split n h (k / s) s (k % s) line_below rest_below in
+      let f : (n * h + k / s) * s + k % s ≡ n * (s * h) + (k / s * s + k % s) =
+      whole.split n h (k / s) s (k % s) line_below rest_below in
       omega (arith, e, f)
 
   pub plane_at : (n * (s * h) + k) / (s * h) ≡ n
-  plane_at = ap (λ (z : ℕ). z / (s * h)) is_at ∙ whole.plane_at n h (k / s) s (k % s) line_below rest_below
+  plane_at =
+      ap (λ (z : ℕ). z / (s * h)) is_at ∙ whole.plane_at n h (k / s) s (k % s) line_below rest_below
 
   pub line_at : (n * (s * h) + k) % (s * h) / s ≡ k / s
-  line_at = ap (λ (z : ℕ). z % (s * h) / s) is_at ∙ whole.line_at n h (k / s) s (k % s) line_below rest_below
+  line_at =
+      ap (λ (z : ℕ). z % (s * h) / s) is_at
+      ∙ whole.line_at n h (k / s) s (k % s) line_below rest_below
 
   pub along_at : (n * (s * h) + k) % s ≡ k % s
-  along_at = ap (λ (z : ℕ). z % s) is_at ∙ whole.column_at n h (k / s) s (k % s) line_below rest_below
+  along_at =
+      ap (λ (z : ℕ). z % s) is_at ∙ whole.column_at n h (k / s) s (k % s) line_below rest_below
 
 -- a byte of a plane of a region that was placed
-module _ (placed_each : PlacedEach) (file : List ℕ) (order : ByteOrder) (p : PageRecord) (color : ColorType) (region : Region) (s planes n k : ℕ) (buf : List ℕ) where
-  pub byte_placed : s ≡ row_bytes p color region.width → k < s * region.height → n < planes → n * (s * region.height) + k < length buf
-      → slice_index (bytes_with_region file order p color region s planes buf) (n * (s * region.height) + k) ≡ region_byte file order p color region (region.plane + n) (k / s) (k % s)
+module _ (placed_each : PlacedEach) (file : List ℕ) (order : ByteOrder) (p : PageRecord)
+    (color : ColorType) (region : Region) (s planes n k : ℕ) (buf : List ℕ) where
+  pub byte_placed : s ≡ row_bytes p color region.width → k < s * region.height → n < planes
+      → n * (s * region.height) + k < length buf
+      → slice_index (bytes_with_region file order p color region s planes buf)
+      (n * (s * region.height) + k)
+      ≡ region_byte file order p color region (region.plane + n) (k / s) (k % s)
   byte_placed rows below nl room =
       let at : ℕ = n * (s * region.height) + k in
-      let rest : k % s < row_bytes p color region.width = omega (arith, rest_below n region.height s k below, rows) in
+      let rest : k % s < row_bytes p color region.width =
+      omega (arith, rest_below n region.height s k below, rows) in
       (placed_each file order p color region s planes buf).1 at room
-      ∙ byte_is file order p color region s planes at n (k / s) (k % s) (slice_index buf at) (plane_at n region.height s k below) (line_at n region.height s k below) (along_at n region.height s k below) nl rest
+      ∙ byte_is file order p color region s planes at n (k / s) (k % s) (slice_index buf at)
+      (plane_at n region.height s k below) (line_at n region.height s k below)
+      (along_at n region.height s k below) nl rest
 
-module _ (chunks_within : ChunksWithin) (placed_each : PlacedEach) (unit_of_chunks : UnitOfChunks) (d : Decoding) (l : LayoutRecord) (unit : ℕ) (sides : HasSides d.state.page) (buf image : List ℕ) (has : HasUnitRoom d.state.page l unit (length buf)) (read : (outcome.read_coding_unit_bytes d unit buf).answer ≡ Ok image) where
+module _ (chunks_within : ChunksWithin) (placed_each : PlacedEach) (unit_of_chunks : UnitOfChunks)
+    (d : Decoding) (l : LayoutRecord) (unit : ℕ) (sides : HasSides d.state.page)
+    (buf image : List ℕ) (has : HasUnitRoom d.state.page l unit (length buf))
+    (read : (outcome.read_coding_unit_bytes d unit buf).answer ≡ Ok image) where
   abbrev p : PageRecord
   p = d.state.page
 
@@ -100,7 +115,8 @@ module _ (chunks_within : ChunksWithin) (placed_each : PlacedEach) (unit_of_chun
   pub as_long : length image ≡ length buf
   as_long = ap length image_is ∙ (placed_each d.bytes d.order p l.color region s used buf).0
 
-  pub stays : (at : ℕ) → used * l.plane_stride ≤ at → at < length buf → slice_index image at ≡ slice_index buf at
+  pub stays : (at : ℕ) → used * l.plane_stride ≤ at → at < length buf
+      → slice_index image at ≡ slice_index buf at
   stays at above below =
       let over : used * (s * h) ≤ at = subst (λ (z : ℕ). used * z ≤ at) plane_bytes above in
       ap (λ (z : List ℕ). slice_index z at) image_is
@@ -113,7 +129,8 @@ module _ (chunks_within : ChunksWithin) (placed_each : PlacedEach) (unit_of_chun
   in_slice n k nl kl =
       let u : used ≤ length buf / l.plane_stride = omega arith in
       let v : used * l.plane_stride ≤ length buf = whole_in (length buf) l.plane_stride used u in
-      let w : used * (s * h) ≤ length buf = subst (λ (z : ℕ). used * z ≤ length buf) plane_bytes v in
+      let w : used * (s * h) ≤ length buf =
+      subst (λ (z : ℕ). used * z ≤ length buf) plane_bytes v in
       omega (arith, below_planes n used (s * h) k nl kl, w)
 
   module _ (plane : ℕ) (below : plane < used) where
@@ -129,7 +146,9 @@ module _ (chunks_within : ChunksWithin) (placed_each : PlacedEach) (unit_of_chun
     unit_plane = div-eq_of_lt has.listed
 
     -- byte k of the plane, in the unit and in the chunk
-    unit_byte : (k : ℕ) → k < s * h → slice_index image (plane * (s * h) + k) ≡ region_byte d.bytes d.order p l.color region plane (k / s) (k % s)
+    unit_byte : (k : ℕ) → k < s * h
+        → slice_index image (plane * (s * h) + k)
+        ≡ region_byte d.bytes d.order p l.color region plane (k / s) (k % s)
     unit_byte k kl =
         let e : (rect p unit).plane + plane ≡ plane = omega (arith, unit_plane) in
         ap (λ (z : List ℕ). slice_index z (plane * (s * h) + k)) image_is
@@ -140,24 +159,31 @@ module _ (chunks_within : ChunksWithin) (placed_each : PlacedEach) (unit_of_chun
       abbrev of : Region
       of = chunk_region p i
 
-      chunk_read : IsReadInto d.bytes d.order p d.state.limits (rect p i).width (rect p i).height (into d l unit has.laid has.listed i) part chunk l
+      chunk_read : IsReadInto d.bytes d.order p d.state.limits (rect p i).width (rect p i).height
+          (into d l unit has.laid has.listed i) part chunk l
       unfolding outcome.read_chunk_bytes pixels.read_chunk_bytes
       chunk_read =
-          let a = read_gives d.bytes d.order p d.state.limits (rect p i).width (rect p i).height (into d l unit has.laid has.listed i) part chunk of_chunk in
-          let same : a.0 ≡ l = ok_is a.0 l (sym a.1.laid ∙ chunk_laid d l unit has.laid has.listed plane) in
+          let a =
+          read_gives d.bytes d.order p d.state.limits (rect p i).width (rect p i).height
+          (into d l unit has.laid has.listed i) part chunk of_chunk in
+          let same : a.0 ≡ l =
+          ok_is a.0 l (sym a.1.laid ∙ chunk_laid d l unit has.laid has.listed plane) in
           subst (IsReadInto d.bytes d.order p d.state.limits (rect p i).width (rect p i).height (into d l unit has.laid has.listed i) part chunk) same a.1
 
       rows_is : s ≡ row_bytes p l.color (rect p i).width
-      rows_is = is.rows ∙ ap (row_bytes p l.color) (sym (same_width d l unit has.laid has.listed plane))
+      rows_is =
+          is.rows ∙ ap (row_bytes p l.color) (sym (same_width d l unit has.laid has.listed plane))
 
       high_is : (rect p i).height ≡ h
       high_is = same_height d l unit has.laid has.listed plane
 
-      chunk_byte : (k : ℕ) → k < s * h → slice_index chunk k ≡ region_byte d.bytes d.order p l.color of plane (k / s) (k % s)
+      chunk_byte : (k : ℕ) → k < s * h
+          → slice_index chunk k ≡ region_byte d.bytes d.order p l.color of plane (k / s) (k % s)
       chunk_byte k kl =
           let kl' : k < s * (rect p i).height = subst (λ (z : ℕ). k < s * z) (sym high_is) kl in
           let from : k ≡ 0 * (s * (rect p i).height) + k = omega arith in
-          let room : 0 * (s * (rect p i).height) + k < length part = omega (arith, kl, plane_bytes, chunk_read.room) in
+          let room : 0 * (s * (rect p i).height) + k < length part =
+          omega (arith, kl, plane_bytes, chunk_read.room) in
           let one : 0 < 1 = omega arith in
           let e : (rect p i).plane + 0 ≡ plane = omega (arith, chunk_plane) in
           (λ t. slice_index (chunk_read.filled.bytes t) (from t))
@@ -197,27 +223,32 @@ module _ (chunks_within : ChunksWithin) (placed_each : PlacedEach) (unit_of_chun
         let here : at < length buf = omega (arith, under, is_made.long) in
         ⊎_elim
         (λ (below : at < used * l.plane_stride). same_byte at below)
-        (λ (above : used * l.plane_stride ≤ at). is_made.stays at above here ∙ sym (stays at above here))
+        (λ (above : used * l.plane_stride ≤ at). is_made.stays at above here
+        ∙ sym (stays at above here))
         (cases_lt at (used * l.plane_stride)))
 
   -- the unit is made of the chunks
-  pub is_made : ((plane : ℕ) → plane < used → IsChunkRead d l (unit_chunk p unit plane)) → IsMadeOfUnit d l unit buf image
+  pub is_made : ((plane : ℕ) → plane < used → IsChunkRead d l (unit_chunk p unit plane))
+      → IsMadeOfUnit d l unit buf image
   is_made each = record {
     long = as_long;
     placed = λ plane below.
         let k : ℕ = unit_chunk p unit plane in
         let part : List ℕ = replicate (chunk_byte_count p l k) 0 in
-        let room : chunk_byte_count p l k ≤ length part = omega (arith, length-replicate {A = ℕ} (chunk_byte_count p l k) 0) in
+        let room : chunk_byte_count p l k ≤ length part =
+        omega (arith, length-replicate {A = ℕ} (chunk_byte_count p l k) 0) in
         let bytes = ok_or (outcome.read_chunk_bytes d k part).answer (each plane below part room) in
         (part, bytes.0, (bytes.1, behind plane below part bytes.0 bytes.1));
     stays = stays;
   }
 
-module _ (chunks_within : ChunksWithin) (placed_each : PlacedEach) (unit_of_chunks : UnitOfChunks) (unit_where_chunks : UnitWhereChunks) where
+module _ (chunks_within : ChunksWithin) (placed_each : PlacedEach) (unit_of_chunks : UnitOfChunks)
+    (unit_where_chunks : UnitWhereChunks) where
   pub unit_is_its_chunks : UnitIsItsChunks
   unit_is_its_chunks d l unit buf made sides has = (
     λ read.
-        let w = (unit_where_chunks d unit buf sides).0 (is_good (outcome.read_coding_unit_bytes d unit buf).answer made read) in
+        let w =
+        (unit_where_chunks d unit buf sides).0 (is_good (outcome.read_coding_unit_bytes d unit buf).answer made read) in
         let same : w.0 ≡ l = ok_is w.0 l (sym w.1.0.laid ∙ has.laid) in
         is_made chunks_within placed_each unit_of_chunks d l unit sides buf made has read
         (subst (λ (z : LayoutRecord). EachPlane d.state.page z unit (length buf) (IsChunkRead d z)) same w.1.1),

@@ -39,14 +39,18 @@ one_part w n p h =
     let a : (w + n - 1) / n < 2 = div_below (w + n - 1) n 2 p (omega (arith, h, p)) in
     omega (arith, a)
 
-pub aligned_alone : (p : PageRecord) (c : ColorType) (w : ℕ) → 0 < p.chunk_width → w ≤ p.chunk_width → whole_chunks p c w ≡ Ok c
+pub aligned_alone : (p : PageRecord) (c : ColorType) (w : ℕ) → 0 < p.chunk_width → w ≤ p.chunk_width
+    → whole_chunks p c w ≡ Ok c
 aligned_alone p c w some h =
-    let t : nat_lt 1 (parts w p.chunk_width) ≡ false = le-ltb 1 (parts w p.chunk_width) (one_part w p.chunk_width some h) in
+    let t : nat_lt 1 (parts w p.chunk_width) ≡ false =
+    le-ltb 1 (parts w p.chunk_width) (one_part w p.chunk_width some h) in
     rw t refl
 
-module _ (p : PageRecord) (l : LayoutRecord) (sides : HasSides p) (whole : planes_layout p p.width p.height ≡ Ok l) (i : ℕ) (inside : ChunkIsWithin p i) where
+module _ (p : PageRecord) (l : LayoutRecord) (sides : HasSides p)
+    (whole : planes_layout p p.width p.height ≡ Ok l) (i : ℕ) (inside : ChunkIsWithin p i) where
   abbrev pub chunk_layout : LayoutRecord
-  chunk_layout = record { color = l.color; row_bytes = chunk_row p l i; plane_stride = chunk_byte_count p l i }
+  chunk_layout =
+      record { color = l.color; row_bytes = chunk_row p l i; plane_stride = chunk_byte_count p l i }
 
   is_laid : IsLaid p p.width p.height l
   is_laid = laid p p.width p.height l (planes_laid p p.width p.height l whole).0
@@ -57,7 +61,9 @@ module _ (p : PageRecord) (l : LayoutRecord) (sides : HasSides p) (whole : plane
 
   row_less : chunk_row p l i ≤ row_bytes p l.color p.width
   unfolding row_bits
-  row_less = fewer_bytes (rect p i).width p.width p.depth (samples_in_chunk p.planar l.color) (omega (arith, inside.columns))
+  row_less =
+      fewer_bytes (rect p i).width p.width p.depth (samples_in_chunk p.planar l.color)
+      (omega (arith, inside.columns))
 
   plane_less : chunk_byte_count p l i ≤ row_bytes p l.color p.width * p.height
   plane_less = mul-le-mul row_less (omega (arith, inside.rows))
@@ -66,13 +72,19 @@ module _ (p : PageRecord) (l : LayoutRecord) (sides : HasSides p) (whole : plane
   pub chunk_laid : planes_layout p (rect p i).width (rect p i).height ≡ Ok chunk_layout
   unfolding planes_layout layout_of
   chunk_laid =
-      let a : chunk_row p l i * p.chunk_height ≤ row_bytes p l.color p.width * p.chunk_height = mul-le-mul_right p.chunk_height row_less in
-      let tall : wide (chunk_row p l i * p.chunk_height) ≡ Ok (chunk_row p l i * p.chunk_height) = wide_is (chunk_row p l i * p.chunk_height) (omega (arith, a, is_laid.tall)) in
-      let few : wide (chunk_byte_count p l i) ≡ Ok (chunk_byte_count p l i) = wide_is (chunk_byte_count p l i) (omega (arith, plane_less, is_laid.few)) in
-      let alone : whole_chunks p l.color (rect p i).width ≡ Ok l.color = aligned_alone p l.color (rect p i).width sides.chunk_wide no_wider in
+      let a : chunk_row p l i * p.chunk_height ≤ row_bytes p l.color p.width * p.chunk_height =
+      mul-le-mul_right p.chunk_height row_less in
+      let tall : wide (chunk_row p l i * p.chunk_height) ≡ Ok (chunk_row p l i * p.chunk_height) =
+      wide_is (chunk_row p l i * p.chunk_height) (omega (arith, a, is_laid.tall)) in
+      let few : wide (chunk_byte_count p l i) ≡ Ok (chunk_byte_count p l i) =
+      wide_is (chunk_byte_count p l i) (omega (arith, plane_less, is_laid.few)) in
+      let alone : whole_chunks p l.color (rect p i).width ≡ Ok l.color =
+      aligned_alone p l.color (rect p i).width sides.chunk_wide no_wider in
       let n : ℕ = planes p.planar l.color in
-      let b : chunk_byte_count p l i * n ≤ l.plane_stride * n = mul-le-mul_right n (omega (arith, plane_less, is_laid.stride)) in
-      let all : wide (chunk_byte_count p l i * n) ≡ Ok (chunk_byte_count p l i * n) = wide_is (chunk_byte_count p l i * n) (omega (arith, b, (planes_laid p p.width p.height l whole).1)) in
+      let b : chunk_byte_count p l i * n ≤ l.plane_stride * n =
+      mul-le-mul_right n (omega (arith, plane_less, is_laid.stride)) in
+      let all : wide (chunk_byte_count p l i * n) ≡ Ok (chunk_byte_count p l i * n) =
+      wide_is (chunk_byte_count p l i * n) (omega (arith, b, (planes_laid p p.width p.height l whole).1)) in
       rw (is_laid.color, tall, few, alone, is_laid.chroma.1, all) refl
 
 -- ---- errors of chunks
@@ -85,30 +97,39 @@ pub is_good : (r : Result (List ℕ) TiffError) (x : List ℕ) → r ≡ Ok x �
 is_good r x h = ap is_ok h
 
 pub has_room : (provided needed : ℕ) → needed ≤ provided → room_fault provided needed ≡ Ok tt
-has_room provided needed h = let t : nat_lt provided needed ≡ false = le-ltb provided needed h in rw t refl
+has_room provided needed h =
+    let t : nat_lt provided needed ≡ false = le-ltb provided needed h in rw t refl
 
 module _ (file : List ℕ) (order : ByteOrder) (p : PageRecord) (limits : Limits) where
   abbrev pub fault_of : ColorType → ℕ → Result (Unit {0}) TiffError
   fault_of color i = chunk_fault p limits (is_short file order p color) color i
 
   -- a part without an error is read
-  pub fills : (color : ColorType) (part : Part) (buf : List ℕ) → part_fault file order p limits color part ≡ Ok tt
-      → fill_buffer file order p limits color part buf ≡ Ok (bytes_with_region file order p color part.region part.stride part.planes buf)
+  pub fills : (color : ColorType) (part : Part) (buf : List ℕ)
+      → part_fault file order p limits color part ≡ Ok tt
+      → fill_buffer file order p limits color part buf
+      ≡ Ok (bytes_with_region file order p color part.region part.stride part.planes buf)
   unfolding fill_buffer
   fills color part buf none = rw none refl
 
   -- a slice with room for the part is read
-  pub read_into : (width height : ℕ) (part : LayoutRecord → Part) (buf : List ℕ) (l : LayoutRecord) → planes_layout p width height ≡ Ok l
+  pub read_into : (width height : ℕ) (part : LayoutRecord → Part) (buf : List ℕ) (l : LayoutRecord)
+      → planes_layout p width height ≡ Ok l
       → l.plane_stride ≤ length buf → part_fault file order p limits l.color (part l) ≡ Ok tt
-      → IsOk (planes_layout p width height >>= (λ l. room_fault (length buf) l.plane_stride >>= (λ _. fill_buffer file order p limits l.color (part l) buf)))
+      → IsOk (planes_layout p width height >>= (λ l. room_fault (length buf) l.plane_stride
+      >>= (λ _. fill_buffer file order p limits l.color (part l) buf)))
   read_into width height part buf l whole room none =
-      let a : room_fault (length buf) l.plane_stride ≡ Ok tt = has_room (length buf) l.plane_stride room in
-      let b : fill_buffer file order p limits l.color (part l) buf ≡ Ok (bytes_with_region file order p l.color (part l).region (part l).stride (part l).planes buf) = fills l.color (part l) buf none in
+      let a : room_fault (length buf) l.plane_stride ≡ Ok tt =
+      has_room (length buf) l.plane_stride room in
+      let b : fill_buffer file order p limits l.color (part l) buf
+      ≡ Ok (bytes_with_region file order p l.color (part l).region (part l).stride (part l).planes buf) = fills l.color (part l) buf none in
       rw (whole, a, b) refl
 
   -- the chunk is the only one of its part
-  pub one_fault : (color : ColorType) (i s : ℕ) → part_fault file order p limits color (chunk_part p i 1 s) ≡ fault_of color i
-  one_fault color i s = let e : 0 * chunks_of_plane p + (i + 0) ≡ i = omega arith in ap (fault_of color) e
+  pub one_fault : (color : ColorType) (i s : ℕ)
+      → part_fault file order p limits color (chunk_part p i 1 s) ≡ fault_of color i
+  one_fault color i s =
+      let e : 0 * chunks_of_plane p + (i + 0) ≡ i = omega arith in ap (fault_of color) e
 
   module _ (no_fault : NoFault) (color : ColorType) (used s : ℕ) where
     abbrev pub of_column : ℕ → Result (Unit {0}) TiffError
@@ -119,9 +140,11 @@ module _ (file : List ℕ) (order : ByteOrder) (p : PageRecord) (limits : Limits
         → (i : ℕ) → i < used * chunks_of_plane p → fault_of color i ≡ Ok tt
     none_has none i l =
         let c : ℕ = chunks_of_plane p in
-        let column : of_column (i % c) ≡ Ok tt = (no_fault of_column c).0 none (i % c) (mod_below i c (some_chunk i used c l)) in
+        let column : of_column (i % c) ≡ Ok tt =
+        (no_fault of_column c).0 none (i % c) (mod_below i c (some_chunk i used c l)) in
         let at : fault_of color (i / c * c + (0 + i % c)) ≡ Ok tt =
-        (no_fault (λ plane. fault_of color (plane * c + (0 + i % c))) used).0 column (i / c) (plane_of i used c l) in
+        (no_fault (λ plane. fault_of color (plane * c
+        + (0 + i % c))) used).0 column (i / c) (plane_of i used c l) in
         let e : i ≡ i / c * c + (0 + i % c) = omega (arith, div-add-mod' i c) in
         ap (fault_of color) e ∙ at
 
@@ -139,7 +162,8 @@ module _ (file : List ℕ) (order : ByteOrder) (p : PageRecord) (limits : Limits
 -- ---- reads
 
 module _ (within_image : ChunksWithin) (no_fault : NoFault) where
-  module _ (d : Decoding) (sides : HasSides d.state.page) (l : LayoutRecord) (whole : planes_layout d.state.page d.state.page.width d.state.page.height ≡ Ok l) where
+  module _ (d : Decoding) (sides : HasSides d.state.page) (l : LayoutRecord)
+      (whole : planes_layout d.state.page d.state.page.width d.state.page.height ≡ Ok l) where
     abbrev p : PageRecord
     p = d.state.page
 
@@ -150,31 +174,41 @@ module _ (within_image : ChunksWithin) (no_fault : NoFault) where
     pub chunk_read : (i : ℕ) → fault i ≡ Ok tt → IsChunkRead d l i
     unfolding outcome.read_chunk_bytes pixels.read_chunk_bytes
     chunk_read i none part room =
-        read_into d.bytes d.order p d.state.limits (rect p i).width (rect p i).height (λ layout. chunk_part p i 1 layout.row_bytes) part
+        read_into d.bytes d.order p d.state.limits (rect p i).width (rect p i).height
+        (λ layout. chunk_part p i 1 layout.row_bytes) part
         (chunk_layout p l sides whole i (within_image p i sides)) (chunk_laid p l sides whole i (within_image p i sides)) room
         (one_fault d.bytes d.order p d.state.limits l.color i (chunk_row p l i) ∙ none)
 
     -- a chunk that is read has no error
-    pub chunk_none : (i : ℕ) (part : List ℕ) → IsOk (outcome.read_chunk_bytes d i part).answer → fault i ≡ Ok tt
+    pub chunk_none : (i : ℕ) (part : List ℕ) → IsOk (outcome.read_chunk_bytes d i part).answer
+        → fault i ≡ Ok tt
     unfolding outcome.read_chunk_bytes pixels.read_chunk_bytes
     chunk_none i part ok =
         let bytes = ok_or (outcome.read_chunk_bytes d i part).answer ok in
-        let a = read_gives d.bytes d.order p d.state.limits (rect p i).width (rect p i).height (λ layout. chunk_part p i 1 layout.row_bytes) part bytes.0 bytes.1 in
-        let is : IsLaid p (rect p i).width (rect p i).height a.0 = laid p (rect p i).width (rect p i).height a.0 (planes_laid p (rect p i).width (rect p i).height a.0 a.1.laid).0 in
-        let is' : IsLaid p p.width p.height l = laid p p.width p.height l (planes_laid p p.width p.height l whole).0 in
+        let a =
+        read_gives d.bytes d.order p d.state.limits (rect p i).width (rect p i).height
+        (λ layout. chunk_part p i 1 layout.row_bytes) part bytes.0 bytes.1 in
+        let is : IsLaid p (rect p i).width (rect p i).height a.0 =
+        laid p (rect p i).width (rect p i).height a.0 (planes_laid p (rect p i).width (rect p i).height a.0 a.1.laid).0 in
+        let is' : IsLaid p p.width p.height l =
+        laid p p.width p.height l (planes_laid p p.width p.height l whole).0 in
         let color : l.color ≡ a.0.color = ok_is l.color a.0.color (sym is'.color ∙ is.color) in
         ap (λ (c : ColorType). fault_of d.bytes d.order p d.state.limits c i) color
         ∙ sym (one_fault d.bytes d.order p d.state.limits a.0.color i a.0.row_bytes)
         ∙ a.1.filled.none
 
-  image_then_chunks : (d : Decoding) (buf : List ℕ) → HasSides d.state.page → IsOk (outcome.read_image_bytes d buf).answer
-      → (layout : LayoutRecord) × (HasRoom d.state.page layout (length buf) × EachUsed d.state.page layout (length buf) (IsChunkRead d layout))
+  image_then_chunks : (d : Decoding) (buf : List ℕ) → HasSides d.state.page
+      → IsOk (outcome.read_image_bytes d buf).answer
+      → (layout : LayoutRecord) × (HasRoom d.state.page layout (length buf)
+      × EachUsed d.state.page layout (length buf) (IsChunkRead d layout))
   unfolding outcome.read_image_bytes pixels.read_image_bytes
   image_then_chunks d buf sides ok =
       let page : PageRecord = d.state.page in
       let bytes = ok_or (outcome.read_image_bytes d buf).answer ok in
-      let into : LayoutRecord → Part = λ layout. image_part page (planes_used page layout (length buf)) layout.row_bytes in
-      let a = read_gives d.bytes d.order page d.state.limits page.width page.height into buf bytes.0 bytes.1 in (
+      let into : LayoutRecord → Part =
+      λ layout. image_part page (planes_used page layout (length buf)) layout.row_bytes in
+      let a =
+      read_gives d.bytes d.order page d.state.limits page.width page.height into buf bytes.0 bytes.1 in (
         a.0,
         (
           record { laid = a.1.laid; room = a.1.room },
@@ -183,13 +217,16 @@ module _ (within_image : ChunksWithin) (no_fault : NoFault) where
         ),
       )
 
-  chunks_then_image : (d : Decoding) (buf : List ℕ) → HasSides d.state.page → (layout : LayoutRecord) → HasRoom d.state.page layout (length buf)
-      → EachUsed d.state.page layout (length buf) (λ i. (part : List ℕ) × IsOk (outcome.read_chunk_bytes d i part).answer)
+  chunks_then_image : (d : Decoding) (buf : List ℕ) → HasSides d.state.page
+      → (layout : LayoutRecord) → HasRoom d.state.page layout (length buf)
+      → EachUsed d.state.page layout (length buf) (λ i. (part : List ℕ)
+      × IsOk (outcome.read_chunk_bytes d i part).answer)
       → IsOk (outcome.read_image_bytes d buf).answer
   unfolding outcome.read_image_bytes pixels.read_image_bytes
   chunks_then_image d buf sides l room each =
       let page : PageRecord = d.state.page in
-      let into : LayoutRecord → Part = λ layout. image_part page (planes_used page layout (length buf)) layout.row_bytes in
+      let into : LayoutRecord → Part =
+      λ layout. image_part page (planes_used page layout (length buf)) layout.row_bytes in
       read_into d.bytes d.order page d.state.limits page.width page.height into buf l room.laid room.room
       (none_have d.bytes d.order page d.state.limits no_fault l.color (planes_used page l (length buf)) l.row_bytes
       (λ i below. chunk_none d sides l room.laid i (each i below).0 (each i below).1))

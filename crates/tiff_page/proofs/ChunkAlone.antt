@@ -43,14 +43,18 @@ use Rattle.tiff_page.proofs.Planes.{colored, columns, form_read, laid_once}
 use Rattle.tiff_page.proofs.PositionLaws.{chunks_within, placed_each}
 
 -- a page of which a chunk passes the checks of its form lists the chunk
-is_listed : (p : PageRecord) (limits : Limits) (c : ColorType) (i : ℕ) → form_fault p limits c i ≡ Ok tt → i < length p.offsets
+is_listed : (p : PageRecord) (limits : Limits) (c : ColorType) (i : ℕ)
+    → form_fault p limits c i ≡ Ok tt → i < length p.offsets
 unfolding form_fault
 is_listed p limits c i h =
     ⊎_elim
     (λ (l : i < length p.offsets). l)
     (λ (l : length p.offsets ≤ i).
-    let none : fail_if (nat_le (length p.offsets) i) (FormatError InconsistentSizesEncountered) ≡ Ok tt = (bind_ok (fail_if (nat_le (length p.offsets) i) (FormatError InconsistentSizesEncountered)) _ tt h).1.0 in
-    let fault : Err (FormatError InconsistentSizesEncountered) ≡ Ok tt = rw (le-leb (length p.offsets) i l) at none in
+    let none : fail_if (nat_le (length p.offsets) i) (FormatError InconsistentSizesEncountered)
+    ≡ Ok tt =
+    (bind_ok (fail_if (nat_le (length p.offsets) i) (FormatError InconsistentSizesEncountered)) _ tt h).1.0 in
+    let fault : Err (FormatError InconsistentSizesEncountered) ≡ Ok tt =
+    rw (le-leb (length p.offsets) i l) at none in
     cc)
     (cases_lt i (length p.offsets))
 
@@ -68,7 +72,8 @@ module _ (p : PageRecord) (extra : List ExtraSamples) (offsets byte_counts : Lis
   unfolding depth_fault
   depth_same c = refl
 
-  predictor_by : (x : Predictor) (c : ColorType) → fault_of_predictor x q c ≡ fault_of_predictor x p c
+  predictor_by : (x : Predictor) (c : ColorType)
+      → fault_of_predictor x q c ≡ fault_of_predictor x p c
   predictor_by predictor.None c = refl
   predictor_by _ c = refl
 
@@ -88,7 +93,8 @@ module _ (p : PageRecord) (extra : List ExtraSamples) (offsets byte_counts : Lis
   chroma_same (color.YCbCr d) = refl
   chroma_same _ = refl
 
-  number_by_same : (x : Predictor) (order : ByteOrder) (row : List ℕ) (k : ℕ) → number_by x order q row k ≡ number_by x order p row k
+  number_by_same : (x : Predictor) (order : ByteOrder) (row : List ℕ) (k : ℕ)
+      → number_by x order q row k ≡ number_by x order p row k
   number_by_same predictor.None order row k = refl
   number_by_same _ order row k = refl
 
@@ -100,12 +106,16 @@ module _ (p : PageRecord) (extra : List ExtraSamples) (offsets byte_counts : Lis
 
     rgb_same : rgb q ≡ rgb p
     unfolding no_color
-    rgb_same = λ t. if photometric_same t == 3 then Ok (if alpha t then color.RGBA p.depth else color.RGB p.depth)
+    rgb_same =
+        λ t. if photometric_same t == 3 then
+        Ok (if alpha t then color.RGBA p.depth else color.RGB p.depth)
         else if photometric_same t == 4 then Ok (color.RGBA p.depth) else no_color p
 
     cmyk_same : cmyk q ≡ cmyk p
     unfolding no_color
-    cmyk_same = λ t. if photometric_same t == 4 then Ok (if alpha t then color.CMYKA p.depth else color.CMYK p.depth)
+    cmyk_same =
+        λ t. if photometric_same t == 4 then
+        Ok (if alpha t then color.CMYKA p.depth else color.CMYK p.depth)
         else if photometric_same t == 5 then Ok (color.CMYKA p.depth) else no_color p
 
     ycbcr_same : ycbcr q ≡ ycbcr p
@@ -140,7 +150,8 @@ module _ (p : PageRecord) (extra : List ExtraSamples) (offsets byte_counts : Lis
 
     planes_layout_same : (w h : ℕ) → planes_layout q w h ≡ planes_layout p w h
     unfolding planes_layout
-    planes_layout_same w h = λ t. layout_same w h t >>= (λ layout. wide (layout.plane_stride * planes p.planar layout.color) >>= (λ _. Ok layout))
+    planes_layout_same w h =
+        λ t. layout_same w h t >>= (λ layout. wide (layout.plane_stride * planes p.planar layout.color) >>= (λ _. Ok layout))
 
     chunk_layout_same : (i : ℕ) → image_chunk_buffer_layout q i ≡ image_chunk_buffer_layout p i
     unfolding image_chunk_buffer_layout rect sample_type_of
@@ -159,19 +170,24 @@ module _ (p : PageRecord) (extra : List ExtraSamples) (offsets byte_counts : Lis
 
     -- ---- the first error
 
-    module _ (i : ℕ) (chunks : length offsets ≡ length p.offsets) (byte_count : slice_index byte_counts i ≡ slice_index p.byte_counts i) where
-      form_same : (limits : Limits) (c : ColorType) → form_fault q limits c i ≡ form_fault p limits c i
+    module _ (i : ℕ) (chunks : length offsets ≡ length p.offsets)
+        (byte_count : slice_index byte_counts i ≡ slice_index p.byte_counts i) where
+      form_same : (limits : Limits) (c : ColorType)
+          → form_fault q limits c i ≡ form_fault p limits c i
       unfolding form_fault
-      form_same limits c = λ t. fail_if (nat_le (chunks t) i) (FormatError InconsistentSizesEncountered) >>= (λ _.
+      form_same limits c =
+          λ t. fail_if (nat_le (chunks t) i) (FormatError InconsistentSizesEncountered) >>= (λ _.
           depth_same c t >>= (λ _.
           predictor_same c t >>= (λ _.
           fail_if (nat_lt limits.intermediate_buffer_size (byte_count t)) LimitsExceeded >>= (λ _.
           method_fault p.method >>= (λ _.
           inversion_same c t)))))
 
-      early_same : (limits : Limits) (len : ℕ) → chunk_bytes_early q limits i len ≡ chunk_bytes_early p limits i len
+      early_same : (limits : Limits) (len : ℕ)
+          → chunk_bytes_early q limits i len ≡ chunk_bytes_early p limits i len
       unfolding rect
-      early_same limits len = λ t. planes_layout_same (rect p i).width (rect p i).height t >>= (λ layout.
+      early_same limits len =
+          λ t. planes_layout_same (rect p i).width (rect p i).height t >>= (λ layout.
           room_fault len layout.plane_stride >>= (λ _.
           form_same limits layout.color t))
 
@@ -184,25 +200,34 @@ module _ (p : PageRecord) (extra : List ExtraSamples) (offsets byte_counts : Lis
           unfolding rect row_bits
           short_same c = λ t. nat_lt (length (data_same t)) (needed_bytes p c i)
 
-          chunk_same : (limits : Limits) (c : ColorType) → chunk_fault q limits (is_short file order q c) c i ≡ chunk_fault p limits (is_short file order p c) c i
-          chunk_same limits c = λ t. form_same limits c t >>= (λ _. fail_if (short_same c t) (IoError UnexpectedEof))
+          chunk_same : (limits : Limits) (c : ColorType)
+              → chunk_fault q limits (is_short file order q c) c i
+              ≡ chunk_fault p limits (is_short file order p c) c i
+          chunk_same limits c =
+              λ t. form_same limits c t >>= (λ _. fail_if (short_same c t) (IoError UnexpectedEof))
 
-          handed_same : (row : List ℕ) (c : ColorType) (b : ℕ) → handed_byte order q row c b ≡ handed_byte order p row c b
+          handed_same : (row : List ℕ) (c : ColorType) (b : ℕ)
+              → handed_byte order q row c b ≡ handed_byte order p row c b
           handed_same row c b = λ t. handed_with (λ k. number_by_same p.predictor order row k t)
             where
               handed_with : (ℕ → ℕ) → ℕ
-              handed_with number = if nat_lt p.depth 8 then shown_number p.interpretation 256 (slice_index row b)
+              handed_with number =
+                  if nat_lt p.depth 8 then shown_number p.interpretation 256 (slice_index row b)
                   else shown_number p.interpretation (2 ^ p.depth) (number (in_row p (b / number_size p / samples_in_chunk p.planar c) (b / number_size p % samples_in_chunk p.planar c)))
                   / 256 ^ (b % number_size p) % 256
 
-          module _ (c : ColorType) (sides : HasSides p) (stored : StoresAllShown p c) (listed : i < all_chunks p) where
+          module _ (c : ColorType) (sides : HasSides p) (stored : StoresAllShown p c)
+              (listed : i < all_chunks p) where
             sides_too : HasSides q
-            sides_too = record { wide = sides.wide; high = sides.high; chunk_wide = sides.chunk_wide; chunk_high = sides.chunk_high }
+            sides_too =
+                record { wide = sides.wide; high = sides.high; chunk_wide = sides.chunk_wide; chunk_high = sides.chunk_high }
 
             stored_too : StoresAllShown q c
-            stored_too = record { depth = stored.depth; shows = stored.shows; stores = stored.stores }
+            stored_too =
+                record { depth = stored.depth; shows = stored.shows; stores = stored.stores }
 
-            byte_same : (r b : ℕ) → r < (rect p i).height → b < row_bytes p c (rect p i).width → chunk_byte file order q c i r b ≡ chunk_byte file order p c i r b
+            byte_same : (r b : ℕ) → r < (rect p i).height → b < row_bytes p c (rect p i).width
+                → chunk_byte file order q c i r b ≡ chunk_byte file order p c i r b
             unfolding rect row_bits
             byte_same r b rl bl =
                 row_handed file order q c i r b sides_too stored_too listed rl bl
@@ -211,7 +236,8 @@ module _ (p : PageRecord) (extra : List ExtraSamples) (offsets byte_counts : Lis
                 ∙ sym (row_handed file order p c i r b sides stored listed rl bl)
 
           part_same : (limits : Limits) (c : ColorType) (stride : ℕ)
-              → part_fault file order q limits c (chunk_part q i 1 stride) ≡ part_fault file order p limits c (chunk_part p i 1 stride)
+              → part_fault file order q limits c (chunk_part q i 1 stride)
+              ≡ part_fault file order p limits c (chunk_part p i 1 stride)
           part_same limits c stride =
               let here : 0 * chunks_of_plane p + (i + 0) ≡ i = omega arith in
               (λ t. chunk_fault q limits (is_short file order q c) c (here t))
@@ -219,18 +245,23 @@ module _ (p : PageRecord) (extra : List ExtraSamples) (offsets byte_counts : Lis
               ∙ sym (λ t. chunk_fault p limits (is_short file order p c) c (here t))
 
           -- the bytes of the buffer, where the page has no error
-          module _ (c : ColorType) (stride : ℕ) (sides : HasSides p) (stored : StoresAllShown p c) (listed : i < all_chunks p) (fits : row_bytes p c (rect p i).width ≤ stride) where
-            unit_same : (j : ℕ) → j / stride / (rect p i).height < 1 → j % stride < row_bytes p c (rect p i).width
+          module _ (c : ColorType) (stride : ℕ) (sides : HasSides p) (stored : StoresAllShown p c)
+              (listed : i < all_chunks p) (fits : row_bytes p c (rect p i).width ≤ stride) where
+            unit_same : (j : ℕ) → j / stride / (rect p i).height < 1
+                → j % stride < row_bytes p c (rect p i).width
                 → unit_byte file order q c stride i j ≡ unit_byte file order p c stride i j
             unfolding rect row_bits
             unit_same j a b =
-                let first : (rect p i).plane + j / stride / (rect p i).height ≡ (rect p i).plane = omega (arith, a) in
+                let first : (rect p i).plane + j / stride / (rect p i).height
+                ≡ (rect p i).plane = omega (arith, a) in
                 let some : 0 < (rect p i).height = (chunks_within p i sides).some_row in
                 (λ t. region_byte file order q c (chunk_region q i) (first t) (j / stride % (rect p i).height) (j % stride))
-                ∙ byte_same c sides stored listed (j / stride % (rect p i).height) (j % stride) (mod_below (j / stride) (rect p i).height some) b
+                ∙ byte_same c sides stored listed (j / stride % (rect p i).height) (j % stride)
+                (mod_below (j / stride) (rect p i).height some) b
                 ∙ sym (λ t. region_byte file order p c (chunk_region p i) (first t) (j / stride % (rect p i).height) (j % stride))
 
-            position_same : (j : ℕ) → byte_at file order q c (chunk_region q i) stride 1 j ≡ byte_at file order p c (chunk_region p i) stride 1 j
+            position_same : (j : ℕ) → byte_at file order q c (chunk_region q i) stride 1 j
+                ≡ byte_at file order p c (chunk_region p i) stride 1 j
             unfolding rect row_bits
             position_same j =
                 ⊎_elim
@@ -249,41 +280,53 @@ module _ (p : PageRecord) (extra : List ExtraSamples) (offsets byte_counts : Lis
                 ∙ sym (unit_plane_gap file order p c stride i sides 1 fits j a))
                 (cases_lt (j / stride / (rect p i).height) 1)
 
-            placed_same : (buf : List ℕ) → bytes_with_region file order q c (chunk_region q i) stride 1 buf ≡ bytes_with_region file order p c (chunk_region p i) stride 1 buf
+            placed_same : (buf : List ℕ) → bytes_with_region file order q c
+                (chunk_region q i) stride 1 buf
+                ≡ bytes_with_region file order p c (chunk_region p i) stride 1 buf
             placed_same buf =
                 let placed = placed_each file order q c (chunk_region q i) stride 1 buf in
                 is_placed file order p c (chunk_region p i) stride 1 buf (bytes_with_region file order q c (chunk_region q i) stride 1 buf) placed.0
                 (λ j l. placed.1 j l ∙ ap (λ z. unwrap_or z (slice_index buf j)) (position_same j))
 
-          module _ (limits : Limits) (c : ColorType) (stride : ℕ) (buf : List ℕ) (sides : HasSides p) (some : 0 < p.samples) (counted : length p.offsets ≡ all_chunks p)
+          module _ (limits : Limits) (c : ColorType) (stride : ℕ) (buf : List ℕ)
+              (sides : HasSides p) (some : 0 < p.samples) (counted : length p.offsets ≡ all_chunks p)
               (colored : color_of p ≡ Ok c) (fits : row_bytes p c (rect p i).width ≤ stride) where
-            by_fault : (r : Result (Unit {0}) TiffError) → part_fault file order p limits c (chunk_part p i 1 stride) ≡ r
+            by_fault : (r : Result (Unit {0}) TiffError)
+                → part_fault file order p limits c (chunk_part p i 1 stride) ≡ r
                 → (r >>= (λ _. Ok (bytes_with_region file order q c (chunk_region q i) stride 1 buf))) ≡ (r >>= (λ _. Ok (bytes_with_region file order p c (chunk_region p i) stride 1 buf)))
             by_fault (Err e) h = refl
             by_fault (Ok u) h =
                 let here : 0 * chunks_of_plane p + (i + 0) ≡ i = omega arith in
-                let formed : form_fault p limits c i ≡ Ok tt = (bind_ok (form_fault p limits c i) _ tt ((λ t. chunk_fault p limits (is_short file order p c) c (sym here t)) ∙ h)).1.0 in
+                let formed : form_fault p limits c i ≡ Ok tt =
+                (bind_ok (form_fault p limits c i) _ tt ((λ t. chunk_fault p limits (is_short file order p c) c (sym here t)) ∙ h)).1.0 in
                 ap Ok (placed_same c stride sides (form_read p limits c i some colored formed).stored (subst (λ n. i < n) counted (is_listed p limits c i formed)) fits buf)
 
-            fill_same : fill_buffer file order q limits c (chunk_part q i 1 stride) buf ≡ fill_buffer file order p limits c (chunk_part p i 1 stride) buf
+            fill_same : fill_buffer file order q limits c (chunk_part q i 1 stride) buf
+                ≡ fill_buffer file order p limits c (chunk_part p i 1 stride) buf
             unfolding fill_buffer
             fill_same =
                 (λ t. part_same limits c stride t >>= (λ _. Ok (bytes_with_region file order q c (chunk_region q i) stride 1 buf)))
                 ∙ by_fault (part_fault file order p limits c (chunk_part p i 1 stride)) refl
 
-          module _ (limits : Limits) (buf : List ℕ) (sides : HasSides p) (some : 0 < p.samples) (counted : length p.offsets ≡ all_chunks p) where
-            by_layout : (r : Result LayoutRecord TiffError) → planes_layout p (rect p i).width (rect p i).height ≡ r
-                → (r >>= (λ layout. room_fault (length buf) layout.plane_stride >>= (λ _. fill_buffer file order q limits layout.color (chunk_part q i 1 layout.row_bytes) buf)))
-                ≡ (r >>= (λ layout. room_fault (length buf) layout.plane_stride >>= (λ _. fill_buffer file order p limits layout.color (chunk_part p i 1 layout.row_bytes) buf)))
+          module _ (limits : Limits) (buf : List ℕ) (sides : HasSides p) (some : 0 < p.samples)
+              (counted : length p.offsets ≡ all_chunks p) where
+            by_layout : (r : Result LayoutRecord TiffError)
+                → planes_layout p (rect p i).width (rect p i).height ≡ r
+                → (r >>= (λ layout. room_fault (length buf) layout.plane_stride
+                >>= (λ _. fill_buffer file order q limits layout.color (chunk_part q i 1 layout.row_bytes) buf)))
+                ≡ (r >>= (λ layout. room_fault (length buf) layout.plane_stride
+                >>= (λ _. fill_buffer file order p limits layout.color (chunk_part p i 1 layout.row_bytes) buf)))
             by_layout (Err e) h = refl
             by_layout (Ok l) h =
-                let laid : layout_of p (rect p i).width (rect p i).height ≡ Ok l = laid_once p (rect p i).width (rect p i).height l h in
+                let laid : layout_of p (rect p i).width (rect p i).height ≡ Ok l =
+                laid_once p (rect p i).width (rect p i).height l h in
                 λ t. room_fault (length buf) l.plane_stride >>= (λ _.
                 fill_same limits l.color l.row_bytes buf sides some counted
                 (colored p (rect p i).width (rect p i).height l.color l.row_bytes l.plane_stride laid)
                 (columns p (rect p i).width (rect p i).height l.color l.row_bytes l.plane_stride laid) t)
 
-            read_same : read_chunk_bytes file order q limits i buf ≡ read_chunk_bytes file order p limits i buf
+            read_same : read_chunk_bytes file order q limits i buf
+                ≡ read_chunk_bytes file order p limits i buf
             unfolding read_chunk_bytes rect
             read_same =
                 (λ t. planes_layout_same (rect p i).width (rect p i).height t >>= (λ layout.
@@ -293,28 +336,35 @@ module _ (p : PageRecord) (extra : List ExtraSamples) (offsets byte_counts : Lis
 
         -- ---- what is asked for
 
-        needed_same : (source : SourceRecord) (c : ColorType) → ChunkReadable source q c i ≡ ChunkReadable source p c i
+        needed_same : (source : SourceRecord) (c : ColorType)
+            → ChunkReadable source q c i ≡ ChunkReadable source p c i
         unfolding rect row_bits
-        needed_same source c = λ t. AreReadable source (offset t) (if is_packed p.method then byte_count t else needed_bytes p c i)
+        needed_same source c =
+            λ t. AreReadable source (offset t) (if is_packed p.method then
+            byte_count t else needed_bytes p c i)
 
         part_asked : (source : SourceRecord) (c : ColorType) (stride : ℕ)
-            → PartReadable source q c (chunk_part q i 1 stride) ↔ PartReadable source p c (chunk_part p i 1 stride)
+            → PartReadable source q c (chunk_part q i 1 stride) ↔ PartReadable source p c
+            (chunk_part p i 1 stride)
         part_asked source c stride = (
           λ r. record {
             chunk = λ plane a j b.
-                let here : plane * chunks_of_plane p + (i + j) ≡ i = only_chunk (chunks_of_plane p) plane i j a b in
+                let here : plane * chunks_of_plane p + (i + j) ≡ i =
+                only_chunk (chunks_of_plane p) plane i j a b in
                 subst (λ n. ChunkReadable source p c n) (sym here)
                 (transport (needed_same source c) (subst (λ n. ChunkReadable source q c n) here (r.chunk plane a j b)));
           },
           λ r. record {
             chunk = λ plane a j b.
-                let here : plane * chunks_of_plane p + (i + j) ≡ i = only_chunk (chunks_of_plane p) plane i j a b in
+                let here : plane * chunks_of_plane p + (i + j) ≡ i =
+                only_chunk (chunks_of_plane p) plane i j a b in
                 subst (λ n. ChunkReadable source q c n) (sym here)
                 (transport (sym (needed_same source c)) (subst (λ n. ChunkReadable source p c n) here (r.chunk plane a j b)));
           },
         )
 
-        asked_same : (source : SourceRecord) → ChunksReadable source q i (λ l. 1) ↔ ChunksReadable source p i (λ l. 1)
+        asked_same : (source : SourceRecord)
+            → ChunksReadable source q i (λ l. 1) ↔ ChunksReadable source p i (λ l. 1)
         unfolding rect
         asked_same source = (
           λ r. record {
@@ -323,7 +373,8 @@ module _ (p : PageRecord) (extra : List ExtraSamples) (offsets byte_counts : Lis
           },
           λ r. record {
             part_readable = λ l laid. (part_asked source l.color l.row_bytes).1
-                (r.part_readable l (sym (planes_layout_same (rect p i).width (rect p i).height) ∙ laid));
+                (r.part_readable l (sym (planes_layout_same (rect p i).width (rect p i).height)
+                ∙ laid));
           },
         )
 
@@ -331,7 +382,10 @@ pub chunk_alone : ChunkAlone
 chunk_alone = record {
   bytes = λ file order p limits i buf extra offsets byte_counts sides some counted s.
       read_same p extra offsets byte_counts s.extras s.alpha i s.chunks s.byte_count s.offset file order limits buf sides some counted;
-  early = λ p limits i len extra offsets byte_counts s. early_same p extra offsets byte_counts s.extras s.alpha i s.chunks s.byte_count limits len;
-  asked = λ source p i extra offsets byte_counts s. asked_same p extra offsets byte_counts s.extras s.alpha i s.chunks s.byte_count s.offset source;
-  layout = λ p i extra offsets byte_counts many alpha. chunk_layout_same p extra offsets byte_counts many alpha i;
+  early =
+      λ p limits i len extra offsets byte_counts s. early_same p extra offsets byte_counts s.extras s.alpha i s.chunks s.byte_count limits len;
+  asked =
+      λ source p i extra offsets byte_counts s. asked_same p extra offsets byte_counts s.extras s.alpha i s.chunks s.byte_count s.offset source;
+  layout =
+      λ p i extra offsets byte_counts many alpha. chunk_layout_same p extra offsets byte_counts many alpha i;
 }

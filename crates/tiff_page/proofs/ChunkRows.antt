@@ -34,7 +34,8 @@ use Rattle.tiff_page.proofs.PositionLaws.{parts_some}
 use Rattle.tiff_page.proofs.Planes.{from_0}
 
 -- a multiple of bits in whole bytes
-pub start_is : (col w d s : ℕ) → w * d * s ≡ w * d * s / 8 * 8 → col * w * d * s / 8 ≡ col * ((w * d * s + 7) / 8)
+pub start_is : (col w d s : ℕ) → w * d * s ≡ w * d * s / 8 * 8
+    → col * w * d * s / 8 ≡ col * ((w * d * s + 7) / 8)
 start_is col w d s e =
     let c : (w * d * s + 7) / 8 ≡ w * d * s / 8 = omega (arith, e) in
     omega (arith, (ap (λ z. z * s) (mul_assoc col w d) ∙ mul_assoc col (w * d) s), (ap (λ z. col * z) e ∙ sym (mul_assoc col (w * d * s / 8) 8)), ap (λ z. col * z) c)
@@ -59,9 +60,11 @@ no_samples v d s e =
 
 pub samples_some : (v d s k : ℕ) → k < (v * d * s + 7) / 8 → 0 < s
 samples_some v d s k h =
-    ⊎_elim (λ (l : 0 < s). l) (λ (z : s ≤ 0). let e : (v * d * s + 7) / 8 ≡ 0 = no_samples v d s (omega (arith, z)) in Prim.absurd (omega (arith, h, e))) (cases_lt 0 s)
+    ⊎_elim (λ (l : 0 < s). l) (λ (z : s ≤ 0). let e : (v * d * s + 7) / 8
+    ≡ 0 = no_samples v d s (omega (arith, z)) in Prim.absurd (omega (arith, h, e))) (cases_lt 0 s)
 
-module _ (file : List ℕ) (order : ByteOrder) (p : PageRecord) (color : ColorType) (i row k : ℕ) (sides : HasSides p) (whole : HasWholeRows p color) where
+module _ (file : List ℕ) (order : ByteOrder) (p : PageRecord) (color : ColorType) (i row k : ℕ)
+    (sides : HasSides p) (whole : HasWholeRows p color) where
   abbrev pub many : ℕ
   many = across p
 
@@ -98,29 +101,39 @@ module _ (file : List ℕ) (order : ByteOrder) (p : PageRecord) (color : ColorTy
       (λ (e : row_bits p color p.chunk_width ≡ row_bits p color p.chunk_width / 8 * 8). start_is column p.chunk_width p.depth (samples_in_chunk p.planar color) e)
       whole.rows
 
-  module _ (rl : row < min p.chunk_height (p.height - line * p.chunk_height)) (kl : k < row_bytes p color (min p.chunk_width (p.width - column * p.chunk_width))) where
+  module _ (rl : row < min p.chunk_height (p.height - line * p.chunk_height))
+      (kl : k < row_bytes p color (min p.chunk_width (p.width - column * p.chunk_width))) where
     pub in_chunk : k < c
     unfolding row_bits
     in_chunk =
-        let f : row_bytes p color (min p.chunk_width (p.width - column * p.chunk_width)) ≤ c = fewer_bytes (min p.chunk_width (p.width - column * p.chunk_width)) p.chunk_width p.depth (samples_in_chunk p.planar color) (omega arith) in
+        let f : row_bytes p color (min p.chunk_width (p.width - column * p.chunk_width)) ≤ c =
+        fewer_bytes (min p.chunk_width (p.width - column * p.chunk_width)) p.chunk_width p.depth
+        (samples_in_chunk p.planar color) (omega arith) in
         omega (arith, f, kl)
 
     pub in_rows : row < p.chunk_height
     in_rows = omega (arith, rl)
 
-    pub packed_same : packed_byte file order p color (image_region p) (i / chunks_of_plane p) (line * p.chunk_height + row) (start + k)
+    pub packed_same : packed_byte file order p color (image_region p) (i / chunks_of_plane p)
+        (line * p.chunk_height + row) (start + k)
         ≡ packed_byte file order p color (chunk_region p i) (i / chunks_of_plane p) row k
     unfolding rect
     packed_same =
-        let up : (0 + (line * p.chunk_height + row)) / p.chunk_height ≡ line = ap (λ z. z / p.chunk_height) (from_0 (line * p.chunk_height + row)) ∙ div-mul-add line p.chunk_height row in_rows in
-        let down : (0 + (line * p.chunk_height + row)) % p.chunk_height ≡ row = ap (λ z. z % p.chunk_height) (from_0 (line * p.chunk_height + row)) ∙ mod-mul-add line p.chunk_height row in_rows in
-        let h : 0 / p.chunk_width + (start + k) / c ≡ column = omega (arith, (ap (λ z. (z + k) / c) start_at ∙ div-mul-add column c k in_chunk), div-eq_of_lt sides.chunk_wide) in
+        let up : (0 + (line * p.chunk_height + row)) / p.chunk_height ≡ line =
+        ap (λ z. z / p.chunk_height) (from_0 (line * p.chunk_height + row))
+        ∙ div-mul-add line p.chunk_height row in_rows in
+        let down : (0 + (line * p.chunk_height + row)) % p.chunk_height ≡ row =
+        ap (λ z. z % p.chunk_height) (from_0 (line * p.chunk_height + row))
+        ∙ mod-mul-add line p.chunk_height row in_rows in
+        let h : 0 / p.chunk_width + (start + k) / c ≡ column =
+        omega (arith, (ap (λ z. (z + k) / c) start_at ∙ div-mul-add column c k in_chunk), div-eq_of_lt sides.chunk_wide) in
         (λ t. shown_number p.interpretation 256 (slice_index (stored_row file order p (first + (up t * many + h t)) (down t)) ((ap (λ z. (z + k) % c) start_at ∙ mod-mul-add column c k in_chunk) t)))
         ∙ (λ t. shown_number p.interpretation 256 (slice_index (stored_row file order p (first + (div-add-mod' at_in many) t) row) k))
         ∙ (λ t. shown_number p.interpretation 256 (slice_index (stored_row file order p (first + at_in) (sym (mod-mul-add line p.chunk_height row in_rows) t)) (sym (mod-eq_of_lt in_chunk) t)))
 
     pub number_placed : 8 ≤ p.depth → p.depth ≡ p.depth / 8 * 8
-        → number_byte file order p color (image_region p) (i / chunks_of_plane p) (line * p.chunk_height + row) (start + k)
+        → number_byte file order p color (image_region p) (i / chunks_of_plane p)
+        (line * p.chunk_height + row) (start + k)
         ≡ number_byte file order p color (chunk_region p i) (i / chunks_of_plane p) row k
     unfolding rect row_bits
     number_placed big e =
@@ -129,16 +142,24 @@ module _ (file : List ℕ) (order : ByteOrder) (p : PageRecord) (color : ColorTy
         let x : ℕ = column * p.chunk_width in
         let sz : 0 < size = omega (arith, big) in
         let b : start ≡ x * s * size = numbers_before x p.depth size s e in
-        let d : (start + k) / size ≡ x * s + k / size = ap (λ z. (z + k) / size) b ∙ mul-add-div_right sz (x * s) k in
-        let g : (start + k) / size % s ≡ k / size % s = ap (λ z. z % s) d ∙ mul-add-mod_self_right x s (k / size) in
-        let h : 0 + (start + k) / size / s ≡ x + k / size / s = from_0 ((start + k) / size / s) ∙ (ap (λ z. z / s) d ∙ mul-add-div_right (samples_some (min p.chunk_width (p.width - x)) p.depth s k kl) x (k / size)) in
-        λ t. shown_sample file order p (h t) ((from_0 (line * p.chunk_height + row)) t) (planar_or p.planar (i / chunks_of_plane p) (g t)) / 256 ^ (ap (λ z. (z + k) % size) b ∙ mul-add-mod_self_right (x * s) size k) t % 256
+        let d : (start + k) / size ≡ x * s + k / size =
+        ap (λ z. (z + k) / size) b ∙ mul-add-div_right sz (x * s) k in
+        let g : (start + k) / size % s ≡ k / size % s =
+        ap (λ z. z % s) d ∙ mul-add-mod_self_right x s (k / size) in
+        let h : 0 + (start + k) / size / s ≡ x + k / size / s =
+        from_0 ((start + k) / size / s)
+        ∙ (ap (λ z. z / s) d ∙ mul-add-div_right (samples_some (min p.chunk_width (p.width - x)) p.depth s k kl) x (k / size)) in
+        λ t. shown_sample file order p (h t) ((from_0 (line * p.chunk_height
+        + row)) t) (planar_or p.planar (i / chunks_of_plane p) (g t)) / 256 ^ (ap (λ z. (z
+        + k) % size) b ∙ mul-add-mod_self_right (x * s) size k) t % 256
 
-    pub byte_same : region_byte file order p color (image_region p) (i / chunks_of_plane p) (line * p.chunk_height + row) (start + k)
+    pub byte_same : region_byte file order p color (image_region p) (i / chunks_of_plane p)
+        (line * p.chunk_height + row) (start + k)
         ≡ region_byte file order p color (chunk_region p i) (i / chunks_of_plane p) row k
     byte_same =
         ⊎_elim
-        (λ (l : p.depth < 8). let t : nat_lt p.depth 8 ≡ true = lt-ltb p.depth 8 l in rw t packed_same)
+        (λ (l : p.depth < 8). let t : nat_lt p.depth 8
+        ≡ true = lt-ltb p.depth 8 l in rw t packed_same)
         (λ (g : 8 ≤ p.depth).
         ⊎_elim
         (λ (l : p.depth < 8). Prim.absurd (omega (arith, l, g)))
@@ -148,7 +169,8 @@ module _ (file : List ℕ) (order : ByteOrder) (p : PageRecord) (color : ColorTy
 
 pub image_of_chunks : law.ImageOfChunks
 unfolding rect
-image_of_chunks file order p color i row k sides whole rl kl = byte_same file order p color i row k sides whole rl kl
+image_of_chunks file order p color i row k sides whole rl kl =
+    byte_same file order p color i row k sides whole rl kl
 
 pub unit_of_chunks : law.UnitOfChunks
 unfolding rect
@@ -165,21 +187,28 @@ unit_of_chunks file order p color unit plane row k l =
     }) plane row k)
     ((mod-eq_of_lt l) ∙ sym (mod-mul-add plane (chunks_of_plane p) unit l))
 
-pub unpacked_out : (bytes : List ℕ) (position : PackBitsCursor) (at len : ℕ) → left_at bytes position ≡ unpacked_at bytes at len → (left_at bytes position).out ≡ (unpacked_at bytes at len).out
+pub unpacked_out : (bytes : List ℕ) (position : PackBitsCursor) (at len : ℕ)
+    → left_at bytes position ≡ unpacked_at bytes at len
+    → (left_at bytes position).out ≡ (unpacked_at bytes at len).out
 unpacked_out bytes position at len e = ap (λ (u : Unpacked). u.out) e
 
 -- there is nothing after the last byte of a source
-pub passed_end : (bytes : List ℕ) (at n : ℕ) → length bytes < 2 ^ 64 → 2 ^ 64 ≤ at + n → [] ≡ drop n (drop at bytes)
-passed_end bytes at n l h = sym (drop_all n (drop at bytes) (omega (arith, length-drop at bytes, l, h)))
+pub passed_end : (bytes : List ℕ) (at n : ℕ) → length bytes < 2 ^ 64 → 2 ^ 64 ≤ at + n
+    → [] ≡ drop n (drop at bytes)
+passed_end bytes at n l h =
+    sym (drop_all n (drop at bytes) (omega (arith, length-drop at bytes, l, h)))
 
 -- the bytes after a front
 pub behind_front : (front rest : List ℕ) (k : ℕ) → length front ≡ k → rest ≡ drop k (front ++ rest)
 behind_front front rest k e =
-    sym (drop-append-le k front rest (omega (arith, e)) ∙ ap (λ (z : List ℕ). z ++ rest) (drop_all k front (omega (arith, e))))
+    sym (drop-append-le k front rest (omega (arith, e))
+    ∙ ap (λ (z : List ℕ). z ++ rest) (drop_all k front (omega (arith, e))))
 
 -- some more bytes are skipped
-pub more_passed : (first mid last : Unpacked) (piece : List ℕ) (n left k : ℕ) → left ≤ n → k ≤ left → length piece ≡ k
-    → mid.out ≡ drop (n - left) first.out → mid ≡ with_front piece last → last.out ≡ drop (n - (left - k)) first.out
+pub more_passed : (first mid last : Unpacked) (piece : List ℕ) (n left k : ℕ) → left ≤ n → k ≤ left
+    → length piece ≡ k
+    → mid.out ≡ drop (n - left) first.out → mid ≡ with_front piece last
+    → last.out ≡ drop (n - (left - k)) first.out
 more_passed first mid last piece n left k h l e a b =
     behind_front piece last.out k e
     ∙ ap (drop k) (sym (ap (λ (u : Unpacked). u.out) b) ∙ a)
@@ -204,21 +233,26 @@ none_dropped true s t h = cc
 none_dropped false s t h = ltb-false s t h
 
 -- the plane and the sample from which a sample of a region is read
-pub plane_for : (planar : PlanarConfiguration) (plane chunks j k m : ℕ) → plane * chunks + j ≡ k → (planar ≡ Chunky → j ≡ k)
+pub plane_for : (planar : PlanarConfiguration) (plane chunks j k m : ℕ) → plane * chunks + j ≡ k
+    → (planar ≡ Chunky → j ≡ k)
     → planar_or planar (planar_or planar plane m) 0 * chunks + j ≡ k
 plane_for Planar plane chunks j k m h c = h
 plane_for Chunky plane chunks j k m h c = let e : j ≡ k = c refl in omega (arith, e)
 
 pub sample_for : (planar : PlanarConfiguration) (plane m : ℕ) (color : ColorType)
-    → planar_or planar 0 (planar_or planar plane (m % samples_in_chunk planar color)) ≡ m % samples_in_chunk planar color
+    → planar_or planar 0 (planar_or planar plane (m % samples_in_chunk planar color))
+    ≡ m % samples_in_chunk planar color
 sample_for Planar plane m color = omega arith
 sample_for Chunky plane m color = refl
 
-pub first_planes : (planar : PlanarConfiguration) (k chunks samples : ℕ) → k < chunks * planes_of planar samples → planar ≡ Chunky → k < chunks
+pub first_planes : (planar : PlanarConfiguration) (k chunks samples : ℕ)
+    → k < chunks * planes_of planar samples → planar ≡ Chunky → k < chunks
 first_planes Chunky k chunks samples h e = omega (arith, h)
 first_planes Planar k chunks samples h e = cc
 
-module _ (file : List ℕ) (order : ByteOrder) (p : PageRecord) (color : ColorType) (k r b : ℕ) (sides : HasSides p) (stored : StoresAllShown p color) (listed : k < all_chunks p) (rl : r < (rect p k).height) (bl : b < row_bytes p color (rect p k).width) where
+module _ (file : List ℕ) (order : ByteOrder) (p : PageRecord) (color : ColorType) (k r b : ℕ)
+    (sides : HasSides p) (stored : StoresAllShown p color) (listed : k < all_chunks p)
+    (rl : r < (rect p k).height) (bl : b < row_bytes p color (rect p k).width) where
   abbrev pub a : ℕ
   a = across p
 
@@ -264,7 +298,8 @@ module _ (file : List ℕ) (order : ByteOrder) (p : PageRecord) (color : ColorTy
 
   pub row_below : r < p.chunk_height
   unfolding rect
-  row_below = let h : r < min p.chunk_height (p.height - cy * p.chunk_height) = rl in omega (arith, h)
+  row_below =
+      let h : r < min p.chunk_height (p.height - cy * p.chunk_height) = rl in omega (arith, h)
 
   pub width_below : (rect p k).width ≤ p.chunk_width
   unfolding rect
@@ -300,7 +335,8 @@ module _ (file : List ℕ) (order : ByteOrder) (p : PageRecord) (color : ColorTy
   pub byte_of_row : (q : ℕ) → q < need → slice_index all q ≡ slice_index row q
   byte_of_row q l =
       let left : List ℕ = drop (r * stored_row_bytes p) (chunk_data file order p k) in
-      get_or-take (stored_row_bytes p) left q 0 (omega (arith, l, need_within)) ∙ sym (get_or-take need left q 0 l)
+      get_or-take (stored_row_bytes p) left q 0 (omega (arith, l, need_within))
+      ∙ sym (get_or-take need left q 0 l)
 
   -- ---- depths below 8
 
@@ -308,7 +344,8 @@ module _ (file : List ℕ) (order : ByteOrder) (p : PageRecord) (color : ColorTy
       ≡ shown_number p.interpretation 256 (slice_index row b)
   unfolding rect
   packed =
-      let byte : b % row_bytes p color p.chunk_width ≡ b = mod-eq_of_lt (omega (arith, bl, width_bytes)) in
+      let byte : b % row_bytes p color p.chunk_width ≡ b =
+      mod-eq_of_lt (omega (arith, bl, width_bytes)) in
       (λ z. shown_number p.interpretation 256 (slice_index (stored_row file order p ((whole_index) z) ((mod-mul-add cy p.chunk_height r row_below) z)) (byte z)))
       ∙ ap (shown_number p.interpretation 256) (byte_of_row b (omega (arith, bl, needed_more)))
 
@@ -343,7 +380,9 @@ module _ (file : List ℕ) (order : ByteOrder) (p : PageRecord) (color : ColorTy
         (cases_lt 0 size)
 
     pub number_below : n < (rect p k).width * s
-    number_below = let e = bytes_shown in div_below b size ((rect p k).width * s) some_size (omega (arith, bl, e))
+    number_below =
+        let e =
+        bytes_shown in div_below b size ((rect p k).width * s) some_size (omega (arith, bl, e))
 
     pub column_below : col < (rect p k).width
     column_below = div_below n s (rect p k).width stored.shows number_below
@@ -366,26 +405,35 @@ module _ (file : List ℕ) (order : ByteOrder) (p : PageRecord) (color : ColorTy
         omega (arith, mul-le-mul_right size in_its_row, samples_needed)
 
     -- the output columns have the same numbers
-    pub number_is : (pr : Predictor) → pr ≡ p.predictor → number_by pr order p all (col * t + sample) ≡ number_by pr order p row (col * t + sample)
-    number_is predictor.None e = number_same order size all row (col * t + sample) (λ i u v. byte_of_row i (omega (arith, v, number_needed)))
+    pub number_is : (pr : Predictor) → pr ≡ p.predictor
+        → number_by pr order p all (col * t + sample) ≡ number_by pr order p row (col * t + sample)
+    number_is predictor.None e =
+        number_same order size all row (col * t + sample) (λ i u v. byte_of_row i (omega (arith, v, number_needed)))
     number_is predictor.Horizontal e =
         sums_same order order size t all row (col * t + sample) need
         (λ m h. number_same order size all row m (λ i u v. byte_of_row i (omega (arith, v, h)))) number_needed
     number_is predictor.FloatingPoint e =
         let y : need ≡ stored_row_bytes p = rw (ap is_byte_plane (sym e)) refl in
-        joins_same size t (p.chunk_width * t) all row (col * t + sample) need byte_of_row (omega (arith, in_its_row, mul-le-mul_right t width_below)) (omega (arith, y, mul_comm size (p.chunk_width * t), bytes_stored))
+        joins_same size t (p.chunk_width * t) all row (col * t
+        + sample) need byte_of_row (omega (arith, in_its_row, mul-le-mul_right t width_below))
+        (omega (arith, y, mul_comm size (p.chunk_width * t), bytes_stored))
 
     pub handed : number_byte file order p color (chunk_region p k) (k / chunks_of_plane p) r b
         ≡ handed_number order p row color n / 256 ^ (b % size) % 256
     unfolding rect shown_sample
     handed =
-        let line : (cy * p.chunk_height + r) % p.chunk_height ≡ r = mod-mul-add cy p.chunk_height r row_below in
-        let row_at : (cy * p.chunk_height + r) / p.chunk_height ≡ cy = div-mul-add cy p.chunk_height r row_below in
+        let line : (cy * p.chunk_height + r) % p.chunk_height ≡ r =
+        mod-mul-add cy p.chunk_height r row_below in
+        let row_at : (cy * p.chunk_height + r) / p.chunk_height ≡ cy =
+        div-mul-add cy p.chunk_height r row_below in
         let cl : col < p.chunk_width = omega (arith, column_below, width_below) in
-        let column : (cx * p.chunk_width + col) % p.chunk_width ≡ col = mod-mul-add cx p.chunk_width col cl in
-        let column_at : (cx * p.chunk_width + col) / p.chunk_width ≡ cx = div-mul-add cx p.chunk_width col cl in
+        let column : (cx * p.chunk_width + col) % p.chunk_width ≡ col =
+        mod-mul-add cx p.chunk_width col cl in
+        let column_at : (cx * p.chunk_width + col) / p.chunk_width ≡ cx =
+        div-mul-add cx p.chunk_width col cl in
         let plane : ℕ = planar_or p.planar (planar_or p.planar (k / chunks_of_plane p) sample) 0 in
-        let shows : ℕ → ℕ = λ v. shown_number p.interpretation (2 ^ p.depth) v / 256 ^ (b % size) % 256 in
+        let shows : ℕ → ℕ =
+        λ v. shown_number p.interpretation (2 ^ p.depth) v / 256 ^ (b % size) % 256 in
         (λ z.
         shows (number_of_row order p (stored_row file order p (plane * chunks_of_plane p + (row_at z * a + column_at z)) (line z)) (column z * t + sample_for p.planar (k / chunks_of_plane p) n color z)))
         ∙ (λ z. shows (number_of_row order p (stored_row file order p (plane * chunks_of_plane p + (div-add-mod' j a) z) r) (col * t + sample)))
@@ -396,7 +444,8 @@ pub row_handed : RowHanded
 unfolding rect
 row_handed file order p color k r b sides stored listed rl bl =
     ⊎_elim
-    (λ (l : p.depth < 8). let e : nat_lt p.depth 8 ≡ true = lt-ltb p.depth 8 l in rw e (packed file order p color k r b sides stored listed rl bl))
+    (λ (l : p.depth < 8). let e : nat_lt p.depth 8
+    ≡ true = lt-ltb p.depth 8 l in rw e (packed file order p color k r b sides stored listed rl bl))
     (λ (g : 8 ≤ p.depth).
     ⊎_elim
     (λ (l : p.depth < 8). Prim.absurd (omega (arith, l, g)))
@@ -410,39 +459,54 @@ pub front_of : (front rest : List ℕ) (n : ℕ) → length front ≡ n → take
 front_of front rest n e = ap (λ m. take m (front ++ rest)) (sym e) ∙ take-append_seam front rest
 
 -- the bytes that were taken are the row's
-pub taken : (order : ByteOrder) (p : PageRecord) (color : ColorType) (left rest filled out : List ℕ) → left ≡ filled ++ rest
-    → length filled ≡ needed_of_row p color (length out) → ((b : ℕ) → b < length out → slice_index out b ≡ handed_byte order p filled color b)
+pub taken : (order : ByteOrder) (p : PageRecord) (color : ColorType) (left rest filled out : List ℕ)
+    → left ≡ filled ++ rest
+    → length filled ≡ needed_of_row p color (length out)
+    → ((b : ℕ) → b < length out → slice_index out b ≡ handed_byte order p filled color b)
     → TakesRow order p color left rest out
 taken order p color left rest filled out e n h =
     let need : ℕ = needed_of_row p color (length out) in
     record {
       enough = omega (arith, (ap (λ (z : List ℕ). length z) e ∙ length-append filled rest), n);
       behind = behind_front filled rest need n ∙ ap (drop need) (sym e);
-      handed = λ b bl. h b bl ∙ ap (λ (z : List ℕ). handed_byte order p z color b) (sym (ap (take need) e ∙ front_of filled rest need n));
+      handed =
+          λ b bl. h b bl ∙ ap (λ (z : List ℕ). handed_byte order p z color b) (sym (ap (take need) e
+          ∙ front_of filled rest need n));
     }
 
-pub row_taken : (order : ByteOrder) (p : PageRecord) (color : ColorType) (left rest filled out : List ℕ) → needs_whole_rows p color ≡ false → left ≡ filled ++ rest
-    → length filled ≡ length out → ((b : ℕ) → b < length out → slice_index out b ≡ handed_byte order p filled color b)
+pub row_taken : (order : ByteOrder) (p : PageRecord) (color : ColorType)
+    (left rest filled out : List ℕ) → needs_whole_rows p color ≡ false → left ≡ filled ++ rest
+    → length filled ≡ length out → ((b : ℕ) → b < length out
+    → slice_index out b ≡ handed_byte order p filled color b)
     → TakesRow order p color left rest out
-row_taken order p color left rest filled out w e n h = taken order p color left rest filled out e (rw w n) h
+row_taken order p color left rest filled out w e n h =
+    taken order p color left rest filled out e (rw w n) h
 
-pub whole_taken : (order : ByteOrder) (p : PageRecord) (color : ColorType) (left rest filled out : List ℕ) → needs_whole_rows p color ≡ true → left ≡ filled ++ rest
-    → length filled ≡ stored_row_bytes p → ((b : ℕ) → b < length out → slice_index out b ≡ handed_byte order p filled color b)
+pub whole_taken : (order : ByteOrder) (p : PageRecord) (color : ColorType)
+    (left rest filled out : List ℕ) → needs_whole_rows p color ≡ true → left ≡ filled ++ rest
+    → length filled ≡ stored_row_bytes p
+    → ((b : ℕ) → b < length out → slice_index out b ≡ handed_byte order p filled color b)
     → TakesRow order p color left rest out
-whole_taken order p color left rest filled out w e n h = taken order p color left rest filled out e (rw w n) h
+whole_taken order p color left rest filled out w e n h =
+    taken order p color left rest filled out e (rw w n) h
 
-pub row_cause : (p : PageRecord) (color : ColorType) (wanting failed : Type 0) (left : List ℕ) (n m : ℕ) (e : TiffError) → needs_whole_rows p color ≡ false → n ≡ m
-    → IsCause ⊥ failed e (IsTooShort left n e) → IsCause wanting failed e (IsTooShort left (needed_of_row p color m) e)
+pub row_cause : (p : PageRecord) (color : ColorType) (wanting failed : Type 0) (left : List ℕ)
+    (n m : ℕ) (e : TiffError) → needs_whole_rows p color ≡ false → n ≡ m
+    → IsCause ⊥ failed e (IsTooShort left n e)
+    → IsCause wanting failed e (IsTooShort left (needed_of_row p color m) e)
 row_cause p color wanting failed left n m e w q c =
     cause_along e (λ z. Prim.absurd z) (λ f. f) (λ t. record { fault = t.fault; short = rw w (omega (arith, t.short, q)) }) c
 
-pub whole_cause : (p : PageRecord) (color : ColorType) (failed : Type 0) (left : List ℕ) (m : ℕ) (e : TiffError) → needs_whole_rows p color ≡ true
-    → IsCause (Unit {0}) failed e (IsTooShort left (stored_row_bytes p) e) → IsCause (Unit {0}) failed e (IsTooShort left (needed_of_row p color m) e)
+pub whole_cause : (p : PageRecord) (color : ColorType) (failed : Type 0) (left : List ℕ) (m : ℕ)
+    (e : TiffError) → needs_whole_rows p color ≡ true
+    → IsCause (Unit {0}) failed e (IsTooShort left (stored_row_bytes p) e)
+    → IsCause (Unit {0}) failed e (IsTooShort left (needed_of_row p color m) e)
 whole_cause p color failed left m e w c =
     cause_along e (λ z. z) (λ f. f) (λ t. record { fault = t.fault; short = rw w t.short }) c
 
 -- a row of whole bytes is a row of whole numbers
-pub row_of_numbers : (p : PageRecord) (color : ColorType) (width n : ℕ) → StoresAllShown p color → n ≡ row_bytes p color width
+pub row_of_numbers : (p : PageRecord) (color : ColorType) (width n : ℕ) → StoresAllShown p color
+    → n ≡ row_bytes p color width
     → (p.depth < 8) ⊎ (n / (p.depth / 8) * (p.depth / 8) ≡ n)
 unfolding row_bits
 row_of_numbers p color width n stored e =
@@ -450,9 +514,11 @@ row_of_numbers p color width n stored e =
     (λ (l : p.depth < 8). inl l)
     (λ (w : p.depth ≡ p.depth / 8 * 8).
     let size : ℕ = p.depth / 8 in
-    let a : n ≡ width * samples_in_chunk p.planar color * size = e ∙ bits_are width p.depth size (samples_in_chunk p.planar color) w in
+    let a : n ≡ width * samples_in_chunk p.planar color * size =
+    e ∙ bits_are width p.depth size (samples_in_chunk p.planar color) w in
     ⊎_elim
-    (λ (z : 0 < size). inr (ap (λ m. m / size * size) a ∙ ap (λ m. m * size) (mul-div_cancel (width * samples_in_chunk p.planar color) z) ∙ sym a))
+    (λ (z : 0 < size). inr (ap (λ m. m / size * size) a
+    ∙ ap (λ m. m * size) (mul-div_cancel (width * samples_in_chunk p.planar color) z) ∙ sym a))
     (λ (z : size ≤ 0). inl (omega (arith, z, w)))
     (cases_lt 0 size))
     stored.depth

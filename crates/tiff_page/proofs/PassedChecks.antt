@@ -39,7 +39,8 @@ passed_checks look p given =
     let planar = bind_ok (planar_in look) _ p predictor.1.1 in
     let subsampling = bind_ok (subsampling_in look) _ p planar.1.1 in
     let chunk_type = bind_ok (chunk_type_in look) _ p subsampling.1.1 in
-    let chunks = bind_ok (chunks_in look chunk_type.0 size.0.0 size.0.1 (planes_of planar.0 samples.0)) _ p chunk_type.1.1 in
+    let chunks =
+    bind_ok (chunks_in look chunk_type.0 size.0.0 size.0.1 (planes_of planar.0 samples.0)) _ p chunk_type.1.1 in
     subst (λ (x : PageRecord). PassedChecks look x) (ok_is _ p chunks.1.1) (record {
       size = size.1.0;
       interpretation = interpretation.1.0;
@@ -69,34 +70,41 @@ checks_on_literals = tt
 
 -- ---- tags whose values were read are found
 
-found_of : {A : Type 0} (into : PlainValue → Result A TiffError) (value : Result (Option PlainValue) TiffError) (x : A)
+found_of : {A : Type 0} (into : PlainValue → Result A TiffError)
+    (value : Result (Option PlainValue) TiffError) (x : A)
     → (value >>= if_found into) ≡ Ok (Some x) → IsFoundWithin value
 found_of into (Ok (Some d)) x h = tt
 found_of into (Ok None) x h = absurd (cc)
 found_of into (Err e) x h = absurd (cc)
 
 -- a number that was found
-pub number_found : {A : Type 0} (into : PlainValue → Result A TiffError) (look : TagLookup) (tag : Tag) (x : A) → find into look tag ≡ Ok (Some x) → IsFoundWithin (look.value tag)
+pub number_found : {A : Type 0} (into : PlainValue → Result A TiffError) (look : TagLookup)
+    (tag : Tag) (x : A) → find into look tag ≡ Ok (Some x) → IsFoundWithin (look.value tag)
 unfolding find
 number_found into look tag x h = found_of into (look.value tag) x h
 
-required_of : {A : Type 0} (into : PlainValue → Result A TiffError) (value : Result (Option PlainValue) TiffError) (e : TiffError) (x : A)
+required_of : {A : Type 0} (into : PlainValue → Result A TiffError)
+    (value : Result (Option PlainValue) TiffError) (e : TiffError) (x : A)
     → (value >>= if_found into >>= λ found. ok_or_fault found e) ≡ Ok x → IsFoundWithin value
 required_of into (Ok (Some d)) e x h = tt
 required_of into (Ok None) e x h = absurd (cc)
 required_of into (Err f) e x h = absurd (cc)
 
 -- a number of a required tag
-pub required_found : {A : Type 0} (into : PlainValue → Result A TiffError) (look : TagLookup) (tag : Tag) (x : A) → require into look tag ≡ Ok x → IsFoundWithin (look.value tag)
+pub required_found : {A : Type 0} (into : PlainValue → Result A TiffError) (look : TagLookup)
+    (tag : Tag) (x : A) → require into look tag ≡ Ok x → IsFoundWithin (look.value tag)
 unfolding require find
-required_found into look tag x h = required_of into (look.value tag) (FormatError (RequiredTagNotFound tag)) x h
+required_found into look tag x h =
+    required_of into (look.value tag) (FormatError (RequiredTagNotFound tag)) x h
 
-width_of : {A B : Type 0} (width : Result A TiffError) (next : A → Result B TiffError) (size : B) → (width >>= next) ≡ Ok size → (x : A) × (width ≡ Ok x)
+width_of : {A B : Type 0} (width : Result A TiffError) (next : A → Result B TiffError) (size : B)
+    → (width >>= next) ≡ Ok size → (x : A) × (width ≡ Ok x)
 width_of (Ok x) next size h = (x, λ i. Ok x)
 width_of (Err e) next size h = absurd (cc)
 
 -- the sides of a page, with its width
-pub size_found : (look : TagLookup) (size : ℕ × ℕ) → size_in look ≡ Ok size → IsFoundWithin (look.value tag.ImageWidth)
+pub size_found : (look : TagLookup) (size : ℕ × ℕ) → size_in look ≡ Ok size
+    → IsFoundWithin (look.value tag.ImageWidth)
 unfolding size_in
 size_found look size h =
     let width = width_of (require into_u32 look tag.ImageWidth) _ size h in
@@ -105,7 +113,8 @@ size_found look size h =
 -- ---- computing a layout runs out of memory only for an error that contains a list
 
 -- an error that contains a list is the error of all steps after it
-fault_kept : {A B : Type 0} (r : Result A TiffError) (next : A → Result B TiffError) → IsListFault r → IsListFault (r >>= next)
+fault_kept : {A B : Type 0} (r : Result A TiffError) (next : A → Result B TiffError) → IsListFault r
+    → IsListFault (r >>= next)
 fault_kept (Ok x) next h = absurd h
 fault_kept (Err e) next h = h
 
@@ -114,24 +123,34 @@ list_allowed (Ok x) h = absurd h
 list_allowed (Err e) h = h
 
 -- the error of a layout's color contains a list
-pub layout_fault : (p : PageRecord) (width height : ℕ) → IsListFault (color_of p) → IsListFault (planes_layout p width height)
+pub layout_fault : (p : PageRecord) (width height : ℕ) → IsListFault (color_of p)
+    → IsListFault (planes_layout p width height)
 unfolding planes_layout layout_of
 layout_fault p width height h = fault_kept _ _ (fault_kept (color_of p) _ h)
 
-pub layout_wanted : {B : Type 0} (p : PageRecord) (width height : ℕ) (next : LayoutRecord → Result B TiffError) → IsListFault (color_of p)
+pub layout_wanted : {B : Type 0} (p : PageRecord) (width height : ℕ)
+    (next : LayoutRecord → Result B TiffError) → IsListFault (color_of p)
     → IsOkOrList (planes_layout p width height >>= next)
-layout_wanted p width height next h = list_allowed _ (fault_kept (planes_layout p width height) next (layout_fault p width height h))
+layout_wanted p width height next h =
+    list_allowed _ (fault_kept (planes_layout p width height) next (layout_fault p width height h))
 
-pub laid_fault : {B : Type 0} (p : PageRecord) (width height : ℕ) (next : LayoutRecord → Result B TiffError) → IsListFault (color_of p)
+pub laid_fault : {B : Type 0} (p : PageRecord) (width height : ℕ)
+    (next : LayoutRecord → Result B TiffError) → IsListFault (color_of p)
     → IsListFault (planes_layout p width height >>= next)
-laid_fault p width height next h = fault_kept (planes_layout p width height) next (layout_fault p width height h)
+laid_fault p width height next h =
+    fault_kept (planes_layout p width height) next (layout_fault p width height h)
 
-pub layout_of_fault : {B : Type 0} (p : PageRecord) (width height : ℕ) (next : LayoutRecord → Result B TiffError) → IsListFault (color_of p)
+pub layout_of_fault : {B : Type 0} (p : PageRecord) (width height : ℕ)
+    (next : LayoutRecord → Result B TiffError) → IsListFault (color_of p)
     → IsListFault (layout_of p width height >>= next)
 unfolding layout_of
-layout_of_fault p width height next h = fault_kept (layout_of p width height) next (fault_kept (color_of p) _ h)
+layout_of_fault p width height next h =
+    fault_kept (layout_of p width height) next (fault_kept (color_of p) _ h)
 
 -- a call may run out of memory if no error is found early
-pub may_want : {X : Type 0} (early : Result (Unit {0}) TiffError) (result : Result X TiffError) → early ≡ Ok tt → AllocatesAfter early result
+pub may_want : {X : Type 0} (early : Result (Unit {0}) TiffError) (result : Result X TiffError)
+    → early ≡ Ok tt → AllocatesAfter early result
 may_want early (Ok x) h = tt
-may_want early (Err e) h = let P : Result (Unit {0}) TiffError → Type 0 = λ r. e ≡ OutOfMemory → IsOkOrList r in subst P (sym h) (λ m. tt)
+may_want early (Err e) h =
+    let P : Result (Unit {0}) TiffError → Type 0 =
+    λ r. e ≡ OutOfMemory → IsOkOrList r in subst P (sym h) (λ m. tt)

@@ -20,7 +20,9 @@ use Rattle.tiff_page.specs.PageView as view
 use Rattle.tiff_page.specs.declared.page.Page.{Page}
 
 pub parts_cover : (w n : ℕ) → 0 < n → w ≤ parts w n * n
-parts_cover w n p = let e : parts w n * n + (w + n - 1) % n ≡ w + n - 1 = div-add-mod' (w + n - 1) n in omega (arith, mod_below (w + n - 1) n p)
+parts_cover w n p =
+    let e : parts w n * n + (w + n - 1) % n ≡ w + n - 1 =
+    div-add-mod' (w + n - 1) n in omega (arith, mod_below (w + n - 1) n p)
 
 pub parts_within : (w n c : ℕ) → 0 < n → c < parts w n → c * n < w
 parts_within w n c p h =
@@ -30,7 +32,8 @@ parts_within w n c p h =
 
 pub parts_some : (w n : ℕ) → 0 < n → 0 < w → 0 < parts w n
 parts_some w n p q =
-    ⊎_elim (λ z. let e : parts w n ≡ 0 = omega arith in Prim.absurd (omega (arith, rw e at (parts_cover w n p)))) (λ h. h) (cases_lt (parts w n) 1)
+    ⊎_elim (λ z. let e : parts w n ≡ 0 = omega arith in
+    Prim.absurd (omega (arith, rw e at (parts_cover w n p)))) (λ h. h) (cases_lt (parts w n) 1)
 
 pub planes_some : (c : PlanarConfiguration) (s : ℕ) → 0 < s → 0 < planes_of c s
 planes_some Chunky s h = omega arith
@@ -40,18 +43,22 @@ planes_some Planar s h = h
 pub plane_some : (w h cw ch : ℕ) → 0 < w → 0 < h → 0 < cw → 0 < ch → 0 < parts w cw * parts h ch
 plane_some w h cw ch a b c d = one-le-mul (parts_some w cw c a) (parts_some h ch d b)
 
-pub plane_few : (w h cw ch s n : ℕ) (c : PlanarConfiguration) → 0 < s → n ≡ parts w cw * parts h ch * planes_of c s → n < 2 ^ 32
+pub plane_few : (w h cw ch s n : ℕ) (c : PlanarConfiguration) → 0 < s
+    → n ≡ parts w cw * parts h ch * planes_of c s → n < 2 ^ 32
     → parts w cw * parts h ch < 2 ^ 32
 plane_few w h cw ch s n c a e l =
-    let k : parts w cw * parts h ch ≤ parts w cw * parts h ch * planes_of c s = le-mul_of_pos_right (parts w cw * parts h ch) (planes_some c s a) in
+    let k : parts w cw * parts h ch ≤ parts w cw * parts h ch * planes_of c s =
+    le-mul_of_pos_right (parts w cw * parts h ch) (planes_some c s a) in
     omega arith
 
 -- products that fit
 pub product_fits : (a b : ℕ) → a < 2 ^ 32 → b < 2 ^ 32 → Fits w64 (a * b)
-product_fits a b p q = let k : a * b < 2 ^ 32 * 2 ^ 32 = mul-lt a b (2 ^ 32) (2 ^ 32) p q in omega arith
+product_fits a b p q =
+    let k : a * b < 2 ^ 32 * 2 ^ 32 = mul-lt a b (2 ^ 32) (2 ^ 32) p q in omega arith
 
 pub column_fits : (c a n : ℕ) → c < 2 ^ 32 → n < 2 ^ 32 → Fits w64 (c % a * n)
-column_fits c a n p q = let e : c / a * a + c % a ≡ c = div-add-mod' c a in product_fits (c % a) n (omega arith) q
+column_fits c a n p q =
+    let e : c / a * a + c % a ≡ c = div-add-mod' c a in product_fits (c % a) n (omega arith) q
 
 pub row_fits : (c a n : ℕ) → c < 2 ^ 32 → n < 2 ^ 32 → Fits w64 (c / a * n)
 row_fits c a n p q = product_fits (c / a) n (omega (arith, div-le_self c a)) q
@@ -71,14 +78,16 @@ min_some a b p q = omega arith
 
 pub column_in : (w cw c : ℕ) → 0 < w → 0 < cw → 0 < min cw (w - c % parts w cw * cw)
 column_in w cw c p q =
-    let k : c % parts w cw * cw < w = parts_within w cw (c % parts w cw) q (mod_below c (parts w cw) (parts_some w cw q p)) in
+    let k : c % parts w cw * cw < w =
+    parts_within w cw (c % parts w cw) q (mod_below c (parts w cw) (parts_some w cw q p)) in
     min_some cw (w - c % parts w cw * cw) q (omega arith)
 
 pub row_in : (w h cw ch i : ℕ) → 0 < w → 0 < h → 0 < cw → 0 < ch
     → 0 < min ch (h - i % (parts w cw * parts h ch) / parts w cw * ch)
 row_in w h cw ch i a b c d =
     let n : ℕ = i % (parts w cw * parts h ch) in
-    let l : n < parts w cw * parts h ch = mod_below i (parts w cw * parts h ch) (plane_some w h cw ch a b c d) in
+    let l : n < parts w cw * parts h ch =
+    mod_below i (parts w cw * parts h ch) (plane_some w h cw ch a b c d) in
     let k : n / parts w cw * ch < h =
     parts_within h ch (n / parts w cw) d (div_below n (parts w cw) (parts h ch) (parts_some w cw c a) (rw (mul_comm (parts h ch) (parts w cw)) l)) in
     min_some ch (h - n / parts w cw * ch) d (omega arith)
@@ -91,7 +100,8 @@ product_some w d s p q r =
 -- ---- the sides of a page and of its chunks have at least one pixel
 
 abbrev pub sides_of : (p : Page) → HasSides (view.page p)
-sides_of p = record { wide = p.wide; high = p.high; chunk_wide = p.chunk_wide; chunk_high = p.chunk_high }
+sides_of p =
+    record { wide = p.wide; high = p.high; chunk_wide = p.chunk_wide; chunk_high = p.chunk_high }
 
 -- a quotient by its bounds
 pub div_is : (x a n : ℕ) → a * n ≤ x → x < a * n + n → x / n ≡ a
@@ -143,20 +153,30 @@ module _ (p : PageRecord) (plane x y : ℕ) (s : HasSides p) (xl : x < p.width) 
   plane_is = div-mul-add plane c j j_below
 
   pub column_is : (plane * c + j) % c % a ≡ x / p.chunk_width
-  column_is = ap (λ z. z % a) (mod-mul-add plane c j j_below) ∙ mod-mul-add (y / p.chunk_height) a (x / p.chunk_width) column_below
+  column_is =
+      ap (λ z. z % a) (mod-mul-add plane c j j_below)
+      ∙ mod-mul-add (y / p.chunk_height) a (x / p.chunk_width) column_below
 
   pub row_is : (plane * c + j) % c / a ≡ y / p.chunk_height
-  row_is = ap (λ z. z / a) (mod-mul-add plane c j j_below) ∙ div-mul-add (y / p.chunk_height) a (x / p.chunk_width) column_below
+  row_is =
+      ap (λ z. z / a) (mod-mul-add plane c j j_below)
+      ∙ div-mul-add (y / p.chunk_height) a (x / p.chunk_width) column_below
 
   pub has_pixel : HasPixel p (chunk_of_pixel p plane x y) plane x y
   unfolding rect
   has_pixel =
-      let e : (plane * c + j) % c % a * p.chunk_width ≡ x / p.chunk_width * p.chunk_width = ap (λ z. z * p.chunk_width) column_is in
-      let f : (plane * c + j) % c / a * p.chunk_height ≡ y / p.chunk_height * p.chunk_height = ap (λ z. z * p.chunk_height) row_is in
+      let e : (plane * c + j) % c % a * p.chunk_width ≡ x / p.chunk_width * p.chunk_width =
+      ap (λ z. z * p.chunk_width) column_is in
+      let f : (plane * c + j) % c / a * p.chunk_height ≡ y / p.chunk_height * p.chunk_height =
+      ap (λ z. z * p.chunk_height) row_is in
       let l : x / p.chunk_width * p.chunk_width ≤ x = before x p.chunk_width in
       let t : y / p.chunk_height * p.chunk_height ≤ y = before y p.chunk_height in
-      let r : x < x / p.chunk_width * p.chunk_width + min p.chunk_width (p.width - x / p.chunk_width * p.chunk_width) = in_part x p.width p.chunk_width s.chunk_wide xl in
-      let b : y < y / p.chunk_height * p.chunk_height + min p.chunk_height (p.height - y / p.chunk_height * p.chunk_height) = in_part y p.height p.chunk_height s.chunk_high yl in
+      let r : x < x / p.chunk_width * p.chunk_width
+      + min p.chunk_width (p.width - x / p.chunk_width * p.chunk_width) =
+      in_part x p.width p.chunk_width s.chunk_wide xl in
+      let b : y < y / p.chunk_height * p.chunk_height
+      + min p.chunk_height (p.height - y / p.chunk_height * p.chunk_height) =
+      in_part y p.height p.chunk_height s.chunk_high yl in
       record {
         of_plane = plane_is;
         left = omega arith;
@@ -169,8 +189,10 @@ module _ (p : PageRecord) (plane x y : ℕ) (s : HasSides p) (xl : x < p.width) 
   unfolding rect
   no_other i h =
       let n : ℕ = i % c in
-      let col : x / p.chunk_width ≡ i % c % a = div_is x (i % c % a) p.chunk_width h.left (omega (arith, h.right)) in
-      let row : y / p.chunk_height ≡ i % c / a = div_is y (i % c / a) p.chunk_height h.top (omega (arith, h.bottom)) in
+      let col : x / p.chunk_width ≡ i % c % a =
+      div_is x (i % c % a) p.chunk_width h.left (omega (arith, h.right)) in
+      let row : y / p.chunk_height ≡ i % c / a =
+      div_is y (i % c / a) p.chunk_height h.top (omega (arith, h.bottom)) in
       let u : i / c * c + i % c ≡ i = div-add-mod' i c in
       let v : i % c / a * a + i % c % a ≡ i % c = div-add-mod' (i % c) a in
       let k : i / c * c ≡ plane * c = ap (λ z. z * c) h.of_plane in
@@ -183,8 +205,10 @@ one_chunk p plane x y s xl yl = (has_pixel p plane x y s xl yl, no_other p plane
 pub chunks_within : law.ChunksWithin
 unfolding rect
 chunks_within p i s =
-    let u : 0 < min p.chunk_width (p.width - i % chunks_of_plane p % across p * p.chunk_width) = column_in p.width p.chunk_width (i % chunks_of_plane p) s.wide s.chunk_wide in
-    let v : 0 < min p.chunk_height (p.height - i % chunks_of_plane p / across p * p.chunk_height) = row_in p.width p.height p.chunk_width p.chunk_height i s.wide s.high s.chunk_wide s.chunk_high in
+    let u : 0 < min p.chunk_width (p.width - i % chunks_of_plane p % across p * p.chunk_width) =
+    column_in p.width p.chunk_width (i % chunks_of_plane p) s.wide s.chunk_wide in
+    let v : 0 < min p.chunk_height (p.height - i % chunks_of_plane p / across p * p.chunk_height) =
+    row_in p.width p.height p.chunk_width p.chunk_height i s.wide s.high s.chunk_wide s.chunk_high in
     record {
       some_column = u;
       some_row = v;
@@ -215,7 +239,8 @@ module _ (fault : ℕ → Result (Unit {0}) TiffError) where
       let at : each_below fault n ≡ Ok tt = ok_all n (λ k l. h k (omega (arith, l))) in
       rw at (h n (omega arith))
 
-  pub first_of : (n : ℕ) (e : TiffError) → each_below fault n ≡ Err e → (m : ℕ) × ((m < n) × IsFirst fault m e)
+  pub first_of : (n : ℕ) (e : TiffError) → each_below fault n ≡ Err e
+      → (m : ℕ) × ((m < n) × IsFirst fault m e)
   first_of zero e h = cc
   first_of (suc n) e h =
       ⊎_elim
@@ -228,7 +253,8 @@ module _ (fault : ℕ → Result (Unit {0}) TiffError) where
       (below.0, (omega (arith, below.1.0), below.1.1)))
       (cases_fault (each_below fault n))
 
-  pub of_first : (n : ℕ) (e : TiffError) (m : ℕ) → m < n → IsFirst fault m e → each_below fault n ≡ Err e
+  pub of_first : (n : ℕ) (e : TiffError) (m : ℕ) → m < n → IsFirst fault m e
+      → each_below fault n ≡ Err e
   of_first zero e m l h = Prim.absurd (omega (arith, l))
   of_first (suc n) e m l h =
       ⊎_elim
@@ -250,5 +276,6 @@ no_fault fault n = (all_ok fault n, ok_all fault n)
 pub placed_each : law.PlacedEach
 unfolding bytes_with_region
 placed_each file order p color region stride planes buf =
-    let at : ℕ → ℕ = λ i. unwrap_or (byte_at file order p color region stride planes i) (slice_index buf i) in
+    let at : ℕ → ℕ =
+    λ i. unwrap_or (byte_at file order p color region stride planes i) (slice_index buf i) in
     (length-map-range_with_len at 0 (length buf), λ i l. get_or-map-range_with_len at 0 (length buf) i i 0 l (omega arith))

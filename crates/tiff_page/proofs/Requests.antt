@@ -56,7 +56,9 @@ use Rattle.tiff_page.specs.Reach.{StoredReadable, Moves, DataReadable, ChunkRead
 
 -- the rows of a chunk have fewer than 2^88 bytes
 rows_few : (h r : ℕ) → h < 2 ^ 32 → r < 2 ^ 56 → (h - 1) * r < 2 ^ 88
-rows_few h r a b = let k : (h - 1) * r < 2 ^ 32 * 2 ^ 56 = mul-lt (h - 1) r (2 ^ 32) (2 ^ 56) (omega (arith, a)) b in omega (arith, k)
+rows_few h r a b =
+    let k : (h - 1) * r < 2 ^ 32 * 2 ^ 56 =
+    mul-lt (h - 1) r (2 ^ 32) (2 ^ 56) (omega (arith, a)) b in omega (arith, k)
 
 pub rows_fit : (h r : ℕ) → h < 2 ^ 32 → r < 2 ^ 56 → Fits w128 ((h - 1) * r)
 rows_fit h r a b = let k = rows_few h r a b in omega (arith, k)
@@ -66,16 +68,21 @@ bytes_few h r l a b d = let k = rows_few h r a b in omega (arith, k, d)
 
 -- ---- the last byte
 
-pub reached : (failed : Type 0) (bytes buf : List ℕ) (at len last : ℕ) (r : Result (Unit {0}) TiffError) → last ≡ at + len - 1 → 0 < len
-    → AnswersBut ⊥ failed (λ _. buf) r (exactly_at bytes last 1) → AnswersBut ⊥ failed (λ _. tt) r (fail_if (nat_lt (length bytes - at) len) (IoError UnexpectedEof))
+pub reached : (failed : Type 0) (bytes buf : List ℕ) (at len last : ℕ)
+    (r : Result (Unit {0}) TiffError) → last ≡ at + len - 1 → 0 < len
+    → AnswersBut ⊥ failed (λ _. buf) r (exactly_at bytes last 1)
+    → AnswersBut ⊥ failed (λ _. tt) r (fail_if (nat_lt (length bytes - at) len) (IoError UnexpectedEof))
 reached failed bytes buf at len last (Ok x) e s h =
     rw (le-ltb (length bytes - at) len (omega (arith, (byte_there bytes buf last h).0, e, s))) refl
 reached failed bytes buf at len last (Err f) e s h =
     cause_along f (λ w. w) (λ d. d)
-    (λ g. (let m = missing bytes last 1 f g in rw (lt-ltb (length bytes - at) len (omega (arith, m.0, e, s))) (ap Err m.1))) h
+    (λ g. (let m = missing bytes last 1 f g in
+    rw (lt-ltb (length bytes - at) len (omega (arith, m.0, e, s))) (ap Err m.1))) h
 
 -- there is no byte at offset 2^64 or after
-pub past_all : (bytes : List ℕ) (at len : ℕ) → length bytes < 2 ^ 64 → 0 < len → 2 ^ 64 ≤ at + len - 1 → fail_if (nat_lt (length bytes - at) len) (IoError UnexpectedEof) ≡ Err (IoError UnexpectedEof)
+pub past_all : (bytes : List ℕ) (at len : ℕ) → length bytes < 2 ^ 64 → 0 < len
+    → 2 ^ 64 ≤ at + len - 1 → fail_if (nat_lt (length bytes - at) len) (IoError UnexpectedEof)
+    ≡ Err (IoError UnexpectedEof)
 past_all bytes at len l s p = rw (lt-ltb (length bytes - at) len (omega (arith, l, s, p))) refl
 
 -- ---- PackBits data
@@ -83,14 +90,20 @@ past_all bytes at len l s p = rw (lt-ltb (length bytes - at) len (omega (arith, 
 pub least_few : (n : ℕ) → n < 2 ^ 89 → div_ceil n 64 < 2 ^ 89
 least_few n h = let k = div_ceil_times n 64 (omega arith) in omega (arith, h, k.1)
 
-pub counted_few : (bytes : List ℕ) (at count least : ℕ) → count < least → fail_if (nat_lt (min count (length bytes - at)) least) (IoError UnexpectedEof) ≡ Err (IoError UnexpectedEof)
-counted_few bytes at count least h = rw (lt-ltb (min count (length bytes - at)) least (omega (arith, h))) refl
+pub counted_few : (bytes : List ℕ) (at count least : ℕ) → count < least
+    → fail_if (nat_lt (min count (length bytes - at)) least) (IoError UnexpectedEof)
+    ≡ Err (IoError UnexpectedEof)
+counted_few bytes at count least h =
+    rw (lt-ltb (min count (length bytes - at)) least (omega (arith, h))) refl
 
-pub counted_all : (bytes : List ℕ) (at count least : ℕ) → least ≤ count → nat_lt (length bytes - at) least ≡ nat_lt (min count (length bytes - at)) least
+pub counted_all : (bytes : List ℕ) (at count least : ℕ) → least ≤ count
+    → nat_lt (length bytes - at) least ≡ nat_lt (min count (length bytes - at)) least
 counted_all bytes at count least h =
     ⊎_elim
-    (λ (l : length bytes - at < least). lt-ltb (length bytes - at) least l ∙ sym (lt-ltb (min count (length bytes - at)) least (omega (arith, l))))
-    (λ (l : least ≤ length bytes - at). le-ltb (length bytes - at) least l ∙ sym (le-ltb (min count (length bytes - at)) least (omega (arith, l, h))))
+    (λ (l : length bytes - at < least). lt-ltb (length bytes - at) least l
+    ∙ sym (lt-ltb (min count (length bytes - at)) least (omega (arith, l))))
+    (λ (l : least ≤ length bytes - at). le-ltb (length bytes - at) least l
+    ∙ sym (le-ltb (min count (length bytes - at)) least (omega (arith, l, h))))
     (cases_lt (length bytes - at) least)
 
 -- ---- how many bytes PackBits data decompress to at most
@@ -98,14 +111,20 @@ counted_all bytes at count least h =
 of_step : (u v : Unpacked) (n : ℕ) → u ≡ v → length v.out ≤ n → length u.out ≤ n
 of_step u v n e h = subst (λ (w : Unpacked). length w.out ≤ n) (sym e) h
 
-run_few : (early : Bool) (h : ℕ) (P : List ℕ) → 128 < h → length (runs_after 1 early P).out ≤ 64 * (length P - 1) → length (runs early (h ∷ P)).out ≤ 64 * (length P + 1)
+run_few : (early : Bool) (h : ℕ) (P : List ℕ) → 128 < h
+    → length (runs_after 1 early P).out ≤ 64 * (length P - 1)
+    → length (runs early (h ∷ P)).out ≤ 64 * (length P + 1)
 unfolding runs_after
-run_few early h [] a k = of_step (runs early (h ∷ [])) (record { out = []; end = Broken }) (64 * (0 + 1)) (runs_broken early h a) (omega arith)
+run_few early h [] a k =
+    of_step (runs early (h ∷ [])) (record { out = []; end = Broken }) (64 * (0
+    + 1)) (runs_broken early h a) (omega arith)
 run_few early h (v ∷ P) a k =
-    of_step (runs early (h ∷ v ∷ P)) (with_front (replicate (257 - h) v) (runs early P)) (64 * (length (v ∷ P) + 1)) (runs_run early h v P a)
+    of_step (runs early (h ∷ v ∷ P)) (with_front (replicate (257 - h) v) (runs early P))
+    (64 * (length (v ∷ P) + 1)) (runs_run early h v P a)
     (omega (arith, a, k, length-append (replicate (257 - h) v) (runs early P).out, length-replicate (257 - h) v))
 
-runs_few : (n : ℕ) (early : Bool) (P : List ℕ) → length (runs_after n early P).out ≤ 64 * (length P - n)
+runs_few : (n : ℕ) (early : Bool) (P : List ℕ)
+    → length (runs_after n early P).out ≤ 64 * (length P - n)
 unfolding runs_after
 runs_few (suc n) early [] = omega arith
 runs_few (suc n) early (b ∷ P) = omega (arith, runs_few n early P)
@@ -113,7 +132,8 @@ runs_few zero early [] = omega arith
 runs_few zero early (h ∷ P) =
     ⊎_elim
     (λ (a : h < 128).
-    of_step (runs early (h ∷ P)) (with_front (take (h + 1) P) (runs_after (h + 1) early P)) (64 * (length (h ∷ P) - 0)) (runs_literal early h P a)
+    of_step (runs early (h ∷ P)) (with_front (take (h + 1) P) (runs_after (h
+    + 1) early P)) (64 * (length (h ∷ P) - 0)) (runs_literal early h P a)
     (omega (arith, runs_few (h + 1) early P, length-append (take (h + 1) P) (runs_after (h + 1) early P).out, length-take (h + 1) P)))
     (λ (a : 128 ≤ h).
     ⊎_elim
@@ -126,14 +146,18 @@ runs_few zero early (h ∷ P) =
 
 -- ---- fewer bytes than the data take are too few data
 
-packed_short : (file : List ℕ) (position count n : ℕ) (early : Bool) → min count (length file - position) < div_ceil n 64 → length (runs early (take count (drop position file))).out < n
+packed_short : (file : List ℕ) (position count n : ℕ) (early : Bool)
+    → min count (length file - position) < div_ceil n 64
+    → length (runs early (take count (drop position file))).out < n
 packed_short file position count n early h =
     omega (arith, h, runs_few zero early (take count (drop position file)), (div_ceil_times n 64 (omega arith)).1, length-take count (drop position file), length-drop position file)
 
-cut_short : (file : List ℕ) (order : ByteOrder) (p : PageRecord) (m : CompressionMethod) (position count n : ℕ) → bytes_held file m position count < least_stored m n
+cut_short : (file : List ℕ) (order : ByteOrder) (p : PageRecord) (m : CompressionMethod)
+    (position count n : ℕ) → bytes_held file m position count < least_stored m n
     → length (data_by_method file m position count) < n
 cut_short file order p method.None position count n h = omega (arith, h, length-drop position file)
-cut_short file order p method.PackBits position count n h = packed_short file position count n (nat_lt (length file - position) count) h
+cut_short file order p method.PackBits position count n h =
+    packed_short file position count n (nat_lt (length file - position) count) h
 cut_short file order p m position count n h = omega (arith, h)
 
 module _ (file : List ℕ) (order : ByteOrder) (p : PageRecord) (limits : Limits) (color : ColorType) where
@@ -147,39 +171,48 @@ module _ (file : List ℕ) (order : ByteOrder) (p : PageRecord) (limits : Limits
   fault_of i = chunk_fault p limits (is_short file order p color) color i
 
   -- the early error of a chunk is its error
-  found_early : (i : ℕ) (e : TiffError) → chunk_fault p limits (is_cut file p color) color i ≡ Err e → fault_of i ≡ Err e
+  found_early : (i : ℕ) (e : TiffError) → chunk_fault p limits (is_cut file p color) color i ≡ Err e
+      → fault_of i ≡ Err e
   found_early i e h =
       ⊎_elim
       (λ (formed : form_fault p limits color i ≡ Ok tt).
       ⊎_elim
-      (λ (t : is_cut file p color i ≡ true). let g : Err (IoError UnexpectedEof) ≡ Err e = rw (formed, t) at h in rw (formed, is_short_of i t) g)
+      (λ (t : is_cut file p color i ≡ true). let g : Err (IoError UnexpectedEof)
+      ≡ Err e = rw (formed, t) at h in rw (formed, is_short_of i t) g)
       (λ (f : is_cut file p color i ≡ false). let g : Ok tt ≡ Err e = rw (formed, f) at h in cc)
       (cases_Bool (is_cut file p color i)))
       (λ er. let g : Err er.0 ≡ Err e = rw (er.1) at h in rw (er.1) g)
       (cases_fault (form_fault p limits color i))
 
   -- an error of the first chunk is the first error of a part
-  part_early : (part : Part) (e : TiffError) → 0 < part.count → 0 < part.planes → fault_of part.first ≡ Err e → part_fault file order p limits color part ≡ Err e
+  part_early : (part : Part) (e : TiffError) → 0 < part.count → 0 < part.planes
+      → fault_of part.first ≡ Err e → part_fault file order p limits color part ≡ Err e
   part_early part e some planes h =
-      let in_plane : ℕ → ℕ → Result (Unit {0}) TiffError = λ j plane. fault_of (plane * chunks_of_plane p + (part.first + j)) in
+      let in_plane : ℕ → ℕ → Result (Unit {0}) TiffError =
+      λ j plane. fault_of (plane * chunks_of_plane p + (part.first + j)) in
       let at : part.first ≡ 0 * chunks_of_plane p + (part.first + 0) = omega arith in
       first_at (λ j. each_below (in_plane j) part.planes) part.count 0 e some refl
-      (first_at (in_plane 0) part.planes 0 e planes refl (subst (λ (m : ℕ). fault_of m ≡ Err e) at h))
+      (first_at (in_plane 0) part.planes 0 e planes refl (subst (λ (m : ℕ). fault_of m
+      ≡ Err e) at h))
 
   -- an error of the first chunk is the error of the part's samples
-  pub from_early : (part : Part) (type : DecodingSampleType) (len : ℕ) (e : TiffError) → 0 < part.count → 0 < part.planes → sample_type_of p ≡ Ok type
-      → check_first_chunk file p limits color type part.first len ≡ Err e → samples file order p limits color part len ≡ Err e
+  pub from_early : (part : Part) (type : DecodingSampleType) (len : ℕ) (e : TiffError)
+      → 0 < part.count → 0 < part.planes → sample_type_of p ≡ Ok type
+      → check_first_chunk file p limits color type part.first len ≡ Err e
+      → samples file order p limits color part len ≡ Err e
   unfolding samples fill_buffer
   from_early part type len e some planes typed h =
       ⊎_elim
       (λ (few : limit_fault limits (size_of type) len ≡ Ok tt).
       let g : chunk_fault p limits (is_cut file p color) color part.first ≡ Err e = rw few at h in
       rw (typed, few, part_early part e some planes (found_early part.first e g)) refl)
-      (λ er. let g : Err er.0 ≡ Err e = rw (er.1) at h in let q : er.0 ≡ e = cc in rw (typed, er.1) (ap Err q))
+      (λ er. let g : Err er.0 ≡ Err e = rw (er.1) at h in let q : er.0
+      ≡ e = cc in rw (typed, er.1) (ap Err q))
       (cases_fault (limit_fault limits (size_of type) len))
 
   -- an error of the form of the first chunk is the result of filling a buffer
-  form_early : (part : Part) (buf : List ℕ) (e : TiffError) → 0 < part.count → 0 < part.planes → form_fault p limits color part.first ≡ Err e
+  form_early : (part : Part) (buf : List ℕ) (e : TiffError) → 0 < part.count → 0 < part.planes
+      → form_fault p limits color part.first ≡ Err e
       → fill_buffer file order p limits color part buf ≡ Err e
   unfolding fill_buffer
   form_early part buf e some planes h =
@@ -188,23 +221,29 @@ module _ (file : List ℕ) (order : ByteOrder) (p : PageRecord) (limits : Limits
 
 -- ---- the form of the first chunk, for reads into a slice
 
-module _ (wanting failed : Type 0) (file : List ℕ) (order : ByteOrder) (p : PageRecord) (limits : Limits) (buf : List ℕ) (l : LayoutRecord) (e : TiffError) where
-  pub image_form : 0 < p.width → 0 < p.height → 0 < p.chunk_width → 0 < p.chunk_height → planes_layout p p.width p.height ≡ Ok l → room_fault (length buf) l.plane_stride ≡ Ok tt
-      → 0 < planes_used p l (length buf) → IsCause ⊥ ⊥ e (form_fault p limits l.color 0 ≡ Err e) → IsCause wanting failed e (read_image_bytes file order p limits buf ≡ Err e)
+module _ (wanting failed : Type 0) (file : List ℕ) (order : ByteOrder) (p : PageRecord)
+    (limits : Limits) (buf : List ℕ) (l : LayoutRecord) (e : TiffError) where
+  pub image_form : 0 < p.width → 0 < p.height → 0 < p.chunk_width → 0 < p.chunk_height
+      → planes_layout p p.width p.height ≡ Ok l → room_fault (length buf) l.plane_stride ≡ Ok tt
+      → 0 < planes_used p l (length buf) → IsCause ⊥ ⊥ e (form_fault p limits l.color 0 ≡ Err e)
+      → IsCause wanting failed e (read_image_bytes file order p limits buf ≡ Err e)
   unfolding read_image_bytes
   image_form w h cw ch laid room some c =
       cause_along e (λ n. absurd n) (λ n. absurd n)
       (λ f. rw (laid, room)
       (form_early file order p limits l.color (image_part p (planes_used p l (length buf)) l.row_bytes) buf e (plane_some p.width p.height p.chunk_width p.chunk_height w h cw ch) some f)) c
 
-  pub chunk_form : (i : ℕ) → planes_layout p (rect p i).width (rect p i).height ≡ Ok l → room_fault (length buf) l.plane_stride ≡ Ok tt
-      → IsCause ⊥ ⊥ e (form_fault p limits l.color i ≡ Err e) → IsCause wanting failed e (read_chunk_bytes file order p limits i buf ≡ Err e)
+  pub chunk_form : (i : ℕ) → planes_layout p (rect p i).width (rect p i).height ≡ Ok l
+      → room_fault (length buf) l.plane_stride ≡ Ok tt
+      → IsCause ⊥ ⊥ e (form_fault p limits l.color i ≡ Err e)
+      → IsCause wanting failed e (read_chunk_bytes file order p limits i buf ≡ Err e)
   unfolding read_chunk_bytes
   chunk_form i laid room c =
       cause_along e (λ n. absurd n) (λ n. absurd n)
       (λ f. rw (laid, room) (form_early file order p limits l.color (chunk_part p i 1 l.row_bytes) buf e (omega arith) (omega arith) f)) c
 
-  pub unit_form : (unit : ℕ) → planes_layout p (rect p unit).width (rect p unit).height ≡ Ok l → unit_fault p unit ≡ Ok tt → room_fault (length buf) l.plane_stride ≡ Ok tt
+  pub unit_form : (unit : ℕ) → planes_layout p (rect p unit).width (rect p unit).height ≡ Ok l
+      → unit_fault p unit ≡ Ok tt → room_fault (length buf) l.plane_stride ≡ Ok tt
       → 0 < planes_used p l (length buf) → IsCause ⊥ ⊥ e (form_fault p limits l.color unit ≡ Err e)
       → IsCause wanting failed e (read_coding_unit_bytes file order p limits unit buf ≡ Err e)
   unfolding read_coding_unit_bytes
@@ -216,13 +255,17 @@ module _ (wanting failed : Type 0) (file : List ℕ) (order : ByteOrder) (p : Pa
 
 -- a part has chunks, planes, and the first chunk of its request
 part_some : (p : PageRecord) (request : ReadRequest) → HasSides p → IsLaid p request
-    → (0 < (part_of p request).count) × ((0 < (part_of p request).planes) × ((part_of p request).first ≡ first_in request))
+    → (0 < (part_of p request).count)
+    × ((0 < (part_of p request).planes) × ((part_of p request).first ≡ first_in request))
 part_some p (Image layout planes) sides laid =
     (plane_some p.width p.height p.chunk_width p.chunk_height sides.wide sides.high sides.chunk_wide sides.chunk_high, (laid.some, refl))
 part_some p (Chunks color i planes stride) sides laid = (omega arith, (laid.some, refl))
 
-pub portion_early : (wanting failed : Type 0) (file : List ℕ) (order : ByteOrder) (p : PageRecord) (limits : Limits) (request : ReadRequest) (color : ColorType) (type : DecodingSampleType) (first len : ℕ) (e : TiffError)
-    → HasSides p → IsLaid p request → sample_type_of p ≡ Ok type → color ≡ color_in request → first ≡ first_in request
+pub portion_early : (wanting failed : Type 0) (file : List ℕ) (order : ByteOrder) (p : PageRecord)
+    (limits : Limits) (request : ReadRequest) (color : ColorType) (type : DecodingSampleType)
+    (first len : ℕ) (e : TiffError)
+    → HasSides p → IsLaid p request → sample_type_of p ≡ Ok type → color ≡ color_in request
+    → first ≡ first_in request
     → IsCause wanting failed e (check_first_chunk file p limits color type first len ≡ Err e)
     → IsCause (Unit {0}) failed e (samples file order p limits (color_in request) (part_of p request) len ≡ Err e)
 portion_early wanting failed file order p limits request color type first len e sides laid typed c f h =
@@ -230,53 +273,68 @@ portion_early wanting failed file order p limits request color type first len e 
     cause_along e (λ _. tt) (λ d. d)
     (λ t.
     from_early file order p limits (color_in request) (part_of p request) type len e some.0 some.1.0 typed
-    (subst (λ (n : ℕ). check_first_chunk file p limits (color_in request) type n len ≡ Err e) (f ∙ sym some.1.1)
+    (subst (λ (n : ℕ). check_first_chunk file p limits (color_in request) type n len ≡ Err e) (f
+    ∙ sym some.1.1)
     (subst (λ (c : ColorType). check_first_chunk file p limits c type first len ≡ Err e) c t))) h
 
 -- without an early error, there is no error of the limit
-pub within_limit : (file : List ℕ) (p : PageRecord) (limits : Limits) (color : ColorType) (type : DecodingSampleType) (first len : ℕ)
-    → check_first_chunk file p limits color type first len ≡ Ok tt → limit_fault limits (size_of type) len ≡ Ok tt
+pub within_limit : (file : List ℕ) (p : PageRecord) (limits : Limits) (color : ColorType)
+    (type : DecodingSampleType) (first len : ℕ)
+    → check_first_chunk file p limits color type first len ≡ Ok tt
+    → limit_fault limits (size_of type) len ≡ Ok tt
 within_limit file p limits color type first len h =
-    ⊎_elim (λ ok. ok) (λ er. let g : Err er.0 ≡ Ok tt = rw (er.1) at h in cc) (cases_fault (limit_fault limits (size_of type) len))
+    ⊎_elim (λ ok. ok) (λ er. let g : Err er.0
+    ≡ Ok tt = rw (er.1) at h in cc) (cases_fault (limit_fault limits (size_of type) len))
 
 -- ---- what follows a portion
 
 module _ (file : List ℕ) (order : ByteOrder) (p : PageRecord) where
-  past : (color : ColorType) (r : Region) (stride planes i : ℕ) → row_bytes p color r.width ≤ stride → 0 < r.height → planes * (stride * r.height) ≤ i
+  past : (color : ColorType) (r : Region) (stride planes i : ℕ) → row_bytes p color r.width ≤ stride
+      → 0 < r.height → planes * (stride * r.height) ≤ i
       → byte_at file order p color r stride planes i ≡ None
   unfolding byte_at
   past color r stride planes i fits high behind =
       ⊎_elim
       (λ (s : 0 < stride).
       let some : 0 < stride * r.height = omega (arith, one-le-mul s high) in
-      let f : nat_lt (i / (stride * r.height)) planes ≡ false = le-ltb (i / (stride * r.height)) planes (le-div planes i (stride * r.height) some behind) in
+      let f : nat_lt (i / (stride * r.height)) planes ≡ false =
+      le-ltb (i / (stride * r.height)) planes (le-div planes i (stride * r.height) some behind) in
       rw f refl)
       (λ (z : stride ≤ 0).
-      let f : nat_lt (i % stride) (row_bytes p color r.width) ≡ false = le-ltb (i % stride) (row_bytes p color r.width) (omega (arith, z, fits)) in
+      let f : nat_lt (i % stride) (row_bytes p color r.width) ≡ false =
+      le-ltb (i % stride) (row_bytes p color r.width) (omega (arith, z, fits)) in
       ⊎_elim
       (λ (t : nat_lt (i / (stride * r.height)) planes ≡ true). rw (t, f) refl)
       (λ (t : nat_lt (i / (stride * r.height)) planes ≡ false). rw t refl)
       (cases_Bool (nat_lt (i / (stride * r.height)) planes)))
       (cases_lt 0 stride)
 
-  portion_past : (request : ReadRequest) (i : ℕ) → HasSides p → IsLaid p request → room_of p request ≤ i
-      → byte_at file order p (color_in request) (part_of p request).region (part_of p request).stride (part_of p request).planes i ≡ None
+  portion_past : (request : ReadRequest) (i : ℕ) → HasSides p → IsLaid p request
+      → room_of p request ≤ i
+      → byte_at file order p (color_in request) (part_of p request).region
+      (part_of p request).stride (part_of p request).planes i ≡ None
   portion_past (Image layout planes) i sides laid behind =
       let g = layout_gives p p.width p.height (view.layout layout) laid.laid in
       let fits : row_bytes p layout.color p.width ≤ layout.row_bytes = omega (arith, g.0.0) in
       past layout.color (part_of p (Image layout planes)).region layout.row_bytes planes i fits sides.high (subst (λ (m : ℕ). planes * m ≤ i) (g.0.1 ∙ ap (λ m. m * p.height) (sym g.0.0)) behind)
   portion_past (Chunks color k planes stride) i sides laid behind =
-      past color (part_of p (Chunks color k planes stride)).region stride planes i laid.columns (chunks_within p k sides).some_row (subst (λ (m : ℕ). planes * m ≤ i) (mul_comm (rect p k).height stride) behind)
+      past color (part_of p (Chunks color k planes stride)).region stride planes i laid.columns
+      (chunks_within p k sides).some_row (subst (λ (m : ℕ). planes * m
+      ≤ i) (mul_comm (rect p k).height stride) behind)
 
 -- ---- lists of zeros that are longer
 
-pub placed_in_zeros : (file : List ℕ) (order : ByteOrder) (p : PageRecord) (color : ColorType) (region : Region) (stride planes n : ℕ)
-    → bytes_with_region file order p color region stride planes (replicate n 0) ≡ tabulate n (λ i. unwrap_or (byte_at file order p color region stride planes i) 0)
+pub placed_in_zeros : (file : List ℕ) (order : ByteOrder) (p : PageRecord) (color : ColorType)
+    (region : Region) (stride planes n : ℕ)
+    → bytes_with_region file order p color region stride planes (replicate n 0)
+    ≡ tabulate n (λ i. unwrap_or (byte_at file order p color region stride planes i) 0)
 unfolding bytes_with_region
 placed_in_zeros file order p color region stride planes n =
-    let found : ℕ → ℕ → ℕ = λ i v. unwrap_or (byte_at file order p color region stride planes i) v in
+    let found : ℕ → ℕ → ℕ =
+    λ i v. unwrap_or (byte_at file order p color region stride planes i) v in
     ap (λ (k : ℕ). tabulate k (λ i. found i (get_or (replicate n 0) i 0))) (length-replicate n 0)
-    ∙ each_same n (λ i. found i (get_or (replicate n 0) i 0)) (λ i. found i 0) (λ i l. ap (found i) (zero_in n i))
+    ∙ each_same n (λ i. found i (get_or (replicate n 0) i 0)) (λ i. found i 0)
+    (λ i l. ap (found i) (zero_in n i))
 
 -- a list by its positions, with zeros after it
 at_position : (f : ℕ → ℕ) (n i : ℕ) → ((k : ℕ) → n ≤ k → f k ≡ 0) → get_or (tabulate n f) i 0 ≡ f i
@@ -287,40 +345,53 @@ at_position f n i none =
     (cases_lt i n)
 
 -- numbers of bytes that are filled up with zeros are the same
-filled_up : (size : ℕ) (f : ℕ → ℕ) (n : ℕ) → IsSize size → ((k : ℕ) → n ≤ k → f k ≡ 0) → numbers_in size (tabulate (div_ceil n size * size) f) ≡ numbers_in size (tabulate n f)
+filled_up : (size : ℕ) (f : ℕ → ℕ) (n : ℕ) → IsSize size → ((k : ℕ) → n ≤ k → f k ≡ 0)
+    → numbers_in size (tabulate (div_ceil n size * size) f) ≡ numbers_in size (tabulate n f)
 unfolding numbers_in
 filled_up size f n z none =
     let more : ℕ = div_ceil n size * size in
     let m : n ≤ more = (div_ceil_times n size (some_size size z)).0 in
     let short : length (tabulate n f) ≡ n = length-map-range_with_len f 0 n in
-    let count : div_ceil (div_ceil n size * size) size ≡ div_ceil n size = by_size (λ m. div_ceil (div_ceil n m * m) m ≡ div_ceil n m) size (omega arith) (omega arith) (omega arith) (omega arith) z in
-    let number_at : List ℕ → ℕ → ℕ = λ bytes k. number LittleEndian (width_of size) (tabulate size (λ j. get_or bytes (k * size + j) 0)) in
+    let count : div_ceil (div_ceil n size * size) size ≡ div_ceil n size =
+    by_size (λ m. div_ceil (div_ceil n m * m) m
+    ≡ div_ceil n m) size (omega arith) (omega arith) (omega arith) (omega arith) z in
+    let number_at : List ℕ → ℕ → ℕ =
+    λ bytes k. number LittleEndian (width_of size) (tabulate size (λ j. get_or bytes (k * size
+    + j) 0)) in
     ap (λ (x : ℕ). tabulate x (number_at (tabulate more f))) (ap (λ (x : ℕ). div_ceil x size) (length-map-range_with_len f 0 more) ∙ (count ∙ sym (ap (λ (x : ℕ). div_ceil x size) short)))
-    ∙ each_same (div_ceil (length (tabulate n f)) size) (number_at (tabulate more f)) (number_at (tabulate n f))
+    ∙ each_same (div_ceil (length (tabulate n f)) size) (number_at (tabulate more f))
+    (number_at (tabulate n f))
     (λ k h.
     ap (number LittleEndian (width_of size))
-    (each_same size (λ j. get_or (tabulate more f) (k * size + j) 0) (λ j. get_or (tabulate n f) (k * size + j) 0)
+    (each_same size (λ j. get_or (tabulate more f) (k * size
+    + j) 0) (λ j. get_or (tabulate n f) (k * size + j) 0)
     (λ j l. at_position f more (k * size + j) (λ x y. none x (omega (arith, y, m))) ∙ sym (at_position f n (k * size + j) none))))
 
 -- ---- the samples of a portion
 
-module _ (file : List ℕ) (order : ByteOrder) (p : PageRecord) (limits : Limits) (request : ReadRequest) (sides : HasSides p) (laid : IsLaid p request) where
+module _ (file : List ℕ) (order : ByteOrder) (p : PageRecord) (limits : Limits)
+    (request : ReadRequest) (sides : HasSides p) (laid : IsLaid p request) where
   abbrev part : Part
   part = part_of p request
 
   abbrev in_place : ℕ → ℕ
-  in_place i = unwrap_or (byte_at file order p (color_in request) part.region part.stride part.planes i) 0
+  in_place i =
+      unwrap_or (byte_at file order p (color_in request) part.region part.stride part.planes i) 0
 
   -- what is placed in zeros
   placed_here : (n : ℕ) → bytes_with_region file order p (color_in request) part.region part.stride part.planes (replicate n 0) ≡ tabulate n in_place
-  placed_here n = placed_in_zeros file order p (color_in request) part.region part.stride part.planes n
+  placed_here n =
+      placed_in_zeros file order p (color_in request) part.region part.stride part.planes n
 
   none_behind : (len i : ℕ) → room_of p request ≤ len → len ≤ i → in_place i ≡ 0
-  none_behind len i room l = ap (λ o. unwrap_or o 0) (portion_past file order p request i sides laid (omega (arith, room, l)))
+  none_behind len i room l =
+      ap (λ o. unwrap_or o 0) (portion_past file order p request i sides laid (omega (arith, room, l)))
 
   -- bytes that were filled into some zeros
-  filled_bytes : (zeros new : List ℕ) → fill_buffer file order p limits (color_in request) part zeros ≡ Ok new
-      → (part_fault file order p limits (color_in request) part ≡ Ok tt) × (new ≡ bytes_with_region file order p (color_in request) part.region part.stride part.planes zeros)
+  filled_bytes : (zeros new : List ℕ)
+      → fill_buffer file order p limits (color_in request) part zeros ≡ Ok new
+      → (part_fault file order p limits (color_in request) part ≡ Ok tt)
+      × (new ≡ bytes_with_region file order p (color_in request) part.region part.stride part.planes zeros)
   unfolding fill_buffer
   filled_bytes zeros new h =
       ⊎_elim
@@ -330,7 +401,9 @@ module _ (file : List ℕ) (order : ByteOrder) (p : PageRecord) (limits : Limits
       (λ er. let g : Err er.0 ≡ Ok new = rw (er.1) at h in absurd (let n : ⊥ = cc in n))
       (cases_fault (part_fault file order p limits (color_in request) part))
 
-  filled_fault : (zeros : List ℕ) (e : TiffError) → fill_buffer file order p limits (color_in request) part zeros ≡ Err e → part_fault file order p limits (color_in request) part ≡ Err e
+  filled_fault : (zeros : List ℕ) (e : TiffError)
+      → fill_buffer file order p limits (color_in request) part zeros ≡ Err e
+      → part_fault file order p limits (color_in request) part ≡ Err e
   unfolding fill_buffer
   filled_fault zeros e h =
       ⊎_elim
@@ -340,25 +413,31 @@ module _ (file : List ℕ) (order : ByteOrder) (p : PageRecord) (limits : Limits
       (cases_fault (part_fault file order p limits (color_in request) part))
 
   -- the samples, if bytes were filled into as many zeros as whole numbers take
-  pub zeros_filled : (color : ColorType) (type : DecodingSampleType) (size first len : ℕ) (before after : List ℕ) → IsSize size → size_of type ≡ size → sample_type_of p ≡ Ok type
-      → check_first_chunk file p limits color type first len ≡ Ok tt → room_of p request ≤ len → before ≡ replicate (div_ceil len size * size) 0
+  pub zeros_filled : (color : ColorType) (type : DecodingSampleType) (size first len : ℕ)
+      (before after : List ℕ) → IsSize size → size_of type ≡ size → sample_type_of p ≡ Ok type
+      → check_first_chunk file p limits color type first len ≡ Ok tt → room_of p request ≤ len
+      → before ≡ replicate (div_ceil len size * size) 0
       → fill_buffer file order p limits (color_in request) part before ≡ Ok (bytes_in size after)
-      → samples file order p limits (color_in request) part len ≡ Ok (record { sample_type = type; numbers = after })
+      → samples file order p limits (color_in request) part len
+      ≡ Ok (record { sample_type = type; numbers = after })
   unfolding samples fill_buffer
   zeros_filled color type size first len before after z sized typed early room zeros h =
       let more : ℕ = div_ceil len size * size in
       let f = filled_bytes (replicate more 0) (bytes_in size after) (rw zeros at h) in
       let numbers : numbers_in size (bytes_with_region file order p (color_in request) part.region part.stride part.planes (replicate len 0)) ≡ after =
-      ap (numbers_in size) (placed_here len) ∙ (sym (filled_up size in_place len z (λ i l. none_behind len i room l))
+      ap (numbers_in size) (placed_here len)
+      ∙ (sym (filled_up size in_place len z (λ i l. none_behind len i room l))
       ∙ (sym (ap (numbers_in size) (f.1 ∙ placed_here more)) ∙ numbers_again size after z)) in
       rw (typed, within_limit file p limits color type first len early, f.0)
       (ap Ok (λ i. record { sample_type = type; numbers = ((λ t. numbers_in (sized t) (bytes_with_region file order p (color_in request) part.region part.stride part.planes (replicate len 0))) ∙ numbers) i }))
 
   -- the bytes, if these are the numbers
-  pub bytes_given : (color : ColorType) (type : DecodingSampleType) (first len : ℕ) (before after : List ℕ) → size_of type ≡ 1 → sample_type_of p ≡ Ok type
+  pub bytes_given : (color : ColorType) (type : DecodingSampleType) (first len : ℕ)
+      (before after : List ℕ) → size_of type ≡ 1 → sample_type_of p ≡ Ok type
       → check_first_chunk file p limits color type first len ≡ Ok tt → before ≡ replicate len 0
       → fill_buffer file order p limits (color_in request) part before ≡ Ok after
-      → samples file order p limits (color_in request) part len ≡ Ok (record { sample_type = type; numbers = after })
+      → samples file order p limits (color_in request) part len
+      ≡ Ok (record { sample_type = type; numbers = after })
   unfolding samples fill_buffer
   bytes_given color type first len before after sized typed early zeros h =
       let f = filled_bytes before after h in
@@ -369,10 +448,14 @@ module _ (file : List ℕ) (order : ByteOrder) (p : PageRecord) (limits : Limits
       (ap Ok (λ i. record { sample_type = type; numbers = ((λ t. numbers_in (sized t) (bytes_with_region file order p (color_in request) part.region part.stride part.planes (replicate len 0))) ∙ numbers) i }))
 
   -- an error of filling is an error of the samples
-  pub filling_cause : (failed failed' : Type 0) (color : ColorType) (type : DecodingSampleType) (first len : ℕ) (zeros : List ℕ) (e : TiffError) → (failed → failed') → sample_type_of p ≡ Ok type
+  pub filling_cause : (failed failed' : Type 0) (color : ColorType) (type : DecodingSampleType)
+      (first len : ℕ) (zeros : List ℕ) (e : TiffError) → (failed → failed')
+      → sample_type_of p ≡ Ok type
       → check_first_chunk file p limits color type first len ≡ Ok tt
-      → IsCause (Unit {0}) failed e (fill_buffer file order p limits (color_in request) part zeros ≡ Err e)
-      → IsCause (Unit {0}) failed' e (samples file order p limits (color_in request) part len ≡ Err e)
+      → IsCause (Unit {0}) failed e (fill_buffer file order p limits (color_in request) part zeros
+      ≡ Err e)
+      → IsCause (Unit {0}) failed' e (samples file order p limits (color_in request) part len
+      ≡ Err e)
   unfolding samples fill_buffer
   filling_cause failed failed' color type first len zeros e grew typed early c =
       cause_along e (λ w. w) grew
@@ -382,68 +465,86 @@ module _ (file : List ℕ) (order : ByteOrder) (p : PageRecord) (limits : Limits
 -- ---- a call returns the error that is found before memory is allocated for samples
 
 -- an error of what two chains begin with, or of what follows it
-follows : {A B C : Type 0} (r : Result A TiffError) (early : A → Result B TiffError) (call : A → Result C TiffError) (e : TiffError)
-    → ((x : A) → r ≡ Ok x → early x ≡ Err e → call x ≡ Err e) → (r >>= early) ≡ Err e → (r >>= call) ≡ Err e
+follows : {A B C : Type 0} (r : Result A TiffError) (early : A → Result B TiffError)
+    (call : A → Result C TiffError) (e : TiffError)
+    → ((x : A) → r ≡ Ok x → early x ≡ Err e → call x ≡ Err e) → (r >>= early) ≡ Err e
+    → (r >>= call) ≡ Err e
 follows (Ok x) early call e k h = k x refl h
 follows (Err f) early call e k h = let q : f ≡ e = cc in ap Err q
 
 -- an error of a step is the error of all steps after it
-goes_on : {A B : Type 0} (r : Result A TiffError) (next : A → Result B TiffError) (e : TiffError) → r ≡ Err e → (r >>= next) ≡ Err e
+goes_on : {A B : Type 0} (r : Result A TiffError) (next : A → Result B TiffError) (e : TiffError)
+    → r ≡ Err e → (r >>= next) ≡ Err e
 goes_on r next e h = ap (λ q. q >>= next) h
 
 module _ (file : List ℕ) (order : ByteOrder) (p : PageRecord) (limits : Limits) where
-  typed : (color : ColorType) (part : Part) (len : ℕ) (e : TiffError) (t : Result DecodingSampleType TiffError) → 0 < part.count → 0 < part.planes
+  typed : (color : ColorType) (part : Part) (len : ℕ) (e : TiffError)
+      (t : Result DecodingSampleType TiffError) → 0 < part.count → 0 < part.planes
       → sample_type_of p ≡ t → (t >>= λ type. check_first_chunk file p limits color type part.first len) ≡ Err e
       → samples file order p limits color part len ≡ Err e
   unfolding samples
-  typed color part len e (Ok type) some used q h = from_early file order p limits color part type len e some used q h
+  typed color part len e (Ok type) some used q h =
+      from_early file order p limits color part type len e some used q h
   typed color part len e (Err f) some used q h = let s : f ≡ e = cc in rw q (ap Err s)
 
-  sampled : (color : ColorType) (part : Part) (len : ℕ) (e : TiffError) → 0 < part.count → 0 < part.planes
-      → samples_early file p limits color part.first len ≡ Err e → samples file order p limits color part len ≡ Err e
+  sampled : (color : ColorType) (part : Part) (len : ℕ) (e : TiffError) → 0 < part.count
+      → 0 < part.planes
+      → samples_early file p limits color part.first len ≡ Err e
+      → samples file order p limits color part len ≡ Err e
   sampled color part len e some used h = typed color part len e (sample_type_of p) some used refl h
 
   -- a part of all chunks of a plane has at least one chunk
   some_chunks : HasSides p → 0 < chunks_of_plane p
-  some_chunks s = plane_some p.width p.height p.chunk_width p.chunk_height s.wide s.high s.chunk_wide s.chunk_high
+  some_chunks s =
+      plane_some p.width p.height p.chunk_width p.chunk_height s.wide s.high s.chunk_wide s.chunk_high
 
-  image : (e : TiffError) → HasSides p → image_early file p limits ≡ Err e → image_of file order p limits ≡ Err e
+  image : (e : TiffError) → HasSides p → image_early file p limits ≡ Err e
+      → image_of file order p limits ≡ Err e
   unfolding image_of
   image e s h =
       follows (planes_layout p p.width p.height) (λ l. samples_early file p limits l.color 0 l.plane_stride)
       (λ l. samples file order p limits l.color (image_part p 1 l.row_bytes) l.plane_stride) e
       (λ l _ k. sampled l.color (image_part p 1 l.row_bytes) l.plane_stride e (some_chunks s) (omega arith) k) h
 
-  chunk : (i : ℕ) (e : TiffError) → chunk_early file p limits i ≡ Err e → read_chunk file order p limits i ≡ Err e
+  chunk : (i : ℕ) (e : TiffError) → chunk_early file p limits i ≡ Err e
+      → read_chunk file order p limits i ≡ Err e
   unfolding read_chunk
   chunk i e h =
       follows (planes_layout p (rect p i).width (rect p i).height) (λ l. samples_early file p limits l.color i l.plane_stride)
       (λ l. samples file order p limits l.color (chunk_part p i 1 l.row_bytes) l.plane_stride) e
       (λ l _ k. sampled l.color (chunk_part p i 1 l.row_bytes) l.plane_stride e (omega arith) (omega arith) k) h
 
-  strided : (i stride : ℕ) (e : TiffError) → strided_early file p limits i stride ≡ Err e → read_chunk_to_buffer file order p limits i stride ≡ Err e
+  strided : (i stride : ℕ) (e : TiffError) → strided_early file p limits i stride ≡ Err e
+      → read_chunk_to_buffer file order p limits i stride ≡ Err e
   unfolding read_chunk_to_buffer
   strided i stride e h =
       let len : ℕ = stride * (rect p i).height in
-      let early : LayoutRecord → Result (Unit {0}) TiffError = λ l. samples_early file p limits l.color i len in
-      let read : LayoutRecord → Result _ TiffError = λ l. samples file order p limits l.color (chunk_part p i 1 stride) len in
+      let early : LayoutRecord → Result (Unit {0}) TiffError =
+      λ l. samples_early file p limits l.color i len in
+      let read : LayoutRecord → Result _ TiffError =
+      λ l. samples file order p limits l.color (chunk_part p i 1 stride) len in
       follows (planes_layout p (rect p i).width (rect p i).height)
-      (λ l. stride_fault stride l.row_bytes >>= (λ _. wide (stride * p.chunk_height) >>= (λ _. early l)))
-      (λ l. stride_fault stride l.row_bytes >>= (λ _. wide (stride * p.chunk_height) >>= (λ _. read l))) e
-      (λ l _ k. follows (stride_fault stride l.row_bytes) (λ _. wide (stride * p.chunk_height) >>= (λ _. early l))
+      (λ l. stride_fault stride l.row_bytes >>= (λ _. wide (stride * p.chunk_height)
+      >>= (λ _. early l)))
+      (λ l. stride_fault stride l.row_bytes >>= (λ _. wide (stride * p.chunk_height)
+      >>= (λ _. read l))) e
+      (λ l _ k. follows (stride_fault stride l.row_bytes) (λ _. wide (stride * p.chunk_height)
+      >>= (λ _. early l))
       (λ _. wide (stride * p.chunk_height) >>= (λ _. read l)) e
       (λ _ _ m. follows (wide (stride * p.chunk_height)) (λ _. early l) (λ _. read l) e
       (λ _ _ n. sampled l.color (chunk_part p i 1 stride) len e (omega arith) (omega arith) n) m) k) h
 
   -- at least one plane is within the limit
   within_some : (l : LayoutRecord) → 0 < planes p.planar l.color → 0 < planes_within p limits l
-  within_some l s = chosen (nat_le (l.plane_stride * planes p.planar l.color) limits.decoding_buffer_size)
+  within_some l s =
+      chosen (nat_le (l.plane_stride * planes p.planar l.color) limits.decoding_buffer_size)
     where
       chosen : (b : Bool) → 0 < cond b (planes p.planar l.color) 1
       chosen true = s
       chosen false = omega arith
 
-  all : (e : TiffError) → HasSides p → 0 < p.samples → planes_early file p limits ≡ Err e → read_image_to_buffer file order p limits ≡ Err e
+  all : (e : TiffError) → HasSides p → 0 < p.samples → planes_early file p limits ≡ Err e
+      → read_image_to_buffer file order p limits ≡ Err e
   unfolding read_image_to_buffer
   all e s some h =
       follows (planes_layout p p.width p.height)
@@ -467,31 +568,40 @@ early_is_answered = record {
 -- ---- which bytes reads of pixels ask a source for
 
 -- a call asks for bytes among others
-pub asks_more : {X : Type 0} (P Q : Type 0) (r : Result X TiffError) → (Q → P) → ReadsOnly P r → ReadsOnly Q r
+pub asks_more : {X : Type 0} (P Q : Type 0) (r : Result X TiffError) → (Q → P) → ReadsOnly P r
+    → ReadsOnly Q r
 asks_more P Q (Ok x) f a = tt
 asks_more P Q (Err e) f a = λ q. a (f q)
 
 -- fewer bytes are among more
-pub fewer : (s : ChunkCursor) (a b : ℕ) → a ≤ b → (t : SourceRecord) → StoredReadable t s b → StoredReadable t s a
+pub fewer : (s : ChunkCursor) (a b : ℕ) → a ≤ b → (t : SourceRecord) → StoredReadable t s b
+    → StoredReadable t s a
 fewer (Plain at) a b h t r = part_readable t at b at a (omega arith) (omega (arith, h)) r
 fewer (Packed position) a b h t r = r
 fewer Ended a b h t r = r
 
-counted_fewer : (packed : Bool) (at count a b : ℕ) → a ≤ b → (t : SourceRecord) → AreReadable t at (if packed then count else b) → AreReadable t at (if packed then count else a)
+counted_fewer : (packed : Bool) (at count a b : ℕ) → a ≤ b → (t : SourceRecord)
+    → AreReadable t at (if packed then count else b)
+    → AreReadable t at (if packed then count else a)
 counted_fewer true at count a b h t r = r
-counted_fewer false at count a b h t r = part_readable t at b at a (omega arith) (omega (arith, h)) r
+counted_fewer false at count a b h t r =
+    part_readable t at b at a (omega arith) (omega (arith, h)) r
 
-data_fewer : (p : PageRecord) (i a b : ℕ) → a ≤ b → (t : SourceRecord) → DataReadable t p i b → DataReadable t p i a
-data_fewer p i a b h t r = counted_fewer (is_packed p.method) (slice_index p.offsets i) (slice_index p.byte_counts i) a b h t r
+data_fewer : (p : PageRecord) (i a b : ℕ) → a ≤ b → (t : SourceRecord) → DataReadable t p i b
+    → DataReadable t p i a
+data_fewer p i a b h t r =
+    counted_fewer (is_packed p.method) (slice_index p.offsets i) (slice_index p.byte_counts i) a b h t r
 
 -- a position after one that is after another
-pub moves_on : (from mid rest : ChunkCursor) (a b n : ℕ) → a + b ≡ n → Moves from a mid → Moves mid b rest → Moves from n rest
+pub moves_on : (from mid rest : ChunkCursor) (a b n : ℕ) → a + b ≡ n → Moves from a mid
+    → Moves mid b rest → Moves from n rest
 moves_on from mid rest a b n e g m t k r =
     let x : n + k ≡ a + (b + k) = omega (arith, e) in
     m t k (g t (b + k) (subst (StoredReadable t from) x r))
 
 -- some more of the bytes are read
-pub more_asked : (from mid : ChunkCursor) (a b n : ℕ) (e : TiffError) (s t : SourceRecord) → t ≡ s → a + b ≤ n → Moves from a mid
+pub more_asked : (from mid : ChunkCursor) (a b n : ℕ) (e : TiffError) (s t : SourceRecord) → t ≡ s
+    → a + b ≤ n → Moves from a mid
     → (StoredReadable t mid b → IsNotDevice e) → StoredReadable s from n → IsNotDevice e
 more_asked from mid a b n e s t same l g asked r =
     asked (g t b (fewer from (a + b) n l t (subst (λ x. StoredReadable x from n) (sym same) r)))
@@ -500,24 +610,31 @@ more_asked from mid a b n e s t same l g asked r =
 
 -- a position is n bytes after the front of a chunk's data
 abbrev pub StandsAt : PageRecord → ℕ → ℕ → ChunkCursor → Type 0
-StandsAt p i at position = (t : SourceRecord) (m : ℕ) → DataReadable t p i (at + m) → StoredReadable t position m
+StandsAt p i at position =
+    (t : SourceRecord) (m : ℕ) → DataReadable t p i (at + m) → StoredReadable t position m
 
-pub stands_on : (p : PageRecord) (i at n next : ℕ) (position rest : ChunkCursor) → at + n ≤ next → StandsAt p i at position → Moves position n rest → StandsAt p i next rest
+pub stands_on : (p : PageRecord) (i at n next : ℕ) (position rest : ChunkCursor) → at + n ≤ next
+    → StandsAt p i at position → Moves position n rest → StandsAt p i next rest
 stands_on p i at n next position rest l s h t m r =
     h t m (s t (n + m) (data_fewer p i (at + (n + m)) (next + m) (omega (arith, l)) t r))
 
 -- the front is 0 bytes after itself
-pub front_stands : (p : PageRecord) (i at : ℕ) (position : ChunkCursor) → ((t : SourceRecord) (n : ℕ) → DataReadable t p i n → StoredReadable t position n) → StandsAt p i at position
+pub front_stands : (p : PageRecord) (i at : ℕ) (position : ChunkCursor)
+    → ((t : SourceRecord) (n : ℕ) → DataReadable t p i n → StoredReadable t position n)
+    → StandsAt p i at position
 front_stands p i at position e t m r = e t m (data_fewer p i m (at + m) (omega arith) t r)
 
 -- bytes within the needed bytes of a chunk are read
-pub chunk_asked : (p : PageRecord) (color : ColorType) (i at n : ℕ) (position : ChunkCursor) (e : TiffError) (s t : SourceRecord) → t ≡ s → at + n ≤ needed_bytes p color i
-    → StandsAt p i at position → (StoredReadable t position n → IsNotDevice e) → ChunkReadable s p color i → IsNotDevice e
+pub chunk_asked : (p : PageRecord) (color : ColorType) (i at n : ℕ) (position : ChunkCursor)
+    (e : TiffError) (s t : SourceRecord) → t ≡ s → at + n ≤ needed_bytes p color i
+    → StandsAt p i at position → (StoredReadable t position n → IsNotDevice e)
+    → ChunkReadable s p color i → IsNotDevice e
 chunk_asked p color i at n position e s t same l stands asked r =
     asked (stands t n (data_fewer p i (at + n) (needed_bytes p color i) l t (subst (λ x. ChunkReadable x p color i) (sym same) r)))
 
 -- a row, and the bytes after it up to the next one, are within the needed bytes
-pub row_within : (row h stored need gap : ℕ) → row < h → need + gap ≤ stored → (row + 1 ≡ h → gap ≡ 0) → row * stored + (need + gap) ≤ (h - 1) * stored + need
+pub row_within : (row h stored need gap : ℕ) → row < h → need + gap ≤ stored
+    → (row + 1 ≡ h → gap ≡ 0) → row * stored + (need + gap) ≤ (h - 1) * stored + need
 row_within row h stored need gap l w e =
     ⊎_elim
     (λ (a : row + 1 < h).
@@ -531,7 +648,8 @@ row_within row h stored need gap l w e =
     (cases_lt (row + 1) h)
 
 -- the bytes between rows are those of a row that are not read
-pub behind_within : (row h stored need gap : ℕ) → row < h → need ≤ stored → (row + 1 < h → gap ≡ stored - need) → (row + 1 ≡ h → gap ≡ 0) → need + gap ≤ stored
+pub behind_within : (row h stored need gap : ℕ) → row < h → need ≤ stored
+    → (row + 1 < h → gap ≡ stored - need) → (row + 1 ≡ h → gap ≡ 0) → need + gap ≤ stored
 behind_within row h stored need gap l w b e =
     ⊎_elim
     (λ (a : row + 1 < h). omega (arith, b a, w))
@@ -540,7 +658,8 @@ behind_within row h stored need gap l w b e =
 
 -- ---- the rows of a chunk, one after another
 
-module _ (p : PageRecord) (color : ColorType) (k row n : ℕ) (position : ChunkCursor) (rl : row < (rect p k).height)
+module _ (p : PageRecord) (color : ColorType) (k row n : ℕ) (position : ChunkCursor)
+    (rl : row < (rect p k).height)
     (whole : n ≡ row_bytes p color (rect p k).width) (stands : StandsAt p k (row * stored_row_bytes p) position) where
   abbrev h : ℕ
   h = (rect p k).height
@@ -558,25 +677,33 @@ module _ (p : PageRecord) (color : ColorType) (k row n : ℕ) (position : ChunkC
   need_is = ap (needed_of_row p color) whole
 
   -- a row is read
-  pub row_asked : (e : TiffError) (s t : SourceRecord) → t ≡ s → (StoredReadable t position (needed_of_row p color n) → IsNotDevice e) → ChunkReadable s p color k → IsNotDevice e
+  pub row_asked : (e : TiffError) (s t : SourceRecord) → t ≡ s
+      → (StoredReadable t position (needed_of_row p color n) → IsNotDevice e)
+      → ChunkReadable s p color k → IsNotDevice e
   row_asked e s t same asked =
       let x : row * stored ≤ (h - 1) * stored = mul-le-mul_right stored (omega (arith, rl)) in
-      chunk_asked p color k at (needed_of_row p color n) position e s t same (omega (arith, x, need_is)) stands asked
+      chunk_asked p color k at (needed_of_row p color n) position e s t same
+      (omega (arith, x, need_is)) stands asked
 
   -- the bytes after a row are skipped
-  module _ (rest : ChunkCursor) (behind : ℕ) (within : need ≤ stored) (moves : Moves position (needed_of_row p color n) rest)
+  module _ (rest : ChunkCursor) (behind : ℕ) (within : need ≤ stored)
+      (moves : Moves position (needed_of_row p color n) rest)
       (between : row + 1 < h → behind ≡ stored - need) (last : row + 1 ≡ h → behind ≡ 0) where
     gap : need + behind ≤ stored
     gap = behind_within row h stored need behind rl within between last
 
     rest_stands : StandsAt p k (at + need) rest
-    rest_stands = stands_on p k at (needed_of_row p color n) (at + need) position rest (omega (arith, need_is)) stands moves
+    rest_stands =
+        stands_on p k at (needed_of_row p color n) (at
+        + need) position rest (omega (arith, need_is)) stands moves
 
-    pub behind_asked : (e : TiffError) (s t : SourceRecord) → t ≡ s → (StoredReadable t rest behind → IsNotDevice e) → ChunkReadable s p color k → IsNotDevice e
+    pub behind_asked : (e : TiffError) (s t : SourceRecord) → t ≡ s
+        → (StoredReadable t rest behind → IsNotDevice e) → ChunkReadable s p color k → IsNotDevice e
     behind_asked e s t same asked =
         chunk_asked p color k (at + need) behind rest e s t same (omega (arith, row_within row h stored need behind rl gap last)) rest_stands asked
 
-    pub next_stands : (next : ChunkCursor) → Moves rest behind next → StandsAt p k ((row + 1) * stored) next
+    pub next_stands : (next : ChunkCursor) → Moves rest behind next
+        → StandsAt p k ((row + 1) * stored) next
     next_stands next m =
         let y : (row + 1) * stored ≡ at + stored = omega arith in
         stands_on p k (at + need) behind ((row + 1) * stored) rest next (omega (arith, gap, y)) rest_stands m
@@ -584,31 +711,40 @@ module _ (p : PageRecord) (color : ColorType) (k row n : ℕ) (position : ChunkC
 -- ---- the chunks of a part of an image
 
 -- one more chunk of a part is read
-pub part_asked : (p : PageRecord) (color : ColorType) (part : Part) (plane j i : ℕ) (e : TiffError) (s t : SourceRecord) → t ≡ s → i ≡ plane * chunks_of_plane p + (part.first + j)
-    → plane < part.planes → j < part.count → (ChunkReadable t p color i → IsNotDevice e) → PartReadable s p color part → IsNotDevice e
+pub part_asked : (p : PageRecord) (color : ColorType) (part : Part) (plane j i : ℕ) (e : TiffError)
+    (s t : SourceRecord) → t ≡ s → i ≡ plane * chunks_of_plane p + (part.first + j)
+    → plane < part.planes → j < part.count → (ChunkReadable t p color i → IsNotDevice e)
+    → PartReadable s p color part → IsNotDevice e
 part_asked p color part plane j i e s t same x pl jl asked r =
     asked (subst (λ k. ChunkReadable t p color k) (sym x) (subst (λ z. ChunkReadable z p color (plane * chunks_of_plane p + (part.first + j))) (sym same) (r.chunk plane pl j jl)))
 
 -- one more chunk of an image is read in its planes
-pub image_asked : (p : PageRecord) (color : ColorType) (planes stride chunk : ℕ) (e : TiffError) (s t : SourceRecord) → t ≡ s → chunk < chunks_of_plane p
-    → (PartReadable t p color (chunk_part p chunk planes stride) → IsNotDevice e) → PartReadable s p color (image_part p planes stride) → IsNotDevice e
+pub image_asked : (p : PageRecord) (color : ColorType) (planes stride chunk : ℕ) (e : TiffError)
+    (s t : SourceRecord) → t ≡ s → chunk < chunks_of_plane p
+    → (PartReadable t p color (chunk_part p chunk planes stride) → IsNotDevice e)
+    → PartReadable s p color (image_part p planes stride) → IsNotDevice e
 image_asked p color planes stride chunk e s t same l asked r =
     asked (record {
       chunk = λ plane pl j jl.
-          let x : plane * chunks_of_plane p + (0 + chunk) ≡ plane * chunks_of_plane p + (chunk + j) = omega (arith, jl) in
+          let x : plane * chunks_of_plane p + (0 + chunk) ≡ plane * chunks_of_plane p
+          + (chunk + j) = omega (arith, jl) in
           subst (λ k. ChunkReadable t p color k) x (subst (λ z. ChunkReadable z p color (plane * chunks_of_plane p + (0 + chunk))) (sym same) (r.chunk plane pl chunk l));
     })
 
 -- the first chunk is in the part
-pub first_readable : (file : List ℕ) (order : ByteOrder) (p : PageRecord) (request : ReadRequest) (s : SourceRecord) → HasSides p → IsLaid p request
-    → PartReadable s p (color_in request) (part_of p request) → ChunkReadable s p (color_in request) (first_in request)
+pub first_readable : (file : List ℕ) (order : ByteOrder) (p : PageRecord) (request : ReadRequest)
+    (s : SourceRecord) → HasSides p → IsLaid p request
+    → PartReadable s p (color_in request) (part_of p request)
+    → ChunkReadable s p (color_in request) (first_in request)
 first_readable file order p request s sides laid r =
     let some = part_some p request sides laid in
-    let x : 0 * chunks_of_plane p + ((part_of p request).first + 0) ≡ first_in request = omega (arith, some.1.1) in
+    let x : 0 * chunks_of_plane p + ((part_of p request).first + 0) ≡ first_in request =
+    omega (arith, some.1.1) in
     subst (λ k. ChunkReadable s p (color_in request) k) x (r.chunk 0 some.1.0 0 some.0)
 
 -- a portion is read from a source with the same bytes
-pub portion_filled : (order : ByteOrder) (p : PageRecord) (request : ReadRequest) (e : TiffError) (s t : SourceRecord) → t ≡ s
+pub portion_filled : (order : ByteOrder) (p : PageRecord) (request : ReadRequest) (e : TiffError)
+    (s t : SourceRecord) → t ≡ s
     → (PartReadable t p (color_in request) (part_of p request) → IsNotDevice e)
     → PartReadable s p (color_in request) (part_of p request) → IsNotDevice e
 portion_filled order p request e s t same asked r =
@@ -617,14 +753,20 @@ portion_filled order p request e s t same asked r =
 -- ---- what a layout defines
 
 -- the part that the layout defines was read
-pub laid_asked : {X : Type 0} (p : PageRecord) (laid : Result LayoutRecord TiffError) (shape : LayoutRecord → Part) (l : LayoutRecord) (here : Part) (s : SourceRecord) (r : Result X TiffError)
-    → laid ≡ Ok l → here ≡ shape l → ReadsOnly (PartReadable s p l.color here) r → ReadsOnly (LaidReadable s p laid shape) r
+pub laid_asked : {X : Type 0} (p : PageRecord) (laid : Result LayoutRecord TiffError)
+    (shape : LayoutRecord → Part) (l : LayoutRecord) (here : Part) (s : SourceRecord) (r : Result X TiffError)
+    → laid ≡ Ok l → here ≡ shape l → ReadsOnly (PartReadable s p l.color here) r
+    → ReadsOnly (LaidReadable s p laid shape) r
 laid_asked p laid shape l here s r given same a =
-    asks_more (PartReadable s p l.color here) (LaidReadable s p laid shape) r (λ q. subst (λ (x : Part). PartReadable s p l.color x) (sym same) (q.part_readable l given)) a
+    asks_more (PartReadable s p l.color here) (LaidReadable s p laid shape) r
+    (λ q. subst (λ (x : Part). PartReadable s p l.color x) (sym same) (q.part_readable l given)) a
 
 -- the bytes of a chunk don't depend on the distance of its rows
-pub strided_asked : {X : Type 0} (p : PageRecord) (laid : Result LayoutRecord TiffError) (i stride : ℕ) (l : LayoutRecord) (s : SourceRecord) (r : Result X TiffError)
-    → laid ≡ Ok l → ReadsOnly (PartReadable s p l.color (chunk_part p i 1 stride)) r → ReadsOnly (LaidReadable s p laid (λ l. chunk_part p i 1 l.row_bytes)) r
+pub strided_asked : {X : Type 0} (p : PageRecord) (laid : Result LayoutRecord TiffError)
+    (i stride : ℕ) (l : LayoutRecord) (s : SourceRecord) (r : Result X TiffError)
+    → laid ≡ Ok l → ReadsOnly (PartReadable s p l.color (chunk_part p i 1 stride)) r
+    → ReadsOnly (LaidReadable s p laid (λ l. chunk_part p i 1 l.row_bytes)) r
 strided_asked p laid i stride l s r given a =
-    asks_more (PartReadable s p l.color (chunk_part p i 1 stride)) (LaidReadable s p laid (λ l. chunk_part p i 1 l.row_bytes)) r
+    asks_more (PartReadable s p l.color (chunk_part p i 1 stride))
+    (LaidReadable s p laid (λ l. chunk_part p i 1 l.row_bytes)) r
     (λ q. record { chunk = (q.part_readable l given).chunk }) a

@@ -27,7 +27,8 @@ Answer = Result (Unit {0}) TiffError
 
 -- ---- one page
 
-of_file : (o : Outcome (Unit {0})) (r : Answer) (old new : Decoding) → IsOfFile r → Follows (λ x. x) o r old new → GivesOutcome r o old new
+of_file : (o : Outcome (Unit {0})) (r : Answer) (old new : Decoding) → IsOfFile r
+    → Follows (λ x. x) o r old new → GivesOutcome r o old new
 of_file o (Ok u) old new k h = h
 of_file o (Err OutOfMemory) old new k h = absurd (cc)
 of_file o (Err (IoError Device)) old new k h = absurd (cc)
@@ -42,8 +43,10 @@ of_file o (Err IntSizeError) old new k h = h
 of_file o (Err (UsageError x)) old new k h = h
 
 -- The decoder is at the page with this number.
-pub came_to : WalkSeeks → (d new : Decoding) (number : ℕ) (answer entered : Answer) → number < length (chain_of d).offsets → (entered ≡ answer) × IsOfFile answer
-    → Follows (λ x. x) (seek_to_image d number) answer d new → Arrives d number entered new × (new.failures ≡ d.failures)
+pub came_to : WalkSeeks → (d new : Decoding) (number : ℕ) (answer entered : Answer)
+    → number < length (chain_of d).offsets → (entered ≡ answer) × IsOfFile answer
+    → Follows (λ x. x) (seek_to_image d number) answer d new
+    → Arrives d number entered new × (new.failures ≡ d.failures)
 came_to seeks d new number answer entered some told h =
     let gives = of_file (seek_to_image d number) answer d new told.1 h in
     let P : Answer → Type 0 = λ x. Arrives d number x new in (
@@ -56,29 +59,38 @@ abbrev pub sum_told : Answer → Decoding → Result ImageSum TiffError
 sum_told (Ok u) d = image_sum d d.state.page
 sum_told (Err e) d = Err e
 
-sum_of_file : (a b : Decoding) (page : PageRecord) → SameFile a b → image_sum b page ≡ image_sum a page
-sum_of_file a b page s = λ i. image_sum (record a { bytes = s.bytes i; order = s.order i; state = record a.state { limits = s.limits i } }) page
+sum_of_file : (a b : Decoding) (page : PageRecord) → SameFile a b
+    → image_sum b page ≡ image_sum a page
+sum_of_file a b page s =
+    λ i. image_sum (record a { bytes = s.bytes i; order = s.order i; state = record a.state { limits = s.limits i } }) page
 
-sum_by : (d new : Decoding) (offset : ℕ) (answer : Answer) → SameFile d new → PageAnswers d offset answer new → sum_told answer new ≡ (page_at d offset >>= image_sum d)
+sum_by : (d new : Decoding) (offset : ℕ) (answer : Answer) → SameFile d new
+    → PageAnswers d offset answer new → sum_told answer new ≡ (page_at d offset >>= image_sum d)
 sum_by d new offset (Ok u) s p =
     sum_of_file d new new.state.page s
-    ∙ sym (ap (λ (r : Result DirectoryRecord TiffError). r >>= page_in d.kind d.order d.bytes d.state.limits >>= image_sum d) p.0
+    ∙ sym (ap (λ (r : Result DirectoryRecord TiffError). r
+    >>= page_in d.kind d.order d.bytes d.state.limits >>= image_sum d) p.0
     ∙ ap (λ (r : Result PageRecord TiffError). r >>= image_sum d) p.1)
-sum_by d new offset (Err e) s p = sym (ap (λ (r : Result PageRecord TiffError). r >>= image_sum d) p)
+sum_by d new offset (Err e) s p =
+    sym (ap (λ (r : Result PageRecord TiffError). r >>= image_sum d) p)
 
 place_is : (o : Option IfdPointer) (p q : IfdPointer) → o ≡ Some p → o ≡ Some q → p ≡ q
 place_is o p q h k = ap (λ (x : Option IfdPointer). unwrap_or x p) (sym h ∙ k)
 
 -- The result is the check of the page.
-pub check_made : (d new : Decoding) (number : ℕ) (answer : Answer) (place : IfdPointer) (image : Result ImageSum TiffError) → Arrives d number answer new
-    → new.state.pointer ≡ Some place → image ≡ sum_told answer new → IsCheckOf d number (record { place = place; image = image })
+pub check_made : (d new : Decoding) (number : ℕ) (answer : Answer) (place : IfdPointer)
+    (image : Result ImageSum TiffError) → Arrives d number answer new
+    → new.state.pointer ≡ Some place → image ≡ sum_told answer new
+    → IsCheckOf d number (record { place = place; image = image })
 check_made d new number answer place image a pointer is =
-    let at = place_is new.state.pointer place (record { 0 = a.along.offset }) pointer a.along.pointer in
+    let at =
+    place_is new.state.pointer place (record { 0 = a.along.offset }) pointer a.along.pointer in
     let sum = is ∙ sum_by d new a.along.offset answer a.along.same a.page in
     (a.along.offset, a.along.is_offset, λ i. record { place = at i; image = sum i })
 
 -- A result that comes from the file is the given one.
-given_is : {X : Type 0} (r given : Result X TiffError) (m n : ℕ) → IsOfFile r → Answers (λ x. x) r given m n → given ≡ r
+given_is : {X : Type 0} (r given : Result X TiffError) (m n : ℕ) → IsOfFile r
+    → Answers (λ x. x) r given m n → given ≡ r
 given_is (Ok x) given m n k h = h
 given_is (Err OutOfMemory) given m n k h = absurd (cc)
 given_is (Err (IoError Device)) given m n k h = absurd (cc)
@@ -93,18 +105,24 @@ given_is (Err IntSizeError) given m n k h = h
 given_is (Err (UsageError x)) given m n k h = h
 
 -- The image of a page was read.
-pub image_told : (new mid last : Decoding) (u : Unit {0}) (entered : Answer) (r image : Result ImageSum TiffError) → mid ≡ new → entered ≡ Ok u
-    → ReadsPage (λ s. s) (image_sum mid mid.state.page) r mid last → (image ≡ r) × IsOfFile r → image ≡ sum_told entered new
+pub image_told : (new mid last : Decoding) (u : Unit {0}) (entered : Answer)
+    (r image : Result ImageSum TiffError) → mid ≡ new → entered ≡ Ok u
+    → ReadsPage (λ s. s) (image_sum mid mid.state.page) r mid last → (image ≡ r) × IsOfFile r
+    → image ≡ sum_told entered new
 image_told new mid last u entered r image s e h told =
     told.0 ∙ sym (given_is r (image_sum mid mid.state.page) mid.failures last.failures told.1 h.answer)
-    ∙ ap (λ (d : Decoding). image_sum d d.state.page) s ∙ sym (ap (λ (a : Answer). sum_told a new) e)
+    ∙ ap (λ (d : Decoding). image_sum d d.state.page) s
+    ∙ sym (ap (λ (a : Answer). sum_told a new) e)
 
 -- The page has an error.
-pub fault_told : (new : Decoding) (e : TiffError) (entered : Answer) (image : Result ImageSum TiffError) → entered ≡ Err e → image ≡ Err e → image ≡ sum_told entered new
+pub fault_told : (new : Decoding) (e : TiffError) (entered : Answer)
+    (image : Result ImageSum TiffError) → entered ≡ Err e → image ≡ Err e
+    → image ≡ sum_told entered new
 fault_told new e entered image h k = k ∙ sym (ap (λ (a : Answer). sum_told a new) h)
 
 -- The file is the same if the decoder is the same.
-pub same_then : (d new last : Decoding) (number : ℕ) (entered : Answer) → Arrives d number entered new × (new.failures ≡ d.failures) → last ≡ new
+pub same_then : (d new last : Decoding) (number : ℕ) (entered : Answer)
+    → Arrives d number entered new × (new.failures ≡ d.failures) → last ≡ new
     → SameFile d last × (last.failures ≡ d.failures)
 same_then d new last number entered a e =
     let P : Decoding → Type 0 = λ x. SameFile d x × (x.failures ≡ d.failures) in
@@ -119,13 +137,17 @@ ShowsPage old new offset = (page_at old offset ≡ Ok new.state.page) × SameFil
 abbrev page_result : PageRecord → Result PageRecord TiffError
 page_result page = Ok page
 
-shown_page : (old new : Decoding) (offset : ℕ) (u : Unit {0}) (directory : DirectoryRecord) (page : Result PageRecord TiffError)
+shown_page : (old new : Decoding) (offset : ℕ) (u : Unit {0}) (directory : DirectoryRecord)
+    (page : Result PageRecord TiffError)
     → directory_at old.kind old.order old.bytes offset ≡ Ok directory
-    → page_in old.kind old.order old.bytes old.state.limits directory ≡ page → (with_page old.state directory page).answer ≡ Ok u
-    → new ≡ record old { state = (with_page old.state directory page).next } → ShowsPage old new offset
+    → page_in old.kind old.order old.bytes old.state.limits directory ≡ page
+    → (with_page old.state directory page).answer ≡ Ok u
+    → new ≡ record old { state = (with_page old.state directory page).next }
+    → ShowsPage old new offset
 shown_page old new offset u directory (Err e) r q a n = absurd (cc)
 shown_page old new offset u directory (Ok page) r q a n = (
-  ap (λ (x : Result DirectoryRecord TiffError). x >>= page_in old.kind old.order old.bytes old.state.limits) r ∙ q
+  ap (λ (x : Result DirectoryRecord TiffError). x
+      >>= page_in old.kind old.order old.bytes old.state.limits) r ∙ q
       ∙ ap page_result (sym (ap (λ (d : Decoding). d.state.page) n)),
   record {
     bytes = ap (λ (d : Decoding). d.bytes) n;
@@ -137,26 +159,34 @@ shown_page old new offset u directory (Ok page) r q a n = (
 )
 
 shown_directory : (old new : Decoding) (offset : ℕ) (u : Unit {0}) (read : Result DirectoryRecord TiffError)
-    → directory_at old.kind old.order old.bytes offset ≡ read → (show_outcome old read).answer ≡ Ok u
+    → directory_at old.kind old.order old.bytes offset ≡ read
+    → (show_outcome old read).answer ≡ Ok u
     → new ≡ record old { state = (show_outcome old read).next } → ShowsPage old new offset
 shown_directory old new offset u (Err e) r a n = absurd (cc)
-shown_directory old new offset u (Ok directory) r a n = shown_page old new offset u directory (page_in old.kind old.order old.bytes old.state.limits directory) r refl a n
+shown_directory old new offset u (Ok directory) r a n =
+    shown_page old new offset u directory (page_in old.kind old.order old.bytes old.state.limits directory) r refl a n
 
-shown_here : (place : IfdPointer) (u : Unit {0}) (old new : Decoding) → Follows (λ x. x) (show_directory old place) (Ok u) old new → ShowsPage old new place.0
+shown_here : (place : IfdPointer) (u : Unit {0}) (old new : Decoding)
+    → Follows (λ x. x) (show_directory old place) (Ok u) old new → ShowsPage old new place.0
 unfolding show_directory
-shown_here place u old new h = shown_directory old new place.0 u (directory_at old.kind old.order old.bytes place.0) refl h.answer h.at
+shown_here place u old new h =
+    shown_directory old new place.0 u (directory_at old.kind old.order old.bytes place.0) refl h.answer h.at
 
 -- The image of a page that is shown was read.
-pub image_shown : (old new last : Decoding) (place : IfdPointer) (u : Unit {0}) (answer shown : Answer) (r image : Result ImageSum TiffError)
-    → (shown ≡ answer) × IsOfFile answer → shown ≡ Ok u → Follows (λ x. x) (show_directory old place) answer old new
+pub image_shown : (old new last : Decoding) (place : IfdPointer) (u : Unit {0})
+    (answer shown : Answer) (r image : Result ImageSum TiffError)
+    → (shown ≡ answer) × IsOfFile answer → shown ≡ Ok u
+    → Follows (λ x. x) (show_directory old place) answer old new
     → ReadsPage (λ s. s) (image_sum new new.state.page) r new last → (image ≡ r) × IsOfFile r
     → record { place = place; image = image } ≡ check_at old place.0
 image_shown old new last place u answer shown r image k t h reads told =
     let P : Answer → Type 0 = λ x. Follows (λ y. y) (show_directory old place) x old new in
     let s = shown_here place u old new (subst P (sym k.0 ∙ t) h) in
     let is : (page_at old place.0 >>= image_sum old) ≡ image =
-    ap (λ (p : Result PageRecord TiffError). p >>= image_sum old) s.0 ∙ sym (sum_of_file old new new.state.page s.1)
-    ∙ given_is r (image_sum new new.state.page) new.failures last.failures told.1 reads.answer ∙ sym told.0 in
+    ap (λ (p : Result PageRecord TiffError). p >>= image_sum old) s.0
+    ∙ sym (sum_of_file old new new.state.page s.1)
+    ∙ given_is r (image_sum new new.state.page) new.failures last.failures told.1 reads.answer
+    ∙ sym told.0 in
     λ i. record { place = place; image = sym is i }
 
 abbrev the_error : TiffError → Answer
@@ -168,32 +198,47 @@ page_error e = Err e
 same_fault : (f e : TiffError) → the_error f ≡ the_error e → f ≡ e
 same_fault f e h = cc
 
-fault_page : (old : Decoding) (offset : ℕ) (e : TiffError) (directory : DirectoryRecord) (page : Result PageRecord TiffError)
+fault_page : (old : Decoding) (offset : ℕ) (e : TiffError) (directory : DirectoryRecord)
+    (page : Result PageRecord TiffError)
     → directory_at old.kind old.order old.bytes offset ≡ Ok directory
-    → page_in old.kind old.order old.bytes old.state.limits directory ≡ page → (with_page old.state directory page).answer ≡ Err e
+    → page_in old.kind old.order old.bytes old.state.limits directory ≡ page
+    → (with_page old.state directory page).answer ≡ Err e
     → page_at old offset ≡ Err e
 fault_page old offset e directory (Ok page) r q a = absurd (cc)
 fault_page old offset e directory (Err f) r q a =
-    ap (λ (x : Result DirectoryRecord TiffError). x >>= page_in old.kind old.order old.bytes old.state.limits) r ∙ q ∙ ap page_error (same_fault f e a)
+    ap (λ (x : Result DirectoryRecord TiffError). x
+    >>= page_in old.kind old.order old.bytes old.state.limits) r ∙ q
+    ∙ ap page_error (same_fault f e a)
 
 fault_directory : (old : Decoding) (offset : ℕ) (e : TiffError) (read : Result DirectoryRecord TiffError)
-    → directory_at old.kind old.order old.bytes offset ≡ read → (show_outcome old read).answer ≡ Err e → page_at old offset ≡ Err e
+    → directory_at old.kind old.order old.bytes offset ≡ read
+    → (show_outcome old read).answer ≡ Err e → page_at old offset ≡ Err e
 fault_directory old offset e (Err f) r a =
-    ap (λ (x : Result DirectoryRecord TiffError). x >>= page_in old.kind old.order old.bytes old.state.limits) r ∙ ap page_error (same_fault f e a)
-fault_directory old offset e (Ok directory) r a = fault_page old offset e directory (page_in old.kind old.order old.bytes old.state.limits directory) r refl a
+    ap (λ (x : Result DirectoryRecord TiffError). x
+    >>= page_in old.kind old.order old.bytes old.state.limits) r
+    ∙ ap page_error (same_fault f e a)
+fault_directory old offset e (Ok directory) r a =
+    fault_page old offset e directory (page_in old.kind old.order old.bytes old.state.limits directory) r refl a
 
-fault_here : (place : IfdPointer) (e : TiffError) (old new : Decoding) → GivesOutcome (Err e) (show_directory old place) old new → page_at old place.0 ≡ Err e
+fault_here : (place : IfdPointer) (e : TiffError) (old new : Decoding)
+    → GivesOutcome (Err e) (show_directory old place) old new → page_at old place.0 ≡ Err e
 unfolding show_directory
-fault_here place e old new h = fault_directory old place.0 e (directory_at old.kind old.order old.bytes place.0) refl h.answer
+fault_here place e old new h =
+    fault_directory old place.0 e (directory_at old.kind old.order old.bytes place.0) refl h.answer
 
 -- The page at an offset has an error.
-pub fault_shown : (old new : Decoding) (place : IfdPointer) (e : TiffError) (answer shown : Answer) (image : Result ImageSum TiffError)
-    → (shown ≡ answer) × IsOfFile answer → shown ≡ Err e → Follows (λ x. x) (show_directory old place) answer old new → image ≡ Err e
+pub fault_shown : (old new : Decoding) (place : IfdPointer) (e : TiffError) (answer shown : Answer)
+    (image : Result ImageSum TiffError)
+    → (shown ≡ answer) × IsOfFile answer → shown ≡ Err e
+    → Follows (λ x. x) (show_directory old place) answer old new → image ≡ Err e
     → record { place = place; image = image } ≡ check_at old place.0
 fault_shown old new place e answer shown image k t h is =
     let P : Answer → Type 0 = λ x. GivesOutcome x (show_directory old place) old new in
-    let g = fault_here place e old new (subst P (sym k.0 ∙ t) (of_file (show_directory old place) answer old new k.1 h)) in
-    let same : image ≡ (page_at old place.0 >>= image_sum old) = is ∙ sym (ap (λ (p : Result PageRecord TiffError). p >>= image_sum old) g) in
+    let g =
+    fault_here place e old new (subst P (sym k.0
+    ∙ t) (of_file (show_directory old place) answer old new k.1 h)) in
+    let same : image ≡ (page_at old place.0 >>= image_sum old) =
+    is ∙ sym (ap (λ (p : Result PageRecord TiffError). p >>= image_sum old) g) in
     λ i. record { place = place; image = same i }
 
 -- ---- one after another
@@ -211,12 +256,14 @@ same_check : (a b : Decoding) (offset : ℕ) → SameFile a b → check_at b off
 same_check a b offset s =
     λ i. check_at (record a { bytes = s.bytes i; kind = s.kind i; order = s.order i; state = record a.state { limits = s.limits i } }) offset
 
-same_checks : (a b : Decoding) (offsets : List ℕ) → SameFile a b → map (check_at b) offsets ≡ map (check_at a) offsets
+same_checks : (a b : Decoding) (offsets : List ℕ) → SameFile a b
+    → map (check_at b) offsets ≡ map (check_at a) offsets
 same_checks a b [] s = refl
 same_checks a b (o ∷ os) s = λ i. same_check a b o s i ∷ same_checks a b os s i
 
 same_after : (a b c : Decoding) → SameFile a b → SameFile b c → SameFile a c
-same_after a b c s t = record { bytes = t.bytes ∙ s.bytes; kind = t.kind ∙ s.kind; order = t.order ∙ s.order; first = t.first ∙ s.first; limits = t.limits ∙ s.limits }
+same_after a b c s t =
+    record { bytes = t.bytes ∙ s.bytes; kind = t.kind ∙ s.kind; order = t.order ∙ s.order; first = t.first ∙ s.first; limits = t.limits ∙ s.limits }
 
 pub none_checked : (d : Decoding) (checks : List PageCheck) → checks ≡ [] → ChecksAlong d d 0 checks
 none_checked d checks h = record {
@@ -226,12 +273,18 @@ none_checked d checks h = record {
 }
 
 -- There is a page with this number.
-pub some_left : (start d : Decoding) (count : ℕ) (checks : List PageCheck) → ChecksAlong start d count checks → count < length (chain_of start).offsets → count < length (chain_of d).offsets
-some_left start d count checks c l = subst (λ (n : ℕ). count < n) (ap (λ x. length x.offsets) (sym (same_chain start d c.same))) l
+pub some_left : (start d : Decoding) (count : ℕ) (checks : List PageCheck)
+    → ChecksAlong start d count checks → count < length (chain_of start).offsets
+    → count < length (chain_of d).offsets
+some_left start d count checks c l =
+    subst (λ (n : ℕ). count < n) (ap (λ x. length x.offsets) (sym (same_chain start d c.same))) l
 
 -- One more page was checked.
-pub one_checked : (start old new : Decoding) (count : ℕ) (check : PageCheck) (before checks : List PageCheck) → ChecksAlong start old count before → IsCheckOf old count check
-    → SameFile old new × (new.failures ≡ old.failures) → checks ≡ before ++ check ∷ [] → ChecksAlong start new (count + 1) checks
+pub one_checked : (start old new : Decoding) (count : ℕ) (check : PageCheck)
+    (before checks : List PageCheck) → ChecksAlong start old count before
+    → IsCheckOf old count check
+    → SameFile old new × (new.failures ≡ old.failures) → checks ≡ before ++ check ∷ []
+    → ChecksAlong start new (count + 1) checks
 one_checked start old new count check before checks c is same e =
     let n : count + 1 ≡ suc count = omega arith in
     let there = sym (ap (λ x. slice_get x.offsets count) (same_chain start old c.same)) ∙ is.1 in
@@ -239,16 +292,22 @@ one_checked start old new count check before checks c is same e =
     record {
       same = same_after start old new c.same same.0;
       failures = same.1 ∙ c.failures;
-      checked = e ∙ ap (λ (xs : List PageCheck). xs ++ check ∷ []) c.checked ∙ ap (λ (x : PageCheck). map (check_at start) (take count (chain_of start).offsets) ++ x ∷ []) one
+      checked =
+          e ∙ ap (λ (xs : List PageCheck). xs ++ check ∷ []) c.checked
+          ∙ ap (λ (x : PageCheck). map (check_at start) (take count (chain_of start).offsets) ++ x
+          ∷ []) one
           ∙ sym (map-append (check_at start) (take count (chain_of start).offsets) (is.0 ∷ []))
-          ∙ ap (map (check_at start)) (sym (ap (λ (k : ℕ). take k (chain_of start).offsets) n ∙ take_next (chain_of start).offsets count is.0 there));
+          ∙ ap (map (check_at start)) (sym (ap (λ (k : ℕ). take k (chain_of start).offsets) n
+          ∙ take_next (chain_of start).offsets count is.0 there));
     }
 
 -- All pages were checked.
-pub all_checked : (start d : Decoding) (count all : ℕ) (checks : List PageCheck) → ChecksAlong start d count checks → all ≡ length (chain_of start).offsets → count ≡ all
+pub all_checked : (start d : Decoding) (count all : ℕ) (checks : List PageCheck)
+    → ChecksAlong start d count checks → all ≡ length (chain_of start).offsets → count ≡ all
     → checks ≡ map (check_at start) (chain_of start).offsets
 all_checked start d count all checks c h e =
-    c.checked ∙ ap (λ (n : ℕ). map (check_at start) (take n (chain_of start).offsets)) (e ∙ h) ∙ ap (map (check_at start)) (take-length (chain_of start).offsets)
+    c.checked ∙ ap (λ (n : ℕ). map (check_at start) (take n (chain_of start).offsets)) (e ∙ h)
+    ∙ ap (map (check_at start)) (take-length (chain_of start).offsets)
 
 abbrev answered : Pages → Result Pages TiffError
 answered pages = Ok pages
@@ -262,9 +321,12 @@ end_told (Ok pages) = pages.end
 end_told (Err e) = None
 
 -- All pages of the file that were listed were checked.
-pub checks_all : (old mid : Decoding) (listed : PageList) (checks : List PageCheck) → Ok (pages_of old) ≡ answered (pages_in listed)
-    → mid ≡ record old { state = state_along old (times_to_end old) } → mid.state.limits ≡ old.state.limits
-    → checks ≡ map (check_at mid) (chain_of mid).offsets → Ok (checks_of old) ≡ checks_answered (record { items = checks; end = listed.end })
+pub checks_all : (old mid : Decoding) (listed : PageList) (checks : List PageCheck)
+    → Ok (pages_of old) ≡ answered (pages_in listed)
+    → mid ≡ record old { state = state_along old (times_to_end old) }
+    → mid.state.limits ≡ old.state.limits
+    → checks ≡ map (check_at mid) (chain_of mid).offsets
+    → Ok (checks_of old) ≡ checks_answered (record { items = checks; end = listed.end })
 checks_all old mid listed checks told at limits all =
     let same : SameFile old mid = record {
       bytes = ap (λ (d : Decoding). d.bytes) at;
@@ -273,6 +335,8 @@ checks_all old mid listed checks told at limits all =
       first = ap (λ (d : Decoding). d.first) at;
       limits = limits;
     } in
-    let here = all ∙ ap (λ x. map (check_at mid) x.offsets) (same_chain old mid same) ∙ same_checks old mid (chain_of old).offsets same in
+    let here =
+    all ∙ ap (λ x. map (check_at mid) x.offsets) (same_chain old mid same)
+    ∙ same_checks old mid (chain_of old).offsets same in
     let end : (chain_of old).end ≡ listed.end = ap end_told told in
     λ i. Ok (record { items = sym here i; end = end i })

@@ -28,9 +28,11 @@ use Rattle.tiff_pages.specs.Plan.{chunks_planned, extra_of, is_sized, page_of_ch
 use Rattle.tiff_pages.specs.declared.plan.PagePlan.{PagePlan}
 
 -- a number of a list, read alone, where a list of which no other number is known has it
-module _ (plan : PagePlan) (file : List ℕ) (opened : Limits) (f : Field) (numbers : List ℕ) (has : HasNumbers plan.kind plan.order file opened f numbers)
+module _ (plan : PagePlan) (file : List ℕ) (opened : Limits) (f : Field) (numbers : List ℕ)
+    (has : HasNumbers plan.kind plan.order file opened f numbers)
     (wide : length file < 2 ^ 64) (count k : ℕ) (many : length numbers ≡ count) where
-  listed_number : k < count → number_planned file plan f count k ≡ one_number plan.kind plan.order file f k
+  listed_number : k < count → number_planned file plan f count k
+      ≡ one_number plan.kind plan.order file f k
   unfolding number_planned
   listed_number below = grind (arith, common_steps, below)
 
@@ -38,7 +40,8 @@ module _ (plan : PagePlan) (file : List ℕ) (opened : Limits) (f : Field) (numb
   unfolding number_planned
   no_number past = grind (arith, common_steps, past)
 
-  number_is : (n : ℕ) × ((number_planned file plan f count k ≡ Ok n) × (slice_index (one_known count k n) k ≡ slice_index numbers k))
+  number_is : (n : ℕ) × ((number_planned file plan f count k ≡ Ok n)
+      × (slice_index (one_known count k n) k ≡ slice_index numbers k))
   number_is =
       ⊎_elim
       (λ (below : k < count).
@@ -52,12 +55,14 @@ module _ (plan : PagePlan) (file : List ℕ) (opened : Limits) (f : Field) (numb
         ),
       ))
       (λ (past : count ≤ k).
-      let none : length (one_known count k 0) ≤ k = omega (arith, past, length-set {A = ℕ} (replicate count 0) k 0, length-replicate {A = ℕ} count 0) in
+      let none : length (one_known count k 0) ≤ k =
+      omega (arith, past, length-set {A = ℕ} (replicate count 0) k 0, length-replicate {A = ℕ} count 0) in
       let none_too : length numbers ≤ k = omega (arith, past, many) in
       (0, (no_number past, get_or-eq_default (one_known count k 0) 0 none ∙ sym (get_or-eq_default numbers 0 none_too))))
       (cases_lt k count)
 
-module _ (plan : PagePlan) (file : List ℕ) (opened : Limits) (p : PageRecord) (i : IsPlanOf plan file opened p) where
+module _ (plan : PagePlan) (file : List ℕ) (opened : Limits) (p : PageRecord)
+    (i : IsPlanOf plan file opened p) where
   -- a plan has the sizes of its page
   sized : is_sized plan ≡ true
   sized =
@@ -65,8 +70,10 @@ module _ (plan : PagePlan) (file : List ℕ) (opened : Limits) (p : PageRecord) 
       let height : plan.height ≡ p.height = ap (λ (q : PageRecord). q.height) i.facts in
       let samples : plan.samples ≡ p.samples = ap (λ (q : PageRecord). q.samples) i.facts in
       let depth : plan.depth ≡ p.depth = ap (λ (q : PageRecord). q.depth) i.facts in
-      let chunk_width : plan.chunk_width ≡ p.chunk_width = ap (λ (q : PageRecord). q.chunk_width) i.facts in
-      let chunk_height : plan.chunk_height ≡ p.chunk_height = ap (λ (q : PageRecord). q.chunk_height) i.facts in
+      let chunk_width : plan.chunk_width ≡ p.chunk_width =
+      ap (λ (q : PageRecord). q.chunk_width) i.facts in
+      let chunk_height : plan.chunk_height ≡ p.chunk_height =
+      ap (λ (q : PageRecord). q.chunk_height) i.facts in
       grind (
         arith,
         common_steps,
@@ -90,7 +97,8 @@ module _ (plan : PagePlan) (file : List ℕ) (opened : Limits) (p : PageRecord) 
   all_is = ap all_chunks i.facts ∙ sym i.page.counted
 
   -- a plan has as many chunks as its page
-  count_by : (count : ℕ) → count < 2 ^ 64 → all_chunks (page_with plan [] [] []) ≡ count → count < 2 ^ 32 → chunks_planned plan ≡ Ok count
+  count_by : (count : ℕ) → count < 2 ^ 64 → all_chunks (page_with plan [] [] []) ≡ count
+      → count < 2 ^ 32 → chunks_planned plan ≡ Ok count
   unfolding chunks_planned
   count_by count l e few = grind (arith, common_steps, sized, e, few)
 
@@ -101,11 +109,14 @@ module _ (plan : PagePlan) (file : List ℕ) (opened : Limits) (p : PageRecord) 
     abbrev count : ℕ
     count = length p.offsets
 
-    offset_is : (n : ℕ) × ((number_planned file plan plan.offsets count k ≡ Ok n) × (slice_index (one_known count k n) k ≡ slice_index p.offsets k))
+    offset_is : (n : ℕ) × ((number_planned file plan plan.offsets count k ≡ Ok n)
+        × (slice_index (one_known count k n) k ≡ slice_index p.offsets k))
     offset_is = number_is plan file opened plan.offsets p.offsets i.offsets wide count k refl
 
-    byte_count_is : (n : ℕ) × ((number_planned file plan plan.byte_counts count k ≡ Ok n) × (slice_index (one_known count k n) k ≡ slice_index p.byte_counts k))
-    byte_count_is = number_is plan file opened plan.byte_counts p.byte_counts i.byte_counts wide count k i.page.counted_bytes
+    byte_count_is : (n : ℕ) × ((number_planned file plan plan.byte_counts count k ≡ Ok n)
+        × (slice_index (one_known count k n) k ≡ slice_index p.byte_counts k))
+    byte_count_is =
+        number_is plan file opened plan.byte_counts p.byte_counts i.byte_counts wide count k i.page.counted_bytes
 
     abbrev offsets : List ℕ
     offsets = one_known count k offset_is.0
@@ -122,8 +133,10 @@ module _ (plan : PagePlan) (file : List ℕ) (opened : Limits) (p : PageRecord) 
     page_is : page_of_chunk file plan k ≡ Ok (with_lists p (extra_of plan) offsets byte_counts)
     unfolding page_of_chunk
     page_is =
-        ap (λ (r : Result ℕ TiffError). r >>= (λ count. place_planned file plan count k >>= (λ place. Ok (page_with plan (extra_of plan) (one_known count k place.0) (one_known count k place.1))))) count_is
-        ∙ ap (λ (r : Result (ℕ × ℕ) TiffError). r >>= (λ place. Ok (page_with plan (extra_of plan) (one_known count k place.0) (one_known count k place.1)))) place_is
+        ap (λ (r : Result ℕ TiffError). r >>= (λ count. place_planned file plan count k
+        >>= (λ place. Ok (page_with plan (extra_of plan) (one_known count k place.0) (one_known count k place.1))))) count_is
+        ∙ ap (λ (r : Result (ℕ × ℕ) TiffError). r
+        >>= (λ place. Ok (page_with plan (extra_of plan) (one_known count k place.0) (one_known count k place.1)))) place_is
         ∙ ap (λ (q : PageRecord). Ok (with_lists q (extra_of plan) offsets byte_counts)) i.facts
 
     extras_are : length (extra_of plan) ≡ length p.extra
@@ -138,31 +151,42 @@ module _ (plan : PagePlan) (file : List ℕ) (opened : Limits) (p : PageRecord) 
       byte_count = byte_count_is.1.1;
     }
 
-    read_is : (limits : Limits) (buf : List ℕ) → read_planned file plan limits k buf ≡ read_chunk_bytes file plan.order p limits k buf
+    read_is : (limits : Limits) (buf : List ℕ)
+        → read_planned file plan limits k buf ≡ read_chunk_bytes file plan.order p limits k buf
     unfolding read_planned
     read_is limits buf =
-        ap (λ (r : Result PageRecord TiffError). r >>= (λ page. read_chunk_bytes file plan.order page limits k buf)) page_is
+        ap (λ (r : Result PageRecord TiffError). r
+        >>= (λ page. read_chunk_bytes file plan.order page limits k buf)) page_is
         ∙ chunk_alone.bytes file plan.order p limits k buf (extra_of plan) offsets byte_counts i.page.sides i.page.sampled i.page.counted tells
 
   module _ (wide : length file < 2 ^ 64) (k : ℕ) where
-    early_is : (limits : Limits) (len : ℕ) → planned_early file plan limits k len ≡ chunk_bytes_early p limits k len
+    early_is : (limits : Limits) (len : ℕ)
+        → planned_early file plan limits k len ≡ chunk_bytes_early p limits k len
     unfolding planned_early
     early_is limits len =
-        ap (λ (r : Result PageRecord TiffError). r >>= (λ page. chunk_bytes_early page limits k len)) (page_is wide k)
-        ∙ chunk_alone.early p limits k len (extra_of plan) (offsets wide k) (byte_counts wide k) (tells wide k)
+        ap (λ (r : Result PageRecord TiffError). r
+        >>= (λ page. chunk_bytes_early page limits k len)) (page_is wide k)
+        ∙ chunk_alone.early p limits k len (extra_of plan) (offsets wide k) (byte_counts wide k)
+        (tells wide k)
 
-    asked_is : (source : SourceRecord) → source.bytes ≡ file → ChunksReadable source p k (λ l. 1) → (page : PageRecord) → page_of_chunk source.bytes plan k ≡ Ok page
+    asked_is : (source : SourceRecord) → source.bytes ≡ file → ChunksReadable source p k (λ l. 1)
+        → (page : PageRecord) → page_of_chunk source.bytes plan k ≡ Ok page
         → ChunksReadable source page k (λ l. 1)
     asked_is source same r page h =
-        let both : Ok (with_lists p (extra_of plan) (offsets wide k) (byte_counts wide k)) ≡ Ok page = sym (page_is wide k) ∙ ap (λ (bytes : List ℕ). page_of_chunk bytes plan k) (sym same) ∙ h in
+        let both : Ok (with_lists p (extra_of plan) (offsets wide k) (byte_counts wide k))
+        ≡ Ok page =
+        sym (page_is wide k) ∙ ap (λ (bytes : List ℕ). page_of_chunk bytes plan k) (sym same)
+        ∙ h in
         let one : with_lists p (extra_of plan) (offsets wide k) (byte_counts wide k) ≡ page = cc in
         subst (λ (q : PageRecord). ChunksReadable source q k (λ l. 1)) one
         ((chunk_alone.asked source p k (extra_of plan) (offsets wide k) (byte_counts wide k) (tells wide k)).1 r)
 
-  page_there : length file < 2 ^ 64 → (k : ℕ) → (page : PageRecord) × ((page_of_chunk file plan k ≡ Ok page) × IsPageOfChunk p k page)
+  page_there : length file < 2 ^ 64 → (k : ℕ)
+      → (page : PageRecord) × ((page_of_chunk file plan k ≡ Ok page) × IsPageOfChunk p k page)
   page_there wide k =
       let page : PageRecord = with_lists p (extra_of plan) (offsets wide k) (byte_counts wide k) in
-      let told : IsPageOfChunk p k page = record { extra = extra_of plan; offsets = offsets wide k; byte_counts = byte_counts wide k; same = refl; tells = tells wide k } in
+      let told : IsPageOfChunk p k page =
+      record { extra = extra_of plan; offsets = offsets wide k; byte_counts = byte_counts wide k; same = refl; tells = tells wide k } in
       (page, (page_is wide k, told))
 
   layout_is : (k : ℕ) → planned_layout plan k ≡ image_chunk_buffer_layout p k
@@ -180,13 +204,17 @@ pub plans_read_pages : PlansReadPages
 plans_read_pages = record {
   bytes = λ plan file opened p limits k buf wide i. read_is plan file opened p i wide k limits buf;
   early = λ plan file opened p limits k len wide i. early_is plan file opened p i wide k limits len;
-  asked = λ plan source opened p k wide i place r. record { place = place; chunk = λ page h. asked_is plan source.bytes opened p i wide k source refl r page h };
+  asked =
+      λ plan source opened p k wide i place r. record { place = place; chunk = λ page h. asked_is plan source.bytes opened p i wide k source refl r page h };
   layout = λ plan file opened p k i. layout_is plan file opened p i k;
 }
 
 -- what a call returns by the plan of a page, by the page
-pub read_by_page : {X : Type 0} (view : X → List ℕ) (r : Result X TiffError) (plan : PagePlan) (file : List ℕ) (limits : Limits) (k : ℕ) (buf : List ℕ) (before after : ℕ)
+pub read_by_page : {X : Type 0} (view : X → List ℕ) (r : Result X TiffError) (plan : PagePlan)
+    (file : List ℕ) (limits : Limits) (k : ℕ) (buf : List ℕ) (before after : ℕ)
     → length file < 2 ^ 64 → Answers view r (read_planned file plan limits k buf) before after
-    → (opened : Limits) (p : PageRecord) → IsPlanOf plan file opened p → Answers view r (read_chunk_bytes file plan.order p limits k buf) before after
+    → (opened : Limits) (p : PageRecord) → IsPlanOf plan file opened p
+    → Answers view r (read_chunk_bytes file plan.order p limits k buf) before after
 read_by_page view r plan file limits k buf before after wide h opened p i =
-    subst (λ (given : Result (List ℕ) TiffError). Answers view r given before after) (plans_read_pages.bytes plan file opened p limits k buf wide i) h
+    subst (λ (given : Result (List ℕ) TiffError). Answers view r given before after)
+    (plans_read_pages.bytes plan file opened p limits k buf wide i) h

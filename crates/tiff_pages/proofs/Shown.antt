@@ -14,7 +14,8 @@ pub shows_none : {X : Type 0} (x : X) (d : Decoding) → Shows (Ok x) d d
 shows_none x d = record { shows = refl; failures = omega (arith); stays = refl; refused = tt }
 
 -- A call behind another one.
-pub then_shows : {X Y : Type 0} (x : X) (r : Result Y TiffError) (a b c : Decoding) → Shows (Ok x) a b → Shows r b c → Shows r a c
+pub then_shows : {X Y : Type 0} (x : X) (r : Result Y TiffError) (a b c : Decoding)
+    → Shows (Ok x) a b → Shows r b c → Shows r a c
 then_shows x r a b c h k =
     let N : ℕ → Type 0 = λ n. n ≤ c.failures in
     let S : ℕ → Type 0 = λ n. OnOk r (c.failures ≡ n) in
@@ -28,17 +29,23 @@ then_shows x r a b c h k =
 
 -- The same call with another result.
 pub ok_again : {X Y : Type 0} (x : X) (y : Y) (a b : Decoding) → Shows (Ok x) a b → Shows (Ok y) a b
-ok_again x y a b h = record { shows = h.shows; failures = h.failures; stays = h.stays; refused = tt }
+ok_again x y a b h =
+    record { shows = h.shows; failures = h.failures; stays = h.stays; refused = tt }
 
-pub err_again : {X Y : Type 0} (e : TiffError) (a b : Decoding) → Shows {X = X} (Err e) a b → Shows {X = Y} (Err e) a b
-err_again e a b h = record { shows = h.shows; failures = h.failures; stays = tt; refused = h.refused }
+pub err_again : {X Y : Type 0} (e : TiffError) (a b : Decoding) → Shows {X = X} (Err e) a b
+    → Shows {X = Y} (Err e) a b
+err_again e a b h =
+    record { shows = h.shows; failures = h.failures; stays = tt; refused = h.refused }
 
 -- What is read after such a call is the same.
 module _ {X : Type 0} (r : Result X TiffError) (a b : Decoding) (h : Shows r a b) where
-  pub named_same : (place : IfdPointer) (depth : ℕ) (l : ListingRecord) (read : Result DirectoryRecord TiffError) → list_named b place depth l read ≡ list_named a place depth l read
+  pub named_same : (place : IfdPointer) (depth : ℕ) (l : ListingRecord)
+      (read : Result DirectoryRecord TiffError)
+      → list_named b place depth l read ≡ list_named a place depth l read
   named_same place depth l read = ap (λ (d : Decoding). list_named d place depth l read) h.shows
 
-  pub expand_same : (depth : ℕ) (l : ListingRecord) (item : DirectoryItem) → expand b depth l item ≡ expand a depth l item
+  pub expand_same : (depth : ℕ) (l : ListingRecord) (item : DirectoryItem)
+      → expand b depth l item ≡ expand a depth l item
   expand_same depth l item = ap (λ (d : Decoding). expand d depth l item) h.shows
 
   pub level_same : (depth : ℕ) (l : ListingRecord) → level b depth l ≡ level a depth l

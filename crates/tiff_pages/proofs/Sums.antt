@@ -16,36 +16,48 @@ sum-append xs ys = sum_by-append (λ x. x) xs ys
 abbrev pub second_sum_to : List ℕ → ℕ → ℕ
 second_sum_to bytes n = sum (map (first_sum_to bytes) (range_with_len 0 n))
 
-first_more : (bytes : List ℕ) (i b : ℕ) → i < length bytes → b ≡ get_or bytes i 0 → first_sum (take (i + 1) bytes) ≡ first_sum (take i bytes) + b
+first_more : (bytes : List ℕ) (i b : ℕ) → i < length bytes → b ≡ get_or bytes i 0
+    → first_sum (take (i + 1) bytes) ≡ first_sum (take i bytes) + b
 first_more bytes i b l e =
     let more = ap sum (take_more bytes i 0 l) ∙ sum-append (take i bytes) (get_or bytes i 0 ∷ []) in
     omega (arith, more, e)
 
-second_more : (bytes : List ℕ) (i : ℕ) → second_sum_to bytes (i + 1) ≡ second_sum_to bytes i + first_sum (take (i + 1) bytes)
+second_more : (bytes : List ℕ) (i : ℕ)
+    → second_sum_to bytes (i + 1) ≡ second_sum_to bytes i + first_sum (take (i + 1) bytes)
 second_more bytes i =
     let k : suc i ≡ i + 1 = omega arith in
-    let more = ap sum (map-range_with_len_more (first_sum_to bytes) 0 i i (zero-add i)) ∙ sum-append (map (first_sum_to bytes) (range_with_len 0 i)) (first_sum_to bytes i ∷ []) in
+    let more =
+    ap sum (map-range_with_len_more (first_sum_to bytes) 0 i i (zero-add i))
+    ∙ sum-append (map (first_sum_to bytes) (range_with_len 0 i)) (first_sum_to bytes i ∷ []) in
     let last = ap (λ (n : ℕ). first_sum (take n bytes)) k in
     omega (arith, more, last)
 
 -- One more byte is added.
-pub first_after : (bytes : List ℕ) (i b first now : ℕ) → i < length bytes → b ≡ get_or bytes i 0 → first ≡ first_sum (take i bytes) % base → now ≡ (first + b) % base
+pub first_after : (bytes : List ℕ) (i b first now : ℕ) → i < length bytes → b ≡ get_or bytes i 0
+    → first ≡ first_sum (take i bytes) % base → now ≡ (first + b) % base
     → now ≡ first_sum (take (i + 1) bytes) % base
 first_after bytes i b first now l is f n =
-    n ∙ ap (λ (x : ℕ). (x + b) % base) f ∙ mod-add-mod (first_sum (take i bytes)) base b ∙ ap (λ (x : ℕ). x % base) (sym (first_more bytes i b l is))
+    n ∙ ap (λ (x : ℕ). (x + b) % base) f ∙ mod-add-mod (first_sum (take i bytes)) base b
+    ∙ ap (λ (x : ℕ). x % base) (sym (first_more bytes i b l is))
 
-pub second_after : (bytes : List ℕ) (i first second now : ℕ) → first ≡ first_sum (take (i + 1) bytes) % base → second ≡ second_sum_to bytes i % base → now ≡ (second + first) % base
+pub second_after : (bytes : List ℕ) (i first second now : ℕ)
+    → first ≡ first_sum (take (i + 1) bytes) % base → second ≡ second_sum_to bytes i % base
+    → now ≡ (second + first) % base
     → now ≡ second_sum_to bytes (i + 1) % base
 second_after bytes i first second now f s n =
-    n ∙ ap (λ (x : ℕ). (x + first) % base) s ∙ ap (λ (x : ℕ). (second_sum_to bytes i % base + x) % base) f
+    n ∙ ap (λ (x : ℕ). (x + first) % base) s
+    ∙ ap (λ (x : ℕ). (second_sum_to bytes i % base + x) % base) f
     ∙ add-mod-mod (second_sum_to bytes i % base) (first_sum (take (i + 1) bytes)) base
     ∙ mod-add-mod (second_sum_to bytes i) base (first_sum (take (i + 1) bytes))
     ∙ ap (λ (x : ℕ). x % base) (sym (second_more bytes i))
 
 -- All bytes are added.
-pub adler_made : (bytes : List ℕ) (first second : ℕ) → first ≡ first_sum (take (length bytes) bytes) % base → second ≡ second_sum_to bytes (length bytes) % base
+pub adler_made : (bytes : List ℕ) (first second : ℕ)
+    → first ≡ first_sum (take (length bytes) bytes) % base
+    → second ≡ second_sum_to bytes (length bytes) % base
     → second * 65536 + first ≡ adler_32 bytes
 unfolding adler_32
 adler_made bytes first second f s =
     ap (λ (x : ℕ). x * 65536 + first) s
-    ∙ ap (λ (x : ℕ). second_sum bytes % base * 65536 + x) (f ∙ ap (λ (xs : List ℕ). first_sum xs % base) (take-length bytes))
+    ∙ ap (λ (x : ℕ). second_sum bytes % base * 65536 + x) (f
+    ∙ ap (λ (xs : List ℕ). first_sum xs % base) (take-length bytes))

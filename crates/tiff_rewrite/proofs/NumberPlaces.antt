@@ -20,32 +20,40 @@ use Rattle.tiff_rewrite.specs.StoredNumbers.{stored_by, place_of, PutsNumber}
 
 -- ---- one number is put
 
-pub length_put_mid : (old part : List ℕ) (at n : ℕ) → at + n ≤ length old → length part ≡ n → length (put_mid at n old part) ≡ length old
+pub length_put_mid : (old part : List ℕ) (at n : ℕ) → at + n ≤ length old → length part ≡ n
+    → length (put_mid at n old part) ≡ length old
 length_put_mid old part at n v z =
     length-append (take at old) (part ++ post_of at n old)
     ∙ omega (arith, length-append part (post_of at n old), length-take-le at old (omega (arith, v)), length-drop at old, length-drop n (drop at old), z, v)
 
-pub puts : (order : ByteOrder) (size : ℕ) (old part : List ℕ) (k n len : ℕ) → len ≡ size → length part ≡ size → (k + 1) * size ≤ length old
-    → number order (width_of size) part ≡ n → PutsNumber order size k n old (put_mid (k * size) len old part)
+pub puts : (order : ByteOrder) (size : ℕ) (old part : List ℕ) (k n len : ℕ) → len ≡ size
+    → length part ≡ size → (k + 1) * size ≤ length old
+    → number order (width_of size) part ≡ n
+    → PutsNumber order size k n old (put_mid (k * size) len old part)
 puts order size old part k n len e l w p =
     let z : length part ≡ len = omega (arith, l, e) in
     let v : k * size + len ≤ length old = omega (arith, w, e) in
     let new : List ℕ = put_mid (k * size) len old part in
     let same : length new ≡ length old = length_put_mid old part (k * size) len v z in
-    let there : bytes_at new (k * size) size ≡ part = ap (λ (m : ℕ). bytes_at new (k * size) m) (sym e) ∙ put_there old part (k * size) len v z in
+    let there : bytes_at new (k * size) size ≡ part =
+    ap (λ (m : ℕ). bytes_at new (k * size) m) (sym e) ∙ put_there old part (k * size) len v z in
     record {
       same_length = same;
-      there = ap (number order (width_of size)) (each_at size k new (omega (arith, w, same)) ∙ there) ∙ p;
+      there =
+          ap (number order (width_of size)) (each_at size k new (omega (arith, w, same)) ∙ there)
+          ∙ p;
       below = λ i h. put_below old part (k * size) len i (omega (arith, v)) h;
       above = λ i h. put_above old part (k * size) len i (omega (arith, v)) z (omega (arith, h, e));
     }
 
 one_byte : (order : ByteOrder) (row : List ℕ) (k : ℕ) → row_number order 1 row k ≡ get_or row k 0
 unfolding number
-one_byte LittleEndian row k = let e : k * 1 + 0 ≡ k = omega arith in ap (λ (i : ℕ). get_or row i 0) e
+one_byte LittleEndian row k =
+    let e : k * 1 + 0 ≡ k = omega arith in ap (λ (i : ℕ). get_or row i 0) e
 one_byte BigEndian row k = let e : k * 1 + 0 ≡ k = omega arith in ap (λ (i : ℕ). get_or row i 0) e
 
-pub puts_byte : (order : ByteOrder) (old : List ℕ) (k n : ℕ) → (k + 1) * 1 ≤ length old → PutsNumber order 1 k n old (set old k n)
+pub puts_byte : (order : ByteOrder) (old : List ℕ) (k n : ℕ) → (k + 1) * 1 ≤ length old
+    → PutsNumber order 1 k n old (set old k n)
 puts_byte order old k n w =
     record {
       same_length = length-set old k n;
@@ -56,19 +64,22 @@ puts_byte order old k n w =
 
 -- ---- the places of numbers
 
-pub place_before : (s stored m n : ℕ) → 0 < s → s ≤ stored → m < n → place_of s stored m < place_of s stored n
+pub place_before : (s stored m n : ℕ) → 0 < s → s ≤ stored → m < n
+    → place_of s stored m < place_of s stored n
 place_before s stored m n some few l =
     let lm : m % s < s = mod_below m s some in
     let ln : n % s < s = mod_below n s some in
     let wm : m / s * s + m % s ≡ m = div-add-mod' m s in
     let wn : n / s * s + n % s ≡ n = div-add-mod' n s in
     ⊎_elim
-    (λ (h : m / s < n / s). let u : (m / s + 1) * stored ≤ n / s * stored = mul-le-mul_right stored (omega (arith, h)) in omega (arith, u, lm, few))
+    (λ (h : m / s < n / s). let u : (m / s + 1) * stored
+    ≤ n / s * stored = mul-le-mul_right stored (omega (arith, h)) in omega (arith, u, lm, few))
     (λ (h : n / s ≤ m / s).
     let u : n / s * s ≤ m / s * s = mul-le-mul_right s h in
     let v : n / s * stored ≤ m / s * stored = mul-le-mul_right stored h in
     ⊎_elim
-    (λ (g : n / s < m / s). let y : (n / s + 1) * s ≤ m / s * s = mul-le-mul_right s (omega (arith, g)) in Prim.absurd (omega (arith, y, wm, wn, ln, l)))
+    (λ (g : n / s < m / s). let y : (n / s + 1) * s
+    ≤ m / s * s = mul-le-mul_right s (omega (arith, g)) in Prim.absurd (omega (arith, y, wm, wn, ln, l)))
     (λ (g : m / s ≤ n / s).
     let y : m / s * s ≤ n / s * s = mul-le-mul_right s g in
     let z : m / s * stored ≤ n / s * stored = mul-le-mul_right stored g in
@@ -78,22 +89,27 @@ place_before s stored m n some few l =
 
 -- ---- one more number is put
 
-module _ (order : ByteOrder) (size s stored : ℕ) (value : ℕ → ℕ) (n : ℕ) (mid new : List ℕ) (wide : 0 < size) (some : 0 < s) (few : s ≤ stored)
+module _ (order : ByteOrder) (size s stored : ℕ) (value : ℕ → ℕ) (n : ℕ) (mid new : List ℕ)
+    (wide : 0 < size) (some : 0 < s) (few : s ≤ stored)
     (a : PutsNumber order size (place_of s stored n) (value n) mid new) where
   pub done_more : ((m : ℕ) → m < n → row_number order size mid (place_of s stored m) ≡ value m)
       → (m : ℕ) → m < n + 1 → row_number order size new (place_of s stored m) ≡ value m
   done_more done m h =
       ⊎_elim
       (λ (l : m < n).
-      let u : (place_of s stored m + 1) * size ≤ place_of s stored n * size = mul-le-mul_right size (omega (arith, place_before s stored m n some few l)) in
+      let u : (place_of s stored m + 1) * size ≤ place_of s stored n * size =
+      mul-le-mul_right size (omega (arith, place_before s stored m n some few l)) in
       number_same order size new mid (place_of s stored m) (λ i x y. a.below i (omega (arith, u, y))) ∙ done m l)
       (λ (l : n ≤ m).
       let e : n ≡ m = omega (arith, l, h) in
       subst (λ (k : ℕ). row_number order size new (place_of s stored k) ≡ value k) e a.there)
       (cases_lt m n)
 
-  pub kept_more : (old : List ℕ) → ((b : ℕ) → ((m : ℕ) → m < n → b / size ≡ place_of s stored m → ⊥) → get_or mid b 0 ≡ get_or old b 0)
-      → (b : ℕ) → ((m : ℕ) → m < n + 1 → b / size ≡ place_of s stored m → ⊥) → get_or new b 0 ≡ get_or old b 0
+  pub kept_more : (old : List ℕ)
+      → ((b : ℕ) → ((m : ℕ) → m < n → b / size ≡ place_of s stored m → ⊥)
+      → get_or mid b 0 ≡ get_or old b 0)
+      → (b : ℕ) → ((m : ℕ) → m < n + 1 → b / size ≡ place_of s stored m → ⊥)
+      → get_or new b 0 ≡ get_or old b 0
   kept_more old kept b f =
       let k : ℕ = place_of s stored n in
       let before : get_or mid b 0 ≡ get_or old b 0 = kept b (λ m h e. f m (omega (arith, h)) e) in
@@ -110,9 +126,11 @@ module _ (order : ByteOrder) (size s stored : ℕ) (value : ℕ → ℕ) (n : �
 
 -- ---- the differences of a row, summed
 
-pub summed_back : (order : ByteOrder) (size s stored : ℕ) (row : List ℕ) (value : ℕ → ℕ) (count n : ℕ) → 0 < s → s ≤ stored → n < count
+pub summed_back : (order : ByteOrder) (size s stored : ℕ) (row : List ℕ) (value : ℕ → ℕ)
+    (count n : ℕ) → 0 < s → s ≤ stored → n < count
     → ((m : ℕ) → value m < 256 ^ size)
-    → ((m : ℕ) → m < count → row_number order size row (place_of s stored m) ≡ stored_by predictor.Horizontal (256 ^ size) s value m)
+    → ((m : ℕ) → m < count → row_number order size row (place_of s stored m)
+    ≡ stored_by predictor.Horizontal (256 ^ size) s value m)
     → summed_number order size stored row (place_of s stored n) ≡ value n
 summed_back order size s stored row value count n some few within below put =
     let j : ℕ = n % s in
@@ -120,10 +138,13 @@ summed_back order size s stored row value count n some few within below put =
     let low_stored : j < stored = omega (arith, low, few) in
     let x : ℕ → ℕ = λ c. value (c * s + j) in
     let d : ℕ → ℕ = λ c. row_number order size row (c * stored + j) in
-    let at : (c : ℕ) → place_of s stored (c * s + j) ≡ c * stored + j = λ c i. (div-mul-add c s j low i) * stored + (mod-mul-add c s j low i) in
+    let at : (c : ℕ) → place_of s stored (c * s + j) ≡ c * stored + j =
+    λ c i. (div-mul-add c s j low i) * stored + (mod-mul-add c s j low i) in
     let whole : n / s * s + j ≡ n = div-add-mod' n s in
-    let up : (c : ℕ) → c ≤ n / s → c * s + j < count = λ c h. (let u : c * s ≤ n / s * s = mul-le-mul_right s h in omega (arith, u, whole, within)) in
-    let is : (c : ℕ) → c ≤ n / s → d c ≡ stored_by predictor.Horizontal (256 ^ size) s value (c * s + j) =
+    let up : (c : ℕ) → c ≤ n / s → c * s + j < count =
+    λ c h. (let u : c * s ≤ n / s * s = mul-le-mul_right s h in omega (arith, u, whole, within)) in
+    let is : (c : ℕ) → c ≤ n / s → d c
+    ≡ stored_by predictor.Horizontal (256 ^ size) s value (c * s + j) =
     λ c h. ap (row_number order size row) (sym (at c)) ∙ put (c * s + j) (up c h) in
     let first : nat_lt (0 * s + j) s ≡ true = lt-ltb (0 * s + j) s (omega (arith, low)) in
     let z : d 0 ≡ x 0 = is 0 (omega arith) ∙ (rw first refl) in
@@ -132,7 +153,8 @@ summed_back order size s stored row value count n some few within below put =
     let past : nat_lt (suc c * s + j) s ≡ false = le-ltb (suc c * s + j) s (omega arith) in
     let back : (suc c * s + j) - s ≡ c * s + j = omega arith in
     is (suc c) h ∙ (rw past (ap (λ (m : ℕ). (x (suc c) + 256 ^ size - value m) % 256 ^ size) back)) in
-    (λ i. sum_by (λ c. row_number order size row (c * stored + (mod-mul-add (n / s) stored j low_stored) i)) (range_with_len 0 ((div-mul-add (n / s) stored j low_stored) i + 1)) % 256 ^ size)
+    (λ i. sum_by (λ c. row_number order size row (c * stored
+    + (mod-mul-add (n / s) stored j low_stored) i)) (range_with_len 0 ((div-mul-add (n / s) stored j low_stored) i + 1)) % 256 ^ size)
     ∙ ap (λ (m : ℕ). sum_by d (range_with_len 0 m) % 256 ^ size) (add-one (n / s))
     ∙ undone x d (256 ^ size) (n / s) (λ c. below (c * s + j)) z e (n / s) (omega arith)
     ∙ ap value whole

@@ -59,7 +59,8 @@ has_chunks plan count h =
 
 -- the page of a chunk that is at a place
 abbrev pub placed : PagePlan → ℕ → ℕ → ℕ × ℕ → PageRecord
-placed plan count k place = page_with plan (extra_of plan) (one_known count k place.0) (one_known count k place.1)
+placed plan count k place =
+    page_with plan (extra_of plan) (one_known count k place.0) (one_known count k place.1)
 
 pub record IsPlaced (file : List ℕ) (plan : PagePlan) (k : ℕ) (place : ℕ × ℕ) : Type 0 where
   pub count : ℕ
@@ -68,7 +69,8 @@ pub record IsPlaced (file : List ℕ) (plan : PagePlan) (k : ℕ) (place : ℕ �
   pub made : page_of_chunk file plan k ≡ Ok (placed plan count k place)
 
 known_here : (count k n : ℕ) → k < count → slice_index (one_known count k n) k ≡ n
-known_here count k n l = get_or-set_same (replicate count 0) k n 0 (omega (arith, l, length-replicate {A = ℕ} count 0))
+known_here count k n l =
+    get_or-set_same (replicate count 0) k n 0 (omega (arith, l, length-replicate {A = ℕ} count 0))
 
 known_len : (count k n : ℕ) → length (one_known count k n) ≡ count
 known_len count k n = length-set {A = ℕ} (replicate count 0) k n ∙ length-replicate {A = ℕ} count 0
@@ -79,15 +81,18 @@ one_page r a b e f = cc
 one_place : (r : Result (ℕ × ℕ) TiffError) (a b : ℕ × ℕ) → r ≡ Ok a → r ≡ Ok b → a ≡ b
 one_place r a b e f = cc
 
-placed_at : (plan : PagePlan) (count k : ℕ) (pl place : ℕ × ℕ) → chunk_place (placed plan count k pl) k ≡ Ok place → (k < count) × (pl ≡ place)
+placed_at : (plan : PagePlan) (count k : ℕ) (pl place : ℕ × ℕ)
+    → chunk_place (placed plan count k pl) k ≡ Ok place → (k < count) × (pl ≡ place)
 unfolding chunk_place
 placed_at plan count k pl place h =
     let long : length (one_known count k pl.0) ≡ count = known_len count k pl.0 in
     ⊎_elim
     (λ (t : nat_lt k (length (one_known count k pl.0)) ≡ true).
     let below : k < count = omega (arith, ltb-true k (length (one_known count k pl.0)) t, long) in
-    let e : Ok (slice_index (one_known count k pl.0) k, slice_index (one_known count k pl.1) k) ≡ Ok place = rw t at h in
-    let same : (slice_index (one_known count k pl.0) k, slice_index (one_known count k pl.1) k) ≡ place = one_place (Ok place) _ place (sym e) refl in
+    let e : Ok (slice_index (one_known count k pl.0) k, slice_index (one_known count k pl.1) k)
+    ≡ Ok place = rw t at h in
+    let same : (slice_index (one_known count k pl.0) k, slice_index (one_known count k pl.1) k)
+    ≡ place = one_place (Ok place) _ place (sym e) refl in
     (below, sym (λ i. (known_here count k pl.0 below i, known_here count k pl.1 below i)) ∙ same))
     (λ (f : nat_lt k (length (one_known count k pl.0)) ≡ false).
     let e : nowhere ≡ Ok place = rw f at h in Prim.absurd (never e))
@@ -99,28 +104,37 @@ placed_at plan count k pl place h =
     never : nowhere ≡ Ok place → ⊥
     never e = cc
 
-is_placed : (file : List ℕ) (plan : PagePlan) (k : ℕ) (place : ℕ × ℕ) → planned_place file plan k ≡ Ok place → IsPlaced file plan k place
+is_placed : (file : List ℕ) (plan : PagePlan) (k : ℕ) (place : ℕ × ℕ)
+    → planned_place file plan k ≡ Ok place → IsPlaced file plan k place
 unfolding planned_place page_of_chunk
 is_placed file plan k place h =
     let a = first_passed (page_of_chunk file plan k) _ h in
     let b = first_passed (chunks_planned plan) _ a.1.0 in
     let d = first_passed (place_planned file plan b.0 k) _ b.1.1 in
-    let same : placed plan b.0 k d.0 ≡ a.0 = one_page (page_of_chunk file plan k) (placed plan b.0 k d.0) a.0 (a.1.0 ∙ sym d.1.1) a.1.0 in
-    let at = placed_at plan b.0 k d.0 place (ap (λ (q : PageRecord). chunk_place q k) same ∙ a.1.1) in
+    let same : placed plan b.0 k d.0 ≡ a.0 =
+    one_page (page_of_chunk file plan k) (placed plan b.0 k d.0) a.0 (a.1.0
+    ∙ sym d.1.1) a.1.0 in
+    let at =
+    placed_at plan b.0 k d.0 place (ap (λ (q : PageRecord). chunk_place q k) same ∙ a.1.1) in
     record { count = b.0; counted = b.1.0; below = at.0; made = a.1.0 ∙ sym d.1.1 ∙ ap (λ (pl : ℕ × ℕ). Ok (placed plan b.0 k pl)) at.1 }
 
-module _ (plan : PagePlan) (file : List ℕ) (limits : Limits) (k : ℕ) (place : ℕ × ℕ) (samples old new buf : List ℕ)
+module _ (plan : PagePlan) (file : List ℕ) (limits : Limits) (k : ℕ) (place : ℕ × ℕ)
+    (samples old new buf : List ℕ)
     (a : IsPlaced file plan k place) (passed : planned_fault file plan limits k (length samples) (length old) ≡ Ok tt) (rewritten : PlannedRewritten file plan k samples old new)
-    (within : place.0 + length new ≤ length file) (b : IsPlaced (put file place.0 new) plan k place) (fits : length samples ≤ length buf) where
+    (within : place.0 + length new ≤ length file) (b : IsPlaced (put file place.0 new) plan k place)
+    (fits : length samples ≤ length buf) where
   abbrev q : PageRecord
   q = placed plan a.count k place
 
   made_after : page_of_chunk (put file place.0 new) plan k ≡ Ok q
-  made_after = b.made ∙ ap (λ (n : ℕ). Ok (placed plan n k place)) (one_count (chunks_planned plan) b.count a.count b.counted a.counted)
+  made_after =
+      b.made ∙ ap (λ (n : ℕ). Ok (placed plan n k place)) (one_count (chunks_planned plan) b.count a.count b.counted a.counted)
 
   passed_too : rewrite_fault q limits k (length samples) (length old) ≡ Ok tt
   unfolding planned_fault
-  passed_too = sym (ap (λ (r : Result PageRecord TiffError). r >>= (λ page. rewrite_fault page limits k (length samples) (length old))) a.made) ∙ passed
+  passed_too =
+      sym (ap (λ (r : Result PageRecord TiffError). r
+      >>= (λ page. rewrite_fault page limits k (length samples) (length old))) a.made) ∙ passed
 
   color : (c : ColorType) × (color_of q ≡ Ok c)
   color = has_color q limits k (length samples) (length old) passed_too
@@ -130,7 +144,8 @@ module _ (plan : PagePlan) (file : List ℕ) (limits : Limits) (k : ℕ) (place 
 
   lists : ListsChunks q color.0
   lists = record {
-    sides = record { wide = has.sizes.wide; high = has.sizes.high; chunk_wide = has.sizes.chunk_wide; chunk_high = has.sizes.chunk_high };
+    sides =
+        record { wide = has.sizes.wide; high = has.sizes.high; chunk_wide = has.sizes.chunk_wide; chunk_high = has.sizes.chunk_high };
     sampled = has.sizes.sampled;
     counted = known_len a.count k place.0 ∙ has.counted;
     colored = color.1;
@@ -140,12 +155,15 @@ module _ (plan : PagePlan) (file : List ℕ) (limits : Limits) (k : ℕ) (place 
   at_place = known_here a.count k place.0 a.below
 
   is_rewritten : IsRewrittenIn file plan.order q limits color.0 k samples old new
-  is_rewritten = record { page = lists; passed = passed_too; rewritten = rewritten q color.0 a.made color.1; within = omega (arith, at_place, within) }
+  is_rewritten =
+      record { page = lists; passed = passed_too; rewritten = rewritten q color.0 a.made color.1; within = omega (arith, at_place, within) }
 
-  read_is : read_planned (put file place.0 new) plan limits k buf ≡ Ok (samples ++ drop (length samples) buf)
+  read_is : read_planned (put file place.0 new) plan limits k buf
+      ≡ Ok (samples ++ drop (length samples) buf)
   unfolding read_planned
   read_is =
-      ap (λ (r : Result PageRecord TiffError). r >>= (λ page. read_chunk_bytes (put file place.0 new) plan.order page limits k buf)) made_after
+      ap (λ (r : Result PageRecord TiffError). r
+      >>= (λ page. read_chunk_bytes (put file place.0 new) plan.order page limits k buf)) made_after
       ∙ sym (λ t. read_chunk_bytes (put file (at_place t) new) plan.order q limits k buf)
       ∙ shows_rewritten.read file plan.order q limits color.0 k samples old new buf is_rewritten fits
 

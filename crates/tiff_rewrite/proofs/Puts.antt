@@ -12,11 +12,14 @@ pub get_at : (xs : List ℕ) (k n j : ℕ) → j < n → get_or (bytes_at xs k n
 get_at xs k n j h = get_or-take n (drop k xs) j 0 h ∙ get_or-drop k xs j 0
 
 -- parts of lists of one length are the same if each of their bytes is
-pub same_part : (xs ys : List ℕ) (k n : ℕ) → length xs ≡ length ys → ((j : ℕ) → k ≤ j → j < k + n → j < length ys → get_or xs j 0 ≡ get_or ys j 0)
+pub same_part : (xs ys : List ℕ) (k n : ℕ) → length xs ≡ length ys
+    → ((j : ℕ) → k ≤ j → j < k + n → j < length ys → get_or xs j 0 ≡ get_or ys j 0)
     → bytes_at xs k n ≡ bytes_at ys k n
 same_part xs ys k n e h =
-    let l : length (drop k xs) ≡ length (drop k ys) = length-drop k xs ∙ ap (λ (m : ℕ). m - k) e ∙ sym (length-drop k ys) in
-    let m : length (bytes_at xs k n) ≡ length (bytes_at ys k n) = length-take n (drop k xs) ∙ ap (λ (z : ℕ). min n z) l ∙ sym (length-take n (drop k ys)) in
+    let l : length (drop k xs) ≡ length (drop k ys) =
+    length-drop k xs ∙ ap (λ (m : ℕ). m - k) e ∙ sym (length-drop k ys) in
+    let m : length (bytes_at xs k n) ≡ length (bytes_at ys k n) =
+    length-take n (drop k xs) ∙ ap (λ (z : ℕ). min n z) l ∙ sym (length-take n (drop k ys)) in
     ext_get_or 0 (bytes_at xs k n) (bytes_at ys k n) m
     (λ j b.
     let c : j < n = omega (arith, b, length-take n (drop k xs)) in
@@ -27,7 +30,8 @@ module _ (file new : List ℕ) (at : ℕ) (within : at + length new ≤ length f
   pub length_put : length (put file at new) ≡ length file
   length_put = length_held file new (put file at new) at within refl
 
-  pub get_apart : (j : ℕ) → j < length file → (j < at) ⊎ (at + length new ≤ j) → get_or (put file at new) j 0 ≡ get_or file j 0
+  pub get_apart : (j : ℕ) → j < length file → (j < at) ⊎ (at + length new ≤ j)
+      → get_or (put file at new) j 0 ≡ get_or file j 0
   get_apart j l a =
       ⊎_elim
       (λ h. Prim.absurd (⊎_elim (λ (b : j < at). omega (arith, h.0.0, b)) (λ (b : at + length new ≤ j). omega (arith, h.0.1, b)) a))
@@ -51,10 +55,13 @@ module _ (file new : List ℕ) (at : ℕ) (within : at + length new ≤ length f
       ∙ sym (at_drop file off k n)
 
   -- what was written
-  pub inside_same : (k n : ℕ) → k + n ≤ length new → bytes_at (drop at (put file at new)) k n ≡ bytes_at new k n
+  pub inside_same : (k n : ℕ) → k + n ≤ length new
+      → bytes_at (drop at (put file at new)) k n ≡ bytes_at new k n
   inside_same k n f =
-      let l : length (bytes_at (put file at new) (at + k) n) ≡ n = length-take-le n (drop (at + k) (put file at new)) (omega (arith, length-drop (at + k) (put file at new), length_put, within, f)) in
-      let m : length (bytes_at new k n) ≡ n = length-take-le n (drop k new) (omega (arith, length-drop k new, f)) in
+      let l : length (bytes_at (put file at new) (at + k) n) ≡ n =
+      length-take-le n (drop (at + k) (put file at new)) (omega (arith, length-drop (at + k) (put file at new), length_put, within, f)) in
+      let m : length (bytes_at new k n) ≡ n =
+      length-take-le n (drop k new) (omega (arith, length-drop k new, f)) in
       at_drop (put file at new) at k n
       ∙ ext_get_or 0 (bytes_at (put file at new) (at + k) n) (bytes_at new k n) (l ∙ sym m)
       (λ j b.

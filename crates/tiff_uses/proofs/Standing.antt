@@ -29,21 +29,26 @@ Standing start sides d = ListedAlong (sides_at start) start d (map ok sides)
 
 -- ---- the sides of a page
 
-sides_told : (start d : Decoding) (offset : ℕ) → PageAnswers start offset (Ok tt) d → sides_at start offset ≡ Ok (d.state.page.width, d.state.page.height)
+sides_told : (start d : Decoding) (offset : ℕ) → PageAnswers start offset (Ok tt) d
+    → sides_at start offset ≡ Ok (d.state.page.width, d.state.page.height)
 sides_told start d offset p =
-    ap (λ (r : Result DirectoryRecord TiffError). r >>= λ x. page_in start.kind start.order start.bytes start.state.limits x >>= λ page. ok (page.width, page.height)) p.0
+    ap (λ (r : Result DirectoryRecord TiffError). r
+    >>= λ x. page_in start.kind start.order start.bytes start.state.limits x >>= λ page. ok (page.width, page.height)) p.0
     ∙ ap (λ (r : Result PageRecord TiffError). r >>= λ page. ok (page.width, page.height)) p.1
 
-asked : (d new : Decoding) (s : ℕ × ℕ) → FollowsWithoutEither (λ x. x) (dimensions d) (Ok s) d new → (new ≡ d) × (Ok (d.state.page.width, d.state.page.height) ≡ ok s)
+asked : (d new : Decoding) (s : ℕ × ℕ) → FollowsWithoutEither (λ x. x) (dimensions d) (Ok s) d new
+    → (new ≡ d) × (Ok (d.state.page.width, d.state.page.height) ≡ ok s)
 unfolding dimensions
 asked d new s f = (f.1, f.0)
 
 -- One more pair of sides is collected.
-one_more : (start d : Decoding) (offset : ℕ) (s : ℕ × ℕ) (before sides : List (ℕ × ℕ)) → PageAnswers start offset (Ok tt) d → Ok (d.state.page.width, d.state.page.height) ≡ ok s
+one_more : (start d : Decoding) (offset : ℕ) (s : ℕ × ℕ) (before sides : List (ℕ × ℕ))
+    → PageAnswers start offset (Ok tt) d → Ok (d.state.page.width, d.state.page.height) ≡ ok s
     → sides ≡ before ++ s ∷ [] → map ok sides ≡ map ok before ++ sides_at start offset ∷ []
 one_more start d offset s before sides p is e =
     ap (map ok) e ∙ map-append ok before (s ∷ [])
-    ∙ ap (λ (x : Result (ℕ × ℕ) TiffError). map ok before ++ x ∷ []) (sym (sides_told start d offset p ∙ is))
+    ∙ ap (λ (x : Result (ℕ × ℕ) TiffError). map ok before ++ x
+    ∷ []) (sym (sides_told start d offset p ∙ is))
 
 -- ---- the steps of the caller
 
@@ -60,8 +65,10 @@ along_begun d n a = record {
 }
 
 -- The file was opened, and the sides of its first page were collected.
-pub first_listed : WalkOpens → (d new : Decoding) (s : ℕ × ℕ) (none sides : List (ℕ × ℕ)) → decoder_of d.bytes 0 ≡ Ok (begun d)
-    → FollowsWithoutEither (λ x. x) (dimensions d) (Ok s) d new → none ≡ [] → sides ≡ none ++ s ∷ [] → Standing (begun d) sides new
+pub first_listed : WalkOpens → (d new : Decoding) (s : ℕ × ℕ) (none sides : List (ℕ × ℕ))
+    → decoder_of d.bytes 0 ≡ Ok (begun d)
+    → FollowsWithoutEither (λ x. x) (dimensions d) (Ok s) d new → none ≡ [] → sides ≡ none ++ s ∷ []
+    → Standing (begun d) sides new
 first_listed opens d new s none sides h f n e =
     let start = begun d in
     let at = opens d.bytes 0 start h in
@@ -72,8 +79,11 @@ first_listed opens d new s none sides h f n e =
     (listed_first (sides_at start) start d a (map ok none) (map ok sides) (ap (map ok) n) (one_more start start a.offset s none sides at.arrives.page told.1 e))
 
 -- The next page was entered, and its sides were collected.
-pub next_listed : WalkGoesOn → (start old mid new : Decoding) (s : ℕ × ℕ) (before sides : List (ℕ × ℕ)) → Standing start before old → old.state.more ≡ true
-    → GivesOutcome (Ok tt) (next_image old) old mid → FollowsWithoutEither (λ x. x) (dimensions mid) (Ok s) mid new → sides ≡ before ++ s ∷ [] → Standing start sides new
+pub next_listed : WalkGoesOn → (start old mid new : Decoding) (s : ℕ × ℕ)
+    (before sides : List (ℕ × ℕ)) → Standing start before old → old.state.more ≡ true
+    → GivesOutcome (Ok tt) (next_image old) old mid
+    → FollowsWithoutEither (λ x. x) (dimensions mid) (Ok s) mid new → sides ≡ before ++ s ∷ []
+    → Standing start sides new
 next_listed goes_on start old mid new s before sides l more g f e =
     went (slice_get (chain_of start).offsets (suc l.number)) (goes_on start old mid l.number (Ok tt) l.along more g)
   where
@@ -88,56 +98,70 @@ next_listed goes_on start old mid new s before sides l more g f e =
 -- ---- the first error
 
 -- The sides of pages without an error.
-each_told : (d : Decoding) (offsets : List ℕ) (sides : List (ℕ × ℕ)) → map ok sides ≡ map (sides_at d) offsets → each_sides d offsets ≡ Ok sides
+each_told : (d : Decoding) (offsets : List ℕ) (sides : List (ℕ × ℕ))
+    → map ok sides ≡ map (sides_at d) offsets → each_sides d offsets ≡ Ok sides
 each_told d [] [] h = refl
 each_told d [] (s ∷ sides) h = absurd (cc)
 each_told d (offset ∷ offsets) [] h = absurd (cc)
 each_told d (offset ∷ offsets) (s ∷ sides) h =
     let first : sides_at d offset ≡ ok s = cc in
     let others : map ok sides ≡ map (sides_at d) offsets = cc in
-    ap (λ (r : Result (ℕ × ℕ) TiffError). r >>= λ x. each_sides d offsets >>= λ xs. Ok (x ∷ xs)) first
-    ∙ ap (λ (r : Result (List (ℕ × ℕ)) TiffError). r >>= λ xs. Ok (s ∷ xs)) (each_told d offsets sides others)
+    ap (λ (r : Result (ℕ × ℕ) TiffError). r >>= λ x. each_sides d offsets
+    >>= λ xs. Ok (x ∷ xs)) first
+    ∙ ap (λ (r : Result (List (ℕ × ℕ)) TiffError). r
+    >>= λ xs. Ok (s ∷ xs)) (each_told d offsets sides others)
 
 -- Behind pages without an error, one page has an error.
-each_refused : (d : Decoding) (before : List ℕ) (sides : List (ℕ × ℕ)) (offset : ℕ) (behind : List ℕ) (e : TiffError) → map ok sides ≡ map (sides_at d) before
+each_refused : (d : Decoding) (before : List ℕ) (sides : List (ℕ × ℕ)) (offset : ℕ)
+    (behind : List ℕ) (e : TiffError) → map ok sides ≡ map (sides_at d) before
     → sides_at d offset ≡ Err e → each_sides d (before ++ offset ∷ behind) ≡ Err e
-each_refused d [] [] offset behind e h f = ap (λ (r : Result (ℕ × ℕ) TiffError). r >>= λ x. each_sides d behind >>= λ xs. Ok (x ∷ xs)) f
+each_refused d [] [] offset behind e h f =
+    ap (λ (r : Result (ℕ × ℕ) TiffError). r >>= λ x. each_sides d behind >>= λ xs. Ok (x ∷ xs)) f
 each_refused d [] (s ∷ sides) offset behind e h f = absurd (cc)
 each_refused d (other ∷ before) [] offset behind e h f = absurd (cc)
 each_refused d (other ∷ before) (s ∷ sides) offset behind e h f =
     let first : sides_at d other ≡ ok s = cc in
     let others : map ok sides ≡ map (sides_at d) before = cc in
-    ap (λ (r : Result (ℕ × ℕ) TiffError). r >>= λ x. each_sides d (before ++ offset ∷ behind) >>= λ xs. Ok (x ∷ xs)) first
-    ∙ ap (λ (r : Result (List (ℕ × ℕ)) TiffError). r >>= λ xs. Ok (s ∷ xs)) (each_refused d before sides offset behind e others f)
+    ap (λ (r : Result (ℕ × ℕ) TiffError). r >>= λ x. each_sides d (before ++ offset ∷ behind)
+    >>= λ xs. Ok (x ∷ xs)) first
+    ∙ ap (λ (r : Result (List (ℕ × ℕ)) TiffError). r
+    >>= λ xs. Ok (s ∷ xs)) (each_refused d before sides offset behind e others f)
 
 -- The error of a page is the error of its sides.
 module _ (start : Decoding) (e : TiffError) where
   abbrev page_by : DirectoryRecord → Result PageRecord TiffError
   page_by x = page_in start.kind start.order start.bytes start.state.limits x
 
-  by_directory : (r : Result DirectoryRecord TiffError) → r >>= page_by ≡ Err e → (r >>= λ x. page_by x >>= λ page. ok (page.width, page.height)) ≡ Err e
-  by_directory (Ok x) f = ap (λ (r : Result PageRecord TiffError). r >>= λ page. ok (page.width, page.height)) f
+  by_directory : (r : Result DirectoryRecord TiffError) → r >>= page_by ≡ Err e
+      → (r >>= λ x. page_by x >>= λ page. ok (page.width, page.height)) ≡ Err e
+  by_directory (Ok x) f =
+      ap (λ (r : Result PageRecord TiffError). r >>= λ page. ok (page.width, page.height)) f
   by_directory (Err g) f = (let t : g ≡ e = cc in ap (λ (x : TiffError). Err x) t)
 
   sides_refused : (offset : ℕ) → page_at start offset ≡ Err e → sides_at start offset ≡ Err e
   sides_refused offset h = by_directory (directory_at start.kind start.order start.bytes offset) h
 
 -- What stands behind other items begins with the one at the index.
-from_next : (ps : List ℕ) (i p : ℕ) → slice_get ps i ≡ Some p → ps ≡ take i ps ++ p ∷ drop (suc i) ps
+from_next : (ps : List ℕ) (i p : ℕ) → slice_get ps i ≡ Some p
+    → ps ≡ take i ps ++ p ∷ drop (suc i) ps
 from_next [] i p h = absurd (cc)
 from_next (q ∷ qs) zero p h = (let e : q ≡ p = cc in ap (λ (x : ℕ). x ∷ qs) e)
 from_next (q ∷ qs) (suc i) p h = ap (λ (xs : List ℕ). q ∷ xs) (from_next qs i p h)
 
 -- The sides of a file's pages, by those of its chain and by the chain's end.
-sides_by : (file : List ℕ) (start : Decoding) (told : Result (List (ℕ × ℕ)) TiffError) (end : Option TiffError) → decoder_of file 0 ≡ Ok start
-    → each_sides start (chain_of start).offsets ≡ told → (chain_of start).end ≡ end → page_sides file ≡ told >>= told_at end
+sides_by : (file : List ℕ) (start : Decoding) (told : Result (List (ℕ × ℕ)) TiffError)
+    (end : Option TiffError) → decoder_of file 0 ≡ Ok start
+    → each_sides start (chain_of start).offsets ≡ told → (chain_of start).end ≡ end
+    → page_sides file ≡ told >>= told_at end
 sides_by file start told end h t e =
-    ap (λ (r : Result Decoding TiffError). r >>= λ d. each_sides d (chain_of d).offsets >>= told_at (chain_of d).end) h
+    ap (λ (r : Result Decoding TiffError). r >>= λ d. each_sides d (chain_of d).offsets
+    >>= told_at (chain_of d).end) h
     ∙ ap (λ (r : Result (List (ℕ × ℕ)) TiffError). r >>= told_at (chain_of start).end) t
     ∙ ap (λ (x : Option TiffError). told >>= told_at x) e
 
 -- Behind the last page, all sides are collected.
-pub all_sides : WalkEnds → (file : List ℕ) (start d : Decoding) (sides : List (ℕ × ℕ)) → decoder_of file 0 ≡ Ok start → Standing start sides d → d.state.more ≡ false
+pub all_sides : WalkEnds → (file : List ℕ) (start d : Decoding) (sides : List (ℕ × ℕ))
+    → decoder_of file 0 ≡ Ok start → Standing start sides d → d.state.more ≡ false
     → page_sides file ≡ Ok sides
 all_sides ends file start d sides h l more =
     let end = ends start d l.number l.along more in
@@ -145,19 +169,23 @@ all_sides ends file start d sides h l more =
     sides_by file start (Ok sides) None h (each_told start (chain_of start).offsets sides all) end.is_end
 
 -- The next page has an error, or the chain ends by one.
-stopped : (file : List ℕ) (start old new : Decoding) (sides : List (ℕ × ℕ)) (e : TiffError) (l : Standing start sides old) (next : Option ℕ) → decoder_of file 0 ≡ Ok start
+stopped : (file : List ℕ) (start old new : Decoding) (sides : List (ℕ × ℕ)) (e : TiffError)
+    (l : Standing start sides old) (next : Option ℕ) → decoder_of file 0 ≡ Ok start
     → GoesOn start l.number next old (Err e) new → page_sides file ≡ Err e
 stopped file start old new sides e l (Some offset) h w =
     let offsets = (chain_of start).offsets in
     let split = from_next offsets (suc l.number) w.along.offset w.along.is_offset in
-    let told = each_refused start (take (suc l.number) offsets) sides w.along.offset (drop (suc (suc l.number)) offsets) e l.listed (sides_refused start e w.along.offset w.page) in
+    let told =
+    each_refused start (take (suc l.number) offsets) sides w.along.offset
+    (drop (suc (suc l.number)) offsets) e l.listed (sides_refused start e w.along.offset w.page) in
     sides_by file start (Err e) (chain_of start).end h (ap (each_sides start) split ∙ told) refl
 stopped file start old new sides e l None h w =
     let is : e ≡ w.0 = (let a = w.1 in cc) in
     let all = listed_all (sides_at start) start old (map ok sides) l (Some w.0) w.2 in
     sides_by file start (Ok sides) (Some w.0) h (each_told start (chain_of start).offsets sides all) w.2.is_end ∙ ap (λ (x : TiffError). Err x) (sym is)
 
-refused : WalkGoesOn → (file : List ℕ) (start old : Decoding) (sides : List (ℕ × ℕ)) (e : TiffError) → decoder_of file 0 ≡ Ok start → Standing start sides old → old.state.more ≡ true
+refused : WalkGoesOn → (file : List ℕ) (start old : Decoding) (sides : List (ℕ × ℕ)) (e : TiffError)
+    → decoder_of file 0 ≡ Ok start → Standing start sides old → old.state.more ≡ true
     → (next_image old).answer ≡ Err e → page_sides file ≡ Err e
 refused goes_on file start old sides e h l more a =
     let new : Decoding = record old { state = (next_image old).next } in
@@ -165,7 +193,8 @@ refused goes_on file start old sides e h l more a =
     (goes_on start old new l.number (Err e) l.along more (record { answer = a; at = refl }))
 
 -- The error of a call on the way is the error of the whole.
-by_fault : {Y given : Type 0} (wanting : Type 0) (o : Outcome Y) (old new : Decoding) (e : TiffError) → (o.answer ≡ Err e → given) → Refused wanting e o old new
+by_fault : {Y given : Type 0} (wanting : Type 0) (o : Outcome Y) (old new : Decoding)
+    (e : TiffError) → (o.answer ≡ Err e → given) → Refused wanting e o old new
     → IsCause (Unit {0}) (Unit {0}) e given
 by_fault wanting o old new OutOfMemory f h = tt
 by_fault wanting o old new (IoError Device) f h = tt
@@ -180,24 +209,32 @@ by_fault wanting o old new IntSizeError f h = f h.answer
 by_fault wanting o old new (UsageError x) f h = f h.answer
 
 -- An error of going on is the error of the whole.
-pub refused_next : WalkGoesOn → (file : List ℕ) (start old new : Decoding) (sides : List (ℕ × ℕ)) (wanting : Type 0) (e : TiffError) → decoder_of file 0 ≡ Ok start
+pub refused_next : WalkGoesOn
+    → (file : List ℕ) (start old new : Decoding) (sides : List (ℕ × ℕ)) (wanting : Type 0)
+    (e : TiffError) → decoder_of file 0 ≡ Ok start
     → Standing start sides old → old.state.more ≡ true → Refused wanting e (next_image old) old new
     → FileAnswers {X = List (ℕ × ℕ)} (λ x. x) (Err e) (page_sides file)
-refused_next goes_on file start old new sides wanting e h l more = by_fault wanting (next_image old) old new e (refused goes_on file start old sides e h l more)
+refused_next goes_on file start old new sides wanting e h l more =
+    by_fault wanting (next_image old) old new e (refused goes_on file start old sides e h l more)
 
 -- A page has sides.
-pub sides_told_always : (given : Type 0) (d new : Decoding) (e : TiffError) → FollowsWithoutEither {X = ℕ × ℕ} (λ x. x) (dimensions d) (Err e) d new
+pub sides_told_always : (given : Type 0) (d new : Decoding) (e : TiffError)
+    → FollowsWithoutEither {X = ℕ × ℕ} (λ x. x) (dimensions d) (Err e) d new
     → IsCause (Unit {0}) (Unit {0}) e given
 unfolding dimensions
-sides_told_always given d new e f = cause_along {wanting = ⊥} {failed = ⊥} {wanting' = Unit {0}} {failed' = Unit {0}} e absurd absurd (λ h. absurd (never h)) f.0
+sides_told_always given d new e f =
+    cause_along {wanting = ⊥} {failed = ⊥} {wanting' = Unit {0}} {failed' = Unit {0}} e absurd absurd (λ h. absurd (never h)) f.0
   where
     never : ok (d.state.page.width, d.state.page.height) ≡ Err e → ⊥
     never h = cc
 
 -- With one more page entered, fewer offsets are left.
-pub fewer_left : WalkGoesOn → (start old mid new : Decoding) (s : ℕ × ℕ) (before sides : List (ℕ × ℕ)) → Standing start before old → old.state.more ≡ true
-    → GivesOutcome (Ok tt) (next_image old) old mid → FollowsWithoutEither (λ x. x) (dimensions mid) (Ok s) mid new → sides ≡ before ++ s ∷ []
-    → length (chain_of start).offsets - length sides < length (chain_of start).offsets - length before
+pub fewer_left : WalkGoesOn → (start old mid new : Decoding) (s : ℕ × ℕ)
+    (before sides : List (ℕ × ℕ)) → Standing start before old → old.state.more ≡ true
+    → GivesOutcome (Ok tt) (next_image old) old mid
+    → FollowsWithoutEither (λ x. x) (dimensions mid) (Ok s) mid new → sides ≡ before ++ s ∷ []
+    → length (chain_of start).offsets - length sides
+    < length (chain_of start).offsets - length before
 fewer_left goes_on start old mid new s before sides l more g f e =
     let offsets = (chain_of start).offsets in
     let P : ℕ → ℕ → Type 0 = λ n m. length offsets - n < length offsets - m in

@@ -19,7 +19,8 @@ bytes_alone (x ∷ xs) h =
     ap (λ (b : ℕ). b ∷ flat_map (le 1) xs) e ∙ ap (λ (bs : List ℕ). x ∷ bs) rest
 
 -- bytes are the numbers of samples of one byte
-pub octets_alone : (xs : List ℕ) → ((i : ℕ) → Fits w8 (get_or xs i 0)) → map (sample_number 1 (λ n. n)) xs ≡ xs
+pub octets_alone : (xs : List ℕ) → ((i : ℕ) → Fits w8 (get_or xs i 0))
+    → map (sample_number 1 (λ n. n)) xs ≡ xs
 octets_alone [] h = refl
 octets_alone (x ∷ xs) h =
     let e : x % 256 ≡ x = byte_alone x (h 0) in (λ j. e j ∷ octets_alone xs (λ i. h (suc i)) j)
@@ -29,7 +30,9 @@ pub front_appended : (new old xs : List ℕ) → new ≡ old ++ xs → StartsWit
 front_appended new old xs e = ap (take (length old)) e ∙ take-append_seam old xs
 
 -- the front of a front is a front
-pub front_kept : (new mid old xs : List ℕ) → StartsWith new mid → mid ≡ old ++ xs → StartsWith new old
+pub front_kept : (new mid old xs : List ℕ) → StartsWith new mid → mid ≡ old ++ xs
+    → StartsWith new old
 front_kept new mid old xs h e =
     let within : length old ≤ length mid = omega (arith, ap length e, length-append old xs) in
-    sym (take-take (length old) (length mid) new within) ∙ ap (take (length old)) h ∙ front_appended mid old xs e
+    sym (take-take (length old) (length mid) new within) ∙ ap (take (length old)) h
+    ∙ front_appended mid old xs e

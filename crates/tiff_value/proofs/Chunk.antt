@@ -23,13 +23,15 @@ in_turn : (ns : List ℕ) → map (λ k. get_or ns k 0) (range_with_len 0 (lengt
 in_turn ns = sym (fill_by_all (λ k. get_or ns k 0) ns (length ns) 0 refl (λ k h. refl))
 
 -- without the horizontal predictor numbers are unchanged
-pub left_plain : (predictor : Predictor) (m l s : ℕ) (ns : List ℕ) → (predictor ≡ Horizontal → ⊥) → differences predictor m l s ns ≡ ns
+pub left_plain : (predictor : Predictor) (m l s : ℕ) (ns : List ℕ) → (predictor ≡ Horizontal → ⊥)
+    → differences predictor m l s ns ≡ ns
 unfolding differences
 left_plain predictor.None m l s ns other = in_turn ns
 left_plain predictor.Horizontal m l s ns other = absurd (other refl)
 left_plain predictor.FloatingPoint m l s ns other = in_turn ns
 
-module _ {A : Type 0} (size : ℕ) (b : A → ℕ) (spelled : A → List ℕ) (by : (x : A) → spelled x ≡ le size (b x)) where
+module _ {A : Type 0} (size : ℕ) (b : A → ℕ) (spelled : A → List ℕ)
+    (by : (x : A) → spelled x ≡ le size (b x)) where
   -- the number of a sample
   abbrev num : A → ℕ
   num = sample_number size b
@@ -41,10 +43,13 @@ module _ {A : Type 0} (size : ℕ) (b : A → ℕ) (spelled : A → List ℕ) (b
   -- the bytes of several samples are the bytes of their numbers
   pub spelled_all : (xs : List A) → flat_map spelled xs ≡ flat_map (le size) (map num xs)
   spelled_all [] = refl
-  spelled_all (x ∷ xs) = ap (λ (ys : List ℕ). ys ++ flat_map spelled xs) (spell x) ∙ ap (λ (ys : List ℕ). le size (num x) ++ ys) (spelled_all xs)
+  spelled_all (x ∷ xs) =
+      ap (λ (ys : List ℕ). ys ++ flat_map spelled xs) (spell x)
+      ∙ ap (λ (ys : List ℕ). le size (num x) ++ ys) (spelled_all xs)
 
   -- without the horizontal predictor the bytes are the bytes of each sample
-  pub pushed_plain : {B : Type 0} (r : Result B TiffError) (predictor : Predictor) (m l s : ℕ) (xs : List A) (old given new : List ℕ)
+  pub pushed_plain : {B : Type 0} (r : Result B TiffError) (predictor : Predictor) (m l s : ℕ)
+      (xs : List A) (old given new : List ℕ)
       → (predictor ≡ Horizontal → ⊥) → given ≡ old
       → MatchResult r (λ _. new ≡ given ++ flat_map spelled xs) (λ e. e ≡ OutOfMemory)
       → MatchResult r (λ _. new ≡ old ++ flat_map (le size) (differences predictor m l s (map num xs))) (λ e. e ≡ OutOfMemory)
@@ -60,9 +65,11 @@ module _ {A : Type 0} (size : ℕ) (b : A → ℕ) (spelled : A → List ℕ) (b
     plain x h = ap (λ (k : ℕ). b x % k) (sym all) ∙ mod-eq_of_lt h
 
     -- samples whose bits are below the modulus are their own numbers
-    plain_all : (xs : List A) → ((k : ℕ) → k < length xs → get_or (map b xs) k 0 < m) → map num xs ≡ map b xs
+    plain_all : (xs : List A) → ((k : ℕ) → k < length xs → get_or (map b xs) k 0 < m)
+        → map num xs ≡ map b xs
     plain_all [] h = refl
-    plain_all (x ∷ xs) h = λ i. plain x (h 0 (omega arith)) i ∷ plain_all xs (λ k lt. h (suc k) (omega (arith, lt))) i
+    plain_all (x ∷ xs) h =
+        λ i. plain x (h 0 (omega arith)) i ∷ plain_all xs (λ k lt. h (suc k) (omega (arith, lt))) i
 
 -- bytes are written as they are
 alone : (xs : List ℕ) → ((i : ℕ) → i < length xs → get_or xs i 0 < 256) → flat_map (le 1) xs ≡ xs
@@ -74,21 +81,26 @@ alone (x ∷ xs) h =
 
 -- the differences of bytes are their bytes
 pub bytes_pushed : {B : Type 0} (r : Result B TiffError) (s : ℕ) (row old new : List ℕ)
-    → ((k : ℕ) → k < length row → get_or row k 0 < 256) → ((k : ℕ) → k < length new → get_or new k 0 < 256)
+    → ((k : ℕ) → k < length row → get_or row k 0 < 256)
+    → ((k : ℕ) → k < length new → get_or new k 0 < 256)
     → AppendsRow (λ (n : ℕ). n) (Ok (predicted_row 256 s (map (λ (n : ℕ). n) row))) old new r
     → MatchResult r (λ _. new ≡ old ++ flat_map (le 1) (predicted_row 256 s (map (sample_number 1 (λ (n : ℕ). n)) row))) (λ e. e ≡ OutOfMemory)
 bytes_pushed (Ok x) s row old new low held is =
     let same : map (λ (n : ℕ). n) row ≡ row = map-id row in
     let plain : map (sample_number 1 (λ (n : ℕ). n)) row ≡ map (λ (n : ℕ). n) row =
-    plain_all 1 (λ (n : ℕ). n) (le 1) (λ n. refl) 256 refl s row row (λ k h. omega (arith, low k h, ap (λ (ns : List ℕ). get_or ns k 0) same)) in
+    plain_all 1 (λ (n : ℕ). n) (le 1) (λ n. refl) 256 refl s row row
+    (λ k h. omega (arith, low k h, ap (λ (ns : List ℕ). get_or ns k 0) same)) in
     let fit : (k : ℕ) → k < length is.added → get_or is.added k 0 < 256 = λ k h.
     omega (arith, held (length old + k) (omega (arith, h, ap length is.whole, length-append old is.added)), get_or-append-add old is.added k 0, ap (λ (ns : List ℕ). get_or ns (length old + k) 0) is.whole) in
     is.whole ∙ ap (λ (ns : List ℕ). old ++ ns)
-    (sym (alone is.added fit) ∙ ap (flat_map (le 1)) (sym (map-id is.added) ∙ is.same ∙ ap (predicted_row 256 s) (sym plain)))
+    (sym (alone is.added fit) ∙ ap (flat_map (le 1)) (sym (map-id is.added) ∙ is.same
+    ∙ ap (predicted_row 256 s) (sym plain)))
 bytes_pushed (Err e) s row old new low held is = is.0
 
 -- the values of some numbers, and then the values of the numbers behind them
-pub joined : {X : Type 0} (F : ℕ → X) (n k : ℕ) → map F (range_with_len 0 n) ++ map (λ j. F (n + j)) (range_with_len 0 k) ≡ map F (range_with_len 0 (n + k))
+pub joined : {X : Type 0} (F : ℕ → X) (n k : ℕ)
+    → map F (range_with_len 0 n) ++ map (λ j. F (n + j)) (range_with_len 0 k)
+    ≡ map F (range_with_len 0 (n + k))
 joined F n zero =
     let z : n + zero ≡ n = omega arith in
     append-nil (map F (range_with_len 0 n)) ∙ ap (λ j. map F (range_with_len 0 j)) (sym z)
@@ -111,18 +123,22 @@ no_part at row n h f a b =
     let none : 0 + (n - at) ≡ n - at = omega arith in
     let e : (n - at) % row ≡ n - at = mod-eq_of_lt part in
     let g : n % row ≡ n - at =
-    ap (λ (k : ℕ). k % row) (sym z) ∙ sym (mod-add-mod at row (n - at)) ∙ ap (λ (k : ℕ). (k + (n - at)) % row) a ∙ ap (λ (k : ℕ). k % row) none ∙ e in
+    ap (λ (k : ℕ). k % row) (sym z) ∙ sym (mod-add-mod at row (n - at))
+    ∙ ap (λ (k : ℕ). (k + (n - at)) % row) a ∙ ap (λ (k : ℕ). k % row) none ∙ e in
     omega (arith, h, b, g)
 
 -- after whole rows, with numbers left, there is one more row
 pub row_fits : (at row n : ℕ) → at < n → at % row ≡ 0 → n % row ≡ 0 → at + row ≤ n
-row_fits at row n h a b = elim (cases_lt n (at + row)) [ inl f ↦ absurd (no_part at row n h f a b) | inr f ↦ f ]
+row_fits at row n h a b =
+    elim (cases_lt n (at + row)) [ inl f ↦ absurd (no_part at row n h f a b) | inr f ↦ f ]
 
 -- the numbers of a row are some of all numbers
-pub row_seen : {A : Type 0} (num : A → ℕ) (at row : ℕ) (xs : List A) → map num (take (at + row - at) (drop at xs)) ≡ take row (drop at (map num xs))
+pub row_seen : {A : Type 0} (num : A → ℕ) (at row : ℕ) (xs : List A)
+    → map num (take (at + row - at) (drop at xs)) ≡ take row (drop at (map num xs))
 row_seen num at row xs =
     let e : at + row - at ≡ row = omega arith in
-    sym (take-map num (at + row - at) (drop at xs)) ∙ ap (λ (ns : List ℕ). take (at + row - at) ns) (sym (drop-map num at xs))
+    sym (take-map num (at + row - at) (drop at xs))
+    ∙ ap (λ (ns : List ℕ). take (at + row - at) ns) (sym (drop-map num at xs))
     ∙ ap (λ (n : ℕ). take n (drop at (map num xs))) e
 
 module _ (m l s : ℕ) (numbers : List ℕ) where
@@ -131,13 +147,18 @@ module _ (m l s : ℕ) (numbers : List ℕ) where
   rows_made n = map (stored_difference Horizontal m l s numbers) (range_with_len 0 n)
 
   -- number k of a row is number at + k of all numbers
-  kept_in_row : (at k : ℕ) → s ≤ l → k < l → at % l ≡ 0 → stored_difference Horizontal m l s (take l (drop at numbers)) k ≡ stored_difference Horizontal m l s numbers (at + k)
+  kept_in_row : (at k : ℕ) → s ≤ l → k < l → at % l ≡ 0
+      → stored_difference Horizontal m l s (take l (drop at numbers)) k
+      ≡ stored_difference Horizontal m l s numbers (at + k)
   kept_in_row at k whole h e =
       let line : List ℕ = take l (drop at numbers) in
-      let here : (j : ℕ) → j < l → get_or line j 0 ≡ get_or numbers (at + j) 0 = λ j i. get_or-take l (drop at numbers) j 0 i ∙ get_or-drop at numbers j 0 in
+      let here : (j : ℕ) → j < l → get_or line j 0 ≡ get_or numbers (at + j) 0 =
+      λ j i. get_or-take l (drop at numbers) j 0 i ∙ get_or-drop at numbers j 0 in
       let r : k % l ≡ k = mod-eq_of_lt h in
       let none : 0 + k ≡ k = omega arith in
-      let q : (at + k) % l ≡ k = sym (mod-add-mod at l k) ∙ ap (λ (z : ℕ). (z + k) % l) e ∙ ap (λ (z : ℕ). z % l) none ∙ r in
+      let q : (at + k) % l ≡ k =
+      sym (mod-add-mod at l k) ∙ ap (λ (z : ℕ). (z + k) % l) e ∙ ap (λ (z : ℕ). z % l) none
+      ∙ r in
       elim (cases_lt k s) [
         | inl f ↦ rw (r, q, lt-ltb k s f) (here k h)
         | inr f ↦
@@ -148,20 +169,25 @@ module _ (m l s : ℕ) (numbers : List ℕ) where
 
   -- the differences of a row
   pub row_made : (at : ℕ) → 0 < s → s ≤ l → at + l ≤ length numbers → at % l ≡ 0
-      → predicted_row m s (take l (drop at numbers)) ≡ map (λ j. stored_difference Horizontal m l s numbers (at + j)) (range_with_len 0 l)
+      → predicted_row m s (take l (drop at numbers))
+      ≡ map (λ j. stored_difference Horizontal m l s numbers (at + j)) (range_with_len 0 l)
   unfolding differences
   row_made at some whole fits e =
       let line : List ℕ = take l (drop at numbers) in
-      let long : length line ≡ l = length-take-le l (drop at numbers) (omega (arith, length-drop at numbers, fits)) in
+      let long : length line ≡ l =
+      length-take-le l (drop at numbers) (omega (arith, length-drop at numbers, fits)) in
       predicted m s line some (omega (arith, long, whole))
       ∙ ap (λ (n : ℕ). differences Horizontal m n s line) long
-      ∙ fill_by_all (λ j. stored_difference Horizontal m l s numbers (at + j)) (differences Horizontal m l s line) l 0
+      ∙ fill_by_all (λ j. stored_difference Horizontal m l s numbers (at
+      + j)) (differences Horizontal m l s line) l 0
       (length-map-range_with_len (stored_difference Horizontal m l s line) 0 (length line) ∙ long)
       (λ k h. get_or-map-range_with_len (stored_difference Horizontal m l s line) 0 (length line) k k 0 (omega (arith, long, h)) (omega arith) ∙ kept_in_row at k whole h e)
 
   -- the differences of the rows before a row, and then of this row
-  pub rows_next : (size at : ℕ) (old given new : List ℕ) → 0 < s → s ≤ l → at + l ≤ length numbers → at % l ≡ 0
-      → given ≡ old ++ flat_map (le size) (rows_made at) → new ≡ given ++ flat_map (le size) (predicted_row m s (take l (drop at numbers)))
+  pub rows_next : (size at : ℕ) (old given new : List ℕ) → 0 < s → s ≤ l → at + l ≤ length numbers
+      → at % l ≡ 0
+      → given ≡ old ++ flat_map (le size) (rows_made at)
+      → new ≡ given ++ flat_map (le size) (predicted_row m s (take l (drop at numbers)))
       → new ≡ old ++ flat_map (le size) (rows_made (at + l))
   rows_next size at old given new some whole fits e was is =
       let F = stored_difference Horizontal m l s numbers in
@@ -173,7 +199,8 @@ module _ (m l s : ℕ) (numbers : List ℕ) where
       ∙ ap (λ (ns : List ℕ). old ++ flat_map (le size) ns) (joined F at l)
 
   -- the differences of all rows
-  pub rows_end : (size at : ℕ) (old new : List ℕ) → at ≡ length numbers → new ≡ old ++ flat_map (le size) (rows_made at)
+  pub rows_end : (size at : ℕ) (old new : List ℕ) → at ≡ length numbers
+      → new ≡ old ++ flat_map (le size) (rows_made at)
       → new ≡ old ++ flat_map (le size) (differences Horizontal m l s numbers)
   unfolding differences
   rows_end size at old new e was = was ∙ ap (λ (n : ℕ). old ++ flat_map (le size) (rows_made n)) e

@@ -24,4 +24,5 @@ are_color_types n.Gray4 = samples_packed BlackIsZero 4 Uint (inr (inr refl))
 are_color_types name =
     let f : Family = (family_and_type name).0 in
     let inner = (family_and_type name).1 in
-    samples_alike (meaning_of f) (count_of f) (type_size inner) (format_of_type inner) (some_samples f) (few_samples f)
+    samples_alike (meaning_of f) (count_of f) (type_size inner) (format_of_type inner)
+    (some_samples f) (few_samples f)

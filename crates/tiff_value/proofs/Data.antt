@@ -22,7 +22,8 @@ data_is_whole (i64s ns) = each_whole 8 (signed_le w64) (λ n. refl) ns
 data_is_whole (bits32s ns) = each_whole 4 (le 4) (λ n. refl) ns
 data_is_whole (bits64s ns) = each_whole 8 (le 8) (λ n. refl) ns
 data_is_whole (methods ms) = each_whole 2 (λ m. le 2 (method_number m)) (λ m. refl) ms
-data_is_whole (interpretations is) = each_whole 2 (λ i. le 2 (interpretation_number i)) (λ i. refl) is
+data_is_whole (interpretations is) =
+    each_whole 2 (λ i. le 2 (interpretation_number i)) (λ i. refl) is
 data_is_whole (planars ps) = each_whole 2 (λ p. le 2 (planar_number p)) (λ p. refl) ps
 data_is_whole (predictors ps) = each_whole 2 (λ p. le 2 (predictor_number p)) (λ p. refl) ps
 data_is_whole (units us) = each_whole 2 (λ u. le 2 (unit_number u)) (λ u. refl) us
@@ -31,7 +32,10 @@ data_is_whole (extras es) = each_whole 2 (λ e. le 2 (extra_number e)) (λ e. re
 data_is_whole (ifds ns) = each_whole 4 (le 4) (λ n. refl) ns
 data_is_whole (ifd8s ns) = each_whole 8 (le 8) (λ n. refl) ns
 data_is_whole (rationals rs) = each_whole 8 (λ r. le 4 r.0 ++ le 4 r.1) (λ r. refl) rs
-data_is_whole (srationals rs) = each_whole 8 (λ r. signed_le w32 r.0 ++ signed_le w32 r.1) (λ r. refl) rs
+data_is_whole (srationals rs) =
+    each_whole 8 (λ r. signed_le w32 r.0 ++ signed_le w32 r.1) (λ r. refl) rs
 
 pub text_is_whole : TextIsWhole
-text_is_whole text d h = (subst (λ (g : Result FieldData TiffError). IsValue t.ASCII (length text + 1) g) h (text_value text)).2
+text_is_whole text d h =
+    (subst (λ (g : Result FieldData TiffError). IsValue t.ASCII (length text
+    + 1) g) h (text_value text)).2

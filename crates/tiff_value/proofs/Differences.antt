@@ -19,32 +19,42 @@ total d n = sum_by d (range_with_len 0 n)
 pub total_more : (d : ℕ → ℕ) (n : ℕ) → total d (suc n) ≡ total d n + d n
 total_more d n =
     let e : 0 + n ≡ n = omega arith in
-    ap (sum_by d) (range_more 0 n) ∙ sum_by_push d (range_with_len 0 n) (0 + n) ∙ ap (λ (k : ℕ). total d n + d k) e
+    ap (sum_by d) (range_more 0 n) ∙ sum_by_push d (range_with_len 0 n) (0 + n)
+    ∙ ap (λ (k : ℕ). total d n + d k) e
 
 pub one_total : (d : ℕ → ℕ) → total d (suc zero) ≡ d 0
 one_total d = total_more d zero ∙ omega arith
 
 -- the sum of the differences d of x, modulo m, is x
-pub undone : (x d : ℕ → ℕ) (m last : ℕ) → ((c : ℕ) → x c < m) → d 0 ≡ x 0 → ((c : ℕ) → c < last → d (suc c) ≡ (x (suc c) + m - x c) % m)
+pub undone : (x d : ℕ → ℕ) (m last : ℕ) → ((c : ℕ) → x c < m) → d 0 ≡ x 0
+    → ((c : ℕ) → c < last → d (suc c) ≡ (x (suc c) + m - x c) % m)
     → (c : ℕ) → c ≤ last → total d (suc c) % m ≡ x c
 undone x d m last b z e zero h = rw (one_total d, z) (mod-eq_of_lt (b 0))
 undone x d m last b z e (suc c) h =
     let ih : total d (suc c) % m ≡ x c = undone x d m last b z e c (omega arith) in
     let w : x c + (x (suc c) + m - x c) ≡ x (suc c) + m = omega (arith, b c) in
-    rw (total_more d (suc c), ← mod-add-mod, ih, e c (omega arith), add-mod-mod, w, add-mod_right) (mod-eq_of_lt (b (suc c)))
+    rw (total_more d (suc c), ← mod-add-mod, ih, e c (omega arith), add-mod-mod, w, add-mod_right)
+    (mod-eq_of_lt (b (suc c)))
 
-pub first_kept : (m l s : ℕ) (row : List ℕ) (i : ℕ) → i < l → i < s → stored_difference Horizontal m l s row i ≡ get_or row i 0
+pub first_kept : (m l s : ℕ) (row : List ℕ) (i : ℕ) → i < l → i < s
+    → stored_difference Horizontal m l s row i ≡ get_or row i 0
 first_kept m l s row i a b = rw (mod-eq_of_lt a, lt-ltb i s b) refl
 
-pub later_kept : (m l s : ℕ) (row : List ℕ) (i : ℕ) → i < l → s ≤ i → stored_difference Horizontal m l s row i ≡ (get_or row i 0 + m - get_or row (i - s) 0) % m
+pub later_kept : (m l s : ℕ) (row : List ℕ) (i : ℕ) → i < l → s ≤ i
+    → stored_difference Horizontal m l s row i ≡ (get_or row i 0 + m - get_or row (i - s) 0) % m
 later_kept m l s row i a b = rw (mod-eq_of_lt a, le-ltb i s b) refl
 
 -- the number at a place of a row of differences
-pub difference_at : (m s : ℕ) (row : List ℕ) (i : ℕ) → i < length row → get_or (differences Horizontal m (length row) s row) i 0 ≡ stored_difference Horizontal m (length row) s row i
+pub difference_at : (m s : ℕ) (row : List ℕ) (i : ℕ) → i < length row
+    → get_or (differences Horizontal m (length row) s row) i 0
+    ≡ stored_difference Horizontal m (length row) s row i
 unfolding differences
-difference_at m s row i h = get_or-map-range_with_len (stored_difference Horizontal m (length row) s row) 0 (length row) i i 0 h (omega arith)
+difference_at m s row i h =
+    get_or-map-range_with_len (stored_difference Horizontal m (length row) s row) 0
+    (length row) i i 0 h (omega arith)
 
-pub predicted : (m s : ℕ) (row : List ℕ) → 0 < s → s ≤ length row → predicted_row m s row ≡ differences Horizontal m (length row) s row
+pub predicted : (m s : ℕ) (row : List ℕ) → 0 < s → s ≤ length row
+    → predicted_row m s row ≡ differences Horizontal m (length row) s row
 predicted m s row some whole =
     let z : (s == 0) ≡ false = grind (arith, nat_tests) in
     rw (z, le-ltb (length row) s whole) refl

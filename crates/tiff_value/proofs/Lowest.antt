@@ -19,7 +19,8 @@ one_more k =
 whole : (n a b : ℕ) → n % (a * (256 * b)) + a * (256 * (b * (n / (a * (256 * b))))) ≡ n
 whole n a b =
     let q : ℕ = n / (a * (256 * b)) in
-    ap (λ (k : ℕ). n % (a * (256 * b)) + k) (sym (mul_assoc a (256 * b) q ∙ ap (λ (k : ℕ). a * k) (mul_assoc 256 b q)))
+    ap (λ (k : ℕ). n % (a * (256 * b)) + k) (sym (mul_assoc a (256 * b) q
+    ∙ ap (λ (k : ℕ). a * k) (mul_assoc 256 b q)))
     ∙ mod-add-div n (a * (256 * b))
 
 -- a byte other than the lowest byte
@@ -27,7 +28,8 @@ digit : (n a b : ℕ) → 0 < a → n % (a * (256 * b)) / a % 256 ≡ n / a % 25
 digit n a b p =
     let r : ℕ = n % (a * (256 * b)) in
     let q : ℕ = b * (n / (a * (256 * b))) in
-    let moved : n / a ≡ r / a + 256 * q = ap (λ (k : ℕ). k / a) (sym (whole n a b)) ∙ add-mul-div_left r (256 * q) p in
+    let moved : n / a ≡ r / a + 256 * q =
+    ap (λ (k : ℕ). k / a) (sym (whole n a b)) ∙ add-mul-div_left r (256 * q) p in
     sym (ap (λ (k : ℕ). k % 256) moved ∙ add-mul-mod_self_left (r / a) 256 q)
 
 -- the lowest byte
@@ -35,7 +37,8 @@ lowest : (n b : ℕ) → n % (256 * b) % 256 ≡ n % 256
 lowest n b =
     let r : ℕ = n % (256 * b) in
     let q : ℕ = n / (256 * b) in
-    let e : r + 256 * (b * q) ≡ n = ap (λ (k : ℕ). r + k) (sym (mul_assoc 256 b q)) ∙ mod-add-div n (256 * b) in
+    let e : r + 256 * (b * q) ≡ n =
+    ap (λ (k : ℕ). r + k) (sym (mul_assoc 256 b q)) ∙ mod-add-div n (256 * b) in
     sym (ap (λ (k : ℕ). k % 256) (sym e) ∙ add-mul-mod_self_left r 256 (b * q))
 
 byte_kept : (i k n m : ℕ) → m ≡ 256 ^ (i + suc k) → byte_at i (n % m) ≡ byte_at i n
@@ -44,7 +47,8 @@ byte_kept zero k n m e =
     let f : m ≡ 256 * 256 ^ k = e ∙ ap (λ (x : ℕ). 256 ^ x) z ∙ one_more k in
     ap (λ (x : ℕ). n % x % 256) f ∙ lowest n (256 ^ k)
 byte_kept (suc i) k n m e =
-    let f : m ≡ 256 ^ suc i * (256 * 256 ^ k) = e ∙ pow-add 256 (suc i) (suc k) ∙ ap (λ (x : ℕ). 256 ^ suc i * x) (one_more k) in
+    let f : m ≡ 256 ^ suc i * (256 * 256 ^ k) =
+    e ∙ pow-add 256 (suc i) (suc k) ∙ ap (λ (x : ℕ). 256 ^ suc i * x) (one_more k) in
     ap (λ (x : ℕ). n % x / 256 ^ suc i % 256) f ∙ digit n (256 ^ suc i) (256 ^ k) (pow_pos (suc i))
 
 kept : (i k n m : ℕ) → m ≡ 256 ^ (i + k) → bytes_low_first i k (n % m) ≡ bytes_low_first i k n
@@ -54,7 +58,8 @@ kept i (suc k) n m e =
     λ t. byte_kept i k n m e t ∷ kept (suc i) k n m (e ∙ ap (λ (x : ℕ). 256 ^ x) next) t
 
 -- the bytes of some bits are the bytes of a number below 256 ^ size
-pub spelled_by : (size b : ℕ) (bytes : List ℕ) → bytes ≡ le size b → (bytes ≡ le size (b % 256 ^ size)) × (b % 256 ^ size < 256 ^ size)
+pub spelled_by : (size b : ℕ) (bytes : List ℕ) → bytes ≡ le size b
+    → (bytes ≡ le size (b % 256 ^ size)) × (b % 256 ^ size < 256 ^ size)
 spelled_by size b bytes e =
     let z : size ≡ 0 + size = omega arith in
     (e ∙ sym (kept 0 size b (256 ^ size) (ap (λ (x : ℕ). 256 ^ x) z)), mod-lt b (pow_pos size))

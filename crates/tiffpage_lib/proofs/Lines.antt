@@ -12,18 +12,21 @@ use Rattle.tiffpage_lib.specs.Listing.{after, field_line, lines, listing, listin
 use Rattle.tiffpage_lib.proofs.Visits.{answers_along}
 
 -- One item and the rest.
-pub next_and_rest : (xs : List ℕ) (i x : ℕ) → i < length xs → drop i xs ≡ get_or xs i x ∷ drop (i + 1) xs
+pub next_and_rest : (xs : List ℕ) (i x : ℕ) → i < length xs
+    → drop i xs ≡ get_or xs i x ∷ drop (i + 1) xs
 next_and_rest xs i x h = search (rules, drop-cons)
 
 -- A line, and what follows it.
 more_by : (line rest whole : Result (List ℕ) TiffError) (text more : List ℕ)
-    → after text (line >>= λ first. after first rest) ≡ whole → after text line ≡ Ok more → after more rest ≡ whole
+    → after text (line >>= λ first. after first rest) ≡ whole → after text line ≡ Ok more
+    → after more rest ≡ whole
 more_by (Ok first) (Ok l) whole text more e f = search (rules, append_assoc)
 more_by (Ok first) (Err x) whole text more e f = search rules
 more_by (Err x) rest whole text more e f = search rules
 
 -- Failed reads change no line.
-same_line : (now d : Decoding) (tag : ℕ) → now ≡ record d { failures = now.failures } → field_line now tag ≡ field_line d tag
+same_line : (now d : Decoding) (tag : ℕ) → now ≡ record d { failures = now.failures }
+    → field_line now tag ≡ field_line d tag
 same_line now d tag e = (λ i. field_line (e i) tag)
 
 -- The lines with one more tag.
@@ -39,12 +42,14 @@ lines_more now d tags text more i x h s e f =
 
 -- The error of a line is the error of the lines that it begins.
 cut_by : (line rest whole : Result (List ℕ) TiffError) (text : List ℕ) (x : TiffError)
-    → after text (line >>= λ first. after first rest) ≡ whole → after text line ≡ Err x → whole ≡ Err x
+    → after text (line >>= λ first. after first rest) ≡ whole → after text line ≡ Err x
+    → whole ≡ Err x
 cut_by (Ok first) rest whole text x e f = search rules
 cut_by (Err y) rest whole text x e f = sym e ∙ f
 
 -- The error of a line is the error of all lines.
-pub lines_cut : (now d : Decoding) (tags text : List ℕ) (i x failures : ℕ) (fault : TiffError) → i < length tags
+pub lines_cut : (now d : Decoding) (tags text : List ℕ) (i x failures : ℕ) (fault : TiffError)
+    → i < length tags
     → now ≡ record d { failures = now.failures } → d.failures ≤ now.failures
     → after text (lines d (drop i tags)) ≡ lines d tags
     → IsCause (Unit {0}) (now.failures < failures) fault (after text (field_line now (get_or tags i x)) ≡ Err fault)
@@ -66,18 +71,23 @@ pub lines_none : (d : Decoding) (tags : List ℕ) → after [] (lines d tags) �
 lines_none d tags = none_before (lines d tags)
 
 -- No line is left.
-pub lines_all : (d : Decoding) (tags text : List ℕ) (i : ℕ) → length tags ≤ i → after text (lines d (drop i tags)) ≡ lines d tags
+pub lines_all : (d : Decoding) (tags text : List ℕ) (i : ℕ) → length tags ≤ i
+    → after text (lines d (drop i tags)) ≡ lines d tags
     → lines d tags ≡ Ok text
 lines_all d tags text i h e = search (rules, drop_all)
 
 -- ---- the lines of a directory
 
 -- Failed reads change no lines.
-same_lines : (d : Decoding) (n : ℕ) (tags : List ℕ) → lines (record d { failures = n }) tags ≡ lines d tags
+same_lines : (d : Decoding) (n : ℕ) (tags : List ℕ)
+    → lines (record d { failures = n }) tags ≡ lines d tags
 same_lines d n [] = refl
-same_lines d n (tag ∷ tags) = ap (λ (l : Result (List ℕ) TiffError). field_line d tag >>= λ first. after first l) (same_lines d n tags)
+same_lines d n (tag ∷ tags) =
+    ap (λ (l : Result (List ℕ) TiffError). field_line d tag
+    >>= λ first. after first l) (same_lines d n tags)
 
-same_listing_at : (d : Decoding) (n : ℕ) (p : Option IfdPointer) → listing_at (record d { failures = n }) p ≡ listing_at d p
+same_listing_at : (d : Decoding) (n : ℕ) (p : Option IfdPointer)
+    → listing_at (record d { failures = n }) p ≡ listing_at d p
 unfolding outcome.read_directory
 same_listing_at d n None = refl
 same_listing_at d n (Some p) = (λ i. numbers_at d p >>= λ numbers. same_lines d n numbers i)
@@ -87,9 +97,12 @@ pub same_listing : (d : Decoding) (n : ℕ) → listing (record d { failures = n
 same_listing d n = same_listing_at d n d.state.pointer
 
 -- The lines of the tag numbers that were found.
-pub listing_more : {X : Type 0} (view : X → List ℕ) (old mid : Decoding) (p : Option IfdPointer) (q : IfdPointer) (numbers : List ℕ) (r : Result X TiffError) (failures : ℕ)
-    → p ≡ Some q → numbers_at old q ≡ Ok numbers → mid ≡ record old { failures = mid.failures } → old.failures ≤ mid.failures
-    → Answers view r (lines mid numbers) mid.failures failures → Answers view r (listing_at old p) old.failures failures
+pub listing_more : {X : Type 0} (view : X → List ℕ) (old mid : Decoding) (p : Option IfdPointer)
+    (q : IfdPointer) (numbers : List ℕ) (r : Result X TiffError) (failures : ℕ)
+    → p ≡ Some q → numbers_at old q ≡ Ok numbers → mid ≡ record old { failures = mid.failures }
+    → old.failures ≤ mid.failures
+    → Answers view r (lines mid numbers) mid.failures failures
+    → Answers view r (listing_at old p) old.failures failures
 listing_more view old mid p q numbers r failures is e kept l a =
     answers_along view r (lines mid numbers) (listing_at old p) old.failures mid.failures failures
     (ap (λ (d : Decoding). lines d numbers) kept ∙ same_lines old mid.failures numbers

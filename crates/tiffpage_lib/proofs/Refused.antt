@@ -13,11 +13,20 @@ on_ok (Ok x) P e h = h
 on_ok (Err d) P e h = absurd (cc (e))
 
 -- Words that ask for nothing are refused, and files stay.
-pub runs_refused : {O E F : Type 0} (printed : O → Option (List ℕ)) (contents : E → Option (List ℕ)) (reads : F → List ℕ → Result (List ℕ) TiffError → F → Type 0)
-    (writes : F → List ℕ → List ℕ → Result (Unit {0}) TiffError → F → Type 0) (appends : F → List ℕ → List ℕ → ℕ → List ℕ → Result (Unit {0}) TiffError → F → Type 0)
-    (compares : F → List ℕ → List ℕ → Result Bool TiffError → F → Type 0) (measures : F → List ℕ → Result (Option ℕ) TiffError → F → Type 0)
-    (reads_part : F → List ℕ → ℕ → ℕ → Result (List ℕ) TiffError → F → Type 0) (seen : List ℕ) (words : List (String Global)) (files : F) (out : O) (err new_err : E) (status : ℕ)
-    → (length words == 0) ≡ false → ((command : Command) → ¬ AskFor (map string_bytes words) command) → RefusesWords printed contents out out err new_err status
-    → Runs printed contents reads writes appends compares measures reads_part seen (map string_bytes words) files files out out err new_err status
-runs_refused printed contents reads writes appends compares measures reads_part seen [] files out err new_err status some none h = absurd (cc (some))
-runs_refused printed contents reads writes appends compares measures reads_part seen (w ∷ words) files out err new_err status some none h = inl (refl, none, h)
+pub runs_refused : {O E F : Type 0} (printed : O → Option (List ℕ)) (contents : E → Option (List ℕ))
+    (reads : F → List ℕ → Result (List ℕ) TiffError → F → Type 0)
+    (writes : F → List ℕ → List ℕ → Result (Unit {0}) TiffError → F → Type 0)
+    (appends : F → List ℕ → List ℕ → ℕ → List ℕ → Result (Unit {0}) TiffError → F → Type 0)
+    (compares : F → List ℕ → List ℕ → Result Bool TiffError → F → Type 0)
+    (measures : F → List ℕ → Result (Option ℕ) TiffError → F → Type 0)
+    (reads_part : F → List ℕ → ℕ → ℕ → Result (List ℕ) TiffError → F → Type 0) (seen : List ℕ)
+    (words : List (String Global)) (files : F) (out : O) (err new_err : E) (status : ℕ)
+    → (length words == 0) ≡ false
+    → ((command : Command) → ¬ AskFor (map string_bytes words) command)
+    → RefusesWords printed contents out out err new_err status
+    → Runs printed contents reads writes appends compares measures reads_part seen
+    (map string_bytes words) files files out out err new_err status
+runs_refused printed contents reads writes appends compares measures reads_part seen
+    [] files out err new_err status some none h = absurd (cc (some))
+runs_refused printed contents reads writes appends compares measures reads_part seen (w
+    ∷ words) files out err new_err status some none h = inl (refl, none, h)

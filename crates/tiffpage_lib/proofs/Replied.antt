@@ -20,13 +20,16 @@ pointer_step old new (reply.IfdPointer x) s = tt
 pointer_step old new r s = absurd s
 
 -- The reply to a call that finds a field.
-pub found_step : (old new : Decoding) (tag : Tag) (r : Reply) → Step old (call.FindTagBuf tag) r new → IsFound r
+pub found_step : (old new : Decoding) (tag : Tag) (r : Reply) → Step old (call.FindTagBuf tag) r new
+    → IsFound r
 found_step old new tag (reply.FindTagBuf x b) s = tt
 found_step old new tag r s = absurd s
 
 -- The second of two replies.
-pub image_second : (old new : Decoding) (first : Call) (a b : Reply) → Steps old (first ∷ call.ReadImage ∷ []) (a ∷ b ∷ []) new → IsImage b
+pub image_second : (old new : Decoding) (first : Call) (a b : Reply)
+    → Steps old (first ∷ call.ReadImage ∷ []) (a ∷ b ∷ []) new → IsImage b
 image_second old new first a b s = image_step s.0 s.2.0 b s.2.1
 
-pub pointer_second : (old new : Decoding) (first : Call) (a b : Reply) → Steps old (first ∷ call.IfdPointer ∷ []) (a ∷ b ∷ []) new → IsPointer b
+pub pointer_second : (old new : Decoding) (first : Call) (a b : Reply)
+    → Steps old (first ∷ call.IfdPointer ∷ []) (a ∷ b ∷ []) new → IsPointer b
 pointer_second old new first a b s = pointer_step s.0 s.2.0 b s.2.1

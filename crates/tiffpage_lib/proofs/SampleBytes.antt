@@ -27,13 +27,15 @@ behind_seek : {B C E : Type 0} (s : Result B TiffError) (p : Result C TiffError)
 behind_seek (Ok x) p g = refl
 behind_seek (Err e) p g = refl
 
-behind_both : {A B C E : Type 0} (d : Result A TiffError) (s : A → Result B TiffError) (p : A → Result C TiffError) (g : C → Result E TiffError)
+behind_both : {A B C E : Type 0} (d : Result A TiffError) (s : A → Result B TiffError)
+    (p : A → Result C TiffError) (g : C → Result E TiffError)
     → ((d >>= λ x. s x >>= λ _. p x) >>= g) ≡ (d >>= λ x. s x >>= λ _. (p x >>= g))
 behind_both (Ok x) s p g = behind_seek (s x) (p x) g
 behind_both (Err e) s p g = refl
 
 -- the bytes of a page's image are those of the image at the page
-pub bytes_under : (limits : Limits) (file : List ℕ) (page : ℕ) (r : Result Decoded TiffError) → in_file_under page_image limits file page ≡ r
+pub bytes_under : (limits : Limits) (file : List ℕ) (page : ℕ) (r : Result Decoded TiffError)
+    → in_file_under page_image limits file page ≡ r
     → in_file_under sample_bytes limits file page ≡ (r >>= λ samples. Ok (bytes_of samples))
 bytes_under limits file page r e =
     let bytes : Decoded → Result (List ℕ) TiffError = λ samples. Ok (bytes_of samples) in
@@ -41,23 +43,30 @@ bytes_under limits file page r e =
     ∙ ap (λ x. x >>= bytes) e
 
 -- what follows a call at a page of a file, under limits
-bound : {Y Y' : Type 0} (given : Decoding → Result Y TiffError) (f : Y → Result Y' TiffError) (limits : Limits) (file : List ℕ) (page : ℕ)
-    → in_file_under (λ d. given d >>= f) limits file page ≡ (in_file_under given limits file page >>= f)
+bound : {Y Y' : Type 0} (given : Decoding → Result Y TiffError) (f : Y → Result Y' TiffError)
+    (limits : Limits) (file : List ℕ) (page : ℕ)
+    → in_file_under (λ d. given d >>= f) limits file page
+    ≡ (in_file_under given limits file page >>= f)
 bound given f limits file page =
     sym (behind_both (opened_of file 0) (λ d. (seek_to_image (under limits d) page).answer) (λ d. given (page_decoder (under limits d) page)) f)
 
 -- an error of the call is that of what follows it
-pub under_refused : {X X' Y Y' : Type 0} (view : X → Y) (view' : X' → Y') (given : Decoding → Result Y TiffError) (f : Y → Result Y' TiffError)
+pub under_refused : {X X' Y Y' : Type 0} (view : X → Y) (view' : X' → Y')
+    (given : Decoding → Result Y TiffError) (f : Y → Result Y' TiffError)
     (limits : Limits) (file : List ℕ) (page : ℕ) (e : TiffError)
-    → AnswersUnder {X = X} view given limits (Err e) file page → AnswersUnder {X = X'} view' (λ d. given d >>= f) limits (Err e) file page
+    → AnswersUnder {X = X} view given limits (Err e) file page
+    → AnswersUnder {X = X'} view' (λ d. given d >>= f) limits (Err e) file page
 under_refused view view' given f limits file page e h =
     cause_along e (λ w. w) (λ x. x) (λ g. bound given f limits file page ∙ ap (λ y. y >>= f) g) h
 
 -- what follows the call reads nothing more
-pub under_then : {X X' Y Y' : Type 0} (view : X → Y) (view' : X' → Y') (given : Decoding → Result Y TiffError) (f : Y → Result Y' TiffError)
+pub under_then : {X X' Y Y' : Type 0} (view : X → Y) (view' : X' → Y')
+    (given : Decoding → Result Y TiffError) (f : Y → Result Y' TiffError)
     (limits : Limits) (file : List ℕ) (page : ℕ) (x : X) (r : Result X' TiffError)
     → AnswersUnder view given limits (Ok x) file page → AnswersWithoutSource view' r (f (view x))
     → AnswersUnder view' (λ d. given d >>= f) limits r file page
-under_then view view' given f limits file page x (Ok v) h t = bound given f limits file page ∙ ap (λ y. y >>= f) h ∙ t
+under_then view view' given f limits file page x (Ok v) h t =
+    bound given f limits file page ∙ ap (λ y. y >>= f) h ∙ t
 under_then view view' given f limits file page x (Err e) h t =
-    cause_along e (λ w. w) (λ n. absurd n) (λ g. bound given f limits file page ∙ ap (λ y. y >>= f) h ∙ g) t
+    cause_along e (λ w. w) (λ n. absurd n) (λ g. bound given f limits file page
+    ∙ ap (λ y. y >>= f) h ∙ g) t

@@ -18,7 +18,8 @@ empty_list [] e = refl
 empty_list (x ∷ es) e = absurd (omega arith)
 
 no_entries : entries (empty {X = Field} {R = nat_cmp}) ≡ []
-no_entries = empty_list (entries (empty {X = Field} {R = nat_cmp})) (sym (len-entries (empty {X = Field} {R = nat_cmp})) ∙ len-empty nat_cmp Field)
+no_entries =
+    empty_list (entries (empty {X = Field} {R = nat_cmp})) (sym (len-entries (empty {X = Field} {R = nat_cmp})) ∙ len-empty nat_cmp Field)
 
 -- the entries of a directory with one entry
 one_entry : (n : ℕ) (f : Field) → entries (insert (empty {R = nat_cmp}) n f) ≡ (n, f) ∷ []

@@ -17,7 +17,8 @@ one_stands = len_puts (reverse s.twice_entries)
 
 pub first_stands : s.first_stands
 unfolding tiff_on_literals
-first_stands = get-from_entries nat_cmp_total ((256, one_long (1 ∷ 0 ∷ 0 ∷ 0 ∷ 0 ∷ 0 ∷ 0 ∷ 0 ∷ [])) ∷ []) 256
+first_stands =
+    get-from_entries nat_cmp_total ((256, one_long (1 ∷ 0 ∷ 0 ∷ 0 ∷ 0 ∷ 0 ∷ 0 ∷ 0 ∷ [])) ∷ []) 256
 
 pub gray_14 : s.gray_14
 unfolding tiff_on_literals

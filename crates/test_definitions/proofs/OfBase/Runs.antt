@@ -61,9 +61,12 @@ headless_2 = record {
 }
 
 pub empty_early : s.empty_early
-empty_early = record { blocks = []; are_blocks = tt; rest = Empty; is_rest = tt; list = refl; gives = refl; ends = refl }
+empty_early =
+    record { blocks = []; are_blocks = tt; rest = Empty; is_rest = tt; list = refl; gives = refl; ends = refl }
 
 pub empty_whole : s.empty_whole
-empty_whole = record { blocks = []; are_blocks = tt; rest = Empty; is_rest = tt; list = refl; gives = refl; ends = refl }
+empty_whole =
+    record { blocks = []; are_blocks = tt; rest = Empty; is_rest = tt; list = refl; gives = refl; ends = refl }
 
-pub ruleset worked = (three_blocks, short_block, bare_block, headless_128, headless_2, empty_early, empty_whole)
+pub ruleset worked =
+    (three_blocks, short_block, bare_block, headless_128, headless_2, empty_early, empty_whole)

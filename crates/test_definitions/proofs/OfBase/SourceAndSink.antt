@@ -14,7 +14,8 @@ use Rattle.test_definitions.specs.Base.SourceAndSink as s
 use Rattle.tiff.proofs.OnLiterals.{tiff_on_literals}
 
 -- a look-up in fields that are made from a list is a search in that list
-by_list : (fields : List (ℕ × Field)) (q : ℕ) → get (from_entries {R = nat_cmp} fields) q ≡ find nat_cmp q fields
+by_list : (fields : List (ℕ × Field)) (q : ℕ)
+    → get (from_entries {R = nat_cmp} fields) q ≡ find nat_cmp q fields
 by_list = get-from_entries nat_cmp_total
 
 pub no_octets : s.no_octets
@@ -22,14 +23,19 @@ no_octets = λ h. omega (arith, h 0)
 
 pub look_big_endian : s.look_big_endian
 unfolding tiff_on_literals
-look_big_endian = ap (if_found (field_value Classic BigEndian [] unlimited)) (by_list (reverse s.short_field) 258)
+look_big_endian =
+    ap (if_found (field_value Classic BigEndian [] unlimited)) (by_list (reverse s.short_field) 258)
 
 pub look_placed : s.look_placed
 unfolding tiff_on_literals
-look_placed = ap (if_found (field_value Classic LittleEndian (0x08 ∷ 0x00 ∷ 0x08 ∷ 0x00 ∷ 0x08 ∷ 0x00 ∷ []) unlimited)) (by_list (reverse s.shorts_field) 258)
+look_placed =
+    ap (if_found (field_value Classic LittleEndian (0x08 ∷ 0x00 ∷ 0x08 ∷ 0x00 ∷ 0x08 ∷ 0x00
+    ∷ []) unlimited)) (by_list (reverse s.shorts_field) 258)
 
 pub look_limited : s.look_limited
 unfolding tiff_on_literals
-look_limited = ap (if_found (field_value Classic LittleEndian (0x08 ∷ 0x00 ∷ 0x08 ∷ 0x00 ∷ 0x08 ∷ 0x00 ∷ []) (s.limited 95))) (by_list (reverse s.shorts_field) 258)
+look_limited =
+    ap (if_found (field_value Classic LittleEndian (0x08 ∷ 0x00 ∷ 0x08 ∷ 0x00 ∷ 0x08 ∷ 0x00
+    ∷ []) (s.limited 95))) (by_list (reverse s.shorts_field) 258)
 
 pub ruleset worked = (no_octets, look_big_endian, look_placed, look_limited)

@@ -19,7 +19,8 @@ pub not_apart : s.not_apart
 not_apart = λ a. omega (arith, a 0 1 s.front (omega arith) (omega arith))
 
 pub another_byte_seen : s.another_byte_seen
-another_byte_seen = λ r. omega (arith, ap (λ b. slice_index b 0) (r.each 1 s.front (omega arith)).same)
+another_byte_seen =
+    λ r. omega (arith, ap (λ b. slice_index b 0) (r.each 1 s.front (omega arith)).same)
 
 pub of_shorter : s.of_shorter
 of_shorter = λ r. omega (arith, r.len)
@@ -27,4 +28,5 @@ of_shorter = λ r. omega (arith, r.len)
 pub of_no_bytes : s.of_no_bytes
 of_no_bytes = λ r. omega (arith, r.octets 2)
 
-pub ruleset worked = (apart, apart_side_by_side, not_apart, another_byte_seen, of_shorter, of_no_bytes)
+pub ruleset worked =
+    (apart, apart_side_by_side, not_apart, another_byte_seen, of_shorter, of_no_bytes)

@@ -42,14 +42,18 @@ directory_in (Err e) = gray_fields
 
 -- the checks of the page of one gray pixel read nothing outside the directory
 gray_page : (source : SourceRecord) → PageReadable source Classic LittleEndian gray_fields
-gray_page source = page_held source (reverse gray_entries) None (record { placed = λ w. absurd (omega (arith, w)) }) refl
+gray_page source =
+    page_held source (reverse gray_entries) None (record { placed = λ w. absurd (omega (arith, w)) }) refl
 
-gray_entry : (stretches : List (ℕ × ℕ)) → DirectoryReadable (s.gray_source stretches) Classic LittleEndian 25 → EntryReadable (s.gray_source stretches) Classic LittleEndian 25
+gray_entry : (stretches : List (ℕ × ℕ))
+    → DirectoryReadable (s.gray_source stretches) Classic LittleEndian 25
+    → EntryReadable (s.gray_source stretches) Classic LittleEndian 25
 unfolding tiff_on_literals
 gray_entry stretches d = record {
   directory = d;
   page = λ directory e.
-      subst (λ (x : DirectoryRecord). PageReadable (s.gray_source stretches) Classic LittleEndian x) (ap directory_in e) (gray_page (s.gray_source stretches));
+      subst (λ (x : DirectoryRecord). PageReadable (s.gray_source stretches) Classic LittleEndian x)
+      (ap directory_in e) (gray_page (s.gray_source stretches));
 }
 
 -- the directory of the file of one gray pixel has 174 bytes
@@ -67,7 +71,8 @@ unfolding tiff_on_literals
 opens = record {
   header = λ k l h. in_first 0 8 ((25, 174) ∷ []) k l h;
   first = λ header e.
-      subst (λ (x : Header). EntryReadable (s.gray_source ((0, 8) ∷ (25, 174) ∷ [])) x.kind x.order x.first) (ap header_in e)
+      subst (λ (x : Header). EntryReadable (s.gray_source ((0, 8) ∷ (25, 174)
+      ∷ [])) x.kind x.order x.first) (ap header_in e)
       (gray_entry ((0, 8) ∷ (25, 174) ∷ []) gray_directory);
 }
 
@@ -106,9 +111,11 @@ pub enters_cut : s.enters_cut
 unfolding tiff_on_literals
 enters_cut = λ r.
     let source : SourceRecord = s.placed_source ((14, 29) ∷ []) in
-    let directory : DirectoryRecord = directory_in (directory_at Classic LittleEndian s.placed_file 14) in
+    let directory : DirectoryRecord =
+    directory_in (directory_at Classic LittleEndian s.placed_file 14) in
     tag_unheld source ((273, offsets) ∷ []) None tag.StripOffsets offsets refl
-    (λ f. false≢true (f.placed (omega arith) 43 (omega arith) (omega arith))) ((r.page directory refl).each tag.StripOffsets refl)
+    (λ f. false≢true (f.placed (omega arith) 43 (omega arith) (omega arith)))
+    ((r.page directory refl).each tag.StripOffsets refl)
 
 -- ---- the page with a number
 
@@ -123,16 +130,20 @@ gray_link = record {
 }
 
 -- a walk of `gray_file` is before the directory at 25, or after it
-on_gray : (offsets : List ℕ) (next : Option ℕ) → ChainBegins Classic LittleEndian gray_file 25 (record { offsets = offsets; next = next }) → length offsets ≤ 1
+on_gray : (offsets : List ℕ) (next : Option ℕ)
+    → ChainBegins Classic LittleEndian gray_file 25 (record { offsets = offsets; next = next })
+    → length offsets ≤ 1
     → (at : ℕ) → next ≡ Some at → 25 ≡ at
 unfolding tiff_on_literals
 on_gray [] next b l at n =
     let link = link_from Classic LittleEndian gray_file in
-    let on : IsChain link [] next (25 ∷ []) None = subst (λ rest. IsChain link [] next rest None) (sym b.offsets) b.goes_on in
+    let on : IsChain link [] next (25 ∷ []) None =
+    subst (λ rest. IsChain link [] next rest None) (sym b.offsets) b.goes_on in
     ap offset_of (sym (goes_on link [] next 25 [] None on) ∙ n)
 on_gray (x ∷ []) next b l at n =
     let link = link_from Classic LittleEndian gray_file in
-    let on : IsChain link (x ∷ []) next [] None = subst (λ rest. IsChain link (x ∷ []) next rest None) (sym (ap (drop 1) b.offsets)) b.goes_on in
+    let on : IsChain link (x ∷ []) next [] None =
+    subst (λ rest. IsChain link (x ∷ []) next rest None) (sym (ap (drop 1) b.offsets)) b.goes_on in
     absurd (none-some at (sym (ends_there link (x ∷ []) next on) ∙ n))
 on_gray (x ∷ y ∷ zs) next b l at n = absurd (omega (arith, l))
 
@@ -141,7 +152,9 @@ unfolding tiff_on_literals
 seeks_1 = record {
   way = record {
     link = λ w b l. record {
-      link = λ at n. subst (λ p. LinkReadable (s.gray_source ((25, 2) ∷ (195, 4) ∷ [])) Classic LittleEndian p) (on_gray w.offsets w.next b l at n) gray_link;
+      link =
+          λ at n. subst (λ p. LinkReadable (s.gray_source ((25, 2) ∷ (195, 4)
+          ∷ [])) Classic LittleEndian p) (on_gray w.offsets w.next b l at n) gray_link;
     };
   };
   entry = λ at e. absurd (none-some at e);
@@ -150,7 +163,8 @@ seeks_1 = record {
 -- the walk that begins at the directory at 25
 begins_gray : ChainBegins Classic LittleEndian gray_file 25 (record { offsets = []; next = Some 25 })
 unfolding tiff_on_literals
-begins_gray = record { linked = refl; rest = 25 ∷ []; offsets = refl; goes_on = (refl, None, refl, refl) }
+begins_gray =
+    record { linked = refl; rest = 25 ∷ []; offsets = refl; goes_on = (refl, None, refl, refl) }
 
 pub seeks_1_cut : s.seeks_1_cut
 unfolding tiff_on_literals
@@ -182,29 +196,37 @@ unfolding tiff_on_literals
 seeks_0 = record {
   way = record {
     link = λ w b l. record {
-      link = λ at n. subst (λ p. LinkReadable (s.gray_source ((25, 174) ∷ [])) Classic LittleEndian p) (on_gray w.offsets w.next b (omega (arith, l)) at n) link_alone;
+      link =
+          λ at n. subst (λ p. LinkReadable (s.gray_source ((25, 174)
+          ∷ [])) Classic LittleEndian p) (on_gray w.offsets w.next b (omega (arith, l)) at n) link_alone;
     };
   };
-  entry = λ at e. subst (λ p. EntryReadable (s.gray_source ((25, 174) ∷ [])) Classic LittleEndian p) (ap offset_of e) (gray_entry ((25, 174) ∷ []) gray_alone);
+  entry =
+      λ at e. subst (λ p. EntryReadable (s.gray_source ((25, 174)
+      ∷ [])) Classic LittleEndian p) (ap offset_of e) (gray_entry ((25, 174) ∷ []) gray_alone);
 }
 
 pub seeks_0_cut : s.seeks_0_cut
 unfolding tiff_on_literals
-seeks_0_cut = λ r. false≢true ((r.entry 25 refl).directory.entries 14 refl 27 (omega arith) (omega arith))
+seeks_0_cut =
+    λ r. false≢true ((r.entry 25 refl).directory.entries 14 refl 27 (omega arith) (omega arith))
 
 -- ---- the next page
 
 -- after the last directory that a walk entered, the walk's next offset is that directory's link
-link_of : (bytes : List ℕ) (first last : ℕ) (walk : Walked) → ChainBegins Classic LittleEndian bytes first walk → last_or None walk.offsets ≡ Some last
+link_of : (bytes : List ℕ) (first last : ℕ) (walk : Walked)
+    → ChainBegins Classic LittleEndian bytes first walk → last_or None walk.offsets ≡ Some last
     → link_from Classic LittleEndian bytes last ≡ Ok walk.next
-link_of bytes first last walk b l = ap (link_behind Classic LittleEndian bytes first) (sym l) ∙ b.linked
+link_of bytes first last walk b l =
+    ap (link_behind Classic LittleEndian bytes first) (sym l) ∙ b.linked
 
 abbrev next_in : Result (Option ℕ) TiffError → Option ℕ
 next_in (Ok next) = next
 next_in (Err e) = None
 
 -- after the first of two directories, the second is next
-second_next : (walk : Walked) → ChainBegins Classic LittleEndian s.placed_file 8 walk → last_or None walk.offsets ≡ Some 8 → (at : ℕ) → walk.next ≡ Some at → 14 ≡ at
+second_next : (walk : Walked) → ChainBegins Classic LittleEndian s.placed_file 8 walk
+    → last_or None walk.offsets ≡ Some 8 → (at : ℕ) → walk.next ≡ Some at → 14 ≡ at
 unfolding tiff_on_literals
 second_next walk b last at n = ap offset_of (ap next_in (link_of s.placed_file 8 8 walk b last) ∙ n)
 
@@ -213,7 +235,9 @@ unfolding tiff_on_literals
 second_behind = record {
   entry = λ at e. subst (λ p. EntryReadable placed Classic LittleEndian p) (ap offset_of e) enters;
   behind = λ w b last. record {
-    directory = λ at n. subst (λ p. DirectoryReadable placed Classic LittleEndian p) (second_next w b last at n) placed_directory;
+    directory =
+        λ at n. subst (λ p. DirectoryReadable placed Classic LittleEndian p)
+        (second_next w b last at n) placed_directory;
   };
 }
 
@@ -230,7 +254,8 @@ abbrev cycle : TiffError
 cycle = FormatError CycleInOffsets
 
 -- after the first directory of `back`, the second is next
-back_next : (walk : Walked) → ChainBegins Classic LittleEndian back 25 walk → last_or None walk.offsets ≡ Some 25 → (at : ℕ) → walk.next ≡ Some at → 199 ≡ at
+back_next : (walk : Walked) → ChainBegins Classic LittleEndian back 25 walk
+    → last_or None walk.offsets ≡ Some 25 → (at : ℕ) → walk.next ≡ Some at → 199 ≡ at
 unfolding tiff_on_literals
 back_next walk b last at n = ap offset_of (ap next_in (link_of back 25 25 walk b last) ∙ n)
 
@@ -241,7 +266,8 @@ pub back_behind_cut : s.back_behind_cut
 unfolding tiff_on_literals
 back_behind_cut = λ r.
     let walk : Walked = record { offsets = 25 ∷ []; next = Some 199 } in
-    let begins : ChainBegins Classic LittleEndian back 25 walk = record { linked = refl; rest = []; offsets = refl; goes_on = (cycle, refl, refl) } in
+    let begins : ChainBegins Classic LittleEndian back 25 walk =
+    record { linked = refl; rest = []; offsets = refl; goes_on = (cycle, refl, refl) } in
     false≢true (((r.behind walk begins refl).directory 199 refl).entries 0 refl 204 (omega arith) (omega arith))
 
 -- the counts and the links of both directories
@@ -254,23 +280,30 @@ back_first = record {
   count = λ k l h. in_first 25 2 ((195, 4) ∷ (199, 6) ∷ []) k l h;
   link = λ n e k l h.
       let many : 14 ≡ n = ap count_in e in
-      in_later (25, 2) ((195, 4) ∷ (199, 6) ∷ []) k (in_first 195 4 ((199, 6) ∷ []) k (omega (arith, l, many)) (omega (arith, h, many)));
+      in_later (25, 2) ((195, 4) ∷ (199, 6) ∷ []) k (in_first 195 4 ((199, 6)
+      ∷ []) k (omega (arith, l, many)) (omega (arith, h, many)));
 }
 
 back_second : LinkReadable (back_source both) Classic LittleEndian 199
 unfolding tiff_on_literals
 back_second = record {
-  count = λ k l h. in_later (25, 2) ((195, 4) ∷ (199, 6) ∷ []) k (in_later (195, 4) ((199, 6) ∷ []) k (in_first 199 6 [] k l (omega (arith, h))));
+  count =
+      λ k l h. in_later (25, 2) ((195, 4) ∷ (199, 6)
+      ∷ []) k (in_later (195, 4) ((199, 6) ∷ []) k (in_first 199 6 [] k l (omega (arith, h))));
   link = λ n e k l h.
       let none : 0 ≡ n = ap count_in e in
-      in_later (25, 2) ((195, 4) ∷ (199, 6) ∷ []) k (in_later (195, 4) ((199, 6) ∷ []) k (in_first 199 6 [] k (omega (arith, l, none)) (omega (arith, h, none))));
+      in_later (25, 2) ((195, 4) ∷ (199, 6) ∷ []) k (in_later (195, 4) ((199, 6)
+      ∷ []) k (in_first 199 6 [] k (omega (arith, l, none)) (omega (arith, h, none))));
 }
 
 -- a walk of `back` has the first or the second directory before it
-back_way : (offsets : List ℕ) (next : Option ℕ) → ChainBegins Classic LittleEndian back 25 (record { offsets = offsets; next = next })
+back_way : (offsets : List ℕ) (next : Option ℕ)
+    → ChainBegins Classic LittleEndian back 25 (record { offsets = offsets; next = next })
     → (at : ℕ) → next ≡ Some at → LinkReadable (back_source both) Classic LittleEndian at
 unfolding tiff_on_literals
-back_way [] next b at n = subst (λ p. LinkReadable (back_source both) Classic LittleEndian p) (ap offset_of (ap next_in b.linked ∙ n)) back_first
+back_way [] next b at n =
+    subst (λ p. LinkReadable (back_source both) Classic LittleEndian p)
+    (ap offset_of (ap next_in b.linked ∙ n)) back_first
 back_way (x ∷ []) next b at n =
     let first : Some x ≡ Some 25 = ap Some (sym (ap (λ xs. get_or xs 0 0) b.offsets)) in
     let at_second = back_next (record { offsets = x ∷ []; next = next }) b first at n in
@@ -288,7 +321,8 @@ pub seeks_back_cut : s.seeks_back_cut
 unfolding tiff_on_literals
 seeks_back_cut = λ r.
     let walk : Walked = record { offsets = 25 ∷ []; next = Some 199 } in
-    let begins : ChainBegins Classic LittleEndian back 25 walk = record { linked = refl; rest = []; offsets = refl; goes_on = (cycle, refl, refl) } in
+    let begins : ChainBegins Classic LittleEndian back 25 walk =
+    record { linked = refl; rest = []; offsets = refl; goes_on = (cycle, refl, refl) } in
     false≢true (((r.way.link walk begins (omega arith)).link 199 refl).link 0 refl 204 (omega arith) (omega arith))
 
 -- ---- reads at the offset, and of tags

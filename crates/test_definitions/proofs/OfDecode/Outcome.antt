@@ -64,15 +64,20 @@ abbrev answer : Decoding → TagLookup → Result Decoding TiffError
 answer d look = page_of look >>= λ page. Ok (record d { state = record d.state { page = page } })
 
 -- the tag look-up of a decoder
-abbrev tags_of : (d : Decoding) (fields : List (ℕ × Field)) → look_up_in (field_value d.kind d.order d.bytes default_limits) (from_entries {R = nat_cmp} fields) ≡ record {
-  has = λ tag. is_some (find nat_cmp (tag_number tag) fields);
-  value = λ tag. if_found (field_value d.kind d.order d.bytes default_limits) (find nat_cmp (tag_number tag) fields);
-}
+abbrev tags_of : (d : Decoding) (fields : List (ℕ × Field))
+    → look_up_in (field_value d.kind d.order d.bytes default_limits)
+    (from_entries {R = nat_cmp} fields) ≡ record {
+      has = λ tag. is_some (find nat_cmp (tag_number tag) fields);
+      value =
+          λ tag. if_found (field_value d.kind d.order d.bytes default_limits)
+          (find nat_cmp (tag_number tag) fields);
+    }
 tags_of d fields = looked_by (field_value d.kind d.order d.bytes default_limits) fields
 
 -- the decoder of a file like that of one gray pixel, with changed bytes and fields
 abbrev changed : List ℕ → List (ℕ × Field) → Decoding
-changed bytes fields = decoder_at bytes 25 (record gray_state { directory = record gray_state.directory { entries = from_entries fields } })
+changed bytes fields =
+    decoder_at bytes 25 (record gray_state { directory = record gray_state.directory { entries = from_entries fields } })
 
 pub no_tags : s.no_tags
 unfolding tiff_on_literals
@@ -101,14 +106,16 @@ count_0 =
 pub list_limited : s.list_limited
 unfolding tiff_on_literals
 list_limited =
-    let fields : List (ℕ × Field) = fields_with long_1 short_1 (record long_1 { count = 8388609 }) in
+    let fields : List (ℕ × Field) =
+    fields_with long_1 short_1 (record long_1 { count = 8388609 }) in
     let d : Decoding = changed (put gray_file 127 (1 ∷ 0 ∷ 128 ∷ 0 ∷ [])) fields in
     ap (answer d) (tags_of d fields)
 
 pub list_within : s.list_within
 unfolding tiff_on_literals
 list_within =
-    let fields : List (ℕ × Field) = fields_with long_1 short_1 (record long_1 { count = 8388608 }) in
+    let fields : List (ℕ × Field) =
+    fields_with long_1 short_1 (record long_1 { count = 8388608 }) in
     let d : Decoding = changed (put gray_file 127 (0 ∷ 0 ∷ 128 ∷ 0 ∷ [])) fields in
     ap (answer d) (tags_of d fields)
 
@@ -118,10 +125,12 @@ next_unread = ap (answer (two_decoder [])) (tags_of (two_decoder []) (reverse gr
 
 pub big_endian : s.big_endian
 unfolding tiff_on_literals
-big_endian = ap (answer s.big_endian_decoder) (tags_of s.big_endian_decoder (reverse s.big_endian_entries))
+big_endian =
+    ap (answer s.big_endian_decoder) (tags_of s.big_endian_decoder (reverse s.big_endian_entries))
 
 pub big : s.big
 unfolding tiff_on_literals
 big = ap (answer s.big_decoder) (tags_of s.big_decoder (reverse s.big_entries))
 
-pub ruleset worked = (no_tags, width_0, lzw, count_0, list_limited, list_within, next_unread, big_endian, big)
+pub ruleset worked =
+    (no_tags, width_0, lzw, count_0, list_limited, list_within, next_unread, big_endian, big)

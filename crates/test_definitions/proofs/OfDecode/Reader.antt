@@ -5,7 +5,8 @@ use Rattle.tiff_decode.specs.Reader.{EachGives}
 use Rattle.test_definitions.specs.Decode.Reader as s
 
 -- the third number isn't the first that doesn't fit, as the second doesn't fit either
-later : (before fitting after : List ℕ) (n : ℕ) → 7 ∷ 256 ∷ 300 ∷ [] ≡ before ++ n ∷ after → EachGives s.byte before fitting → n ≡ 300 → ⊥
+later : (before fitting after : List ℕ) (n : ℕ) → 7 ∷ 256 ∷ 300 ∷ [] ≡ before ++ n ∷ after
+    → EachGives s.byte before fitting → n ≡ 300 → ⊥
 later [] fitting after n e f p = omega (arith, ap (λ xs. get_or xs 0 0) e, p)
 later (b ∷ []) fitting after n e f p = omega (arith, ap (λ xs. get_or xs 1 0) e, p)
 later (b ∷ c ∷ bs) [] after n e f p = f
@@ -28,7 +29,8 @@ pub fits : s.fits
 fits = (refl, lit< tt)
 
 pub second_unfit : s.second_unfit
-second_unfit = record { before = 7 ∷ []; fitting = 7 ∷ []; n = 256; after = 300 ∷ []; is = refl; fits = ((refl, lit< tt), tt); unfit = (tt, lit≤ tt, refl) }
+second_unfit =
+    record { before = 7 ∷ []; fitting = 7 ∷ []; n = 256; after = 300 ∷ []; is = refl; fits = ((refl, lit< tt), tt); unfit = (tt, lit≤ tt, refl) }
 
 pub third_later : s.third_later
 third_later = λ u. later u.before u.fitting u.after u.n u.is u.fits
@@ -40,7 +42,8 @@ pub no_list_unfit : s.no_list_unfit
 no_list_unfit = λ e u. none_in u.before u.after u.n u.is
 
 pub numbers_great : s.numbers_great
-numbers_great = record { before = 7 ∷ []; fitting = 7 ∷ []; n = 256; after = []; is = refl; fits = ((refl, lit< tt), tt); unfit = (tt, lit≤ tt, refl) }
+numbers_great =
+    record { before = 7 ∷ []; fitting = 7 ∷ []; n = 256; after = []; is = refl; fits = ((refl, lit< tt), tt); unfit = (tt, lit≤ tt, refl) }
 
 pub numbers_refused : s.numbers_refused
 numbers_refused = λ u. none_is_unfit s.unfit u
@@ -48,4 +51,5 @@ numbers_refused = λ u. none_is_unfit s.unfit u
 pub list_great : s.list_great
 list_great = inr (7 ∷ 256 ∷ [], refl, numbers_great)
 
-pub ruleset worked = (second_unfit, none_is_unfit, no_list_unfit, numbers_great, numbers_refused, list_great)
+pub ruleset worked =
+    (second_unfit, none_is_unfit, no_list_unfit, numbers_great, numbers_refused, list_great)

@@ -24,7 +24,8 @@ pub failing_ran : s.failing_ran
 failing_ran = record {
   replies = s.failing_replies;
   added = refl;
-  steps = (record gray_decoder { failures = 1 }, record { grew = omega arith; at = record { stands = refl; failures = omega arith } }, (record gray_decoder { failures = 1 }, (refl, refl), (record gray_decoder { failures = 2 }, record { grew = omega arith; at = record { stands = refl; failures = omega arith } }, refl)));
+  steps =
+      (record gray_decoder { failures = 1 }, record { grew = omega arith; at = record { stands = refl; failures = omega arith } }, (record gray_decoder { failures = 1 }, (refl, refl), (record gray_decoder { failures = 2 }, record { grew = omega arith; at = record { stands = refl; failures = omega arith } }, refl)));
   failed = omega arith;
 }
 

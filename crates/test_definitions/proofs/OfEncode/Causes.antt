@@ -28,7 +28,8 @@ finish_cause_by file d count fields =
     then Some IntSizeError
     else parent_cause file d.parent)
 
-finish_by : (file : FileState) (d : OpenDirectory) (count : ℕ) (fields : List (ℕ × Field)) → len d.fields ≡ count → entries d.fields ≡ fields
+finish_by : (file : FileState) (d : OpenDirectory) (count : ℕ) (fields : List (ℕ × Field))
+    → len d.fields ≡ count → entries d.fields ≡ fields
     → finish_cause file d ≡ finish_cause_by file d count fields
 unfolding tiff_on_literals
 finish_by file d count fields p q = λ i. finish_cause_by file d (p i) (q i)
@@ -40,25 +41,33 @@ end_test_by kind end d count fields =
     then Some IntSizeError
     else parent_test kind end d.parent
 
-end_by : (kind : FileKind) (end : ℕ) (d : OpenDirectory) (count : ℕ) (fields : List (ℕ × Field)) → len d.fields ≡ count → entries d.fields ≡ fields
+end_by : (kind : FileKind) (end : ℕ) (d : OpenDirectory) (count : ℕ) (fields : List (ℕ × Field))
+    → len d.fields ≡ count → entries d.fields ≡ fields
     → end_test kind end d ≡ end_test_by kind end d count fields
 unfolding tiff_on_literals
 end_by kind end d count fields p q = λ i. end_test_by kind end d (p i) (q i)
 
 pub test_parent : s.test_parent
-test_parent = end_by Classic 8 (new_directory (Some 5) false) 0 [] (len-empty nat_cmp Field) (entries_puts [])
+test_parent =
+    end_by Classic 8 (new_directory (Some 5) false) 0 [] (len-empty nat_cmp Field) (entries_puts [])
 
 pub parent_last : s.parent_last
-parent_last = finish_by (new_file Classic) (new_directory (Some 4) true) 0 [] (len-empty nat_cmp Field) (entries_puts [])
+parent_last =
+    finish_by (new_file Classic) (new_directory (Some 4) true) 0 [] (len-empty nat_cmp Field)
+    (entries_puts [])
 
 pub parent_past : s.parent_past
-parent_past = finish_by (new_file Classic) (new_directory (Some 5) false) 0 [] (len-empty nat_cmp Field) (entries_puts [])
+parent_past =
+    finish_by (new_file Classic) (new_directory (Some 5) false) 0 [] (len-empty nat_cmp Field)
+    (entries_puts [])
 
 pub parent_past_big : s.parent_past_big
-parent_past_big = finish_by (new_file Big) (new_directory (Some 9) false) 0 [] (len-empty nat_cmp Field) (entries_puts [])
+parent_past_big =
+    finish_by (new_file Big) (new_directory (Some 9) false) 0 [] (len-empty nat_cmp Field) (entries_puts [])
 
 pub no_parent : s.no_parent
-no_parent = finish_by (new_file Classic) (new_directory None false) 0 [] (len-empty nat_cmp Field) (entries_puts [])
+no_parent =
+    finish_by (new_file Classic) (new_directory None false) 0 [] (len-empty nat_cmp Field) (entries_puts [])
 
 pub resolutions_far : s.resolutions_far
 unfolding tiff_on_literals

@@ -15,10 +15,12 @@ use Rattle.tiff.proofs.OnLiterals.{tiff_on_literals}
 
 -- the bytes of a directory, computed from the list that its fields are made from
 abbrev pub bytes_by : FileKind → ℕ → List (ℕ × Field) → List ℕ
-bytes_by kind count fields = le (count_len kind) count ++ (flat_map (entry_bytes kind) fields ++ le (offset_len kind) 0)
+bytes_by kind count fields =
+    le (count_len kind) count ++ (flat_map (entry_bytes kind) fields ++ le (offset_len kind) 0)
 
 pub directory_by : (kind : FileKind) (fields : List (ℕ × Field))
-    → directory_bytes kind (from_entries {R = nat_cmp} fields) ≡ bytes_by kind (length (puts fields)) (puts fields)
+    → directory_bytes kind (from_entries {R = nat_cmp} fields)
+    ≡ bytes_by kind (length (puts fields)) (puts fields)
 unfolding tiff_on_literals
 directory_by kind fields = λ i. bytes_by kind (len_puts fields i) (entries_puts fields i)
 

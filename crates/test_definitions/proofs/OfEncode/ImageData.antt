@@ -16,7 +16,8 @@ second_refused = (more_parts, ((refl, (refl, tt)), inl (record { answer = refl; 
 
 pub second_cut : s.second_cut
 unfolding tiff_on_literals
-second_cut = (two_parts, ((refl, (refl, tt)), inr (inl (record { fresh = refl; fault = fault.Device; answer = refl; count = 2; within = lit< tt; state = refl }))))
+second_cut =
+    (two_parts, ((refl, (refl, tt)), inr (inl (record { fresh = refl; fault = fault.Device; answer = refl; count = 2; within = lit< tt; state = refl }))))
 
 pub second_wanting : s.second_wanting
 unfolding tiff_on_literals

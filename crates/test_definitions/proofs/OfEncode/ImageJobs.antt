@@ -49,7 +49,8 @@ page_begins : IsDone (new_image gray 1 1 1 (new_file Classic)) (Ok new_pixel) fi
 unfolding tiff_on_literals
 page_begins = record { ended = record { answer = refl; state = refl }; model = refl }
 
-strip_done : IsDone (write_strip new_pixel 1 (7 ∷ []) after_begin.file) (Ok pixel_in_file) after_begin after_strip
+strip_done : IsDone (write_strip new_pixel 1 (7
+    ∷ []) after_begin.file) (Ok pixel_in_file) after_begin after_strip
 unfolding tiff_on_literals
 strip_done = record { ended = record { answer = refl; state = refl }; model = refl }
 
@@ -57,7 +58,8 @@ strip_stands : s.strip_stood
 unfolding tiff_on_literals
 strip_stands = (7 ∷ [], (refl, strip_done))
 
-other : (stored : List ℕ) → stored ≡ 8 ∷ [] → IsDone (write_strip new_pixel 1 stored after_begin.file) (Ok pixel_in_file) after_begin after_strip → ⊥
+other : (stored : List ℕ) → stored ≡ 8 ∷ []
+    → IsDone (write_strip new_pixel 1 stored after_begin.file) (Ok pixel_in_file) after_begin after_strip → ⊥
 unfolding tiff_on_literals
 other stored p a =
     unequal 7 8 (lit< tt) (ap (λ (f : FileState). get_or f.bytes 24 0)
@@ -68,10 +70,12 @@ unfolding tiff_on_literals
 not_other h = other h.0 h.1.0 h.1.1
 
 end_done : IsDone s.ended (Ok page_offset) after_strip after_end
-end_done = record { ended = record { answer = images.pixel_finished.0; state = refl }; model = refl }
+end_done =
+    record { ended = record { answer = images.pixel_finished.0; state = refl }; model = refl }
 
 pub data_is_done : IsDone s.wrote (Ok page_offset) after_begin s.after_data
-data_is_done = record { ended = record { answer = images.pixel_data.0; state = refl }; model = refl }
+data_is_done =
+    record { ended = record { answer = images.pixel_data.0; state = refl }; model = refl }
 
 data_stands : s.data_done
 unfolding tiff_on_literals
@@ -96,7 +100,8 @@ part = (
   ),
 )
 
-failed_part : jobs.ResolvesInPart pixel (resolution_tags unit.Inch (300, 1)) (IoError Device) first s.after_unit_failed s.unit_pixel
+failed_part : jobs.ResolvesInPart pixel (resolution_tags unit.Inch (300, 1))
+    (IoError Device) first s.after_unit_failed s.unit_pixel
 unfolding tiff_on_literals
 failed_part = (
   refl,
@@ -127,31 +132,40 @@ begun_stands =
     )
 
 -- the whole job, given equations for its parts
-steps_by : (ss : List ImageStep) (rs : List (Result StepReply TiffError)) (one : ImageStep) → ss ≡ one ∷ [] → rs ≡ Ok reply.Nothing ∷ []
+steps_by : (ss : List ImageStep) (rs : List (Result StepReply TiffError)) (one : ImageStep)
+    → ss ≡ one ∷ [] → rs ≡ Ok reply.Nothing ∷ []
     → jobs.ImageStepped after_begin drawn_new one (Ok reply.Nothing) after_strip drawn_strip
     → jobs.AllStepped jobs.ImageStepped after_begin drawn_new ss rs after_strip drawn_strip
 steps_by ss rs one p q h =
-    let P : List ImageStep → List (Result StepReply TiffError) → Type 0 = λ x y. jobs.AllStepped jobs.ImageStepped after_begin drawn_new x y after_strip drawn_strip in
-    subst (λ x. P x rs) (sym p) (subst (λ y. P (one ∷ []) y) (sym q) (after_strip, (drawn_strip, (h, (refl, refl)))))
+    let P : List ImageStep → List (Result StepReply TiffError) → Type 0 =
+    λ x y. jobs.AllStepped jobs.ImageStepped after_begin drawn_new x y after_strip drawn_strip in
+    subst (λ x. P x rs) (sym p) (subst (λ y. P (one
+    ∷ []) y) (sym q) (after_strip, (drawn_strip, (h, (refl, refl)))))
 
 ends_by : (e : ImageEnd) (r : Result EndReply TiffError) → e ≡ iend.Finish → r ≡ Ok last.Nothing
     → jobs.ImageEnds after_strip pixel_in_file e r after_end (Some page_offset)
 ends_by e r p q =
-    let P : ImageEnd → Result EndReply TiffError → Type 0 = λ x y. jobs.ImageEnds after_strip pixel_in_file x y after_end (Some page_offset) in
+    let P : ImageEnd → Result EndReply TiffError → Type 0 =
+    λ x y. jobs.ImageEnds after_strip pixel_in_file x y after_end (Some page_offset) in
     subst (λ x. P x r) (sym p) (subst (λ y. P iend.Finish y) (sym q) (page_offset, (end_done, refl)))
 
 pub begins_by : (c : ColorTypeName) (w h : ℕ) → c ≡ name.Gray8 → w ≡ 1 → h ≡ 1
     → IsDone (new_image (color_type c) (inner_size c) w h (new_file Classic)) (Ok new_pixel) first after_begin
 unfolding tiff_on_literals
 begins_by c w h p q r =
-    let P : ColorTypeName → ℕ → ℕ → Type 0 = λ x y z. IsDone (new_image (color_type x) (inner_size x) y z (new_file Classic)) (Ok new_pixel) first after_begin in
+    let P : ColorTypeName → ℕ → ℕ → Type 0 =
+    λ x y z. IsDone (new_image (color_type x) (inner_size x) y z (new_file Classic))
+    (Ok new_pixel) first after_begin in
     subst (λ x. P x w h) (sym p) (subst (λ y. P name.Gray8 y h) (sym q) (subst (λ z. P name.Gray8 1 z) (sym r) page_begins))
 
-images_by : (ss : List ImageStep) (rs : List (Result StepReply TiffError)) (e : ImageEnd) (samples : List ℕ) → ss ≡ istep.WriteStrip samples ∷ [] → rs ≡ Ok reply.Nothing ∷ [] → e ≡ iend.Finish
+images_by : (ss : List ImageStep) (rs : List (Result StepReply TiffError)) (e : ImageEnd)
+    (samples : List ℕ) → ss ≡ istep.WriteStrip samples ∷ [] → rs ≡ Ok reply.Nothing ∷ []
+    → e ≡ iend.Finish
     → jobs.job_images ss rs e drawn_strip (Some page_offset) ≡ page_run.images
 images_by ss rs e samples p q r =
     ap (λ x. jobs.job_images x rs e drawn_strip (Some page_offset)) p
-    ∙ (ap (λ x. jobs.job_images (istep.WriteStrip samples ∷ []) x e drawn_strip (Some page_offset)) q
+    ∙ (ap (λ x. jobs.job_images (istep.WriteStrip samples
+    ∷ []) x e drawn_strip (Some page_offset)) q
     ∙ ap (λ x. jobs.job_images (istep.WriteStrip samples ∷ []) (Ok reply.Nothing ∷ []) x drawn_strip (Some page_offset)) r)
 
 whole : s.strip_job
@@ -162,7 +176,9 @@ whole j r samples c w h p u e q l =
       begins = begins_by j.color j.width j.height c w h;
       final = drawn_strip;
       after_steps = after_strip;
-      steps = steps_by j.steps.items r.steps.items (istep.WriteStrip samples) p q (subst (λ xs. jobs.StripStepIfFound drawn_new (cut_to 1 xs) (Ok reply.Nothing) after_begin after_strip drawn_strip) (sym u) (refl, inl strip_stands));
+      steps =
+          steps_by j.steps.items r.steps.items (istep.WriteStrip samples) p q
+          (subst (λ xs. jobs.StripStepIfFound drawn_new (cut_to 1 xs) (Ok reply.Nothing) after_begin after_strip drawn_strip) (sym u) (refl, inl strip_stands));
       offset = Some page_offset;
       after_end = after_end;
       ends = ends_by j.end r.last e l;
@@ -174,17 +190,20 @@ whole j r samples c w h p u e q l =
 no_steps : (ss : List ImageStep) (rs : List (Result StepReply TiffError)) → ss ≡ [] → rs ≡ []
     → jobs.AllStepped jobs.ImageStepped after_begin drawn_new ss rs after_begin drawn_new
 no_steps ss rs p q =
-    let P : List ImageStep → List (Result StepReply TiffError) → Type 0 = λ x y. jobs.AllStepped jobs.ImageStepped after_begin drawn_new x y after_begin drawn_new in
+    let P : List ImageStep → List (Result StepReply TiffError) → Type 0 =
+    λ x y. jobs.AllStepped jobs.ImageStepped after_begin drawn_new x y after_begin drawn_new in
     subst (λ x. P x rs) (sym p) (subst (λ y. P [] y) (sym q) (refl, refl))
 
-data_ends : (e : ImageEnd) (r : Result EndReply TiffError) (samples : List ℕ) → samples ≡ 7 ∷ 8 ∷ [] → e ≡ iend.WriteData samples → r ≡ Ok last.Nothing
+data_ends : (e : ImageEnd) (r : Result EndReply TiffError) (samples : List ℕ) → samples ≡ 7 ∷ 8 ∷ []
+    → e ≡ iend.WriteData samples → r ≡ Ok last.Nothing
     → jobs.ImageEnds after_begin new_pixel e r s.after_data (Some page_offset)
 data_ends e r samples u p q =
     subst (λ x. jobs.ImageEnds after_begin new_pixel x r s.after_data (Some page_offset)) (sym p)
     (subst (λ y. jobs.WritesDataIfFound new_pixel (cut_to 1 samples) y after_begin s.after_data (Some page_offset)) (sym q)
     (subst (λ xs. jobs.WritesDataIfFound new_pixel (cut_to 1 xs) (Ok last.Nothing) after_begin s.after_data (Some page_offset)) (sym u) (inl data_stands)))
 
-data_images : (ss : List ImageStep) (rs : List (Result StepReply TiffError)) (e : ImageEnd) (samples : List ℕ) → ss ≡ [] → samples ≡ 7 ∷ 8 ∷ [] → e ≡ iend.WriteData samples
+data_images : (ss : List ImageStep) (rs : List (Result StepReply TiffError)) (e : ImageEnd)
+    (samples : List ℕ) → ss ≡ [] → samples ≡ 7 ∷ 8 ∷ [] → e ≡ iend.WriteData samples
     → jobs.job_images ss rs e drawn_new (Some page_offset) ≡ s.data_images
 unfolding tiff_on_literals
 data_images ss rs e samples p u q =
@@ -193,7 +212,8 @@ data_images ss rs e samples p u q =
     ∙ ap (λ xs. jobs.images_at (Some page_offset) (Some (parts_left new_pixel (cut_to 1 xs))) new_pixel) u)
 
 -- the job runs in each run with the state of a new run
-pub data_ran : (old : Run) (j : ImageJob) (r : JobReply) (samples : List ℕ) → j.color ≡ name.Gray8 → j.width ≡ 1 → j.height ≡ 1
+pub data_ran : (old : Run) (j : ImageJob) (r : JobReply) (samples : List ℕ) → j.color ≡ name.Gray8
+    → j.width ≡ 1 → j.height ≡ 1
     → j.steps.items ≡ [] → samples ≡ 7 ∷ 8 ∷ [] → j.end ≡ iend.WriteData samples
     → r.steps.items ≡ [] → r.last ≡ Ok last.Nothing
     → let begun : Run = record old { standing = first } in
@@ -220,9 +240,12 @@ data_whole j r samples c w h p u e q l = data_ran run_begun j r samples c w h p 
 no_side : s.no_side_job
 unfolding tiff_on_literals
 no_side j r w h q l =
-    let T : ℕ → ℕ → WriteOutcome OpenImage = λ x y. new_image (color_type j.color) (inner_size j.color) x y (new_file Classic) in
+    let T : ℕ → ℕ → WriteOutcome OpenImage =
+    λ x y. new_image (color_type j.color) (inner_size j.color) x y (new_file Classic) in
     let new = jobs.run_after_job run_begun first (Err refusal) [] in
-    let P : ℕ → ℕ → Type 0 = λ x y. jobs.JobIsNotBegun (T x y) run_begun r new ⊎ jobs.ImageRuns (T x y) j r run_begun new in
+    let P : ℕ → ℕ → Type 0 =
+    λ x y. jobs.JobIsNotBegun (T x y) run_begun r new
+    ⊎ jobs.ImageRuns (T x y) j r run_begun new in
     subst (λ x. P x j.height) (sym w) (subst (λ y. P 0 y) (sym h)
     (inl (refusal, (first, ((q, l), (inl (refl, record { answer = refl; state = refl }), ap (λ x. jobs.run_after_job run_begun first x []) (sym l)))))))
 
@@ -234,7 +257,8 @@ kind_stays =
     (puts all_fields) (len_puts all_fields) (entries_puts all_fields))
 
 -- the file shows the image of the pixel
-shown : (f : FinishedImage) → (record { offset = 25; image = pixel_image }) ≡ f → Shows after_end.file.kind after_end.file.bytes f.offset f.image
+shown : (f : FinishedImage) → (record { offset = 25; image = pixel_image }) ≡ f
+    → Shows after_end.file.kind after_end.file.bytes f.offset f.image
 shown f h =
     subst (λ x. Shows after_end.file.kind after_end.file.bytes x.offset x.image) h
     (subst (λ kind. Shows kind after_end.file.bytes 25 pixel_image) (sym kind_stays)

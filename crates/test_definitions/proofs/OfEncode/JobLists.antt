@@ -47,7 +47,9 @@ use Rattle.tiff.proofs.OnLiterals.{tiff_on_literals}
 
 ops_are : tasks.wrote.ops ≡ image_ops
 unfolding tiff_on_literals
-ops_are = ap (λ t. Appended (7 ∷ []) ∷ Supplied (supplied_short 8) ∷ Supplied (supplied_short 1) ∷ Supplied (supplied_long 24) ∷ Supplied (supplied_long 1) ∷ t.ops) finishes
+ops_are =
+    ap (λ t. Appended (7 ∷ []) ∷ Supplied (supplied_short 8) ∷ Supplied (supplied_short 1)
+    ∷ Supplied (supplied_long 24) ∷ Supplied (supplied_long 1) ∷ t.ops) finishes
 
 next_is : tasks.wrote.next ≡ image_file
 unfolding tiff_on_literals
@@ -58,7 +60,8 @@ abbrev after_image : FileAndModel
 after_image = record { file = image_file; model = image_model }
 
 same_end : tasks.after_data ≡ after_image
-same_end = λ i. record { file = next_is i; model = model_after Classic (header ++ resolutions) tasks.after_begin.model (ops_are i) }
+same_end =
+    λ i. record { file = next_is i; model = model_after Classic (header ++ resolutions) tasks.after_begin.model (ops_are i) }
 
 -- ---- what the directory does
 
@@ -66,7 +69,8 @@ abbrev padded : FileState
 padded = record image_file { bytes = gray_file ++ (0 ∷ []) }
 
 abbrev after_pad : FileAndModel
-after_pad = record { file = padded; model = model_after Classic gray_file image_model (Appended (0 ∷ []) ∷ []) }
+after_pad =
+    record { file = padded; model = model_after Classic gray_file image_model (Appended (0 ∷ []) ∷ []) }
 
 abbrev no_fields : OpenDirectory
 no_fields = new_directory None false
@@ -79,7 +83,8 @@ abbrev three_end : FileState
 three_end = record image_file { bytes = three_file }
 
 abbrev after_three : FileAndModel
-after_three = record { file = three_end; model = model_after Classic padded.bytes after_pad.model (Listed no_fields.fields ∷ []) }
+after_three =
+    record { file = three_end; model = model_after Classic padded.bytes after_pad.model (Listed no_fields.fields ∷ []) }
 
 abbrev offset_200 : Offsets
 offset_200 = record { pointer = 200; link = 202 }
@@ -107,23 +112,29 @@ run_three = jobs.run_after_job run_image after_three (Ok (last.Offsets 200 202))
 steps_by : (ss : List DirectoryStep) (rs : List (Result StepReply TiffError)) → ss ≡ [] → rs ≡ []
     → jobs.AllStepped jobs.DirectoryStepped after_pad no_fields ss rs after_pad no_fields
 steps_by ss rs p q =
-    let P : List DirectoryStep → List (Result StepReply TiffError) → Type 0 = λ x y. jobs.AllStepped jobs.DirectoryStepped after_pad no_fields x y after_pad no_fields in
+    let P : List DirectoryStep → List (Result StepReply TiffError) → Type 0 =
+    λ x y. jobs.AllStepped jobs.DirectoryStepped after_pad no_fields x y after_pad no_fields in
     subst (λ x. P x rs) (sym p) (subst (λ y. P [] y) (sym q) (refl, refl))
 
-ends_by : (e : DirectoryEnd) (r : Result EndReply TiffError) → e ≡ end.Finish → r ≡ Ok (last.Offsets 200 202)
+ends_by : (e : DirectoryEnd) (r : Result EndReply TiffError) → e ≡ end.Finish
+    → r ≡ Ok (last.Offsets 200 202)
     → jobs.DirectoryEnds after_pad no_fields e r after_three (Some offset_200)
 ends_by e r p q =
-    let P : DirectoryEnd → Result EndReply TiffError → Type 0 = λ x y. jobs.DirectoryEnds after_pad no_fields x y after_three (Some offset_200) in
+    let P : DirectoryEnd → Result EndReply TiffError → Type 0 =
+    λ x y. jobs.DirectoryEnds after_pad no_fields x y after_three (Some offset_200) in
     subst (λ x. P x r) (sym p) (subst (λ y. P end.Finish y) (sym q) (three_ends, refl))
 
-directory_ran : (j : DirectoryJob) (r : JobReply) → j.chained ≡ false → j.parent ≡ None → j.steps.items ≡ [] → j.end ≡ end.Finish
-    → r.steps.items ≡ [] → r.last ≡ Ok (last.Offsets 200 202) → jobs.JobRan run_image (job.Directory j) r run_three
+directory_ran : (j : DirectoryJob) (r : JobReply) → j.chained ≡ false → j.parent ≡ None
+    → j.steps.items ≡ [] → j.end ≡ end.Finish
+    → r.steps.items ≡ [] → r.last ≡ Ok (last.Offsets 200 202)
+    → jobs.JobRan run_image (job.Directory j) r run_three
 directory_ran j r c p q e a l =
     subst (λ x. jobs.DirectoryRanBy run_image (jobs.named_parent run_image.offsets x) j r run_three) (sym p)
     (inr (record {
       first = no_fields;
       after_begin = after_pad;
-      begins = subst (λ x. IsDone (jobs.open_directory x image_file) (Ok no_fields) after_image after_pad) (sym c) pad_begins;
+      begins =
+          subst (λ x. IsDone (jobs.open_directory x image_file) (Ok no_fields) after_image after_pad) (sym c) pad_begins;
       final = no_fields;
       after_steps = after_pad;
       steps = steps_by j.steps.items r.steps.items q a;
@@ -133,15 +144,20 @@ directory_ran j r c p q e a l =
       state = ap (λ x. jobs.run_after_job run_image after_three x []) (sym l);
     }))
 
-three_ran : (js : List Job) (rs : List JobReply) → s.AreThree js → s.AreReplies rs 200 202 → jobs.JobsRun run_begun js rs run_three
+three_ran : (js : List Job) (rs : List JobReply) → s.AreThree js → s.AreReplies rs 200 202
+    → jobs.JobsRun run_begun js rs run_three
 three_ran js rs a b =
     let j = a.image in
-    let set : jobs.JobRan run_begun (job.Predictor predictor.None) b.first run_set = (b.first_steps, (b.first_last, ap (λ x. jobs.run_after_job run_begun first x []) (sym b.first_last))) in
-    let image = subst (λ x. jobs.ImageRan run_set j b.second (jobs.run_after_job run_set x (Ok last.Nothing) tasks.data_images)) same_end
+    let set : jobs.JobRan run_begun (job.Predictor predictor.None) b.first run_set =
+    (b.first_steps, (b.first_last, ap (λ x. jobs.run_after_job run_begun first x []) (sym b.first_last))) in
+    let image =
+    subst (λ x. jobs.ImageRan run_set j b.second (jobs.run_after_job run_set x (Ok last.Nothing) tasks.data_images)) same_end
     (data_ran run_set j b.second a.samples a.color a.width a.height a.steps a.given a.ending b.second_steps b.second_last) in
-    let rest = directory_ran a.directory b.third a.chained a.parent a.no_steps a.finish b.third_steps b.third_last in
+    let rest =
+    directory_ran a.directory b.third a.chained a.parent a.no_steps a.finish b.third_steps b.third_last in
     subst (λ x. jobs.JobsRun run_begun x rs run_three) (sym a.are)
-    (subst (λ y. jobs.JobsRun run_begun (job.Predictor predictor.None ∷ job.Image j ∷ job.Directory a.directory ∷ []) y run_three) (sym b.are)
+    (subst (λ y. jobs.JobsRun run_begun (job.Predictor predictor.None ∷ job.Image j
+    ∷ job.Directory a.directory ∷ []) y run_three) (sym b.are)
     (run_set, (set, (run_image, (image, (run_three, (rest, refl)))))))
 
 -- ---- what the file contains
@@ -160,7 +176,8 @@ three_bytes = ap (λ d. padded.bytes ++ d) (directory_by Classic [])
 three_stands : jobs.RunStands run_three
 three_stands =
     subst (λ file. FileContains Classic file after_three.model) three_bytes
-    (ops_stand Classic padded.bytes after_pad.model (Listed no_fields.fields ∷ []) pad_stands (none_listable, tt))
+    (ops_stand Classic padded.bytes after_pad.model (Listed no_fields.fields
+    ∷ []) pad_stands (none_listable, tt))
 
 -- ---- what the file shows
 
@@ -173,13 +190,16 @@ unfolding tiff_on_literals
 is_seven = refl
 
 three_grown : Grows image_model after_three.model
-three_grown = ops_grow Classic gray_file image_model (Appended (0 ∷ []) ∷ Listed no_fields.fields ∷ [])
+three_grown =
+    ops_grow Classic gray_file image_model (Appended (0 ∷ []) ∷ Listed no_fields.fields ∷ [])
 
 one_pixel : Shows Classic three_file 25 seven
-one_pixel = shown_alike three_file (pixel_shown three_file after_three.model three_grown three_stands) seven refl is_seven
+one_pixel =
+    shown_alike three_file (pixel_shown three_file after_three.model three_grown three_stands) seven refl is_seven
 
 three_shown : jobs.RunShows run_three
-three_shown f (inl e) = subst (λ (x : FinishedImage). Shows Classic three_file x.offset x.image) (sym e) one_pixel
+three_shown f (inl e) =
+    subst (λ (x : FinishedImage). Shows Classic three_file x.offset x.image) (sym e) one_pixel
 three_shown f (inr z) = absurd z
 
 pub three_jobs : s.three_jobs

@@ -46,7 +46,8 @@ not_over file t =
 
 -- the fields of a map that is made from a list, as the file contains them
 pub stood_of : (es : List (ℕ × Field))
-    → standing_fields Classic (from_entries es) ≡ from_entries (map (standing_entry Classic) (puts es))
+    → standing_fields Classic (from_entries es)
+    ≡ from_entries (map (standing_entry Classic) (puts es))
 stood_of es = ap (λ given. from_entries (map (standing_entry Classic) given)) (entries_puts es)
 
 -- the hand-made fields: their directory bytes, and the fields as the file contains them
@@ -55,7 +56,9 @@ wide_entries = entries_puts ((256, s.wide_field) ∷ [])
 
 listed : s.wide_listed
 unfolding tiff_on_literals
-listed = λ i. header ++ (le 2 (len_puts ((256, s.wide_field) ∷ []) i) ++ (flat_map (entry_bytes Classic) (wide_entries i) ++ le 4 0))
+listed =
+    λ i. header ++ (le 2 (len_puts ((256, s.wide_field) ∷ []) i)
+    ++ (flat_map (entry_bytes Classic) (wide_entries i) ++ le 4 0))
 
 wide_one : (e : ℕ × Field) → In e ((256, s.wide_field) ∷ []) → IsListable Classic e.0 e.1
 wide_one e (inl p) =
@@ -65,7 +68,8 @@ wide_one e (inr z) = absurd z
 
 wide_listable : AreListable Classic s.wide_fields
 wide_listable =
-    let P : List (ℕ × Field) → Type 0 = λ es. (e : ℕ × Field) → In e es → IsListable Classic e.0 e.1 in
+    let P : List (ℕ × Field) → Type 0 =
+    λ es. (e : ℕ × Field) → In e es → IsListable Classic e.0 e.1 in
     record {
       each = subst P (sym wide_entries) wide_one;
       few = subst (λ n. n < 256 ^ 2) (sym (len_puts ((256, s.wide_field) ∷ []))) (lit< tt);
@@ -75,7 +79,8 @@ stands : s.wide_stands
 stands =
     let m : Model = model_after Classic header (header_model Classic) (Listed s.wide_fields ∷ []) in
     subst (λ file. FileContains Classic file m) listed
-    (ops_stand Classic header (header_model Classic) (Listed s.wide_fields ∷ []) (its_header.header_stands Classic) (wide_listable, tt))
+    (ops_stand Classic header (header_model Classic) (Listed s.wide_fields
+    ∷ []) (its_header.header_stands Classic) (wide_listable, tt))
 
 -- the record of the directory at 8 in a model
 abbrev wide_by : FinMap nat_cmp Field → DirectoryRecord
@@ -92,7 +97,8 @@ its_directory : (fields : FinMap nat_cmp Field)
 its_directory fields t =
     let d : FinishedDirectory = record { offset = 8; fields = fields } in
     t.directories d (inl refl)
-    ∙ ap (λ n. let r : Result DirectoryRecord TiffError = Ok (record { entries = fields; next = link n }) in r) (either (own_link Classic d == own_link Classic d) 0)
+    ∙ ap (λ n. let r : Result DirectoryRecord TiffError =
+    Ok (record { entries = fields; next = link n }) in r) (either (own_link Classic d == own_link Classic d) 0)
 
 -- the fifth byte of the first field's value field
 abbrev fifth : List (ℕ × Field) → ℕ
@@ -101,7 +107,8 @@ fifth (e ∷ es) = slice_index e.1.value 4
 
 not_given : standing_fields Classic s.wide_fields ≡ s.wide_fields → ⊥
 not_given e = unequal 0 5 (lit< tt)
-    (sym (ap fifth (entries_standing Classic s.wide_fields ∙ ap (map (standing_entry Classic)) wide_entries))
+    (sym (ap fifth (entries_standing Classic s.wide_fields
+    ∙ ap (map (standing_entry Classic)) wide_entries))
     ∙ ap (λ m. fifth (entries m)) e ∙ ap fifth wide_entries)
 
 -- the header of `gray_file` gives the offset of its first page
@@ -115,13 +122,15 @@ header_is : (kind : FileKind) (i : Image) (t : ShowsFirst kind gray_file i)
 header_is kind i t = ok_inj _ _ (sym t.first ∙ gray_header)
 
 pub shown_at_25 : (i : Image) → ShowsFirst Classic gray_file i → Shows Classic gray_file 25 i
-shown_at_25 i t = subst (λ offset. Shows Classic gray_file offset i) (ap (λ (h : Header). h.first) (header_is Classic i t)) t.shows
+shown_at_25 i t =
+    subst (λ offset. Shows Classic gray_file offset i) (ap (λ (h : Header). h.first) (header_is Classic i t)) t.shows
 
 pub header_stands : s.header_stands
 header_stands = its_header.header_stands Classic
 
 pub past_end : s.past_end
-past_end = λ s. let l = s.within (record { offset = 7; bytes = 0 ∷ 0 ∷ [] }) (inl refl) in omega arith
+past_end =
+    λ s. let l = s.within (record { offset = 7; bytes = 0 ∷ 0 ∷ [] }) (inl refl) in omega arith
 
 pub own_22 : s.own_22
 own_22 = ap (λ n. link_offset Classic 8 n) (len_puts ((256, long_field 5) ∷ []))
@@ -142,7 +151,8 @@ pub shrinks : s.shrinks
 shrinks = λ g. g.regions s.one_region (inl refl)
 
 pub gray_shows : s.gray_shows
-gray_shows = record { offset = 25; first = gray_header; shows = shown_alike gray_file gray_shown (gray_image 1 1 (7 ∷ [])) refl refl }
+gray_shows =
+    record { offset = 25; first = gray_header; shows = shown_alike gray_file gray_shown (gray_image 1 1 (7 ∷ [])) refl refl }
 
 pub other_sample : s.other_sample
 other_sample = λ t.
@@ -150,7 +160,8 @@ other_sample = λ t.
     unequal 7 8 (lit< tt) (sym (sample_alike gray_file gray_shown i (shown_at_25 i t)))
 
 pub other_width : s.other_width
-other_width = λ t. unequal 1 2 (lit< tt) (ap (λ (p : PageRecord). p.width) (page_alike gray_file gray_shown (gray_image 2 1 (7 ∷ 7 ∷ [])) t))
+other_width =
+    λ t. unequal 1 2 (lit< tt) (ap (λ (p : PageRecord). p.width) (page_alike gray_file gray_shown (gray_image 2 1 (7 ∷ 7 ∷ [])) t))
 
 pub model_finished : s.model_finished
 model_finished =
@@ -164,7 +175,8 @@ pub wide_stands : s.wide_stands
 wide_stands = stands
 
 pub wide_as_given : s.wide_as_given
-wide_as_given = λ t. not_given (ap (λ d. d.entries) (ok_inj (wide_by (standing_fields Classic s.wide_fields)) (wide_by s.wide_fields)
+wide_as_given =
+    λ t. not_given (ap (λ d. d.entries) (ok_inj (wide_by (standing_fields Classic s.wide_fields)) (wide_by s.wide_fields)
     (sym (its_directory (standing_fields Classic s.wide_fields) stands) ∙ its_directory s.wide_fields t)))
 
 pub fits_appended : s.fits_appended
@@ -192,4 +204,5 @@ fits_appended = (
 pub fits_listed : s.fits_listed
 fits_listed = (wide_listable, ((inl refl, lit< tt), tt))
 
-pub ruleset worked = (past_end, own_22, link_22, whole_18, overlaid, new_link, shrinks, wide_listed, wide_stands, wide_as_given, fits_appended, fits_listed, model_finished)
+pub ruleset worked =
+    (past_end, own_22, link_22, whole_18, overlaid, new_link, shrinks, wide_listed, wide_stands, wide_as_given, fits_appended, fits_listed, model_finished)

@@ -10,7 +10,8 @@ use Rattle.tiff.proofs.OnLiterals.{tiff_on_literals}
 
 pub data_whole : s.data_whole
 unfolding tiff_on_literals
-data_whole = inl ((7 ∷ []) ∷ [], ((refl, tt), (refl, (tasks.page_offset, record { answer = images.pixel_data.0; state = refl }))))
+data_whole =
+    inl ((7 ∷ []) ∷ [], ((refl, tt), (refl, (tasks.page_offset, record { answer = images.pixel_data.0; state = refl }))))
 
 pub data_within : s.data_within
 unfolding tiff_on_literals
@@ -19,7 +20,8 @@ data_within =
 
 pub image_written : s.image_written
 unfolding tiff_on_literals
-image_written = inr (new_pixel, (tasks.after_begin.file, (record { answer = refl; state = refl }, data_whole)))
+image_written =
+    inr (new_pixel, (tasks.after_begin.file, (record { answer = refl; state = refl }, data_whole)))
 
 pub held : s.held
 held = end_held

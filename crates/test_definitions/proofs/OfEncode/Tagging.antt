@@ -36,14 +36,16 @@ none_count = len_puts []
 unit_count : count_of unit_set ≡ 1
 unit_count = len_puts ((296, short_field 2) ∷ [])
 
-two_count : count_of (with_fields none_set ((282, rational_field 8) ∷ (296, short_field 2) ∷ [])) ≡ 2
+two_count : count_of (with_fields none_set ((282, rational_field 8) ∷ (296, short_field 2) ∷ []))
+    ≡ 2
 two_count = len_puts ((282, rational_field 8) ∷ (296, short_field 2) ∷ [])
 
 x_count : count_of x_set ≡ 1
 x_count = len_puts ((282, rational_field 8) ∷ [])
 
 all_count : count_of all_set ≡ 3
-all_count = len_puts ((283, rational_field 16) ∷ (282, rational_field 8) ∷ (296, short_field 2) ∷ [])
+all_count =
+    len_puts ((283, rational_field 16) ∷ (282, rational_field 8) ∷ (296, short_field 2) ∷ [])
 
 unit_first : first_of unit_set ≡ 296
 unit_first = ap tag_of_first (entries_puts ((296, short_field 2) ∷ []))
@@ -53,7 +55,8 @@ x_first = ap tag_of_first (entries_puts ((282, rational_field 8) ∷ []))
 
 -- writing the first `k` of the three fields gives this directory and this file
 abbrev Set : ℕ → OpenDirectory → FileState → Type 0
-Set k next mid = EndsAsDefined (write_fields none_set (take k three_fields) (new_file Classic)) (Ok next) mid
+Set k next mid =
+    EndsAsDefined (write_fields none_set (take k three_fields) (new_file Classic)) (Ok next) mid
 
 set_none : (next : OpenDirectory) (mid : FileState) → Set 0 next mid → none_set ≡ next
 set_none next mid t = ok_inj none_set next t.answer
@@ -62,20 +65,29 @@ set_one : (next : OpenDirectory) (mid : FileState) → Set 1 next mid → unit_s
 unfolding tiff_on_literals
 set_one next mid t = ok_inj unit_set next t.answer
 
-set_two : (next : OpenDirectory) (mid : FileState) → Set 2 next mid → with_fields none_set ((282, rational_field 8) ∷ (296, short_field 2) ∷ []) ≡ next
+set_two : (next : OpenDirectory) (mid : FileState) → Set 2 next mid
+    → with_fields none_set ((282, rational_field 8) ∷ (296, short_field 2) ∷ []) ≡ next
 unfolding tiff_on_literals
-set_two next mid t = ok_inj (with_fields none_set ((282, rational_field 8) ∷ (296, short_field 2) ∷ [])) next t.answer
+set_two next mid t =
+    ok_inj (with_fields none_set ((282, rational_field 8) ∷ (296, short_field 2)
+    ∷ [])) next t.answer
 
 not_all : (k : ℕ) (mid : FileState) → k < 3 → Set k all_set mid → ⊥
-not_all zero mid l t = unequal 0 3 (lit< tt) (sym none_count ∙ (ap count_of (set_none all_set mid t) ∙ all_count))
-not_all (suc zero) mid l t = unequal 1 3 (lit< tt) (sym unit_count ∙ (ap count_of (set_one all_set mid t) ∙ all_count))
-not_all (suc (suc zero)) mid l t = unequal 2 3 (lit< tt) (sym two_count ∙ (ap count_of (set_two all_set mid t) ∙ all_count))
+not_all zero mid l t =
+    unequal 0 3 (lit< tt) (sym none_count ∙ (ap count_of (set_none all_set mid t) ∙ all_count))
+not_all (suc zero) mid l t =
+    unequal 1 3 (lit< tt) (sym unit_count ∙ (ap count_of (set_one all_set mid t) ∙ all_count))
+not_all (suc (suc zero)) mid l t =
+    unequal 2 3 (lit< tt) (sym two_count ∙ (ap count_of (set_two all_set mid t) ∙ all_count))
 not_all (suc (suc (suc k))) mid l t = omega (arith, l)
 
 not_left : (k : ℕ) (mid : FileState) → k < 3 → Set k x_set mid → ⊥
-not_left zero mid l t = unequal 0 1 (lit< tt) (sym none_count ∙ (ap count_of (set_none x_set mid t) ∙ x_count))
-not_left (suc zero) mid l t = unequal 282 296 (lit< tt) (sym x_first ∙ (sym (ap first_of (set_one x_set mid t)) ∙ unit_first))
-not_left (suc (suc zero)) mid l t = unequal 1 2 (lit< tt) (sym x_count ∙ (sym (ap count_of (set_two x_set mid t)) ∙ two_count))
+not_left zero mid l t =
+    unequal 0 1 (lit< tt) (sym none_count ∙ (ap count_of (set_none x_set mid t) ∙ x_count))
+not_left (suc zero) mid l t =
+    unequal 282 296 (lit< tt) (sym x_first ∙ (sym (ap first_of (set_one x_set mid t)) ∙ unit_first))
+not_left (suc (suc zero)) mid l t =
+    unequal 1 2 (lit< tt) (sym x_count ∙ (sym (ap count_of (set_two x_set mid t)) ∙ two_count))
 not_left (suc (suc (suc k))) mid l t = omega (arith, l)
 
 part : s.unit_alone
@@ -112,7 +124,8 @@ resolving_unit = inr (refl, (unit_set, (refl, part)))
 not_refused : s.resolving_refused
 unfolding tiff_on_literals
 not_refused e new (inl h) =
-    unequal 0 1 (lit< tt) (sym none_count ∙ (sym (ap (λ (i : OpenImage). count_of i.directory) h.0) ∙ unit_count))
+    unequal 0 1 (lit< tt) (sym none_count ∙ (sym (ap (λ (i : OpenImage). count_of i.directory) h.0)
+    ∙ unit_count))
 not_refused e new (inr h) = some_none h.0
 
 pub resolving_refused : s.resolving_refused
@@ -120,7 +133,8 @@ resolving_refused = not_refused
 
 not_far : s.resolving_far
 not_far bytes e new l (inl h) =
-    unequal 0 1 (lit< tt) (sym none_count ∙ (sym (ap (λ (i : OpenImage). count_of i.directory) h.0) ∙ unit_count))
+    unequal 0 1 (lit< tt) (sym none_count ∙ (sym (ap (λ (i : OpenImage). count_of i.directory) h.0)
+    ∙ unit_count))
 not_far bytes e new l (inr h) = some_none (sym (resolutions_far bytes l) ∙ h.0)
 
 pub resolving_far : s.resolving_far
@@ -128,7 +142,8 @@ resolving_far = not_far
 
 not_resolved : s.resolving_all
 not_resolved e new (inl h) =
-    unequal 0 3 (lit< tt) (sym none_count ∙ (sym (ap (λ (i : OpenImage). count_of i.directory) h.0) ∙ all_count))
+    unequal 0 3 (lit< tt) (sym none_count ∙ (sym (ap (λ (i : OpenImage). count_of i.directory) h.0)
+    ∙ all_count))
 not_resolved e new (inr h) =
     let same : all_set ≡ h.1.0 = ap (λ (i : OpenImage). i.directory) h.1.1.0 in
     all_stopped e new (subst (λ d. StopsInPart none_set three_fields e (new_file Classic) new d) (sym same) h.1.1.1)

@@ -27,7 +27,8 @@ IsFault (Ok x) = ⊥
 IsFault (Err e) = Unit {0}
 
 -- in an empty file no offset is entered
-only_none : (others : List ℕ) → AreEntered (link_from Classic LittleEndian []) [] (Some 0) others → (rest : List ℕ) × ([] ≡ others ++ rest)
+only_none : (others : List ℕ) → AreEntered (link_from Classic LittleEndian []) [] (Some 0) others
+    → (rest : List ℕ) × ([] ≡ others ++ rest)
 unfolding tiff_on_literals
 only_none [] h = ([], refl)
 only_none (offset ∷ others) h = absurd (subst IsFault h.2 tt)
@@ -42,7 +43,8 @@ IsOffset n (Some m) = n ≡ m
 IsOffset n None = ⊥
 
 -- accepted links end at an offset whose link leads nowhere
-pub stuck : (links : Links) (at last : ℕ) (x : Option (Option ℕ)) → get links at ≡ x → (IsLinked x → ⊥) → (at ≡ last → ⊥) → (others : List ℕ) → Goes links at others last → ⊥
+pub stuck : (links : Links) (at last : ℕ) (x : Option (Option ℕ)) → get links at ≡ x
+    → (IsLinked x → ⊥) → (at ≡ last → ⊥) → (others : List ℕ) → Goes links at others last → ⊥
 stuck links at last x e none apart [] h = apart h
 stuck links at last x e none apart (next ∷ others) h = none (subst IsLinked (sym h.0 ∙ e) tt)
 
@@ -64,11 +66,14 @@ none_longest = record { entered = tt; longest = only_none }
 
 pub one_not_longest : s.one_not_longest
 unfolding tiff_on_literals
-one_not_longest = λ h. (let more = h.longest (0 ∷ 6 ∷ []) (refl, Some 6, refl, (refl, None, refl, tt)) in let e = ap length more.1 in omega (arith, e))
+one_not_longest =
+    λ h. (let more = h.longest (0 ∷ 6 ∷ []) (refl, Some 6, refl, (refl, None, refl, tt)) in let e =
+    ap length more.1 in omega (arith, e))
 
 pub offsets_apart : s.offsets_apart
 unfolding IsDistinct
-offsets_apart = record { differ = ((refl, tt), (tt, tt)); below = λ offset h. grind (arith, nat_tests) }
+offsets_apart =
+    record { differ = ((refl, tt), (tt, tt)); below = λ offset h. grind (arith, nat_tests) }
 
 pub offset_twice : s.offset_twice
 unfolding IsDistinct
@@ -78,16 +83,19 @@ pub offset_past_end : s.offset_past_end
 offset_past_end = λ h. omega (arith, h.below 7 refl)
 
 pub first_link : s.first_link
-first_link = (record { free = looked [] 8; unclosed = λ h. stuck (s.accepted []) 20 8 None (looked [] 20) (λ x. x) (λ e. omega (arith, e)) h.0 h.1 }, refl)
+first_link =
+    (record { free = looked [] 8; unclosed = λ h. stuck (s.accepted []) 20 8 None (looked [] 20) (λ x. x) (λ e. omega (arith, e)) h.0 h.1 }, refl)
 
 pub same_link : s.same_link
 same_link = (looked ((8, Some 20) ∷ []) 8, refl)
 
 pub other_link : s.other_link
-other_link = (refl, inl (record { other = Some 20; accepted = looked ((8, Some 20) ∷ []) 8; differs = λ e. omega (arith, subst (IsOffset 20) e refl) }), refl)
+other_link =
+    (refl, inl (record { other = Some 20; accepted = looked ((8, Some 20) ∷ []) 8; differs = λ e. omega (arith, subst (IsOffset 20) e refl) }), refl)
 
 pub closing_link : s.closing_link
-closing_link = (refl, inr (record { free = looked ((8, Some 20) ∷ []) 20; closes = (20 ∷ [], (looked ((8, Some 20) ∷ []) 8, refl)) }), refl)
+closing_link =
+    (refl, inr (record { free = looked ((8, Some 20) ∷ []) 20; closes = (20 ∷ [], (looked ((8, Some 20) ∷ []) 8, refl)) }), refl)
 
 pub last_link : s.last_link
 last_link = (record { free = looked ((8, Some 20) ∷ []) 20; unclosed = λ h. h }, refl)
@@ -96,10 +104,12 @@ pub zero_link : s.zero_link
 zero_link = (looked ((20, None) ∷ (8, Some 20) ∷ []) 20, refl)
 
 pub second_parent : s.second_parent
-second_parent = (record { free = looked ((20, None) ∷ (8, Some 20) ∷ []) 30; unclosed = λ h. stuck (s.accepted ((20, None) ∷ (8, Some 20) ∷ [])) 20 30 (Some None) (looked ((20, None) ∷ (8, Some 20) ∷ []) 20) (λ x. x) (λ e. omega (arith, e)) h.0 h.1 }, refl)
+second_parent =
+    (record { free = looked ((20, None) ∷ (8, Some 20) ∷ []) 30; unclosed = λ h. stuck (s.accepted ((20, None) ∷ (8, Some 20) ∷ [])) 20 30 (Some None) (looked ((20, None) ∷ (8, Some 20) ∷ []) 20) (λ x. x) (λ e. omega (arith, e)) h.0 h.1 }, refl)
 
 pub own_link : s.own_link
-own_link = (refl, inr (record { free = looked ((30, Some 20) ∷ (20, None) ∷ (8, Some 20) ∷ []) 40; closes = ([], refl) }), refl)
+own_link =
+    (refl, inr (record { free = looked ((30, Some 20) ∷ (20, None) ∷ (8, Some 20) ∷ []) 40; closes = ([], refl) }), refl)
 
 pub ruleset worked = (
   the_first,

@@ -20,11 +20,13 @@ use Rattle.test_definitions.proofs.TagsHeld.{tag_held, tag_unheld}
 use Rattle.tiff.proofs.OnLiterals.{tiff_on_literals}
 
 -- a look-up in a directory's fields is a search in the list that they are made from
-by_list : (fields : List (ℕ × Field)) (q : ℕ) → get (from_entries {R = nat_cmp} fields) q ≡ find nat_cmp q fields
+by_list : (fields : List (ℕ × Field)) (q : ℕ)
+    → get (from_entries {R = nat_cmp} fields) q ≡ find nat_cmp q fields
 by_list = get-from_entries nat_cmp_total
 
 abbrev looks : (tag : ℕ)
-    → get (from_entries {R = nat_cmp} (reverse s.some_fields)) tag ≡ find nat_cmp tag (reverse s.some_fields)
+    → get (from_entries {R = nat_cmp} (reverse s.some_fields)) tag
+    ≡ find nat_cmp tag (reverse s.some_fields)
 looks tag = by_list (reverse s.some_fields) tag
 
 pub list_read : s.list_read
@@ -54,12 +56,14 @@ has_length = ap is_some (looks 257)
 pub value_readable : s.value_readable
 unfolding tiff_on_literals
 value_readable =
-    tag_held (one_entry ((8, 6) ∷ [])) ((258, shorts 3) ∷ []) None tag.BitsPerSample (record { placed = λ w k l h. in_first 8 6 [] k l h })
+    tag_held (one_entry ((8, 6) ∷ [])) ((258, shorts 3)
+    ∷ []) None tag.BitsPerSample (record { placed = λ w k l h. in_first 8 6 [] k l h })
 
 pub value_unreadable : s.value_unreadable
 unfolding tiff_on_literals
 value_unreadable =
-    tag_unheld (one_entry ((8, 5) ∷ [])) ((258, shorts 3) ∷ []) None tag.BitsPerSample (shorts 3) refl
+    tag_unheld (one_entry ((8, 5) ∷ [])) ((258, shorts 3)
+    ∷ []) None tag.BitsPerSample (shorts 3) refl
     (λ r. false≢true (r.placed (omega arith) 13 (omega arith) (omega arith)))
 
 pub other_readable : s.other_readable

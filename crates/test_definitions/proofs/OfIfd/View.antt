@@ -17,14 +17,18 @@ byte_datum n = search (rules, the_lemmas)
 pub short_datum : (n : ℕ) → plain_value (v.Short n) ≡ d.short n
 short_datum n = search (rules, the_lemmas)
 
-list_datum : (vs : Vec Value Global) → plain_value (v.List vs) ≡ d.list (plain_value_list_of (plain_values vs.items))
+list_datum : (vs : Vec Value Global)
+    → plain_value (v.List vs) ≡ d.list (plain_value_list_of (plain_values vs.items))
 list_datum vs = search (rules, the_lemmas)
 
 pub byte_seen : s.byte_seen
 byte_seen = byte_datum 3
 
-inner_datum : (vs : Vec Value Global) → vs.items ≡ (v.Byte 2 ∷ []) → plain_value (v.List vs) ≡ d.list (more (d.byte 2) none)
-inner_datum vs e = list_datum vs ∙ ap (λ xs. d.list (plain_value_list_of (plain_values xs))) e ∙ ap (λ x. d.list (more x none)) (byte_datum 2)
+inner_datum : (vs : Vec Value Global) → vs.items ≡ (v.Byte 2 ∷ [])
+    → plain_value (v.List vs) ≡ d.list (more (d.byte 2) none)
+inner_datum vs e =
+    list_datum vs ∙ ap (λ xs. d.list (plain_value_list_of (plain_values xs))) e
+    ∙ ap (λ x. d.list (more x none)) (byte_datum 2)
 
 pub list_seen : s.list_seen
 list_seen outer inner e f =
@@ -38,6 +42,7 @@ pub two_seen : s.two_seen
 two_seen = λ i. byte_datum 1 i ∷ short_datum 2 i ∷ []
 
 pub last_set : s.last_set
-last_set = get-insert nat_cmp_total (insert empty 256 s.one_byte) 256 (record s.one_byte { count = 2 }) 256
+last_set =
+    get-insert nat_cmp_total (insert empty 256 s.one_byte) 256 (record s.one_byte { count = 2 }) 256
 
 pub ruleset worked = (byte_seen, list_seen, float_seen, two_seen, last_set)

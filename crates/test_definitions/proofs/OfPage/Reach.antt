@@ -30,20 +30,24 @@ packed_needs_all r = false≢true (r 122 (omega arith) (omega arith))
 
 pub plane_needs_last : s.plane_needs_last
 unfolding tiff_on_literals
-plane_needs_last r = false≢true (r.chunk 0 (omega arith) 3 (omega arith) 12 (omega arith) (omega arith))
+plane_needs_last r =
+    false≢true (r.chunk 0 (omega arith) 3 (omega arith) 12 (omega arith) (omega arith))
 
 pub unit_needs_second : s.unit_needs_second
 unfolding tiff_on_literals
-unit_needs_second r = false≢true (r.chunk 1 (omega arith) 0 (omega arith) 28 (omega arith) (omega arith))
+unit_needs_second r =
+    false≢true (r.chunk 1 (omega arith) 0 (omega arith) 28 (omega arith) (omega arith))
 
 -- ---- the checks of a page
 
 pub checks_entries : s.checks_entries
-checks_entries = page_held (s.between 0 0) s.entry_fields None (record { placed = λ w. absurd (omega (arith, w)) }) refl
+checks_entries =
+    page_held (s.between 0 0) s.entry_fields None (record { placed = λ w. absurd (omega (arith, w)) }) refl
 
 pub checks_placed : s.checks_placed
 unfolding tiff_on_literals
-checks_placed = page_held (s.between 8 20) s.placed_fields None (record { placed = λ w k l h. in_first 8 12 [] k l h }) refl
+checks_placed =
+    page_held (s.between 8 20) s.placed_fields None (record { placed = λ w k l h. in_first 8 12 [] k l h }) refl
 
 pub checks_placed_all : s.checks_placed_all
 unfolding tiff_on_literals
@@ -52,7 +56,8 @@ checks_placed_all = λ r.
     (λ f. false≢true (f.placed (omega arith) 19 (omega arith) (omega arith))) (r.each tag.StripOffsets refl)
 
 pub checks_profile : s.checks_profile
-checks_profile = page_held (s.between 0 0) s.profile_fields None (record { placed = λ w. absurd (omega (arith, w)) }) refl
+checks_profile =
+    page_held (s.between 0 0) s.profile_fields None (record { placed = λ w. absurd (omega (arith, w)) }) refl
 
 -- three LONGs at 8 aren't readable in a source without readable bytes
 longs_unheld : FieldReadable (s.between 0 0) Classic LittleEndian (of LONG 3 s.eight) → ⊥
@@ -64,12 +69,15 @@ alone_found : (n : ℕ) (f : Field) → find nat_cmp n ((n, f) ∷ []) ≡ Some 
 alone_found n f = ap (λ r. cond (is_eq r) (Some f) None) (sym (nat_cmp_is n n Equal refl))
 
 -- the checks read each of some tags
-each_checked : (ts : List Tag) → list_all (λ t. is_page_tag (tag_number t)) ts ≡ true → s.AreChecked ts
+each_checked : (ts : List Tag) → list_all (λ t. is_page_tag (tag_number t)) ts ≡ true
+    → s.AreChecked ts
 each_checked [] e = tt
 each_checked (t ∷ ts) e =
     let f : Field = of LONG 3 s.eight in
-    let both = and_parts (is_page_tag (tag_number t)) (list_all (λ u. is_page_tag (tag_number u)) ts) e in (
-      λ r. tag_unheld (s.between 0 0) ((tag_number t, f) ∷ []) None t f (alone_found (tag_number t) f) longs_unheld (r.each t both.0),
+    let both =
+    and_parts (is_page_tag (tag_number t)) (list_all (λ u. is_page_tag (tag_number u)) ts) e in (
+      λ r. tag_unheld (s.between 0 0) ((tag_number t, f)
+          ∷ []) None t f (alone_found (tag_number t) f) longs_unheld (r.each t both.0),
       each_checked ts both.1,
     )
 

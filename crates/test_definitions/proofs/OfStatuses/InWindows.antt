@@ -31,7 +31,8 @@ of_field number at slice found =
 
 pub width_bytes : s.width_bytes
 unfolding tiff_on_literals tag_bytes page_directory
-width_bytes = ap (of_field 256 0 (0x01 ∷ 0x02 ∷ 0x03 ∷ [])) (get-from_entries nat_cmp_total fields 256)
+width_bytes =
+    ap (of_field 256 0 (0x01 ∷ 0x02 ∷ 0x03 ∷ [])) (get-from_entries nat_cmp_total fields 256)
 
 pub second_byte : s.second_byte
 unfolding tiff_on_literals tag_bytes page_directory
@@ -61,4 +62,5 @@ pub page_past : s.page_past
 unfolding tiff_on_literals list_tags page_directory
 page_past = refl
 
-pub ruleset worked = (width_bytes, second_byte, at_offset, no_height, width_listed, width_counted, page_past)
+pub ruleset worked =
+    (width_bytes, second_byte, at_offset, no_height, width_listed, width_counted, page_past)

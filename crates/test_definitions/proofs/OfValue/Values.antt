@@ -10,7 +10,8 @@ packs_one = record {
   storable = refl;
   stored = 0 ∷ 9 ∷ [];
   stands = record {
-    packs = record { blocks = Literal (9 ∷ []) ∷ []; are_blocks = ((lit≤ tt, lit≤ tt), tt); written = refl; is_list = refl; stands = refl };
+    packs =
+        record { blocks = Literal (9 ∷ []) ∷ []; are_blocks = ((lit≤ tt, lit≤ tt), tt); written = refl; is_list = refl; stands = refl };
     bound = lit≤ tt;
   };
   state = refl;

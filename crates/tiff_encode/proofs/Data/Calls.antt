@@ -14,7 +14,8 @@ use Rattle.tiff_encode.proofs.Image.FitsCalls.{IsDone, adding_done, bind_done}
 -- ---- calls that succeed
 
 -- if two calls in sequence succeed, each of the two succeeds
-going_answered : {A B : Type 0} (r : Result A TiffError) (ops : List WriteOp) (next : FileState) (rest : A → WriteCall B) (y : B)
+going_answered : {A B : Type 0} (r : Result A TiffError) (ops : List WriteOp) (next : FileState)
+    (rest : A → WriteCall B) (y : B)
     → (and_then r ops next rest).answer ≡ Ok y
     → (x : A) × ((r ≡ Ok x) × (and_then r ops next rest ≡ after_ops ops (rest x next)))
 going_answered (Ok x) ops next rest y h = (x, (refl, refl))
@@ -22,12 +23,15 @@ going_answered (Err e) ops next rest y h = absurd (ok_err (sym h))
 
 pub bind_answered : {A B : Type 0} (call : WriteCall A) (rest : A → WriteCall B) (file : FileState) (y : B)
     → ((call >>= rest) file).answer ≡ Ok y
-    → (x : A) × (((call file).answer ≡ Ok x) × ((call >>= rest) file ≡ after_ops (call file).ops (rest x (call file).next)))
-bind_answered call rest file y h = going_answered (call file).answer (call file).ops (call file).next rest y h
+    → (x : A) × (((call file).answer ≡ Ok x) × ((call >>= rest) file
+    ≡ after_ops (call file).ops (rest x (call file).next)))
+bind_answered call rest file y h =
+    going_answered (call file).answer (call file).ops (call file).next rest y h
 
 -- nothing refuses a call that succeeds
 pub cause_answered : {A : Type 0} (cause : Option TiffError) (call : WriteCall A) (file : FileState) (y : A)
-    → (by_cause cause call file).answer ≡ Ok y → (cause ≡ None) × (by_cause cause call file ≡ call file)
+    → (by_cause cause call file).answer ≡ Ok y
+    → (cause ≡ None) × (by_cause cause call file ≡ call file)
 cause_answered None call file y h = (refl, refl)
 cause_answered (Some e) call file y h = absurd (ok_err (sym h))
 
@@ -48,7 +52,8 @@ none_at parent (Supplied supplied ∷ ops) a = none_at parent ops a
 none_at parent (Listed fields ∷ ops) a = none_at parent ops a
 none_at parent (Linked offset target ∷ ops) a = absurd a
 
-at_joined : (parent : Option ℕ) (ops more : List WriteOp) → AreAt parent ops → AreAt parent more → AreAt parent (ops ++ more)
+at_joined : (parent : Option ℕ) (ops more : List WriteOp) → AreAt parent ops → AreAt parent more
+    → AreAt parent (ops ++ more)
 at_joined parent [] more a b = b
 at_joined parent (Appended x ∷ ops) more a b = at_joined parent ops more a b
 at_joined parent (Supplied x ∷ ops) more a b = at_joined parent ops more a b
@@ -56,7 +61,8 @@ at_joined parent (Listed x ∷ ops) more a b = at_joined parent ops more a b
 at_joined parent (Linked offset target ∷ ops) more a b = (a.0, at_joined parent ops more a.1 b)
 
 -- if each link among some changes is at the parent's offset, a last link is there
-pub last_at : (parent : Option ℕ) (before : List WriteOp) (offset target : ℕ) → AreAt parent (before ++ Linked offset target ∷ [])
+pub last_at : (parent : Option ℕ) (before : List WriteOp) (offset target : ℕ)
+    → AreAt parent (before ++ Linked offset target ∷ [])
     → parent ≡ Some offset
 last_at parent [] offset target a = a.0
 last_at parent (Appended x ∷ before) offset target a = last_at parent before offset target a
@@ -82,7 +88,8 @@ pub record Patches {A : Type 0} (parent : Option ℕ) (told : WriteOutcome A) (f
   pub links : link_count told.ops ≤ 1
   pub at : AreAt parent told.ops
 
-pub caused_patches : {A : Type 0} (parent : Option ℕ) (cause : Option TiffError) (call : WriteCall A) (file : FileState)
+pub caused_patches : {A : Type 0} (parent : Option ℕ) (cause : Option TiffError)
+    (call : WriteCall A) (file : FileState)
     → Patches parent (call file) file → Patches parent (by_cause cause call file) file
 caused_patches parent None call file p = p
 caused_patches parent (Some e) call file p =
@@ -90,14 +97,18 @@ caused_patches parent (Some e) call file p =
 
 -- a call that only appends, followed by another call
 module _ {A B : Type 0} (parent : Option ℕ) (rest : A → WriteCall B) where
-  going_refused : (r : Result A TiffError) (ops : List WriteOp) (next : FileState) (e : TiffError) → AreAppending ops
-      → ((x : A) → r ≡ Ok x → Patches parent (rest x next) next) → (and_then r ops next rest).answer ≡ Err e
+  going_refused : (r : Result A TiffError) (ops : List WriteOp) (next : FileState) (e : TiffError)
+      → AreAppending ops
+      → ((x : A) → r ≡ Ok x → Patches parent (rest x next) next)
+      → (and_then r ops next rest).answer ≡ Err e
       → AreAppending (and_then r ops next rest).ops
   going_refused (Err f) ops next e a p h = a
-  going_refused (Ok x) ops next e a p h = appending_joined ops (rest x next).ops a ((p x refl).refused e h)
+  going_refused (Ok x) ops next e a p h =
+      appending_joined ops (rest x next).ops a ((p x refl).refused e h)
 
   going_links : (r : Result A TiffError) (ops : List WriteOp) (next : FileState) → AreAppending ops
-      → ((x : A) → r ≡ Ok x → Patches parent (rest x next) next) → link_count (and_then r ops next rest).ops ≤ 1
+      → ((x : A) → r ≡ Ok x → Patches parent (rest x next) next)
+      → link_count (and_then r ops next rest).ops ≤ 1
   going_links (Err f) ops next a p = let n = no_links ops a in omega (arith, n)
   going_links (Ok x) ops next a p =
       let n = no_links ops a in
@@ -105,24 +116,31 @@ module _ {A B : Type 0} (parent : Option ℕ) (rest : A → WriteCall B) where
       omega (arith, n, l, count_joined ops (rest x next).ops)
 
   going_at : (r : Result A TiffError) (ops : List WriteOp) (next : FileState) → AreAppending ops
-      → ((x : A) → r ≡ Ok x → Patches parent (rest x next) next) → AreAt parent (and_then r ops next rest).ops
+      → ((x : A) → r ≡ Ok x → Patches parent (rest x next) next)
+      → AreAt parent (and_then r ops next rest).ops
   going_at (Err f) ops next a p = none_at parent ops a
-  going_at (Ok x) ops next a p = at_joined parent ops (rest x next).ops (none_at parent ops a) (p x refl).at
+  going_at (Ok x) ops next a p =
+      at_joined parent ops (rest x next).ops (none_at parent ops a) (p x refl).at
 
 -- a call that appends, followed by a call that may patch a link, patches at most that link
-pub bind_patches : {A B : Type 0} (parent : Option ℕ) (call : WriteCall A) (rest : A → WriteCall B) (file : FileState)
-    → IsAdding (call file) file → ((x : A) → (call file).answer ≡ Ok x → Patches parent (rest x (call file).next) (call file).next)
+pub bind_patches : {A B : Type 0} (parent : Option ℕ) (call : WriteCall A) (rest : A → WriteCall B)
+    (file : FileState)
+    → IsAdding (call file) file → ((x : A) → (call file).answer ≡ Ok x
+    → Patches parent (rest x (call file).next) (call file).next)
     → Patches parent ((call >>= rest) file) file
 bind_patches parent call rest file a p = record {
   done = bind_done call rest file (adding_done (call file) file a) (λ x h. (p x h).done);
-  refused = λ e h. going_refused parent rest (call file).answer (call file).ops (call file).next e a.appending p h;
+  refused =
+      λ e h. going_refused parent rest (call file).answer (call file).ops (call file).next e a.appending p h;
   links = going_links parent rest (call file).answer (call file).ops (call file).next a.appending p;
   at = going_at parent rest (call file).answer (call file).ops (call file).next a.appending p;
 }
 
 -- the model after two calls in sequence
-pub behind_model : {A B : Type 0} (first : WriteOutcome A) (second : WriteOutcome B) (file : FileState) (m : Model) → IsDone first file
-    → model_by file m (after_ops first.ops second) ≡ model_by first.next (model_by file m first) second
+pub behind_model : {A B : Type 0} (first : WriteOutcome A) (second : WriteOutcome B)
+    (file : FileState) (m : Model) → IsDone first file
+    → model_by file m (after_ops first.ops second)
+    ≡ model_by first.next (model_by file m first) second
 behind_model first second file m d =
     let n : Model = model_by file m first in
     model_joined file.kind file.bytes m first.ops second.ops

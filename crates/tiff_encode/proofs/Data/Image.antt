@@ -45,36 +45,44 @@ use Rattle.tiff_encode.proofs.Data.Begun.{new_adding, not_begun, new_is, Chains,
 
 -- the color of a page has no more samples than the page
 color_few : (interpretation : PhotometricInterpretation) (p : PageRecord) (most : ℕ) (color : ColorType)
-    → HasColor interpretation p most → color_from interpretation p ≡ Ok color → num_samples color ≤ most
+    → HasColor interpretation p most → color_from interpretation p ≡ Ok color
+    → num_samples color ≤ most
 color_few interpretation p most color has h =
     subst (λ x. num_samples x ≤ most) (ok_inj has.0 color (sym has.1.0 ∙ h)) has.1.1
 
 -- a page shows no more samples than the image has
-few_shown : (i : OpenImage) → IsOf i.color i.size → (offsets byte_counts : List ℕ) (color : ColorType)
-    → color_of (record (shown_page i) { offsets = offsets; byte_counts = byte_counts }) ≡ Ok color → num_samples color ≤ all_samples i
+few_shown : (i : OpenImage) → IsOf i.color i.size
+    → (offsets byte_counts : List ℕ) (color : ColorType)
+    → color_of (record (shown_page i) { offsets = offsets; byte_counts = byte_counts }) ≡ Ok color
+    → num_samples color ≤ all_samples i
 unfolding color_of
 few_shown i c offsets byte_counts color h =
     let p : PageRecord = record (shown_page i) { offsets = offsets; byte_counts = byte_counts } in
     let f : Family = c.family in
-    let many : length i.color.bits ≡ count_of f = ap (λ xs. length xs) c.bits ∙ length-replicate (count_of f) c.depth in
+    let many : length i.color.bits ≡ count_of f =
+    ap (λ xs. length xs) c.bits ∙ length-replicate (count_of f) c.depth in
     let has : HasColor i.color.interpretation p (all_samples i) =
     subst (λ m. HasColor m p (all_samples i)) (sym c.interpretation)
     (family_has p (all_samples i) (omega arith) f (omega (arith, many)) (omega (arith, many))) in
     color_few i.color.interpretation p (all_samples i) color has h
 
 -- the page shows the samples if the parts of the chunks show them
-pub shown_whole : PartsShow → (kind : FileKind) (file : List ℕ) (offset : ℕ) (i : OpenImage) (samples : List ℕ) (m : Model)
-    → RecordsImage kind m i [] → i.chunks ≡ [] → Shows kind file offset (image_with i (parts_left i samples))
+pub shown_whole : PartsShow → (kind : FileKind) (file : List ℕ) (offset : ℕ) (i : OpenImage)
+    (samples : List ℕ) (m : Model)
+    → RecordsImage kind m i [] → i.chunks ≡ []
+    → Shows kind file offset (image_with i (parts_left i samples))
     → Shows kind file offset (image_of_samples i samples)
 shown_whole show kind file offset i samples m h none s =
     let o = h.open_so in
     let drawn : IsValidImage i.width i.height (length i.color.bits) (length i.extra) i.form =
     record { wide = o.wide; high = o.high; few = o.few; cut = o.form } in
     let is_of : IsOf i.color i.size = is_of_family i o.name o.color o.size in
-    let width : shown_columns s.page s.color ≡ i.width = columns_shown i is_of o.wide o.form o.pixels s.page s.color s.is_image s.is_color in
+    let width : shown_columns s.page s.color ≡ i.width =
+    columns_shown i is_of o.wide o.form o.pixels s.page s.color s.is_image s.is_color in
     let height : s.page.height ≡ i.height = ap (λ p. p.height) s.is_image in
     let few : num_samples s.color ≤ all_samples i =
-    few_shown i is_of s.page.offsets s.page.byte_counts s.color (ap color_of (sym s.is_image) ∙ s.is_color) in
+    few_shown i is_of s.page.offsets s.page.byte_counts s.color (ap color_of (sym s.is_image)
+    ∙ s.is_color) in
     record {
       page = s.page;
       is_page = s.is_page;
@@ -84,7 +92,8 @@ shown_whole show kind file offset i samples m h none s =
       whole = s.whole;
       shows = λ x y sample xl yl sl.
           s.shows x y sample xl yl sl
-          ∙ show i samples x y sample drawn none (omega (arith, xl, width)) (omega (arith, yl, height)) (omega (arith, sl, few));
+          ∙ show i samples x y sample drawn none (omega (arith, xl, width))
+          (omega (arith, yl, height)) (omega (arith, sl, few));
     }
 
 -- ---- the image after its beginning
@@ -95,7 +104,8 @@ module _ (color : ColorTypeRecord) (size width height : ℕ) (old : FileState) (
   begins = new_image color size width height old
 
   begun_kind : mid.kind ≡ old.kind
-  begun_kind = ap (λ s. s.kind) begun.state ∙ (adding_done begins old (new_adding color size width height old)).kind
+  begun_kind =
+      ap (λ s. s.kind) begun.state ∙ (adding_done begins old (new_adding color size width height old)).kind
 
   -- the beginning of an image removes nothing from the file
   begun_stands : StillStands old mid
@@ -112,17 +122,21 @@ module _ (color : ColorTypeRecord) (size width height : ℕ) (old : FileState) (
       ap (λ j. j.directory.chained) (sym n.1.0) ∙ n.1.1.chained
 
   size_is : i.size ≡ size
-  size_is = let n = new_is color size width height old i begun.answer in ap (λ j. j.size) (sym n.1.0)
+  size_is =
+      let n = new_is color size width height old i begun.answer in ap (λ j. j.size) (sym n.1.0)
 
   no_chunks : i.chunks ≡ []
-  no_chunks = let n = new_is color size width height old i begun.answer in ap (λ j. j.chunks) (sym n.1.0)
+  no_chunks =
+      let n = new_is color size width height old i begun.answer in ap (λ j. j.chunks) (sym n.1.0)
 
   module _ (m : Model) (short : end_of mid < 2 ^ 64) where
     abbrev model : Model
     model = model_by old m begins
 
     begun_fits : OpsFit old.kind old.bytes m begins.ops × AreEntries i.directory.fields
-    begun_fits = new_image_fits old m color size width height i begun.answer (subst (λ s. end_of s < 2 ^ 64) begun.state short)
+    begun_fits =
+        new_image_fits old m color size width height i begun.answer (subst (λ s. end_of s
+        < 2 ^ 64) begun.state short)
 
     entries_are : AreEntries i.directory.fields
     entries_are = begun_fits.1
@@ -134,7 +148,8 @@ module _ (color : ColorTypeRecord) (size width height : ℕ) (old : FileState) (
         (subst (λ b. FileContains old.kind b model) (sym (ap (λ s. s.bytes) begun.state ∙ d.bytes))
         (ops_stand old.kind old.bytes m begins.ops s begun_fits.0))
 
-    parent_links : IsLink old.kind m old.chain → (offset : ℕ) → i.directory.parent ≡ Some offset → IsLink mid.kind model offset
+    parent_links : IsLink old.kind m old.chain → (offset : ℕ) → i.directory.parent ≡ Some offset
+        → IsLink mid.kind model offset
     parent_links l offset h =
         let same : old.chain ≡ offset = some_inj old.chain offset (sym parent_is ∙ h) in
         subst (λ kind. IsLink kind model offset) (sym begun_kind)
@@ -144,17 +159,21 @@ module _ (color : ColorTypeRecord) (size width height : ℕ) (old : FileState) (
 -- ---- the length of the file after the call
 
 -- a file in which the sink fails at a link is at least as long as before
-torn_longer : (i : OpenImage) (samples : List ℕ) (stored : List (List ℕ)) (e : TiffError) (old new : FileState)
-    → LinkWriteFailed (write_image_data i samples stored old).ops e old new → end_of old ≤ end_of new
+torn_longer : (i : OpenImage) (samples : List ℕ) (stored : List (List ℕ)) (e : TiffError)
+    (old new : FileState)
+    → LinkWriteFailed (write_image_data i samples stored old).ops e old new
+    → end_of old ≤ end_of new
 torn_longer i samples stored e old new t =
     let more : List ℕ = all_appended old.kind t.before in
     let over : List ℕ = take t.count (le (offset_len old.kind) t.target) in
     let a = put_longer (old.bytes ++ more) t.offset over in
-    let b : end_of new ≡ length (put (old.bytes ++ more) t.offset over) = ap (λ s. length s.bytes) t.state in
+    let b : end_of new ≡ length (put (old.bytes ++ more) t.offset over) =
+    ap (λ s. length s.bytes) t.state in
     omega (arith, a, b, length-append old.bytes more)
 
 -- a file with the written samples is at least as long as before
-written_longer : (i : OpenImage) (samples : List ℕ) (old new : FileState) → IsWritten i samples old new → end_of old ≤ end_of new
+written_longer : (i : OpenImage) (samples : List ℕ) (old new : FileState)
+    → IsWritten i samples old new → end_of old ≤ end_of new
 written_longer i samples old new w =
     let told : WriteOutcome Offsets = write_image_data i samples w.stored old in
     let a = done_longer told old (data_patches i samples w.stored old).done in
@@ -163,7 +182,8 @@ written_longer i samples old new w =
 
 -- ---- the law
 
-module _ (parts_show : PartsShow) (color : ColorTypeRecord) (size width height : ℕ) (samples : List ℕ) (old new : FileState) (m : Model)
+module _ (parts_show : PartsShow) (color : ColorTypeRecord) (size width height : ℕ)
+    (samples : List ℕ) (old new : FileState) (m : Model)
     (wide : width < 2 ^ 32) (high : height < 2 ^ 32)
     (small : AreNumbers size samples) (short : IsShortFile new) (stands : FileContains old.kind old.bytes m) (link : IsLink old.kind m old.chain)
     (i : OpenImage) (mid : FileState) (begun : EndsAsDefined (new_image color size width height old) (Ok i) mid) where
@@ -171,13 +191,15 @@ module _ (parts_show : PartsShow) (color : ColorTypeRecord) (size width height :
   first_model = model_by old m (new_image color size width height old)
 
   -- the call fails to write the samples
-  image_stopped : (A : Type 0) (e : TiffError) → (let r : Result A TiffError = Err e in WritesImageData i samples r mid new)
+  image_stopped : (A : Type 0) (e : TiffError)
+      → (let r : Result A TiffError = Err e in WritesImageData i samples r mid new)
       → (let r : Result A TiffError = Err e in LeavesNewImage color size width height samples r old new m)
   image_stopped A e h =
       let r : Result A TiffError = Err e in
       elim (data_stopped A i samples e mid new h) as (λ _. LeavesNewImage color size width height samples r old new m) [
         | inl x ↦ inl (
-            let s : FileContains old.kind mid.bytes m = begun_stands color size width height old i mid begun m stands in
+            let s : FileContains old.kind mid.bytes m =
+            begun_stands color size width height old i mid begun m stands in
             let k : mid.kind ≡ old.kind = begun_kind color size width height old i mid begun in
             subst (λ kind. FileContains kind new.bytes m) k (x m (subst (λ kind. FileContains kind mid.bytes m) (sym k) s)))
         | inr t ↦ inr (
@@ -209,7 +231,8 @@ module _ (parts_show : PartsShow) (color : ColorTypeRecord) (size width height :
     same_kind = begun_kind color size width height old i mid begun
 
     image_small : AreNumbers i.size samples
-    image_small = subst (λ n. AreNumbers n samples) (sym (size_is color size width height old i mid begun)) small
+    image_small =
+        subst (λ n. AreNumbers n samples) (sym (size_is color size width height old i mid begun)) small
 
     abbrev told : WriteOutcome Offsets
     told = write_image_data i samples w.stored mid
@@ -222,11 +245,13 @@ module _ (parts_show : PartsShow) (color : ColorTypeRecord) (size width height :
         (parent_links color size width height old i mid begun m mid_short link) w.told
 
     -- the model contains the image
-    image_held : (name : ColorTypeName) → color ≡ color_type name → size ≡ inner_size name → RecordsImage old.kind first_model i []
+    image_held : (name : ColorTypeName) → color ≡ color_type name → size ≡ inner_size name
+        → RecordsImage old.kind first_model i []
     image_held name c s =
         let P : ColorTypeRecord → ℕ → Type 0 = λ x n. (new_image x n width height old).answer ≡ Ok i
         → RecordsImage old.kind (model_by old m (new_image x n width height old)) i [] in
-        let named : P (color_type name) (inner_size name) = begins_open old m name width height i wide high in
+        let named : P (color_type name) (inner_size name) =
+        begins_open old m name width height i wide high in
         subst (λ x. P x size) (sym c) (subst (λ n. P (color_type name) n) (sym s) named) begun.answer
 
     -- the page shows the samples
@@ -247,9 +272,11 @@ module _ (parts_show : PartsShow) (color : ColorTypeRecord) (size width height :
         let ended = data_ended i samples mid new w in
         let last : OpenImage = ended.0 in
         let end : FileState = (data_chunks i samples w.stored mid mid).next in
-        let told_last : (finish_image last end).answer ≡ Ok w.offsets = ap (λ t. t.answer) (sym ended.1.1) ∙ w.told.answer in
+        let told_last : (finish_image last end).answer ≡ Ok w.offsets =
+        ap (λ t. t.answer) (sym ended.1.1) ∙ w.told.answer in
         let chained : last.directory.chained ≡ true =
-        ap (λ d. d.chained) (same_directory i samples w.stored mid last ended.1.0) ∙ chained_is color size width height old i mid begun in
+        ap (λ d. d.chained) (same_directory i samples w.stored mid last ended.1.0)
+        ∙ chained_is color size width height old i mid begun in
         let done = chunks_done i (parts_left i samples) w.stored mid in
         let n : Model = model_by mid first_model (data_chunks i samples w.stored mid mid) in
         let all : Chains mid first_model told =
@@ -265,12 +292,15 @@ module _ (parts_show : PartsShow) (color : ColorTypeRecord) (size width height :
         let ended = data_ended i samples mid new w in
         let last : OpenImage = ended.0 in
         let end : FileState = (data_chunks i samples w.stored mid mid).next in
-        let told_last : (finish_image last end).answer ≡ Ok w.offsets = ap (λ t. t.answer) (sym ended.1.1) ∙ w.told.answer in
+        let told_last : (finish_image last end).answer ≡ Ok w.offsets =
+        ap (λ t. t.answer) (sym ended.1.1) ∙ w.told.answer in
         let parent : last.directory.parent ≡ Some old.chain =
-        ap (λ d. d.parent) (same_directory i samples w.stored mid last ended.1.0) ∙ parent_is color size width height old i mid begun in
+        ap (λ d. d.parent) (same_directory i samples w.stored mid last ended.1.0)
+        ∙ parent_is color size width height old i mid begun in
         let done = chunks_done i (parts_left i samples) w.stored mid in
         let n : Model = model_by mid first_model (data_chunks i samples w.stored mid mid) in
-        subst (λ t. (model_by mid first_model t).links old.chain ≡ w.offsets.pointer) (sym ended.1.1)
+        subst (λ t. (model_by mid first_model t).links old.chain
+        ≡ w.offsets.pointer) (sym ended.1.1)
         (behind_linked (data_chunks i samples w.stored mid mid) (finish_image last end) mid first_model old.chain w.offsets.pointer done
         (image_linked last end n w.offsets old.chain told_last parent))
 
@@ -281,10 +311,13 @@ module _ (parts_show : PartsShow) (color : ColorTypeRecord) (size width height :
         let ended = data_ended i samples mid new w in
         let last : OpenImage = ended.0 in
         let end : FileState = (data_chunks i samples w.stored mid mid).next in
-        let told_last : (finish_image last end).answer ≡ Ok w.offsets = ap (λ t. t.answer) (sym ended.1.1) ∙ w.told.answer in
-        let first = done_longer begins old (adding_done begins old (new_adding color size width height old)) in
+        let told_last : (finish_image last end).answer ≡ Ok w.offsets =
+        ap (λ t. t.answer) (sym ended.1.1) ∙ w.told.answer in
+        let first =
+        done_longer begins old (adding_done begins old (new_adding color size width height old)) in
         let middle : end_of mid ≡ end_of begins.next = ap (λ s. end_of s) begun.state in
-        let chunks = done_longer (data_chunks i samples w.stored mid mid) mid (chunks_done i (parts_left i samples) w.stored mid) in
+        let chunks =
+        done_longer (data_chunks i samples w.stored mid mid) mid (chunks_done i (parts_left i samples) w.stored mid) in
         let tags = image_placed last end w.offsets told_last in
         omega (arith, first, middle, chunks, tags)
 
@@ -298,7 +331,8 @@ module _ (parts_show : PartsShow) (color : ColorTypeRecord) (size width height :
       told = w.told;
       after = model_by mid first_model told;
       after_is = refl;
-      stands = subst (λ kind. FileContains kind new.bytes (model_by mid first_model told)) same_kind all_stands;
+      stands =
+          subst (λ kind. FileContains kind new.bytes (model_by mid first_model told)) same_kind all_stands;
       open_so = λ name c s. (image_held name c s).open_so;
       shows = image_shown;
       next = image_next;
@@ -307,18 +341,23 @@ module _ (parts_show : PartsShow) (color : ColorTypeRecord) (size width height :
     }
 
 -- what a call that writes a new image leaves, if the parts of the chunks show the samples
-pub new_image_leaves : PartsShow → {A : Type 0} (color : ColorTypeRecord) (size width height : ℕ) (samples : List ℕ) (r : Result A TiffError)
+pub new_image_leaves : PartsShow
+    → {A : Type 0} (color : ColorTypeRecord) (size width height : ℕ) (samples : List ℕ)
+    (r : Result A TiffError)
     (old new : FileState) (m : Model) → width < 2 ^ 32 → height < 2 ^ 32
     → AreNumbers size samples → IsShortFile new
     → FileContains old.kind old.bytes m → IsLink old.kind m old.chain
-    → WritesImage color size width height samples r old new → LeavesNewImage color size width height samples r old new m
-new_image_leaves show {A = A} color size width height samples (Ok x) old new m wide high small short stands link h =
+    → WritesImage color size width height samples r old new
+    → LeavesNewImage color size width height samples r old new m
+new_image_leaves show {A = A} color size width height samples
+    (Ok x) old new m wide high small short stands link h =
     elim h as (λ _. LeavesNewImage {A = A} color size width height samples (Ok x) old new m) [
       | inl n ↦ absurd n
       | inr w ↦ image_written show color size width height samples old new m wide high small short stands link w.0 w.1.0 w.1.1.0
           (data_written A w.0 samples x w.1.0 new w.1.1.1)
     ]
-new_image_leaves show {A = A} color size width height samples (Err e) old new m wide high small short stands link h =
+new_image_leaves show {A = A} color size width height samples
+    (Err e) old new m wide high small short stands link h =
     elim h as (λ _. LeavesNewImage {A = A} color size width height samples (Err e) old new m) [
       | inl n ↦ inl (not_begun color size width height old e new n m stands)
       | inr w ↦ image_stopped show color size width height samples old new m wide high small short stands link w.0 w.1.0 w.1.1.0

@@ -32,18 +32,22 @@ use Rattle.tiff_encode.proofs.Data.Chunks.{chunks_adding, data_patches, data_fit
 
 -- each model that describes a file describes a later file
 abbrev pub StillStands : FileState → FileState → Type 0
-StillStands old new = (m : Model) → FileContains old.kind old.bytes m → FileContains old.kind new.bytes m
+StillStands old new =
+    (m : Model) → FileContains old.kind old.bytes m → FileContains old.kind new.bytes m
 
 -- after an append, each model that describes the file before describes the file after it
-pub appended_stands : {A : Type 0} (told : WriteOutcome A) (old new : FileState) → IsDone told old → AreAppending told.ops → new ≡ told.next
+pub appended_stands : {A : Type 0} (told : WriteOutcome A) (old new : FileState) → IsDone told old
+    → AreAppending told.ops → new ≡ told.next
     → StillStands old new
 appended_stands told old new d a n m s =
     let all : List ℕ = all_appended old.kind told.ops in
     begun_leaves told.ops (length all) old new.bytes m
-    (ap (λ file. file.bytes) n ∙ d.bytes ∙ ops_append old.kind old.bytes told.ops a ∙ ap (λ xs. old.bytes ++ xs) (sym (take-length all))) s
+    (ap (λ file. file.bytes) n ∙ d.bytes ∙ ops_append old.kind old.bytes told.ops a
+    ∙ ap (λ xs. old.bytes ++ xs) (sym (take-length all))) s
 
 -- after a call fails, the earlier model describes the file, or the sink fails at the parent's link
-pub patched_fails : {A : Type 0} (parent : Option ℕ) (told : WriteOutcome A) (e : TiffError) (old new : FileState) → Patches parent told old
+pub patched_fails : {A : Type 0} (parent : Option ℕ) (told : WriteOutcome A) (e : TiffError)
+    (old new : FileState) → Patches parent told old
     → CallFails told e old new → StillStands old new ⊎ LinkWriteFailed told.ops e old new
 patched_fails parent told e old new p h =
     elim h as (λ _. StillStands old new ⊎ LinkWriteFailed told.ops e old new) [
@@ -58,7 +62,8 @@ patched_fails parent told e old new p h =
     ]
 
 -- the sink fails while it writes the parent's link
-module _ {A : Type 0} (parent : Option ℕ) (told : WriteOutcome A) (e : TiffError) (old new : FileState) (m : Model) (p : Patches parent told old)
+module _ {A : Type 0} (parent : Option ℕ) (told : WriteOutcome A) (e : TiffError)
+    (old new : FileState) (m : Model) (p : Patches parent told old)
     (f : Fits told old m (λ _. Unit {0})) (l : (offset : ℕ) → parent ≡ Some offset → IsLink old.kind m offset) (short : IsShortFile new)
     (s : FileContains old.kind old.bytes m) (t : LinkWriteFailed told.ops e old new) where
   -- the changes before the parent's link append
@@ -73,9 +78,11 @@ module _ {A : Type 0} (parent : Option ℕ) (told : WriteOutcome A) (e : TiffErr
       let n : ℕ = offset_len old.kind in
       let whole : List ℕ = le n t.target in
       let file : List ℕ = old.bytes ++ all_appended old.kind t.before in
-      let at : parent ≡ Some t.offset = last_at parent t.before t.offset t.target (subst (λ ds. AreAt parent ds) t.last p.at) in
+      let at : parent ≡ Some t.offset =
+      last_at parent t.before t.offset t.target (subst (λ ds. AreAt parent ds) t.last p.at) in
       let within = (s.apart t.offset (l t.offset at)).within in
-      let room : t.offset + n ≤ length file = omega (arith, within, length-append old.bytes (all_appended old.kind t.before)) in
+      let room : t.offset + n ≤ length file =
+      omega (arith, within, length-append old.bytes (all_appended old.kind t.before)) in
       let many : length whole ≡ n = length-le 0 n t.target in
       let done : told.next.bytes ≡ put file t.offset whole =
       p.done.bytes ∙ ap (bytes_after old.kind old.bytes) t.last
@@ -90,7 +97,8 @@ module _ {A : Type 0} (parent : Option ℕ) (told : WriteOutcome A) (e : TiffErr
 
   torn_fits : (r : Result A TiffError) → told.answer ≡ r → OpsFit old.kind old.bytes m told.ops
   torn_fits (Ok x) h = (f x h torn_short).0
-  torn_fits (Err g) h = absurd (ends_torn t.before t.offset t.target (subst (λ ds. AreAppending ds) t.last (p.refused g h)))
+  torn_fits (Err g) h =
+      absurd (ends_torn t.before t.offset t.target (subst (λ ds. AreAppending ds) t.last (p.refused g h)))
 
   pub patched_torn : LeavesTorn told e old new m
   patched_torn =
@@ -100,17 +108,21 @@ module _ {A : Type 0} (parent : Option ℕ) (told : WriteOutcome A) (e : TiffErr
       record {
         torn = t;
         holds = x.0;
-        stands = subst (λ b. FileContains old.kind b (with_link old.kind (model_after old.kind old.bytes m t.before) t.offset x.0))
+        stands =
+            subst (λ b. FileContains old.kind b (with_link old.kind (model_after old.kind old.bytes m t.before) t.offset x.0))
             (sym (ap (λ f. f.bytes) t.state)) x.1;
       }
 
 -- after a call succeeds, the model with its changes describes the file
-pub patched_stands : {A : Type 0} (parent : Option ℕ) (told : WriteOutcome A) (x : A) (old new : FileState) (m : Model) → Patches parent told old
-    → Fits told old m (λ _. Unit {0}) → IsShortFile new → FileContains old.kind old.bytes m → EndsAsDefined told (Ok x) new
+pub patched_stands : {A : Type 0} (parent : Option ℕ) (told : WriteOutcome A) (x : A)
+    (old new : FileState) (m : Model) → Patches parent told old
+    → Fits told old m (λ _. Unit {0}) → IsShortFile new → FileContains old.kind old.bytes m
+    → EndsAsDefined told (Ok x) new
     → FileContains old.kind new.bytes (model_by old m told)
 patched_stands parent told x old new m p f short s t =
     let fit = f x t.answer (subst (λ file. end_of file < 2 ^ 64) t.state short) in
-    subst (λ b. FileContains old.kind b (model_by old m told)) (sym (ap (λ file. file.bytes) t.state ∙ p.done.bytes))
+    subst (λ b. FileContains old.kind b (model_by old m told)) (sym (ap (λ file. file.bytes) t.state
+    ∙ p.done.bytes))
     (ops_stand old.kind old.bytes m told.ops s fit.0)
 
 -- ---- `write_data`
@@ -118,10 +130,12 @@ patched_stands parent told x old new m p f short s t =
 -- the earlier model describes the file, or the sink fails at the parent's link
 abbrev pub Stopped : OpenImage → List ℕ → TiffError → FileState → FileState → Type 0
 Stopped i samples e old new =
-    StillStands old new ⊎ ((stored : List (List ℕ)) × LinkWriteFailed (write_image_data i samples stored old).ops e old new)
+    StillStands old new ⊎ ((stored : List (List ℕ))
+    × LinkWriteFailed (write_image_data i samples stored old).ops e old new)
 
 -- if `write_data` stops within the chunks, the earlier model describes the file
-pub within_stands : (i : OpenImage) (parts : List (List ℕ)) (e : TiffError) (old new : FileState) → StopsWithin i parts e old new → StillStands old new
+pub within_stands : (i : OpenImage) (parts : List (List ℕ)) (e : TiffError) (old new : FileState)
+    → StopsWithin i parts e old new → StillStands old new
 within_stands i parts e old new h =
     let stored : List (List ℕ) = h.0 in
     let told : WriteOutcome OpenImage = write_chunks i parts stored old in
@@ -130,13 +144,17 @@ within_stands i parts e old new h =
       | inl t ↦ appended_stands told old new (adding_done told old a) a.appending t.state
       | inr x ↦ elim x [
         | inl c ↦ λ m s. begun_leaves told.ops c.count old new.bytes m (ap (λ f. f.bytes) c.state) s
-        | inr c ↦ λ m s. let d = c.1 in begun_leaves told.ops d.count old new.bytes m (ap (λ f. f.bytes) d.state) s
+        | inr c ↦ λ m s. let d =
+            c.1 in begun_leaves told.ops d.count old new.bytes m (ap (λ f. f.bytes) d.state) s
       ]
     ]
 
-stopped_by : (A : Type 0) (cause : Option TiffError) (i : OpenImage) (samples : List ℕ) (e : TiffError) (old new : FileState)
-    → (let r : Result A TiffError = Err e in WritesDataBy cause i samples r old new) → Stopped i samples e old new
-stopped_by A (Some c) i samples e old new h = inl (λ m s. subst (λ b. FileContains old.kind b m) (sym (ap (λ f. f.bytes) h.1)) s)
+stopped_by : (A : Type 0) (cause : Option TiffError) (i : OpenImage) (samples : List ℕ)
+    (e : TiffError) (old new : FileState)
+    → (let r : Result A TiffError = Err e in WritesDataBy cause i samples r old new)
+    → Stopped i samples e old new
+stopped_by A (Some c) i samples e old new h =
+    inl (λ m s. subst (λ b. FileContains old.kind b m) (sym (ap (λ f. f.bytes) h.1)) s)
 stopped_by A None i samples e old new h =
     elim h as (λ _. Stopped i samples e old new) [
       | inl w ↦ (let told : WriteOutcome Offsets = write_image_data i samples w.0 old in
@@ -149,13 +167,17 @@ stopped_by A None i samples e old new h =
 
 -- `write_data` fails
 pub data_stopped : (A : Type 0) (i : OpenImage) (samples : List ℕ) (e : TiffError) (old new : FileState)
-    → (let r : Result A TiffError = Err e in WritesImageData i samples r old new) → Stopped i samples e old new
-data_stopped A i samples e old new h = stopped_by A (write_image_data_cause old i (length samples)) i samples e old new h
+    → (let r : Result A TiffError = Err e in WritesImageData i samples r old new)
+    → Stopped i samples e old new
+data_stopped A i samples e old new h =
+    stopped_by A (write_image_data_cause old i (length samples)) i samples e old new h
 
-pub data_torn : (i : OpenImage) (samples : List ℕ) (stored : List (List ℕ)) (e : TiffError) (old new : FileState) (m : Model)
+pub data_torn : (i : OpenImage) (samples : List ℕ) (stored : List (List ℕ)) (e : TiffError)
+    (old new : FileState) (m : Model)
     → AreEntries i.directory.fields → IsShortFile new → FileContains old.kind old.bytes m
     → ((offset : ℕ) → i.directory.parent ≡ Some offset → IsLink old.kind m offset)
-    → LinkWriteFailed (write_image_data i samples stored old).ops e old new → LeavesTorn (write_image_data i samples stored old) e old new m
+    → LinkWriteFailed (write_image_data i samples stored old).ops e old new
+    → LeavesTorn (write_image_data i samples stored old) e old new m
 data_torn i samples stored e old new m a short s p t =
     patched_torn i.directory.parent (write_image_data i samples stored old) e old new m
     (data_patches i samples stored old) (data_fits i samples stored old m a p) p short s t
@@ -169,9 +191,11 @@ pub record IsWritten (i : OpenImage) (samples : List ℕ) (old new : FileState) 
   pub told : EndsAsDefined (write_image_data i samples stored old) (Ok offsets) new
   pub uncaused : write_image_data_cause old i (length samples) ≡ None
 
-written_by : (A : Type 0) (cause : Option TiffError) (i : OpenImage) (samples : List ℕ) (x : A) (old new : FileState)
+written_by : (A : Type 0) (cause : Option TiffError) (i : OpenImage) (samples : List ℕ) (x : A)
+    (old new : FileState)
     → write_image_data_cause old i (length samples) ≡ cause
-    → (let r : Result A TiffError = Ok x in WritesDataBy cause i samples r old new) → IsWritten i samples old new
+    → (let r : Result A TiffError = Ok x in WritesDataBy cause i samples r old new)
+    → IsWritten i samples old new
 written_by A (Some c) i samples x old new q h = absurd (ok_err h.0)
 written_by A None i samples x old new q h =
     elim h as (λ _. IsWritten i samples old new) [
@@ -187,10 +211,13 @@ written_by A None i samples x old new q h =
     ]
 
 pub data_written : (A : Type 0) (i : OpenImage) (samples : List ℕ) (x : A) (old new : FileState)
-    → (let r : Result A TiffError = Ok x in WritesImageData i samples r old new) → IsWritten i samples old new
-data_written A i samples x old new h = written_by A (write_image_data_cause old i (length samples)) i samples x old new refl h
+    → (let r : Result A TiffError = Ok x in WritesImageData i samples r old new)
+    → IsWritten i samples old new
+data_written A i samples x old new h =
+    written_by A (write_image_data_cause old i (length samples)) i samples x old new refl h
 
-pub data_stands : (i : OpenImage) (samples : List ℕ) (stored : List (List ℕ)) (offsets : Offsets) (old new : FileState) (m : Model)
+pub data_stands : (i : OpenImage) (samples : List ℕ) (stored : List (List ℕ)) (offsets : Offsets)
+    (old new : FileState) (m : Model)
     → AreEntries i.directory.fields → IsShortFile new → FileContains old.kind old.bytes m
     → ((offset : ℕ) → i.directory.parent ≡ Some offset → IsLink old.kind m offset)
     → EndsAsDefined (write_image_data i samples stored old) (Ok offsets) new

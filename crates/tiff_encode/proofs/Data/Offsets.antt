@@ -20,11 +20,13 @@ use Rattle.tiff_encode.proofs.ImageState.{one_part}
 
 -- ---- images whose chunks follow each other
 
-pub strip_of : (t : ChunkType) (p : PlanarConfiguration) → (not (is_tile t) && not (is_planar p)) ≡ true → t ≡ Strip
+pub strip_of : (t : ChunkType) (p : PlanarConfiguration)
+    → (not (is_tile t) && not (is_planar p)) ≡ true → t ≡ Strip
 strip_of Strip p h = refl
 strip_of Tile p h = absurd cc
 
-pub chunky_of : (t : ChunkType) (p : PlanarConfiguration) → (not (is_tile t) && not (is_planar p)) ≡ true → p ≡ Chunky
+pub chunky_of : (t : ChunkType) (p : PlanarConfiguration)
+    → (not (is_tile t) && not (is_planar p)) ≡ true → p ≡ Chunky
 chunky_of t Chunky h = refl
 chunky_of Strip Planar h = absurd cc
 chunky_of Tile Planar h = absurd cc
@@ -37,7 +39,8 @@ part_before c n size pos h =
     omega (arith, a, b, pos)
 
 -- the rows of a strip are within the image
-rows_within : (k c size n row rows : ℕ) → k ≤ c → c * size < n → rows ≡ min size (n - c * size) → k * size * row + rows * row ≤ n * row
+rows_within : (k c size n row rows : ℕ) → k ≤ c → c * size < n → rows ≡ min size (n - c * size)
+    → k * size * row + rows * row ≤ n * row
 rows_within k c size n row rows l b e =
     let a : k * size ≤ c * size = mul-le-mul_right size l in
     let s : k * size + rows ≤ n = omega (arith, a, b, e) in
@@ -57,14 +60,18 @@ module _ (i : OpenImage) (drawn : IsValidImage i.width i.height (length i.color.
   wide = drawn.cut.strips strip
 
   one_across : across (image_page i) ≡ 1
-  one_across = ap (λ n. parts i.width n) wide ∙ one_part i.width i.width (let w = drawn.wide.0 in omega (arith, w)) (omega arith)
+  one_across =
+      ap (λ n. parts i.width n) wide
+      ∙ one_part i.width i.width (let w = drawn.wide.0 in omega (arith, w)) (omega arith)
 
   pub of_plane : chunks_of_plane (image_page i) ≡ parts i.height i.form.chunk_height
-  of_plane = (let e : 1 * parts i.height i.form.chunk_height ≡ parts i.height i.form.chunk_height = omega arith in
+  of_plane =
+      (let e : 1 * parts i.height i.form.chunk_height ≡ parts i.height i.form.chunk_height = omega arith in
       ap (λ n. n * parts i.height i.form.chunk_height) one_across ∙ e)
 
   pub all : all_chunks (image_page i) ≡ parts i.height i.form.chunk_height
-  all = (let e : parts i.height i.form.chunk_height * 1 ≡ parts i.height i.form.chunk_height = omega arith in
+  all =
+      (let e : parts i.height i.form.chunk_height * 1 ≡ parts i.height i.form.chunk_height = omega arith in
       (λ j. of_plane j * planes_of (chunky j) (all_samples i)) ∙ e)
 
 module _ (i : OpenImage) (drawn : IsValidImage i.width i.height (length i.color.bits) (length i.extra) i.form)
@@ -80,12 +87,15 @@ module _ (i : OpenImage) (drawn : IsValidImage i.width i.height (length i.color.
 
   -- the strip begins within the image
   begins : c * i.form.chunk_height < i.height
-  begins = part_before c i.height i.form.chunk_height (let h = drawn.cut.high.0 in omega (arith, h)) below
+  begins =
+      part_before c i.height i.form.chunk_height (let h = drawn.cut.high.0 in
+      omega (arith, h)) below
 
   rows_are : chunk_rows p c ≡ min i.form.chunk_height (i.height - c * i.form.chunk_height)
   rows_are =
       let h : ℕ = i.form.chunk_height in
-      let whole : c % chunks_of_plane p ≡ c = mod-eq_of_lt (subst (λ n. c < n) (sym (of_plane i drawn order)) below) in
+      let whole : c % chunks_of_plane p ≡ c =
+      mod-eq_of_lt (subst (λ n. c < n) (sym (of_plane i drawn order)) below) in
       sym (strip_rows p c h i.height (chunks_of_plane p) (i.height - c % chunks_of_plane p * h) (min h (i.height - c % chunks_of_plane p * h))
       (strip i drawn order) (wide i drawn order) (let w = drawn.wide.0 in omega (arith, w)) refl refl refl refl refl)
       ∙ ap (λ n. min h (i.height - n * h)) whole
@@ -101,7 +111,8 @@ module _ (i : OpenImage) (drawn : IsValidImage i.width i.height (length i.color.
   -- after k strips of these samples are written
   module _ (k : ℕ) (known : k ≤ c) where
     pub above : k * i.form.chunk_height < i.height
-    above = (let a : k * i.form.chunk_height ≤ c * i.form.chunk_height = mul-le-mul_right i.form.chunk_height known in let b = begins in omega (arith, a, b))
+    above =
+        (let a : k * i.form.chunk_height ≤ c * i.form.chunk_height = mul-le-mul_right i.form.chunk_height known in let b = begins in omega (arith, a, b))
 
     pub within : k * i.form.chunk_height * row_samples p + chunk_samples p c ≤ image_samples i
     within =
@@ -120,4 +131,5 @@ module _ (i : OpenImage) (drawn : IsValidImage i.width i.height (length i.color.
 pub slice_is : {X : Type 0} (xs : List X) (start n from count : ℕ) → start ≡ from → n ≡ count
     → take (start + n - start) (drop start xs) ≡ take count (drop from xs)
 slice_is xs start n from count s c =
-    (let e : start + n - start ≡ n = omega arith in ap (λ m. take m (drop start xs)) e) ∙ (λ j. take (c j) (drop (s j) xs))
+    (let e : start + n - start ≡ n = omega arith in ap (λ m. take m (drop start xs)) e)
+    ∙ (λ j. take (c j) (drop (s j) xs))

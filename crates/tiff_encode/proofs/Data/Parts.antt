@@ -41,7 +41,8 @@ dropped_small most zero xs s n = s n
 dropped_small most (suc k) [] s n = s n
 dropped_small most (suc k) (x ∷ xs) s n = dropped_small most k xs (λ j. s (suc j)) n
 
-mapped_small : (most : ℕ) (f : ℕ → ℕ) (ks : List ℕ) → 0 < most → ((k : ℕ) → f k < most) → AreSmall most (map f ks)
+mapped_small : (most : ℕ) (f : ℕ → ℕ) (ks : List ℕ) → 0 < most → ((k : ℕ) → f k < most)
+    → AreSmall most (map f ks)
 mapped_small most f [] p s n = p
 mapped_small most f (k ∷ ks) p s zero = s k
 mapped_small most f (k ∷ ks) p s (suc n) = mapped_small most f ks p s n
@@ -50,13 +51,15 @@ or_zero : (b : Bool) (x most : ℕ) → x < most → 0 < most → cond b x 0 < m
 or_zero true x most h p = h
 or_zero false x most h p = p
 
-cut_small : (p : PageRecord) (samples : List ℕ) (k most : ℕ) → AreSmall most samples → AreSmall most (cut_out p samples k)
+cut_small : (p : PageRecord) (samples : List ℕ) (k most : ℕ) → AreSmall most samples
+    → AreSmall most (cut_out p samples k)
 unfolding cut_out
 cut_small p samples k most s =
     let some = some_small most samples s in
     mapped_small most _ (range_with_len 0 (chunk_samples p k)) some (λ n. or_zero _ _ most (s _) some)
 
-cut_length : (p : PageRecord) (samples : List ℕ) (k : ℕ) → length (cut_out p samples k) ≡ chunk_samples p k
+cut_length : (p : PageRecord) (samples : List ℕ) (k : ℕ)
+    → length (cut_out p samples k) ≡ chunk_samples p k
 unfolding cut_out
 cut_length p samples k = length-map-range_with_len _ 0 (chunk_samples p k)
 
@@ -64,16 +67,19 @@ cut_length p samples k = length-map-range_with_len _ 0 (chunk_samples p k)
 
 -- a part whose number of samples is that of the call has as many as its chunk, and they are small
 abbrev pub IsReady : (ℕ → ℕ) → ℕ → ℕ → List ℕ → Type 0
-IsReady many most k xs = (length xs ≡ min (many k) (2 ^ 64 - 1) → length xs ≡ many k) × AreSmall most xs
+IsReady many most k xs =
+    (length xs ≡ min (many k) (2 ^ 64 - 1) → length xs ≡ many k) × AreSmall most xs
 
 abbrev pub AreReady : (ℕ → ℕ) → ℕ → ℕ → List (List ℕ) → Type 0
 AreReady many most k [] = Unit {0}
 AreReady many most k (xs ∷ others) = IsReady many most k xs × AreReady many most (k + 1) others
 
 -- chunks in the order of the image are strips of whole rows
-strips_form : (form : ChunkLayout) → is_in_order form ≡ true → (form.chunk_type ≡ Strip) × (form.planar ≡ Chunky)
+strips_form : (form : ChunkLayout) → is_in_order form ≡ true
+    → (form.chunk_type ≡ Strip) × (form.planar ≡ Chunky)
 strips_form form h = by form.chunk_type form.planar h refl refl where
-  by : (c : ChunkType) (p : PlanarConfiguration) → (not (is_tile c) && not (is_planar p)) ≡ true → form.chunk_type ≡ c → form.planar ≡ p
+  by : (c : ChunkType) (p : PlanarConfiguration) → (not (is_tile c) && not (is_planar p)) ≡ true
+      → form.chunk_type ≡ c → form.planar ≡ p
       → (form.chunk_type ≡ Strip) × (form.planar ≡ Chunky)
   by Strip Chunky h a b = (a, b)
   by Strip Planar h a b = absurd cc
@@ -84,32 +90,41 @@ module _ (i : OpenImage) (samples : List ℕ) where
   page = image_page i
 
   -- a strip has no more samples than the image
-  strip_within : IsForm i.width i.form → is_in_order i.form ≡ true → (k : ℕ) → chunk_samples page k ≤ image_samples i
+  strip_within : IsForm i.width i.form → is_in_order i.form ≡ true → (k : ℕ)
+      → chunk_samples page k ≤ image_samples i
   unfolding rect
   strip_within f h k =
       let form = strips_form i.form h in
       let wide : i.form.chunk_width ≡ i.width = f.strips form.0 in
-      let stored : stored_samples page ≡ all_samples i = ap (λ p. stored_samples (record page { planar = p })) form.1 in
-      let rows : chunk_rows page k ≡ (rect page k).height = ap (λ c. cond (is_tile c) i.form.chunk_height (rect page k).height) form.0 in
+      let stored : stored_samples page ≡ all_samples i =
+      ap (λ p. stored_samples (record page { planar = p })) form.1 in
+      let rows : chunk_rows page k ≡ (rect page k).height =
+      ap (λ c. cond (is_tile c) i.form.chunk_height (rect page k).height) form.0 in
       let high : (rect page k).height ≤ i.height = omega arith in
       let m : ℕ = i.width * all_samples i in
-      let same : chunk_samples page k ≡ (rect page k).height * m = λ j. rows j * (wide j * stored j) in
+      let same : chunk_samples page k ≡ (rect page k).height * m =
+      λ j. rows j * (wide j * stored j) in
       let l : (rect page k).height * m ≤ i.height * m = mul-le-mul_right m high in
-      let e : i.height * m ≡ image_samples i = sym (mul_assoc i.height i.width (all_samples i)) ∙ ap (λ n. n * all_samples i) (mul_comm i.height i.width) in
+      let e : i.height * m ≡ image_samples i =
+      sym (mul_assoc i.height i.width (all_samples i))
+      ∙ ap (λ n. n * all_samples i) (mul_comm i.height i.width) in
       omega (arith, same, l, e)
 
-  part_ready : (most k : ℕ) → image_samples i < 2 ^ 64 → IsForm i.width i.form → AreSmall most samples → (b : Bool) → is_in_order i.form ≡ b
+  part_ready : (most k : ℕ) → image_samples i < 2 ^ 64 → IsForm i.width i.form
+      → AreSmall most samples → (b : Bool) → is_in_order i.form ≡ b
       → IsReady (chunk_samples page) most (length i.chunks + k)
       (let chunk = length i.chunks + k in
       cond b (take (chunk_samples page chunk) (drop (k * (page.chunk_height * row_samples page)) samples)) (cut_out page samples chunk))
-  part_ready most k l f s false h = ((λ e. cut_length page samples (length i.chunks + k)), cut_small page samples (length i.chunks + k) most s)
+  part_ready most k l f s false h =
+      ((λ e. cut_length page samples (length i.chunks + k)), cut_small page samples (length i.chunks + k) most s)
   part_ready most k l f s true h =
       let n : ℕ = chunk_samples page (length i.chunks + k) in
       let from : ℕ = k * (page.chunk_height * row_samples page) in
       let within : n ≤ image_samples i = strip_within f h (length i.chunks + k) in
       ((λ e. omega (arith, e, l, within)), taken_small most n (drop from samples) (dropped_small most from samples s))
 
-  parts_ready : (most a n : ℕ) → ((k : ℕ) → IsReady (chunk_samples page) most (length i.chunks + k) (part i samples k))
+  parts_ready : (most a n : ℕ) → ((k : ℕ) → IsReady (chunk_samples page) most (length i.chunks
+      + k) (part i samples k))
       → (j : ℕ) → j ≡ length i.chunks + a
       → AreReady (chunk_samples page) most j (map (part i samples) (range_with_len a n))
   parts_ready most a zero r j e = tt
@@ -117,7 +132,8 @@ module _ (i : OpenImage) (samples : List ℕ) where
       (subst (λ x. IsReady (chunk_samples page) most x (part i samples a)) (sym e) (r a), parts_ready most (a + 1) n r (j + 1) (omega (arith, e)))
 
   -- the samples that each chunk that is left receives are ready for it
-  pub left_ready : (file : FileState) (count : ℕ) → write_image_data_cause file i count ≡ None → IsForm i.width i.form → AreNumbers i.size samples
+  pub left_ready : (file : FileState) (count : ℕ) → write_image_data_cause file i count ≡ None
+      → IsForm i.width i.form → AreNumbers i.size samples
       → AreReady (chunk_samples page) (256 ^ i.size) (length i.chunks) (parts_left i samples)
   unfolding write_image_data_cause parts_left
   left_ready file count c f s =

@@ -24,8 +24,10 @@ use Rattle.tiff_encode.proofs.Data.Open.{rechunked, chunks_last, chunks_held}
 use Rattle.tiff_encode.proofs.Data.Leaves.{IsWritten, data_stopped, data_torn, data_written, data_stands}
 
 -- a file that shows an image with other chunks shows the image
-pub shown_as : (kind : FileKind) (file : List ℕ) (offset : ℕ) (i : OpenImage) (chunks : List Chunk) (samples : List (List ℕ))
-    → Shows kind file offset (image_with (rechunked i chunks) samples) → Shows kind file offset (image_with i samples)
+pub shown_as : (kind : FileKind) (file : List ℕ) (offset : ℕ) (i : OpenImage) (chunks : List Chunk)
+    (samples : List (List ℕ))
+    → Shows kind file offset (image_with (rechunked i chunks) samples)
+    → Shows kind file offset (image_with i samples)
 unfolding sample_in
 shown_as kind file offset i chunks samples s = record {
   page = s.page;
@@ -48,15 +50,20 @@ module _ (i : OpenImage) (samples : List ℕ) (old new : FileState) (w : IsWritt
   abbrev mid : FileState
   mid = (chunks old).next
 
-  data_is : write_image_data_cause old i (length samples) ≡ None → told ≡ (chunks >>= finish_image) old
+  data_is : write_image_data_cause old i (length samples) ≡ None
+      → told ≡ (chunks >>= finish_image) old
   unfolding write_image_data
   data_is h = ap (λ c. by_cause c (chunks >>= finish_image) old) h
 
   -- `write_data` writes the chunks and ends the image
-  pub data_ended : (last : OpenImage) × (((chunks old).answer ≡ Ok last) × (told ≡ after_ops (chunks old).ops (finish_image last mid)))
+  pub data_ended : (last : OpenImage)
+      × (((chunks old).answer ≡ Ok last) × (told
+      ≡ after_ops (chunks old).ops (finish_image last mid)))
   data_ended =
       let is = data_is w.uncaused in
-      let a = bind_answered chunks finish_image old w.offsets (ap (λ t. t.answer) (sym is) ∙ w.told.answer) in
+      let a =
+      bind_answered chunks finish_image old w.offsets (ap (λ t. t.answer) (sym is)
+      ∙ w.told.answer) in
       (a.0, (a.1.0, is ∙ a.1.1))
 
   abbrev last : OpenImage
@@ -74,7 +81,8 @@ module _ (i : OpenImage) (samples : List ℕ) (old new : FileState) (w : IsWritt
   pub none_left : is_left last ≡ false
   none_left =
       let l = chunks_last i (parts_left i samples) w.stored last old w.all data_ended.1.0 in
-      let same : all_chunks (image_page last) ≡ all_chunks (image_page i) = ap (λ j. all_chunks (image_page j)) l.same in
+      let same : all_chunks (image_page last) ≡ all_chunks (image_page i) =
+      ap (λ j. all_chunks (image_page j)) l.same in
       let many = left_many i samples in
       let count = l.count in
       le-ltb (length last.chunks) (all_chunks (image_page last)) (omega (arith, same, many, count))
@@ -84,30 +92,36 @@ module _ (i : OpenImage) (samples : List ℕ) (old new : FileState) (w : IsWritt
     abbrev between : Model
     between = model_by old m (chunks old)
 
-    pub last_held : (before : List (List ℕ)) → AreNumbers i.size samples → RecordsImage old.kind m i before
+    pub last_held : (before : List (List ℕ)) → AreNumbers i.size samples
+        → RecordsImage old.kind m i before
         → RecordsImage mid.kind between last (before ++ parts_left i samples)
     last_held before small h =
         let done = chunks_done i (parts_left i samples) w.stored old in
-        subst (λ kind. RecordsImage kind between last (before ++ parts_left i samples)) (sym done.kind)
+        subst (λ kind. RecordsImage kind between last (before
+        ++ parts_left i samples)) (sym done.kind)
         (chunks_held i last (parts_left i samples) w.stored old m before w.all w.are_stored
         (left_ready i samples old (length samples) w.uncaused h.open_so.form small) h (mid_short short) data_ended.1.0)
 
-    pub data_shows : FileContains old.kind new.bytes (model_by old m told) → (before : List (List ℕ)) → AreNumbers i.size samples
+    pub data_shows : FileContains old.kind new.bytes (model_by old m told)
+        → (before : List (List ℕ)) → AreNumbers i.size samples
         → RecordsImage old.kind m i before
         → Shows old.kind new.bytes w.offsets.pointer (image_with i (before ++ parts_left i samples))
     data_shows s before small h =
         let all : List (List ℕ) = before ++ parts_left i samples in
         let end : WriteOutcome Offsets = finish_image last mid in
         let done = chunks_done i (parts_left i samples) w.stored old in
-        let bytes : new.bytes ≡ end.next.bytes = ap (λ file. file.bytes) w.told.state ∙ ap (λ t. t.next.bytes) data_ended.1.1 in
+        let bytes : new.bytes ≡ end.next.bytes =
+        ap (λ file. file.bytes) w.told.state ∙ ap (λ t. t.next.bytes) data_ended.1.1 in
         let model : model_by old m told ≡ model_by mid between end =
         ap (λ t. model_by old m t) data_ended.1.1 ∙ behind_model (chunks old) end old m done in
         let stands : FileContains mid.kind end.next.bytes (model_by mid between end) =
         subst (λ kind. FileContains kind end.next.bytes (model_by mid between end)) (sym done.kind)
         (subst (λ b. FileContains old.kind b (model_by mid between end)) bytes (subst (λ x. FileContains old.kind new.bytes x) model s)) in
-        let answer : end.answer ≡ Ok w.offsets = ap (λ t. t.answer) (sym data_ended.1.1) ∙ w.told.answer in
+        let answer : end.answer ≡ Ok w.offsets =
+        ap (λ t. t.answer) (sym data_ended.1.1) ∙ w.told.answer in
         let shown : Shows mid.kind end.next.bytes w.offsets.pointer (image_with last all) =
-        ends_shown_by (images_show_by page_told) mid between last all w.offsets (last_held before small h) none_left answer stands in
+        ends_shown_by (images_show_by page_told) mid between last all w.offsets
+        (last_held before small h) none_left answer stands in
         let l = chunks_last i (parts_left i samples) w.stored last old w.all data_ended.1.0 in
         let here : Shows old.kind new.bytes w.offsets.pointer (image_with last all) =
         subst (λ b. Shows old.kind b w.offsets.pointer (image_with last all)) (sym bytes)
@@ -118,7 +132,8 @@ module _ (i : OpenImage) (samples : List ℕ) (old new : FileState) (w : IsWritt
 -- ---- the law
 
 -- `write_data` succeeds
-pub data_done : (i : OpenImage) (samples : List ℕ) (old new : FileState) (m : Model) → AreEntries i.directory.fields
+pub data_done : (i : OpenImage) (samples : List ℕ) (old new : FileState) (m : Model)
+    → AreEntries i.directory.fields
     → AreNumbers i.size samples → IsShortFile new → FileContains old.kind old.bytes m
     → ((offset : ℕ) → i.directory.parent ≡ Some offset → IsLink old.kind m offset)
     → IsWritten i samples old new → LeavesWhole i samples old new m
@@ -132,11 +147,14 @@ data_done i samples old new m a small short s p w =
       shows = λ before h. data_shows i samples old new w m short stands before small h;
     }
 
-pub data_leaves : {A : Type 0} (i : OpenImage) (samples : List ℕ) (r : Result A TiffError) (old new : FileState) (m : Model)
-    → AreEntries i.directory.fields → AreNumbers i.size samples → IsShortFile new → FileContains old.kind old.bytes m
+pub data_leaves : {A : Type 0} (i : OpenImage) (samples : List ℕ) (r : Result A TiffError)
+    (old new : FileState) (m : Model)
+    → AreEntries i.directory.fields → AreNumbers i.size samples → IsShortFile new
+    → FileContains old.kind old.bytes m
     → ((offset : ℕ) → i.directory.parent ≡ Some offset → IsLink old.kind m offset)
     → WritesImageData i samples r old new → LeavesData i samples r old new m
-data_leaves {A = A} i samples (Ok x) old new m a small short s p h = data_done i samples old new m a small short s p (data_written A i samples x old new h)
+data_leaves {A = A} i samples (Ok x) old new m a small short s p h =
+    data_done i samples old new m a small short s p (data_written A i samples x old new h)
 data_leaves {A = A} i samples (Err e) old new m a small short s p h =
     elim (data_stopped A i samples e old new h) as (λ _. LeavesData {A = A} i samples (Err e) old new m) [
       | inl x ↦ inl (x m s)

@@ -62,7 +62,9 @@ tags_data (value ∷ values) h =
 
 module _ (d : OpenDirectory) (values : List (Tag × Scalars)) (file : FileState) where
   tags_done : IsDone (write_tags d values file) file
-  tags_done = subst (λ told. IsDone told file) (sym (tags_are_fields d values file)) (fields_done d (fields_of values) file)
+  tags_done =
+      subst (λ told. IsDone told file) (sym (tags_are_fields d values file))
+      (fields_done d (fields_of values) file)
 
   tags_fit : (parent : Option ℕ) (m : Model) → are_short values ≡ true → Keeps parent d
       → Fits (write_tags d values file) file m (Keeps parent)
@@ -76,12 +78,15 @@ IsKept i = AreEntries i.directory.fields
 
 -- several tags, and an image with the directory that has them
 module _ (d : OpenDirectory) (g : OpenDirectory → OpenImage) (kept : (x : OpenDirectory) → AreEntries x.fields → IsKept (g x)) (file : FileState) where
-  made_done : (values : List (Tag × Scalars)) → IsDone ((write_tags d values >>= (λ x. gives (g x))) file) file
+  made_done : (values : List (Tag × Scalars))
+      → IsDone ((write_tags d values >>= (λ x. gives (g x))) file) file
   made_done values =
       let next : FileState = (write_tags d values file).next in
-      bind_done (write_tags d values) (λ x. gives (g x)) file (tags_done d values file) (λ x _. gives_done (g x) next)
+      bind_done (write_tags d values) (λ x. gives (g x)) file (tags_done d values file)
+      (λ x _. gives_done (g x) next)
 
-  made_fits : (m : Model) (values : List (Tag × Scalars)) → are_short values ≡ true → AreEntries d.fields
+  made_fits : (m : Model) (values : List (Tag × Scalars)) → are_short values ≡ true
+      → AreEntries d.fields
       → Fits ((write_tags d values >>= (λ x. gives (g x))) file) file m IsKept
   made_fits m values s a =
       viewed_fits (write_tags d values) g file m IsKept (tags_done d values file)
@@ -107,7 +112,8 @@ first_short : (i : OpenImage) → are_short (first_tags i) ≡ true
 unfolding first_tags
 first_short i = color_short i.color.interpretation _ refl
 
-begin_fits : (file : FileState) (m : Model) → Fits (image_directory file) file m (Keeps (Some file.chain))
+begin_fits : (file : FileState) (m : Model)
+    → Fits (image_directory file) file m (Keeps (Some file.chain))
 unfolding image_directory
 begin_fits file m =
     let d : OpenDirectory = new_directory (Some file.chain) true in
@@ -126,7 +132,8 @@ module _ (file : FileState) (m : Model) (color : ColorTypeRecord) (size width he
   new_fits =
       let next : FileState = (image_directory file).next in
       let after : Model = model_after file.kind file.bytes m (image_directory file).ops in
-      cause_fits (new_image_cause file color width height) (image_directory >>= tagged) file m IsKept
+      cause_fits (new_image_cause file color width height) (image_directory
+      >>= tagged) file m IsKept
       (λ c. bind_fits image_directory tagged file m (Keeps (Some file.chain)) IsKept
       (adding_done (image_directory file) file (adding _ _ (begin_adds file))) (begin_fits file m)
       (λ d _. made_done d image_of (λ x a. a) next (first_tags (image_of d)))
@@ -138,23 +145,28 @@ new_image_fits file m color size width height i h l = new_fits file m color size
 -- ---- settings
 
 -- a row of the table with short tag numbers, whose image has entries if the directory has
-pub row_fits : (w : Row) → are_short w.tags ≡ true → ((i : OpenImage) (d : OpenDirectory) → AreEntries d.fields → IsKept (w.image i d))
-    → (i : OpenImage) (file : FileState) (m : Model) → IsKept i → Fits (written w i file) file m IsKept
+pub row_fits : (w : Row) → are_short w.tags ≡ true
+    → ((i : OpenImage) (d : OpenDirectory) → AreEntries d.fields → IsKept (w.image i d))
+    → (i : OpenImage) (file : FileState) (m : Model) → IsKept i
+    → Fits (written w i file) file m IsKept
 row_fits w s kept i file m a =
-    cause_fits (w.cause i file) (write_tags i.directory w.tags >>= (λ d. gives (w.image i d))) file m IsKept
+    cause_fits (w.cause i file) (write_tags i.directory w.tags
+    >>= (λ d. gives (w.image i d))) file m IsKept
     (λ c. made_fits i.directory (w.image i) (kept i) file m w.tags s a)
 
 row_short : (s : Setting) → are_short (row s).tags ≡ true
 row_short (Extra extra) = refl
 row_short s = refl
 
-row_kept : (s : Setting) (i : OpenImage) (d : OpenDirectory) → AreEntries d.fields → IsKept ((row s).image i d)
+row_kept : (s : Setting) (i : OpenImage) (d : OpenDirectory) → AreEntries d.fields
+    → IsKept ((row s).image i d)
 row_kept (Sides width length) i d e = remove_entries d.fields (tag_number tag.RowsPerStrip) e
 row_kept s i d e = e
 
 pub setting_fits : (s : Setting) → CallFits (call_of s)
 setting_fits s file m i next a h l =
-    subst (λ told. Fits told file m IsKept) (sym (called s i file)) (row_fits (row s) (row_short s) (row_kept s) i file m a) next h l
+    subst (λ told. Fits told file m IsKept) (sym (called s i file))
+    (row_fits (row s) (row_short s) (row_kept s) i file m a) next h l
 
 pub settings_fit : SettingsFit
 settings_fit = (
@@ -170,7 +182,8 @@ resolutions_fit = (
 
 -- ---- chunks
 
-chunk_fits : (cause : Option TiffError) (i : OpenImage) (stored : List ℕ) (file : FileState) (m : Model) → IsKept i
+chunk_fits : (cause : Option TiffError) (i : OpenImage) (stored : List ℕ) (file : FileState)
+    (m : Model) → IsKept i
     → Fits (by_cause cause (appends_chunk i stored) file) file m IsKept
 chunk_fits cause i stored file m a =
     cause_fits cause (appends_chunk i stored) file m IsKept
@@ -192,14 +205,16 @@ samples_short : (b : Bool) (value : Scalars) (more : List (Tag × Scalars)) → 
 samples_short true value more h = h
 samples_short false value more h = h
 
-chunks_short : (t : ChunkType) (offsets byte_counts : Scalars) → are_short (chunk_tags t offsets byte_counts) ≡ true
+chunks_short : (t : ChunkType) (offsets byte_counts : Scalars)
+    → are_short (chunk_tags t offsets byte_counts) ≡ true
 chunks_short Strip offsets byte_counts = refl
 chunks_short Tile offsets byte_counts = refl
 
 last_short : (kind : FileKind) (i : OpenImage) → are_short (last_tags kind i) ≡ true
 unfolding last_tags
 last_short kind i =
-    samples_short (length i.extra == 0) (u16s (all_samples i ∷ [])) _ (chunks_short i.form.chunk_type _ _)
+    samples_short (length i.extra == 0) (u16s (all_samples i
+    ∷ [])) _ (chunks_short i.form.chunk_type _ _)
 
 -- a directory has no more entries than bytes
 entries_within : (kind : FileKind) (offset n : ℕ) → n ≤ link_offset kind offset n
@@ -207,17 +222,20 @@ entries_within Classic offset n = omega arith
 entries_within Big offset n = omega arith
 
 -- a directory that continues the chain keeps the length of the file
-chain_end : (chained : Bool) (offsets : Offsets) (file : FileState) → end_of (chain_after file chained offsets) ≡ end_of file
+chain_end : (chained : Bool) (offsets : Offsets) (file : FileState)
+    → end_of (chain_after file chained offsets) ≡ end_of file
 chain_end true offsets file = refl
 chain_end false offsets file = refl
 
 -- nothing refuses a call that succeeds
 answered : {A : Type 0} (cause : Option TiffError) (call : WriteCall A) (file : FileState) (x : A)
-    → (by_cause cause call file).answer ≡ Ok x → end_of (by_cause cause call file).next < 2 ^ 64 → end_of (call file).next < 2 ^ 64
+    → (by_cause cause call file).answer ≡ Ok x → end_of (by_cause cause call file).next < 2 ^ 64
+    → end_of (call file).next < 2 ^ 64
 answered None call file x h l = l
 answered (Some e) call file x h l = absurd (ok_err (sym h))
 
-few_entries : (file : FileState) (d : OpenDirectory) (x : Offsets) → AreEntries d.fields → (finish d file).answer ≡ Ok x
+few_entries : (file : FileState) (d : OpenDirectory) (x : Offsets) → AreEntries d.fields
+    → (finish d file).answer ≡ Ok x
     → end_of (finish d file).next < 2 ^ 64 → len d.fields < 2 ^ 64
 unfolding finish
 few_entries file d x a h l =
@@ -225,7 +243,8 @@ few_entries file d x a h l =
     let ops : List WriteOp = Listed d.fields ∷ links_to d.parent (end_of file) in
     let done : FileState = record file { bytes = bytes_after file.kind file.bytes ops } in
     let listed : List ℕ = directory_bytes file.kind d.fields in
-    let short = answered (finish_cause file d) (does ops >>= (λ _. chains d.chained offsets)) file x h l in
+    let short =
+    answered (finish_cause file d) (does ops >>= (λ _. chains d.chained offsets)) file x h l in
     let end = chain_end d.chained offsets done in
     let longer = ops_longer file.kind (file.bytes ++ listed) (links_to d.parent (end_of file)) in
     let whole = length-listed file.kind (end_of file) d.fields a in
@@ -233,9 +252,11 @@ few_entries file d x a h l =
     omega (arith, short, end, longer, whole, within, length-append file.bytes listed)
 
 ended_fits : (d : OpenDirectory) (file : FileState) (m : Model) → AreEntries d.fields
-    → ((offset : ℕ) → d.parent ≡ Some offset → IsLink file.kind m offset) → Fits (finish d file) file m (λ _. Unit {0})
+    → ((offset : ℕ) → d.parent ≡ Some offset → IsLink file.kind m offset)
+    → Fits (finish d file) file m (λ _. Unit {0})
 ended_fits d file m a p x h l =
-    let longer = done_longer (finish d file) file (plain_done (finish d file) file (finish_plain d file)) in
+    let longer =
+    done_longer (finish d file) file (plain_done (finish d file) file (finish_plain d file)) in
     (entries_fit file m d a (few_entries file d x a h l) p (omega (arith, longer, l)), tt)
 
 pub finish_image_fits : FinishImageFits
@@ -245,7 +266,8 @@ finish_image_fits file m i offsets a h l p =
     let next : FileState = (call file).next in
     let after : Model = model_after file.kind file.bytes m (call file).ops in
     let done = tags_done i.directory (last_tags file.kind i) file in
-    let link : (offset : ℕ) → i.directory.parent ≡ Some offset → IsLink next.kind after offset = λ offset e.
+    let link : (offset : ℕ) → i.directory.parent ≡ Some offset
+    → IsLink next.kind after offset = λ offset e.
     subst (λ kind. IsLink kind after offset) (sym done.kind)
     (link_kept file.kind m after offset (ops_grow file.kind file.bytes m (call file).ops) (p offset e)) in
     let both = bind_fits call (λ d. finish d) file m (Keeps i.directory.parent) (λ _. Unit {0}) done

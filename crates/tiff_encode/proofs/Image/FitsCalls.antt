@@ -33,10 +33,12 @@ pub record IsDone {A : Type 0} (told : WriteOutcome A) (file : FileState) : Type
   pub kind : told.next.kind ≡ file.kind
   pub bytes : told.next.bytes ≡ bytes_after file.kind file.bytes told.ops
 
-pub plain_done : {A : Type 0} (told : WriteOutcome A) (file : FileState) → IsPlain told file → IsDone told file
+pub plain_done : {A : Type 0} (told : WriteOutcome A) (file : FileState) → IsPlain told file
+    → IsDone told file
 plain_done told file p = record { kind = p.kind; bytes = p.bytes }
 
-pub adding_done : {A : Type 0} (told : WriteOutcome A) (file : FileState) → IsAdding told file → IsDone told file
+pub adding_done : {A : Type 0} (told : WriteOutcome A) (file : FileState) → IsAdding told file
+    → IsDone told file
 adding_done told file a = record {
   kind = ap (λ f. f.kind) a.next;
   bytes = ap (λ f. f.bytes) a.next ∙ sym (ops_append file.kind file.bytes told.ops a.appending);
@@ -45,7 +47,8 @@ adding_done told file a = record {
 pub gives_done : {A : Type 0} (x : A) (file : FileState) → IsDone (gives x file) file
 gives_done x file = record { kind = refl; bytes = refl }
 
-joined_done : {A B : Type 0} (r : Result A TiffError) (ops : List WriteOp) (next : FileState) (rest : A → WriteCall B) (file : FileState)
+joined_done : {A B : Type 0} (r : Result A TiffError) (ops : List WriteOp) (next : FileState)
+    (rest : A → WriteCall B) (file : FileState)
     → next.kind ≡ file.kind → next.bytes ≡ bytes_after file.kind file.bytes ops
     → ((x : A) → r ≡ Ok x → IsDone (rest x next) next) → IsDone (and_then r ops next rest) file
 joined_done (Err e) ops next rest file k b d = record { kind = k; bytes = b }
@@ -54,16 +57,21 @@ joined_done (Ok x) ops next rest file k b d =
     let more : List WriteOp = (rest x next).ops in
     record {
       kind = second.kind ∙ k;
-      bytes = second.bytes ∙ (λ i. bytes_after (k i) (b i) more) ∙ sym (bytes_joined file.kind file.bytes ops more);
+      bytes =
+          second.bytes ∙ (λ i. bytes_after (k i) (b i) more)
+          ∙ sym (bytes_joined file.kind file.bytes ops more);
     }
 
-pub bind_done : {A B : Type 0} (call : WriteCall A) (rest : A → WriteCall B) (file : FileState) → IsDone (call file) file
-    → ((x : A) → (call file).answer ≡ Ok x → IsDone (rest x (call file).next) (call file).next) → IsDone ((call >>= rest) file) file
+pub bind_done : {A B : Type 0} (call : WriteCall A) (rest : A → WriteCall B) (file : FileState)
+    → IsDone (call file) file
+    → ((x : A) → (call file).answer ≡ Ok x → IsDone (rest x (call file).next) (call file).next)
+    → IsDone ((call >>= rest) file) file
 bind_done call rest file a d =
     joined_done (call file).answer (call file).ops (call file).next rest file a.kind a.bytes d
 
 -- bytes that are written over others never shorten the file
-pub put_longer : (bytes : List ℕ) (at : ℕ) (over : List ℕ) → length bytes ≤ length (put bytes at over)
+pub put_longer : (bytes : List ℕ) (at : ℕ) (over : List ℕ)
+    → length bytes ≤ length (put bytes at over)
 put_longer bytes at over =
     let behind : List ℕ = drop (at + length over) bytes in
     omega (
@@ -75,23 +83,28 @@ put_longer bytes at over =
     )
 
 -- a change never shortens the file, nor do several changes
-op_longer : (kind : FileKind) (bytes : List ℕ) (op : WriteOp) → length bytes ≤ length (after_op kind bytes op)
+op_longer : (kind : FileKind) (bytes : List ℕ) (op : WriteOp)
+    → length bytes ≤ length (after_op kind bytes op)
 op_longer kind bytes (Appended more) = omega (arith, length-append bytes more)
 op_longer kind bytes (Supplied supplied) = omega arith
-op_longer kind bytes (Listed fields) = omega (arith, length-append bytes (directory_bytes kind fields))
+op_longer kind bytes (Listed fields) =
+    omega (arith, length-append bytes (directory_bytes kind fields))
 op_longer kind bytes (Linked offset target) = put_longer bytes offset (le (offset_len kind) target)
 
-pub ops_longer : (kind : FileKind) (bytes : List ℕ) (ops : List WriteOp) → length bytes ≤ length (bytes_after kind bytes ops)
+pub ops_longer : (kind : FileKind) (bytes : List ℕ) (ops : List WriteOp)
+    → length bytes ≤ length (bytes_after kind bytes ops)
 ops_longer kind bytes [] = omega arith
 ops_longer kind bytes (op ∷ ops) =
     let a = op_longer kind bytes op in
     let b = ops_longer kind (after_op kind bytes op) ops in
     omega (arith, a, b)
 
-pub done_longer : {A : Type 0} (told : WriteOutcome A) (file : FileState) → IsDone told file → end_of file ≤ end_of told.next
+pub done_longer : {A : Type 0} (told : WriteOutcome A) (file : FileState) → IsDone told file
+    → end_of file ≤ end_of told.next
 done_longer told file d =
     let l = ops_longer file.kind file.bytes told.ops in
-    let e : end_of told.next ≡ length (bytes_after file.kind file.bytes told.ops) = ap (λ b. length b) d.bytes in
+    let e : end_of told.next ≡ length (bytes_after file.kind file.bytes told.ops) =
+    ap (λ b. length b) d.bytes in
     omega (arith, l, e)
 
 -- ---- what fits
@@ -99,20 +112,25 @@ done_longer told file d =
 -- If a call succeeds and the file after it is not too long, the changes of the call fit and its
 -- result has the given property.
 abbrev pub Fits : {A : Type 0} → WriteOutcome A → FileState → Model → (A → Type 0) → Type 0
-Fits {A = A} told file m P = (x : A) → told.answer ≡ Ok x → end_of told.next < 2 ^ 64 → OpsFit file.kind file.bytes m told.ops × P x
+Fits {A = A} told file m P =
+    (x : A) → told.answer ≡ Ok x → end_of told.next < 2 ^ 64
+    → OpsFit file.kind file.bytes m told.ops × P x
 
 -- a call that only returns a value
-pub gives_fits : {A : Type 0} (x : A) (file : FileState) (m : Model) (P : A → Type 0) → P x → Fits (gives x file) file m P
+pub gives_fits : {A : Type 0} (x : A) (file : FileState) (m : Model) (P : A → Type 0) → P x
+    → Fits (gives x file) file m P
 gives_fits x file m P p y h l = (tt, subst P (ok_inj x y h) p)
 
 -- a call that its checks may refuse
-pub cause_fits : {A : Type 0} (cause : Option TiffError) (call : WriteCall A) (file : FileState) (m : Model) (P : A → Type 0)
+pub cause_fits : {A : Type 0} (cause : Option TiffError) (call : WriteCall A) (file : FileState)
+    (m : Model) (P : A → Type 0)
     → (cause ≡ None → Fits (call file) file m P) → Fits (by_cause cause call file) file m P
 cause_fits None call file m P f y h l = f refl y h l
 cause_fits (Some e) call file m P f y h l = absurd (ok_err (sym h))
 
 -- the changes of two calls in sequence fit
-joined_fits : {A B : Type 0} (r : Result A TiffError) (ops : List WriteOp) (next : FileState) (rest : A → WriteCall B)
+joined_fits : {A B : Type 0} (r : Result A TiffError) (ops : List WriteOp) (next : FileState)
+    (rest : A → WriteCall B)
     (file : FileState) (m : Model) (P : A → Type 0) (Q : B → Type 0)
     → next.kind ≡ file.kind → next.bytes ≡ bytes_after file.kind file.bytes ops
     → (let told : WriteOutcome A = record { answer = r; ops = ops; next = next } in Fits told file m P)
@@ -126,12 +144,14 @@ joined_fits (Ok x) ops next rest file m P Q k b f d s y h l =
     let second = s x refl first.1 y h l in
     let more : List WriteOp = (rest x next).ops in
     let after : Model = model_after file.kind file.bytes m ops in
-    let same : OpsFit file.kind next.bytes after more = subst (λ kind. OpsFit kind next.bytes after more) k second.0 in
+    let same : OpsFit file.kind next.bytes after more =
+    subst (λ kind. OpsFit kind next.bytes after more) k second.0 in
     let moved : OpsFit file.kind (bytes_after file.kind file.bytes ops) after more =
     subst (λ bytes. OpsFit file.kind bytes after more) b same in
     (fits_joined file.kind file.bytes m ops more first.0 moved, second.1)
 
-pub bind_fits : {A B : Type 0} (call : WriteCall A) (rest : A → WriteCall B) (file : FileState) (m : Model) (P : A → Type 0) (Q : B → Type 0)
+pub bind_fits : {A B : Type 0} (call : WriteCall A) (rest : A → WriteCall B) (file : FileState)
+    (m : Model) (P : A → Type 0) (Q : B → Type 0)
     → IsDone (call file) file → Fits (call file) file m P
     → ((x : A) → (call file).answer ≡ Ok x → IsDone (rest x (call file).next) (call file).next)
     → ((x : A) → (call file).answer ≡ Ok x → P x
@@ -141,8 +161,10 @@ bind_fits call rest file m P Q a f d s =
     joined_fits (call file).answer (call file).ops (call file).next rest file m P Q a.kind a.bytes f d s
 
 -- a call whose result is made of another call's result
-pub viewed_fits : {A B : Type 0} (call : WriteCall A) (g : A → B) (file : FileState) (m : Model) (Q : B → Type 0)
-    → IsDone (call file) file → Fits (call file) file m (λ x. Q (g x)) → Fits ((call >>= (λ x. gives (g x))) file) file m Q
+pub viewed_fits : {A B : Type 0} (call : WriteCall A) (g : A → B) (file : FileState) (m : Model)
+    (Q : B → Type 0)
+    → IsDone (call file) file → Fits (call file) file m (λ x. Q (g x))
+    → Fits ((call >>= (λ x. gives (g x))) file) file m Q
 viewed_fits call g file m Q a f =
     bind_fits call (λ x. gives (g x)) file m (λ x. Q (g x)) Q a f
     (λ x _. gives_done (g x) (call file).next)
@@ -162,8 +184,10 @@ AreData [] = Unit {0}
 AreData (value ∷ values) = IsData value × AreData values
 
 -- a value is short, or the file has room for its offset
-room : (kind : FileKind) (long : Bool) (bytes xs : List ℕ) (h : SuppliedField) → (long ≡ false → length xs ≤ 8)
-    → length (bytes_after kind bytes (cond long (Appended xs ∷ Supplied h ∷ []) (Supplied h ∷ []))) < 2 ^ 64
+room : (kind : FileKind) (long : Bool) (bytes xs : List ℕ) (h : SuppliedField)
+    → (long ≡ false → length xs ≤ 8)
+    → length (bytes_after kind bytes (cond long (Appended xs ∷ Supplied h ∷ []) (Supplied h ∷ [])))
+    < 2 ^ 64
     → (length bytes < 2 ^ 64) × (length xs < 2 ^ 64)
 room kind true bytes xs h s l =
     let e = length-append bytes xs in
@@ -175,14 +199,17 @@ room kind false bytes xs h s l =
     let b : length xs < 2 ^ 64 = omega (arith, e) in
     (l, b)
 
-module _ (t : ℕ) (value : FieldData) (file : FileState) (m : Model) (n : t < 2 ^ 16) (w : IsWhole value) (a : AreBytes value.bytes) where
-  placed_entry : field_cause file value ≡ None → Fits (placed_field value file) file m (λ f. IsEntry (t, f))
+module _ (t : ℕ) (value : FieldData) (file : FileState) (m : Model) (n : t < 2 ^ 16)
+    (w : IsWhole value) (a : AreBytes value.bytes) where
+  placed_entry : field_cause file value ≡ None
+      → Fits (placed_field value file) file m (λ f. IsEntry (t, f))
   placed_entry c f h l =
       let field : Field = field_at file.kind (end_of file) value in
       let hand : SuppliedField = record { field = field; bytes = value.bytes } in
       let eight = offset_len_8 file.kind in
       let r = room file.kind (is_long file.kind value) file.bytes value.bytes hand
-      (λ s. let below = ltb-false (offset_len file.kind) (length value.bytes) s in omega (arith, below, eight)) l in (
+      (λ s. let below = ltb-false (offset_len file.kind) (length value.bytes) s in
+      omega (arith, below, eight)) l in (
         placed_fits file m value w c r.0 r.1,
         subst (λ g. IsEntry (t, g)) (ok_inj field f h) (field_entry file.kind (end_of file) t value n w a r.1),
       )
@@ -190,14 +217,16 @@ module _ (t : ℕ) (value : FieldData) (file : FileState) (m : Model) (n : t < 2
   entry_fits : Fits (write_entry (Ok value) file) file m (λ f. IsEntry (t, f))
   unfolding write_entry write_tag_cause
   entry_fits =
-      cause_fits (write_tag_cause file (Ok value)) (answers (Ok value) >>= placed_field) file m (λ f. IsEntry (t, f))
+      cause_fits (write_tag_cause file (Ok value)) (answers (Ok value)
+      >>= placed_field) file m (λ f. IsEntry (t, f))
       (λ c. placed_entry (unended file.fault (field_cause file value) c))
 
 -- the fields of a directory are entries, and its parent is the given one
 abbrev pub Keeps : Option ℕ → OpenDirectory → Type 0
 Keeps parent d = AreEntries d.fields × (d.parent ≡ parent)
 
-pub tag_fits : (parent : Option ℕ) (d : OpenDirectory) (value : Tag × FieldData) (file : FileState) (m : Model) → IsData value
+pub tag_fits : (parent : Option ℕ) (d : OpenDirectory) (value : Tag × FieldData) (file : FileState)
+    (m : Model) → IsData value
     → Keeps parent d → Fits (write_tag d value.0 (Ok value.1) file) file m (Keeps parent)
 unfolding write_tag
 tag_fits parent d value file m g k =
@@ -208,7 +237,8 @@ tag_fits parent d value file m g k =
     let e = entry_fits t value.1 file m g.tag g.whole g.bytes f h l in
     (e.0, (insert_entries d.fields t f e.1 k.0, k.1)))
 
-pub fields_done : (d : OpenDirectory) (values : List (Tag × FieldData)) (file : FileState) → IsDone (write_fields d values file) file
+pub fields_done : (d : OpenDirectory) (values : List (Tag × FieldData)) (file : FileState)
+    → IsDone (write_fields d values file) file
 fields_done d [] file = gives_done d file
 fields_done d (value ∷ values) file =
     let call : WriteCall OpenDirectory = write_tag d value.0 (Ok value.1) in
@@ -216,7 +246,8 @@ fields_done d (value ∷ values) file =
     (adding_done (call file) file (adding _ _ (tag_adds d value.0 (Ok value.1) file)))
     (λ next _. fields_done next values (call file).next)
 
-pub fields_fit : (parent : Option ℕ) (d : OpenDirectory) (values : List (Tag × FieldData)) (file : FileState) (m : Model)
+pub fields_fit : (parent : Option ℕ) (d : OpenDirectory) (values : List (Tag × FieldData))
+    (file : FileState) (m : Model)
     → AreData values → Keeps parent d → Fits (write_fields d values file) file m (Keeps parent)
 fields_fit parent d [] file m g k = gives_fits d file m (Keeps parent) k
 fields_fit parent d (value ∷ values) file m g k =

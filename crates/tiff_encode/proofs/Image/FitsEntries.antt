@@ -37,14 +37,16 @@ map_of_entries : (fields : FinMap nat_cmp Field) → from_entries (entries field
 map_of_entries fields =
     same_entries_map (from_entries (entries fields)) fields (entries_of (entries fields) (entries_sorted fields))
 
-pub insert_entries : (fields : FinMap nat_cmp Field) (k : ℕ) (f : Field) → IsEntry (k, f) → AreEntries fields
+pub insert_entries : (fields : FinMap nat_cmp Field) (k : ℕ) (f : Field) → IsEntry (k, f)
+    → AreEntries fields
     → AreEntries (insert fields k f)
 insert_entries fields k f new all =
     subst (λ m. AreEntries (insert m k f)) (map_of_entries fields)
     (tree_fits ((k, f) ∷ entries fields) (more_fits (k, f) (entries fields) new all))
 
 -- the entries that pass a test fit
-either_fits : (b : Bool) (x : ℕ × Field) (es : List (ℕ × Field)) → IsEntry x → Fit es → Fit (cond b (x ∷ es) es)
+either_fits : (b : Bool) (x : ℕ × Field) (es : List (ℕ × Field)) → IsEntry x → Fit es
+    → Fit (cond b (x ∷ es) es)
 either_fits true x es new old = more_fits x es new old
 either_fits false x es new old = old
 
@@ -59,7 +61,8 @@ turned false x y = refl
 
 -- the entries without one key are those of the map without that key
 removed : (fields : FinMap nat_cmp Field) (k : ℕ)
-    → from_entries (where_key nat_cmp (λ q. not (eq_by_cmp nat_cmp q k)) (entries fields)) ≡ remove fields k
+    → from_entries (where_key nat_cmp (λ q. not (eq_by_cmp nat_cmp q k)) (entries fields))
+    ≡ remove fields k
 removed fields k =
     let p : ℕ → Bool = λ q. not (eq_by_cmp nat_cmp q k) in
     let es : List (ℕ × Field) = where_key nat_cmp p (entries fields) in
@@ -70,9 +73,11 @@ removed fields k =
     ∙ ap (cond (eq_by_cmp nat_cmp q k) None) (sym (get-entries fields q))
     ∙ sym (get-remove nat_cmp_total fields k q))
 
-pub remove_entries : (fields : FinMap nat_cmp Field) (k : ℕ) → AreEntries fields → AreEntries (remove fields k)
+pub remove_entries : (fields : FinMap nat_cmp Field) (k : ℕ) → AreEntries fields
+    → AreEntries (remove fields k)
 remove_entries fields k all =
-    let es : List (ℕ × Field) = where_key nat_cmp (λ q. not (eq_by_cmp nat_cmp q k)) (entries fields) in
+    let es : List (ℕ × Field) =
+    where_key nat_cmp (λ q. not (eq_by_cmp nat_cmp q k)) (entries fields) in
     subst AreEntries (removed fields k) (tree_fits es (chosen_fit (λ q. not (eq_by_cmp nat_cmp q k)) (entries fields) all))
 
 -- ---- bytes
@@ -95,7 +100,8 @@ zeros : (n : ℕ) → AreBytes (replicate n 0)
 zeros zero = tt
 zeros (suc n) = (omega arith, zeros n)
 
-bytes_each : {A : Type 0} (f : A → List ℕ) → ((x : A) → AreBytes (f x)) → (xs : List A) → AreBytes (flat_map f xs)
+bytes_each : {A : Type 0} (f : A → List ℕ) → ((x : A) → AreBytes (f x)) → (xs : List A)
+    → AreBytes (flat_map f xs)
 bytes_each f h [] = tt
 bytes_each f h (x ∷ xs) = bytes_joined (f x) (flat_map f xs) (h x) (bytes_each f h xs)
 
@@ -133,7 +139,8 @@ data_bytes (i64s ns) = bytes_each (signed_le w64) (λ n. le_bytes 8 _) ns
 data_bytes (bits32s ns) = bytes_each (le 4) (le_bytes 4) ns
 data_bytes (bits64s ns) = bytes_each (le 8) (le_bytes 8) ns
 data_bytes (methods ms) = bytes_each (λ m. le 2 (method_number m)) (λ m. le_bytes 2 _) ms
-data_bytes (interpretations is) = bytes_each (λ i. le 2 (interpretation_number i)) (λ i. le_bytes 2 _) is
+data_bytes (interpretations is) =
+    bytes_each (λ i. le 2 (interpretation_number i)) (λ i. le_bytes 2 _) is
 data_bytes (planars ps) = bytes_each (λ p. le 2 (planar_number p)) (λ p. le_bytes 2 _) ps
 data_bytes (predictors ps) = bytes_each (λ p. le 2 (predictor_number p)) (λ p. le_bytes 2 _) ps
 data_bytes (units us) = bytes_each (λ u. le 2 (unit_number u)) (λ u. le_bytes 2 _) us
@@ -175,25 +182,31 @@ few_values n zero h = absurd (omega (arith, h))
 
 -- the eight bytes of a value field are bytes
 filled_bytes : (xs : List ℕ) → AreBytes xs → AreBytes (filled_field xs)
-filled_bytes xs a = bytes_taken 8 (xs ++ replicate 8 0) (bytes_joined xs (replicate 8 0) a (zeros 8))
+filled_bytes xs a =
+    bytes_taken 8 (xs ++ replicate 8 0) (bytes_joined xs (replicate 8 0) a (zeros 8))
 
 filled_length : (xs : List ℕ) → length (filled_field xs) ≡ 8
 filled_length xs =
     length-take-le 8 (xs ++ replicate 8 0) (omega (arith, length-append xs (replicate 8 0)))
 
-value_bytes : (long : Bool) (offset : ℕ) (xs : List ℕ) → AreBytes xs → AreBytes (cond long (le 8 offset) (filled_field xs))
+value_bytes : (long : Bool) (offset : ℕ) (xs : List ℕ) → AreBytes xs
+    → AreBytes (cond long (le 8 offset) (filled_field xs))
 value_bytes true offset xs a = le_bytes 8 offset
 value_bytes false offset xs a = filled_bytes xs a
 
-value_length : (long : Bool) (offset : ℕ) (xs : List ℕ) → length (cond long (le 8 offset) (filled_field xs)) ≡ 8
+value_length : (long : Bool) (offset : ℕ) (xs : List ℕ)
+    → length (cond long (le 8 offset) (filled_field xs)) ≡ 8
 value_length true offset xs = refl
 value_length false offset xs = filled_length xs
 
-pub field_entry : (kind : FileKind) (offset t : ℕ) (value : FieldData) → t < 2 ^ 16 → IsWhole value → AreBytes value.bytes
+pub field_entry : (kind : FileKind) (offset t : ℕ) (value : FieldData) → t < 2 ^ 16 → IsWhole value
+    → AreBytes value.bytes
     → length value.bytes < 2 ^ 64 → IsEntry (t, field_at kind offset value)
 field_entry kind offset t value n w a l = record {
   tag = n;
-  count = (let f = few_values value.count (type_size value.field_type) (some_size value.field_type) in omega (arith, f, w, l));
+  count =
+      (let f = few_values value.count (type_size value.field_type) (some_size value.field_type) in
+      omega (arith, f, w, l));
   whole = value_length (is_long kind value) offset value.bytes;
   octets = octets _ (value_bytes (is_long kind value) offset value.bytes a);
 }

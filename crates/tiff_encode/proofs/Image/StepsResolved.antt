@@ -1,4 +1,5 @@
--- What `resolution` does from a `FileAndModel` of its file: after an error of the sink, or if the call
+-- What `resolution` does from a `FileAndModel` of its file: after an error of the sink, or if the
+-- call
 -- runs out of memory, the file may contain its first tags.
 use Rattle.std.proofs.Common.{zero, suc, ◌≡◌, ℕ, ◌^◌, ◌<◌, ◌≤◌, ◌⊎◌, Bool, true, List, [], ◌∷◌, ◌++◌, length, take, drop, None, Result, Ok, Err, refl, ap, sym, ◌∙◌, inl, inr, subst, arith, length-append}
 use Rattle.std.proofs.lemmas.List.{take-map, drop-map, take-append-drop}
@@ -41,7 +42,8 @@ use Rattle.tiff_encode.proofs.Tagging.{tags_are_fields, fields_told}
 
 -- ---- an image with some more tags
 
-with_adding : (i : OpenImage) (values : List (Tag × Scalars)) (file : FileState) → IsAdding (with_tags i values file) file
+with_adding : (i : OpenImage) (values : List (Tag × Scalars)) (file : FileState)
+    → IsAdding (with_tags i values file) file
 with_adding i values file = row_adding (tagged (λ f. None) values) i file
 
 -- the first tags of some have short numbers if all have
@@ -53,11 +55,13 @@ few_short (suc k) (x ∷ xs) h =
     ap (λ b. b && are_short (take k xs)) each.0 ∙ few_short k xs each.1
 
 -- equal results have equal errors
-refused_alike : {B : Type 0} (f e : TiffError) → (let a : Result B TiffError = Err f in let b : Result B TiffError = Err e in a ≡ b) → f ≡ e
+refused_alike : {B : Type 0} (f e : TiffError)
+    → (let a : Result B TiffError = Err f in let b : Result B TiffError = Err e in a ≡ b) → f ≡ e
 refused_alike f e h = cc
 
 -- if an image with the tags is refused, the tags are refused
-gives_refused : {A B : Type 0} (r : Result A TiffError) (told : WriteOutcome A) (g : A → B) (file : FileState) (e : TiffError) → told.answer ≡ r
+gives_refused : {A B : Type 0} (r : Result A TiffError) (told : WriteOutcome A) (g : A → B)
+    (file : FileState) (e : TiffError) → told.answer ≡ r
     → (((λ (f : FileState). told) >>= (λ x. gives (g x))) file).answer ≡ Err e → told.answer ≡ Err e
 gives_refused (Ok x) told g file e q h =
     absurd (no_answer (sym (sym (ap (λ r. (and_then r told.ops told.next (λ x. gives (g x))).answer) q) ∙ h)))
@@ -74,48 +78,64 @@ module _ (u : ResolutionUnit) (value : ℕ × ℕ) where
   fields = fields_of (resolution_tags u value)
 
   -- writing the tags that are left makes a change unless it is refused
-  left_adds : (k : ℕ) → k < 3 → (d : OpenDirectory) (file : FileState) → Adds (write_tags d (drop k tags) file) file
+  left_adds : (k : ℕ) → k < 3 → (d : OpenDirectory) (file : FileState)
+      → Adds (write_tags d (drop k tags) file) file
   left_adds zero l d file =
-      several_adds tag.ResolutionUnit (units (u ∷ [])) ((tag.XResolution, rationals (value ∷ [])) ∷ (tag.YResolution, rationals (value ∷ [])) ∷ []) d file
-  left_adds (suc zero) l d file = several_adds tag.XResolution (rationals (value ∷ [])) ((tag.YResolution, rationals (value ∷ [])) ∷ []) d file
-  left_adds (suc (suc zero)) l d file = several_adds tag.YResolution (rationals (value ∷ [])) [] d file
+      several_adds tag.ResolutionUnit (units (u ∷ [])) ((tag.XResolution, rationals (value ∷ []))
+      ∷ (tag.YResolution, rationals (value ∷ [])) ∷ []) d file
+  left_adds (suc zero) l d file =
+      several_adds tag.XResolution (rationals (value
+      ∷ [])) ((tag.YResolution, rationals (value ∷ [])) ∷ []) d file
+  left_adds (suc (suc zero)) l d file =
+      several_adds tag.YResolution (rationals (value ∷ [])) [] d file
   left_adds (suc (suc (suc k))) l d file = absurd (omega (arith, l))
 
   -- The first tags are written, and the others fail.
   module _ (i : OpenImage) (d : OpenDirectory) (k : ℕ) (l : k < 3) (old mid new : FileState) (e : TiffError)
-      (h : EndsAsDefined (write_fields i.directory (take k fields) old) (Ok d) mid) (f : CallFails (write_fields d (drop k fields) mid) e mid new) where
+      (h : EndsAsDefined (write_fields i.directory (take k fields) old) (Ok d) mid)
+      (f : CallFails (write_fields d (drop k fields) mid) e mid new) where
     abbrev image : OpenImage
     image = with_directory_of i d
 
     first_told : EndsAsDefined (with_tags i (take k tags) old) (Ok image) mid
     first_told =
-        bind_told (write_tags i.directory (take k tags)) (λ d. gives (with_directory_of i d)) d (Ok image) old mid mid
+        bind_told (write_tags i.directory (take k tags)) (λ d. gives (with_directory_of i d)) d
+        (Ok image) old mid mid
         (subst (λ told. EndsAsDefined told (Ok d) mid)
         (ap (λ vs. write_fields i.directory vs old) (take-map (λ v. (v.0, data_of v.1)) k tags) ∙ sym (tags_are_fields i.directory (take k tags) old)) h)
         (record { answer = refl; state = refl })
 
     others : write_fields d (drop k fields) mid ≡ write_tags d (drop k tags) mid
-    others = ap (λ vs. write_fields d vs mid) (drop-map (λ v. (v.0, data_of v.1)) k tags) ∙ sym (tags_are_fields d (drop k tags) mid)
+    others =
+        ap (λ vs. write_fields d vs mid) (drop-map (λ v. (v.0, data_of v.1)) k tags)
+        ∙ sym (tags_are_fields d (drop k tags) mid)
 
     others_fail : CallFails (with_tags image (drop k tags) mid) e mid new
     others_fail =
-        bind_fails (write_tags d (drop k tags)) (λ x. gives (with_directory_of image x)) e mid new (left_adds k l d mid)
+        bind_fails (write_tags d (drop k tags)) (λ x. gives (with_directory_of image x)) e mid new
+        (left_adds k l d mid)
         (subst (λ told. CallFails told e mid new) others f)
 
     unrefused : resolution_cause old ≡ None → (with_tags image (drop k tags) mid).answer ≡ Err e → ⊥
     unrefused c r =
         let told : WriteOutcome OpenDirectory = write_fields d (drop k fields) mid in
         let refused : told.answer ≡ Err e =
-        ap (λ x. x.answer) others ∙ gives_refused _ (write_tags d (drop k tags) mid) (λ x. with_directory_of image x) mid e refl r in
-        let whole = fields_told i.directory d (take k fields) (drop k fields) (Err e) old mid told.next h (record { answer = refused; state = refl }) in
+        ap (λ x. x.answer) others ∙ gives_refused _ (write_tags d (drop k tags) mid)
+        (λ x. with_directory_of image x) mid e refl r in
+        let whole =
+        fields_told i.directory d (take k fields) (drop k fields) (Err e) old mid told.next h
+        (record { answer = refused; state = refl }) in
         let all : EndsAsDefined (write_tags i.directory tags old) (Err e) told.next =
         subst (λ x. EndsAsDefined x (Err e) told.next)
-        (ap (λ vs. write_fields i.directory vs old) (take-append-drop k fields) ∙ sym (tags_are_fields i.directory tags old)) whole in
+        (ap (λ vs. write_fields i.directory vs old) (take-append-drop k fields)
+        ∙ sym (tags_are_fields i.directory tags old)) whole in
         never_refused i.directory u value old e c all.answer
 
     -- the sink fails, or the call runs out of memory
     abbrev Stops : Type 0
-    Stops = AppendFailed (with_tags image (drop k tags) mid).ops e mid new ⊎ IsShortOfMemory (with_tags image (drop k tags) mid) e mid new
+    Stops =
+        AppendFailed (with_tags image (drop k tags) mid).ops e mid new
+        ⊎ IsShortOfMemory (with_tags image (drop k tags) mid) e mid new
 
     stops : resolution_cause old ≡ None → Stops
     stops c =
@@ -135,23 +155,30 @@ record IsLonger (mid new : FileState) : Type 0 where
   kind : new.kind ≡ mid.kind
   longer : end_of mid ≤ end_of new
 
-longer_by : (told : WriteOutcome OpenImage) (e : TiffError) (mid new : FileState) → AppendFailed told.ops e mid new ⊎ IsShortOfMemory told e mid new → IsLonger mid new
+longer_by : (told : WriteOutcome OpenImage) (e : TiffError) (mid new : FileState)
+    → AppendFailed told.ops e mid new ⊎ IsShortOfMemory told e mid new → IsLonger mid new
 longer_by told e mid new (inl x) =
-    let l : end_of new ≡ length (mid.bytes ++ take x.count (all_appended mid.kind told.ops)) = ap (λ f. end_of f) x.state in
+    let l : end_of new ≡ length (mid.bytes ++ take x.count (all_appended mid.kind told.ops)) =
+    ap (λ f. end_of f) x.state in
     record { kind = ap (λ f. f.kind) x.state; longer = omega (arith, l, length-append mid.bytes (take x.count (all_appended mid.kind told.ops))) }
 longer_by told e mid new (inr x) =
-    let l : end_of new ≡ length (mid.bytes ++ take x.count (all_appended mid.kind told.ops)) = ap (λ f. end_of f) x.state in
+    let l : end_of new ≡ length (mid.bytes ++ take x.count (all_appended mid.kind told.ops)) =
+    ap (λ f. end_of f) x.state in
     record { kind = ap (λ f. f.kind) x.state; longer = omega (arith, l, length-append mid.bytes (take x.count (all_appended mid.kind told.ops))) }
 
-either_fails : (told : WriteOutcome OpenImage) (e : TiffError) (mid new : FileState) → AppendFailed told.ops e mid new ⊎ IsShortOfMemory told e mid new
+either_fails : (told : WriteOutcome OpenImage) (e : TiffError) (mid new : FileState)
+    → AppendFailed told.ops e mid new ⊎ IsShortOfMemory told e mid new
     → CallFails told e mid new
 either_fails told e mid new (inl x) = inr (inl x)
 either_fails told e mid new (inr x) = inr (inr (inr x))
 
 -- what the file contains after two calls of an image, the second of which fails
-stands_after : (one two : WriteOutcome OpenImage) (j : OpenImage) (e : TiffError) (old mid new : FileState) (m : Model) → EndsAsDefined one (Ok j) mid
-    → IsAdding one old → IsAdding two mid → Fits one old m (λ j. Unit {0}) → AppendFailed two.ops e mid new ⊎ IsShortOfMemory two e mid new
-    → end_of new < 2 ^ 64 → FileContains old.kind old.bytes m → FileContains new.kind new.bytes (model_by old m one)
+stands_after : (one two : WriteOutcome OpenImage) (j : OpenImage) (e : TiffError)
+    (old mid new : FileState) (m : Model) → EndsAsDefined one (Ok j) mid
+    → IsAdding one old → IsAdding two mid → Fits one old m (λ j. Unit {0})
+    → AppendFailed two.ops e mid new ⊎ IsShortOfMemory two e mid new
+    → end_of new < 2 ^ 64 → FileContains old.kind old.bytes m
+    → FileContains new.kind new.bytes (model_by old m one)
 stands_after one two j e old mid new m told a b f x short s =
     let view : OpenImage → OpenImage = λ n. n in
     let n : Model = model_by old m one in
@@ -161,7 +188,8 @@ stands_after one two j e old mid new m told a b f x short s =
     let same : mid.kind ≡ old.kind = ap (λ f. f.kind) (told.state ∙ a.next) in
     let first : FileContains old.kind mid.bytes n =
     left_so view one (Ok j) old mid m a (λ y _. (f j told.answer (omega (arith, end, longer, short))).0) s told in
-    let then_ : FileContains mid.kind mid.bytes n = subst (λ kind. FileContains kind mid.bytes n) (sym same) first in
+    let then_ : FileContains mid.kind mid.bytes n =
+    subst (λ kind. FileContains kind mid.bytes n) (sym same) first in
     let last : Result OpenImage TiffError = Err e in
     subst (λ kind. FileContains kind new.bytes n) (sym l.kind)
     (left_so view two last mid new n b (λ y q. absurd (no_answer q)) then_ (either_fails two e mid new x))
@@ -176,14 +204,17 @@ module _ (u : ResolutionUnit) (value : ℕ × ℕ) (i j : OpenImage) (e : TiffEr
       × (StandsIfKnown known t × (Grows s.model t.model
       × (true ≡ true → RecordsImage s.file.kind s.model i before → RecordsImage s.file.kind t.model j after))))))
 
-  in_part : (known : Bool) (s : FileAndModel) (before : List (List ℕ)) → StandsIfKnown known s → resolution_cause s.file ≡ None
-      → (d : OpenDirectory) → j ≡ with_directory_of i d → StopsInPart i.directory (fields_of (resolution_tags u value)) e s.file new d
+  in_part : (known : Bool) (s : FileAndModel) (before : List (List ℕ)) → StandsIfKnown known s
+      → resolution_cause s.file ≡ None
+      → (d : OpenDirectory) → j ≡ with_directory_of i d
+      → StopsInPart i.directory (fields_of (resolution_tags u value)) e s.file new d
       → Resolved known s before
   in_part known s before q c d w p =
       let k : ℕ = p.0 in
       let mid : FileState = p.1.1.0 in
       let all : List (Tag × Scalars) = resolution_tags u value in
-      let told : EndsAsDefined (with_tags i (take k all) s.file) (Ok (with_directory_of i d)) mid = first_told u value i d k p.1.0 s.file mid new e p.1.1.1.0 p.1.1.1.1 in
+      let told : EndsAsDefined (with_tags i (take k all) s.file) (Ok (with_directory_of i d)) mid =
+      first_told u value i d k p.1.0 s.file mid new e p.1.1.1.0 p.1.1.1.1 in
       let stop = stops u value i d k p.1.0 s.file mid new e p.1.1.1.0 p.1.1.1.1 c in
       let one : WriteOutcome OpenImage = with_tags i (take k all) s.file in
       let two : WriteOutcome OpenImage = with_tags (with_directory_of i d) (drop k all) mid in
@@ -194,10 +225,14 @@ module _ (u : ResolutionUnit) (value : ℕ × ℕ) (i j : OpenImage) (e : TiffEr
         | inl x ↦ inl (refl, x)
         | inr x ↦ inr (refl, x)
       ] in
-      let part : jobs.ResolvesInPart i all e s t (with_directory_of i d) = (c, (k, (p.1.0, (middle, (record { ended = told; model = refl }, failed))))) in
-      let stands : StandsIfKnown known t = λ y. stands_after one two (with_directory_of i d) e s.file mid new s.model told
-      (with_adding i (take k all) s.file) (with_adding (with_directory_of i d) (drop k all) mid) (λ x h l. ((row_fits (tagged (λ f. None) (take k all)) (few_short k all refl) (λ j d e. e) i s.file s.model a x h l).0, tt)) stop short (q y) in
-      let kept : RecordsImage s.file.kind s.model i before → RecordsImage s.file.kind m (with_directory_of i d) before = λ h.
+      let part : jobs.ResolvesInPart i all e s t (with_directory_of i d) =
+      (c, (k, (p.1.0, (middle, (record { ended = told; model = refl }, failed))))) in
+      let stands : StandsIfKnown known t =
+      λ y. stands_after one two (with_directory_of i d) e s.file mid new s.model told
+      (with_adding i (take k all) s.file) (with_adding (with_directory_of i d) (drop k all) mid)
+      (λ x h l. ((row_fits (tagged (λ f. None) (take k all)) (few_short k all refl) (λ j d e. e) i s.file s.model a x h l).0, tt)) stop short (q y) in
+      let kept : RecordsImage s.file.kind s.model i before
+      → RecordsImage s.file.kind m (with_directory_of i d) before = λ h.
       with_tags_kept (λ f. None) (take k all) (few_none (λ v. is_page_tag (tag_number v.0)) all k refl) s.file s.model i (with_directory_of i d) before h told.answer in (
         t,
         (
@@ -213,21 +248,28 @@ module _ (u : ResolutionUnit) (value : ℕ × ℕ) (i j : OpenImage) (e : TiffEr
       )
 
 -- `resolution`
-pub resolution_draws : (i j : OpenImage) (u : ResolutionUnit) (value : ℕ × ℕ) (r : Result (Unit {0}) TiffError) (old new : FileState)
+pub resolution_draws : (i j : OpenImage) (u : ResolutionUnit) (value : ℕ × ℕ)
+    (r : Result (Unit {0}) TiffError) (old new : FileState)
     → AreEntries i.directory.fields → end_of new < 2 ^ 64
-    → IfErr r (λ e. StopsResolving i u value e old new j) → Ends (λ _. j) (resolution i u value old) r old new
-    → ((m : Model) → FileContains old.kind old.bytes m → Leaves (resolution i u value old) r old new m)
+    → IfErr r (λ e. StopsResolving i u value e old new j)
+    → Ends (λ _. j) (resolution i u value old) r old new
+    → ((m : Model) → FileContains old.kind old.bytes m
+    → Leaves (resolution i u value old) r old new m)
     → ResolutionDraws i u value (reply_to r) old new j
 resolution_draws i j u value (Ok x) old new a short p e l =
-    call_draws (λ i. resolution i u value) i j (Ok x) old new (setting_adding (Both u value) i old) (resolutions_keep_open.0 u value) tt e l
+    call_draws (λ i. resolution i u value) i j (Ok x) old new (setting_adding (Both u value) i old)
+    (resolutions_keep_open.0 u value) tt e l
 resolution_draws i j u value (Err f) old new a short p e l =
     elim p as (λ _. ResolutionDraws i u value (Err f) old new j) [
       | inl x ↦ (let drawn : CallDraws (λ i. resolution i u value) i (Err f) old new j =
           call_draws (λ i. resolution i u value) i j (Err f) old new (setting_adding (Both u value) i old) (resolutions_keep_open.0 u value) x.0 e l in
           λ known s before q k. let d = drawn known s before q k in (d.0, (d.1.0, (d.1.1.0, ((d.1.1.1.0.0, inl d.1.1.1.0.1), d.1.1.1.1)))))
       | inr y ↦ (λ known s before q k.
-          let P : FileState → Type 0 = λ old. resolution_cause old ≡ None → StopsInPart i.directory (fields_of (resolution_tags u value)) f old new y.1.0
+          let P : FileState → Type 0 =
+          λ old. resolution_cause old ≡ None
+          → StopsInPart i.directory (fields_of (resolution_tags u value)) f old new y.1.0
           → Resolved u value i j f new a short known s before in
-          let d = subst P q (λ c z. in_part u value i j f new a short known s before k c y.1.0 y.1.1.0 z) y.0 y.1.1.1 in
+          let d =
+          subst P q (λ c z. in_part u value i j f new a short known s before k c y.1.0 y.1.1.0 z) y.0 y.1.1.1 in
           (d.0, (d.1.0, (d.1.1.0, ((d.1.1.1.0.0, inr d.1.1.1.0.1), d.1.1.1.1)))))
     ]

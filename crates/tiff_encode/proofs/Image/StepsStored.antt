@@ -31,45 +31,60 @@ use Rattle.std.proofs.lemmas.List.{length-map}
 
 -- the file is at least as long as the stored bytes
 chunk_within : (cause : Option TiffError) (i next : OpenImage) (stored : List ℕ) (file : FileState)
-    → (by_cause cause (appends_chunk i stored) file).answer ≡ Ok next → length stored ≤ end_of (by_cause cause (appends_chunk i stored) file).next
+    → (by_cause cause (appends_chunk i stored) file).answer ≡ Ok next
+    → length stored ≤ end_of (by_cause cause (appends_chunk i stored) file).next
 chunk_within None i next stored file a = omega (arith, length-append file.bytes stored)
 chunk_within (Some e) i next stored file a = absurd (no_answer a)
 
 -- the image with the chunk has the same directory
 chunk_parent : (cause : Option TiffError) (i next : OpenImage) (stored : List ℕ) (file : FileState)
-    → (by_cause cause (appends_chunk i stored) file).answer ≡ Ok next → next.directory.parent ≡ i.directory.parent
-chunk_parent None i next stored file a = ap (λ j. j.directory.parent) (sym (ok_inj (with_chunk i (end_of file) (length stored)) next a))
+    → (by_cause cause (appends_chunk i stored) file).answer ≡ Ok next
+    → next.directory.parent ≡ i.directory.parent
+chunk_parent None i next stored file a =
+    ap (λ j. j.directory.parent) (sym (ok_inj (with_chunk i (end_of file) (length stored)) next a))
 chunk_parent (Some e) i next stored file a = absurd (no_answer a)
 
 -- ---- a call that writes a chunk
 
 -- `write_strip` or `write_chunk`, if memory for the samples is available
-abbrev pub StoresIfFound : (OpenImage → ℕ → List ℕ → WriteCall OpenImage) → Option TiffError → jobs.Drawn → List ℕ → Result StepReply TiffError
+abbrev pub StoresIfFound : (OpenImage → ℕ → List ℕ → WriteCall OpenImage) → Option TiffError
+    → jobs.Drawn → List ℕ → Result StepReply TiffError
     → jobs.FileAndModel → jobs.FileAndModel → jobs.Drawn → Type 0
 StoresIfFound call cause i samples r old new t =
     (t.samples ≡ jobs.samples_after r i samples)
-    × (jobs.StoresBy call cause i.image samples r old new t.image ⊎ jobs.IsUnfound r i.image old new t.image)
+    × (jobs.StoresBy call cause i.image samples r old new t.image
+    ⊎ jobs.IsUnfound r i.image old new t.image)
 
--- Properties of a call that writes a chunk: it only appends, the directory of the image keeps its parent, the file
+-- Properties of a call that writes a chunk: it only appends, the directory of the image keeps its
+-- parent, the file
 -- contains the bytes, and a held image stays held with the chunk.
 pub record IsStoring (call : OpenImage → ℕ → List ℕ → WriteCall OpenImage) : Type 0 where
-  pub adds : (i : OpenImage) (n : ℕ) (stored : List ℕ) (file : FileState) → IsAdding (call i n stored file) file
-  pub parent : (i next : OpenImage) (n : ℕ) (stored : List ℕ) (file : FileState) → (call i n stored file).answer ≡ Ok next
+  pub adds : (i : OpenImage) (n : ℕ) (stored : List ℕ) (file : FileState)
+      → IsAdding (call i n stored file) file
+  pub parent : (i next : OpenImage) (n : ℕ) (stored : List ℕ) (file : FileState)
+      → (call i n stored file).answer ≡ Ok next
       → next.directory.parent ≡ i.directory.parent
-  pub within : (i next : OpenImage) (n : ℕ) (stored : List ℕ) (file : FileState) → (call i n stored file).answer ≡ Ok next
+  pub within : (i next : OpenImage) (n : ℕ) (stored : List ℕ) (file : FileState)
+      → (call i n stored file).answer ≡ Ok next
       → length stored ≤ end_of (call i n stored file).next
-  pub keeps : (file : FileState) (m : Model) (i next : OpenImage) (samples : List (List ℕ)) (numbers stored : List ℕ)
-      → RecordsImage file.kind m i samples → ((n : ℕ) → get_or numbers n 0 < 256 ^ i.size) → length numbers < 2 ^ 64 - 1
+  pub keeps : (file : FileState) (m : Model) (i next : OpenImage) (samples : List (List ℕ))
+      (numbers stored : List ℕ)
+      → RecordsImage file.kind m i samples → ((n : ℕ) → get_or numbers n 0 < 256 ^ i.size)
+      → length numbers < 2 ^ 64 - 1
       → IsChunkStored i stored numbers → end_of file < 2 ^ 64 → length stored < 2 ^ 64
       → (call i (length numbers) stored file).answer ≡ Ok next
-      → RecordsImage file.kind (model_by file m (call i (length numbers) stored file)) next (samples ++ numbers ∷ [])
+      → RecordsImage file.kind (model_by file m (call i (length numbers) stored file)) next (samples
+      ++ numbers ∷ [])
 
 pub strips_store : IsStoring write_strip
 unfolding write_strip
 strips_store = record {
-  adds = λ i n stored file. adding _ file (stored_adds (write_strip_cause file i n (length stored)) i stored file);
-  parent = λ i next n stored file a. chunk_parent (write_strip_cause file i n (length stored)) i next stored file a;
-  within = λ i next n stored file a. chunk_within (write_strip_cause file i n (length stored)) i next stored file a;
+  adds =
+      λ i n stored file. adding _ file (stored_adds (write_strip_cause file i n (length stored)) i stored file);
+  parent =
+      λ i next n stored file a. chunk_parent (write_strip_cause file i n (length stored)) i next stored file a;
+  within =
+      λ i next n stored file a. chunk_within (write_strip_cause file i n (length stored)) i next stored file a;
   keeps = λ file m i next samples numbers stored h s l is near short a.
       (chunks_keep_open file m i next samples numbers stored h s l is near short).1 a;
 }
@@ -77,18 +92,25 @@ strips_store = record {
 pub chunks_store : IsStoring write_chunk
 unfolding write_chunk
 chunks_store = record {
-  adds = λ i n stored file. adding _ file (stored_adds (write_chunk_cause file i n (length stored)) i stored file);
-  parent = λ i next n stored file a. chunk_parent (write_chunk_cause file i n (length stored)) i next stored file a;
-  within = λ i next n stored file a. chunk_within (write_chunk_cause file i n (length stored)) i next stored file a;
+  adds =
+      λ i n stored file. adding _ file (stored_adds (write_chunk_cause file i n (length stored)) i stored file);
+  parent =
+      λ i next n stored file a. chunk_parent (write_chunk_cause file i n (length stored)) i next stored file a;
+  within =
+      λ i next n stored file a. chunk_within (write_chunk_cause file i n (length stored)) i next stored file a;
   keeps = λ file m i next samples numbers stored h s l is near short a.
       (chunks_keep_open file m i next samples numbers stored h s l is near short).0 a;
 }
 
-module _ (call : OpenImage → ℕ → List ℕ → WriteCall OpenImage) (c : IsStoring call) (i j : OpenImage) (numbers : List ℕ) (new : FileState)
-    (small : (n : ℕ) → get_or numbers n 0 < 256 ^ i.size) (few : length numbers < 2 ^ 64 - 1) (short : end_of new < 2 ^ 64) where
-  -- from a `FileAndModel` and the samples before the call to a `FileAndModel` of the file after it and the
+module _ (call : OpenImage → ℕ → List ℕ → WriteCall OpenImage) (c : IsStoring call)
+    (i j : OpenImage) (numbers : List ℕ) (new : FileState)
+    (small : (n : ℕ) → get_or numbers n 0 < 256 ^ i.size) (few : length numbers < 2 ^ 64 - 1)
+    (short : end_of new < 2 ^ 64) where
+  -- from a `FileAndModel` and the samples before the call to a `FileAndModel` of the file after it
+  -- and the
   -- samples with the chunk
-  abbrev Stored : Option TiffError → Result (Unit {0}) TiffError → Bool → FileAndModel → List (List ℕ) → Type 0
+  abbrev Stored : Option TiffError → Result (Unit {0}) TiffError → Bool → FileAndModel
+      → List (List ℕ) → Type 0
   Stored cause r known s before =
       (t : FileAndModel) × ((after : List (List ℕ)) × ((t.file ≡ new)
       × (StoresIfFound call cause (record { image = i; samples = before }) numbers (reply_to r) s t (record { image = j; samples = after })
@@ -96,14 +118,17 @@ module _ (call : OpenImage → ℕ → List ℕ → WriteCall OpenImage) (c : Is
       × (true ≡ true → RecordsImage s.file.kind s.model i before → RecordsImage s.file.kind t.model j after))))))
 
   -- the chunk is stored as the given bytes
-  stored_so : (x : Unit {0}) (known : Bool) (s : FileAndModel) (before : List (List ℕ)) (stored : List ℕ) → end_of s.file < 2 ^ 64
-      → IsChunkStored i stored numbers → EndsAsDefined (call i (length numbers) stored s.file) (Ok j) new
+  stored_so : (x : Unit {0}) (known : Bool) (s : FileAndModel) (before : List (List ℕ))
+      (stored : List ℕ) → end_of s.file < 2 ^ 64
+      → IsChunkStored i stored numbers
+      → EndsAsDefined (call i (length numbers) stored s.file) (Ok j) new
       → (known ≡ true → FileContains s.file.kind new.bytes (model_by s.file s.model (call i (length numbers) stored s.file)))
       → Stored None (Ok x) known s before
   stored_so x known s before stored near is told stands =
       let does : WriteOutcome OpenImage = call i (length numbers) stored s.file in
       let m : Model = model_by s.file s.model does in
-      let same : new.kind ≡ s.file.kind = ap (λ f. f.kind) (told.state ∙ (c.adds i (length numbers) stored s.file).next) in
+      let same : new.kind ≡ s.file.kind =
+      ap (λ f. f.kind) (told.state ∙ (c.adds i (length numbers) stored s.file).next) in
       let end : end_of new ≡ end_of does.next = ap (λ f. end_of f) told.state in
       let within = c.within i j (length numbers) stored s.file told.answer in
       let less : length stored < 2 ^ 64 = omega (arith, within, end, short) in
@@ -125,8 +150,10 @@ module _ (call : OpenImage → ℕ → List ℕ → WriteCall OpenImage) (c : Is
       )
 
   -- the call does nothing
-  undone : (cause : Option TiffError) (r : Result (Unit {0}) TiffError) (known : Bool) (s : FileAndModel) (before : List (List ℕ)) → StandsIfKnown known s → new ≡ s.file → j ≡ i
-      → StoresIfFound call cause (record { image = i; samples = before }) numbers (reply_to r) s s (record { image = j; samples = before })
+  undone : (cause : Option TiffError) (r : Result (Unit {0}) TiffError) (known : Bool)
+      (s : FileAndModel) (before : List (List ℕ)) → StandsIfKnown known s → new ≡ s.file → j ≡ i
+      → StoresIfFound call cause (record { image = i; samples = before }) numbers (reply_to r) s s
+      (record { image = j; samples = before })
       → Stored cause r known s before
   undone cause r known s before k q o said = (
     s,
@@ -137,10 +164,13 @@ module _ (call : OpenImage → ℕ → List ℕ → WriteCall OpenImage) (c : Is
   )
 
   -- the call is refused, or the sink fails
-  stopped : (e : TiffError) (known : Bool) (s : FileAndModel) (before : List (List ℕ)) (stored : List ℕ) → j ≡ i
+  stopped : (e : TiffError) (known : Bool) (s : FileAndModel) (before : List (List ℕ))
+      (stored : List ℕ) → j ≡ i
       → IsChunkStored i stored numbers
-      → EndsAsDefined (call i (length numbers) stored s.file) (Err e) new ⊎ AppendFailed (call i (length numbers) stored s.file).ops e s.file new
-      → (known ≡ true → FileContains s.file.kind new.bytes s.model) → Stored None (Err e) known s before
+      → EndsAsDefined (call i (length numbers) stored s.file) (Err e) new
+      ⊎ AppendFailed (call i (length numbers) stored s.file).ops e s.file new
+      → (known ≡ true → FileContains s.file.kind new.bytes s.model)
+      → Stored None (Err e) known s before
   stopped e known s before stored o is h stands =
       let does : WriteOutcome OpenImage = call i (length numbers) stored s.file in
       let t : FileAndModel = record { file = new; model = s.model } in
@@ -169,16 +199,21 @@ module _ (call : OpenImage → ℕ → List ℕ → WriteCall OpenImage) (c : Is
       )
 
   -- if the model is known to describe the file, the stored bytes are those that the model describes
-  stored_by : (x : Unit {0}) (known : Bool) (s : FileAndModel) (before : List (List ℕ)) → StandsIfKnown known s → end_of s.file < 2 ^ 64
+  stored_by : (x : Unit {0}) (known : Bool) (s : FileAndModel) (before : List (List ℕ))
+      → StandsIfKnown known s → end_of s.file < 2 ^ 64
       → (let r : Result (Unit {0}) TiffError = Ok x in WritesStoredChunk call None i numbers r s.file new j
       → ((m : Model) → FileContains s.file.kind s.file.bytes m → LeavesChunk call i numbers r s.file new j m) → Stored None r known s before)
   stored_by x true s before k near w l =
       let a = l s.model (k refl) in stored_so x true s before a.0 near a.1.0 a.1.1.0 (λ _. a.1.1.1)
-  stored_by x false s before k near w l = stored_so x false s before w.0 near w.1.0 w.1.1 (λ q. absurd cc)
+  stored_by x false s before k near w l =
+      stored_so x false s before w.0 near w.1.0 w.1.1 (λ q. absurd cc)
 
-  written : (cause : Option TiffError) (r : Result (Unit {0}) TiffError) (known : Bool) (s : FileAndModel) (before : List (List ℕ))
-      → StandsIfKnown known s → end_of s.file < 2 ^ 64 → WritesStoredChunk call cause i numbers r s.file new j
-      → ((m : Model) → FileContains s.file.kind s.file.bytes m → LeavesChunk call i numbers r s.file new j m) → Stored cause r known s before
+  written : (cause : Option TiffError) (r : Result (Unit {0}) TiffError) (known : Bool)
+      (s : FileAndModel) (before : List (List ℕ))
+      → StandsIfKnown known s → end_of s.file < 2 ^ 64
+      → WritesStoredChunk call cause i numbers r s.file new j
+      → ((m : Model) → FileContains s.file.kind s.file.bytes m
+      → LeavesChunk call i numbers r s.file new j m) → Stored cause r known s before
   written (Some e) r known s before k near w l =
       let said : reply_to r ≡ Err e = ap reply_to w.0 in
       undone (Some e) r known s before k w.1.1 w.1.0
@@ -191,24 +226,31 @@ module _ (call : OpenImage → ℕ → List ℕ → WriteCall OpenImage) (c : Is
       ]
 
 -- a chunk of samples, if memory for them is available
-abbrev StoresAll : (OpenImage → ℕ → List ℕ → WriteCall OpenImage) → (FileState → OpenImage → ℕ → Option TiffError) → List ℕ
+abbrev StoresAll : (OpenImage → ℕ → List ℕ → WriteCall OpenImage)
+    → (FileState → OpenImage → ℕ → Option TiffError) → List ℕ
     → Result StepReply TiffError → FileAndModel → Drawn → FileAndModel → Drawn → Type 0
-StoresAll call cause numbers r s before t after = StoresIfFound call (cause s.file before.image (length numbers)) before numbers r s t after
+StoresAll call cause numbers r s before t after =
+    StoresIfFound call (cause s.file before.image (length numbers)) before numbers r s t after
 
 -- a chunk of the lowest bits of numbers, if memory for them is available
-abbrev pub StoresCut : (OpenImage → ℕ → List ℕ → WriteCall OpenImage) → (FileState → OpenImage → ℕ → Option TiffError) → List ℕ
+abbrev pub StoresCut : (OpenImage → ℕ → List ℕ → WriteCall OpenImage)
+    → (FileState → OpenImage → ℕ → Option TiffError) → List ℕ
     → Result StepReply TiffError → FileAndModel → Drawn → FileAndModel → Drawn → Type 0
-StoresCut call cause given r s before t after = StoresAll call cause (cut_to before.image.size given) r s before t after
+StoresCut call cause given r s before t after =
+    StoresAll call cause (cut_to before.image.size given) r s before t after
 
 -- what a call that writes a chunk does from each `FileAndModel` of the file
-storing_draws : (call : OpenImage → ℕ → List ℕ → WriteCall OpenImage) (cause : FileState → OpenImage → ℕ → Option TiffError) → IsStoring call
+storing_draws : (call : OpenImage → ℕ → List ℕ → WriteCall OpenImage)
+    (cause : FileState → OpenImage → ℕ → Option TiffError) → IsStoring call
     → (i j : OpenImage) (numbers : List ℕ) (r : Result (Unit {0}) TiffError) (old new : FileState)
-    → ((n : ℕ) → get_or numbers n 0 < 256 ^ i.size) → length numbers < 2 ^ 64 - 1 → end_of old < 2 ^ 64 → end_of new < 2 ^ 64
+    → ((n : ℕ) → get_or numbers n 0 < 256 ^ i.size) → length numbers < 2 ^ 64 - 1
+    → end_of old < 2 ^ 64 → end_of new < 2 ^ 64
     → WritesStoredChunk call (cause old i (length numbers)) i numbers r old new j
     → ((m : Model) → FileContains old.kind old.bytes m → LeavesChunk call i numbers r old new j m)
     → DrawMoves i (StoresAll call cause numbers (reply_to r)) true old new j
 storing_draws call cause c i j numbers r old new small few near short w l known s before q k =
-    let P : FileState → Type 0 = λ old. end_of old < 2 ^ 64 → WritesStoredChunk call (cause old i (length numbers)) i numbers r old new j
+    let P : FileState → Type 0 =
+    λ old. end_of old < 2 ^ 64 → WritesStoredChunk call (cause old i (length numbers)) i numbers r old new j
     → ((m : Model) → FileContains old.kind old.bytes m → LeavesChunk call i numbers r old new j m)
     → Stored call c i j numbers new small few short (cause s.file i (length numbers)) r known s before in
     subst P q (λ near w l. written call c i j numbers new small few short (cause s.file i (length numbers)) r known s before k near w l) near w l
@@ -225,24 +267,30 @@ module _ (size : ℕ) (given numbers : List ℕ) (cut : cut_to size given ≡ nu
   -- the number of cut samples stays below the limit of the given ones
   cut_few : length given < 2 ^ 64 - 1 → length numbers < 2 ^ 64 - 1
   cut_few l =
-      let same : length numbers ≡ length given = ap (λ xs. length xs) (sym cut) ∙ length-map given (λ n. n % 256 ^ size) in
+      let same : length numbers ≡ length given =
+      ap (λ xs. length xs) (sym cut) ∙ length-map given (λ n. n % 256 ^ size) in
       subst (λ k. k < 2 ^ 64 - 1) (sym same) l
 
 -- `write_strip` or `write_chunk` of cut samples
-pub cut_draws : (call : OpenImage → ℕ → List ℕ → WriteCall OpenImage) (cause : FileState → OpenImage → ℕ → Option TiffError) → IsStoring call
-    → (i j : OpenImage) (given numbers : List ℕ) (n : ℕ) (r : Result (Unit {0}) TiffError) (old new : FileState) → cut_to i.size given ≡ numbers
+pub cut_draws : (call : OpenImage → ℕ → List ℕ → WriteCall OpenImage)
+    (cause : FileState → OpenImage → ℕ → Option TiffError) → IsStoring call
+    → (i j : OpenImage) (given numbers : List ℕ) (n : ℕ) (r : Result (Unit {0}) TiffError)
+    (old new : FileState) → cut_to i.size given ≡ numbers
     → n ≡ length numbers → length given < 2 ^ 64 - 1 → end_of old < 2 ^ 64 → end_of new < 2 ^ 64
     → WritesStoredChunk call (cause old i n) i numbers r old new j
     → ((m : Model) → FileContains old.kind old.bytes m → LeavesChunk call i numbers r old new j m)
     → DrawMoves i (StoresCut call cause given (reply_to r)) true old new j
 cut_draws call cause c i j given numbers n r old new cut count few near short w l =
-    let P : List ℕ → Type 0 = λ xs. DrawMoves i (λ s before t after. StoresIfFound call (cause s.file i (length xs)) before xs (reply_to r) s t after) true old new j in
+    let P : List ℕ → Type 0 =
+    λ xs. DrawMoves i (λ s before t after. StoresIfFound call (cause s.file i (length xs)) before xs (reply_to r) s t after) true old new j in
     subst P (sym cut)
     (storing_draws call cause c i j numbers r old new (cut_small i.size given numbers cut) (cut_few i.size given numbers cut few) near short
     (subst (λ k. WritesStoredChunk call (cause old i k) i numbers r old new j) count w) l)
 
 -- no memory is available for the cut samples
-pub unfound_draws : (call : OpenImage → ℕ → List ℕ → WriteCall OpenImage) (cause : FileState → OpenImage → ℕ → Option TiffError) (i : OpenImage)
-    (given : List ℕ) (e : TiffError) (file : FileState) → e ≡ OutOfMemory → DrawMoves i (StoresCut call cause given (Err e)) true file file i
+pub unfound_draws : (call : OpenImage → ℕ → List ℕ → WriteCall OpenImage)
+    (cause : FileState → OpenImage → ℕ → Option TiffError) (i : OpenImage)
+    (given : List ℕ) (e : TiffError) (file : FileState) → e ≡ OutOfMemory
+    → DrawMoves i (StoresCut call cause given (Err e)) true file file i
 unfound_draws call cause i given e file short =
     asked i (StoresCut call cause given (Err e)) true file (λ s before. (refl, inr (ap Err short, (refl, refl))))

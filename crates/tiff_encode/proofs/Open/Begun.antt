@@ -42,7 +42,8 @@ abbrev head_given : OpenImage → Given
 head_given i = after (λ t. None) (meaning_tags i)
 
 abbrev first_given : OpenImage → Given
-first_given i = after (set (head_given i) (tag_number tag.ChromaSubsampling) (chroma_given i.color.interpretation)) (layout_tags i)
+first_given i =
+    after (set (head_given i) (tag_number tag.ChromaSubsampling) (chroma_given i.color.interpretation)) (layout_tags i)
 
 -- the tag of the subsampling has its value, or stays absent
 chroma_set : (p : PhotometricInterpretation) (given : Given) (n : ℕ) → given 530 ≡ None
@@ -51,7 +52,8 @@ chroma_set meaning.WhiteIsZero given n h = unset_same given 530 n (eq_by_cmp nat
 chroma_set meaning.BlackIsZero given n h = unset_same given 530 n (eq_by_cmp nat_cmp n 530) refl h
 chroma_set meaning.RGB given n h = unset_same given 530 n (eq_by_cmp nat_cmp n 530) refl h
 chroma_set meaning.RGBPalette given n h = unset_same given 530 n (eq_by_cmp nat_cmp n 530) refl h
-chroma_set meaning.TransparencyMask given n h = unset_same given 530 n (eq_by_cmp nat_cmp n 530) refl h
+chroma_set meaning.TransparencyMask given n h =
+    unset_same given 530 n (eq_by_cmp nat_cmp n 530) refl h
 chroma_set meaning.CMYK given n h = unset_same given 530 n (eq_by_cmp nat_cmp n 530) refl h
 chroma_set meaning.YCbCr given n h = refl
 chroma_set meaning.CIELab given n h = unset_same given 530 n (eq_by_cmp nat_cmp n 530) refl h
@@ -64,7 +66,8 @@ all_given i n =
     let p : PhotometricInterpretation = i.color.interpretation in
     let joined = after_joined (head_given i) (chroma_tags p) (layout_tags i) in
     (λ k. joined k n)
-    ∙ after_local (layout_tags i) (after (head_given i) (chroma_tags p)) (set (head_given i) 530 (chroma_given p)) n
+    ∙ after_local (layout_tags i) (after (head_given i) (chroma_tags p))
+    (set (head_given i) 530 (chroma_given p)) n
     (chroma_set p (head_given i) n refl)
 
 -- the values of a new image's tags describe the image
@@ -76,14 +79,16 @@ begun_tells file d color size width height =
 -- ---- the sides, the samples and the compression of a new image
 
 -- the predictor is one that is supported
-predicted : (p : Predictor) (unpredicted : Bool) (rest : Option TiffError) → predictor_cause p unpredicted rest ≡ None
+predicted : (p : Predictor) (unpredicted : Bool) (rest : Option TiffError)
+    → predictor_cause p unpredicted rest ≡ None
     → (p ≡ predictor.None) ⊎ (p ≡ predictor.Horizontal)
 predicted predictor.None unpredicted rest h = inl refl
 predicted predictor.Horizontal unpredicted rest h = inr refl
 predicted predictor.FloatingPoint unpredicted rest h = absurd cc
 
 -- samples that have no predictor are written without one
-unpredicted : (p : Predictor) (b : Bool) (rest : Option TiffError) → predictor_cause p b rest ≡ None → b ≡ true → p ≡ predictor.None
+unpredicted : (p : Predictor) (b : Bool) (rest : Option TiffError) → predictor_cause p b rest ≡ None
+    → b ≡ true → p ≡ predictor.None
 unpredicted predictor.None b rest h t = refl
 unpredicted predictor.Horizontal true rest h t = absurd cc
 unpredicted predictor.Horizontal false rest h t = absurd cc
@@ -96,7 +101,8 @@ some (suc x) n h = omega arith
 
 some_rows : (n : ℕ) → 0 < rows_per_strip n
 some_rows zero = lit< tt
-some_rows (suc n) = some (rows_per_strip (suc n)) (suc n) (div_ceil_times 1000000 (suc n) (omega arith)).0
+some_rows (suc n) =
+    some (rows_per_strip (suc n)) (suc n) (div_ceil_times 1000000 (suc n) (omega arith)).0
 
 -- a strip has at least one row, and at most a million
 rows_side : (n : ℕ) → IsSide (rows_per_strip n)
@@ -113,7 +119,8 @@ default_side PackbitsRows n = (lit< tt, lit< tt)
 -- ---- the image
 
 -- a new directory is empty
-begun_empty : (file : FileState) (d : OpenDirectory) (m : Model) → (image_directory file).answer ≡ Ok d → HoldsValues m d.fields (λ t. None)
+begun_empty : (file : FileState) (d : OpenDirectory) (m : Model)
+    → (image_directory file).answer ≡ Ok d → HoldsValues m d.fields (λ t. None)
 unfolding image_directory
 begun_empty file d m h =
     let empty_one : OpenDirectory = new_directory (Some file.chain) true in
@@ -125,7 +132,8 @@ positive zero = lit< tt
 positive (suc n) = let p = positive n in omega (arith, p)
 
 -- a new image has no chunk
-no_chunks : (file : FileState) (d : OpenDirectory) (color : ColorTypeRecord) (size width height : ℕ) (m : Model)
+no_chunks : (file : FileState) (d : OpenDirectory) (color : ColorTypeRecord) (size width height : ℕ)
+    (m : Model)
     → HoldsChunks file.kind m (image_in file d color size width height) []
 no_chunks file d color size width height m = record {
   as_many = refl;
@@ -151,7 +159,8 @@ begun_held file d m name width height w h c o =
     let some = neither (width == 0) (height == 0) sides.0 in
     let few = (are_color_types name).few in
     let pixels : IsSide width = (above width some.0, w) in
-    let wide : IsSide (columns_of color width) = columns_side size color width (are_color_types name) (size_some name) pixels in
+    let wide : IsSide (columns_of color width) =
+    columns_side size color width (are_color_types name) (size_some name) pixels in
     record {
       given = first_given i;
       holds = o;
@@ -166,7 +175,8 @@ begun_held file d m name width height w h c o =
         predicted_by = predicted file.predictor (is_unpredicted color) _ sides.1;
         form = record {
           wide = wide;
-          high = default_side file.compression (columns_of color width * (length color.bits * size));
+          high =
+              default_side file.compression (columns_of color width * (length color.bits * size));
           strips = λ _. refl;
         };
         pixels = record {
@@ -187,7 +197,8 @@ begins_open file m name width height i w h a =
     let color : ColorTypeRecord = color_type name in
     let size : ℕ = inner_size name in
     let image : OpenDirectory → OpenImage = λ d. image_in file d color size width height in
-    let last : OpenDirectory → WriteCall OpenImage = λ d. write_tags d (first_tags (image d)) >>= (λ x. gives (image x)) in
+    let last : OpenDirectory → WriteCall OpenImage =
+    λ d. write_tags d (first_tags (image d)) >>= (λ x. gives (image x)) in
     let P : Model → Type 0 = λ n. RecordsImage file.kind n i [] in
     caused_held (new_image_cause file color width height) (image_directory >>= last) file m P i a
     (λ c b. both_held image_directory last file m P i (adding (image_directory file) file (begin_adds file)) b

@@ -37,7 +37,8 @@ each_more P (z ∷ zs) y f p x (inl e) = f x (inl e)
 each_more P (z ∷ zs) y f p x (inr i) = each_more P zs y (λ w j. f w (inr j)) p x i
 
 -- a property at each index, also past the end, holds with one more element
-offset_more : {A : Type 0} (P : A → Type 0) (xs : List A) (y d : A) → ((k : ℕ) → P (get_or xs k d)) → P y
+offset_more : {A : Type 0} (P : A → Type 0) (xs : List A) (y d : A) → ((k : ℕ) → P (get_or xs k d))
+    → P y
     → (k : ℕ) → P (get_or (xs ++ y ∷ []) k d)
 offset_more P [] y d f p zero = p
 offset_more P [] y d f p (suc k) = f k
@@ -88,9 +89,11 @@ record IsNext (file : FileState) (i : OpenImage) (count stored : ℕ) : Type 0 w
 -- the call requests as many samples as the chunk has
 abbrev pub IsAsked : OpenImage → ℕ → Type 0
 IsAsked i count =
-    count ≡ min (chunk_samples (image_page i) (length i.chunks)) (2 ^ 64 - 1) → count ≡ chunk_samples (image_page i) (length i.chunks)
+    count ≡ min (chunk_samples (image_page i) (length i.chunks)) (2 ^ 64 - 1)
+    → count ≡ chunk_samples (image_page i) (length i.chunks)
 
-is_next : (file : FileState) (i : OpenImage) (count stored : ℕ) → IsAsked i count → chunk_cause file i count stored ≡ None
+is_next : (file : FileState) (i : OpenImage) (count stored : ℕ) → IsAsked i count
+    → chunk_cause file i count stored ≡ None
     → IsNext file i count stored
 unfolding next_chunk_sample_count
 is_next file i count stored l c =
@@ -98,9 +101,11 @@ is_next file i count stored l c =
     let wrong = first_test _ _ _ past.1 in
     let both = neither (not (is_left i)) (not (count == next_chunk_sample_count i)) wrong.0 in
     let left : is_left i ≡ true = is_true (is_left i) both.0 in
-    let same : count ≡ next_chunk_sample_count i = eqb-true count (next_chunk_sample_count i) (is_true _ both.1) in
+    let same : count ≡ next_chunk_sample_count i =
+    eqb-true count (next_chunk_sample_count i) (is_true _ both.1) in
     let s : ℕ = chunk_samples (image_page i) (length i.chunks) in
-    let far = neither (is_past file.kind (end_of file)) (is_past file.kind stored) (first_test _ _ _ wrong.1).0 in
+    let far =
+    neither (is_past file.kind (end_of file)) (is_past file.kind stored) (first_test _ _ _ wrong.1).0 in
     record {
       few = leb-false (2 ^ 32) (all_chunks (image_page i)) past.0;
       left = ltb-true (length i.chunks) (all_chunks (image_page i)) left;
@@ -117,7 +122,8 @@ FileAndModel m i offset count samples =
     (stored : List ℕ) × (In (record { offset = offset; bytes = stored }) m.regions
     × ((length stored ≡ count) × IsChunkStored i stored samples))
 
-module _ (file : FileState) (m : Model) (i : OpenImage) (samples : List (List ℕ)) (numbers stored : List ℕ) where
+module _ (file : FileState) (m : Model) (i : OpenImage) (samples : List (List ℕ))
+    (numbers stored : List ℕ) where
   -- the region, the chunk, the model, the image and the samples after the call
   abbrev region : ByteRegion
   region = record { offset = end_of file; bytes = stored }
@@ -142,26 +148,33 @@ module _ (file : FileState) (m : Model) (i : OpenImage) (samples : List (List �
       let n : ℕ = length i.chunks in
       let many : length image.chunks ≡ n + 1 = length-append i.chunks (chunk ∷ []) in
       let equal : length samples ≡ n = h.as_many in
-      let or_last : (k : ℕ) → k < length image.chunks → (k < n) ⊎ (k ≡ n) = λ k l. last_or k n (omega (arith, l, many)) in
+      let or_last : (k : ℕ) → k < length image.chunks → (k < n) ⊎ (k ≡ n) =
+      λ k l. last_or k n (omega (arith, l, many)) in
       let old_samples : (k : ℕ) → k < n → samples_of_chunk all k ≡ samples_of_chunk samples k =
       λ k l. get_or_append_left samples (numbers ∷ []) [] k (omega (arith, l, equal)) in
       let new_samples : (k : ℕ) → k ≡ n → samples_of_chunk all k ≡ numbers =
-      λ k e. ap (λ j. samples_of_chunk all j) (e ∙ sym equal) ∙ get_or-append_seam samples numbers [] [] in
-      let lengths : (k : ℕ) → (k < n) ⊎ (k ≡ n) → length (samples_of_chunk all k) ≡ chunk_samples (image_page i) k =
+      λ k e. ap (λ j. samples_of_chunk all j) (e ∙ sym equal)
+      ∙ get_or-append_seam samples numbers [] [] in
+      let lengths : (k : ℕ) → (k < n) ⊎ (k ≡ n)
+      → length (samples_of_chunk all k) ≡ chunk_samples (image_page i) k =
       λ k o. elim o [
         | inl l ↦ ap (λ xs. length xs) (old_samples k l) ∙ h.lengths k l
-        | inr e ↦ ap (λ xs. length xs) (new_samples k e) ∙ c.samples ∙ ap (chunk_samples (image_page i)) (sym e)
+        | inr e ↦ ap (λ xs. length xs) (new_samples k e) ∙ c.samples
+            ∙ ap (chunk_samples (image_page i)) (sym e)
       ] in
       let P : ℕ → ℕ → List ℕ → Type 0 = FileAndModel later i in
-      let at : (k : ℕ) → (k < n) ⊎ (k ≡ n) → P (slice_index (image_page image).offsets k) (slice_index (image_page image).byte_counts k) (samples_of_chunk all k) =
+      let at : (k : ℕ) → (k < n) ⊎ (k ≡ n)
+      → P (slice_index (image_page image).offsets k) (slice_index (image_page image).byte_counts k) (samples_of_chunk all k) =
       λ k o. elim o [
         | inl l ↦ (let r = h.regions k l in
-            subst (λ p. P p (slice_index (image_page image).byte_counts k) (samples_of_chunk all k)) (sym (kept_at (λ x. x.offset) i.chunks chunk k 0 l))
+            subst (λ p. P p (slice_index (image_page image).byte_counts k) (samples_of_chunk all k))
+            (sym (kept_at (λ x. x.offset) i.chunks chunk k 0 l))
             (subst (λ b. P (slice_index (image_page i).offsets k) b (samples_of_chunk all k)) (sym (kept_at (λ x. x.stored) i.chunks chunk k 0 l))
             (subst (λ xs. P (slice_index (image_page i).offsets k) (slice_index (image_page i).byte_counts k) xs) (sym (old_samples k l))
             (r.0, (inr r.1.0, r.1.1)))))
         | inr e ↦
-            subst (λ p. P p (slice_index (image_page image).byte_counts k) (samples_of_chunk all k)) (sym (last_at (λ x. x.offset) i.chunks chunk k 0 e))
+            subst (λ p. P p (slice_index (image_page image).byte_counts k) (samples_of_chunk all k))
+            (sym (last_at (λ x. x.offset) i.chunks chunk k 0 e))
             (subst (λ b. P (end_of file) b (samples_of_chunk all k)) (sym (last_at (λ x. x.stored) i.chunks chunk k 0 e))
             (subst (λ xs. P (end_of file) (length stored) xs) (sym (new_samples k e))
             (stored, (inl refl, (refl, is)))))
@@ -171,27 +184,34 @@ module _ (file : FileState) (m : Model) (i : OpenImage) (samples : List (List �
         within = let l = c.left in omega (arith, l, many);
         few = λ _. c.few;
         lengths = λ k l. lengths k (or_last k l);
-        small = offset_more (λ xs. (k : ℕ) → get_or xs k 0 < 256 ^ i.size) samples numbers [] h.small s;
+        small =
+            offset_more (λ xs. (k : ℕ) → get_or xs k 0 < 256 ^ i.size) samples numbers [] h.small s;
         regions = λ k l. at k (or_last k l);
-        fit = each_more (λ x. (x.offset < 256 ^ offset_len file.kind) × (x.stored < 256 ^ offset_len file.kind)) i.chunks chunk h.fit
+        fit =
+            each_more (λ x. (x.offset < 256 ^ offset_len file.kind)
+            × (x.stored < 256 ^ offset_len file.kind)) i.chunks chunk h.fit
             (offset_fits file.kind (end_of file) c.offset near, offset_fits file.kind (length stored) c.short short);
       }
 
   -- the image with the chunk is held
-  chunk_kept : RecordsImage file.kind m i samples → chunk_cause file i (length numbers) (length stored) ≡ None
+  chunk_kept : RecordsImage file.kind m i samples
+      → chunk_cause file i (length numbers) (length stored) ≡ None
       → ((n : ℕ) → get_or numbers n 0 < 256 ^ i.size) → IsAsked i (length numbers)
       → IsChunkStored i stored numbers → end_of file < 2 ^ 64 → length stored < 2 ^ 64
       → RecordsImage file.kind later image all
   chunk_kept h c s l is near short = record {
     given = h.given;
-    holds = holds_grown m later i.directory.fields h.given (ops_grow file.kind file.bytes m (Appended stored ∷ [])) h.holds;
+    holds =
+        holds_grown m later i.directory.fields h.given (ops_grow file.kind file.bytes m (Appended stored ∷ [])) h.holds;
     tells = tells_kept i i.directory (i.chunks ++ chunk ∷ []) h.given h.tells;
     open_so = open_kept i i.directory (i.chunks ++ chunk ∷ []) h.open_so;
-    chunks = chunks_more h.chunks (is_next file i (length numbers) (length stored) l c) s is near short;
+    chunks =
+        chunks_more h.chunks (is_next file i (length numbers) (length stored) l c) s is near short;
   }
 
   -- the image that the call returns is held
-  appended_kept : (next : OpenImage) → RecordsImage file.kind m i samples → chunk_cause file i (length numbers) (length stored) ≡ None
+  appended_kept : (next : OpenImage) → RecordsImage file.kind m i samples
+      → chunk_cause file i (length numbers) (length stored) ≡ None
       → ((n : ℕ) → get_or numbers n 0 < 256 ^ i.size) → IsAsked i (length numbers)
       → IsChunkStored i stored numbers → end_of file < 2 ^ 64 → length stored < 2 ^ 64
       → (appends_chunk i stored file).answer ≡ Ok next
@@ -200,15 +220,19 @@ module _ (file : FileState) (m : Model) (i : OpenImage) (samples : List (List �
       subst (λ j. RecordsImage file.kind later j all) (ok_inj image next a) (chunk_kept h c s l is near short)
 
 -- a chunk with its number of samples keeps the image held
-pub chunk_keeps_open : (file : FileState) (m : Model) (i next : OpenImage) (samples : List (List ℕ)) (numbers stored : List ℕ)
-    → RecordsImage file.kind m i samples → ((n : ℕ) → get_or numbers n 0 < 256 ^ i.size) → IsAsked i (length numbers)
+pub chunk_keeps_open : (file : FileState) (m : Model) (i next : OpenImage) (samples : List (List ℕ))
+    (numbers stored : List ℕ)
+    → RecordsImage file.kind m i samples → ((n : ℕ) → get_or numbers n 0 < 256 ^ i.size)
+    → IsAsked i (length numbers)
     → IsChunkStored i stored numbers → end_of file < 2 ^ 64 → length stored < 2 ^ 64
     → (write_chunk i (length numbers) stored file).answer ≡ Ok next
-    → RecordsImage file.kind (model_by file m (write_chunk i (length numbers) stored file)) next (samples ++ numbers ∷ [])
+    → RecordsImage file.kind (model_by file m (write_chunk i (length numbers) stored file)) next
+    (samples ++ numbers ∷ [])
 unfolding write_chunk write_chunk_cause
 chunk_keeps_open file m i next samples numbers stored h s l is near short a =
     let P : Model → Type 0 = λ n. RecordsImage file.kind n next (samples ++ numbers ∷ []) in
-    caused_held (write_chunk_cause file i (length numbers) (length stored)) (appends_chunk i stored) file m P next a
+    caused_held (write_chunk_cause file i (length numbers) (length stored))
+    (appends_chunk i stored) file m P next a
     (λ c b. appended_kept file m i samples numbers stored next h (fresh file.fault _ c) s l is near short b)
 
 pub chunks_keep_open : ChunksKeepOpen
@@ -217,6 +241,7 @@ chunks_keep_open file m i next samples numbers stored h s l is near short =
     let P : Model → Type 0 = λ n. RecordsImage file.kind n next (samples ++ numbers ∷ []) in
     let asked : IsAsked i (length numbers) = λ e. least (length numbers) _ (2 ^ 64 - 1) e l in (
       λ a. chunk_keeps_open file m i next samples numbers stored h s asked is near short a,
-      λ a. caused_held (write_strip_cause file i (length numbers) (length stored)) (appends_chunk i stored) file m P next a
+      λ a. caused_held (write_strip_cause file i (length numbers) (length stored))
+          (appends_chunk i stored) file m P next a
           (λ c b. appended_kept file m i samples numbers stored next h (first_test _ _ _ (fresh file.fault _ c)).1 s asked is near short b),
     )

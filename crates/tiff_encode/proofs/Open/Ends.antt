@@ -37,10 +37,12 @@ module _ (kind : FileKind) (i : OpenImage) where
 
   -- the values with the bits, then the number of samples, the sample formats, and the chunks
   abbrev bits_given : Given → Given
-  bits_given given = set given (tag_number tag.BitsPerSample) (Some (u16s (extended_by_first i.color.bits (length i.extra))))
+  bits_given given =
+      set given (tag_number tag.BitsPerSample) (Some (u16s (extended_by_first i.color.bits (length i.extra))))
 
   abbrev samples_given : Bool → Given → Given
-  samples_given b given = after (bits_given given) (cond b [] ((tag.SamplesPerPixel, u16s (all_samples i ∷ [])) ∷ []))
+  samples_given b given =
+      after (bits_given given) (cond b [] ((tag.SamplesPerPixel, u16s (all_samples i ∷ [])) ∷ []))
 
   abbrev formats_given : Bool → Given → Given
   formats_given b given =
@@ -56,11 +58,13 @@ module _ (kind : FileKind) (i : OpenImage) where
   unfolding last_tags
   all_given given =
       after_joined (bits_given given) (sample_tags i)
-      ((tag.SampleFormat, formats (extended_by_first i.color.formats (length i.extra))) ∷ chunk_tags i.form.chunk_type offsets byte_counts)
+      ((tag.SampleFormat, formats (extended_by_first i.color.formats (length i.extra)))
+      ∷ chunk_tags i.form.chunk_type offsets byte_counts)
 
   last_local : (b : Bool) (c : ChunkType) → IsLocal (chunks_given b c)
   last_local b c f g n e =
-      let samples : List (Tag × Scalars) = cond b [] ((tag.SamplesPerPixel, u16s (all_samples i ∷ [])) ∷ []) in
+      let samples : List (Tag × Scalars) =
+      cond b [] ((tag.SamplesPerPixel, u16s (all_samples i ∷ [])) ∷ []) in
       after_local (chunk_tags c offsets byte_counts) (formats_given b f) (formats_given b g) n
       (set_local (tag_number tag.SampleFormat) (Some (formats (extended_by_first i.color.formats (length i.extra)))) (samples_given b f) (samples_given b g) n
       (after_local samples (bits_given f) (bits_given g) n
@@ -79,12 +83,15 @@ module _ (kind : FileKind) (i : OpenImage) where
   pixels_last true Tile extra e = rw (none_more e) refl
 
   -- a tag other than the number of samples keeps its value
-  samples_kept : (b : Bool) (given : Given) (n : ℕ) → samples_given false given n ≡ bits_given given n → samples_given b given n ≡ bits_given given n
+  samples_kept : (b : Bool) (given : Given) (n : ℕ)
+      → samples_given false given n ≡ bits_given given n
+      → samples_given b given n ≡ bits_given given n
   samples_kept true given n h = refl
   samples_kept false given n h = h
 
   -- where the chunks are in the file
-  chunks_told : (b : Bool) (c : ChunkType) (width height : ℕ) (given : Given) → EachGiven (places_in c width height None None) given
+  chunks_told : (b : Bool) (c : ChunkType) (width height : ℕ) (given : Given)
+      → EachGiven (places_in c width height None None) given
       → EachGiven (places_in c width height (Some offsets) (Some byte_counts)) (chunks_given b c given)
   chunks_told b Strip width height given t =
       (samples_kept b given 278 refl ∙ t.0, (refl, (refl, (samples_kept b given 324 refl ∙ t.1.1.1.0, (samples_kept b given 325 refl ∙ t.1.1.1.1.0, tt)))))
@@ -97,7 +104,8 @@ module _ (kind : FileKind) (i : OpenImage) where
   )
 
   -- the tag of the extra samples keeps its value
-  extra_same : (b : Bool) (c : ChunkType) (given : Given) → chunks_given b c given (tag_number tag.ExtraSamples) ≡ given (tag_number tag.ExtraSamples)
+  extra_same : (b : Bool) (c : ChunkType) (given : Given)
+      → chunks_given b c given (tag_number tag.ExtraSamples) ≡ given (tag_number tag.ExtraSamples)
   extra_same b Strip given = samples_kept b given 338 refl
   extra_same b Tile given = samples_kept b given 338 refl
 
@@ -120,7 +128,8 @@ module _ (kind : FileKind) (i : OpenImage) where
 
 module _ (kind : FileKind) (m : Model) (i : OpenImage) (samples : List (List ℕ)) where
   -- no chunk is left
-  all_written : HoldsChunks kind m i samples → is_left i ≡ false → length i.chunks ≡ all_chunks (image_page i)
+  all_written : HoldsChunks kind m i samples → is_left i ≡ false
+      → length i.chunks ≡ all_chunks (image_page i)
   all_written h l =
       let a = ltb-false (length i.chunks) (all_chunks (image_page i)) l in
       let b = h.within in
@@ -151,7 +160,8 @@ module _ (kind : FileKind) (m : Model) (i : OpenImage) (samples : List (List ℕ
 
   -- each chunk has its samples
   are_supplied : HoldsChunks kind m i samples → is_left i ≡ false → AreSupplied i samples
-  are_supplied h l = record { lengths = λ k b. h.lengths k (subst (λ n. k < n) (sym (all_written h l)) b); small = h.small }
+  are_supplied h l =
+      record { lengths = λ k b. h.lengths k (subst (λ n. k < n) (sym (all_written h l)) b); small = h.small }
 
   -- each chunk encodes its samples
   regions_have : HoldsChunks kind m i samples → is_left i ≡ false → RegionsHaveChunks m i samples
@@ -160,21 +170,25 @@ module _ (kind : FileKind) (m : Model) (i : OpenImage) (samples : List (List ℕ
 -- ---- the end of an image
 
 -- a call that ends a directory appends it
-pub finish_listed : (d : OpenDirectory) (file : FileState) (m : Model) (offsets : Offsets) → (finish d file).answer ≡ Ok offsets
+pub finish_listed : (d : OpenDirectory) (file : FileState) (m : Model) (offsets : Offsets)
+    → (finish d file).answer ≡ Ok offsets
     → (let listed : FinishedDirectory = record { offset = offsets.pointer; fields = standing_fields file.kind d.fields } in
     In listed (model_by file m (finish d file)).directories)
 unfolding finish
 finish_listed d file m offsets h =
-    let rest : Unit {0} → WriteCall Offsets = λ _. chains d.chained (offsets_of file.kind (end_of file) (len d.fields)) in
+    let rest : Unit {0} → WriteCall Offsets =
+    λ _. chains d.chained (offsets_of file.kind (end_of file) (len d.fields)) in
     let links : List WriteOp = links_to d.parent (end_of file) in
     let call : WriteCall Offsets = does (Listed d.fields ∷ links) >>= rest in
-    let listed : ℕ → FinishedDirectory = λ p. record { offset = p; fields = standing_fields file.kind d.fields } in
+    let listed : ℕ → FinishedDirectory =
+    λ p. record { offset = p; fields = standing_fields file.kind d.fields } in
     let n : Model = with_directory file.kind m (listed (end_of file)) in
     let P : Model → Type 0 = λ k. In (listed offsets.pointer) k.directories in
     caused_held (finish_cause file d) call file m P offsets h
     (λ _ a.
     let same : end_of file ≡ offsets.pointer = ap (λ o. o.pointer) (ok_inj _ offsets a) in
-    let grown = ops_grow file.kind (after_op file.kind file.bytes (Listed d.fields)) n (links ++ []) in
+    let grown =
+    ops_grow file.kind (after_op file.kind file.bytes (Listed d.fields)) n (links ++ []) in
     grown.directories (listed offsets.pointer) (inl (ap listed (sym same))))
 
 -- a model holds a directory with some values at an offset
@@ -200,8 +214,10 @@ image_ended file m i samples offsets h a =
     let k : Model = model_by mid n (finish d mid) in
     let same : mid.kind ≡ file.kind = ap (λ s. s.kind) adds.next in
     let held : HoldsValues n d.fields later =
-    subst (λ g. HoldsValues n d.fields g) (all_given file.kind i h.given) (tags_held i.directory tags file m h.given d h.holds x) in
-    let at : FileKind → FinishedDirectory = λ kind. record { offset = offsets.pointer; fields = standing_fields kind d.fields } in (
+    subst (λ g. HoldsValues n d.fields g) (all_given file.kind i h.given)
+    (tags_held i.directory tags file m h.given d h.holds x) in
+    let at : FileKind → FinishedDirectory =
+    λ kind. record { offset = offsets.pointer; fields = standing_fields kind d.fields } in (
       d,
       (
         subst (λ kind. In (at kind) k.directories) same (finish_listed d mid n offsets y),
@@ -248,5 +264,6 @@ ended_shown_by show kind file m i samples offset stands h =
 
 pub ends_shown_by : ImagesShow → EndsShown
 ends_shown_by show file m i samples offsets h left a stands =
-    ended_shown_by show file.kind (finish_image i file).next.bytes (model_by file m (finish_image i file)) i samples offsets.pointer
+    ended_shown_by show file.kind (finish_image i file).next.bytes
+    (model_by file m (finish_image i file)) i samples offsets.pointer
     stands (ends_held file m i samples offsets h left a)

@@ -17,7 +17,8 @@ use Rattle.tiff_encode.proofs.Given.{IsLocal}
 -- ---- more is written
 
 -- one tag stays held in a model that grows
-at_grown : (m n : Model) (f : Option Field) (v : Option Scalars) → Grows m n → HoldsAt m f v → HoldsAt n f v
+at_grown : (m n : Model) (f : Option Field) (v : Option Scalars) → Grows m n → HoldsAt m f v
+    → HoldsAt n f v
 at_grown m n (Some f) (Some v) g h =
     record { field_type = h.field_type; count = h.count; whole = h.whole; supplied = g.supplied _ h.supplied }
 at_grown m n None None g h = tt
@@ -25,11 +26,13 @@ at_grown m n (Some f) None g h = absurd h
 at_grown m n None (Some v) g h = absurd h
 
 -- all tags stay held in a model that grows
-pub holds_grown : (m n : Model) (fields : FinMap nat_cmp Field) (given : Given) → Grows m n → HoldsValues m fields given → HoldsValues n fields given
+pub holds_grown : (m n : Model) (fields : FinMap nat_cmp Field) (given : Given) → Grows m n
+    → HoldsValues m fields given → HoldsValues n fields given
 holds_grown m n fields given g h t p = at_grown m n (get fields t) (given t) g (h t p)
 
 -- the chunks stay held in a model that grows
-pub chunks_grown : (kind : FileKind) (m n : Model) (i : OpenImage) (samples : List (List ℕ)) → Grows m n
+pub chunks_grown : (kind : FileKind) (m n : Model) (i : OpenImage) (samples : List (List ℕ))
+    → Grows m n
     → HoldsChunks kind m i samples → HoldsChunks kind n i samples
 chunks_grown kind m n i samples g h = record {
   as_many = h.as_many;
@@ -66,35 +69,42 @@ pub set_local : (n : ℕ) (v : Option Scalars) → IsLocal (λ given. set given 
 set_local n v f g t e = ap (cond (eq_by_cmp nat_cmp t n) v) e
 
 -- a value that is absent stays so
-pub unset_same : (given : Given) (n t : ℕ) (b : Bool) → eq_by_cmp nat_cmp t n ≡ b → given n ≡ None → given t ≡ cond b None (given t)
-unset_same given n t true q h = ap given (nat_cmp-IsAntisymmetric t n (is_equal (nat_cmp t n) q)) ∙ h
+pub unset_same : (given : Given) (n t : ℕ) (b : Bool) → eq_by_cmp nat_cmp t n ≡ b → given n ≡ None
+    → given t ≡ cond b None (given t)
+unset_same given n t true q h =
+    ap given (nat_cmp-IsAntisymmetric t n (is_equal (nat_cmp t n) q)) ∙ h
 unset_same given n t false q h = refl
 
 module _ (m : Model) where
-  set_by : (b : Bool) (x : Option Field) (g : Option Scalars) (f : Field) (v : Scalars) → HasValues m f v → HoldsAt m x g
+  set_by : (b : Bool) (x : Option Field) (g : Option Scalars) (f : Field) (v : Scalars)
+      → HasValues m f v → HoldsAt m x g
       → HoldsAt m (cond b (Some f) x) (cond b (Some v) g)
   set_by true x g f v h o = h
   set_by false x g f v h o = o
 
-  unset_by : (b : Bool) (x : Option Field) (g : Option Scalars) → HoldsAt m x g → HoldsAt m (cond b None x) (cond b None g)
+  unset_by : (b : Bool) (x : Option Field) (g : Option Scalars) → HoldsAt m x g
+      → HoldsAt m (cond b None x) (cond b None g)
   unset_by true x g o = tt
   unset_by false x g o = o
 
   -- a field is set for a tag
-  pub set_held : (fields : FinMap nat_cmp Field) (given : Given) (n : ℕ) (f : Field) (v : Scalars) → HasValues m f v
+  pub set_held : (fields : FinMap nat_cmp Field) (given : Given) (n : ℕ) (f : Field) (v : Scalars)
+      → HasValues m f v
       → HoldsValues m fields given → HoldsValues m (insert fields n f) (set given n (Some v))
   set_held fields given n f v h o t p =
       subst (λ x. HoldsAt m x (set given n (Some v) t)) (sym (get-insert nat_cmp_total fields n f t))
       (set_by (eq_by_cmp nat_cmp t n) (get fields t) (given t) f v h (o t p))
 
   -- the field of a tag is removed
-  pub unset_held : (fields : FinMap nat_cmp Field) (given : Given) (n : ℕ) → HoldsValues m fields given
+  pub unset_held : (fields : FinMap nat_cmp Field) (given : Given) (n : ℕ)
+      → HoldsValues m fields given
       → HoldsValues m (remove fields n) (set given n None)
   unset_held fields given n o t p =
       subst (λ x. HoldsAt m x (set given n None t)) (sym (get-remove nat_cmp_total fields n t))
       (unset_by (eq_by_cmp nat_cmp t n) (get fields t) (given t) (o t p))
 
-  other_by : (b : Bool) (x : Option Field) (g : Option Scalars) (f : Field) (t n : ℕ) → eq_by_cmp nat_cmp t n ≡ b → is_page_tag n ≡ false → is_page_tag t ≡ true
+  other_by : (b : Bool) (x : Option Field) (g : Option Scalars) (f : Field) (t n : ℕ)
+      → eq_by_cmp nat_cmp t n ≡ b → is_page_tag n ≡ false → is_page_tag t ≡ true
       → HoldsAt m x g → HoldsAt m (cond b (Some f) x) g
   other_by false x g f t n e q p o = o
   other_by true x g f t n e q p o =
@@ -102,7 +112,8 @@ module _ (m : Model) where
       absurd (false≢true (sym q ∙ ap is_page_tag (sym same) ∙ p))
 
   -- a field is set for a tag that a page isn't read by
-  pub other_held : (fields : FinMap nat_cmp Field) (given : Given) (n : ℕ) (f : Field) → is_page_tag n ≡ false
+  pub other_held : (fields : FinMap nat_cmp Field) (given : Given) (n : ℕ) (f : Field)
+      → is_page_tag n ≡ false
       → HoldsValues m fields given → HoldsValues m (insert fields n f) given
   other_held fields given n f q o t p =
       subst (λ x. HoldsAt m x (given t)) (sym (get-insert nat_cmp_total fields n f t))

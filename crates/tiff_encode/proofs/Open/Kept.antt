@@ -32,10 +32,12 @@ use Rattle.tiff_encode.proofs.Open.Tags.{both_held, caused_held, tags_adding, ot
 -- ---- one part
 
 -- the tags describe an image whose values a call changes
-pub tells_changed : (change : Given → Given) → IsLocal change → (i next : OpenImage) (given : Given) → TellsOpen i given
+pub tells_changed : (change : Given → Given) → IsLocal change → (i next : OpenImage) (given : Given)
+    → TellsOpen i given
     → (let later : Given = change given in
     ExtraGiven next.extra (later (tag_number tag.ExtraSamples))
-    → AreGiven (open_tags next (later (tag_number tag.ExtraSamples))) (change (value_in (open_tags i (given (tag_number tag.ExtraSamples)))))
+    → AreGiven (open_tags next (later (tag_number tag.ExtraSamples)))
+    (change (value_in (open_tags i (given (tag_number tag.ExtraSamples)))))
     → EachGiven (place_tags next None None) later → TellsOpen next later)
 tells_changed change l i next given t e s c = record {
   extra = e;
@@ -45,7 +47,8 @@ tells_changed change l i next given t e s c = record {
 }
 
 -- an image with another directory, other extra samples, another layout and other chunks
-module _ (i : OpenImage) (d : OpenDirectory) (extra : List ExtraSamples) (form : ChunkLayout) (chunks : List Chunk) where
+module _ (i : OpenImage) (d : OpenDirectory) (extra : List ExtraSamples) (form : ChunkLayout)
+    (chunks : List Chunk) where
   abbrev next_image : OpenImage
   next_image = record i { directory = d; extra = extra; form = form; chunks = chunks }
 
@@ -69,18 +72,23 @@ module _ (i : OpenImage) (d : OpenDirectory) (extra : List ExtraSamples) (form :
   }
 
 -- the tags of an image describe it with another directory and other chunks
-pub tells_kept : (i : OpenImage) (d : OpenDirectory) (chunks : List Chunk) (given : Given) → TellsOpen i given
+pub tells_kept : (i : OpenImage) (d : OpenDirectory) (chunks : List Chunk) (given : Given)
+    → TellsOpen i given
     → TellsOpen (record i { directory = d; chunks = chunks }) given
 tells_kept i d chunks given t = record { extra = t.extra; pixels = t.pixels; chunks = t.chunks }
 
 -- an image stays open with another directory and other chunks
 pub open_kept : (i : OpenImage) (d : OpenDirectory) (chunks : List Chunk) → IsOpen i
     → IsOpen (record i { directory = d; chunks = chunks })
-open_kept i d chunks s = open_with i d i.extra i.form chunks s s.few s.form (λ p. let t = s.pixels.plain p in (t.0, t.1.0))
+open_kept i d chunks s =
+    open_with i d i.extra i.form chunks s s.few s.form (λ p. let t = s.pixels.plain p in
+    (t.0, t.1.0))
 
 -- an image with another directory is held
-pub directory_kept : (kind : FileKind) (m n : Model) (i : OpenImage) (d : OpenDirectory) (samples : List (List ℕ))
-    (h : RecordsImage kind m i samples) → HoldsValues n d.fields h.given → HoldsChunks kind n i samples
+pub directory_kept : (kind : FileKind) (m n : Model) (i : OpenImage) (d : OpenDirectory)
+    (samples : List (List ℕ))
+    (h : RecordsImage kind m i samples) → HoldsValues n d.fields h.given
+    → HoldsChunks kind n i samples
     → RecordsImage kind n (with_directory_of i d) samples
 unfolding unpacked_chunk
 directory_kept kind m n i d samples h o c = record {
@@ -117,12 +125,14 @@ tags_keep_open file m i samples t d h q = (
 
 -- fields of tags that a page isn't read by
 extended_held : (m : Model) (given : Given) (d : OpenDirectory) (fields : List (ℕ × Field))
-    → list_any (λ entry. is_page_tag entry.0) fields ≡ false → HoldsValues m d.fields given → HoldsValues m (extend_from d fields).fields given
+    → list_any (λ entry. is_page_tag entry.0) fields ≡ false → HoldsValues m d.fields given
+    → HoldsValues m (extend_from d fields).fields given
 unfolding extend_from
 extended_held m given d [] q o = o
 extended_held m given d (f ∷ fields) q o =
     let each = neither (is_page_tag f.0) (list_any (λ entry. is_page_tag entry.0) fields) q in
-    extended_held m given (record d { fields = insert d.fields f.0 f.1 }) fields each.1 (other_held m d.fields given f.0 f.1 each.0 o)
+    extended_held m given (record d { fields = insert d.fields f.0 f.1 }) fields each.1
+    (other_held m d.fields given f.0 f.1 each.0 o)
 
 pub fields_keep_open : FieldsKeepOpen
 fields_keep_open kind m i samples fields h q =
@@ -132,9 +142,11 @@ fields_keep_open kind m i samples fields h q =
 -- ---- rows of the table
 
 -- what is held of an image after a call as a row says
-pub row_held : (w : Row) (file : FileState) (m : Model) (i next : OpenImage) (samples : List (List ℕ)) → RecordsImage file.kind m i samples
+pub row_held : (w : Row) (file : FileState) (m : Model) (i next : OpenImage)
+    (samples : List (List ℕ)) → RecordsImage file.kind m i samples
     → (written w i file).answer ≡ Ok next
-    → ((d : OpenDirectory) → w.cause i file ≡ None → (write_tags i.directory w.tags file).answer ≡ Ok d
+    → ((d : OpenDirectory) → w.cause i file ≡ None
+    → (write_tags i.directory w.tags file).answer ≡ Ok d
     → HoldsChunks file.kind (model_by file m (write_tags i.directory w.tags file)) i samples
     → RecordsImage file.kind (model_by file m (write_tags i.directory w.tags file)) (w.image i d) samples)
     → RecordsImage file.kind (model_by file m (written w i file)) next samples
@@ -150,7 +162,8 @@ row_held w file m i next samples h a f =
 
 -- some more tags that a page isn't read by
 pub with_tags_kept : (cause : FileState → Option TiffError) (values : List (Tag × Scalars))
-    → list_any (λ v. is_page_tag (tag_number v.0)) values ≡ false → KeepsOpen (written (tagged cause values))
+    → list_any (λ v. is_page_tag (tag_number v.0)) values ≡ false
+    → KeepsOpen (written (tagged cause values))
 with_tags_kept cause values q file m i next samples h a =
     row_held (tagged cause values) file m i next samples h a
     (λ d c x g. directory_kept file.kind m (model_by file m (write_tags i.directory values file)) i d samples h
@@ -161,9 +174,11 @@ unfolding resolution x_resolution y_resolution resolution_unit
 resolutions_keep_open = (
   λ u value. with_tags_kept resolution_cause (resolution_tags u value) refl,
   (
-    λ value. with_tags_kept one_resolution_cause ((tag.XResolution, rationals (value ∷ [])) ∷ []) refl,
+    λ value. with_tags_kept one_resolution_cause ((tag.XResolution, rationals (value ∷ []))
+        ∷ []) refl,
     (
-      λ value. with_tags_kept one_resolution_cause ((tag.YResolution, rationals (value ∷ [])) ∷ []) refl,
+      λ value. with_tags_kept one_resolution_cause ((tag.YResolution, rationals (value ∷ []))
+          ∷ []) refl,
       λ u. with_tags_kept resolution_unit_cause ((tag.ResolutionUnit, units (u ∷ [])) ∷ []) refl,
     ),
   ),

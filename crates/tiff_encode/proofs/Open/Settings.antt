@@ -31,12 +31,14 @@ use Rattle.tiff_encode.proofs.Open.Kept.{tells_changed, open_with, row_held}
 -- ---- what the checks of these calls imply
 
 -- no sink error precedes a call that nothing refuses
-pub fresh : (fault : Option SinkFault) (cause : Option TiffError) → unless_ended fault cause ≡ None → cause ≡ None
+pub fresh : (fault : Option SinkFault) (cause : Option TiffError) → unless_ended fault cause ≡ None
+    → cause ≡ None
 fresh None cause h = h
 fresh (Some f) cause h = absurd cc
 
 -- if the tests return no error, the first test isn't met and the others return none
-pub first_test : (a : Bool) (e : TiffError) (rest : Option TiffError) → cond a (Some e) rest ≡ None → (a ≡ false) × (rest ≡ None)
+pub first_test : (a : Bool) (e : TiffError) (rest : Option TiffError) → cond a (Some e) rest ≡ None
+    → (a ≡ false) × (rest ≡ None)
 first_test true e rest h = absurd cc
 first_test false e rest h = (refl, h)
 
@@ -54,8 +56,10 @@ unpacked i n p = absurd cc
 -- ---- an image without chunks
 
 -- an image without chunks holds its chunks in each layout
-none_held : (kind : FileKind) (m : Model) (i next : OpenImage) (samples : List (List ℕ)) → HoldsChunks kind m i samples
-    → is_begun i ≡ false → next.chunks ≡ i.chunks → next.size ≡ i.size → HoldsChunks kind m next samples
+none_held : (kind : FileKind) (m : Model) (i next : OpenImage) (samples : List (List ℕ))
+    → HoldsChunks kind m i samples
+    → is_begun i ≡ false → next.chunks ≡ i.chunks → next.size ≡ i.size
+    → HoldsChunks kind m next samples
 none_held kind m i next samples h b c s =
     let none : length i.chunks ≤ 0 = ltb-false 0 (length i.chunks) b in
     let same : length next.chunks ≡ length i.chunks = ap (λ cs. length cs) c in
@@ -64,21 +68,26 @@ none_held kind m i next samples h b c s =
       within = omega (arith, none, same);
       few = λ l. absurd (omega (arith, none, same, l));
       lengths = λ k l. absurd (omega (arith, none, same, l));
-      small = λ k n. subst (λ z. get_or (samples_of_chunk samples k) n 0 < 256 ^ z) (sym s) (h.small k n);
+      small =
+          λ k n. subst (λ z. get_or (samples_of_chunk samples k) n 0
+          < 256 ^ z) (sym s) (h.small k n);
       regions = λ k l. absurd (omega (arith, none, same, l));
       fit = λ x l. h.fit x (subst (λ cs. In x cs) c l);
     }
 
 -- what is held of an image after a call of the table: its directory has the values of the tags
-setting_held : (s : Setting) (file : FileState) (m : Model) (i next : OpenImage) (samples : List (List ℕ)) (h : RecordsImage file.kind m i samples)
+setting_held : (s : Setting) (file : FileState) (m : Model) (i next : OpenImage)
+    (samples : List (List ℕ)) (h : RecordsImage file.kind m i samples)
     → (call_of s i file).answer ≡ Ok next
-    → ((d : OpenDirectory) (n : Model) → (row s).cause i file ≡ None → HoldsChunks file.kind n i samples
+    → ((d : OpenDirectory) (n : Model) → (row s).cause i file ≡ None
+    → HoldsChunks file.kind n i samples
     → HoldsValues n d.fields (after h.given (row s).tags) → RecordsImage file.kind n ((row s).image i d) samples)
     → RecordsImage file.kind (model_by file m (call_of s i file)) next samples
 setting_held s file m i next samples h a f =
     let tags : List (Tag × Scalars) = (row s).tags in
     subst (λ told. RecordsImage file.kind (model_by file m told) next samples) (sym (called s i file))
-    (row_held (row s) file m i next samples h (subst (λ (told : WriteOutcome OpenImage). told.answer ≡ Ok next) (called s i file) a)
+    (row_held (row s) file m i next samples h (subst (λ (told : WriteOutcome OpenImage). told.answer
+    ≡ Ok next) (called s i file) a)
     (λ d c x g. f d (model_by file m (write_tags i.directory tags file)) c g (tags_held i.directory tags file m h.given d h.holds x)))
 
 -- ---- extra samples
@@ -99,18 +108,24 @@ extra_kept extra file m i next samples h a =
     record {
       given = change h.given;
       holds = o;
-      tells = tells_changed change (set_local (tag_number tag.ExtraSamples) value) i (call d) h.given t (inl refl) refl
+      tells =
+          tells_changed change (set_local (tag_number tag.ExtraSamples) value) i (call d) h.given t
+          (inl refl) refl
           (places_kept i.form.chunk_type i.form.chunk_width i.form.chunk_height h.given (change h.given) refl t.chunks);
-      open_so = open_with i d extra i.form i.chunks h.open_so (omega (arith, few)) h.open_so.form (unpacked i whole.0);
+      open_so =
+          open_with i d extra i.form i.chunks h.open_so (omega (arith, few)) h.open_so.form
+          (unpacked i whole.0);
       chunks = none_held file.kind n i (call d) samples g tests.0 refl refl;
     })
 
 -- ---- the layout of an image
 
 -- an image with another layout that its values describe
-cut_kept : (kind : FileKind) (m : Model) (i : OpenImage) (d : OpenDirectory) (form : ChunkLayout) (later : Given) (samples : List (List ℕ))
+cut_kept : (kind : FileKind) (m : Model) (i : OpenImage) (d : OpenDirectory) (form : ChunkLayout)
+    (later : Given) (samples : List (List ℕ))
     → IsOpen i → HoldsChunks kind m i samples → is_begun i ≡ false → IsForm i.width form
-    → (is_packed i.color ≡ true → (form.chunk_type ≡ Strip) × (i.extra ≡ [])) → HoldsValues m d.fields later
+    → (is_packed i.color ≡ true → (form.chunk_type ≡ Strip) × (i.extra ≡ []))
+    → HoldsValues m d.fields later
     → TellsOpen (record i { directory = d; form = form }) later
     → RecordsImage kind m (record i { directory = d; form = form }) samples
 cut_kept kind m i d form later samples s c b f plain o t =
@@ -136,7 +151,8 @@ rows_kept rows l file m i next samples h a =
     let t : TellsOpen i h.given = h.tells in
     let none = unplaced i.form.chunk_type i.form.chunk_width i.form.chunk_height h.given t.chunks in
     cut_kept file.kind n i d form (change h.given) samples h.open_so g fresh.0
-    (record { wide = h.open_so.wide; high = (above rows some.0, l); strips = λ _. refl }) (λ p. (refl, (h.open_so.pixels.plain p).1.0)) o
+    (record { wide = h.open_so.wide; high = (above rows some.0, l); strips = λ _. refl })
+    (λ p. (refl, (h.open_so.pixels.plain p).1.0)) o
     (tells_changed change (set_local (tag_number tag.RowsPerStrip) value) i (record i { directory = d; form = form }) h.given t t.extra refl (refl, none)))
 
 planar_kept : KeepsOpen planar
@@ -152,7 +168,8 @@ planar_kept file m i next samples h a =
     let t : TellsOpen i h.given = h.tells in
     let f : IsForm i.width i.form = h.open_so.form in
     cut_kept file.kind n i d form (change h.given) samples h.open_so g tests.0
-    (record { wide = f.wide; high = f.high; strips = f.strips }) (λ p. let q = h.open_so.pixels.plain p in (q.0, q.1.0)) o
+    (record { wide = f.wide; high = f.high; strips = f.strips }) (λ p. let q =
+    h.open_so.pixels.plain p in (q.0, q.1.0)) o
     (tells_changed change (set_local (tag_number tag.PlanarConfiguration) value) i (call d) h.given t t.extra refl
     (places_kept i.form.chunk_type i.form.chunk_width i.form.chunk_height h.given (change h.given) refl t.chunks)))
 
@@ -160,14 +177,18 @@ planar_kept file m i next samples h a =
 side : (n : ℕ) → is_no_side n ≡ false → 0 < n
 side n h = above n (neither (n == 0) _ h).0
 
-tiles_kept : (width length : ℕ) → width < 2 ^ 32 → length < 2 ^ 32 → KeepsOpen (λ i. tiles i width length)
+tiles_kept : (width length : ℕ) → width < 2 ^ 32 → length < 2 ^ 32
+    → KeepsOpen (λ i. tiles i width length)
 unfolding tiles_cause
 tiles_kept width length w l file m i next samples h a =
     let form : ChunkLayout = tiles_of width length i.form.planar in
-    let values : List (Tag × Scalars) = (tag.TileWidth, u32s (width ∷ [])) ∷ (tag.TileLength, u32s (length ∷ [])) ∷ [] in
-    let change : Given → Given = λ given. set (after given values) (tag_number tag.RowsPerStrip) None in
+    let values : List (Tag × Scalars) =
+    (tag.TileWidth, u32s (width ∷ [])) ∷ (tag.TileLength, u32s (length ∷ [])) ∷ [] in
+    let change : Given → Given =
+    λ given. set (after given values) (tag_number tag.RowsPerStrip) None in
     let local : IsLocal change =
-    λ f g n e. set_local (tag_number tag.RowsPerStrip) None (after f values) (after g values) n (after_local values f g n e) in
+    λ f g n e. set_local (tag_number tag.RowsPerStrip) None (after f values) (after g values) n
+    (after_local values f g n e) in
     setting_held (Sides width length) file m i next samples h a
     (λ d n c g o.
     let tests = first_test _ _ _ (fresh file.fault _ c) in
@@ -175,7 +196,8 @@ tiles_kept width length w l file m i next samples h a =
     let sides = neither (is_no_side width) (is_no_side length) whole.1 in
     let t : TellsOpen i h.given = h.tells in
     let none = unplaced i.form.chunk_type i.form.chunk_width i.form.chunk_height h.given t.chunks in
-    cut_kept file.kind n i (without_field d tag.RowsPerStrip) form (change h.given) samples h.open_so g tests.0
+    cut_kept file.kind n i (without_field d tag.RowsPerStrip) form
+    (change h.given) samples h.open_so g tests.0
     (record { wide = (side width sides.0, w); high = (side length sides.1, l); strips = λ e. absurd (no_strip e) })
     (unpacked i whole.0)
     (unset_held n d.fields (after h.given values) (tag_number tag.RowsPerStrip) o)

@@ -82,16 +82,20 @@ chroma_found _ = None
 pub record FindsPage (l : TagLookup) (i : OpenImage) : Type 0 where
   pub wide : find into_u32 l tag.ImageWidth ≡ Ok (Some i.pixels)
   pub high : find into_u32 l tag.ImageLength ≡ Ok (Some i.height)
-  pub bits : find into_u64_vec l tag.BitsPerSample ≡ Ok (Some (extended_by_first i.color.bits (length i.extra)))
-  pub packed_by : find into_u16 l tag.Compression ≡ Ok (Some (method_number (compression_method i.compression)))
-  pub interpretation : find into_u16 l tag.PhotometricInterpretation ≡ Ok (Some (interpretation_number i.color.interpretation))
+  pub bits : find into_u64_vec l tag.BitsPerSample
+      ≡ Ok (Some (extended_by_first i.color.bits (length i.extra)))
+  pub packed_by : find into_u16 l tag.Compression
+      ≡ Ok (Some (method_number (compression_method i.compression)))
+  pub interpretation : find into_u16 l tag.PhotometricInterpretation
+      ≡ Ok (Some (interpretation_number i.color.interpretation))
   pub samples : find into_u16 l tag.SamplesPerPixel ≡ Ok (Some (all_samples i))
   pub predicted_by : find into_u16 l tag.Predictor ≡ Ok (Some (predictor_number i.predictor))
   pub planar : find into_u16 l tag.PlanarConfiguration ≡ Ok (planar_found i.form.planar)
   pub extra_numbers : Option (List ℕ)
   pub extra : find into_u16_vec l tag.ExtraSamples ≡ Ok extra_numbers
   pub extra_is : unwrap_or extra_numbers [] ≡ map extra_number i.extra
-  pub formats : find into_u64_vec l tag.SampleFormat ≡ Ok (Some (map format_number (extended_by_first i.color.formats (length i.extra))))
+  pub formats : find into_u64_vec l tag.SampleFormat
+      ≡ Ok (Some (map format_number (extended_by_first i.color.formats (length i.extra))))
   pub chroma : find into_u64_vec l tag.ChromaSubsampling ≡ Ok (chroma_found i.color.interpretation)
   pub chunks : FindsChunks i.form.chunk_type l i
 
@@ -146,7 +150,8 @@ planar_back Chunky = refl
 planar_back Planar = refl
 
 -- the chroma subsampling is read back as written
-chroma_back : (x : PhotometricInterpretation) → subsampling_from (chroma_found x) ≡ Ok (encoded.subsampling_of x)
+chroma_back : (x : PhotometricInterpretation)
+    → subsampling_from (chroma_found x) ≡ Ok (encoded.subsampling_of x)
 chroma_back meaning.WhiteIsZero = refl
 chroma_back meaning.BlackIsZero = refl
 chroma_back meaning.RGB = refl
@@ -165,7 +170,8 @@ some_is : (n : ℕ) → 0 < n → (n == 0) ≡ false
 some_is n h = ne_eqb n 0 (λ e. omega (arith, e, h))
 
 -- the check of the chunk type finds the type
-chunk_type_found : (l : TagLookup) (i : OpenImage) (c : ChunkType) → FindsChunks c l i → chunk_type_in l ≡ Ok c
+chunk_type_found : (l : TagLookup) (i : OpenImage) (c : ChunkType) → FindsChunks c l i
+    → chunk_type_in l ≡ Ok c
 unfolding chunk_type_in
 chunk_type_found l i Strip t = rw (t.has_offsets, t.has_counts, t.no_offsets, t.no_counts) refl
 chunk_type_found l i Tile t = rw (t.has_offsets, t.has_counts, t.no_offsets, t.no_counts) refl
@@ -188,7 +194,8 @@ module _ (kind : FileKind) (l : TagLookup) (i : OpenImage) (t : FindsPage l i) (
   -- the check of the compression method returns the image's
   pub method_is : method_in l ≡ Ok (compression_method i.compression)
   unfolding method_in
-  method_is = rw t.packed_by (ap (λ x. Ok x) (method_back (compression_method i.compression) (some_method i.compression)))
+  method_is =
+      rw t.packed_by (ap (λ x. Ok x) (method_back (compression_method i.compression) (some_method i.compression)))
 
   -- the check of the samples returns the number of samples of a pixel
   pub samples_is : samples_in l ≡ Ok (all_samples i)
@@ -259,11 +266,14 @@ module _ (kind : FileKind) (l : TagLookup) (i : OpenImage) (t : FindsPage l i) (
       → chunks_counted i.pixels i.height planes (the_chunks c) ≡ Ok (the_chunks c)
   unfolding chunks_counted
   counted_is c e =
-      let count : ℕ = chunk_count i.pixels i.height (pixels_across c i.pixels i.form.chunk_width) i.form.chunk_height planes in
+      let count : ℕ =
+      chunk_count i.pixels i.height (pixels_across c i.pixels i.form.chunk_width) i.form.chunk_height planes in
       let same : count ≡ all_chunks (image_page i) =
       ap (λ n. n * parts i.height i.form.chunk_height * planes) (across_same i w.wide w.form w.pixels c e) in
-      let o : length (offsets_of i) ≡ length i.chunks = length-map i.chunks (λ chunk. chunk.offset) in
-      let b : length (lengths_of i) ≡ length i.chunks = length-map i.chunks (λ chunk. chunk.stored) in
+      let o : length (offsets_of i) ≡ length i.chunks =
+      length-map i.chunks (λ chunk. chunk.offset) in
+      let b : length (lengths_of i) ≡ length i.chunks =
+      length-map i.chunks (λ chunk. chunk.stored) in
       rw (
         eq-eqb (length (offsets_of i)) (length (lengths_of i)) (o ∙ sym b),
         eq-eqb (length (offsets_of i)) count (o ∙ w.chunks ∙ sym same),
@@ -281,5 +291,6 @@ module _ (kind : FileKind) (l : TagLookup) (i : OpenImage) (t : FindsPage l i) (
       (rw (f.offsets, f.byte_counts) (counted_is Tile e))
 
   -- the check of the chunks returns the chunks
-  pub chunks_are : chunks_in l i.form.chunk_type i.pixels i.height planes ≡ Ok (the_chunks i.form.chunk_type)
+  pub chunks_are : chunks_in l i.form.chunk_type i.pixels i.height planes
+      ≡ Ok (the_chunks i.form.chunk_type)
   chunks_are = chunks_found i.form.chunk_type t.chunks refl

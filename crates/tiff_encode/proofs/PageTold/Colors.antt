@@ -47,7 +47,8 @@ few_bits color.Gray8 = lit< tt
 few_bits name = lit< tt
 
 -- the sample format of a field type is a named one, and its number fits in two bytes
-named_format : (type : «Type») → kinds.format_of (format_number (format_of_type type)) ≡ format_of_type type
+named_format : (type : «Type»)
+    → kinds.format_of (format_number (format_of_type type)) ≡ format_of_type type
 unfolding kinds.format_of
 named_format field.BYTE = refl
 named_format type = refl
@@ -63,7 +64,8 @@ named_alike name =
     let f : Family = (family_and_type name).0 in
     let type : «Type» = (family_and_type name).1 in
     let bits : ℕ = depth_of name in
-    let count : count_of f ≡ suc (count_of f - 1) = omega (arith, (are_color_types name).some, length-replicate (count_of f) bits) in
+    let count : count_of f ≡ suc (count_of f - 1) =
+    omega (arith, (are_color_types name).some, length-replicate (count_of f) bits) in
     record {
       more = count_of f - 1;
       depth = bits;
@@ -86,11 +88,13 @@ many_more (suc k) e x =
     ap (λ xs. x ∷ xs) (many_more k e x) ∙ ap (λ n. replicate n x) (sym z)
 
 -- extending a repeated value by its first element repeats it more often
-repeated_is : {A : Type 0} (k e : ℕ) (x : A) → extended_by_first (replicate (suc k) x) e ≡ replicate (suc (k + e)) x
+repeated_is : {A : Type 0} (k e : ℕ) (x : A)
+    → extended_by_first (replicate (suc k) x) e ≡ replicate (suc (k + e)) x
 repeated_is k e x = ap (λ xs. x ∷ xs) (many_more k e x)
 
 -- mapping a repeated value repeats the mapped value
-map_replicate : {A B : Type 0} (g : A → B) (k : ℕ) (x : A) → map g (replicate k x) ≡ replicate k (g x)
+map_replicate : {A B : Type 0} (g : A → B) (k : ℕ) (x : A)
+    → map g (replicate k x) ≡ replicate k (g x)
 map_replicate g zero x = refl
 map_replicate g (suc k) x = ap (λ xs. g x ∷ xs) (map_replicate g k x)
 
@@ -101,9 +105,11 @@ bits_repeated c a e = ap (λ bs. extended_by_first bs e) a.bits ∙ repeated_is 
 
 -- the format numbers of a color's samples, extended by some more
 pub formats_repeated : (c : ColorTypeRecord) (a : AreAlike c) (e : ℕ)
-    → map format_number (extended_by_first c.formats e) ≡ replicate (suc (a.more + e)) (format_number a.format)
+    → map format_number (extended_by_first c.formats e)
+    ≡ replicate (suc (a.more + e)) (format_number a.format)
 formats_repeated c a e =
-    ap (λ fs. map format_number (extended_by_first fs e)) a.formats ∙ ap (map format_number) (repeated_is a.more e a.format)
+    ap (λ fs. map format_number (extended_by_first fs e)) a.formats
+    ∙ ap (map format_number) (repeated_is a.more e a.format)
     ∙ map_replicate format_number (suc (a.more + e)) a.format
 
 -- each number of a repeated list is the first
@@ -155,5 +161,6 @@ pub image_samples : (kind : FileKind) (i : OpenImage) (w : IsWholeImage kind i)
     → suc ((image_alike kind i w).more + length i.extra) ≡ all_samples i
 image_samples kind i w =
     let a = image_alike kind i w in
-    let b : length i.color.bits ≡ suc a.more = ap length a.bits ∙ length-replicate (suc a.more) a.depth in
+    let b : length i.color.bits ≡ suc a.more =
+    ap length a.bits ∙ length-replicate (suc a.more) a.depth in
     omega (arith, b)

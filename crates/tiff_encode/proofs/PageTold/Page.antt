@@ -55,7 +55,8 @@ use Rattle.tiff_encode.proofs.PageTold.Checks.{offsets_of, lengths_of, FindsChun
 -- ---- the numbers of enums
 
 -- the number of a supported compression method is small
-method_small : (x : CompressionMethod) → (x ≡ method.None) ⊎ (x ≡ method.PackBits) → method_number x < 2 ^ 16
+method_small : (x : CompressionMethod) → (x ≡ method.None) ⊎ (x ≡ method.PackBits)
+    → method_number x < 2 ^ 16
 method_small x e =
     let P : CompressionMethod → Type 0 = λ y. method_number y < 2 ^ 16 in
     elim e as (λ _. P x) [ inl a ↦ subst P (sym a) (lit< tt) | inr b ↦ subst P (sym b) (lit< tt) ]
@@ -119,30 +120,38 @@ module _ (kind : FileKind) (file : List ℕ) (m : Model) (fields : FinMap nat_cm
   l = the_look kind file m fields given s h
 
   -- the look-up finds the planar configuration
-  planar_is : (x : PlanarConfiguration) → given (tag_number tag.PlanarConfiguration) ≡ planar_given x
+  planar_is : (x : PlanarConfiguration)
+      → given (tag_number tag.PlanarConfiguration) ≡ planar_given x
       → find into_u16 l tag.PlanarConfiguration ≡ Ok (planar_found x)
   unfolding data_of
   planar_is Planar g =
-      short_found kind file m fields given s h tag.PlanarConfiguration (planars (Planar ∷ [])) 2 refl g refl (lit< tt)
+      short_found kind file m fields given s h tag.PlanarConfiguration (planars (Planar
+      ∷ [])) 2 refl g refl (lit< tt)
   planar_is Chunky g =
       none_found into_u16 l tag.PlanarConfiguration (nothing_found kind file m fields given s h tag.PlanarConfiguration refl g).0
 
   -- the look-up finds the chroma subsampling
-  chroma_is : (x : PhotometricInterpretation) → given (tag_number tag.ChromaSubsampling) ≡ chroma_given x
+  chroma_is : (x : PhotometricInterpretation)
+      → given (tag_number tag.ChromaSubsampling) ≡ chroma_given x
       → find into_u64_vec l tag.ChromaSubsampling ≡ Ok (chroma_found x)
   unfolding data_of
-  chroma_is x g = elim (chroma_parts x) as (λ _. find into_u64_vec l tag.ChromaSubsampling ≡ Ok (chroma_found x)) [
-    | inl a ↦ shorts_found kind file m fields given s h tag.ChromaSubsampling (u16s (1 ∷ 1 ∷ [])) (1 ∷ 1 ∷ []) refl
-        (g ∙ a.0) refl ones_below (lit< tt)
-        ∙ ap (λ o. Ok o) (sym a.1)
-    | inr b ↦ none_found into_u64_vec l tag.ChromaSubsampling
-        (nothing_found kind file m fields given s h tag.ChromaSubsampling refl (g ∙ b.0)).0
-        ∙ ap (λ o. Ok o) (sym b.1)
-  ]
+  chroma_is x g =
+      elim (chroma_parts x) as (λ _. find into_u64_vec l tag.ChromaSubsampling
+      ≡ Ok (chroma_found x)) [
+        | inl a ↦ shorts_found kind file m fields given s h tag.ChromaSubsampling (u16s (1 ∷ 1 ∷ [])) (1
+            ∷ 1 ∷ []) refl
+            (g ∙ a.0) refl ones_below (lit< tt)
+            ∙ ap (λ o. Ok o) (sym a.1)
+        | inr b ↦ none_found into_u64_vec l tag.ChromaSubsampling
+            (nothing_found kind file m fields given s h tag.ChromaSubsampling refl (g ∙ b.0)).0
+            ∙ ap (λ o. Ok o) (sym b.1)
+      ]
 
   -- the look-up finds the extra samples
-  extra_is : (xs : List ExtraSamples) → length xs < 2 ^ 32 → ExtraGiven xs (given (tag_number tag.ExtraSamples))
-      → (ns : Option (List ℕ)) × ((find into_u16_vec l tag.ExtraSamples ≡ Ok ns) × (unwrap_or ns [] ≡ map extra_number xs))
+  extra_is : (xs : List ExtraSamples) → length xs < 2 ^ 32
+      → ExtraGiven xs (given (tag_number tag.ExtraSamples))
+      → (ns : Option (List ℕ)) × ((find into_u16_vec l tag.ExtraSamples ≡ Ok ns)
+      × (unwrap_or ns [] ≡ map extra_number xs))
   unfolding data_of
   extra_is xs few g =
       let ns : List ℕ = map extra_number xs in
@@ -181,18 +190,23 @@ module _ (kind : FileKind) (file : List ℕ) (m : Model) (fields : FinMap nat_cm
     -- the value that a tag has
     told : (q : Tag) → is_one_of tags_of_pixels (tag_number q) ≡ true
         → given (tag_number q) ≡ value_in (image_tags i (given (tag_number tag.ExtraSamples))) (tag_number q)
-    told q p = given_at (image_tags i (given (tag_number tag.ExtraSamples))) given (tag_number q) t.pixels p
+    told q p =
+        given_at (image_tags i (given (tag_number tag.ExtraSamples))) given (tag_number q) t.pixels p
 
     -- the look-up finds the depths
-    bits_is : find into_u64_vec l tag.BitsPerSample ≡ Ok (Some (extended_by_first i.color.bits (length i.extra)))
+    bits_is : find into_u64_vec l tag.BitsPerSample
+        ≡ Ok (Some (extended_by_first i.color.bits (length i.extra)))
     unfolding data_of
     bits_is =
         let a = alike in
         let e : ℕ = length i.extra in
         let ns : List ℕ = extended_by_first i.color.bits e in
         let small = a.few in
-        let x = same_few (suc (a.more + e)) a.depth ns (bits_repeated i.color a e) few_samples (omega (arith, small)) in
-        shorts_found kind file m fields given s h tag.BitsPerSample (u16s ns) ns refl (told tag.BitsPerSample refl) refl x.0 x.1
+        let x =
+        same_few (suc (a.more + e)) a.depth ns (bits_repeated i.color a e) few_samples
+        (omega (arith, small)) in
+        shorts_found kind file m fields given s h tag.BitsPerSample (u16s ns) ns refl
+        (told tag.BitsPerSample refl) refl x.0 x.1
 
     -- the look-up finds the sample formats
     formats_is : find into_u64_vec l tag.SampleFormat
@@ -203,13 +217,16 @@ module _ (kind : FileKind) (file : List ℕ) (m : Model) (fields : FinMap nat_cm
         let e : ℕ = length i.extra in
         let fs : List SampleFormat = extended_by_first i.color.formats e in
         let ns : List ℕ = map format_number fs in
-        let x = same_few (suc (a.more + e)) (format_number a.format) ns (formats_repeated i.color a e) few_samples a.small in
-        shorts_found kind file m fields given s h tag.SampleFormat (formats fs) ns refl (told tag.SampleFormat refl)
+        let x =
+        same_few (suc (a.more + e)) (format_number a.format) ns (formats_repeated i.color a e) few_samples a.small in
+        shorts_found kind file m fields given s h tag.SampleFormat (formats fs) ns refl
+        (told tag.SampleFormat refl)
         (as_numbers format_number fs) x.0 x.1
 
     -- the look-up finds numbers of the chunks
     chunk_numbers : (g : Chunk → ℕ) → ((c : Chunk) → In c i.chunks → g c < 256 ^ offset_len kind)
-        → (q : Tag) → is_page_tag (tag_number q) ≡ true → given (tag_number q) ≡ Some (offset_values kind (map g i.chunks))
+        → (q : Tag) → is_page_tag (tag_number q) ≡ true
+        → given (tag_number q) ≡ Some (offset_values kind (map g i.chunks))
         → (find into_u64_vec l q ≡ Ok (Some (map g i.chunks))) × (l.has q ≡ true)
     chunk_numbers g b q p e =
         let n : length (map g i.chunks) ≡ length i.chunks = length-map i.chunks g in
@@ -223,29 +240,40 @@ module _ (kind : FileKind) (file : List ℕ) (m : Model) (fields : FinMap nat_cm
         → EachGiven (places_in c i.form.chunk_width i.form.chunk_height (Some (offset_values kind (offsets_of i))) (Some (offset_values kind (lengths_of i)))) given
         → FindsChunks c l i
     chunks_is Strip u =
-        let o = chunk_numbers (λ chunk. chunk.offset) (λ c j. (w.fit c j).0) tag.StripOffsets refl u.1.0 in
-        let b = chunk_numbers (λ chunk. chunk.stored) (λ c j. (w.fit c j).1) tag.StripByteCounts refl u.1.1.0 in
+        let o =
+        chunk_numbers (λ chunk. chunk.offset) (λ c j. (w.fit c j).0) tag.StripOffsets refl u.1.0 in
+        let b =
+        chunk_numbers (λ chunk. chunk.stored) (λ c j. (w.fit c j).1) tag.StripByteCounts refl u.1.1.0 in
         record {
-          rows = long_found kind file m fields given s h tag.RowsPerStrip i.form.chunk_height refl u.0 w.form.high.1;
+          rows =
+              long_found kind file m fields given s h tag.RowsPerStrip i.form.chunk_height refl u.0 w.form.high.1;
           offsets = o.0;
           byte_counts = b.0;
           has_offsets = o.1;
           has_counts = b.1;
-          no_offsets = (nothing_found kind file m fields given s h tag.TileOffsets refl u.1.1.1.0).1;
-          no_counts = (nothing_found kind file m fields given s h tag.TileByteCounts refl u.1.1.1.1.0).1;
+          no_offsets =
+              (nothing_found kind file m fields given s h tag.TileOffsets refl u.1.1.1.0).1;
+          no_counts =
+              (nothing_found kind file m fields given s h tag.TileByteCounts refl u.1.1.1.1.0).1;
         }
     chunks_is Tile u =
-        let o = chunk_numbers (λ chunk. chunk.offset) (λ c j. (w.fit c j).0) tag.TileOffsets refl u.1.1.0 in
-        let b = chunk_numbers (λ chunk. chunk.stored) (λ c j. (w.fit c j).1) tag.TileByteCounts refl u.1.1.1.0 in
+        let o =
+        chunk_numbers (λ chunk. chunk.offset) (λ c j. (w.fit c j).0) tag.TileOffsets refl u.1.1.0 in
+        let b =
+        chunk_numbers (λ chunk. chunk.stored) (λ c j. (w.fit c j).1) tag.TileByteCounts refl u.1.1.1.0 in
         record {
-          wide = long_found kind file m fields given s h tag.TileWidth i.form.chunk_width refl u.0 w.form.wide.1;
-          high = long_found kind file m fields given s h tag.TileLength i.form.chunk_height refl u.1.0 w.form.high.1;
+          wide =
+              long_found kind file m fields given s h tag.TileWidth i.form.chunk_width refl u.0 w.form.wide.1;
+          high =
+              long_found kind file m fields given s h tag.TileLength i.form.chunk_height refl u.1.0 w.form.high.1;
           offsets = o.0;
           byte_counts = b.0;
           has_offsets = o.1;
           has_counts = b.1;
-          no_offsets = (nothing_found kind file m fields given s h tag.StripOffsets refl u.1.1.1.1.0).1;
-          no_counts = (nothing_found kind file m fields given s h tag.StripByteCounts refl u.1.1.1.1.1.0).1;
+          no_offsets =
+              (nothing_found kind file m fields given s h tag.StripOffsets refl u.1.1.1.1.0).1;
+          no_counts =
+              (nothing_found kind file m fields given s h tag.StripByteCounts refl u.1.1.1.1.1.0).1;
         }
 
     -- the look-up finds all tags of the image
@@ -256,16 +284,27 @@ module _ (kind : FileKind) (file : List ℕ) (m : Model) (fields : FinMap nat_cm
         let f = w.few in
         let x = extra_is i.extra (omega (arith, f)) t.extra in
         record {
-          wide = long_found kind file m fields given s h tag.ImageWidth i.pixels refl (told tag.ImageWidth refl) w.pixels.some.1;
-          high = long_found kind file m fields given s h tag.ImageLength i.height refl (told tag.ImageLength refl) w.high.1;
+          wide =
+              long_found kind file m fields given s h tag.ImageWidth i.pixels refl
+              (told tag.ImageWidth refl) w.pixels.some.1;
+          high =
+              long_found kind file m fields given s h tag.ImageLength i.height refl
+              (told tag.ImageLength refl) w.high.1;
           bits = bits_is;
-          packed_by = short tag.Compression (methods (compression_method i.compression ∷ [])) (method_number (compression_method i.compression)) refl (told tag.Compression refl) refl
+          packed_by =
+              short tag.Compression (methods (compression_method i.compression
+              ∷ [])) (method_number (compression_method i.compression)) refl (told tag.Compression refl) refl
               (method_small (compression_method i.compression) (some_method i.compression));
-          interpretation = short tag.PhotometricInterpretation (interpretations (i.color.interpretation ∷ []))
+          interpretation =
+              short tag.PhotometricInterpretation (interpretations (i.color.interpretation ∷ []))
               (interpretation_number i.color.interpretation) refl (told tag.PhotometricInterpretation refl) refl
               (interpretation_small i.color.interpretation);
-          samples = short tag.SamplesPerPixel (u16s (all_samples i ∷ [])) (all_samples i) refl (told tag.SamplesPerPixel refl) refl f;
-          predicted_by = short tag.Predictor (predictors (i.predictor ∷ [])) (predictor_number i.predictor) refl
+          samples =
+              short tag.SamplesPerPixel (u16s (all_samples i
+              ∷ [])) (all_samples i) refl (told tag.SamplesPerPixel refl) refl f;
+          predicted_by =
+              short tag.Predictor (predictors (i.predictor
+              ∷ [])) (predictor_number i.predictor) refl
               (told tag.Predictor refl) refl (predictor_small i.predictor);
           planar = planar_is i.form.planar (told tag.PlanarConfiguration refl);
           extra_numbers = x.0;
@@ -299,8 +338,10 @@ module _ (kind : FileKind) (file : List ℕ) (m : Model) (fields : FinMap nat_cm
 pub page_told : PageTold
 unfolding look_in
 page_told kind file m d fields given i s in_model is holds w t =
-    let value : Field → Result PlainValue TiffError = field_value kind LittleEndian file unlimited in
-    let F : DirectoryRecord → Result PageRecord TiffError = λ r. page_of (look_up_in value r.entries) in
+    let value : Field → Result PlainValue TiffError =
+    field_value kind LittleEndian file unlimited in
+    let F : DirectoryRecord → Result PageRecord TiffError =
+    λ r. page_of (look_up_in value r.entries) in
     ok_bind (directory_at kind LittleEndian file d.offset) F _ (shown_page i) (s.directories d in_model)
     (ap (λ fs. page_of (look_up_in value fs)) is
     ∙ page_passed (the_look kind file m fields given s holds) (shown_page i) (image_passed kind file m fields given s holds i w t))

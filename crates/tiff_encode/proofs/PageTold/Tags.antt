@@ -35,7 +35,8 @@ use Rattle.tiff_encode.proofs.PageTold.Values.{get_standing, standing_bytes, All
 -- ---- what a directory holds for a tag
 
 -- a tag with values has a field
-held : (m : Model) (found : Option Field) (given : Option Scalars) (values : Scalars) → given ≡ Some values
+held : (m : Model) (found : Option Field) (given : Option Scalars) (values : Scalars)
+    → given ≡ Some values
     → HoldsAt m found given → (e : Field) × ((found ≡ Some e) × HasValues m e values)
 held m (Some e) (Some v) values g h =
     let s : v ≡ values = cc g in
@@ -45,7 +46,8 @@ held m None (Some v) values g h = absurd h
 held m None None values g h = absurd cc
 
 -- a tag without values has no field
-not_held : (m : Model) (found : Option Field) (given : Option Scalars) → given ≡ None → HoldsAt m found given
+not_held : (m : Model) (found : Option Field) (given : Option Scalars) → given ≡ None
+    → HoldsAt m found given
     → found ≡ None
 not_held m found (Some v) g h = absurd cc
 not_held m (Some e) None g h = absurd h
@@ -53,37 +55,43 @@ not_held m None None g h = refl
 
 -- a field in its entry has its type and its count
 standing_parts : (kind : FileKind) (e : Field)
-    → ((standing_field kind e).field_type ≡ e.field_type) × ((standing_field kind e).count ≡ e.count)
+    → ((standing_field kind e).field_type ≡ e.field_type)
+    × ((standing_field kind e).count ≡ e.count)
 standing_parts Classic e = (refl, refl)
 standing_parts Big e = (refl, refl)
 
 -- the look-up of a value finds the value of the field
-value_found : (value : Field → Result PlainValue TiffError) (found : Option Field) (e : Field) (d : PlainValue)
+value_found : (value : Field → Result PlainValue TiffError) (found : Option Field) (e : Field)
+    (d : PlainValue)
     → found ≡ Some e → value e ≡ Ok d → if_found value found ≡ Ok (Some d)
 value_found value found e d a b = rw (a, b) refl
 
 -- ---- what is found by a conversion
 
 -- the look-up finds one number
-pub one_found : (into : PlainValue → Result ℕ TiffError) (l : TagLookup) (t : Tag) (d : PlainValue) (n : ℕ) → l.value t ≡ Ok (Some d)
+pub one_found : (into : PlainValue → Result ℕ TiffError) (l : TagLookup) (t : Tag) (d : PlainValue)
+    (n : ℕ) → l.value t ≡ Ok (Some d)
     → into d ≡ Ok n → find into l t ≡ Ok (Some n)
 unfolding find
 one_found into l t d n a b = rw (a, b) refl
 
 -- the look-up finds several numbers
-pub some_found : (into : PlainValue → Result (List ℕ) TiffError) (l : TagLookup) (t : Tag) (d : PlainValue) (ns : List ℕ)
+pub some_found : (into : PlainValue → Result (List ℕ) TiffError) (l : TagLookup) (t : Tag)
+    (d : PlainValue) (ns : List ℕ)
     → l.value t ≡ Ok (Some d) → into d ≡ Ok ns → find into l t ≡ Ok (Some ns)
 unfolding find
 some_found into l t d ns a b = rw (a, b) refl
 
 -- the look-up finds nothing
-pub none_found : {A : Type 0} (into : PlainValue → Result A TiffError) (l : TagLookup) (t : Tag) → l.value t ≡ Ok None
+pub none_found : {A : Type 0} (into : PlainValue → Result A TiffError) (l : TagLookup) (t : Tag)
+    → l.value t ≡ Ok None
     → find into l t ≡ Ok None
 unfolding find
 none_found into l t a = rw a refl
 
 -- the conversion of each number returns the number
-each_back : (into : PlainValue → Result ℕ TiffError) (one : ℕ → PlainValue) → ((n : ℕ) → into (one n) ≡ Ok n) → (ns : List ℕ)
+each_back : (into : PlainValue → Result ℕ TiffError) (one : ℕ → PlainValue)
+    → ((n : ℕ) → into (one n) ≡ Ok n) → (ns : List ℕ)
     → each_item into (f.plain_value_list_of (map one ns)) ≡ Ok ns
 each_back into one b [] = refl
 each_back into one b (n ∷ ns) = rw (b n, each_back into one b ns) refl
@@ -91,7 +99,8 @@ each_back into one b (n ∷ ns) = rw (b n, each_back into one b ns) refl
 -- the conversion of one number or of several returns a list
 pub list_back : (into : PlainValue → Result ℕ TiffError) (all : PlainValue → Result (List ℕ) TiffError) (one : ℕ → PlainValue)
     → ((n : ℕ) → into (one n) ≡ Ok n) → ((n : ℕ) → all (one n) ≡ Ok (n ∷ []))
-    → ((ds : PlainValueList) → all (f.list ds) ≡ each_item into ds) → (ns : List ℕ) → all (joint (map one ns)) ≡ Ok ns
+    → ((ds : PlainValueList) → all (f.list ds) ≡ each_item into ds) → (ns : List ℕ)
+    → all (joint (map one ns)) ≡ Ok ns
 list_back into all one a b c [] = c f.none
 list_back into all one a b c (n ∷ []) = b n
 list_back into all one a b c (n ∷ m ∷ ns) =
@@ -105,7 +114,8 @@ one_below n limit h zero = h
 one_below n limit h (suc i) = omega (arith, h)
 
 -- the numbers of a list's elements are below a limit if each one is
-pub each_below : {A : Type 0} (g : A → ℕ) (limit : ℕ) (xs : List A) → 0 < limit → ((x : A) → In x xs → g x < limit)
+pub each_below : {A : Type 0} (g : A → ℕ) (limit : ℕ) (xs : List A) → 0 < limit
+    → ((x : A) → In x xs → g x < limit)
     → AllBelow limit (map g xs)
 each_below g limit [] p h i = p
 each_below g limit (x ∷ xs) p h zero = h x (inl refl)
@@ -130,8 +140,10 @@ module _ (kind : FileKind) (file : List ℕ) (m : Model) (fields : FinMap nat_cm
   the_look = look_up_in (field_value kind LittleEndian file unlimited) (standing_fields kind fields)
 
   -- the look-up finds the numbers of a tag
-  pub numbers_found : (t : Tag) (values : Scalars) (type : «Type») (limit : ℕ) (one : ℕ → PlainValue) (ns : List ℕ)
-      → AreNumbers type limit one → is_page_tag (tag_number t) ≡ true → given (tag_number t) ≡ Some values
+  pub numbers_found : (t : Tag) (values : Scalars) (type : «Type») (limit : ℕ)
+      (one : ℕ → PlainValue) (ns : List ℕ)
+      → AreNumbers type limit one → is_page_tag (tag_number t) ≡ true
+      → given (tag_number t) ≡ Some values
       → AreBy values type ns → AllBelow limit ns → length ns < 2 ^ 32
       → (the_look.value t ≡ Ok (Some (joint (map one ns)))) × (the_look.has t ≡ true)
   numbers_found t values type limit one ns a p g d b few =
@@ -142,7 +154,8 @@ module _ (kind : FileKind) (file : List ℕ) (m : Model) (fields : FinMap nat_cm
       let parts = standing_parts kind e in
       let stood : get (standing_fields kind fields) q ≡ Some (standing_field kind e) =
       get_standing kind fields q ∙ ap (option_map (standing_field kind)) x.1.0 in
-      let read : field_value kind LittleEndian file unlimited (standing_field kind e) ≡ Ok (joint (map one ns)) =
+      let read : field_value kind LittleEndian file unlimited (standing_field kind e)
+      ≡ Ok (joint (map one ns)) =
       value_read kind file (standing_field kind e) type limit one ns a b few
       (parts.0 ∙ v.field_type ∙ ap (λ y. y.field_type) d) (parts.1 ∙ v.count ∙ ap (λ y. y.count) d)
       (standing_bytes kind file e v.whole
@@ -168,7 +181,8 @@ module _ (kind : FileKind) (file : List ℕ) (m : Model) (fields : FinMap nat_cm
       → find into_u16 the_look t ≡ Ok (Some n)
   short_found t values n p g d b =
       one_found into_u16 the_look t (short n) n
-      (numbers_found t values SHORT (2 ^ 16) short (n ∷ []) are_shorts p g d (one_below n (2 ^ 16) b) (lit< tt)).0 refl
+      (numbers_found t values SHORT (2 ^ 16) short (n
+      ∷ []) are_shorts p g d (one_below n (2 ^ 16) b) (lit< tt)).0 refl
 
   -- the look-up finds one LONG
   pub long_found : (t : Tag) (n : ℕ) → is_page_tag (tag_number t) ≡ true
@@ -177,12 +191,14 @@ module _ (kind : FileKind) (file : List ℕ) (m : Model) (fields : FinMap nat_cm
   unfolding data_of
   long_found t n p g b =
       one_found into_u32 the_look t (unsigned n) n
-      (numbers_found t (u32s (n ∷ [])) LONG (2 ^ 32) unsigned (n ∷ []) are_longs p g refl (one_below n (2 ^ 32) b) (lit< tt)).0
+      (numbers_found t (u32s (n ∷ [])) LONG (2 ^ 32) unsigned (n
+      ∷ []) are_longs p g refl (one_below n (2 ^ 32) b) (lit< tt)).0
       refl
 
   -- the look-up finds several SHORTs
   pub shorts_found : (t : Tag) (values : Scalars) (ns : List ℕ) → is_page_tag (tag_number t) ≡ true
-      → given (tag_number t) ≡ Some values → AreBy values SHORT ns → AllBelow (2 ^ 16) ns → length ns < 2 ^ 32
+      → given (tag_number t) ≡ Some values → AreBy values SHORT ns → AllBelow (2 ^ 16) ns
+      → length ns < 2 ^ 32
       → find into_u64_vec the_look t ≡ Ok (Some ns)
   shorts_found t values ns p g d b few =
       some_found into_u64_vec the_look t (joint (map short ns)) ns
@@ -190,7 +206,8 @@ module _ (kind : FileKind) (file : List ℕ) (m : Model) (fields : FinMap nat_cm
       (list_back into_u64 into_u64_vec short (λ n. refl) (λ n. refl) (λ ds. refl) ns)
 
 -- the look-up finds offsets, or numbers of bytes, in a file of a kind
-pub offsets_found : (kind : FileKind) (file : List ℕ) (m : Model) (fields : FinMap nat_cmp Field) (given : Given)
+pub offsets_found : (kind : FileKind) (file : List ℕ) (m : Model) (fields : FinMap nat_cmp Field)
+    (given : Given)
     (s : FileContains kind file m) (h : HoldsValues m fields given) (t : Tag) (ns : List ℕ)
     → is_page_tag (tag_number t) ≡ true → given (tag_number t) ≡ Some (offset_values kind ns)
     → AllBelow (256 ^ offset_len kind) ns → length ns < 2 ^ 32
@@ -198,13 +215,16 @@ pub offsets_found : (kind : FileKind) (file : List ℕ) (m : Model) (fields : Fi
     × ((the_look kind file m fields given s h).has t ≡ true)
 unfolding data_of
 offsets_found Classic file m fields given s h t ns p g b few =
-    let x = numbers_found Classic file m fields given s h t (u32s ns) LONG (2 ^ 32) unsigned ns are_longs p g refl b few in (
+    let x =
+    numbers_found Classic file m fields given s h t (u32s ns) LONG
+    (2 ^ 32) unsigned ns are_longs p g refl b few in (
       some_found into_u64_vec (the_look Classic file m fields given s h) t (joint (map unsigned ns)) ns x.0
           (list_back into_u64 into_u64_vec unsigned (λ n. refl) (λ n. refl) (λ ds. refl) ns),
       x.1,
     )
 offsets_found Big file m fields given s h t ns p g b few =
-    let x = numbers_found Big file m fields given s h t (u64s ns) LONG8 (2 ^ 64) unsigned_big ns are_long8s p g refl b few in (
+    let x =
+    numbers_found Big file m fields given s h t (u64s ns) LONG8 (2 ^ 64) unsigned_big ns are_long8s p g refl b few in (
       some_found into_u64_vec (the_look Big file m fields given s h) t (joint (map unsigned_big ns)) ns x.0
           (list_back into_u64 into_u64_vec unsigned_big (λ n. refl) (λ n. refl) (λ ds. refl) ns),
       x.1,

@@ -57,9 +57,11 @@ get_standing kind fields q =
     ∙ ap (option_map (standing_field kind)) (sym (get-entries fields q))
 
 -- the first bytes of a four-byte value field, padded with zeros, are those of the field
-front_stands : (n : ℕ) (v : List ℕ) → length v ≡ 8 → n ≤ 4 → take n (take 4 v ++ (0 ∷ 0 ∷ 0 ∷ 0 ∷ [])) ≡ take n v
+front_stands : (n : ℕ) (v : List ℕ) → length v ≡ 8 → n ≤ 4
+    → take n (take 4 v ++ (0 ∷ 0 ∷ 0 ∷ 0 ∷ [])) ≡ take n v
 front_stands n v l h =
-    take-append-le n (take 4 v) (0 ∷ 0 ∷ 0 ∷ 0 ∷ []) (omega (arith, length-take-le 4 v (omega (arith, l))))
+    take-append-le n (take 4 v) (0 ∷ 0 ∷ 0 ∷ 0
+    ∷ []) (omega (arith, length-take-le 4 v (omega (arith, l))))
     ∙ take-take n 4 v h
 
 -- the offset in a four-byte value field is the offset of the field
@@ -79,7 +81,8 @@ where_true false x y z e = refl
 
 -- the bytes of a field are the same in its entry
 pub standing_bytes : (kind : FileKind) (file : List ℕ) (e : Field) → length e.value ≡ 8
-    → field_bytes kind LittleEndian file (standing_field kind e) ≡ field_bytes kind LittleEndian file e
+    → field_bytes kind LittleEndian file (standing_field kind e)
+    ≡ field_bytes kind LittleEndian file e
 unfolding field_bytes
 standing_bytes Classic file e l =
     let n : ℕ = field_len e in
@@ -128,9 +131,11 @@ pub record AreNumbers (type : «Type») (limit : ℕ) (one : ℕ → PlainValue)
   pub free : (n : ℕ) → n < 2 ^ 32 → is_allowed unlimited type n ≡ true
 
 -- numbers of a type are read as its values
-numbers_read : (type : «Type») (limit : ℕ) (one : ℕ → PlainValue) (inline : Bool) (ns : List ℕ) → AreNumbers type limit one
+numbers_read : (type : «Type») (limit : ℕ) (one : ℕ → PlainValue) (inline : Bool) (ns : List ℕ)
+    → AreNumbers type limit one
     → AllBelow limit ns
-    → numbers inline type LittleEndian (length ns) (flat_map (le (type_size type)) ns) ≡ joint (map one ns)
+    → numbers inline type LittleEndian (length ns) (flat_map (le (type_size type)) ns)
+    ≡ joint (map one ns)
 numbers_read type limit one inline [] a b = refl
 numbers_read type limit one inline (n ∷ []) a b =
     ap (item type LittleEndian) (append-nil (le (type_size type) n)) ∙ a.alone n (b 0)
@@ -153,7 +158,8 @@ by_tests : (none few inline allowed : Bool) (empty value : PlainValue) (front by
     → near bytes ≡ Ok value → elsewhere bytes ≡ Ok value
     → cond none (Ok empty) (cond (not few) (Err LimitsExceeded) (cond inline (near front)
     (cond allowed (cond few (cond inline (Ok front) far) (Err LimitsExceeded) >>= elsewhere) (Err LimitsExceeded)))) ≡ Ok value
-by_tests true few inline allowed empty value front bytes far near elsewhere a b c d e = ap (λ x. Ok x) (a refl)
+by_tests true few inline allowed empty value front bytes far near elsewhere a b c d e =
+    ap (λ x. Ok x) (a refl)
 by_tests false false inline allowed empty value front bytes far near elsewhere a b c d e = absurd cc
 by_tests false true true allowed empty value front bytes far near elsewhere a b c d e =
     ap near (ok_inj front bytes c) ∙ d
@@ -162,28 +168,33 @@ by_tests false true false true empty value front bytes far near elsewhere a b c 
     ok_bind far elsewhere bytes value c e
 
 -- an empty list of numbers is an empty list of values
-empty_joint : (one : ℕ → PlainValue) (ns : List ℕ) → (length ns == 0) ≡ true → f.list (plain_value_list_of []) ≡ joint (map one ns)
+empty_joint : (one : ℕ → PlainValue) (ns : List ℕ) → (length ns == 0) ≡ true
+    → f.list (plain_value_list_of []) ≡ joint (map one ns)
 empty_joint one [] e = refl
 empty_joint one (n ∷ ns) e =
-    let some : (length (n ∷ ns) == 0) ≡ false = ne_eqb (length (n ∷ ns)) 0 (λ z. omega (arith, z)) in
+    let some : (length (n ∷ ns) == 0) ≡ false =
+    ne_eqb (length (n ∷ ns)) 0 (λ z. omega (arith, z)) in
     absurd (cc (some, e))
 
 -- the value of a field with the bytes of numbers
-pub value_read : (kind : FileKind) (file : List ℕ) (e : Field) (type : «Type») (limit : ℕ) (one : ℕ → PlainValue) (ns : List ℕ)
+pub value_read : (kind : FileKind) (file : List ℕ) (e : Field) (type : «Type») (limit : ℕ)
+    (one : ℕ → PlainValue) (ns : List ℕ)
     → AreNumbers type limit one → AllBelow limit ns → length ns < 2 ^ 32
     → e.field_type ≡ type → e.count ≡ length ns
     → field_bytes kind LittleEndian file e ≡ Ok (flat_map (le (type_size type)) ns)
     → field_value kind LittleEndian file unlimited e ≡ Ok (joint (map one ns))
 unfolding field_value field_bytes
 value_read kind file e type limit one ns a b few t c h =
-    let F : Bool → List ℕ → Result PlainValue TiffError = λ inline bytes. value_from inline e.field_type LittleEndian e.count bytes in
+    let F : Bool → List ℕ → Result PlainValue TiffError =
+    λ inline bytes. value_from inline e.field_type LittleEndian e.count bytes in
     let B : List ℕ = flat_map (le (type_size type)) ns in
     let V : PlainValue = joint (map one ns) in
     let back : (inline : Bool) → F inline B ≡ Ok V = λ inline.
     (λ i. value_from inline (t i) LittleEndian (c i) B) ∙ a.plain inline (length ns) B
     ∙ ap (λ v. Ok v) (numbers_read type limit one inline ns a b) in
     by_tests (e.count == 0) (ltb (field_len e) (2 ^ 64)) (leb (field_len e) (offset_len kind))
-    (is_allowed unlimited e.field_type e.count) (f.list (plain_value_list_of [])) V (take (field_len e) e.value) B
+    (is_allowed unlimited e.field_type e.count) (f.list (plain_value_list_of [])) V
+    (take (field_len e) e.value) B
     (exactly_at file (field_offset kind LittleEndian e) (field_len e)) (F true) (F false)
     (λ z. empty_joint one ns (sym (ap (λ n. n == 0) c) ∙ z))
     ((λ i. is_allowed unlimited (t i) (c i)) ∙ a.free (length ns) few)

@@ -30,9 +30,11 @@ digits_of : (x n : ℕ) → digits (λ j. x / 256 ^ j % 256) n ≡ x % 256 ^ n
 digits_of x zero = omega arith
 digits_of x (suc n) =
     let p : 256 ^ suc n ≡ 256 * 256 ^ n = omega (arith, pow-suc 256 n) in
-    let e : x % (256 * 256 ^ n) ≡ x / 256 ^ n % 256 * 256 ^ n + x % 256 ^ n = mod-mul x (lit< tt) (power_pos n) in
+    let e : x % (256 * 256 ^ n) ≡ x / 256 ^ n % 256 * 256 ^ n + x % 256 ^ n =
+    mod-mul x (lit< tt) (power_pos n) in
     let f : x % 256 ^ suc n ≡ x % (256 * 256 ^ n) = ap (λ (m : ℕ). x % m) p in
-    let c : 256 ^ n * (x / 256 ^ n % 256) ≡ x / 256 ^ n % 256 * 256 ^ n = mul_comm (256 ^ n) (x / 256 ^ n % 256) in
+    let c : 256 ^ n * (x / 256 ^ n % 256) ≡ x / 256 ^ n % 256 * 256 ^ n =
+    mul_comm (256 ^ n) (x / 256 ^ n % 256) in
     omega (arith, digits_of x n, e, f, c)
 
 -- ---- offsets
@@ -43,11 +45,14 @@ some_right a zero n h = Prim.absurd (omega (arith, h))
 some_right a (suc b) n h = omega arith
 
 -- the samples of the first plane, for each planar configuration
-first_plane : (planar : PlanarConfiguration) (n : ℕ) (color : ColorType) → planar_or planar (0 + 0) (n % samples_in_chunk planar color) ≡ n % samples_in_chunk planar color
+first_plane : (planar : PlanarConfiguration) (n : ℕ) (color : ColorType)
+    → planar_or planar (0 + 0) (n % samples_in_chunk planar color)
+    ≡ n % samples_in_chunk planar color
 first_plane Planar n color = omega arith
 first_plane Chunky n color = refl
 
-module _ (file : List ℕ) (p : PageRecord) (color : ColorType) (size : ℕ) (deep : p.depth ≡ 8 * size) (is_size : IsSize size) where
+module _ (file : List ℕ) (p : PageRecord) (color : ColorType) (size : ℕ) (deep : p.depth ≡ 8 * size)
+    (is_size : IsSize size) where
   -- the number of samples of a pixel, and of a row of the image
   abbrev s : ℕ
   s = samples_in_chunk p.planar color
@@ -159,17 +164,21 @@ module _ (file : List ℕ) (p : PageRecord) (color : ColorType) (size : ℕ) (de
       pixel_is = mod-mul n some_wide some_shown
 
       column_is : n % c / s ≡ n / s % p.width
-      column_is = ap (λ (m : ℕ). m / s) pixel_is ∙ div-mul-add (n / s % p.width) s (n % s) sample_within
+      column_is =
+          ap (λ (m : ℕ). m / s) pixel_is ∙ div-mul-add (n / s % p.width) s (n % s) sample_within
 
       sample_is : n % c % s ≡ n % s
-      sample_is = ap (λ (m : ℕ). m % s) pixel_is ∙ mod-mul-add (n / s % p.width) s (n % s) sample_within
+      sample_is =
+          ap (λ (m : ℕ). m % s) pixel_is ∙ mod-mul-add (n / s % p.width) s (n % s) sample_within
 
       abbrev x : ℕ
       x = shown_sample file LittleEndian p (n / s % p.width) (n / s / p.width) (n % s)
 
-      number_byte_is : number_byte file LittleEndian p color (image_region p) (0 + 0) (n / s / p.width) k ≡ x / 256 ^ j % 256
+      number_byte_is : number_byte file LittleEndian p color (image_region p) (0
+          + 0) (n / s / p.width) k ≡ x / 256 ^ j % 256
       number_byte_is =
-          let a : 0 + k / (p.depth / 8) / s ≡ n / s % p.width = ap (λ (m : ℕ). 0 + m / s) number_is ∙ omega (arith, column_is) in
+          let a : 0 + k / (p.depth / 8) / s ≡ n / s % p.width =
+          ap (λ (m : ℕ). 0 + m / s) number_is ∙ omega (arith, column_is) in
           let b : 0 + n / s / p.width ≡ n / s / p.width = omega arith in
           let d : planar_or p.planar (0 + 0) (k / (p.depth / 8) % s) ≡ n % s =
           ap (λ (m : ℕ). planar_or p.planar (0 + 0) (m % s)) number_is
@@ -177,15 +186,23 @@ module _ (file : List ℕ) (p : PageRecord) (color : ColorType) (size : ℕ) (de
           ∙ first_plane p.planar n color in
           λ t. shown_sample file LittleEndian p (a t) (b t) (d t) / 256 ^ offset_is t % 256
 
-      byte_is : byte_at file LittleEndian p color (image_region p) stride 1 i ≡ Some (x / 256 ^ j % 256)
+      byte_is : byte_at file LittleEndian p color (image_region p) stride 1 i
+          ≡ Some (x / 256 ^ j % 256)
       unfolding byte_at
       byte_is =
           let first : i / (stride * p.height) ≡ 0 = div-eq_of_lt i_within in
           let rest : i % (stride * p.height) ≡ i = mod-eq_of_lt i_within in
-          let row : i % (stride * p.height) / stride ≡ n / s / p.width = ap (λ (m : ℕ). m / stride) rest ∙ row_is in
-          let tested : nat_lt k stride ≡ true = lt-ltb k stride (omega (arith, k_within, stride_is)) in
-          let deep_enough : nat_lt p.depth 8 ≡ false = le-ltb p.depth 8 (omega (arith, deep, some_size size is_size)) in
-          let P : ℕ → Type 0 = λ m. cond (nat_lt (i / (stride * p.height)) 1 && nat_lt m stride) (Some (region_byte file LittleEndian p color (image_region p) (0 + i / (stride * p.height)) (i % (stride * p.height) / stride) m)) None ≡ Some (x / 256 ^ j % 256) in
+          let row : i % (stride * p.height) / stride ≡ n / s / p.width =
+          ap (λ (m : ℕ). m / stride) rest ∙ row_is in
+          let tested : nat_lt k stride ≡ true =
+          lt-ltb k stride (omega (arith, k_within, stride_is)) in
+          let deep_enough : nat_lt p.depth 8 ≡ false =
+          le-ltb p.depth 8 (omega (arith, deep, some_size size is_size)) in
+          let P : ℕ → Type 0 =
+          λ m. cond (nat_lt (i / (stride * p.height)) 1 && nat_lt m stride)
+          (Some (region_byte file LittleEndian p color (image_region p) (0
+          + i / (stride * p.height)) (i % (stride * p.height) / stride) m)) None
+          ≡ Some (x / 256 ^ j % 256) in
           subst P (sym rest_is) (rw (first, tested, deep_enough, row) (ap (λ (m : ℕ). Some m) number_byte_is))
 
       pub byte_there : slice_index bytes i ≡ x / 256 ^ j % 256
@@ -194,12 +211,15 @@ module _ (file : List ℕ) (p : PageRecord) (color : ColorType) (size : ℕ) (de
           ∙ ap (λ o. unwrap_or o 0) byte_is
 
     -- the bytes of the number, put together, are the sample
-    pub number_there : shown_sample file LittleEndian p (n / s % p.width) (n / s / p.width) (n % s) < 256 ^ size
-        → number LittleEndian (width_of size) (tabulate size (λ j. slice_index bytes (n * size + j)))
+    pub number_there : shown_sample file LittleEndian p (n / s % p.width) (n / s / p.width) (n % s)
+        < 256 ^ size
+        → number LittleEndian (width_of size) (tabulate size (λ j. slice_index bytes (n * size
+        + j)))
         ≡ shown_sample file LittleEndian p (n / s % p.width) (n / s / p.width) (n % s)
     number_there below =
         let x : ℕ = shown_sample file LittleEndian p (n / s % p.width) (n / s / p.width) (n % s) in
-        ap (number LittleEndian (width_of size)) (each_same size (λ j. slice_index bytes (n * size + j)) (λ j. x / 256 ^ j % 256) byte_there)
+        ap (number LittleEndian (width_of size)) (each_same size (λ j. slice_index bytes (n * size
+        + j)) (λ j. x / 256 ^ j % 256) byte_there)
         ∙ little_digits size (λ j. x / 256 ^ j % 256) is_size
         ∙ digits_of x size
         ∙ mod-eq_of_lt below
@@ -207,7 +227,8 @@ module _ (file : List ℕ) (p : PageRecord) (color : ColorType) (size : ℕ) (de
   -- the bytes contain as many numbers as the image has samples
   count_is : div_ceil (length bytes) size ≡ p.height * p.width * s
   count_is =
-      let l : length bytes ≡ stride * p.height = length-map-range_with_len at 0 (stride * p.height) in
+      let l : length bytes ≡ stride * p.height =
+      length-map-range_with_len at 0 (stride * p.height) in
       let n : ℕ = p.height * p.width * s in
       let e : n * size ≡ n * size + 0 = omega arith in
       let some : 0 < size = some_size size is_size in
@@ -218,12 +239,15 @@ module _ (file : List ℕ) (p : PageRecord) (color : ColorType) (size : ℕ) (de
       ∙ omega arith
 
   -- each number in the bytes is a sample of the image
-  pub numbers_are : (f : ℕ → ℕ) → ((n : ℕ) → n < p.height * p.width * s → shown_sample file LittleEndian p (n / s % p.width) (n / s / p.width) (n % s) ≡ f n)
+  pub numbers_are : (f : ℕ → ℕ)
+      → ((n : ℕ) → n < p.height * p.width * s → shown_sample file LittleEndian p (n / s % p.width) (n / s / p.width) (n % s) ≡ f n)
       → ((n : ℕ) → f n < 256 ^ size)
       → numbers_in size bytes ≡ tabulate (p.height * p.width * s) f
   unfolding numbers_in
   numbers_are f shows small =
-      let number_at : ℕ → ℕ = λ n. number LittleEndian (width_of size) (tabulate size (λ j. slice_index bytes (n * size + j))) in
+      let number_at : ℕ → ℕ =
+      λ n. number LittleEndian (width_of size) (tabulate size (λ j. slice_index bytes (n * size
+      + j))) in
       ap (λ (m : ℕ). tabulate m number_at) count_is
       ∙ each_same (p.height * p.width * s) number_at f (λ n b.
       number_there n b (subst (λ (m : ℕ). m < 256 ^ size) (sym (shows n b)) (small n)) ∙ shows n b)

@@ -19,11 +19,13 @@ use Rattle.tiff_page.proofs.Planes.{cases_of, given_bind}
 use Rattle.tiff_encode.proofs.Slices.{ok_inj}
 
 -- if a choice between a value and an error succeeds, it returns the value
-chosen : {A : Type 0} (b : Bool) (x y : A) (e : TiffError) → cond b (Ok x) (Err e) ≡ Ok y → (b ≡ true) × (x ≡ y)
+chosen : {A : Type 0} (b : Bool) (x y : A) (e : TiffError) → cond b (Ok x) (Err e) ≡ Ok y
+    → (b ≡ true) × (x ≡ y)
 chosen true x y e h = (refl, ok_inj x y h)
 chosen false x y e h = absurd cc
 
-refused : {A : Type 0} (b : Bool) (x y : A) (e : TiffError) → cond b (Err e) (Ok x) ≡ Ok y → (b ≡ false) × (x ≡ y)
+refused : {A : Type 0} (b : Bool) (x y : A) (e : TiffError) → cond b (Err e) (Ok x) ≡ Ok y
+    → (b ≡ false) × (x ≡ y)
 refused true x y e h = absurd cc
 refused false x y e h = (refl, ok_inj x y h)
 
@@ -46,17 +48,21 @@ some_is n m e =
 
 samples_some : (look : TagLookup) (n : ℕ) → samples_in look ≡ Ok n → 0 < n
 unfolding samples_in
-samples_some look n e = let b = bind_ok (find_or into_u16 look tag.SamplesPerPixel 1) _ _ e in some_is b.0 n b.1.1
+samples_some look n e =
+    let b = bind_ok (find_or into_u16 look tag.SamplesPerPixel 1) _ _ e in some_is b.0 n b.1.1
 
 -- counted chunks have one offset each
 abbrev AreListed : ℕ → ℕ → ℕ → Chunks → Type 0
-AreListed width height planes c = length c.offsets ≡ chunk_count width height c.chunk_width c.chunk_height planes
+AreListed width height planes c =
+    length c.offsets ≡ chunk_count width height c.chunk_width c.chunk_height planes
 
-counted_listed : (width height planes : ℕ) (chunks c : Chunks) → chunks_counted width height planes chunks ≡ Ok c → AreListed width height planes c
+counted_listed : (width height planes : ℕ) (chunks c : Chunks)
+    → chunks_counted width height planes chunks ≡ Ok c → AreListed width height planes c
 unfolding chunks_counted
 counted_listed width height planes chunks c e =
     let count : ℕ = chunk_count width height chunks.chunk_width chunks.chunk_height planes in
-    let r = chosen ((length chunks.offsets == length chunks.byte_counts) && (length chunks.offsets == count) && nat_lt count (2 ^ 32)) chunks c inconsistent e in
+    let r =
+    chosen ((length chunks.offsets == length chunks.byte_counts) && (length chunks.offsets == count) && nat_lt count (2 ^ 32)) chunks c inconsistent e in
     subst (AreListed width height planes) r.1
     (eqb-true (length chunks.offsets) count (middle (length chunks.offsets == length chunks.byte_counts) (length chunks.offsets == count) (nat_lt count (2 ^ 32)) r.0))
 
@@ -65,12 +71,14 @@ abbrev Counted : ℕ → ℕ → ℕ → Result Chunks TiffError → Type 0
 Counted width height planes (Ok c) = AreListed width height planes c
 Counted width height planes (Err e) = Unit {0}
 
-counted_given : (width height planes : ℕ) (chunks : Chunks) → Counted width height planes (chunks_counted width height planes chunks)
+counted_given : (width height planes : ℕ) (chunks : Chunks)
+    → Counted width height planes (chunks_counted width height planes chunks)
 counted_given width height planes chunks =
     ⊎_elim (λ a. subst (Counted width height planes) (sym a.1) (counted_listed width height planes chunks a.0 a.1))
     (λ b. subst (Counted width height planes) (sym b.1) tt) (cases_of (chunks_counted width height planes chunks))
 
-chunks_given : (look : TagLookup) (type : ChunkType) (width height planes : ℕ) → Counted width height planes (chunks_in look type width height planes)
+chunks_given : (look : TagLookup) (type : ChunkType) (width height planes : ℕ)
+    → Counted width height planes (chunks_in look type width height planes)
 unfolding strips_in tiles_in
 chunks_given look Strip width height planes =
     let P : Result Chunks TiffError → Type 0 = Counted width height planes in
@@ -101,5 +109,6 @@ page_listed look p e =
     let planes : ℕ = planes_of p.planar p.samples in
     record {
       some = samples_some look p.samples passed.samples;
-      offsets = subst (Counted p.width p.height planes) passed.chunks (chunks_given look p.chunk_type p.width p.height planes);
+      offsets =
+          subst (Counted p.width p.height planes) passed.chunks (chunks_given look p.chunk_type p.width p.height planes);
     }

@@ -47,25 +47,29 @@ use Rattle.tiff_encode.proofs.ReadsBack.Entries.{reads_back}
 -- ---- the sample type
 
 -- samples of each color type have a sample type
-type_of_numbers : (name : ColorTypeName) → (t : DecodingSampleType) × (sample_type_from (format_of_type (family_and_type name).1) (depth_of name) ≡ Ok t)
+type_of_numbers : (name : ColorTypeName)
+    → (t : DecodingSampleType) × (sample_type_from (format_of_type (family_and_type name).1) (depth_of name) ≡ Ok t)
 type_of_numbers color.Gray8 = (_, refl)
 type_of_numbers name = (_, refl)
 
 -- each named color type has a sample type
-typed : (name : ColorTypeName) → (t : DecodingSampleType) × (sample_type_from (get_or (color_type name).formats 0 Void) (get_or (color_type name).bits 0 0) ≡ Ok t)
+typed : (name : ColorTypeName)
+    → (t : DecodingSampleType) × (sample_type_from (get_or (color_type name).formats 0 Void) (get_or (color_type name).bits 0 0) ≡ Ok t)
 unfolding color_type
 typed name =
     let f : Family = (family_and_type name).0 in
     let type : «Type» = (family_and_type name).1 in
     let there = type_of_numbers name in (
       there.0,
-      ap (λ (format : SampleFormat). sample_type_from format (get_or (color_type name).bits 0 0)) (first_of f (format_of_type type) Void)
+      ap (λ (format : SampleFormat). sample_type_from format (get_or (color_type name).bits 0 0))
+          (first_of f (format_of_type type) Void)
           ∙ ap (λ (depth : ℕ). sample_type_from (format_of_type type) depth) (first_of f (depth_of name) 0)
           ∙ there.1,
     )
 
 -- samples of a sample type are numbers
-numbered : (f : SampleFormat) (d : ℕ) (t : DecodingSampleType) → sample_type_from f d ≡ Ok t → is_number f ≡ true
+numbered : (f : SampleFormat) (d : ℕ) (t : DecodingSampleType) → sample_type_from f d ≡ Ok t
+    → is_number f ≡ true
 numbered Uint d t e = refl
 numbered Int d t e = refl
 numbered IEEEFP d t e = refl
@@ -85,23 +89,30 @@ module _ (p : PageRecord) where
   none_taken = tt
 
   -- the decoder supports a color that a test chooses, if it supports each choice
-  some_taken : (k : ℕ) (x y : ColorType) (other : Result ColorType TiffError) → IsTaken p (Ok x) → IsTaken p (Ok y) → IsTaken p other
+  some_taken : (k : ℕ) (x y : ColorType) (other : Result ColorType TiffError) → IsTaken p (Ok x)
+      → IsTaken p (Ok y) → IsTaken p other
       → IsTaken p (cond (photometric p == k) (Ok (cond (first_is_alpha p.extra) x y)) other)
   some_taken k x y other a b c =
       given_if (IsTaken p) (photometric p == k) (Ok (cond (first_is_alpha p.extra) x y)) other
       (given_if (λ z. IsTaken p (Ok z)) (first_is_alpha p.extra) x y a b) c
 
-  one_taken : (k : ℕ) (x : ColorType) → IsTaken p (Ok x) → IsTaken p (cond (photometric p == k) (Ok x) (no_color p))
+  one_taken : (k : ℕ) (x : ColorType) → IsTaken p (Ok x)
+      → IsTaken p (cond (photometric p == k) (Ok x) (no_color p))
   one_taken k x a = given_if (IsTaken p) (photometric p == k) (Ok x) (no_color p) a none_taken
 
   rgb_taken : IsTaken p (color_from (meaning_of family.RGB) p)
-  rgb_taken = some_taken 3 (RGBA p.depth) (RGB p.depth) (cond (photometric p == 4) (Ok (RGBA p.depth)) (no_color p)) (refl, refl) (refl, refl) (one_taken 4 (RGBA p.depth) (refl, refl))
+  rgb_taken =
+      some_taken 3 (RGBA p.depth) (RGB p.depth) (cond (photometric p == 4) (Ok (RGBA p.depth)) (no_color p)) (refl, refl) (refl, refl) (one_taken 4 (RGBA p.depth) (refl, refl))
 
   cmyk_taken : IsTaken p (color_from (meaning_of family.CMYK) p)
-  cmyk_taken = some_taken 4 (CMYKA p.depth) (CMYK p.depth) (cond (photometric p == 5) (Ok (CMYKA p.depth)) (no_color p)) (refl, refl) (refl, refl) (one_taken 5 (CMYKA p.depth) (refl, refl))
+  cmyk_taken =
+      some_taken 4 (CMYKA p.depth) (CMYK p.depth) (cond (photometric p == 5) (Ok (CMYKA p.depth)) (no_color p)) (refl, refl) (refl, refl) (one_taken 5 (CMYKA p.depth) (refl, refl))
 
-  family_taken : (f : Family) → p.subsampling ≡ subsampling_of (meaning_of f) → IsTaken p (color_from (meaning_of f) p)
-  family_taken family.Gray e = given_if (IsTaken p) (p.samples == 1) (Ok (Gray p.depth)) (Ok (Multiband p.depth p.samples)) (refl, refl) (refl, refl)
+  family_taken : (f : Family) → p.subsampling ≡ subsampling_of (meaning_of f)
+      → IsTaken p (color_from (meaning_of f) p)
+  family_taken family.Gray e =
+      given_if (IsTaken p) (p.samples == 1) (Ok (Gray p.depth)) (Ok (Multiband p.depth p.samples))
+      (refl, refl) (refl, refl)
   family_taken family.RGB e = rgb_taken
   family_taken family.RGBA e = rgb_taken
   family_taken family.CMYK e = cmyk_taken
@@ -114,7 +125,8 @@ module _ (p : PageRecord) where
   family_upright f c = refl
 
   -- the decoder supports the predictors that the encoder writes
-  undone : (q : Predictor) (c : ColorType) → (q ≡ predictor.None) ⊎ (q ≡ predictor.Horizontal) → is_number p.format ≡ true → fault_of_predictor q p c ≡ Ok tt
+  undone : (q : Predictor) (c : ColorType) → (q ≡ predictor.None) ⊎ (q ≡ predictor.Horizontal)
+      → is_number p.format ≡ true → fault_of_predictor q p c ≡ Ok tt
   undone q c way e =
       let P : Predictor → Type 0 = λ r. fault_of_predictor r p c ≡ Ok tt in
       elim way as (λ _. P q) [
@@ -132,7 +144,8 @@ narrow_depth d l =
       ne_eqb d 64 (λ q. omega (arith, l, q)),
     ) refl
 
-unpacked : (m : CompressionMethod) → (m ≡ method.None) ⊎ (m ≡ method.PackBits) → method_fault m ≡ Ok tt
+unpacked : (m : CompressionMethod) → (m ≡ method.None) ⊎ (m ≡ method.PackBits)
+    → method_fault m ≡ Ok tt
 unpacked m way =
     let P : CompressionMethod → Type 0 = λ r. method_fault r ≡ Ok tt in
     elim way as (λ _. P m) [
@@ -153,7 +166,8 @@ module _ (i : OpenImage) (w : IsOpen i) (p : PageRecord)
   interpretation_is = ap (λ (q : PageRecord). q.interpretation) same ∙ is_of.interpretation
 
   subsampling_is : p.subsampling ≡ subsampling_of (meaning_of is_of.family)
-  subsampling_is = ap (λ (q : PageRecord). q.subsampling) same ∙ ap subsampling_of is_of.interpretation
+  subsampling_is =
+      ap (λ (q : PageRecord). q.subsampling) same ∙ ap subsampling_of is_of.interpretation
 
   pub type_there : (t : DecodingSampleType) × (sample_type_of p ≡ Ok t)
   unfolding sample_type_of
@@ -167,16 +181,19 @@ module _ (i : OpenImage) (w : IsOpen i) (p : PageRecord)
 
   -- packed pixels have strips and no predictor
   packed_so : p.depth < 8 → is_packed i.color ≡ true
-  packed_so l = lt-ltb (first_bits i.color) 8 (subst (λ n. n < 8) (ap (λ (q : PageRecord). q.depth) same) l)
+  packed_so l =
+      lt-ltb (first_bits i.color) 8 (subst (λ n. n < 8) (ap (λ (q : PageRecord). q.depth) same) l)
 
   narrow_taken : (c : ColorType) → color_of p ≡ Ok c → p.depth < 8 → depth_fault p c ≡ Ok tt
   unfolding depth_fault
   narrow_taken c e l =
       let gray = packed_color i is_of w.wide w.form w.pixels (packed_so l) p c same e in
-      let none : p.predictor ≡ predictor.None = ap (λ (q : PageRecord). q.predictor) same ∙ (w.pixels.plain (packed_so l)).1.1 in
+      let none : p.predictor ≡ predictor.None =
+      ap (λ (q : PageRecord). q.predictor) same ∙ (w.pixels.plain (packed_so l)).1.1 in
       let whole : is_byte_multiple p.depth ≡ false = narrow_depth p.depth l in
       let test : nat_lt p.depth 8 ≡ true = lt-ltb p.depth 8 l in
-      let P : ColorType → Predictor → Type 0 = λ x q. cond (is_byte_multiple p.depth && is_supported_color x) (Ok tt)
+      let P : ColorType → Predictor → Type 0 =
+      λ x q. cond (is_byte_multiple p.depth && is_supported_color x) (Ok tt)
       (cond (nat_lt p.depth 8 && is_gray x) (refuse_predictor q x) (Err (UnsupportedError (UnsupportedColorType x)))) ≡ Ok tt in
       subst (λ x. P x p.predictor) (sym gray) (subst (λ q. P (Gray (first_bits i.color)) q) (sym none) (rw (whole, test) refl))
 
@@ -185,15 +202,21 @@ module _ (i : OpenImage) (w : IsOpen i) (p : PageRecord)
       let strip : i.form.chunk_type ≡ Strip = (w.pixels.plain (packed_so l)).0 in
       let wide : p.width ≡ i.pixels = ap (λ (q : PageRecord). q.width) same in
       let chunk : p.chunk_width ≡ i.pixels =
-      ap (λ (q : PageRecord). q.chunk_width) same ∙ ap (λ t. pixels_across t i.pixels i.form.chunk_width) strip in
-      let one : parts p.width p.chunk_width ≡ 1 = (λ t. parts (wide t) (chunk t)) ∙ one_part i.pixels i.pixels w.pixels.some.0 (omega arith) in
+      ap (λ (q : PageRecord). q.chunk_width) same
+      ∙ ap (λ t. pixels_across t i.pixels i.form.chunk_width) strip in
+      let one : parts p.width p.chunk_width ≡ 1 =
+      (λ t. parts (wide t) (chunk t))
+      ∙ one_part i.pixels i.pixels w.pixels.some.0 (omega arith) in
       let few : nat_lt 1 (parts p.width p.chunk_width) ≡ false = ap (λ n. nat_lt 1 n) one in
       rw few refl
 
   -- the depth of the page
-  pub depth_there : ((shown_page i).depth ≡ 8 * i.size) ⊎ (((shown_page i).depth < 8) × (i.size ≡ 1))
+  pub depth_there : ((shown_page i).depth ≡ 8 * i.size)
+      ⊎ (((shown_page i).depth < 8) × (i.size ≡ 1))
   depth_there =
-      let P : Bool → Type 0 = λ b. is_packed i.color ≡ b → ((shown_page i).depth ≡ 8 * i.size) ⊎ (((shown_page i).depth < 8) × (i.size ≡ 1)) in
+      let P : Bool → Type 0 =
+      λ b. is_packed i.color ≡ b → ((shown_page i).depth ≡ 8 * i.size)
+      ⊎ (((shown_page i).depth < 8) × (i.size ≡ 1)) in
       elim (is_packed i.color) as P [
         | true ↦ λ y. inr (ltb-true (first_bits i.color) 8 y, (packed_as i is_of w.wide w.form w.pixels y).1.0)
         | false ↦ λ n. inl (plain_depth i is_of w.wide w.form w.pixels n)
@@ -203,17 +226,24 @@ module _ (i : OpenImage) (w : IsOpen i) (p : PageRecord)
   unfolding color_of sample_type_of predictor_fault inversion_fault
   readable c e =
       let f : Family = is_of.family in
-      let from : color_from (meaning_of f) p ≡ Ok c = ap (λ (m : PhotometricInterpretation). color_from m p) (sym interpretation_is) ∙ e in
+      let from : color_from (meaning_of f) p ≡ Ok c =
+      ap (λ (m : PhotometricInterpretation). color_from m p) (sym interpretation_is) ∙ e in
       let taken : IsTaken p (Ok c) = subst (IsTaken p) from (family_taken p f subsampling_is) in
       let way : (p.predictor ≡ predictor.None) ⊎ (p.predictor ≡ predictor.Horizontal) =
-      subst (λ (q : Predictor). (q ≡ predictor.None) ⊎ (q ≡ predictor.Horizontal)) (sym (ap (λ (q : PageRecord). q.predictor) same)) w.predicted_by in
+      subst (λ (q : Predictor). (q ≡ predictor.None)
+      ⊎ (q ≡ predictor.Horizontal)) (sym (ap (λ (q : PageRecord). q.predictor) same)) w.predicted_by in
       let packed : (p.method ≡ method.None) ⊎ (p.method ≡ method.PackBits) =
-      subst (λ (q : CompressionMethod). (q ≡ method.None) ⊎ (q ≡ method.PackBits)) (sym (ap (λ (q : PageRecord). q.method) same)) (some_method i.compression) in
+      subst (λ (q : CompressionMethod). (q ≡ method.None)
+      ⊎ (q ≡ method.PackBits)) (sym (ap (λ (q : PageRecord). q.method) same))
+      (some_method i.compression) in
       record {
         plain = taken.0;
-        predictor = undone p p.predictor c way (numbered p.format p.depth type_there.0 type_there.1);
+        predictor =
+            undone p p.predictor c way (numbered p.format p.depth type_there.0 type_there.1);
         packed_by = unpacked p.method packed;
-        upright = ap (λ (m : PhotometricInterpretation). white_from m p c) interpretation_is ∙ family_upright p f c;
+        upright =
+            ap (λ (m : PhotometricInterpretation). white_from m p c) interpretation_is
+            ∙ family_upright p f c;
         chroma = taken.1;
         narrow = λ l. (narrow_taken c e l, narrow_aligned c l);
       }
@@ -239,9 +269,11 @@ shown_in_order i samples p color wide all long =
     let s : ℕ = column_samples p color in
     let c : ℕ = shown_columns p color in
     let n : ℕ = p.height * c * s in
-    let at : ℕ → ℕ = λ k. slice_index samples ((k / s / c * i.width + k / s % c) * all_samples i + k % s) in
+    let at : ℕ → ℕ =
+    λ k. slice_index samples ((k / s / c * i.width + k / s % c) * all_samples i + k % s) in
     let offset : (k : ℕ) → (k / s / c * i.width + k / s % c) * all_samples i + k % s ≡ k = λ k.
-    let a : (k / s / c * c + k / s % c) * s ≡ k / s * s = ap (λ (m : ℕ). m * s) (div-add-mod' (k / s) c) in
+    let a : (k / s / c * c + k / s % c) * s ≡ k / s * s =
+    ap (λ (m : ℕ). m * s) (div-add-mod' (k / s) c) in
     let b : (k / s / c * i.width + k / s % c) * all_samples i ≡ (k / s / c * c + k / s % c) * s =
     λ t. (k / s / c * sym wide t + k / s % c) * sym all t in
     omega (arith, a, b, div-add-mod' k s) in
@@ -250,5 +282,6 @@ shown_in_order i samples p color wide all long =
     ∙ ext_get_or 0 (tabulate n (λ k. slice_index samples k)) samples
     (length-map-range_with_len (λ k. slice_index samples k) 0 n ∙ sym count)
     (λ k b.
-    let within : k < n = subst (λ (m : ℕ). k < m) (length-map-range_with_len (λ j. slice_index samples j) 0 n) b in
+    let within : k < n =
+    subst (λ (m : ℕ). k < m) (length-map-range_with_len (λ j. slice_index samples j) 0 n) b in
     get_or-map-range_with_len (λ j. slice_index samples j) 0 n k k 0 within (omega arith))

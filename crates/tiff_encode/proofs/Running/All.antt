@@ -21,25 +21,31 @@ use Rattle.tiff_encode.proofs.Slices.{some_inj, none_some}
 
 -- ---- one more job
 
-jobs_snoc : (old mid new : Run) (jobs : List Job) (replies : List JobReply) (j : Job) (r : JobReply) → JobsRun old jobs replies mid
+jobs_snoc : (old mid new : Run) (jobs : List Job) (replies : List JobReply) (j : Job) (r : JobReply)
+    → JobsRun old jobs replies mid
     → JobRan mid j r new → JobsRun old (jobs ++ j ∷ []) (replies ++ r ∷ []) new
 jobs_snoc old mid new [] [] j r h x = (new, (subst (λ m. JobRan m j r new) h x, refl))
 jobs_snoc old mid new [] (y ∷ replies) j r h x = absurd h
 jobs_snoc old mid new (k ∷ jobs) [] j r h x = absurd h
-jobs_snoc old mid new (k ∷ jobs) (y ∷ replies) j r h x = (h.0, (h.1.0, jobs_snoc h.0 mid new jobs replies j r h.1.1 x))
+jobs_snoc old mid new (k ∷ jobs) (y ∷ replies) j r h x =
+    (h.0, (h.1.0, jobs_snoc h.0 mid new jobs replies j r h.1.1 x))
 
 -- no job is run
 pub jobs_none : (earlier : List JobReply) (file : FileState) → JobsMove [] earlier earlier file file
-jobs_none earlier file = ([], (sym (append-nil earlier), λ known run q o s. (run, (q, (refl, (s, o))))))
+jobs_none earlier file =
+    ([], (sym (append-nil earlier), λ known run q o s. (run, (q, (refl, (s, o))))))
 
 -- one more job, behind the jobs that are run
-jobs_more : (jobs : List Job) (earlier all : List JobReply) (start : ℕ) (j : Job) (r : JobReply) (old mid new : FileState)
-    → start ≡ length earlier → JobsMove jobs earlier all old mid → JobMoves j (drop start all) r mid new
+jobs_more : (jobs : List Job) (earlier all : List JobReply) (start : ℕ) (j : Job) (r : JobReply)
+    (old mid new : FileState)
+    → start ≡ length earlier → JobsMove jobs earlier all old mid
+    → JobMoves j (drop start all) r mid new
     → JobsMove (jobs ++ j ∷ []) earlier (all ++ r ∷ []) old new
 jobs_more jobs earlier all start j r old mid new at m n =
     let replies : List JobReply = m.0 in
     let here : drop start all ≡ replies =
-    ap (λ k. drop k all) at ∙ ap (λ xs. drop (length earlier) xs) m.1.0 ∙ drop-append_seam earlier replies in
+    ap (λ k. drop k all) at ∙ ap (λ xs. drop (length earlier) xs) m.1.0
+    ∙ drop-append_seam earlier replies in
     let all_are : all ++ r ∷ [] ≡ earlier ++ (replies ++ r ∷ []) =
     ap (λ xs. xs ++ r ∷ []) m.1.0 ∙ append_assoc earlier replies (r ∷ []) in (
       replies ++ r ∷ [],
@@ -47,24 +53,29 @@ jobs_more jobs earlier all start j r old mid new at m n =
         all_are,
         λ known run q o s.
             let x = m.1.1 known run q o s in
-            let moves : JobMoves j replies r mid new = subst (λ xs. JobMoves j xs r mid new) here n in
+            let moves : JobMoves j replies r mid new =
+            subst (λ xs. JobMoves j xs r mid new) here n in
             let y = moves known x.0 x.1.0 x.1.1.1.1 x.1.1.1.0 in
             (y.0, (y.1.0, (jobs_snoc run x.0 y.0 jobs replies j r x.1.1.0 y.1.1.0, (y.1.1.1.0, y.1.1.1.1)))),
       ),
     )
 
 -- the replies from an index on
-pub replies_from : (xs all : List JobReply) (start : ℕ) → xs ≡ all → take (length xs - start) (drop start xs) ≡ drop start all
+pub replies_from : (xs all : List JobReply) (start : ℕ) → xs ≡ all
+    → take (length xs - start) (drop start xs) ≡ drop start all
 replies_from xs all start is =
-    take_all (length xs - start) (drop start xs) (let l = length-drop start xs in omega (arith, l)) ∙ ap (λ ys. drop start ys) is
+    take_all (length xs - start) (drop start xs) (let l = length-drop start xs in omega (arith, l))
+    ∙ ap (λ ys. drop start ys) is
 
 -- one iteration of the loop
-pub jobs_next : (jobs : List Job) (earlier all after : List JobReply) (start n : ℕ) (j : Job) (r : JobReply) (old mid new : FileState)
+pub jobs_next : (jobs : List Job) (earlier all after : List JobReply) (start n : ℕ) (j : Job)
+    (r : JobReply) (old mid new : FileState)
     → n < length jobs → j ≡ get_or jobs n j → start ≡ length earlier → after ≡ all ++ r ∷ []
     → JobsMove (take n jobs) earlier all old mid → JobMoves j (drop start all) r mid new
     → JobsMove (take (n + 1) jobs) earlier after old new
 jobs_next jobs earlier all after start n j r old mid new l v at e m x =
-    let more : take (n + 1) jobs ≡ take n jobs ++ j ∷ [] = take_more jobs n j l ∙ ap (λ y. take n jobs ++ y ∷ []) (sym v) in
+    let more : take (n + 1) jobs ≡ take n jobs ++ j ∷ [] =
+    take_more jobs n j l ∙ ap (λ y. take n jobs ++ y ∷ []) (sym v) in
     subst (λ js. JobsMove js earlier after old new) (sym more)
     (subst (λ xs. JobsMove (take n jobs ++ j ∷ []) earlier xs old new) (sym e) (jobs_more (take n jobs) earlier all start j r old mid new at m x))
 
@@ -83,14 +94,18 @@ none_told : (contents : List ℕ) → contents ≡ [] → is_none contents ≡ t
 none_told contents h = ap is_none h
 
 -- after the header is written, the properties of a run hold
-started_sound : (kind : FileKind) (contents : List ℕ) (failures : ℕ) (first : FileState) → first ≡ begun_file kind contents failures
-    → (contents ≡ [] → LeavesHeader kind first.bytes first.chain) → IsSound (is_none contents) (new_run kind contents failures)
+started_sound : (kind : FileKind) (contents : List ℕ) (failures : ℕ) (first : FileState)
+    → first ≡ begun_file kind contents failures
+    → (contents ≡ [] → LeavesHeader kind first.bytes first.chain)
+    → IsSound (is_none contents) (new_run kind contents failures)
 started_sound kind contents failures first is leaves =
     let file : FileState = begun_file kind contents failures in
-    let header : contents ≡ [] → LeavesHeader kind file.bytes file.chain = subst (λ f. contents ≡ [] → LeavesHeader kind f.bytes f.chain) is leaves in
+    let header : contents ≡ [] → LeavesHeader kind file.bytes file.chain =
+    subst (λ f. contents ≡ [] → LeavesHeader kind f.bytes f.chain) is leaves in
     record {
       stands = λ k. (header (told_none contents k)).stands;
-      chain = λ k offset p. subst (λ n. IsLink kind (header_model kind) n) (some_inj file.chain offset p) (header (told_none contents k)).link;
+      chain =
+          λ k offset p. subst (λ n. IsLink kind (header_model kind) n) (some_inj file.chain offset p) (header (told_none contents k)).link;
       offsets = λ o i. absurd i;
       images = λ f i. absurd i;
     }
@@ -104,13 +119,17 @@ run_shows run s f i =
     h.shown file
     (ended_shown_by (images_show_by page_told) kind file run.standing.model h.image h.samples f.offset (s.stands refl) h.held)
 
-pub jobs_run : (kind : FileKind) (contents : List ℕ) (failures : ℕ) (jobs : List Job) (earlier all : List JobReply) (first last : FileState)
-    (bytes : List ℕ) (after : ℕ) → first ≡ begun_file kind contents failures → (contents ≡ [] → LeavesHeader kind first.bytes first.chain)
+pub jobs_run : (kind : FileKind) (contents : List ℕ) (failures : ℕ) (jobs : List Job)
+    (earlier all : List JobReply) (first last : FileState)
+    (bytes : List ℕ) (after : ℕ) → first ≡ begun_file kind contents failures
+    → (contents ≡ [] → LeavesHeader kind first.bytes first.chain)
     → JobsMove jobs earlier all first last → bytes ≡ last.bytes → after ≡ last.failures
-    → (replies : List JobReply) × ((all ≡ earlier ++ replies) × LeavesJobs kind jobs replies contents failures bytes after)
+    → (replies : List JobReply) × ((all ≡ earlier ++ replies)
+    × LeavesJobs kind jobs replies contents failures bytes after)
 jobs_run kind contents failures jobs earlier all first last bytes after is leaves m b n =
     let run : Run = new_run kind contents failures in
-    let x = m.1.1 (is_none contents) run (sym is) refl (started_sound kind contents failures first is leaves) in
+    let x =
+    m.1.1 (is_none contents) run (sym is) refl (started_sound kind contents failures first is leaves) in
     let end : Run = x.0 in
     let sound : IsSound (is_none contents) end = x.1.1.1.0 in (
       m.0,
@@ -135,12 +154,15 @@ module _ {A : Type 0} where
   got_more [] y zero x h = inr (refl, some_inj y x h)
   got_more [] y (suc k) x h = absurd (none_some h)
   got_more (z ∷ xs) y zero x h = inl h
-  got_more (z ∷ xs) y (suc k) x h = elim (got_more xs y k x h) as (λ _. (slice_get (z ∷ xs) (suc k) ≡ Some x) ⊎ ((suc k ≡ length (z ∷ xs)) × (y ≡ x))) [
-    | inl q ↦ inl q
-    | inr q ↦ inr (ap suc q.0, q.1)
-  ]
+  got_more (z ∷ xs) y (suc k) x h =
+      elim (got_more xs y k x h) as (λ _. (slice_get (z ∷ xs) (suc k) ≡ Some x)
+      ⊎ ((suc k ≡ length (z ∷ xs)) × (y ≡ x))) [
+        | inl q ↦ inl q
+        | inr q ↦ inr (ap suc q.0, q.1)
+      ]
 
-  got_still : (xs : List A) (y : A) (k : ℕ) (x : A) → slice_get xs k ≡ Some x → slice_get (xs ++ y ∷ []) k ≡ Some x
+  got_still : (xs : List A) (y : A) (k : ℕ) (x : A) → slice_get xs k ≡ Some x
+      → slice_get (xs ++ y ∷ []) k ≡ Some x
   got_still [] y k x h = absurd (none_some h)
   got_still (z ∷ xs) y zero x h = h
   got_still (z ∷ xs) y (suc k) x h = got_still xs y k x h
@@ -153,10 +175,12 @@ pub rooms_none : {A : Type 0} (jobs : List Job) → AreRooms {A = A} jobs []
 rooms_none jobs k j room h q = absurd (none_some h)
 
 -- the list of jobs contains the job at each of its indices
-job_at : (jobs : List Job) (i : ℕ) (j : Job) → i < length jobs → j ≡ get_or jobs i j → slice_get jobs i ≡ Some j
+job_at : (jobs : List Job) (i : ℕ) (j : Job) → i < length jobs → j ≡ get_or jobs i j
+    → slice_get jobs i ≡ Some j
 job_at jobs i j l v = slice_get-get_or jobs i j l ∙ ap Some (sym v)
 
-module _ {A : Type 0} (jobs : List Job) (all rooms : List (Vec A Global)) (room : Vec A Global) (is : all ≡ rooms ++ room ∷ []) where
+module _ {A : Type 0} (jobs : List Job) (all rooms : List (Vec A Global)) (room : Vec A Global)
+    (is : all ≡ rooms ++ room ∷ []) where
   all_are : AreRooms jobs all → AreRooms jobs (rooms ++ room ∷ [])
   all_are a = subst (λ xs. AreRooms jobs xs) is a
 
@@ -165,20 +189,25 @@ module _ {A : Type 0} (jobs : List Job) (all rooms : List (Vec A Global)) (room 
   rooms_left a k i r g q = all_are a k i r (got_still rooms room k r g) q
 
   -- the last list has room for the replies of the first job that isn't run
-  pub room_taken : (i : ℕ) (j : Job) → i < length jobs → j ≡ get_or jobs i j → length all + i ≡ length jobs → AreRooms jobs all
+  pub room_taken : (i : ℕ) (j : Job) → i < length jobs → j ≡ get_or jobs i j
+      → length all + i ≡ length jobs → AreRooms jobs all
       → IsEmptyWithRoom (step_count j) room
   room_taken i j l v n a =
-      let whole : length all ≡ length rooms + 1 = ap (λ xs. length xs) is ∙ length-append rooms (room ∷ []) in
+      let whole : length all ≡ length rooms + 1 =
+      ap (λ xs. length xs) is ∙ length-append rooms (room ∷ []) in
       let at : length jobs - (length rooms + 1) ≡ i = omega (arith, whole, n, l) in
-      all_are a (length rooms) j room (got_last rooms room) (ap (λ k. slice_get jobs k) at ∙ job_at jobs i j l v)
+      all_are a (length rooms) j room (got_last rooms room) (ap (λ k. slice_get jobs k) at
+      ∙ job_at jobs i j l v)
 
   -- one more list with room
-  pub rooms_more : (n : ℕ) (j : Job) → n < length jobs → j ≡ get_or jobs (length jobs - 1 - n) j → length rooms ≡ n
+  pub rooms_more : (n : ℕ) (j : Job) → n < length jobs → j ≡ get_or jobs (length jobs - 1 - n) j
+      → length rooms ≡ n
       → AreRooms jobs rooms → IsEmptyWithRoom (step_count j) room → AreRooms jobs all
   rooms_more n j l v count a h =
       let at : length jobs - 1 - n ≡ length jobs - (length rooms + 1) = omega (arith, count, l) in
       let own : slice_get jobs (length jobs - (length rooms + 1)) ≡ Some j =
-      ap (λ k. slice_get jobs k) (sym at) ∙ job_at jobs (length jobs - 1 - n) j (omega (arith, l)) v in
+      ap (λ k. slice_get jobs k) (sym at)
+      ∙ job_at jobs (length jobs - 1 - n) j (omega (arith, l)) v in
       subst (λ xs. AreRooms jobs xs) (sym is) (λ k i r g q. elim (got_more rooms room k r g) as (λ _. IsEmptyWithRoom (step_count i) r) [
         | inl p ↦ a k i r p q
         | inr p ↦ (let here : Some j ≡ Some i = sym own ∙ ap (λ n. slice_get jobs (length jobs - (n + 1))) (sym p.0) ∙ q in

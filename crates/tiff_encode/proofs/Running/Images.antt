@@ -1,4 +1,5 @@
--- The end of an image leads from a `FileAndModel` of the file before it to a `FileAndModel` of the file
+-- The end of an image leads from a `FileAndModel` of the file before it to a `FileAndModel` of the
+-- file
 -- after it. The image is held there if it is held while it is open.
 use Rattle.std.proofs.Common.{◌≡◌, ℕ, inl, inr, Bool, true, false, cond, List, ◌++◌, length, Option, Some, None, Result, Ok, Err, refl, ap, sym, ◌∙◌, subst}
 use Rattle.tiff_base.specs.declared.error.TiffError.{TiffError}
@@ -37,37 +38,44 @@ replied (Err e) = Err e
 -- ---- `finish` and `discard`
 
 -- an image ends with samples only if no chunk is left, and they are its samples before the end
-samples_kept : (b : Bool) (before samples : List (List ℕ)) → cond b None (Some before) ≡ Some samples → (b ≡ false) × (before ≡ samples)
+samples_kept : (b : Bool) (before samples : List (List ℕ))
+    → cond b None (Some before) ≡ Some samples → (b ≡ false) × (before ≡ samples)
 samples_kept true before samples h = absurd cc
 samples_kept false before samples h = (refl, some_inj before samples h)
 
 -- the image that is held after its end
 abbrev HeldWhole : OpenImage → FileAndModel → FileAndModel → Option Offsets → Type 0
 HeldWhole i s t offset =
-    (before samples : List (List ℕ)) (o : Offsets) → RecordsImage s.file.kind s.model i before → offset ≡ Some o
+    (before samples : List (List ℕ)) (o : Offsets) → RecordsImage s.file.kind s.model i before
+    → offset ≡ Some o
     → cond (is_left i) None (Some before) ≡ Some samples
     → IsHeld t (record { offset = o.pointer; image = image_with i samples })
 
 module _ (i : OpenImage) (old new : FileState) (ending : IsEnding i.directory.parent (finish_image i old) old new) where
-  finish_held : (offsets : Offsets) → EndsAsDefined (finish_image i old) (Ok offsets) new → (m : Model)
+  finish_held : (offsets : Offsets) → EndsAsDefined (finish_image i old) (Ok offsets) new
+      → (m : Model)
       → HeldWhole i (at old m) (at new (model_by old m (finish_image i old))) (Some offsets)
   finish_held offsets t m before samples o h p e =
       let n : Model = model_by old m (finish_image i old) in
       let x = samples_kept (is_left i) before samples e in
       let kind : new.kind ≡ old.kind = ap (λ f. f.kind) t.state ∙ ending.patches.done.kind in
-      let P : Offsets → List (List ℕ) → Type 0 = λ q all. IsHeld (at new n) (record { offset = q.pointer; image = image_with i all }) in
+      let P : Offsets → List (List ℕ) → Type 0 =
+      λ q all. IsHeld (at new n) (record { offset = q.pointer; image = image_with i all }) in
       subst (λ q. P q samples) (some_inj offsets o p)
       (subst (λ all. P offsets all) x.1 (record {
         image = i;
         samples = before;
-        held = subst (λ k. HoldsEnded k n i before offsets.pointer) (sym kind) (ends_held old m i before offsets h x.0 t.answer);
+        held =
+            subst (λ k. HoldsEnded k n i before offsets.pointer) (sym kind)
+            (ends_held old m i before offsets h x.0 t.answer);
         shown = λ file s. s;
       }))
 
   pub finish_told : (offsets : Offsets) → EndsAsDefined (finish_image i old) (Ok offsets) new
       → EndMoves (λ s t offset. FinishesSilently (finish_image i s.file) (Ok last.Nothing) s t offset) i.directory.parent old new (HeldWhole i)
   finish_told offsets t =
-      silently_told (finish_image i) (HeldWhole i) i.directory.parent old new ending offsets t (finish_held offsets t)
+      silently_told (finish_image i) (HeldWhole i) i.directory.parent old new ending offsets t
+      (finish_held offsets t)
 
   pub finish_failed : (e : TiffError) → CallFails (finish_image i old) e old new
       → EndMoves (λ s t offset. FinishesSilently (finish_image i s.file) (Err e) s t offset) i.directory.parent old new (HeldWhole i)
@@ -77,9 +85,11 @@ module _ (i : OpenImage) (old new : FileState) (ending : IsEnding i.directory.pa
 
 -- ---- `write_data`
 
-module _ (i : OpenImage) (samples : List ℕ) (old new : FileState) (entries : AreEntries i.directory.fields) (small : AreNumbers i.size samples)
+module _ (i : OpenImage) (samples : List ℕ) (old new : FileState)
+    (entries : AreEntries i.directory.fields) (small : AreNumbers i.size samples)
     (short : IsShortFile new) where
-  data_ending : (stored : List (List ℕ)) → IsEnding i.directory.parent (write_image_data i samples stored old) old new
+  data_ending : (stored : List (List ℕ))
+      → IsEnding i.directory.parent (write_image_data i samples stored old) old new
   data_ending stored = record {
     patches = data_patches i samples stored old;
     links = data_links i samples stored old;
@@ -106,10 +116,13 @@ module _ (i : OpenImage) (samples : List ℕ) (old new : FileState) (entries : A
         let end : WriteOutcome Offsets = finish_image end_image mid in
         let done = chunks_done i (parts_left i samples) w.stored old in
         let n : Model = model_by old m told in
-        let model : n ≡ model_by mid between end = ap (λ t. model_by old m t) ended.1.1 ∙ behind_model chunks end old m done in
-        let answer : end.answer ≡ Ok w.offsets = ap (λ t. t.answer) (sym ended.1.1) ∙ w.told.answer in
+        let model : n ≡ model_by mid between end =
+        ap (λ t. model_by old m t) ended.1.1 ∙ behind_model chunks end old m done in
+        let answer : end.answer ≡ Ok w.offsets =
+        ap (λ t. t.answer) (sym ended.1.1) ∙ w.told.answer in
         let kind : new.kind ≡ mid.kind =
-        ap (λ f. f.kind) w.told.state ∙ (data_patches i samples w.stored old).done.kind ∙ sym done.kind in
+        ap (λ f. f.kind) w.told.state ∙ (data_patches i samples w.stored old).done.kind
+        ∙ sym done.kind in
         let l = chunks_last i (parts_left i samples) w.stored end_image old w.all ended.1.0 in
         record {
           image = end_image;
@@ -126,7 +139,8 @@ module _ (i : OpenImage) (samples : List ℕ) (old new : FileState) (entries : A
     written_moves : EndMoves (λ s t offset. WritesData i samples (Ok last.Nothing) s t offset) i.directory.parent old new (DataHeld i samples)
     written_moves =
         let cause = write_image_data_cause old i (length samples) in
-        told_moves (λ s t offset. WritesData i samples (Ok last.Nothing) s t offset) (DataHeld i samples) i.directory.parent told old new
+        told_moves (λ s t offset. WritesData i samples (Ok last.Nothing) s t offset)
+        (DataHeld i samples) i.directory.parent told old new
         (data_ending w.stored) w.offsets w.told
         (λ m done.
         let n : Model = model_by old m told in
@@ -134,7 +148,8 @@ module _ (i : OpenImage) (samples : List ℕ) (old new : FileState) (entries : A
         (inl (w.stored, (w.are_stored, (w.all, (w.offsets, (done, refl)))))))
         (λ m before all o h p e.
         let n : Model = model_by old m told in
-        let P : Offsets → List (List ℕ) → Type 0 = λ q xs. IsHeld (at new n) (record { offset = q.pointer; image = image_with i xs }) in
+        let P : Offsets → List (List ℕ) → Type 0 =
+        λ q xs. IsHeld (at new n) (record { offset = q.pointer; image = image_with i xs }) in
         subst (λ q. P q all) (some_inj w.offsets o p)
         (subst (λ xs. P w.offsets xs) (some_inj (before ++ parts_left i samples) all e) (data_held m before h)))
 
@@ -144,7 +159,8 @@ module _ (i : OpenImage) (samples : List ℕ) (old new : FileState) (entries : A
     Fault = Err e
 
     -- `write_data` stops within the chunks, some of which are stored
-    stop_kept : StopsWithin i (parts_left i samples) e old new → (new.kind ≡ old.kind) × (new.chain ≡ old.chain)
+    stop_kept : StopsWithin i (parts_left i samples) e old new
+        → (new.kind ≡ old.kind) × (new.chain ≡ old.chain)
     stop_kept h =
         let a = chunks_adding i (parts_left i samples) h.0 old in
         elim h.1.1 as (λ _. (new.kind ≡ old.kind) × (new.chain ≡ old.chain)) [
@@ -155,7 +171,8 @@ module _ (i : OpenImage) (samples : List ℕ) (old new : FileState) (entries : A
           ]
         ]
 
-    stop_within : (m : Model) → StopsWithin i (parts_left i samples) e old new → EndsWithin i samples Fault (at old m) (at new m)
+    stop_within : (m : Model) → StopsWithin i (parts_left i samples) e old new
+        → EndsWithin i samples Fault (at old m) (at new m)
     stop_within m h = (
       h.0,
       (
@@ -174,9 +191,11 @@ module _ (i : OpenImage) (samples : List ℕ) (old new : FileState) (entries : A
     Stops s t offset = WritesData i samples Fault s t offset
 
     -- `write_data` stops, by the error that refuses it
-    stops_by : (cause : Option TiffError) → write_image_data_cause old i (length samples) ≡ cause → (m : Model) (t : FileAndModel)
+    stops_by : (cause : Option TiffError) → write_image_data_cause old i (length samples) ≡ cause
+        → (m : Model) (t : FileAndModel)
         → JobWritesDataBy cause i samples Fault (at old m) t None → Stops (at old m) t None
-    stops_by cause q m t h = subst (λ c. JobWritesDataBy c i samples Fault (at old m) t None) (sym q) h
+    stops_by cause q m t h =
+        subst (λ c. JobWritesDataBy c i samples Fault (at old m) t None) (sym q) h
 
     stopped_by : (cause : Option TiffError) → write_image_data_cause old i (length samples) ≡ cause
         → (let r : Result (Unit {0}) TiffError = Err e in data_.WritesDataBy cause i samples r old new)
@@ -190,7 +209,8 @@ module _ (i : OpenImage) (samples : List ℕ) (old new : FileState) (entries : A
         (λ before all o x p. absurd (none_some p)) (leads_still known old old m refl refl k))
     stopped_by None q h =
         elim h as (λ _. EndMoves Stops i.directory.parent old new (DataHeld i samples)) [
-          | inl w ↦ fails_moves Stops (DataHeld i samples) i.directory.parent (write_image_data i samples w.0 old) old new
+          | inl w ↦ fails_moves Stops (DataHeld i samples) i.directory.parent
+              (write_image_data i samples w.0 old) old new
               (data_ending w.0) e w.1.1.1
               (λ m n r. stops_by None q m (at new n) (inl (w.0, (w.1.0, (w.1.1.0, (r, refl))))))
               (λ m n before all o x p. absurd (none_some p))
@@ -214,10 +234,16 @@ module _ (i : OpenImage) (samples : List ℕ) (old new : FileState) (entries : A
 -- ---- samples that are cut
 
 -- the call writes the cut samples if memory for them is available
-pub cut_moves : (i : OpenImage) (r : Result EndReply TiffError) (samples cut : List ℕ) (old new : FileState) → samples ≡ cut
-    → EndMoves (λ s t offset. WritesData i samples r s t offset) i.directory.parent old new (DataHeld i samples)
-    → EndMoves (λ s t offset. WritesDataIfFound i cut r s t offset) i.directory.parent old new (DataHeld i cut)
+pub cut_moves : (i : OpenImage) (r : Result EndReply TiffError) (samples cut : List ℕ)
+    (old new : FileState) → samples ≡ cut
+    → EndMoves (λ s t offset. WritesData i samples r s t offset) i.directory.parent old new
+    (DataHeld i samples)
+    → EndMoves (λ s t offset. WritesDataIfFound i cut r s t offset) i.directory.parent old new
+    (DataHeld i cut)
 cut_moves i r samples cut old new same h =
-    let P : List ℕ → Type 0 = λ xs. EndMoves (λ s t offset. WritesData i xs r s t offset) i.directory.parent old new (DataHeld i xs) in
-    moves_as (λ s t offset. WritesData i cut r s t offset) (DataHeld i cut) (λ s t offset. WritesDataIfFound i cut r s t offset) (DataHeld i cut)
+    let P : List ℕ → Type 0 =
+    λ xs. EndMoves (λ s t offset. WritesData i xs r s t offset) i.directory.parent old new
+    (DataHeld i xs) in
+    moves_as (λ s t offset. WritesData i cut r s t offset) (DataHeld i cut)
+    (λ s t offset. WritesDataIfFound i cut r s t offset) (DataHeld i cut)
     i.directory.parent old new (λ s t offset x. inl x) (λ s t offset x. x) (subst P same h)

@@ -17,7 +17,8 @@ unfolding number
 byte_back x h = mod-eq_of_lt h
 
 -- a number of a supported size is read back as written
-number_back : (size x : ℕ) → IsSize size → x < 256 ^ size → number LittleEndian (width_of size) (le size x) ≡ x
+number_back : (size x : ℕ) → IsSize size → x < 256 ^ size
+    → number LittleEndian (width_of size) (le size x) ≡ x
 number_back size x s =
     let P : ℕ → Type 0 = λ n. x < 256 ^ n → number LittleEndian (width_of n) (le n x) ≡ x in
     elim s as (λ _. P size) [
@@ -47,12 +48,14 @@ bytes_there size x at bytes rest f e h =
 
 -- the bytes of numbers contain number k at its offset
 stands_there : (n : ℕ) (numbers rest : List ℕ) (k : ℕ) → k < length numbers
-    → (tail : List ℕ) × (drop (k * n) (flat_map (le n) numbers ++ rest) ≡ le n (get_or numbers k 0) ++ tail)
+    → (tail : List ℕ) × (drop (k * n) (flat_map (le n) numbers ++ rest) ≡ le n (get_or numbers k 0)
+    ++ tail)
 stands_there n [] rest k h = Prim.absurd (omega (arith, h))
 stands_there n (x ∷ xs) rest zero h =
     let z : 0 * n ≡ 0 = omega arith in (
       flat_map (le n) xs ++ rest,
-      ap (λ (i : ℕ). drop i ((le n x ++ flat_map (le n) xs) ++ rest)) z ∙ append_assoc (le n x) (flat_map (le n) xs) rest,
+      ap (λ (i : ℕ). drop i ((le n x ++ flat_map (le n) xs) ++ rest)) z
+          ∙ append_assoc (le n x) (flat_map (le n) xs) rest,
     )
 stands_there n (x ∷ xs) rest (suc k) h =
     let i = stands_there n xs rest k (omega (arith, h)) in
@@ -61,23 +64,27 @@ stands_there n (x ∷ xs) rest (suc k) h =
       ap (λ (j : ℕ). drop j ((le n x ++ flat_map (le n) xs) ++ rest)) z
           ∙ sym (drop-drop (k * n) n ((le n x ++ flat_map (le n) xs) ++ rest))
           ∙ ap (λ (s : List ℕ). drop (k * n) (drop n s)) (append_assoc (le n x) (flat_map (le n) xs) rest)
-          ∙ ap (λ (s : List ℕ). drop (k * n) s) (drop_at (le n x) (flat_map (le n) xs ++ rest) n (length-le 0 n x))
+          ∙ ap (λ (s : List ℕ). drop (k * n) s) (drop_at (le n x) (flat_map (le n) xs
+          ++ rest) n (length-le 0 n x))
           ∙ i.1,
     )
 
 -- number k is read from the bytes of numbers, whatever bytes follow
-pub number_found : (size : ℕ) (numbers rest : List ℕ) (k : ℕ) (f : ℕ → ℕ) → IsSize size → k < length numbers
+pub number_found : (size : ℕ) (numbers rest : List ℕ) (k : ℕ) (f : ℕ → ℕ) → IsSize size
+    → k < length numbers
     → get_or numbers k 0 < 256 ^ size
     → ((j : ℕ) → j < size → f j ≡ get_or (flat_map (le size) numbers ++ rest) (k * size + j) 0)
     → number LittleEndian (width_of size) (tabulate size f) ≡ get_or numbers k 0
 number_found size numbers rest k f s h b e =
     let i = stands_there size numbers rest k h in
     ap (number LittleEndian (width_of size))
-    (bytes_there size (get_or numbers k 0) (k * size) (flat_map (le size) numbers ++ rest) i.0 f i.1 e)
+    (bytes_there size (get_or numbers k 0) (k * size) (flat_map (le size) numbers
+    ++ rest) i.0 f i.1 e)
     ∙ number_back size (get_or numbers k 0) s b
 
 -- the total number of bytes of some numbers
-pub length_written : (n : ℕ) (numbers : List ℕ) → length (flat_map (le n) numbers) ≡ length numbers * n
+pub length_written : (n : ℕ) (numbers : List ℕ)
+    → length (flat_map (le n) numbers) ≡ length numbers * n
 length_written n [] = omega arith
 length_written n (x ∷ xs) =
     let i = length_written n xs in

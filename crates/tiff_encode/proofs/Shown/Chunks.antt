@@ -33,7 +33,8 @@ module _ (kind : FileKind) (file : List ℕ) (i : OpenImage) (samples : List (Li
   p = image_page i
 
   sides : HasSides p
-  sides = record { wide = w.wide.0; high = w.high.0; chunk_wide = w.form.wide.0; chunk_high = w.form.high.0 }
+  sides =
+      record { wide = w.wide.0; high = w.high.0; chunk_wide = w.form.wide.0; chunk_high = w.form.high.0 }
 
   -- the color type of the image is of a family
   is_of : IsOf i.color i.size
@@ -44,12 +45,15 @@ module _ (kind : FileKind) (file : List ℕ) (i : OpenImage) (samples : List (Li
 
   -- the data of a chunk begin with the chunk's bytes
   begins : (k : ℕ) → k < all_chunks p
-      → (rest : List ℕ) × (chunk_data file LittleEndian p k ≡ unpacked_chunk i (samples_of_chunk samples k) ++ rest)
+      → (rest : List ℕ) × (chunk_data file LittleEndian p k
+      ≡ unpacked_chunk i (samples_of_chunk samples k) ++ rest)
   begins k b =
       let t = there k b in
       let bytes : List ℕ = unpacked_chunk i (samples_of_chunk samples k) in
       let offset : ℕ = slice_index p.offsets k in
-      let P : ℕ → Type 0 = λ n. (rest : List ℕ) × (data_by_method file (compression_method i.compression) offset n ≡ bytes ++ rest) in
+      let P : ℕ → Type 0 =
+      λ n. (rest : List ℕ) × (data_by_method file (compression_method i.compression) offset n
+      ≡ bytes ++ rest) in
       subst P t.1.1.0 (data_begin file LittleEndian p offset t.0 bytes t.1.0 i.compression (row_samples p * i.size) t.1.1.1)
 
   -- no chunk has too few data
@@ -59,12 +63,18 @@ module _ (kind : FileKind) (file : List ℕ) (i : OpenImage) (samples : List (Li
       let xs : List ℕ = samples_of_chunk samples k in
       let bytes : List ℕ = unpacked_chunk i xs in
       let rows : ℕ = chunk_rows p k in
-      let n : needed_bytes p tinted.color k ≤ rows * stored_row_bytes p = needed_within p sides tinted.color k tinted.few in
-      let r : rows * stored_row_bytes p ≡ rows * (row_samples p * i.size) = ap (λ (m : ℕ). rows * m) (row_is i tinted) in
-      let a : rows * row_samples p * i.size ≡ rows * (row_samples p * i.size) = mul_assoc rows (row_samples p) i.size in
-      let l : length bytes ≡ rows * row_samples p * i.size = length_bytes i tinted xs ∙ ap (λ (m : ℕ). m * i.size) (h.lengths k b) in
-      let d : length (chunk_data file LittleEndian p k) ≡ length bytes + length t.0 = ap length t.1 ∙ length-append bytes t.0 in
-      le-ltb (length (chunk_data file LittleEndian p k)) (needed_bytes p tinted.color k) (omega (arith, n, r, a, l, d))
+      let n : needed_bytes p tinted.color k ≤ rows * stored_row_bytes p =
+      needed_within p sides tinted.color k tinted.few in
+      let r : rows * stored_row_bytes p ≡ rows * (row_samples p * i.size) =
+      ap (λ (m : ℕ). rows * m) (row_is i tinted) in
+      let a : rows * row_samples p * i.size ≡ rows * (row_samples p * i.size) =
+      mul_assoc rows (row_samples p) i.size in
+      let l : length bytes ≡ rows * row_samples p * i.size =
+      length_bytes i tinted xs ∙ ap (λ (m : ℕ). m * i.size) (h.lengths k b) in
+      let d : length (chunk_data file LittleEndian p k) ≡ length bytes + length t.0 =
+      ap length t.1 ∙ length-append bytes t.0 in
+      le-ltb (length (chunk_data file LittleEndian p k)) (needed_bytes p tinted.color k)
+      (omega (arith, n, r, a, l, d))
 
   -- a shown sample is the sample that the chunk receives
   sample_shown : (x y sample : ℕ) → x < p.width → y < p.height → sample < num_samples tinted.color
@@ -77,20 +87,24 @@ module _ (kind : FileKind) (file : List ℕ) (i : OpenImage) (samples : List (Li
       let k : ℕ = chunk_of_pixel p plane x y in
       let row : ℕ = y % p.chunk_height in
       let column : ℕ = x % p.chunk_width in
-      let b : k < all_chunks p = chunk_listed p sides plane x y xl yl (plane_within p.planar p.samples sample few) in
+      let b : k < all_chunks p =
+      chunk_listed p sides plane x y xl yl (plane_within p.planar p.samples sample few) in
       let f : one < stored_samples p = sample_within p.planar p.samples sample few in
       let t = begins k b in
       let xs : List ℕ = samples_of_chunk samples k in
       let within : row * row_samples p + (column * stored_samples p + one) < length xs =
-      subst (λ (n : ℕ). row * row_samples p + (column * stored_samples p + one) < n) (sym (h.lengths k b)) (offset_within p sides plane x y xl yl one f) in
+      subst (λ (n : ℕ). row * row_samples p + (column * stored_samples p + one)
+      < n) (sym (h.lengths k b)) (offset_within p sides plane x y xl yl one f) in
       tinted.upright (2 ^ p.depth) (stored_number file LittleEndian p k row column one)
-      ∙ number_is i tinted xs file t.0 k t.1 (h.small k) w.predicted_by row column one f (mod_below x p.chunk_width sides.chunk_wide) within
+      ∙ number_is i tinted xs file t.0 k t.1 (h.small k) w.predicted_by row column one f
+      (mod_below x p.chunk_width sides.chunk_wide) within
       ∙ ap (λ (n : ℕ). get_or xs n 0) (offset_same p sides row column one)
 
   -- the page of the columns shows them
   columns_show : ShowsSamples file p (sample_in p samples)
   columns_show =
-      let deep : nat_lt (8 * i.size) 8 ≡ false = le-ltb (8 * i.size) 8 (omega (arith, some_size i.size tinted.is_size)) in
+      let deep : nat_lt (8 * i.size) 8 ≡ false =
+      le-ltb (8 * i.size) 8 (omega (arith, some_size i.size tinted.is_size)) in
       record {
         color = tinted.color;
         is_color = tinted.is_color;
@@ -103,12 +117,15 @@ module _ (kind : FileKind) (file : List ℕ) (i : OpenImage) (samples : List (Li
       }
 
   -- the page that the reader finds shows them
-  pages_show : (b : Bool) → is_packed i.color ≡ b → ShowsSamples file (shown_page i) (sample_in p samples)
+  pages_show : (b : Bool) → is_packed i.color ≡ b
+      → ShowsSamples file (shown_page i) (sample_in p samples)
   pages_show true y =
-      pixels_shown i is_of w.wide w.form w.pixels y file tinted.color (sample_in p samples) tinted.is_color not_short sample_shown
+      pixels_shown i is_of w.wide w.form w.pixels y file tinted.color
+      (sample_in p samples) tinted.is_color not_short sample_shown
   pages_show false n =
       subst (λ q. ShowsSamples file q (sample_in p samples)) (sym (plain_page i is_of w.wide w.form w.pixels n)) columns_show
 
 -- chunks that encode samples show them
 pub chunks_show : ChunksShow
-chunks_show kind file i samples w h there = pages_show kind file i samples w h there (is_packed i.color) refl
+chunks_show kind file i samples w h there =
+    pages_show kind file i samples w h there (is_packed i.color) refl

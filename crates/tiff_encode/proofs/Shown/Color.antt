@@ -30,7 +30,8 @@ IsSize size = (size ≡ 1) ⊎ ((size ≡ 2) ⊎ ((size ≡ 4) ⊎ (size ≡ 8))
 
 -- a sample has all bits of its bytes; or pixels of one gray sample are packed into bytes
 abbrev pub IsDeep : ℕ → Family → ℕ → Type 0
-IsDeep depth f size = (depth ≡ 8 * size) ⊎ ((f ≡ family.Gray) × ((size ≡ 1) × ((0 < depth) × (depth < 8))))
+IsDeep depth f size =
+    (depth ≡ 8 * size) ⊎ ((f ≡ family.Gray) × ((size ≡ 1) × ((0 < depth) × (depth < 8))))
 
 -- A color type of a family, whose samples have the given number of bytes.
 pub record IsOf (c : ColorTypeRecord) (size : ℕ) : Type 0 where
@@ -47,7 +48,8 @@ size_of_type field.BYTE = grind arith
 size_of_type type = grind arith
 
 -- the samples of each named color type have all bits of their bytes, or are packed
-deep : (name : ColorTypeName) → IsDeep (depth_of name) (family_and_type name).0 (type_size (family_and_type name).1)
+deep : (name : ColorTypeName)
+    → IsDeep (depth_of name) (family_and_type name).0 (type_size (family_and_type name).1)
 deep color.Gray1 = inr (refl, (refl, (lit< tt, lit< tt)))
 deep color.Gray2 = inr (refl, (refl, (lit< tt, lit< tt)))
 deep color.Gray4 = inr (refl, (refl, (lit< tt, lit< tt)))
@@ -69,11 +71,14 @@ of_family name = record {
 
 -- a color with no more samples than a pixel
 abbrev pub HasColor : PhotometricInterpretation → PageRecord → ℕ → Type 0
-HasColor interpretation p most = (color : ColorType) × ((color_from interpretation p ≡ Ok color) × (num_samples color ≤ most))
+HasColor interpretation p most =
+    (color : ColorType) × ((color_from interpretation p ≡ Ok color) × (num_samples color ≤ most))
 
 -- one of two colors, by a test
-by_test : (b : Bool) (x y : ColorType) (interpretation : PhotometricInterpretation) (p : PageRecord) (most : ℕ)
-    → color_from interpretation p ≡ Ok (cond b x y) → (b ≡ true → num_samples x ≤ most) → num_samples y ≤ most
+by_test : (b : Bool) (x y : ColorType) (interpretation : PhotometricInterpretation) (p : PageRecord)
+    (most : ℕ)
+    → color_from interpretation p ≡ Ok (cond b x y) → (b ≡ true → num_samples x ≤ most)
+    → num_samples y ≤ most
     → HasColor interpretation p most
 by_test true x y interpretation p most e h k = (x, (e, h refl))
 by_test false x y interpretation p most e h k = (y, (e, k))
@@ -87,7 +92,8 @@ some_alpha (x ∷ extra) e = omega arith
 module _ (p : PageRecord) (most : ℕ) (all : p.samples ≤ most) where
   gray_has : p.samples ≡ 1 + length p.extra → HasColor meaning.BlackIsZero p most
   gray_has e =
-      let P : List ExtraSamples → Type 0 = λ xs. p.samples ≡ 1 + length xs → HasColor meaning.BlackIsZero p most in
+      let P : List ExtraSamples → Type 0 =
+      λ xs. p.samples ≡ 1 + length xs → HasColor meaning.BlackIsZero p most in
       elim p.extra as P [
         | [] ↦ λ z. (Gray p.depth, (rw z refl, omega (arith, all, z)))
         | x ∷ xs ↦ λ z.
@@ -95,7 +101,8 @@ module _ (p : PageRecord) (most : ℕ) (all : p.samples ≤ most) where
             (Multiband p.depth p.samples, (rw t refl, all))
       ] e
 
-  pub family_has : (f : Family) → p.samples ≡ count_of f + length p.extra → photometric p ≡ count_of f → HasColor (meaning_of f) p most
+  pub family_has : (f : Family) → p.samples ≡ count_of f + length p.extra
+      → photometric p ≡ count_of f → HasColor (meaning_of f) p most
   family_has family.Gray e h = gray_has e
   family_has family.RGB e h =
       by_test (first_is_alpha p.extra) (RGBA p.depth) (RGB p.depth) meaning.RGB p most (rw h refl)
@@ -114,7 +121,8 @@ plain_family family.Gray limit v = refl
 plain_family f limit v = refl
 
 -- the first of equal values
-pub first_of : {A : Type 0} (f : Family) (x default : A) → get_or (replicate (count_of f) x) 0 default ≡ x
+pub first_of : {A : Type 0} (f : Family) (x default : A)
+    → get_or (replicate (count_of f) x) 0 default ≡ x
 first_of family.Gray x default = refl
 first_of f x default = refl
 
@@ -133,8 +141,10 @@ unfolding color_of
 colored i c =
     let p : PageRecord = image_page i in
     let f : Family = c.family in
-    let many : length i.color.bits ≡ count_of f = ap length c.bits ∙ length-replicate (count_of f) c.depth in
-    let has = family_has p (all_samples i) (omega arith) f (omega (arith, many)) (omega (arith, many)) in
+    let many : length i.color.bits ≡ count_of f =
+    ap length c.bits ∙ length-replicate (count_of f) c.depth in
+    let has =
+    family_has p (all_samples i) (omega arith) f (omega (arith, many)) (omega (arith, many)) in
     record {
       color = has.0;
       is_color = ap (λ (m : PhotometricInterpretation). color_from m p) c.interpretation ∙ has.1.0;
@@ -147,7 +157,8 @@ colored i c =
     }
 
 -- the color type of an image with a name is of a family
-pub is_of_family : (i : OpenImage) (name : ColorTypeName) → i.color ≡ color_type name → i.size ≡ inner_size name → IsOf i.color i.size
+pub is_of_family : (i : OpenImage) (name : ColorTypeName) → i.color ≡ color_type name
+    → i.size ≡ inner_size name → IsOf i.color i.size
 is_of_family i name c s =
     let P : ColorTypeRecord → Type 0 = λ x. IsOf x i.size in
     let Q : ℕ → Type 0 = λ n. IsOf (color_type name) n in

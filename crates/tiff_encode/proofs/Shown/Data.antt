@@ -46,7 +46,8 @@ module _ (file : List ℕ) (order : ByteOrder) (p : PageRecord) (offset : ℕ) (
       let n : ℕ = length stored in
       let o = is_exact file offset n stored there in (
         drop n (drop offset file),
-        sym (take-append-drop n (drop offset file)) ∙ ap (λ (s : List ℕ). s ++ drop n (drop offset file)) (o.1 ∙ e),
+        sym (take-append-drop n (drop offset file))
+            ∙ ap (λ (s : List ℕ). s ++ drop n (drop offset file)) (o.1 ∙ e),
       )
 
   unpacked : (u : Unpacked) → runs false stored ≡ u → u.out ≡ bytes → Begins method.PackBits
@@ -62,7 +63,8 @@ module _ (file : List ℕ) (order : ByteOrder) (p : PageRecord) (offset : ℕ) (
             ∙ sym (append-nil bytes),
       )
 
-  pub data_begin : (c : Compression) (row : ℕ) → IsCompressed c row stored bytes → Begins (compression_method c)
+  pub data_begin : (c : Compression) (row : ℕ) → IsCompressed c row stored bytes
+      → Begins (compression_method c)
   data_begin Uncompressed row s = as_they_are s
   data_begin Packbits row s = unpacked _ (unpacks bytes stored s) refl
   data_begin PackbitsRows row s = unpacked _ (rows_unpack row bytes stored s) refl
@@ -83,7 +85,8 @@ bits_of size s =
     ]
 
 some_of : (size : ℕ) → IsSize size → 0 < 256 ^ size
-some_of size s = let e : 0 < 2 ^ (8 * size) = pow_pos (8 * size) in subst (λ (n : ℕ). 0 < n) (bits_of size s) e
+some_of size s =
+    let e : 0 < 2 ^ (8 * size) = pow_pos (8 * size) in subst (λ (n : ℕ). 0 < n) (bits_of size s) e
 
 -- an image that has a color
 module _ (i : OpenImage) (c : IsColored i) where
@@ -103,7 +106,9 @@ module _ (i : OpenImage) (c : IsColored i) where
 
   -- a row is a whole number of bytes
   pub row_is : stored_row_bytes p ≡ l * i.size
-  row_is = let e : p.depth ≡ i.size * 8 = omega (arith, c.depth) in bits_are p.chunk_width p.depth i.size s e
+  row_is =
+      let e : p.depth ≡ i.size * 8 =
+      omega (arith, c.depth) in bits_are p.chunk_width p.depth i.size s e
 
   -- the samples of a chunk
   module _ (xs : List ℕ) where
@@ -138,43 +143,55 @@ module _ (i : OpenImage) (c : IsColored i) where
 
       -- a stored number is the kept one
       raw_is : (column sample : ℕ) → column * s + sample < l → at column sample < length xs
-          → row_number LittleEndian (number_size p) stored (column * s + sample) ≡ kept_of (at column sample)
+          → row_number LittleEndian (number_size p) stored (column * s + sample)
+          ≡ kept_of (at column sample)
       raw_is column sample inside h =
           let here : List ℕ = chunk_data file LittleEndian p k in
           let n : ℕ = at column sample in
           let q : ℕ = column * s + sample in
           let f : ℕ → ℕ → ℕ = λ size j. slice_index stored (q * size + j) in
-          let there : get_or kept_all n 0 ≡ kept_of n = get_or-map-range_with_len kept_of 0 (length xs) n n 0 h (omega arith) in
-          let long : length kept_all ≡ length xs = length-map-range_with_len kept_of 0 (length xs) in
-          let fits : kept_of n < 256 ^ i.size = kept_small i.predictor (256 ^ i.size) l s xs n way (some_of i.size c.is_size) small in
+          let there : get_or kept_all n 0 ≡ kept_of n =
+          get_or-map-range_with_len kept_of 0 (length xs) n n 0 h (omega arith) in
+          let long : length kept_all ≡ length xs =
+          length-map-range_with_len kept_of 0 (length xs) in
+          let fits : kept_of n < 256 ^ i.size =
+          kept_small i.predictor (256 ^ i.size) l s xs n way (some_of i.size c.is_size) small in
           let r : row * stored_row_bytes p ≡ row * (l * i.size) = ap (λ (m : ℕ). row * m) row_is in
           let a : row * (l * i.size) ≡ row * l * i.size = sym (mul_assoc row l i.size) in
           let u : (q + 1) * i.size ≤ l * i.size = mul-le-mul_right i.size (omega (arith, inside)) in
-          let e : (j : ℕ) → j < i.size → f i.size j ≡ get_or (flat_map (le i.size) kept_all ++ rest) (n * i.size + j) 0 = λ j b.
-          let z : row * stored_row_bytes p + (q * i.size + j) ≡ n * i.size + j = omega (arith, r, a) in
-          get_or-take (stored_row_bytes p) (drop (row * stored_row_bytes p) here) (q * i.size + j) 0 (omega (arith, u, b, row_is))
+          let e : (j : ℕ) → j < i.size → f i.size j
+          ≡ get_or (flat_map (le i.size) kept_all ++ rest) (n * i.size + j) 0 = λ j b.
+          let z : row * stored_row_bytes p + (q * i.size + j) ≡ n * i.size
+          + j = omega (arith, r, a) in
+          get_or-take (stored_row_bytes p) (drop (row * stored_row_bytes p) here) (q * i.size
+          + j) 0 (omega (arith, u, b, row_is))
           ∙ get_or-drop (row * stored_row_bytes p) here (q * i.size + j) 0
           ∙ ap (λ (m : ℕ). slice_index here m) z
-          ∙ ap (λ (b : List ℕ). get_or b (n * i.size + j) 0) (begins ∙ ap (λ (b : List ℕ). b ++ rest) bytes_are) in
+          ∙ ap (λ (b : List ℕ). get_or b (n * i.size + j) 0) (begins
+          ∙ ap (λ (b : List ℕ). b ++ rest) bytes_are) in
           ap (λ (m : ℕ). number LittleEndian (width_of m) (tabulate m (f m))) size_is
           ∙ number_found i.size kept_all rest n (f i.size) c.is_size (omega (arith, h, long))
           (subst (λ (m : ℕ). m < 256 ^ i.size) (sym there) fits) e
           ∙ there
 
       -- the number of a sample is the sample
-      pub number_is : (column sample : ℕ) → sample < s → column < p.chunk_width → at column sample < length xs
+      pub number_is : (column sample : ℕ) → sample < s → column < p.chunk_width
+          → at column sample < length xs
           → stored_number file LittleEndian p k row column sample ≡ get_or xs (at column sample) 0
       number_is column sample first inside h =
           let m : ℕ = 256 ^ i.size in
           let q : ℕ = column * s + sample in
           let raw : ℕ → ℕ = λ j. row_number LittleEndian (number_size p) stored (j * s + sample) in
-          let P : Predictor → Type 0 = λ w. ((j : ℕ) → j ≤ column → raw j ≡ stored_difference w m l s xs (at j sample))
+          let P : Predictor → Type 0 =
+          λ w. ((j : ℕ) → j ≤ column → raw j ≡ stored_difference w m l s xs (at j sample))
           → number_by w LittleEndian p stored q ≡ get_or xs (at column sample) 0 in
-          let u : (column + 1) * s ≤ p.chunk_width * s = mul-le-mul_right s (omega (arith, inside)) in
+          let u : (column + 1) * s ≤ p.chunk_width * s =
+          mul-le-mul_right s (omega (arith, inside)) in
           let way_of : P i.predictor = elim way as (λ _. P i.predictor) [
             | inl e ↦ subst P (sym e) (λ f. f column (omega arith))
             | inr e ↦ subst P (sym e) (λ f.
-                (λ t. sum_by (λ j. row_number LittleEndian (number_size p) stored (j * s + mod-mul-add column s sample first t)) (range_with_len 0 (div-mul-add column s sample first t + 1)) % 256 ^ size_is t)
+                (λ t. sum_by (λ j. row_number LittleEndian (number_size p) stored (j * s
+                + mod-mul-add column s sample first t)) (range_with_len 0 (div-mul-add column s sample first t + 1)) % 256 ^ size_is t)
                 ∙ summed m l s xs small row sample column first (omega (arith, u, first)) raw f)
           ] in
           way_of (λ j b.

@@ -17,12 +17,14 @@ use Rattle.tiff_encode.specs.Laws.{FirstTold}
 use Rattle.tiff_encode.proofs.Slices.{ok_bind}
 
 -- if a choice between a value and an error succeeds, it returns the value
-if_ok : {A : Type 0} (b : Bool) (x y : A) (e : TiffError) → (let r : Result A TiffError = Ok y in cond b (Ok x) (Err e) ≡ r) → x ≡ y
+if_ok : {A : Type 0} (b : Bool) (x y : A) (e : TiffError)
+    → (let r : Result A TiffError = Ok y in cond b (Ok x) (Err e) ≡ r) → x ≡ y
 if_ok true x y e h = cc
 if_ok false x y e h = absurd cc
 
 -- a file begins with its mark
-marked : (file mark : List ℕ) → exactly_at file 0 (length mark) ≡ Ok mark → mark ++ drop (length mark) file ≡ file
+marked : (file mark : List ℕ) → exactly_at file 0 (length mark) ≡ Ok mark
+    → mark ++ drop (length mark) file ≡ file
 marked file mark h =
     ap (λ xs. xs ++ drop (length mark) file) (sym (if_ok (nat_le (length mark) (length file - 0)) (bytes_at file 0 (length mark)) mark _ h))
     ∙ take-append-drop (length mark) file
@@ -34,8 +36,10 @@ first_of kind zero h = absurd (omega (arith, h))
 first_of kind (suc n) h = rw (eqb-suc-zero n) refl
 
 -- the header of a classic file
-classic_told : (rest : List ℕ) (p : ℕ) → 0 < p → number_at LittleEndian w32 (73 ∷ 73 ∷ 42 ∷ 0 ∷ rest) 4 ≡ Ok p
-    → header_at (73 ∷ 73 ∷ 42 ∷ 0 ∷ rest) ≡ Ok (record { order = LittleEndian; kind = Classic; first = p })
+classic_told : (rest : List ℕ) (p : ℕ) → 0 < p
+    → number_at LittleEndian w32 (73 ∷ 73 ∷ 42 ∷ 0 ∷ rest) 4 ≡ Ok p
+    → header_at (73 ∷ 73 ∷ 42 ∷ 0 ∷ rest)
+    ≡ Ok (record { order = LittleEndian; kind = Classic; first = p })
 unfolding header_at number
 classic_told rest p h n =
     let file : List ℕ = 73 ∷ 73 ∷ 42 ∷ 0 ∷ rest in
@@ -48,8 +52,10 @@ classic_told rest p h n =
     (ok_bind (number_at LittleEndian w32 file 4) _ p _ n (first_of Classic p h)))
 
 -- the header of a BigTIFF file
-big_told : (rest : List ℕ) (p : ℕ) → 0 < p → number_at LittleEndian w64 (73 ∷ 73 ∷ 43 ∷ 0 ∷ 8 ∷ 0 ∷ 0 ∷ 0 ∷ rest) 8 ≡ Ok p
-    → header_at (73 ∷ 73 ∷ 43 ∷ 0 ∷ 8 ∷ 0 ∷ 0 ∷ 0 ∷ rest) ≡ Ok (record { order = LittleEndian; kind = Big; first = p })
+big_told : (rest : List ℕ) (p : ℕ) → 0 < p
+    → number_at LittleEndian w64 (73 ∷ 73 ∷ 43 ∷ 0 ∷ 8 ∷ 0 ∷ 0 ∷ 0 ∷ rest) 8 ≡ Ok p
+    → header_at (73 ∷ 73 ∷ 43 ∷ 0 ∷ 8 ∷ 0 ∷ 0 ∷ 0 ∷ rest)
+    ≡ Ok (record { order = LittleEndian; kind = Big; first = p })
 unfolding header_at number
 big_told rest p h n =
     let file : List ℕ = 73 ∷ 73 ∷ 43 ∷ 0 ∷ 8 ∷ 0 ∷ 0 ∷ 0 ∷ rest in
@@ -70,10 +76,14 @@ big_told rest p h n =
 -- the header contains the offset of the first directory
 pub first_told : FirstTold
 first_told Classic file m p s e h =
-    let same : (73 ∷ 73 ∷ 42 ∷ 0 ∷ drop 4 file) ≡ file = marked file (header_mark Classic) s.header in
+    let same : (73 ∷ 73 ∷ 42 ∷ 0 ∷ drop 4 file) ≡ file =
+    marked file (header_mark Classic) s.header in
     subst (λ f. header_at f ≡ Ok (record { order = LittleEndian; kind = Classic; first = p })) same
-    (classic_told (drop 4 file) p h (subst (λ f. number_at LittleEndian w32 f 4 ≡ Ok p) (sym same) (s.first ∙ ap (λ n. Ok n) e)))
+    (classic_told (drop 4 file) p h (subst (λ f. number_at LittleEndian w32 f 4
+    ≡ Ok p) (sym same) (s.first ∙ ap (λ n. Ok n) e)))
 first_told Big file m p s e h =
-    let same : (73 ∷ 73 ∷ 43 ∷ 0 ∷ 8 ∷ 0 ∷ 0 ∷ 0 ∷ drop 8 file) ≡ file = marked file (header_mark Big) s.header in
+    let same : (73 ∷ 73 ∷ 43 ∷ 0 ∷ 8 ∷ 0 ∷ 0 ∷ 0 ∷ drop 8 file) ≡ file =
+    marked file (header_mark Big) s.header in
     subst (λ f. header_at f ≡ Ok (record { order = LittleEndian; kind = Big; first = p })) same
-    (big_told (drop 8 file) p h (subst (λ f. number_at LittleEndian w64 f 8 ≡ Ok p) (sym same) (s.first ∙ ap (λ n. Ok n) e)))
+    (big_told (drop 8 file) p h (subst (λ f. number_at LittleEndian w64 f 8
+    ≡ Ok p) (sym same) (s.first ∙ ap (λ n. Ok n) e)))

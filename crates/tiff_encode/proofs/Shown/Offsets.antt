@@ -22,17 +22,20 @@ use Rattle.tiff_encode.specs.Chunks.{is_tile, chunk_rows, row_samples, chunk_sam
 -- ---- planes
 
 -- the plane of a sample is one of the planes
-pub plane_within : (planar : PlanarConfiguration) (samples sample : ℕ) → sample < samples → planar_or planar sample 0 < planes_of planar samples
+pub plane_within : (planar : PlanarConfiguration) (samples sample : ℕ) → sample < samples
+    → planar_or planar sample 0 < planes_of planar samples
 plane_within Chunky samples sample h = omega arith
 plane_within Planar samples sample h = h
 
 -- a sample is one of those that a chunk of its plane stores
-pub sample_within : (planar : PlanarConfiguration) (samples sample : ℕ) → sample < samples → planar_or planar 0 sample < planar_or planar 1 samples
+pub sample_within : (planar : PlanarConfiguration) (samples sample : ℕ) → sample < samples
+    → planar_or planar 0 sample < planar_or planar 1 samples
 sample_within Chunky samples sample h = h
 sample_within Planar samples sample h = omega arith
 
 -- a chunk shows no more samples of a pixel than it stores
-shown_within : (planar : PlanarConfiguration) (samples : ℕ) (color : ColorType) → num_samples color ≤ samples
+shown_within : (planar : PlanarConfiguration) (samples : ℕ) (color : ColorType)
+    → num_samples color ≤ samples
     → samples_in_chunk planar color ≤ planar_or planar 1 samples
 shown_within Chunky samples color h = h
 shown_within Planar samples color h = omega arith
@@ -44,7 +47,8 @@ rows_of : (type : ChunkType) (all some : ℕ) → some ≤ all → some ≤ (con
 rows_of Tile all some h = h
 rows_of Strip all some h = omega arith
 
-row_of : (type : ChunkType) (all some row : ℕ) → row < all → row < some → row < (cond (is_tile type) all some)
+row_of : (type : ChunkType) (all some row : ℕ) → row < all → row < some
+    → row < (cond (is_tile type) all some)
 row_of Tile all some row a b = a
 row_of Strip all some row a b = b
 
@@ -73,35 +77,45 @@ module _ (p : PageRecord) (sides : HasSides p) where
     -- the chunk of a pixel is one of all chunks
     pub chunk_listed : plane < planes_of p.planar p.samples → k < all_chunks p
     chunk_listed h =
-        one_below (y / p.chunk_height * across p + x / p.chunk_width) plane (chunks_of_plane p) (planes_of p.planar p.samples)
+        one_below (y / p.chunk_height * across p + x / p.chunk_width) plane (chunks_of_plane p)
+        (planes_of p.planar p.samples)
         (j_below p plane x y sides xl yl) h
 
-    height_is : (rect p k).height ≡ min p.chunk_height (p.height - y / p.chunk_height * p.chunk_height)
+    height_is : (rect p k).height
+        ≡ min p.chunk_height (p.height - y / p.chunk_height * p.chunk_height)
     unfolding rect
-    height_is = ap (λ (z : ℕ). min p.chunk_height (p.height - z * p.chunk_height)) (row_is p plane x y sides xl yl)
+    height_is =
+        ap (λ (z : ℕ). min p.chunk_height (p.height - z * p.chunk_height)) (row_is p plane x y sides xl yl)
 
     -- the row of a pixel is a row of its chunk
     row_within : y % p.chunk_height < chunk_rows p k
     row_within =
-        let r : y % p.chunk_height < (rect p k).height = subst (λ (n : ℕ). y % p.chunk_height < n) (sym height_is) (row_in_part y p.chunk_height p.height sides.chunk_high yl) in
-        row_of p.chunk_type p.chunk_height (rect p k).height (y % p.chunk_height) (mod_below y p.chunk_height sides.chunk_high) r
+        let r : y % p.chunk_height < (rect p k).height =
+        subst (λ (n : ℕ). y % p.chunk_height < n) (sym height_is) (row_in_part y p.chunk_height p.height sides.chunk_high yl) in
+        row_of p.chunk_type p.chunk_height (rect p k).height (y % p.chunk_height)
+        (mod_below y p.chunk_height sides.chunk_high) r
 
     -- the sample of a pixel is a sample of its chunk
     pub offset_within : (sample : ℕ) → sample < stored_samples p
-        → y % p.chunk_height * row_samples p + (x % p.chunk_width * stored_samples p + sample) < chunk_samples p k
+        → y % p.chunk_height * row_samples p + (x % p.chunk_width * stored_samples p + sample)
+        < chunk_samples p k
     offset_within sample h =
         let q : ℕ = x % p.chunk_width * stored_samples p + sample in
         let c : x % p.chunk_width < p.chunk_width = mod_below x p.chunk_width sides.chunk_wide in
-        let u : (x % p.chunk_width + 1) * stored_samples p ≤ p.chunk_width * stored_samples p = mul-le-mul_right (stored_samples p) (omega (arith, c)) in
-        let e : row_samples p * chunk_rows p k ≡ chunk_samples p k = mul_comm (row_samples p) (chunk_rows p k) in
+        let u : (x % p.chunk_width + 1) * stored_samples p ≤ p.chunk_width * stored_samples p =
+        mul-le-mul_right (stored_samples p) (omega (arith, c)) in
+        let e : row_samples p * chunk_rows p k ≡ chunk_samples p k =
+        mul_comm (row_samples p) (chunk_rows p k) in
         subst (λ (n : ℕ). y % p.chunk_height * row_samples p + q < n) e
         (one_below q (y % p.chunk_height) (row_samples p) (chunk_rows p k) (omega (arith, u, h)) row_within)
 
   -- the offset of a sample, by rows or by pixels
   pub offset_same : (row column sample : ℕ)
-      → row * row_samples p + (column * stored_samples p + sample) ≡ (row * p.chunk_width + column) * stored_samples p + sample
+      → row * row_samples p + (column * stored_samples p + sample)
+      ≡ (row * p.chunk_width + column) * stored_samples p + sample
   offset_same row column sample =
-      let e : row * p.chunk_width * stored_samples p ≡ row * (p.chunk_width * stored_samples p) = mul_assoc row p.chunk_width (stored_samples p) in
+      let e : row * p.chunk_width * stored_samples p ≡ row * (p.chunk_width * stored_samples p) =
+      mul_assoc row p.chunk_width (stored_samples p) in
       omega (arith, e)
 
   -- the needed part of the last row is at most a row
@@ -111,9 +125,12 @@ module _ (p : PageRecord) (sides : HasSides p) where
   last_within color i few =
       let w : ℕ = (rect p i).width in
       let n : ℕ = samples_in_chunk p.planar color in
-      let a : (w * p.depth * n + 7) / 8 ≤ (p.chunk_width * p.depth * n + 7) / 8 = fewer_bytes w p.chunk_width p.depth n (width_within i) in
-      let b : p.chunk_width * p.depth * n ≤ p.chunk_width * p.depth * stored_samples p = mul-le-mul_left (p.chunk_width * p.depth) (shown_within p.planar p.samples color few) in
-      let P : Bool → Type 0 = λ t. cond t (stored_row_bytes p) (row_bytes p color w) ≤ stored_row_bytes p in
+      let a : (w * p.depth * n + 7) / 8 ≤ (p.chunk_width * p.depth * n + 7) / 8 =
+      fewer_bytes w p.chunk_width p.depth n (width_within i) in
+      let b : p.chunk_width * p.depth * n ≤ p.chunk_width * p.depth * stored_samples p =
+      mul-le-mul_left (p.chunk_width * p.depth) (shown_within p.planar p.samples color few) in
+      let P : Bool → Type 0 =
+      λ t. cond t (stored_row_bytes p) (row_bytes p color w) ≤ stored_row_bytes p in
       elim (needs_whole_rows p color) as P [
         | true ↦ omega arith
         | false ↦ omega (arith, a, b)
@@ -126,9 +143,11 @@ module _ (p : PageRecord) (sides : HasSides p) where
       let h : ℕ = (rect p i).height in
       let r : ℕ = stored_row_bytes p in
       let some : 0 < h = (chunks_within p i sides).some_row in
-      let a : needed_of_row p color (row_bytes p color (rect p i).width) ≤ r = last_within color i few in
+      let a : needed_of_row p color (row_bytes p color (rect p i).width) ≤ r =
+      last_within color i few in
       let e : h - 1 + 1 ≡ h = omega (arith, some) in
       let d : (h - 1 + 1) * r ≡ (h - 1) * r + r = omega arith in
       let c : (h - 1 + 1) * r ≡ h * r = ap (λ (n : ℕ). n * r) e in
-      let b : h * r ≤ chunk_rows p i * r = mul-le-mul_right r (rows_of p.chunk_type p.chunk_height h (height_within i)) in
+      let b : h * r ≤ chunk_rows p i * r =
+      mul-le-mul_right r (rows_of p.chunk_type p.chunk_height h (height_within i)) in
       omega (arith, a, b, c, d)

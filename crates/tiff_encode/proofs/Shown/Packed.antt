@@ -54,11 +54,14 @@ one_shown Planar depth = refl
 
 -- a strip that begins at the left is as wide as the page
 one_column : (k w : ℕ) → min w (w - k % 1 * w) ≡ w
-one_column k w = let left : k % 1 ≡ 0 = omega (arith, mod_below k 1 (lit< tt)) in (λ t. min w (w - left t * w)) ∙ omega arith
+one_column k w =
+    let left : k % 1 ≡ 0 =
+    omega (arith, mod_below k 1 (lit< tt)) in (λ t. min w (w - left t * w)) ∙ omega arith
 
 -- ---- strips of gray samples without a predictor
 
-module _ (h r : ℕ) (m : CompressionMethod) (f : SampleFormat) (planar : PlanarConfiguration) (subsampling : ℕ × ℕ)
+module _ (h r : ℕ) (m : CompressionMethod) (f : SampleFormat) (planar : PlanarConfiguration)
+    (subsampling : ℕ × ℕ)
     (offsets byte_counts : List ℕ) where
   -- the page of a width and a depth
   abbrev pub page : ℕ → ℕ → PageRecord
@@ -101,7 +104,8 @@ module _ (h r : ℕ) (m : CompressionMethod) (f : SampleFormat) (planar : Planar
 
     rows_same : stored_row_bytes q ≡ stored_row_bytes p
     rows_same =
-        (λ t. (w * d * one_stored planar t + 7) / 8) ∙ omega (arith, filled) ∙ sym (λ t. (c * 8 * one_stored planar t + 7) / 8)
+        (λ t. (w * d * one_stored planar t + 7) / 8) ∙ omega (arith, filled)
+        ∙ sym (λ t. (c * 8 * one_stored planar t + 7) / 8)
 
     pub row_is : row_bytes q (Gray d) w ≡ c
     unfolding row_bits
@@ -134,23 +138,30 @@ module _ (h r : ℕ) (m : CompressionMethod) (f : SampleFormat) (planar : Planar
         (λ t. min c (c - k % (one_part c c any (omega arith) t * parts h r) % one_part c c any (omega arith) t * c))
         ∙ one_column (k % (1 * parts h r)) c
 
-    last_same : (k : ℕ) → needed_of_row q (Gray d) (row_bytes q (Gray d) (rect q k).width) ≡ needed_of_row p (Gray 8) (row_bytes p (Gray 8) (rect p k).width)
+    last_same : (k : ℕ) → needed_of_row q (Gray d) (row_bytes q (Gray d) (rect q k).width)
+        ≡ needed_of_row p (Gray 8) (row_bytes p (Gray 8) (rect p k).width)
     last_same k =
-        row_alone w d (row_bytes q (Gray d) (rect q k).width) ∙ ap (λ n. row_bytes q (Gray d) n) (width_is k) ∙ row_is
-        ∙ sym (row_alone c 8 (row_bytes p (Gray 8) (rect p k).width) ∙ ap (λ n. row_bytes p (Gray 8) n) (column_width_is k) ∙ column_row_is)
+        row_alone w d (row_bytes q (Gray d) (rect q k).width)
+        ∙ ap (λ n. row_bytes q (Gray d) n) (width_is k) ∙ row_is
+        ∙ sym (row_alone c 8 (row_bytes p (Gray 8) (rect p k).width)
+        ∙ ap (λ n. row_bytes p (Gray 8) n) (column_width_is k) ∙ column_row_is)
 
     needed_same : (k : ℕ) → needed_bytes q (Gray d) k ≡ needed_bytes p (Gray 8) k
     needed_same k = λ t. (height_same k t - 1) * rows_same t + last_same k t
 
     module _ (file : List ℕ) where
-      short_same : (k : ℕ) → is_short file LittleEndian q (Gray d) k ≡ is_short file LittleEndian p (Gray 8) k
+      short_same : (k : ℕ) → is_short file LittleEndian q (Gray d) k
+          ≡ is_short file LittleEndian p (Gray 8) k
       short_same k = ap (λ n. nat_lt (length (chunk_data file LittleEndian p k)) n) (needed_same k)
 
-      stored_same : (k row : ℕ) → stored_row file LittleEndian q k row ≡ stored_row file LittleEndian p k row
-      stored_same k row = λ t. bytes_at (chunk_data file LittleEndian p k) (row * rows_same t) (rows_same t)
+      stored_same : (k row : ℕ) → stored_row file LittleEndian q k row
+          ≡ stored_row file LittleEndian p k row
+      stored_same k row =
+          λ t. bytes_at (chunk_data file LittleEndian p k) (row * rows_same t) (rows_same t)
 
       -- the byte of packed pixels is the sample of its column
-      byte_is : (x y : ℕ) → packed_byte file LittleEndian q (Gray d) (image_region q) (planar_or planar 0 0) y x
+      byte_is : (x y : ℕ) → packed_byte file LittleEndian q (Gray d) (image_region q)
+          (planar_or planar 0 0) y x
           ≡ shown_sample file LittleEndian p x y 0
       unfolding shown_sample
       byte_is x y =
@@ -159,17 +170,21 @@ module _ (h r : ℕ) (m : CompressionMethod) (f : SampleFormat) (planar : Planar
           let first : 0 / w ≡ 0 = div-eq_of_lt some in
           let top : 0 + y ≡ y = omega arith in
           let beside : 0 + x / c ≡ x / c = omega arith in
-          let here : plane * chunks_of_plane q + ((0 + y) / r * across q + (0 / w + x / row_bytes q (Gray d) w)) ≡ k =
-          (λ t. plane * (across_same t * parts h r) + (top t / r * across_same t + (first t + x / row_is t)))
+          let here : plane * chunks_of_plane q
+          + ((0 + y) / r * across q + (0 / w + x / row_bytes q (Gray d) w)) ≡ k =
+          (λ t. plane * (across_same t * parts h r)
+          + (top t / r * across_same t + (first t + x / row_is t)))
           ∙ ap (λ n. plane * chunks_of_plane p + (y / r * across p + n)) beside in
           let only : x % c ≡ x % c * planar_or planar 1 1 + plane =
           sym ((λ t. x % c * one_stored planar t + first_only planar t) ∙ omega arith) in
           (λ t. slice_index (stored_same (here t) (top t % r) t) (x % row_is t))
           ∙ ap (λ n. slice_index (stored_row file LittleEndian p k (y % r)) n) only
-          ∙ sym (one_number (stored_row file LittleEndian p k (y % r)) (x % c * planar_or planar 1 1 + plane))
+          ∙ sym (one_number (stored_row file LittleEndian p k (y % r)) (x % c * planar_or planar 1 1
+          + plane))
 
       -- a page of packed pixels shows what the page of its columns shows
-      pub packed_shown : (sample_at : ℕ → ℕ → ℕ → ℕ) → ((k : ℕ) → k < all_chunks p → is_short file LittleEndian p (Gray 8) k ≡ false)
+      pub packed_shown : (sample_at : ℕ → ℕ → ℕ → ℕ)
+          → ((k : ℕ) → k < all_chunks p → is_short file LittleEndian p (Gray 8) k ≡ false)
           → ((x y : ℕ) → x < c → y < h → shown_sample file LittleEndian p x y 0 ≡ sample_at x y 0)
           → ShowsSamples file q sample_at
       packed_shown sample_at whole shows = record {
@@ -183,12 +198,14 @@ module _ (h r : ℕ) (m : CompressionMethod) (f : SampleFormat) (planar : Planar
             → cond b (packed_byte file LittleEndian q (Gray d) (image_region q) (planar_or planar 0 0) y x) (shown_sample file LittleEndian q x y 0)
             ≡ sample_at x y 0 in
             let Q : ℕ → Type 0 = λ n. shown_at file q (Gray d) x y n ≡ sample_at x y n in
-            subst Q none (subst P (sym narrow) (λ l. byte_is x y ∙ shows x y (subst (λ n. x < n) row_is l) yl) xl);
+            subst Q none (subst P (sym narrow) (λ l. byte_is x y
+            ∙ shows x y (subst (λ n. x < n) row_is l) yl) xl);
       }
 
 -- ---- the pages of an image
 
-module _ (i : OpenImage) (o : IsOf i.color i.size) (wide : IsSide i.width) (form : IsForm i.width i.form) (h : HoldsPixels i) where
+module _ (i : OpenImage) (o : IsOf i.color i.size) (wide : IsSide i.width)
+    (form : IsForm i.width i.form) (h : HoldsPixels i) where
   bits_are : first_bits i.color ≡ o.depth
   bits_are = ap (λ (l : List ℕ). get_or l 0 0) o.bits ∙ first_of o.family o.depth 0
 
@@ -200,7 +217,8 @@ module _ (i : OpenImage) (o : IsOf i.color i.size) (wide : IsSide i.width) (form
       | inr t ↦ absurd (omega (arith, ltb-false (first_bits i.color) 8 n, bits_are, t.1.1.1))
     ]
 
-    plain_across : (c : ChunkType) → i.form.chunk_type ≡ c → pixels_across c i.pixels i.form.chunk_width ≡ i.form.chunk_width
+    plain_across : (c : ChunkType) → i.form.chunk_type ≡ c
+        → pixels_across c i.pixels i.form.chunk_width ≡ i.form.chunk_width
     plain_across Strip e = sym (columns_plain i h n) ∙ sym (form.strips e)
     plain_across Tile e = refl
 
@@ -222,14 +240,17 @@ module _ (i : OpenImage) (o : IsOf i.color i.size) (wide : IsSide i.width) (form
 
     pub one_sample : all_samples i ≡ 1
     one_sample =
-        let many : length i.color.bits ≡ 1 = ap (λ xs. length xs) o.bits ∙ length-replicate (count_of o.family) o.depth ∙ ap count_of packed_as.0 in
+        let many : length i.color.bits ≡ 1 =
+        ap (λ xs. length xs) o.bits ∙ length-replicate (count_of o.family) o.depth
+        ∙ ap count_of packed_as.0 in
         let none : length i.extra ≡ 0 = ap (λ xs. length xs) (h.plain y).1.0 in
         omega (arith, many, none)
 
     -- the page of a width and a depth
     abbrev strips : List ℕ → List ℕ → ℕ → ℕ → PageRecord
     strips offsets byte_counts =
-        page i.height i.form.chunk_height (compression_method i.compression) (get_or i.color.formats 0 Void) i.form.planar
+        page i.height i.form.chunk_height (compression_method i.compression)
+        (get_or i.color.formats 0 Void) i.form.planar
         (subsampling_of i.color.interpretation) offsets byte_counts
 
     columns_page : image_page i ≡ strips (image_page i).offsets (image_page i).byte_counts i.width 8
@@ -244,7 +265,8 @@ module _ (i : OpenImage) (o : IsOf i.color i.size) (wide : IsSide i.width) (form
     }
 
     pixels_page : (offsets byte_counts : List ℕ)
-        → record (shown_page i) { offsets = offsets; byte_counts = byte_counts } ≡ strips offsets byte_counts i.pixels (first_bits i.color)
+        → record (shown_page i) { offsets = offsets; byte_counts = byte_counts }
+        ≡ strips offsets byte_counts i.pixels (first_bits i.color)
     pixels_page offsets byte_counts = λ t. record (shown_page i) {
       interpretation = (o.interpretation ∙ ap meaning_of packed_as.0) t;
       samples = one_sample t;
@@ -259,8 +281,10 @@ module _ (i : OpenImage) (o : IsOf i.color i.size) (wide : IsSide i.width) (form
     narrow : first_bits i.color < 8
     narrow = ltb-true (first_bits i.color) 8 y
 
-    pub pixels_shown : (file : List ℕ) (color : ColorType) (sample_at : ℕ → ℕ → ℕ → ℕ) → color_of (image_page i) ≡ Ok color
-        → ((k : ℕ) → k < all_chunks (image_page i) → is_short file LittleEndian (image_page i) color k ≡ false)
+    pub pixels_shown : (file : List ℕ) (color : ColorType) (sample_at : ℕ → ℕ → ℕ → ℕ)
+        → color_of (image_page i) ≡ Ok color
+        → ((k : ℕ) → k < all_chunks (image_page i)
+        → is_short file LittleEndian (image_page i) color k ≡ false)
         → ((x y sample : ℕ) → x < i.width → y < i.height → sample < num_samples color
         → shown_sample file LittleEndian (image_page i) x y sample ≡ sample_at x y sample)
         → ShowsSamples file (shown_page i) sample_at
@@ -268,14 +292,20 @@ module _ (i : OpenImage) (o : IsOf i.color i.size) (wide : IsSide i.width) (form
         let offsets : List ℕ = (image_page i).offsets in
         let byte_counts : List ℕ = (image_page i).byte_counts in
         let d : ℕ = first_bits i.color in
-        let gray : (width depth : ℕ) → color_of (strips offsets byte_counts width depth) ≡ Ok (Gray depth) =
-        gray_is i.height i.form.chunk_height (compression_method i.compression) (get_or i.color.formats 0 Void) i.form.planar
+        let gray : (width depth : ℕ) → color_of (strips offsets byte_counts width depth)
+        ≡ Ok (Gray depth) =
+        gray_is i.height i.form.chunk_height (compression_method i.compression)
+        (get_or i.color.formats 0 Void) i.form.planar
         (subsampling_of i.color.interpretation) offsets byte_counts in
-        let same : color ≡ Gray 8 = ok_inj color (Gray 8) (sym is_color ∙ ap color_of columns_page ∙ gray i.width 8) in
-        let W : PageRecord → ColorType → Type 0 = λ p c. (k : ℕ) → k < all_chunks p → is_short file LittleEndian p c k ≡ false in
-        let S : PageRecord → ColorType → Type 0 = λ p c. (x y : ℕ) → x < i.width → y < i.height → 0 < num_samples c
+        let same : color ≡ Gray 8 =
+        ok_inj color (Gray 8) (sym is_color ∙ ap color_of columns_page ∙ gray i.width 8) in
+        let W : PageRecord → ColorType → Type 0 =
+        λ p c. (k : ℕ) → k < all_chunks p → is_short file LittleEndian p c k ≡ false in
+        let S : PageRecord → ColorType → Type 0 =
+        λ p c. (x y : ℕ) → x < i.width → y < i.height → 0 < num_samples c
         → shown_sample file LittleEndian p x y 0 ≡ sample_at x y 0 in
-        let whole_there : W (strips offsets byte_counts i.width 8) (Gray 8) = subst (λ p. W p (Gray 8)) columns_page (subst (W (image_page i)) same whole) in
+        let whole_there : W (strips offsets byte_counts i.width 8) (Gray 8) =
+        subst (λ p. W p (Gray 8)) columns_page (subst (W (image_page i)) same whole) in
         let shown_there : S (strips offsets byte_counts i.width 8) (Gray 8) =
         subst (λ p. S p (Gray 8)) columns_page (subst (S (image_page i)) same (λ x y xl yl sl. shows x y 0 xl yl sl)) in
         subst (λ p. ShowsSamples file p sample_at) (sym (pixels_page offsets byte_counts))
@@ -284,35 +314,46 @@ module _ (i : OpenImage) (o : IsOf i.color i.size) (wide : IsSide i.width) (form
         whole_there (λ x y xl yl. shown_there x y xl yl (omega arith)))
 
     -- a page of the image is gray
-    pub packed_color : (p : PageRecord) (color : ColorType) → p ≡ record (shown_page i) { offsets = p.offsets; byte_counts = p.byte_counts }
+    pub packed_color : (p : PageRecord) (color : ColorType)
+        → p ≡ record (shown_page i) { offsets = p.offsets; byte_counts = p.byte_counts }
         → color_of p ≡ Ok color → color ≡ Gray (first_bits i.color)
     packed_color p color is is_color =
-        ok_inj color (Gray (first_bits i.color)) (sym is_color ∙ ap color_of (is ∙ pixels_page p.offsets p.byte_counts)
-        ∙ gray_is i.height i.form.chunk_height (compression_method i.compression) (get_or i.color.formats 0 Void) i.form.planar
+        ok_inj color (Gray (first_bits i.color)) (sym is_color
+        ∙ ap color_of (is ∙ pixels_page p.offsets p.byte_counts)
+        ∙ gray_is i.height i.form.chunk_height (compression_method i.compression)
+        (get_or i.color.formats 0 Void) i.form.planar
         (subsampling_of i.color.interpretation) p.offsets p.byte_counts i.pixels (first_bits i.color))
 
-    packed_columns : (p : PageRecord) (color : ColorType) → p ≡ record (shown_page i) { offsets = p.offsets; byte_counts = p.byte_counts }
+    packed_columns : (p : PageRecord) (color : ColorType)
+        → p ≡ record (shown_page i) { offsets = p.offsets; byte_counts = p.byte_counts }
         → color_of p ≡ Ok color → shown_columns p color ≡ i.width
     packed_columns p color is is_color =
         let d : ℕ = first_bits i.color in
-        let there : p ≡ strips p.offsets p.byte_counts i.pixels d = is ∙ pixels_page p.offsets p.byte_counts in
+        let there : p ≡ strips p.offsets p.byte_counts i.pixels d =
+        is ∙ pixels_page p.offsets p.byte_counts in
         let same : color ≡ Gray d = packed_color p color is is_color in
-        let row : row_bytes (strips p.offsets p.byte_counts i.pixels d) (Gray d) i.pixels ≡ i.width =
-        row_is i.height i.form.chunk_height (compression_method i.compression) (get_or i.color.formats 0 Void) i.form.planar
+        let row : row_bytes (strips p.offsets p.byte_counts i.pixels d) (Gray d) i.pixels
+        ≡ i.width =
+        row_is i.height i.form.chunk_height (compression_method i.compression)
+        (get_or i.color.formats 0 Void) i.form.planar
         (subsampling_of i.color.interpretation) p.offsets p.byte_counts i.pixels d i.width h.some.0 narrow (columns_packed i h y) wide.0 in
         (λ t. shown_columns (there t) (same t))
         ∙ ap (λ b. cond b (row_bytes (strips p.offsets p.byte_counts i.pixels d) (Gray d) i.pixels) i.pixels) y
         ∙ row
 
   plain_columns : is_packed i.color ≡ false → (p : PageRecord) (color : ColorType)
-      → p ≡ record (shown_page i) { offsets = p.offsets; byte_counts = p.byte_counts } → shown_columns p color ≡ i.width
+      → p ≡ record (shown_page i) { offsets = p.offsets; byte_counts = p.byte_counts }
+      → shown_columns p color ≡ i.width
   plain_columns n p color is =
       let depth : p.depth ≡ 8 * i.size = ap (λ (q : PageRecord). q.depth) is ∙ plain_depth n in
-      let deep : nat_lt p.depth 8 ≡ false = le-ltb p.depth 8 (omega (arith, depth, some_size i.size o.is_size)) in
-      ap (λ b. cond b (row_bytes p color p.width) p.width) deep ∙ ap (λ (q : PageRecord). q.width) is ∙ sym (columns_plain i h n)
+      let deep : nat_lt p.depth 8 ≡ false =
+      le-ltb p.depth 8 (omega (arith, depth, some_size i.size o.is_size)) in
+      ap (λ b. cond b (row_bytes p color p.width) p.width) deep
+      ∙ ap (λ (q : PageRecord). q.width) is ∙ sym (columns_plain i h n)
 
   -- the reader outputs the columns of an image
-  pub columns_shown : (p : PageRecord) (color : ColorType) → p ≡ record (shown_page i) { offsets = p.offsets; byte_counts = p.byte_counts }
+  pub columns_shown : (p : PageRecord) (color : ColorType)
+      → p ≡ record (shown_page i) { offsets = p.offsets; byte_counts = p.byte_counts }
       → color_of p ≡ Ok color → shown_columns p color ≡ i.width
   columns_shown p color is is_color =
       let P : Bool → Type 0 = λ b. is_packed i.color ≡ b → shown_columns p color ≡ i.width in

@@ -31,13 +31,15 @@ module _ (m l s : ℕ) (numbers : List ℕ) (small : (k : ℕ) → get_or number
 
   -- each later pixel is kept as a difference
   goes_on : (c : ℕ) → c < last
-      → stored_difference Horizontal m l s numbers (at (suc c)) ≡ (get_or numbers (at (suc c)) 0 + m - get_or numbers (at c) 0) % m
+      → stored_difference Horizontal m l s numbers (at (suc c))
+      ≡ (get_or numbers (at (suc c)) 0 + m - get_or numbers (at c) 0) % m
   goes_on c h =
       let u : at (suc c) - s ≡ at c = omega arith in
       rw (in_row (suc c) (omega (arith, h)), le-ltb (suc c * s + sample) s (omega arith), u) refl
 
   -- the sum of the kept numbers is the number
-  pub summed : (d : ℕ → ℕ) → ((c : ℕ) → c ≤ last → d c ≡ stored_difference Horizontal m l s numbers (at c))
+  pub summed : (d : ℕ → ℕ) → ((c : ℕ) → c ≤ last
+      → d c ≡ stored_difference Horizontal m l s numbers (at c))
       → sum_by d (range_with_len 0 (last + 1)) % m ≡ get_or numbers (at last) 0
   summed d e =
       let f : ℕ → ℕ = λ c. stored_difference Horizontal m l s numbers (at c) in
@@ -46,7 +48,8 @@ module _ (m l s : ℕ) (numbers : List ℕ) (small : (k : ℕ) → get_or number
       ∙ undone (λ c. get_or numbers (at c) 0) f m last (λ c. small (at c)) begun goes_on last (omega arith)
 
 -- the kept numbers are as small as the numbers
-pub kept_small : (p : Predictor) (m l s : ℕ) (numbers : List ℕ) (k : ℕ) → (p ≡ predictor.None) ⊎ (p ≡ predictor.Horizontal)
+pub kept_small : (p : Predictor) (m l s : ℕ) (numbers : List ℕ) (k : ℕ)
+    → (p ≡ predictor.None) ⊎ (p ≡ predictor.Horizontal)
     → 0 < m → ((k : ℕ) → get_or numbers k 0 < m) → stored_difference p m l s numbers k < m
 kept_small p m l s numbers k c h b =
     let P : Predictor → Type 0 = λ q. stored_difference q m l s numbers k < m in
@@ -54,6 +57,7 @@ kept_small p m l s numbers k c h b =
       | inl e ↦ subst P (sym e) (b k)
       | inr e ↦ subst P (sym e) (elim (cases_lt (k % l) s) as (λ _. P predictor.Horizontal) [
         | inl a ↦ rw (lt-ltb (k % l) s a) (b k)
-        | inr a ↦ rw (le-ltb (k % l) s a) (mod_below (get_or numbers k 0 + m - get_or numbers (k - s) 0) m h)
+        | inr a ↦ rw (le-ltb (k % l) s a) (mod_below (get_or numbers k 0
+            + m - get_or numbers (k - s) 0) m h)
       ])
     ]

@@ -8,7 +8,8 @@ use Rattle.tiff_page.specs.Layout.{row_bytes}
 use Rattle.tiff_page.specs.Pixels.{planar_or, image_region, packed_byte, shown_sample}
 use Rattle.tiff_encode.specs.Shows.{Image, Shows}
 
-pub whole_shown : (kind : FileKind) (file : List ℕ) (offset : ℕ) (i : Image) (s : Shows kind file offset i) → nat_lt s.page.depth 8 ≡ false
+pub whole_shown : (kind : FileKind) (file : List ℕ) (offset : ℕ) (i : Image)
+    (s : Shows kind file offset i) → nat_lt s.page.depth 8 ≡ false
     → (x y sample : ℕ) → x < s.page.width → y < s.page.height → sample < num_samples s.color
     → shown_sample file LittleEndian s.page x y sample ≡ i.sample_at x y sample
 whole_shown kind file offset i s deep x y sample xl yl sl =

@@ -2,13 +2,16 @@ use Rattle.tiff_ffi.proofs.Rewritten.{done_holds, refused_holds, status_shows, t
 use Rattle.tiff_ffi.proofs.rewrite_chunk.Goals as goal
 
 pub returns-clause-answer : goal.returns-clause-answer
-returns-clause-answer c = tells_done c.rewrite_chunk.result _ c.unit_status.result c.rewrite_chunk.ensures.answer c.unit_status.ensures
+returns-clause-answer c =
+    tells_done c.rewrite_chunk.result _ c.unit_status.result c.rewrite_chunk.ensures.answer c.unit_status.ensures
 
 pub returns-clause-rewritten : goal.returns-clause-rewritten
-returns-clause-rewritten c = done_holds c.rewrite_chunk.result c.unit_status.result _ c.rewrite_chunk.ensures.rewritten c.unit_status.ensures
+returns-clause-rewritten c =
+    done_holds c.rewrite_chunk.result c.unit_status.result _ c.rewrite_chunk.ensures.rewritten c.unit_status.ensures
 
 pub returns-clause-refused : goal.returns-clause-refused
-returns-clause-refused c = refused_holds c.rewrite_chunk.result c.unit_status.result _ c.rewrite_chunk.ensures.refused c.unit_status.ensures
+returns-clause-refused c =
+    refused_holds c.rewrite_chunk.result c.unit_status.result _ c.rewrite_chunk.ensures.refused c.unit_status.ensures
 
 pub returns-clause-shows : goal.returns-clause-shows
 returns-clause-shows c =

@@ -11,8 +11,10 @@ use Rattle.tiff_uses.proofs.gray_file.Goals as goal
 pub returns-in_err-written-clause-answer : goal.returns-in_err-written-clause-answer
 unfolding color_type inner_type
 returns-in_err-written-clause-answer c =
-    let told = gray_answered c.args.width c.args.height c.args.samples.now _ _ c.in_ok-encoder.encoder c.write_image-written.new.self (Err c.in_err-written.field-0.0)
-    c.in_ok-encoder.ensures.answer (c.new.ensures ∙ c.in_ok-room.ensures.items) c.in_err-written.ensures.answer
+    let told =
+    gray_answered c.args.width c.args.height c.args.samples.now _ _ c.in_ok-encoder.encoder c.write_image-written.new.self (Err c.in_err-written.field-0.0)
+    c.in_ok-encoder.ensures.answer (c.new.ensures
+    ∙ c.in_ok-room.ensures.items) c.in_err-written.ensures.answer
     (only_memory c.write_image-written.new.self.fault c.into_inner.result.refused c.into_inner.ensures.fault) tt in
     search rules
 
@@ -20,7 +22,8 @@ pub returns-clause-answer : goal.returns-clause-answer
 unfolding color_type inner_type
 returns-clause-answer c =
     gray_answered c.args.width c.args.height c.args.samples.now _ _ c.in_ok-encoder.encoder c.write_image-written.new.self (Ok c.into_vec-file.result.items)
-    c.in_ok-encoder.ensures.answer (c.new.ensures ∙ c.in_ok-room.ensures.items) c.in_ok-written.ensures.answer
+    c.in_ok-encoder.ensures.answer (c.new.ensures
+    ∙ c.in_ok-room.ensures.items) c.in_ok-written.ensures.answer
     (only_memory c.write_image-written.new.self.fault c.into_inner.result.refused c.into_inner.ensures.fault) (c.into_vec-file.ensures ∙ c.into_inner.ensures.bytes)
 
 pub returns-clause-shows : goal.returns-clause-shows
@@ -31,9 +34,11 @@ returns-clause-shows c =
     let is = c.in_ok-encoder.ensures.answer in
     let kind = sym (ap (λ e. e.kind) is) in
     let m = header_model Classic in
-    let image = c.in_ok-written.ensures.leaves m (subst (λ k. FileContains k encoder.bytes m) kind header.stands) (subst (λ k. IsLink k m encoder.chain) kind header.link) in
+    let image =
+    c.in_ok-written.ensures.leaves m (subst (λ k. FileContains k encoder.bytes m) kind header.stands) (subst (λ k. IsLink k m encoder.chain) kind header.link) in
     let file = c.into_vec-file.ensures ∙ c.into_inner.ensures.bytes in
-    let some : 0 < length encoder.bytes = (let e : length encoder.bytes ≡ 8 = ap (λ e. length e.bytes) is ∙ rw empty refl in omega (arith, e)) in
+    let some : 0 < length encoder.bytes =
+    (let e : length encoder.bytes ≡ 8 = ap (λ e. length e.bytes) is ∙ rw empty refl in omega (arith, e)) in
     subst (λ (l : List ℕ). ShowsGray l c.args.width c.args.height c.args.samples.now) (sym file)
     (gray_bytes_shown c.args.width c.args.height c.args.samples.now encoder c.write_image-written.new.self m c.type_inv.samples (ap (λ e. e.kind) is) (header_chain Classic encoder.chain header.link) some
     (ap (λ e. e.compression) is) (ap (λ e. e.predictor) is) image)

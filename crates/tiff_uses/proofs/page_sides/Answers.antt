@@ -12,5 +12,6 @@ sides_along-requires c =
 pub returns : goal.returns
 returns c =
     let bytes = (c.walk_opens.ensures _ 0 _ c.in_ok-decoder.ensures.answer).bytes ∙ c.new.ensures in
-    let P : List ℕ → Type 0 = λ b. FileAnswers (λ v. v.items) c.sides_along.result (pages.page_sides b) in
+    let P : List ℕ → Type 0 =
+    λ b. FileAnswers (λ v. v.items) c.sides_along.result (pages.page_sides b) in
     subst P bytes c.sides_along.ensures

@@ -6,14 +6,16 @@ use Rattle.tiff_uses.specs.GeoKeys.{value_in}
 use Rattle.tiff_uses.proofs.value_of.Goals as goal
 use Rattle.tiff_uses.proofs.value_of.Goals.{else-key-id-via-then-key-id+else-location-eq0, else-key-id-via-else-key-id}
 
-other_key : (key location id : ℕ) → (key ≡ id → location ≡ 0 → ⊥) → ((key == id) && (location == 0)) ≡ false
+other_key : (key location id : ℕ) → (key ≡ id → location ≡ 0 → ⊥)
+    → ((key == id) && (location == 0)) ≡ false
 other_key key location id h = grind (arith, nat_tests)
 
 whole : (n : ℕ) (xs : List ℕ) → n ≡ length xs → take n xs ≡ xs
 whole n xs e = ap (λ (m : ℕ). take m xs) e ∙ take-length xs
 
 -- An entry of another key is skipped.
-passed : (id n i : ℕ) (left : List ℕ) → i < n → 4 ≤ length left → (get_or left 0 0 ≡ id → get_or left 1 0 ≡ 0 → ⊥)
+passed : (id n i : ℕ) (left : List ℕ) → i < n → 4 ≤ length left
+    → (get_or left 0 0 ≡ id → get_or left 1 0 ≡ 0 → ⊥)
     → value_in id (n - i) left ≡ value_in id (n - (i + 1)) (take (length left - 4) (drop 4 left))
 passed id n i [] l m h = absurd (omega arith)
 passed id n i (k ∷ []) l m h = absurd (omega arith)

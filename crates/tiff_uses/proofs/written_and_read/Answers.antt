@@ -24,13 +24,17 @@ returns-clause-comes_back g c =
     let is = c.in_ok-encoder.ensures.answer in
     let kind = sym (ap (λ e. e.kind) is) in
     let m = header_model Classic in
-    let image = c.in_ok-written.ensures.leaves m (subst (λ k. FileContains k encoder.bytes m) kind header.stands) (subst (λ k. IsLink k m encoder.chain) kind header.link) in
+    let image =
+    c.in_ok-written.ensures.leaves m (subst (λ k. FileContains k encoder.bytes m) kind header.stands) (subst (λ k. IsLink k m encoder.chain) kind header.link) in
     let file = c.into_vec-bytes.ensures ∙ c.into_inner.ensures.bytes in
-    let some : 0 < length encoder.bytes = (let e : length encoder.bytes ≡ 8 = ap (λ e. length e.bytes) is ∙ rw empty refl in omega (arith, e)) in
-    let chain = subst (λ k. encoder.chain ≡ header_link k) kind (header_chain Classic encoder.chain header.link) in
+    let some : 0 < length encoder.bytes =
+    (let e : length encoder.bytes ≡ 8 = ap (λ e. length e.bytes) is ∙ rw empty refl in omega (arith, e)) in
+    let chain =
+    subst (λ k. encoder.chain ≡ header_link k) kind (header_chain Classic encoder.chain header.link) in
     let size = type_size g.C.Inner.TiffValue.value_type in
     let samples = map (sample_number size g.C.Inner.Sample.bits) c.args.samples.now in
-    let Back : «Type» → Type 0 = λ inner. IfOk c.first_without_limits.result (λ image. ComesBack inner (columns_of g.C.ColorType.described c.args.width) c.args.height (length g.C.ColorType.described.bits) samples (decoded_as image)) in
+    let Back : «Type» → Type 0 =
+    λ inner. IfOk c.first_without_limits.result (λ image. ComesBack inner (columns_of g.C.ColorType.described c.args.width) c.args.height (length g.C.ColorType.described.bits) samples (decoded_as image)) in
     subst Back (sym g.met.C.NamedColorType.in_memory)
     (all_come_back c.first_shown.ensures c.reads_shown.ensures c.written_is_read.ensures g.C.ColorType.described size c.args.width c.args.height samples encoder c.write_image-written.new.self m
     image g.C.NamedColorType.name g.met.C.NamedColorType.named (ap type_size g.met.C.NamedColorType.in_memory)
@@ -45,7 +49,8 @@ returns-in_err-written-clause-answer g c =
     let is : result ≡ Err e = search rules in
     written_refused g.C.ColorType.described size c.args.width c.args.height samples e result is
     (alone g.C.ColorType.described size c.args.width c.args.height samples _ _ c.in_ok-encoder.encoder c.write_image-written.new.self (Err e)
-    c.in_ok-encoder.ensures.answer (c.new-2.ensures ∙ c.new.ensures.items) c.in_err-written.ensures.answer
+    c.in_ok-encoder.ensures.answer (c.new-2.ensures
+    ∙ c.new.ensures.items) c.in_err-written.ensures.answer
     (only_memory c.write_image-written.new.self.fault c.into_inner.result.refused c.into_inner.ensures.fault) tt)
 
 pub returns-clause-answer : goal.returns-clause-answer
@@ -55,6 +60,7 @@ returns-clause-answer g c =
     let file = c.into_vec-bytes.result.items in
     written_read g.C.ColorType.described size c.args.width c.args.height samples file c.first_without_limits.result
     (alone g.C.ColorType.described size c.args.width c.args.height samples _ _ c.in_ok-encoder.encoder c.write_image-written.new.self (Ok file)
-    c.in_ok-encoder.ensures.answer (c.new-2.ensures ∙ c.new.ensures.items) c.in_ok-written.ensures.answer
+    c.in_ok-encoder.ensures.answer (c.new-2.ensures
+    ∙ c.new.ensures.items) c.in_ok-written.ensures.answer
     (only_memory c.write_image-written.new.self.fault c.into_inner.result.refused c.into_inner.ensures.fault) (c.into_vec-bytes.ensures ∙ c.into_inner.ensures.bytes))
     c.first_without_limits.ensures.answer

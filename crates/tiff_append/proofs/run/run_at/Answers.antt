@@ -6,7 +6,8 @@ use Rattle.tiff_append.proofs.run.run_at.Goals as goal
 pub returns : goal.returns
 returns g c =
     let last : FileState = c.run_jobs_in.new.encoder in
-    let Moves : FileState → Type 0 = λ s. JobsMove c.args.jobs.now c.args.replies.now.items c.run_jobs_in.new.replies.items s last in
+    let Moves : FileState → Type 0 =
+    λ s. JobsMove c.args.jobs.now c.args.replies.now.items c.run_jobs_in.new.replies.items s last in
     record {
       within = c.in_ok-encoder.ensures.answer.0;
       failures = g.W.Sink.failures c.args.sink;

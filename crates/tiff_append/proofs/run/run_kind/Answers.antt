@@ -10,7 +10,8 @@ returns-in-Some g c =
     let kind : FileKind = g.K.TiffKind.kind in
     let file : List ℕ = c.args.file.now in
     let left : List ℕ = behind_contents c.in_ok-sink-2.sink in
-    let size : c.link_size-size.result ≡ offset_len kind = c.link_size-size.ensures ∙ ap (λ k. offset_len k) c.file_kind.ensures in
+    let size : c.link_size-size.result ≡ offset_len kind =
+    c.link_size-size.ensures ∙ ap (λ k. offset_len k) c.file_kind.ensures in
     let Added : ℕ → Type 0 = λ n. IsAddedTo left (length file) c.args.at n c.in-Some.addition in
     ran_behind kind file (behind_contents c.in_ok-sink.sink) c.args.at c.args.jobs.now c.args.replies.now.items c.run_at.new.replies.items left c.in-Some.addition
     c.in_ok-sink.ensures.contents c.in_ok-sink-2.ensures (subst Added size c.in-Some.ensures)

@@ -20,4 +20,5 @@ returns-clause-last c =
 pub returns-clause-each : goal.returns-clause-each
 returns-clause-each c =
     each_left c.args.entries.items _ _ _ c.reverse.ensures.permutation c.sort_by_key.ensures.permutation
-    (dedup_same _ same _ (λ x y b f' x' y' k. search rules) _ _ c.dedup_by_key.ensures.filtered) (search rules)
+    (dedup_same _ same _ (λ x y b f' x' y' k. search rules) _ _ c.dedup_by_key.ensures.filtered)
+    (search rules)

@@ -10,4 +10,6 @@ units-preserved c =
     next_unit c.args.size c.units.i c.args.buffer.now c.units.buffer c.reverse.new.self c.units-test.true c.units.invariant c.reverse.ensures.after
 
 pub returns : goal.returns
-returns c = last_unit c.args.size c.units.i c.args.buffer.now c.units.buffer (omega (arith, c.units-test.false, c.units.auto.i-end)) c.units.invariant
+returns c =
+    last_unit c.args.size c.units.i c.args.buffer.now c.units.buffer
+    (omega (arith, c.units-test.false, c.units.auto.i-end)) c.units.invariant

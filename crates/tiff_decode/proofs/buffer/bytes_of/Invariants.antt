@@ -4,4 +4,5 @@ use Rattle.tiff_decode.proofs.buffer.bytes_of.Given as goal
 
 -- the bytes of the samples so far
 abbrev pub invariant-loop-sample : goal.invariant-loop-sample
-invariant-loop-sample g l = l.bytes.items ≡ flat_map (le g.row.N) (map g.T.Number.bits (take l.sample-index l.samples))
+invariant-loop-sample g l =
+    l.bytes.items ≡ flat_map (le g.row.N) (map g.T.Number.bits (take l.sample-index l.samples))

@@ -5,9 +5,12 @@ use Rattle.tiff_decode.proofs.decoder.show_offset.Goals as goal
 
 pub returns-clause-follows : goal.returns-clause-follows
 returns-clause-follows g c = λ first here pointer more.
-    let old : Decoding = decoding (g.R.Source.contents c.args.tags.now.source) c.args.tags.now.kind c.args.tags.now.order first
+    let old : Decoding =
+    decoding (g.R.Source.contents c.args.tags.now.source) c.args.tags.now.kind c.args.tags.now.order first
     (g.R.Source.failures c.args.tags.now.source) pointer more (view.page c.args.page.now)
     c.args.tags.now.directory here c.args.tags.now.limits in
-    let mid : Decoding = record old { bytes = (g.R.Source.contents c.read_directory.new.source).bytes; readable = (g.R.Source.contents c.read_directory.new.source).readable; failures = g.R.Source.failures c.read_directory.new.source } in
-    shows_read c.show_read.result c.args.at c.in_ok-directory.directory old mid _ (told_same old _ _ c.in_ok-directory.ensures.kept.contents c.in_ok-directory.ensures.kept.swallowed)
+    let mid : Decoding =
+    record old { bytes = (g.R.Source.contents c.read_directory.new.source).bytes; readable = (g.R.Source.contents c.read_directory.new.source).readable; failures = g.R.Source.failures c.read_directory.new.source } in
+    shows_read c.show_read.result c.args.at c.in_ok-directory.directory old mid _
+    (told_same old _ _ c.in_ok-directory.ensures.kept.contents c.in_ok-directory.ensures.kept.swallowed)
     c.in_ok-directory.ensures.answer (c.show_read.ensures.follows first here pointer more)

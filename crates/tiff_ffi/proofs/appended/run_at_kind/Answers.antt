@@ -10,8 +10,10 @@ returns-in-Some g c =
     let kind : FileKind = g.K.TiffKind.kind in
     let file : List ℕ = c.args.file.now in
     let final : List ℕ = behind_contents c.in_ok-sink-3.sink in
-    let size : c.link_size-size.result ≡ offset_len kind = c.link_size-size.ensures ∙ ap (λ k. offset_len k) c.file_kind-kind.ensures in
+    let size : c.link_size-size.result ≡ offset_len kind =
+    c.link_size-size.ensures ∙ ap (λ k. offset_len k) c.file_kind-kind.ensures in
     let Added : ℕ → Type 0 = λ n. IsAddedTo final (length file) c.args.at n c.in-Some.field-0 in
     let ran = rw (c.deref.ensures.value, c.deref-2.ensures.value) at c.in_ok-sink-2.ensures in
-    added_behind kind c.args.at file (behind_contents c.in_ok-sink.sink) (behind_contents c.in_ok-sink-2.sink) c.in_ok-sink-2.refused c.args.jobs.now
+    added_behind kind c.args.at file (behind_contents c.in_ok-sink.sink)
+    (behind_contents c.in_ok-sink-2.sink) c.in_ok-sink-2.refused c.args.jobs.now
     c.in_ok-sink.ensures.contents ran final c.in_ok-sink-3.refused c.in-Some.field-0 c.in_ok-sink-3.ensures (subst Added size c.in-Some.ensures)

@@ -8,7 +8,8 @@ use Rattle.tiff_ffi.proofs.appended.run_pages_at.Goals as goal
 pub returns-in_err-link-in-Ok : goal.returns-in_err-link-in-Ok
 returns-in_err-link-in-Ok c =
     let e : TiffError = c.in_err-link-in-Ok.field-0.0 in
-    let Answer : Result (ℕ × PagesAnswer) TiffError → Type 0 = λ r. AnswersBehind c.args.place.kind c.args.file.now c.args.place.at c.args.pages.now r in
+    let Answer : Result (ℕ × PagesAnswer) TiffError → Type 0 =
+    λ r. AnswersBehind c.args.place.kind c.args.file.now c.args.place.at c.args.pages.now r in
     subst Answer (sym (is_error e c.from_residual.result c.from_residual.ensures.1))
     (behind_fails c.args.place.kind c.args.pages.now c.in-Ok.jobs c.in-Ok.ensures c.args.file.now c.args.place.at e c.in_err-link-in-Ok.ensures)
 

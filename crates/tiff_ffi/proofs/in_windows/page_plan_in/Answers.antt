@@ -8,7 +8,8 @@ use Rattle.tiff_ffi.proofs.SeenFiles.{in_order_of, of_order, tells_of}
 use Rattle.tiff_ffi.proofs.in_windows.page_plan_in.Goals as goal
 
 pub plan_seen-requires : goal.plan_seen-requires
-plan_seen-requires g c = record { of = of_order c.args.seen.now c.in-Some.windows.seen (c.in-Some.ensures).order.0 (c.in-Some.ensures).file g.file }
+plan_seen-requires g c =
+    record { of = of_order c.args.seen.now c.in-Some.windows.seen (c.in-Some.ensures).order.0 (c.in-Some.ensures).file g.file }
 
 pub returns-in-Ok-clause-answer : goal.returns-in-Ok-clause-answer
 returns-in-Ok-clause-answer g c =
@@ -20,6 +21,7 @@ returns-in-Ok-clause-answer g c =
 
 pub returns-in-Ok-clause-reads : goal.returns-in-Ok-clause-reads
 returns-in-Ok-clause-reads g c =
-    λ of zero. subst (λ file. ReadsPage file c.args.page c.put_value.new.out) (in_order_of c.args.seen.now c.in-Some.windows.seen g.file (c.in-Some.ensures).order.0 of)
+    λ of zero. subst (λ file. ReadsPage file c.args.page c.put_value.new.out)
+    (in_order_of c.args.seen.now c.in-Some.windows.seen g.file (c.in-Some.ensures).order.0 of)
     (given_reads (file_of g.file c.in-Some.windows.seen) c.args.page c.found_numbers.result c.put_value.result c.put_value.new.out
     (c.found_numbers.ensures.reads (file_of g.file c.in-Some.windows.seen) c.args.page c.in-Ok.ensures.reads) c.put_value.ensures.status c.put_value.ensures.put zero)

@@ -8,11 +8,13 @@ use Rattle.tiff_ffi.proofs.SeenFiles.{of_order, tells_of}
 use Rattle.tiff_ffi.proofs.in_windows.tag_bytes_in.Goals as goal
 
 pub bytes_seen-requires : goal.bytes_seen-requires
-bytes_seen-requires g c = record { of = of_order c.args.seen.now c.in-Some.windows.seen (c.in-Some.ensures).order.0 (c.in-Some.ensures).file g.file }
+bytes_seen-requires g c =
+    record { of = of_order c.args.seen.now c.in-Some.windows.seen (c.in-Some.ensures).order.0 (c.in-Some.ensures).file g.file }
 
 pub returns-in-Ok : goal.returns-in-Ok
 returns-in-Ok g c =
-    let bytes : List ℕ → Result (ℕ × List ℕ) TiffError = λ file. tag_bytes file c.args.page c.args.number c.args.at c.args.buffer.now in
+    let bytes : List ℕ → Result (ℕ × List ℕ) TiffError =
+    λ file. tag_bytes file c.args.page c.args.number c.args.at c.args.buffer.now in
     λ of. tells_of c.args.seen.now c.in-Some.windows.seen g.file c.put_value.result c.args.wanted.now _
     (λ file. StatusTells (bytes file) c.put_value.result (c.put_value.new.out, c.bytes_seen.new.buffer) × ((c.put_value.result ≡ 0) ⊎ (c.put_value.new.out ≡ c.args.written.now)))
     (c.in-Some.ensures).order of (

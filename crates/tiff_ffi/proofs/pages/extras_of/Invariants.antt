@@ -4,4 +4,5 @@ use Rattle.tiff_ffi.proofs.pages.extras_of.Given as goal
 
 -- What is left is made behind the extra samples so far.
 abbrev pub invariant-loop-i : goal.invariant-loop-i
-invariant-loop-i l = each extra_named l.numbers ≡ appended l.extras.items (each extra_named (drop l.i l.numbers))
+invariant-loop-i l =
+    each extra_named l.numbers ≡ appended l.extras.items (each extra_named (drop l.i l.numbers))

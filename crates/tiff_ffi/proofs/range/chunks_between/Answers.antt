@@ -23,11 +23,15 @@ loop-chunk-preserved g c =
     let fits = c.if-provided-len.false in
     record {
       stays = c.in_ok-read.ensures.stays ∙ same;
-      contents = c.in_ok-read.ensures.kept.contents ∙ c.in_ok-len.ensures.kept.contents ∙ i.contents;
-      failures = c.in_ok-read.ensures.kept.swallowed ∙ c.in_ok-len.ensures.kept.swallowed ∙ i.failures;
+      contents =
+          c.in_ok-read.ensures.kept.contents ∙ c.in_ok-len.ensures.kept.contents ∙ i.contents;
+      failures =
+          c.in_ok-read.ensures.kept.swallowed ∙ c.in_ok-len.ensures.kept.swallowed ∙ i.failures;
       room = grind (arith, common_steps);
-      left = goes_on by c.args.first c.args.end c.loop-chunk.chunk c.loop-chunk.at c.args.buffer.now c.loop-chunk.buffer c.loop-chunk-test.true i.room i.left c.in_ok-len.len len
-          c.read.new.buffer _ (omega arith) (grind (arith, common_steps)) (omega (arith, fits)) (rw same at c.in_ok-read.ensures.answer);
+      left =
+          goes_on by c.args.first c.args.end c.loop-chunk.chunk c.loop-chunk.at c.args.buffer.now c.loop-chunk.buffer c.loop-chunk-test.true i.room i.left c.in_ok-len.len len
+          c.read.new.buffer _ (omega arith) (grind (arith, common_steps)) (omega (arith, fits))
+          (rw same at c.in_ok-read.ensures.answer);
     }
 
 pub returns-then-provided-len-clause-answer : goal.returns-then-provided-len-clause-answer
@@ -44,7 +48,8 @@ returns-in_err-read-clause-answer g c =
     let len = rw i.stays at c.in_ok-len.ensures.answer in
     let same = c.in_ok-len.ensures.stays ∙ i.stays in
     let none = c.in_ok-len.ensures.kept.swallowed in
-    let answered = err_from_is_err_and c.from_residual-in_err-read.result c.from_residual-in_err-read.ensures.1 in
+    let answered =
+    err_from_is_err_and c.from_residual-in_err-read.result c.from_residual-in_err-read.ensures.1 in
     rw (answered.1, answered.2) (cause_along c.in_err-read.field-0.0 (λ w. w) (λ f. omega (arith, f, none, i.failures))
     (stops_unread by c.args.first c.args.end c.loop-chunk.chunk c.loop-chunk.at c.args.buffer.now c.loop-chunk.buffer c.loop-chunk-test.true i.room i.left c.in_ok-len.len len
     c.in_err-read.field-0.0 _ (omega arith) (omega (arith, c.if-provided-len.false)))

@@ -3,7 +3,8 @@ use Rattle.tiff_ffi.specs.Calls.{chunks_in}
 use Rattle.tiff_ffi.proofs.Ranges.{behind}
 use Rattle.tiff_ffi.proofs.range.chunks_between.Given as goal
 
--- The chunks that were read are in front, and those that are left are read behind them. No read failed.
+-- The chunks that were read are in front, and those that are left are read behind them. No read
+-- failed.
 abbrev pub invariant-loop-chunk : goal.invariant-loop-chunk
 invariant-loop-chunk g l =
     let by = g.R.ReadsChunks.reading l.fn.chunks in

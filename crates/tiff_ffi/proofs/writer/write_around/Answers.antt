@@ -21,8 +21,10 @@ returns-clause-written g c =
     let short : length (frame_contents sink) < 2 ^ 63 =
     omega (arith, counted, within, length-append sink.front.items (sink.passed ++ sink.behind.items), length-append sink.passed sink.behind.items) in
     around_written s image.width image.height c.in_ok-encoder.ensures.0 bytes c.in_ok-encoder.encoder c.write_zeros-answer.new.encoder _ _ c.in_ok-encoder.ensures.1
-    (g.met.C.NamedColorType.named ∙ ap color_type (sym c.requires.named)) (ap type_size (g.met.C.NamedColorType.in_memory ∙ ap inner_type (sym c.requires.named)))
-    c.in-Ok.ensures wide tall kept c.type_inv.bytes c.in_ok-frame.frame (frame_contents sink) c.into_inner-sink.ensures.bytes short
+    (g.met.C.NamedColorType.named ∙ ap color_type (sym c.requires.named))
+    (ap type_size (g.met.C.NamedColorType.in_memory ∙ ap inner_type (sym c.requires.named)))
+    c.in-Ok.ensures wide tall kept c.type_inv.bytes c.in_ok-frame.frame
+    (frame_contents sink) c.into_inner-sink.ensures.bytes short
     (subst (λ n. IsFrameOf (frame_contents sink) n bytes c.in_ok-frame.frame) c.front_len.ensures c.in_ok-frame.ensures)
 
 pub returns-clause-around : goal.returns-clause-around

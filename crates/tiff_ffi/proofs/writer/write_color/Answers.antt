@@ -14,8 +14,11 @@ write_samples-requires-clause-made g c =
     let bytes = c.args.bytes.now in
     let type = c.type_and_len-ty.result.0 in
     let lent = c.in-Ok.lent in
-    let numbers = map (sample_number (type_size g.C.Inner.TiffValue.value_type) g.C.Inner.Sample.bits) c.as_slice.result.now in
-    let typed : type ≡ inner_type s.color = c.type_and_len-ty.ensures.kind ∙ (g.met.C.NamedColorType.in_memory ∙ ap inner_type (sym c.requires.named)) in
+    let numbers =
+    map (sample_number (type_size g.C.Inner.TiffValue.value_type) g.C.Inner.Sample.bits) c.as_slice.result.now in
+    let typed : type ≡ inner_type s.color =
+    c.type_and_len-ty.ensures.kind
+    ∙ (g.met.C.NamedColorType.in_memory ∙ ap inner_type (sym c.requires.named)) in
     let is : Ok lent ≡ samples_of_type type bytes = search rules in
     let cut : numbers ≡ cut_to (type_size type) lent = search rules in
     lent_made s image.width image.height bytes type lent numbers typed is c.type_inv.bytes cut

@@ -9,7 +9,8 @@ pub strips-init : goal.strips-init
 strips-init g c = record {
   reference = refl;
   written = no_zeros c.args.image.now.state c.requires c.args.image.now.encoder.now;
-  within = (let none : length c.args.image.now.state.chunks ≡ 0 = ap (λ (cs : List _). length cs) c.requires.none in omega (arith, none));
+  within =
+      (let none : length c.args.image.now.state.chunks ≡ 0 = ap (λ (cs : List _). length cs) c.requires.none in omega (arith, none));
   zeros = c.in_ok-zeros.ensures.zeros ∙ ap (λ n. replicate n 0) (sym c.in_ok-zeros.ensures.len);
 }
 
@@ -20,12 +21,16 @@ strips-smaller g c =
     let sample = sample_number (type_size g.C.Inner.TiffValue.value_type) g.C.Inner.Sample.bits in
     let items = c.deref.result.now in
     let count = c.next_chunk_sample_count-count.result in
-    let zeros : map sample items ≡ replicate (length items) 0 = subst (λ xs. map sample xs ≡ replicate (length xs) 0) (sym c.deref.ensures.value) c.strips.invariant.zeros in
+    let zeros : map sample items ≡ replicate (length items) 0 =
+    subst (λ xs. map sample xs ≡ replicate (length xs) 0) (sym c.deref.ensures.value) c.strips.invariant.zeros in
     let fits : count ≤ length items = search rules in
-    let pos : 0 < count = (let t = c.strips-test.true in let a = c.next_chunk_sample_count.ensures in let b = c.next_chunk_sample_count-count.ensures in omega (arith, t, a, b)) in
+    let pos : 0 < count =
+    (let t = c.strips-test.true in let a = c.next_chunk_sample_count.ensures in let b =
+    c.next_chunk_sample_count-count.ensures in omega (arith, t, a, b)) in
     let more =
     more_zeros image.state c.requires image.encoder.now now.encoder.now now.state c.strips.invariant.written count (map sample (take count items)) c.write_chunk.new.self.encoder.now
-    c.write_chunk.new.self.state _ c.next_chunk_sample_count-count.ensures pos (zeros_taken sample items count fits zeros) c.in_ok-write_chunk.ensures.answer in
+    c.write_chunk.new.self.state _ c.next_chunk_sample_count-count.ensures pos
+    (zeros_taken sample items count fits zeros) c.in_ok-write_chunk.ensures.answer in
     omega (arith, more.1.0, more.1.1)
 
 pub strips-preserved : goal.strips-preserved
@@ -35,12 +40,16 @@ strips-preserved g c =
     let sample = sample_number (type_size g.C.Inner.TiffValue.value_type) g.C.Inner.Sample.bits in
     let items = c.deref.result.now in
     let count = c.next_chunk_sample_count-count.result in
-    let zeros : map sample items ≡ replicate (length items) 0 = subst (λ xs. map sample xs ≡ replicate (length xs) 0) (sym c.deref.ensures.value) c.strips.invariant.zeros in
+    let zeros : map sample items ≡ replicate (length items) 0 =
+    subst (λ xs. map sample xs ≡ replicate (length xs) 0) (sym c.deref.ensures.value) c.strips.invariant.zeros in
     let fits : count ≤ length items = search rules in
-    let pos : 0 < count = (let t = c.strips-test.true in let a = c.next_chunk_sample_count.ensures in let b = c.next_chunk_sample_count-count.ensures in omega (arith, t, a, b)) in
+    let pos : 0 < count =
+    (let t = c.strips-test.true in let a = c.next_chunk_sample_count.ensures in let b =
+    c.next_chunk_sample_count-count.ensures in omega (arith, t, a, b)) in
     let more =
     more_zeros image.state c.requires image.encoder.now now.encoder.now now.state c.strips.invariant.written count (map sample (take count items)) c.write_chunk.new.self.encoder.now
-    c.write_chunk.new.self.state _ c.next_chunk_sample_count-count.ensures pos (zeros_taken sample items count fits zeros) c.in_ok-write_chunk.ensures.answer in
+    c.write_chunk.new.self.state _ c.next_chunk_sample_count-count.ensures pos
+    (zeros_taken sample items count fits zeros) c.in_ok-write_chunk.ensures.answer in
     record {
       reference = c.in_ok-write_chunk.ensures.same_reference ∙ c.strips.invariant.reference;
       written = more.0;
@@ -51,4 +60,5 @@ strips-preserved g c =
 pub returns-clause-strips : goal.returns-clause-strips
 returns-clause-strips g c =
     all_zeros c.args.image.now.state c.requires c.args.image.now.encoder.now c.strips.image.encoder.now c.strips.image.state c.strips.invariant.written
-    (λ l. let t = c.strips-test.false in let e = c.next_chunk_sample_count.ensures in absurd (omega (arith, t, e, l))) c.strips.invariant.within
+    (λ l. let t = c.strips-test.false in let e = c.next_chunk_sample_count.ensures in
+    absurd (omega (arith, t, e, l))) c.strips.invariant.within

@@ -6,4 +6,6 @@ use Rattle.tiff_ifd.specs.Unsigned.{unsigned_width}
 use Rattle.tiff_ifd.proofs.read_numbers.fill_numbers.Given as goal
 
 abbrev pub invariant-loop-k : goal.invariant-loop-k
-invariant-loop-k l = (i : ℕ) → i < l.k → get_or l.numbers i 0 ≡ number l.order (unsigned_width l.field_type) (bytes_at l.bytes (i * type_size l.field_type) (type_size l.field_type))
+invariant-loop-k l =
+    (i : ℕ) → i < l.k → get_or l.numbers i 0
+    ≡ number l.order (unsigned_width l.field_type) (bytes_at l.bytes (i * type_size l.field_type) (type_size l.field_type))

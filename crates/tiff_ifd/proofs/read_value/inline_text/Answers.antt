@@ -14,4 +14,5 @@ use Rattle.tiff_ifd.proofs.read_value.inline_text.Goals as goal
 pub returns : goal.returns
 returns c =
     subst (λ (d : Result PlainValue TiffError). GivesSparingly plain_value c.text_from.result d)
-    (ap (λ (bs : List ℕ). if is_utf8 bs then Ok (f.ascii bs) else Err (FormatError InvalidTag)) c.without_zeros.ensures ∙ inline_is_utf8 c.args.bytes.now (sym c.if-not-is_inline_text.ensures)) c.text_from.ensures
+    (ap (λ (bs : List ℕ). if is_utf8 bs then
+    Ok (f.ascii bs) else Err (FormatError InvalidTag)) c.without_zeros.ensures ∙ inline_is_utf8 c.args.bytes.now (sym c.if-not-is_inline_text.ensures)) c.text_from.ensures

@@ -7,7 +7,11 @@ keeps_rest : (xs : List ℕ) (n : ℕ) {m : ℕ} → n ≤ length xs → m ≡ l
 keeps_rest xs n l e = omega arith
 
 pub returns-else-bytes-n-eq0-clause-value : goal.returns-else-bytes-n-eq0-clause-value
-returns-else-bytes-n-eq0-clause-value c = keeps_rest c.args.bytes.now c.loop-n.n c.loop-n.invariant.in_range (suffix_len_is is_zero c.args.bytes.now c.loop-n.n 0 c.loop-n.invariant.in_range c.loop-n.invariant.zeros (λ h. search rules))
+returns-else-bytes-n-eq0-clause-value c =
+    keeps_rest c.args.bytes.now c.loop-n.n c.loop-n.invariant.in_range
+    (suffix_len_is is_zero c.args.bytes.now c.loop-n.n 0 c.loop-n.invariant.in_range c.loop-n.invariant.zeros (λ h. search rules))
 
 pub returns-after-loop-n-clause-value : goal.returns-after-loop-n-clause-value
-returns-after-loop-n-clause-value c = keeps_rest c.args.bytes.now c.loop-n.n c.loop-n.invariant.in_range (suffix_len_is is_zero c.args.bytes.now c.loop-n.n 0 c.loop-n.invariant.in_range c.loop-n.invariant.zeros (λ h. absurd (omega arith)))
+returns-after-loop-n-clause-value c =
+    keeps_rest c.args.bytes.now c.loop-n.n c.loop-n.invariant.in_range
+    (suffix_len_is is_zero c.args.bytes.now c.loop-n.n 0 c.loop-n.invariant.in_range c.loop-n.invariant.zeros (λ h. absurd (omega arith)))

@@ -7,7 +7,8 @@ use Rattle.tiff_ifd.proofs.read_value.list_from.Given as goal
 abbrev pub invariant-loop-left : goal.invariant-loop-left
 invariant-loop-left l = record {
   room : length l.rest ≡ l.left * type_size l.stored.field_type;
-  so_far : spec.items (spec.list_item l.stored.inline l.stored.field_type l.stored.order) (type_size l.stored.field_type) l.fn.stored.count l.fn.bytes
+  so_far : spec.items (spec.list_item l.stored.inline l.stored.field_type l.stored.order)
+      (type_size l.stored.field_type) l.fn.stored.count l.fn.bytes
       ≡ plain_values l.all.items ++ spec.items (spec.list_item l.stored.inline l.stored.field_type l.stored.order) (type_size l.stored.field_type) l.left l.rest;
 }
 

@@ -3,7 +3,8 @@ use Rattle.tiff_ifd.specs.FieldValue.{is_zero}
 use Rattle.tiff_ifd.proofs.read_value.zeros_in_front.Given as goal
 
 abbrev pub invariant-loop-n : goal.invariant-loop-n
-invariant-loop-n l = record { in_range : l.n ≤ length l.bytes; zeros : (k : ℕ) → k < l.n → is_zero (get_or l.bytes k 0) ≡ true }
+invariant-loop-n l =
+    record { in_range : l.n ≤ length l.bytes; zeros : (k : ℕ) → k < l.n → is_zero (get_or l.bytes k 0) ≡ true }
 
 abbrev pub decreases-loop-n : goal.decreases-loop-n
 decreases-loop-n l = length l.bytes - l.n

@@ -4,7 +4,10 @@ use Rattle.tiff_ifd.proofs.Letters.{step, empty, whole}
 use Rattle.tiff_ifd.proofs.value.chars.Goals as goal
 
 pub loop-c-preserved : goal.loop-c-preserved
-loop-c-preserved c = let h = c.in-Some.ensures.steps in step c.loop-c.all.items _ _ _ _ c.in-Some.c c.loop-c.invariant c.in_ok-push.ensures.items h.0
+loop-c-preserved c =
+    let h =
+    c.in-Some.ensures.steps in
+    step c.loop-c.all.items _ _ _ _ c.in-Some.c c.loop-c.invariant c.in_ok-push.ensures.items h.0
 
 pub returns : goal.returns
 returns c = let h = c.in-None.ensures.steps in

@@ -11,12 +11,17 @@ loop-left-preserved g c =
     let same = (same_bytes c.loop-left.invariant.same) in
     let told = c.in-Ok.ensures.kept.contents ∙ c.loop-left.invariant.same in
     let given = rw (same_bytes told, same) at c.in-Ok.ensures.filled in
-    let len : length c.read_exact.new.buf ≡ c.min-len.result = c.read_exact.auto.buf ∙ length-take-le c.min-len.result c.loop-left.piece (omega (arith, c.loop-left.invariant.room)) in
+    let len : length c.read_exact.new.buf ≡ c.min-len.result =
+    c.read_exact.auto.buf ∙ length-take-le c.min-len.result c.loop-left.piece
+    (omega (arith, c.loop-left.invariant.room)) in
     record {
       within = omega (arith, c.loop-left.invariant.within);
-      room = omega (arith, c.loop-left.invariant.room, len, length-append c.read_exact.new.buf (drop c.min-len.result c.loop-left.piece), length-drop c.min-len.result c.loop-left.piece);
+      room =
+          omega (arith, c.loop-left.invariant.room, len, length-append c.read_exact.new.buf (drop c.min-len.result c.loop-left.piece), length-drop c.min-len.result c.loop-left.piece);
       same = told;
       count = omega (arith, c.in-Ok.ensures.kept.swallowed, c.loop-left.invariant.count);
       behind = search rules;
-      passed = more_passed (left_at bytes c.args.position.now) (left_at bytes c.loop-left.position) (left_at bytes c.read_exact.new.self) c.read_exact.new.buf c.args.n c.loop-left.left c.min-len.result c.loop-left.invariant.within (omega arith) len c.loop-left.invariant.passed given;
+      passed =
+          more_passed (left_at bytes c.args.position.now) (left_at bytes c.loop-left.position)
+          (left_at bytes c.read_exact.new.self) c.read_exact.new.buf c.args.n c.loop-left.left c.min-len.result c.loop-left.invariant.within (omega arith) len c.loop-left.invariant.passed given;
     }

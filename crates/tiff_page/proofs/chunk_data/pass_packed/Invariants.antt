@@ -12,7 +12,8 @@ invariant-loop-left g l =
       same : g.R.Source.contents l.source ≡ g.R.Source.contents l.fn.source;
       count : g.R.Source.failures l.source ≡ g.R.Source.failures l.fn.source;
       behind : IsLastPart l.fn.position.at l.fn.position.len l.position;
-      passed : (left_at bytes l.position).out ≡ drop (l.fn.n - l.left) (left_at bytes l.fn.position).out;
+      passed : (left_at bytes l.position).out
+          ≡ drop (l.fn.n - l.left) (left_at bytes l.fn.position).out;
     }
 
 abbrev pub decreases-loop-left : goal.decreases-loop-left

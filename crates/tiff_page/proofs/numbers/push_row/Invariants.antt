@@ -9,7 +9,8 @@ invariant-loop-at g l = record {
   within : l.at ≤ length l.row;
   whole : l.at / g.row.N * g.row.N ≡ l.at;
   room : vec_len l.list + (length l.row - l.at) / g.row.N ≤ vec_capacity l.list;
-  written : bytes_in g.row.N (map g.T.Number.bits l.list.items) ≡ bytes_in g.row.N (map g.T.Number.bits l.fn.numbers.items) ++ take l.at l.row;
+  written : bytes_in g.row.N (map g.T.Number.bits l.list.items)
+      ≡ bytes_in g.row.N (map g.T.Number.bits l.fn.numbers.items) ++ take l.at l.row;
 }
 
 abbrev pub decreases-loop-at : goal.decreases-loop-at

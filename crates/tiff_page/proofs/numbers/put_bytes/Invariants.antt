@@ -7,4 +7,5 @@ use Rattle.tiff_page.proofs.numbers.put_bytes.Given as goal
 -- the bytes so far are written
 abbrev pub invariant-loop-k : goal.invariant-loop-k
 invariant-loop-k g l =
-    Writes (λ i. (l.at ≤ i) × (i < l.at + l.k)) (λ i. slice_index l.row (i - l.at)) (bytes_in g.row.N (map g.T.Number.bits l.fn.numbers)) (bytes_in g.row.N (map g.T.Number.bits l.numbers))
+    Writes (λ i. (l.at ≤ i) × (i < l.at + l.k)) (λ i. slice_index l.row (i - l.at))
+    (bytes_in g.row.N (map g.T.Number.bits l.fn.numbers)) (bytes_in g.row.N (map g.T.Number.bits l.numbers))

@@ -4,4 +4,6 @@ use Rattle.tiff_page.proofs.OutputRow.{whole_stood}
 use Rattle.tiff_page.proofs.output_row.turn_whole.Goals as goal
 
 pub returns-else-needs_swap : goal.returns-else-needs_swap
-returns-else-needs_swap c = whole_stood c.args.order (view.page c.args.page.now) c.args.row.now (sym c.needs_swap.ensures ∙ c.if-needs_swap.false) c.requires.size
+returns-else-needs_swap c =
+    whole_stood c.args.order (view.page c.args.page.now) c.args.row.now (sym c.needs_swap.ensures
+    ∙ c.if-needs_swap.false) c.requires.size

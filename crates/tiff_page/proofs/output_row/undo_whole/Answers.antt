@@ -26,14 +26,18 @@ undo_float_predictor-requires c =
       stored = omega arith;
       whole = subst (λ (n : ℕ). length c.args.row.now / n * n ≡ length c.args.row.now) (sym e)
           (stored_whole (view.page c.args.page.now) (length c.args.row.now) c.requires.size c.requires.deep c.requires.row);
-      room = c.requires.room (ap (λ p. is_byte_plane p || needs_swap c.args.order c.args.page.now.depth) c.in-FloatingPoint.is);
+      room =
+          c.requires.room (ap (λ p. is_byte_plane p || needs_swap c.args.order c.args.page.now.depth) c.in-FloatingPoint.is);
     }
 
 pub turn_whole-requires : goal.turn_whole-requires
 turn_whole-requires c = record {
   size = c.requires.size;
-  whole = stored_whole (view.page c.args.page.now) (length c.args.row.now) c.requires.size c.requires.deep c.requires.row;
-  room = λ t. c.requires.room (ap (λ b. is_byte_plane c.args.page.now.predictor || b) t ∙ or-true (is_byte_plane c.args.page.now.predictor));
+  whole =
+      stored_whole (view.page c.args.page.now) (length c.args.row.now) c.requires.size c.requires.deep c.requires.row;
+  room =
+      λ t. c.requires.room (ap (λ b. is_byte_plane c.args.page.now.predictor || b) t
+      ∙ or-true (is_byte_plane c.args.page.now.predictor));
 }
 
 pub undo_differences-requires : goal.undo_differences-requires
@@ -46,4 +50,5 @@ undo_differences-requires c = record {
 pub returns-in_default-clause-numbers : goal.returns-in_default-clause-numbers
 returns-in_default-clause-numbers c =
     undone_numbers c.args.order (view.page c.args.page.now) c.args.row.now c.turn_whole.new.row c.undo_differences.new.row
-    (no_byte_plane c.args.page.now.predictor c.in_default.not-FloatingPoint) (omega arith) c.turn_whole.ensures (c.undo_differences.ensures.numbers (omega (arith, some_size (c.args.page.now.depth / 8) c.requires.size)))
+    (no_byte_plane c.args.page.now.predictor c.in_default.not-FloatingPoint)
+    (omega arith) c.turn_whole.ensures (c.undo_differences.ensures.numbers (omega (arith, some_size (c.args.page.now.depth / 8) c.requires.size)))

@@ -4,5 +4,6 @@ use Rattle.tiff_page.proofs.predictors.turn_u16.Goals as goal
 
 pub returns : goal.returns
 returns c =
-    turns_2 c.args.row.now c.args.out.now c.copy_from_slice.new.self c.args.k _ _ (omega arith) c.requires.row c.requires.out (omega (arith, c.u16_in-number.type_inv))
+    turns_2 c.args.row.now c.args.out.now c.copy_from_slice.new.self c.args.k _ _
+    (omega arith) c.requires.row c.requires.out (omega (arith, c.u16_in-number.type_inv))
     (c.copy_from_slice.ensures.after ∙ c.to_le_bytes.ensures) c.u16_in-number.ensures

@@ -4,5 +4,6 @@ use Rattle.tiff_page.proofs.predictors.turn_u64.Goals as goal
 
 pub returns : goal.returns
 returns c =
-    turns_8 c.args.row.now c.args.out.now c.copy_from_slice.new.self c.args.k _ _ (omega arith) c.requires.row c.requires.out (omega (arith, c.u64_in-number.type_inv))
+    turns_8 c.args.row.now c.args.out.now c.copy_from_slice.new.self c.args.k _ _
+    (omega arith) c.requires.row c.requires.out (omega (arith, c.u64_in-number.type_inv))
     (c.copy_from_slice.ensures.after ∙ c.to_le_bytes.ensures) c.u64_in-number.ensures

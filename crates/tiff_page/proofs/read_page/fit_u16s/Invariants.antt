@@ -8,5 +8,7 @@ abbrev pub invariant-loop-n : goal.invariant-loop-n
 invariant-loop-n l = record {
   can : goal.iterator-loop-n.can_next l.n-iterator;
   finite : goal.iterator-loop-n.is_finite l.n-iterator;
-  rest : fitted_numbers l.tag (2 ^ 16) l.fn.numbers.items ≡ (fitted_numbers l.tag (2 ^ 16) (into_iter_items l.n-iterator) >>= (λ ns. Ok (l.all.items ++ ns)));
+  rest : fitted_numbers l.tag (2 ^ 16) l.fn.numbers.items
+      ≡ (fitted_numbers l.tag (2 ^ 16) (into_iter_items l.n-iterator)
+      >>= (λ ns. Ok (l.all.items ++ ns)));
 }

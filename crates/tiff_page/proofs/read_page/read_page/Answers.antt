@@ -13,12 +13,16 @@ use Rattle.tiff_page.proofs.PassedChecks.{size_found}
 use Rattle.tiff_page.proofs.read_page.read_page.Goals as goal
 
 -- the error of a check behind the size is the error of the page
-check_failed : {X Y : Type 0} (view : X → Y) (look : TagLookup) (size : ℕ × ℕ) (page : Result Y TiffError) (r : Result X TiffError) (e : TiffError)
-    (wanting failed failed' given : Type 0) → IsErrAnd r (λ y. y ≡ e) → size_in look ≡ Ok size → (failed → failed') → (given → page ≡ Err e)
-    → IsCause wanting failed e given → AnswersBut (IsFoundWithin (look.value tag.ImageWidth)) failed' view r page
+check_failed : {X Y : Type 0} (view : X → Y) (look : TagLookup) (size : ℕ × ℕ)
+    (page : Result Y TiffError) (r : Result X TiffError) (e : TiffError)
+    (wanting failed failed' given : Type 0) → IsErrAnd r (λ y. y ≡ e) → size_in look ≡ Ok size
+    → (failed → failed') → (given → page ≡ Err e)
+    → IsCause wanting failed e given
+    → AnswersBut (IsFoundWithin (look.value tag.ImageWidth)) failed' view r page
 check_failed view look size page (Ok x) e wanting failed failed' given q s grew fails c = absurd q
 check_failed view look size page (Err y) e wanting failed failed' given q s grew fails c =
-    subst (λ z. IsCause (IsFoundWithin (look.value tag.ImageWidth)) failed' z (page ≡ Err z)) (sym q) (cause_along e (λ w. size_found look size s) grew fails c)
+    subst (λ z. IsCause (IsFoundWithin (look.value tag.ImageWidth)) failed' z (page
+    ≡ Err z)) (sym q) (cause_along e (λ w. size_found look size s) grew fails c)
 
 pub returns-in_err-interpretation-clause-answer : goal.returns-in_err-interpretation-clause-answer
 unfolding page_of

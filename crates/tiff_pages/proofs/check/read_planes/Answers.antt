@@ -7,5 +7,6 @@ use Rattle.tiff_pages.proofs.check.read_planes.Goals as goal
 pub returns : goal.returns
 unfolding read_image_to_buffer
 returns g c =
-    reads_page (λ layout. (layout, decoded_as c.read_image_to_buffer.new.samples)) (planes_read c.args.decoder.now c.args.decoder.now.state.page) c.read_image_to_buffer.result
+    reads_page (λ layout. (layout, decoded_as c.read_image_to_buffer.new.samples))
+    (planes_read c.args.decoder.now c.args.decoder.now.state.page) c.read_image_to_buffer.result
     c.args.decoder.now c.read_image_to_buffer.new.self c.read_image_to_buffer.ensures.follows

@@ -8,93 +8,122 @@ use Rattle.tiff_pages.proofs.pages.list_pages.Goals as goal
 
 pub item_here-requires-clause-place : goal.item_here-requires-clause-place
 item_here-requires-clause-place g c =
-    let a = sought_first c.walk_seeks.ensures c.args.decoder.now c.seek_to_image.new.self c.seek_to_image.result c.in_ok-entered.entered (some_here c.args.decoder.now c.seek_to_image.new.self c.seek_to_image.result c.in_ok-entered.ensures.1 c.seek_to_image.ensures.follows
+    let a =
+    sought_first c.walk_seeks.ensures c.args.decoder.now c.seek_to_image.new.self c.seek_to_image.result c.in_ok-entered.entered (some_here c.args.decoder.now c.seek_to_image.new.self c.seek_to_image.result c.in_ok-entered.ensures.1 c.seek_to_image.ensures.follows
     (λ p. some_by c.ifd_pointer.result c.is_none.result c.is_none.ensures c.if-is_none.false (c.ifd_pointer.ensures.0 ∙ p))) c.in_ok-entered.ensures
     c.seek_to_image.ensures.follows in
     rw c.ifd_pointer.ensures.1 (some_pointer c.args.decoder.now c.seek_to_image.new.self 0 c.in_ok-entered.entered a.0)
 
 pub item_here-requires-clause-page : goal.item_here-requires-clause-page
 item_here-requires-clause-page g c =
-    let a = sought_first c.walk_seeks.ensures c.args.decoder.now c.seek_to_image.new.self c.seek_to_image.result c.in_ok-entered.entered (some_here c.args.decoder.now c.seek_to_image.new.self c.seek_to_image.result c.in_ok-entered.ensures.1 c.seek_to_image.ensures.follows
+    let a =
+    sought_first c.walk_seeks.ensures c.args.decoder.now c.seek_to_image.new.self c.seek_to_image.result c.in_ok-entered.entered (some_here c.args.decoder.now c.seek_to_image.new.self c.seek_to_image.result c.in_ok-entered.ensures.1 c.seek_to_image.ensures.follows
     (λ p. some_by c.ifd_pointer.result c.is_none.result c.is_none.ensures c.if-is_none.false (c.ifd_pointer.ensures.0 ∙ p))) c.in_ok-entered.ensures
     c.seek_to_image.ensures.follows in
     rw c.ifd_pointer.ensures.1 (has_page c.args.decoder.now c.seek_to_image.new.self 0 c.in_ok-entered.entered a.0)
 
 pub pages-init : goal.pages-init
 pages-init g c =
-    let a = sought_first c.walk_seeks.ensures c.args.decoder.now c.seek_to_image.new.self c.seek_to_image.result c.in_ok-entered.entered (some_here c.args.decoder.now c.seek_to_image.new.self c.seek_to_image.result c.in_ok-entered.ensures.1 c.seek_to_image.ensures.follows
+    let a =
+    sought_first c.walk_seeks.ensures c.args.decoder.now c.seek_to_image.new.self c.seek_to_image.result c.in_ok-entered.entered (some_here c.args.decoder.now c.seek_to_image.new.self c.seek_to_image.result c.in_ok-entered.ensures.1 c.seek_to_image.ensures.follows
     (λ p. some_by c.ifd_pointer.result c.is_none.result c.is_none.ensures c.if-is_none.false (c.ifd_pointer.ensures.0 ∙ p))) c.in_ok-entered.ensures
     c.seek_to_image.ensures.follows in
     lists_first c.args.decoder.now c.seek_to_image.new.self c.item_here.new.decoder c.in_ok-entered.entered c.in_ok-item_here.field-0 c.args.pages.now.items c.push.new.self.items a
-    (c.in_ok-item_here.ensures.reads.stays ∙ c.ifd_pointer.ensures.1) (rw c.ifd_pointer.ensures.1 at c.in_ok-item_here.ensures.place)
+    (c.in_ok-item_here.ensures.reads.stays ∙ c.ifd_pointer.ensures.1)
+    (rw c.ifd_pointer.ensures.1 at c.in_ok-item_here.ensures.place)
     (rw c.ifd_pointer.ensures.1 at c.in_ok-item_here.ensures.page) c.requires c.in_ok-push.ensures.items
 
 pub returns-in_err-entered-2-clause-way : goal.returns-in_err-entered-2-clause-way
 returns-in_err-entered-2-clause-way g c =
     let l = c.pages.invariant in
-    let kept = kept_state (c.pages.decoder.state.more ≡ true) (next_image c.pages.decoder) c.next_image.result c.in_err-entered-2.field-0.0 c.pages.decoder c.next_image.new.self
+    let kept =
+    kept_state (c.pages.decoder.state.more ≡ true) (next_image c.pages.decoder) c.next_image.result c.in_err-entered-2.field-0.0 c.pages.decoder c.next_image.new.self
     c.in_err-entered-2.ensures (rw c.place_of-here.ensures.stays at c.next_image.ensures.follows) in
-    let way = on_its_way c.args.decoder.now c.pages.decoder l.listed.number (Err c.in_err-entered-2.field-0.0) c.next_image.new.self.state l.listed.along
+    let way =
+    on_its_way c.args.decoder.now c.pages.decoder l.listed.number
+    (Err c.in_err-entered-2.field-0.0) c.next_image.new.self.state l.listed.along
     (kept ∙ ap (λ (d : Decoding). d.state) l.state) in
     search rules
 
 pub place_of-requires : goal.place_of-requires
 place_of-requires g c =
-    let more : c.pages.decoder.state.more ≡ true = (let e = c.more_images.ensures in let t = c.pages-test.true in cc) in
-    let w = went_on c.walk_goes_on.ensures c.args.decoder.now c.pages.decoder c.next_image.new.self c.pages.pages.items c.pages.invariant c.next_image.result
+    let more : c.pages.decoder.state.more ≡ true =
+    (let e = c.more_images.ensures in let t = c.pages-test.true in cc) in
+    let w =
+    went_on c.walk_goes_on.ensures c.args.decoder.now c.pages.decoder c.next_image.new.self c.pages.pages.items c.pages.invariant c.next_image.result
     c.in_ok-entered-2.entered more c.in_ok-entered-2.ensures (rw c.place_of-here.ensures.stays at c.next_image.ensures.follows) in
     some_after c.args.decoder.now c.pages.decoder c.next_image.new.self c.pages.pages.items c.pages.invariant c.in_ok-entered-2.entered w
 
 pub returns-then-place_of-here-clause-pages : goal.returns-then-place_of-here-clause-pages
 returns-then-place_of-here-clause-pages g c =
-    let more : c.pages.decoder.state.more ≡ true = (let e = c.more_images.ensures in let t = c.pages-test.true in cc) in
-    let w = went_on c.walk_goes_on.ensures c.args.decoder.now c.pages.decoder c.next_image.new.self c.pages.pages.items c.pages.invariant c.next_image.result
+    let more : c.pages.decoder.state.more ≡ true =
+    (let e = c.more_images.ensures in let t = c.pages-test.true in cc) in
+    let w =
+    went_on c.walk_goes_on.ensures c.args.decoder.now c.pages.decoder c.next_image.new.self c.pages.pages.items c.pages.invariant c.next_image.result
     c.in_ok-entered-2.entered more c.in_ok-entered-2.ensures (rw c.place_of-here.ensures.stays at c.next_image.ensures.follows) in
-    let end = ended c.walk_moves.ensures c.args.decoder.now c.pages.decoder c.next_image.new.self c.pages.pages.items c.pages.invariant c.in_ok-entered-2.entered
+    let end =
+    ended c.walk_moves.ensures c.args.decoder.now c.pages.decoder c.next_image.new.self c.pages.pages.items c.pages.invariant c.in_ok-entered-2.entered
     c.place_of-here.result c.place_of.result w c.place_of-here.ensures.place c.place_of.ensures.place c.if-place_of-here.true in
-    all_listed c.args.decoder.now c.pages.decoder c.pages.pages.items c.pages.invariant (Some end.0) c.err.result end.2 (c.err.ensures.value ∙ ap result_err end.1)
+    all_listed c.args.decoder.now c.pages.decoder c.pages.pages.items c.pages.invariant
+    (Some end.0) c.err.result end.2 (c.err.ensures.value ∙ ap result_err end.1)
 
 pub returns-then-place_of-here-clause-end : goal.returns-then-place_of-here-clause-end
 returns-then-place_of-here-clause-end g c =
-    let more : c.pages.decoder.state.more ≡ true = (let e = c.more_images.ensures in let t = c.pages-test.true in cc) in
-    let w = went_on c.walk_goes_on.ensures c.args.decoder.now c.pages.decoder c.next_image.new.self c.pages.pages.items c.pages.invariant c.next_image.result
+    let more : c.pages.decoder.state.more ≡ true =
+    (let e = c.more_images.ensures in let t = c.pages-test.true in cc) in
+    let w =
+    went_on c.walk_goes_on.ensures c.args.decoder.now c.pages.decoder c.next_image.new.self c.pages.pages.items c.pages.invariant c.next_image.result
     c.in_ok-entered-2.entered more c.in_ok-entered-2.ensures (rw c.place_of-here.ensures.stays at c.next_image.ensures.follows) in
-    let end = ended c.walk_moves.ensures c.args.decoder.now c.pages.decoder c.next_image.new.self c.pages.pages.items c.pages.invariant c.in_ok-entered-2.entered
+    let end =
+    ended c.walk_moves.ensures c.args.decoder.now c.pages.decoder c.next_image.new.self c.pages.pages.items c.pages.invariant c.in_ok-entered-2.entered
     c.place_of-here.result c.place_of.result w c.place_of-here.ensures.place c.place_of.ensures.place c.if-place_of-here.true in
     c.place_of.ensures.stays
     ∙ stands_behind c.args.decoder.now c.pages.decoder c.next_image.new.self c.pages.pages.items c.pages.invariant c.in_ok-entered-2.entered end.0 w end.2
 
 pub item_here-requires-in-pages-clause-page : goal.item_here-requires-in-pages-clause-page
 item_here-requires-in-pages-clause-page g c =
-    let more : c.pages.decoder.state.more ≡ true = (let e = c.more_images.ensures in let t = c.pages-test.true in cc) in
-    let w = went_on c.walk_goes_on.ensures c.args.decoder.now c.pages.decoder c.next_image.new.self c.pages.pages.items c.pages.invariant c.next_image.result
+    let more : c.pages.decoder.state.more ≡ true =
+    (let e = c.more_images.ensures in let t = c.pages-test.true in cc) in
+    let w =
+    went_on c.walk_goes_on.ensures c.args.decoder.now c.pages.decoder c.next_image.new.self c.pages.pages.items c.pages.invariant c.next_image.result
     c.in_ok-entered-2.entered more c.in_ok-entered-2.ensures (rw c.place_of-here.ensures.stays at c.next_image.ensures.follows) in
-    let a = moved c.args.decoder.now c.pages.decoder c.next_image.new.self c.pages.pages.items c.pages.invariant c.in_ok-entered-2.entered
+    let a =
+    moved c.args.decoder.now c.pages.decoder c.next_image.new.self c.pages.pages.items c.pages.invariant c.in_ok-entered-2.entered
     c.place_of-here.result c.place_of.result w c.place_of-here.ensures.place c.place_of.ensures.place c.if-place_of-here.false in
     let page = has_page c.args.decoder.now c.next_image.new.self _ c.in_ok-entered-2.entered a in
     rw c.place_of.ensures.stays page
 
 pub returns-in_err-item_here-2-clause-way : goal.returns-in_err-item_here-2-clause-way
 returns-in_err-item_here-2-clause-way g c =
-    let more : c.pages.decoder.state.more ≡ true = (let e = c.more_images.ensures in let t = c.pages-test.true in cc) in
-    let w = went_on c.walk_goes_on.ensures c.args.decoder.now c.pages.decoder c.next_image.new.self c.pages.pages.items c.pages.invariant c.next_image.result
+    let more : c.pages.decoder.state.more ≡ true =
+    (let e = c.more_images.ensures in let t = c.pages-test.true in cc) in
+    let w =
+    went_on c.walk_goes_on.ensures c.args.decoder.now c.pages.decoder c.next_image.new.self c.pages.pages.items c.pages.invariant c.next_image.result
     c.in_ok-entered-2.entered more c.in_ok-entered-2.ensures (rw c.place_of-here.ensures.stays at c.next_image.ensures.follows) in
-    let a = moved c.args.decoder.now c.pages.decoder c.next_image.new.self c.pages.pages.items c.pages.invariant c.in_ok-entered-2.entered
+    let a =
+    moved c.args.decoder.now c.pages.decoder c.next_image.new.self c.pages.pages.items c.pages.invariant c.in_ok-entered-2.entered
     c.place_of-here.result c.place_of.result w c.place_of-here.ensures.place c.place_of.ensures.place c.if-place_of-here.false in
-    let stands = ap (λ (d : Decoding). d.state) (c.in_err-item_here-2.ensures.reads.file.stands ∙ ap (λ (d : Decoding). record d { failures = c.item_here-in-pages.new.decoder.failures }) (c.place_of.ensures.stays ∙ w.state)) in
-    let way = on_its_way c.args.decoder.now c.next_image.new.self _ c.in_ok-entered-2.entered c.item_here-in-pages.new.decoder.state a.along stands in
+    let stands =
+    ap (λ (d : Decoding). d.state) (c.in_err-item_here-2.ensures.reads.file.stands
+    ∙ ap (λ (d : Decoding). record d { failures = c.item_here-in-pages.new.decoder.failures }) (c.place_of.ensures.stays ∙ w.state)) in
+    let way =
+    on_its_way c.args.decoder.now c.next_image.new.self _ c.in_ok-entered-2.entered c.item_here-in-pages.new.decoder.state a.along stands in
     search rules
 
 pub pages-preserved : goal.pages-preserved
 pages-preserved g c =
-    let more : c.pages.decoder.state.more ≡ true = (let e = c.more_images.ensures in let t = c.pages-test.true in cc) in
-    let w = went_on c.walk_goes_on.ensures c.args.decoder.now c.pages.decoder c.next_image.new.self c.pages.pages.items c.pages.invariant c.next_image.result
+    let more : c.pages.decoder.state.more ≡ true =
+    (let e = c.more_images.ensures in let t = c.pages-test.true in cc) in
+    let w =
+    went_on c.walk_goes_on.ensures c.args.decoder.now c.pages.decoder c.next_image.new.self c.pages.pages.items c.pages.invariant c.next_image.result
     c.in_ok-entered-2.entered more c.in_ok-entered-2.ensures (rw c.place_of-here.ensures.stays at c.next_image.ensures.follows) in
-    let a = moved c.args.decoder.now c.pages.decoder c.next_image.new.self c.pages.pages.items c.pages.invariant c.in_ok-entered-2.entered
+    let a =
+    moved c.args.decoder.now c.pages.decoder c.next_image.new.self c.pages.pages.items c.pages.invariant c.in_ok-entered-2.entered
     c.place_of-here.result c.place_of.result w c.place_of-here.ensures.place c.place_of.ensures.place c.if-place_of-here.false in
     lists_next c.args.decoder.now c.pages.decoder c.next_image.new.self c.item_here-in-pages.new.decoder c.pages.pages.items c.push-in-pages.new.self.items c.pages.invariant
     c.in_ok-entered-2.entered c.in_ok-item_here-2.field-0 w a (c.in_ok-item_here-2.ensures.reads.stays ∙ c.place_of.ensures.stays)
-    (rw c.place_of.ensures.stays at c.in_ok-item_here-2.ensures.place) (rw c.place_of.ensures.stays at c.in_ok-item_here-2.ensures.page) c.in_ok-push-2.ensures.items
+    (rw c.place_of.ensures.stays at c.in_ok-item_here-2.ensures.place)
+    (rw c.place_of.ensures.stays at c.in_ok-item_here-2.ensures.page) c.in_ok-push-2.ensures.items
 
 pub pages-smaller : goal.pages-smaller
 pages-smaller g c =
@@ -103,49 +132,63 @@ pages-smaller g c =
 
 pub returns-in_err-push-2-clause-way : goal.returns-in_err-push-2-clause-way
 returns-in_err-push-2-clause-way g c =
-    let more : c.pages.decoder.state.more ≡ true = (let e = c.more_images.ensures in let t = c.pages-test.true in cc) in
-    let w = went_on c.walk_goes_on.ensures c.args.decoder.now c.pages.decoder c.next_image.new.self c.pages.pages.items c.pages.invariant c.next_image.result
+    let more : c.pages.decoder.state.more ≡ true =
+    (let e = c.more_images.ensures in let t = c.pages-test.true in cc) in
+    let w =
+    went_on c.walk_goes_on.ensures c.args.decoder.now c.pages.decoder c.next_image.new.self c.pages.pages.items c.pages.invariant c.next_image.result
     c.in_ok-entered-2.entered more c.in_ok-entered-2.ensures (rw c.place_of-here.ensures.stays at c.next_image.ensures.follows) in
-    let a = moved c.args.decoder.now c.pages.decoder c.next_image.new.self c.pages.pages.items c.pages.invariant c.in_ok-entered-2.entered
+    let a =
+    moved c.args.decoder.now c.pages.decoder c.next_image.new.self c.pages.pages.items c.pages.invariant c.in_ok-entered-2.entered
     c.place_of-here.result c.place_of.result w c.place_of-here.ensures.place c.place_of.ensures.place c.if-place_of-here.false in
-    let stands = ap (λ (d : Decoding). d.state) (c.in_ok-item_here-2.ensures.reads.stays ∙ c.place_of.ensures.stays ∙ w.state) in
-    let way = on_its_way c.args.decoder.now c.next_image.new.self _ c.in_ok-entered-2.entered c.item_here-in-pages.new.decoder.state a.along stands in
+    let stands =
+    ap (λ (d : Decoding). d.state) (c.in_ok-item_here-2.ensures.reads.stays
+    ∙ c.place_of.ensures.stays ∙ w.state) in
+    let way =
+    on_its_way c.args.decoder.now c.next_image.new.self _ c.in_ok-entered-2.entered c.item_here-in-pages.new.decoder.state a.along stands in
     search rules
 
 pub returns-clause-pages : goal.returns-clause-pages
 returns-clause-pages g c =
-    let over : c.pages.decoder.state.more ≡ false = (let e = c.more_images.ensures in let t = c.pages-test.false in cc) in
+    let over : c.pages.decoder.state.more ≡ false =
+    (let e = c.more_images.ensures in let t = c.pages-test.false in cc) in
     let l = c.pages.invariant in
-    all_listed c.args.decoder.now c.pages.decoder c.pages.pages.items l None None (c.walk_ends.ensures c.args.decoder.now c.pages.decoder l.listed.number l.listed.along over) refl
+    all_listed c.args.decoder.now c.pages.decoder c.pages.pages.items l None None
+    (c.walk_ends.ensures c.args.decoder.now c.pages.decoder l.listed.number l.listed.along over) refl
 
 pub returns-clause-end : goal.returns-clause-end
 returns-clause-end g c =
-    let over : c.pages.decoder.state.more ≡ false = (let e = c.more_images.ensures in let t = c.pages-test.false in cc) in
+    let over : c.pages.decoder.state.more ≡ false =
+    (let e = c.more_images.ensures in let t = c.pages-test.false in cc) in
     let l = c.pages.invariant in
-    stands_last c.args.decoder.now c.pages.decoder c.pages.pages.items l (c.walk_ends.ensures c.args.decoder.now c.pages.decoder l.listed.number l.listed.along over)
+    stands_last c.args.decoder.now c.pages.decoder c.pages.pages.items l
+    (c.walk_ends.ensures c.args.decoder.now c.pages.decoder l.listed.number l.listed.along over)
 
 -- ---- a chain without directories
 
 pub end_of_none-requires : goal.end_of_none-requires
 end_of_none-requires g c =
-    let f = found c.args.decoder.now c.seek_to_image.new.self c.seek_to_image.result c.walk_seeks.ensures c.in_ok-entered.ensures.1 c.seek_to_image.ensures.follows
+    let f =
+    found c.args.decoder.now c.seek_to_image.new.self c.seek_to_image.result c.walk_seeks.ensures c.in_ok-entered.ensures.1 c.seek_to_image.ensures.follows
     (sym c.ifd_pointer.ensures.0 ∙ none_by c.ifd_pointer.result c.is_none.result c.is_none.ensures c.if-is_none.true) in
     rw c.ifd_pointer.ensures.1 (still_none c.args.decoder.now c.seek_to_image.new.self f)
 
 pub returns-then-is_none-clause-pages : goal.returns-then-is_none-clause-pages
 returns-then-is_none-clause-pages g c =
-    let f = found c.args.decoder.now c.seek_to_image.new.self c.seek_to_image.result c.walk_seeks.ensures c.in_ok-entered.ensures.1 c.seek_to_image.ensures.follows
+    let f =
+    found c.args.decoder.now c.seek_to_image.new.self c.seek_to_image.result c.walk_seeks.ensures c.in_ok-entered.ensures.1 c.seek_to_image.ensures.follows
     (sym c.ifd_pointer.ensures.0 ∙ none_by c.ifd_pointer.result c.is_none.result c.is_none.ensures c.if-is_none.true) in
     lists_none c.args.decoder.now c.seek_to_image.new.self c.args.pages.now.items c.end_of_none.result f c.requires (rw c.ifd_pointer.ensures.1 at c.end_of_none.ensures.end)
 
 pub returns-then-is_none-clause-end : goal.returns-then-is_none-clause-end
 returns-then-is_none-clause-end g c =
-    let f = found c.args.decoder.now c.seek_to_image.new.self c.seek_to_image.result c.walk_seeks.ensures c.in_ok-entered.ensures.1 c.seek_to_image.ensures.follows
+    let f =
+    found c.args.decoder.now c.seek_to_image.new.self c.seek_to_image.result c.walk_seeks.ensures c.in_ok-entered.ensures.1 c.seek_to_image.ensures.follows
     (sym c.ifd_pointer.ensures.0 ∙ none_by c.ifd_pointer.result c.is_none.result c.is_none.ensures c.if-is_none.true) in
     stands_none c.args.decoder.now c.seek_to_image.new.self c.end_of_none.new.decoder c.end_of_none.result f (rw c.ifd_pointer.ensures.1 at c.end_of_none.ensures.past)
 
 pub returns-then-is_none-clause-way : goal.returns-then-is_none-clause-way
 returns-then-is_none-clause-way g c =
-    let f = found c.args.decoder.now c.seek_to_image.new.self c.seek_to_image.result c.walk_seeks.ensures c.in_ok-entered.ensures.1 c.seek_to_image.ensures.follows
+    let f =
+    found c.args.decoder.now c.seek_to_image.new.self c.seek_to_image.result c.walk_seeks.ensures c.in_ok-entered.ensures.1 c.seek_to_image.ensures.follows
     (sym c.ifd_pointer.ensures.0 ∙ none_by c.ifd_pointer.result c.is_none.result c.is_none.ensures c.if-is_none.true) in
     way_none c.args.decoder.now c.seek_to_image.new.self c.end_of_none.new.decoder c.end_of_none.result f (rw c.ifd_pointer.ensures.1 at c.end_of_none.ensures.back)

@@ -7,11 +7,15 @@ use Rattle.tiff_pages.proofs.pages.method_here.Goals.{in-Some+in_ok-number-in-So
 
 pub returns-in_err-value-clause-reads : goal.returns-in_err-value-clause-reads
 returns-in_err-value-clause-reads g c =
-    let refused = value_refused c.page_has_method.ensures c.args.decoder.now c.find_tag.new.self c.requires {X = CompressionMethod} c.in_err-value.field-0.0 c.in_err-value.ensures.read in search rules
+    let refused =
+    value_refused c.page_has_method.ensures c.args.decoder.now c.find_tag.new.self c.requires
+    {X = CompressionMethod} c.in_err-value.field-0.0 c.in_err-value.ensures.read in search rules
 
 pub returns-in_err-number-in-Some-clause-reads : goal.returns-in_err-number-in-Some-clause-reads
 returns-in_err-number-in-Some-clause-reads g c =
-    let refused = number_refused c.page_has_method.ensures c.args.decoder.now c.find_tag.new.self c.requires {X = CompressionMethod} c.in-Some.value c.in_err-number-in-Some.field-0.0
+    let refused =
+    number_refused c.page_has_method.ensures c.args.decoder.now c.find_tag.new.self c.requires
+    {X = CompressionMethod} c.in-Some.value c.in_err-number-in-Some.field-0.0
     (rw c.in-Some.is at c.in_ok-value.ensures.read) c.in_err-number-in-Some.ensures in search rules
 
 pub returns-clause-method : goal.returns-clause-method

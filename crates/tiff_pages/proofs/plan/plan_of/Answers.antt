@@ -8,5 +8,6 @@ pub returns-clause-plan : goal.returns-clause-plan
 unfolding plan_of
 returns-clause-plan c file limits e =
     let page = view.page c.args.page.now in
-    let value : plan_of c.args.kind c.args.order c.args.directory.now page ≡ Some c.plan_with-plan.result = search rules in
+    let value : plan_of c.args.kind c.args.order c.args.directory.now page
+    ≡ Some c.plan_with-plan.result = search rules in
     plan_is c.args.kind c.args.order file limits c.args.directory.now page c.plan_with-plan.result value c.is_page.ensures c.is_whole.ensures.offsets c.is_whole.ensures.byte_counts e

@@ -20,7 +20,9 @@ returns g c =
     let mine = c.inner.result.now.windows.seen in
     let same = c.with_limits-decoder.ensures in
     let none_failed = ap (λ (d : Decoding). d.failures) same ∙ c.in-Ok-open_seen.ensures.failures in
-    let readable = c.inner.ensures.readable ∙ c.check_shown-checked.ensures.readable ∙ ap (λ (d : Decoding). d.readable) same ∙ c.in-Ok-open_seen.ensures.readable in
+    let readable =
+    c.inner.ensures.readable ∙ c.check_shown-checked.ensures.readable
+    ∙ ap (λ (d : Decoding). d.readable) same ∙ c.in-Ok-open_seen.ensures.readable in
     unless_told (λ answer. AnswersWithoutSource (λ (check : PageCheck). check) answer (check_of file limits c.args.place.0)) c.args.seen.now.seen c.unless_wanted.result
     c.check_shown-checked.result c.wanted.result c.unless_wanted.ensures
     (λ none. check_seen file limits c.args.place.0 opened limited c.check_shown-checked.result limited.failures last.failures c.in-Ok-open_seen.ensures.answer

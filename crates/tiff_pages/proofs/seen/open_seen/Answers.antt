@@ -11,4 +11,6 @@ returns-clause-answer g c =
     (subst (λ s. ReadsOnly (HeaderReadable (seen_by s g.F.SeenFile.bytes)) c.open.result) c.new.ensures.seen c.open.ensures.asked) c.requires.header
 
 pub returns-clause-readable : goal.returns-clause-readable
-returns-clause-readable g c = subst (λ s. IfOk c.open.result (λ d. d.readable ≡ (seen_by s g.F.SeenFile.bytes).readable)) c.new.ensures.seen c.open.ensures.readable
+returns-clause-readable g c =
+    subst (λ s. IfOk c.open.result (λ d. d.readable
+    ≡ (seen_by s g.F.SeenFile.bytes).readable)) c.new.ensures.seen c.open.ensures.readable

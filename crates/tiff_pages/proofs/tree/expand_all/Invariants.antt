@@ -9,5 +9,6 @@ invariant-loop-item g l = record {
   can : (goal.iterator-loop-item g).can_next l.item-iterator;
   finite : (goal.iterator-loop-item g).is_finite l.item-iterator;
   shows : Shows {X = Unit {0}} (Ok tt) l.fn.decoder l.decoder;
-  rest : fold (expand l.fn.decoder l.depth) l.listing (into_iter_items l.item-iterator) ≡ fold (expand l.fn.decoder l.depth) l.fn.listing l.fn.items.items;
+  rest : fold (expand l.fn.decoder l.depth) l.listing (into_iter_items l.item-iterator)
+      ≡ fold (expand l.fn.decoder l.depth) l.fn.listing l.fn.items.items;
 }

@@ -13,30 +13,37 @@ told f = Ok f
 
 pub facts_here-requires : goal.facts_here-requires
 facts_here-requires g c =
-    let s = shown c.show_directory.result c.in_ok-file_answer.field-0 c.in-Ok.field-0 c.args.place c.args.decoder.now c.show_directory.new.self c.in_ok-file_answer.ensures c.in-Ok.is
+    let s =
+    shown c.show_directory.result c.in_ok-file_answer.field-0 c.in-Ok.field-0 c.args.place c.args.decoder.now c.show_directory.new.self c.in_ok-file_answer.ensures c.in-Ok.is
     c.show_directory.ensures.follows in
     s.page
 
 pub returns-in_err-facts_here-in-Ok-clause-shows : goal.returns-in_err-facts_here-in-Ok-clause-shows
 returns-in_err-facts_here-in-Ok-clause-shows g c =
-    let s = shown c.show_directory.result c.in_ok-file_answer.field-0 c.in-Ok.field-0 c.args.place c.args.decoder.now c.show_directory.new.self c.in_ok-file_answer.ensures c.in-Ok.is
+    let s =
+    shown c.show_directory.result c.in_ok-file_answer.field-0 c.in-Ok.field-0 c.args.place c.args.decoder.now c.show_directory.new.self c.in_ok-file_answer.ensures c.in-Ok.is
     c.show_directory.ensures.follows in
     let error : Facts = Err c.in_err-facts_here-in-Ok.field-0.0 in
-    let refused = only_reads error c.show_directory.new.self c.facts_here.new.decoder c.in_err-facts_here-in-Ok.ensures.reads in
-    let whole = err_again {Y = Facts} c.in_err-facts_here-in-Ok.field-0.0 c.args.decoder.now c.facts_here.new.decoder (then_shows tt error c.args.decoder.now c.show_directory.new.self c.facts_here.new.decoder s.shows refused) in
+    let refused =
+    only_reads error c.show_directory.new.self c.facts_here.new.decoder c.in_err-facts_here-in-Ok.ensures.reads in
+    let whole =
+    err_again {Y = Facts} c.in_err-facts_here-in-Ok.field-0.0 c.args.decoder.now c.facts_here.new.decoder (then_shows tt error c.args.decoder.now c.show_directory.new.self c.facts_here.new.decoder s.shows refused) in
     search rules
 
 pub returns-in_ok-facts_here-in-Ok-clause-shows : goal.returns-in_ok-facts_here-in-Ok-clause-shows
 returns-in_ok-facts_here-in-Ok-clause-shows g c =
-    let s = shown c.show_directory.result c.in_ok-file_answer.field-0 c.in-Ok.field-0 c.args.place c.args.decoder.now c.show_directory.new.self c.in_ok-file_answer.ensures c.in-Ok.is
+    let s =
+    shown c.show_directory.result c.in_ok-file_answer.field-0 c.in-Ok.field-0 c.args.place c.args.decoder.now c.show_directory.new.self c.in_ok-file_answer.ensures c.in-Ok.is
     c.show_directory.ensures.follows in
-    let read = only_reads (Ok c.in_ok-facts_here-in-Ok.field-0) c.show_directory.new.self c.facts_here.new.decoder c.in_ok-facts_here-in-Ok.ensures.reads in
+    let read =
+    only_reads (Ok c.in_ok-facts_here-in-Ok.field-0) c.show_directory.new.self c.facts_here.new.decoder c.in_ok-facts_here-in-Ok.ensures.reads in
     ok_again c.in_ok-facts_here-in-Ok.field-0 (Ok c.in_ok-facts_here-in-Ok.field-0) c.args.decoder.now c.facts_here.new.decoder
     (then_shows tt (Ok c.in_ok-facts_here-in-Ok.field-0) c.args.decoder.now c.show_directory.new.self c.facts_here.new.decoder s.shows read)
 
 pub returns-in_ok-facts_here-in-Ok-clause-facts : goal.returns-in_ok-facts_here-in-Ok-clause-facts
 returns-in_ok-facts_here-in-Ok-clause-facts g c =
-    let s = shown c.show_directory.result c.in_ok-file_answer.field-0 c.in-Ok.field-0 c.args.place c.args.decoder.now c.show_directory.new.self c.in_ok-file_answer.ensures c.in-Ok.is
+    let s =
+    shown c.show_directory.result c.in_ok-file_answer.field-0 c.in-Ok.field-0 c.args.place c.args.decoder.now c.show_directory.new.self c.in_ok-file_answer.ensures c.in-Ok.is
     c.show_directory.ensures.follows in
     ap told c.in_ok-facts_here-in-Ok.ensures.facts ∙ sym s.facts
 

@@ -7,7 +7,8 @@ use Rattle.tiff_rewrite.proofs.rewrite.rewrite_chunk.Goals as goal
 
 pub put_rows-requires-clause-read : goal.put_rows-requires-clause-read
 put_rows-requires-clause-read c =
-    tested_read (view.page c.args.reader.now.page.now) c.args.reader.now.limits.now (view.layout c.in_ok-layout.layout) c.args.index
+    tested_read (view.page c.args.reader.now.page.now) c.args.reader.now.limits.now
+    (view.layout c.in_ok-layout.layout) c.args.index
     c.chunk_data_dimensions-width.result.0 c.chunk_data_dimensions-width.result.1 _ c.args.reader.now.page.now.sampled c.in_ok-layout.ensures.laid c.in_ok-rewrite_fault.ensures
 
 pub put_rows-requires-clause-samples : goal.put_rows-requires-clause-samples

@@ -5,4 +5,5 @@ use Rattle.tiff_script.proofs.jobs.jobs_of.Given as goal
 
 abbrev pub invariant-loop-line : goal.invariant-loop-line
 invariant-loop-line l =
-    jobs_from l.number (lines_held l.list) (drop (length l.yielded) (lines l.text)) ≡ jobs_from 1 no_lines (lines l.text)
+    jobs_from l.number (lines_held l.list) (drop (length l.yielded) (lines l.text))
+    ≡ jobs_from 1 no_lines (lines l.text)

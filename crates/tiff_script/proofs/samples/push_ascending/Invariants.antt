@@ -7,4 +7,5 @@ abbrev pub invariant-loop-number : goal.invariant-loop-number
 invariant-loop-number l =
     let count = l.number - l.range.first in
     (l.range.first ≤ l.number) × (count ≤ l.range.last + 1 - l.range.first)
-    × (l.samples.items ≡ l.initial.samples.items ++ map (λ n. bit_xor n l.range.sign) (range_with_len l.range.first count))
+    × (l.samples.items ≡ l.initial.samples.items
+    ++ map (λ n. bit_xor n l.range.sign) (range_with_len l.range.first count))

@@ -8,5 +8,6 @@ use Rattle.tiff_script.proofs.samples.range_ends.Goals as goal
 pub returns-in_err-strip_prefix : goal.returns-in_err-strip_prefix
 unfolding range_ends
 returns-in_err-strip_prefix c =
-    let left = point_stripped c.in_ok-first.rest.now None (strip_prefix_char 46 c.in_ok-first.rest.now None c.in_err-strip_prefix.ensures.cases (lit< tt)) in
+    let left =
+    point_stripped c.in_ok-first.rest.now None (strip_prefix_char 46 c.in_ok-first.rest.now None c.in_err-strip_prefix.ensures.cases (lit< tt)) in
     grind (arith, common_steps)

@@ -11,18 +11,24 @@ use Rattle.tiff_script.proofs.words.list_of.Goals as goal
 
 pub loop-word-preserved : goal.loop-word-preserved
 loop-word-preserved g c =
-    let t = YieldsList-turn (YieldsList-from_str_split {s = c.into_iter-word-iterator.result} 32 c.args.words.now (lit< tt) (cc) (cc) (cc)) c.loop-word.yielded _ c.loop-word.yielded_by _ _ c.in-Some.word c.in-Some.is c.next.ensures.steps in
+    let t =
+    YieldsList-turn (YieldsList-from_str_split {s = c.into_iter-word-iterator.result} 32 c.args.words.now (lit< tt) (cc) (cc) (cc)) c.loop-word.yielded _ c.loop-word.yielded_by _ _ c.in-Some.word c.in-Some.is c.next.ensures.steps in
     rw (length_push c.loop-word.yielded c.in-Some.word) (stepped (with_items g.T.FromWord.meaning) _ _ _ _ _ _ t c.loop-word.invariant c.in_ok-push_items.ensures)
 
 pub returns-in_err-push_items : goal.returns-in_err-push_items
 returns-in_err-push_items g c =
-    let t = YieldsList-turn (YieldsList-from_str_split {s = c.into_iter-word-iterator.result} 32 c.args.words.now (lit< tt) (cc) (cc) (cc)) c.loop-word.yielded _ c.loop-word.yielded_by _ _ c.in-Some.word c.in-Some.is c.next.ensures.steps in
+    let t =
+    YieldsList-turn (YieldsList-from_str_split {s = c.into_iter-word-iterator.result} 32 c.args.words.now (lit< tt) (cc) (cc) (cc)) c.loop-word.yielded _ c.loop-word.yielded_by _ _ c.in-Some.word c.in-Some.is c.next.ensures.steps in
     let split = words_split c.args.words.now cc in
     let p = err_from_is_err_and c.from_residual.result c.from_residual.ensures.1 in
     rw (p.1, p.2) (passed_on {A = Unit {0}} {B = List g.row.T.Denot} {C = Vec g.row.T.Denot Global} {D = List g.row.T.Denot} (λ _. c.push_items.new.list.items) (λ list. list.items) (with_items g.T.FromWord.meaning c.loop-word.list.items c.in-Some.word.now) (items g.T.FromWord.meaning c.args.words.now) _ c.in_err-push_items.ensures (λ none. ap (λ ws. after_all (with_items g.T.FromWord.meaning) [] ws) split ∙ stopped (with_items g.T.FromWord.meaning) _ _ _ _ _ t c.loop-word.invariant none))
 
 pub returns : goal.returns
 returns g c =
-    let e = YieldsList-end (YieldsList-from_str_split {s = c.into_iter-word-iterator.result} 32 c.args.words.now (lit< tt) (cc) (cc) (cc)) c.loop-word.yielded _ c.loop-word.yielded_by _ _ c.in-None.is c.next.ensures.steps in
+    let e =
+    YieldsList-end (YieldsList-from_str_split {s = c.into_iter-word-iterator.result} 32 c.args.words.now (lit< tt) (cc) (cc) (cc)) c.loop-word.yielded _ c.loop-word.yielded_by _ _ c.in-None.is c.next.ensures.steps in
     let split = words_split c.args.words.now cc in
-    ap (λ ws. after_all (with_items g.T.FromWord.meaning) [] ws) split ∙ finished (with_items g.T.FromWord.meaning) c.loop-word.list.items (slice_split (λ b. b == space) c.args.words.now) (length c.loop-word.yielded) _ (omega (arith, e.1)) c.loop-word.invariant
+    ap (λ ws. after_all (with_items g.T.FromWord.meaning) [] ws) split
+    ∙ finished (with_items g.T.FromWord.meaning) c.loop-word.list.items
+    (slice_split (λ b. b == space) c.args.words.now) (length c.loop-word.yielded) _
+    (omega (arith, e.1)) c.loop-word.invariant

@@ -7,8 +7,10 @@ use Rattle.tiffpage_lib.proofs.command.planes_last.Goals as goal
 pub returns-clause-some : goal.returns-clause-some
 returns-clause-some c =
     let at : c.args.words.now ≡ c.in_ok-name.name.now ∷ c.in_ok-name.rest.now = search rules in
-    let then : c.in_ok-name.rest.now ≡ c.in_ok-count.count.now ∷ c.in_ok-count.rest.now = search rules in
-    let last : c.in_ok-count.rest.now ≡ c.in_ok-planes.planes.now ∷ c.in_ok-planes.rest.now = search rules in
+    let then : c.in_ok-name.rest.now ≡ c.in_ok-count.count.now
+    ∷ c.in_ok-count.rest.now = search rules in
+    let last : c.in_ok-count.rest.now ≡ c.in_ok-planes.planes.now
+    ∷ c.in_ok-planes.rest.now = search rules in
     let empty : c.is_empty.result ≡ true = search rules in
     let end = none_left c.in_ok-planes.rest.now (sym c.is_empty.ensures ∙ empty) in
     let named : string_bytes c.in_ok-name.name.now ≡ codes "--limit" = search rules in

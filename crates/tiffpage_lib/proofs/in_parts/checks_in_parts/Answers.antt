@@ -23,25 +23,34 @@ returns-in_err-check g c =
     let offset = c.page-item.result.place.0 in
     sees_refused g.F.Files.reads_part c.args.name c.args.len file c.from_residual-in_err-check.result
     (λ answer. AnswersWithoutSource (λ (check : PageCheck). check) answer (check_of file c.args.limits.now offset)) _ c.args.files.now c.loop-page.files
-    c.answer_by_parts-in-loop-page.new.files c.in_err-check.field-0.0 (check_refused c.args.limits.now file offset) c.loop-page.invariant c.in_err-check.ensures
+    c.answer_by_parts-in-loop-page.new.files c.in_err-check.field-0.0
+    (check_refused c.args.limits.now file offset) c.loop-page.invariant c.in_err-check.ensures
     c.from_residual-in_err-check.ensures.1
 
 pub returns-then-is_err : goal.returns-then-is_err
 returns-then-is_err g c =
     let file = g.S.SeenFile.bytes in
-    let may : Result PageCheck TiffError → Type 0 = λ answer. AnswersWithoutSource (λ (check : PageCheck). check) answer (check_of file c.args.limits.now c.page-item.result.place.0) in
+    let may : Result PageCheck TiffError → Type 0 =
+    λ answer. AnswersWithoutSource (λ (check : PageCheck). check) answer
+    (check_of file c.args.limits.now c.page-item.result.place.0) in
     let last = c.answer_by_parts-in-loop-page.new.files in
-    let one = saw_answer g.F.Files.reads_part c.args.name c.args.len file may c.loop-page.files last c.in_ok-check.check c.in_ok-check.ensures in
-    let both = saw_both g.F.Files.reads_part c.args.name c.args.len file c.args.files.now c.loop-page.files last c.loop-page.invariant one in
+    let one =
+    saw_answer g.F.Files.reads_part c.args.name c.args.len file may c.loop-page.files last c.in_ok-check.check c.in_ok-check.ensures in
+    let both =
+    saw_both g.F.Files.reads_part c.args.name c.args.len file c.args.files.now c.loop-page.files last c.loop-page.invariant one in
     inl (Err OutOfMemory, saw_if g.F.Files.reads_part c.args.name c.args.len file c.args.files.now last (λ h. tt) both, refl)
 
 pub loop-page-preserved : goal.loop-page-preserved
 loop-page-preserved g c =
     let file = g.S.SeenFile.bytes in
-    let may : Result PageCheck TiffError → Type 0 = λ answer. AnswersWithoutSource (λ (check : PageCheck). check) answer (check_of file c.args.limits.now c.page-item.result.place.0) in
+    let may : Result PageCheck TiffError → Type 0 =
+    λ answer. AnswersWithoutSource (λ (check : PageCheck). check) answer
+    (check_of file c.args.limits.now c.page-item.result.place.0) in
     let last = c.answer_by_parts-in-loop-page.new.files in
-    let one = saw_answer g.F.Files.reads_part c.args.name c.args.len file may c.loop-page.files last c.in_ok-check.check c.in_ok-check.ensures in
-    let both = saw_both g.F.Files.reads_part c.args.name c.args.len file c.args.files.now c.loop-page.files last c.loop-page.invariant one in
+    let one =
+    saw_answer g.F.Files.reads_part c.args.name c.args.len file may c.loop-page.files last c.in_ok-check.check c.in_ok-check.ensures in
+    let both =
+    saw_both g.F.Files.reads_part c.args.name c.args.len file c.args.files.now c.loop-page.files last c.loop-page.invariant one in
     saw_if g.F.Files.reads_part c.args.name c.args.len file c.args.files.now last
     (one_so_far c.args.limits.now file c.deref-page-items.result.now _ c.loop-page.page-index c.page-item.result c.in_ok-check.check c.loop-page.checks.items c.push.new.self.items
     c.loop-page-test.true c.page-item.is (pushed c.push.result c.is_err.result c.loop-page.checks.items c.push.new.self.items c.in_ok-check.check c.push.ensures.items c.is_err.ensures.value c.if-is_err.false))

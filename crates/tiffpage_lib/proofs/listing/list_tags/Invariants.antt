@@ -7,5 +7,6 @@ use Rattle.tiffpage_lib.proofs.listing.list_tags.Given as goal
 abbrev pub invariant-loop-number : goal.invariant-loop-number
 invariant-loop-number g l = record {
   between : Between l.fn.decoder (drop l.number-index l.numbers) (into_iter_items l.replies) l.decoder;
-  lines : after (string_bytes l.text) (lines l.fn.decoder (drop l.number-index l.numbers)) ≡ lines l.fn.decoder l.numbers;
+  lines : after (string_bytes l.text) (lines l.fn.decoder (drop l.number-index l.numbers))
+      ≡ lines l.fn.decoder l.numbers;
 }

@@ -9,10 +9,13 @@ use Rattle.tiffpage_lib.proofs.Visits.{pointer_visit}
 use Rattle.tiffpage_lib.proofs.listing.page_pointer.Goals as goal
 
 pub pointer_of-requires : goal.pointer_of-requires
-pointer_of-requires g c = pointer_second c.args.decoder.now c.replies_to_both.new.decoder (call.SeekToImage c.args.page) c.in_ok-seek.seek c.in_ok-seek.pointer c.in_ok-seek.ensures
+pointer_of-requires g c =
+    pointer_second c.args.decoder.now c.replies_to_both.new.decoder
+    (call.SeekToImage c.args.page) c.in_ok-seek.seek c.in_ok-seek.pointer c.in_ok-seek.ensures
 
 pub returns : goal.returns
 returns g c =
-    let P : Result (Option IfdPointer) TiffError → Type 0 = λ r. VisitsPage (λ p. p) page_pointer r c.args.page c.args.decoder.now c.replies_to_both.new.decoder in
+    let P : Result (Option IfdPointer) TiffError → Type 0 =
+    λ r. VisitsPage (λ p. p) page_pointer r c.args.page c.args.decoder.now c.replies_to_both.new.decoder in
     subst P (sym c.and.ensures)
     (pointer_visit c.args.decoder.now c.replies_to_both.new.decoder c.args.page c.in_ok-seek.seek c.in_ok-seek.pointer c.seek_result.result c.pointer_of.result c.in_ok-seek.ensures c.seek_result.ensures c.pointer_of.ensures)

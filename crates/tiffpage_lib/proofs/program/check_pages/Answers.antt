@@ -5,7 +5,9 @@ pub returns-in_err-len : goal.returns-in_err-len
 returns-in_err-len g c = stops _ _ _ _ _ _ c.in_err-len.ensures c.from_residual.ensures.1
 
 pub returns-in-Some : goal.returns-in-Some
-returns-in-Some g c = goes _ _ _ _ _ _ _ c.in_ok-len.ensures (rw (c.in-Some.is, ← c.limits_for-limits.ensures) c.check_in_parts.ensures)
+returns-in-Some g c =
+    goes _ _ _ _ _ _ _ c.in_ok-len.ensures (rw (c.in-Some.is, ← c.limits_for-limits.ensures) c.check_in_parts.ensures)
 
 pub returns-in-None : goal.returns-in-None
-returns-in-None g c = goes _ _ _ _ _ _ _ c.in_ok-len.ensures (rw (c.in-None.is, ← c.limits_for-limits.ensures) c.check_whole.ensures)
+returns-in-None g c =
+    goes _ _ _ _ _ _ _ c.in_ok-len.ensures (rw (c.in-None.is, ← c.limits_for-limits.ensures) c.check_whole.ensures)

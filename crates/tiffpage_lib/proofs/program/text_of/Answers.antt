@@ -9,5 +9,6 @@ slice_bounds-text-end c = grind (arith, common_steps, utf8_valid_len_le c.args.b
 
 pub returns-in-Ok : goal.returns-in-Ok
 returns-in-Ok c =
-    let same : string_bytes c.in-Ok.text ≡ c.args.bytes.items = ap (λ v. v.items) c.in-Ok.ensures.ok in
+    let same : string_bytes c.in-Ok.text ≡ c.args.bytes.items =
+    ap (λ v. v.items) c.in-Ok.ensures.ok in
     (same, subst IsUtf8 same (IsUtf8-string_bytes c.in-Ok.text))

@@ -8,7 +8,8 @@ use Rattle.tiffpage_lib.proofs.view.page_view.Goals as goal
 
 pub returns-in_err-seek_to_image : goal.returns-in_err-seek_to_image
 returns-in_err-seek_to_image g c =
-    let told = seek_refused {X = Vec ℕ Global} (λ (v : Vec ℕ Global). v.items) picture c.args.decoder.now c.seek_to_image.new.self c.args.page c.in_err-seek_to_image.field-0.0 c.in_err-seek_to_image.ensures.follows in
+    let told =
+    seek_refused {X = Vec ℕ Global} (λ (v : Vec ℕ Global). v.items) picture c.args.decoder.now c.seek_to_image.new.self c.args.page c.in_err-seek_to_image.field-0.0 c.in_err-seek_to_image.ensures.follows in
     search rules
 
 pub returns : goal.returns

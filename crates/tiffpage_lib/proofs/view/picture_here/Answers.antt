@@ -20,7 +20,9 @@ with_shape d shape = page_image d >>= drawn shape
 pub returns-in_err-shape : goal.returns-in_err-shape
 returns-in_err-shape g c =
     let d = c.args.decoder.now in
-    let told = read_refused {X = Shape} {X' = Vec ℕ Global} (λ s. s) (λ (v : Vec ℕ Global). v.items) (shape_here d) (with_shape d) c.in_err-shape.field-0.0 d c.shape_here.new.decoder c.in_err-shape.ensures in
+    let told =
+    read_refused {X = Shape} {X' = Vec ℕ Global} (λ s. s) (λ (v : Vec ℕ Global). v.items)
+    (shape_here d) (with_shape d) c.in_err-shape.field-0.0 d c.shape_here.new.decoder c.in_err-shape.ensures in
     search rules
 
 pub returns-in_err-samples : goal.returns-in_err-samples
@@ -28,8 +30,12 @@ returns-in_err-samples g c =
     let d = c.args.decoder.now in
     let mid = c.shape_here.new.decoder in
     let shape = c.in_ok-shape.shape in
-    let refused = read_refused {X = DecodingResult} {X' = Vec ℕ Global} decoded_as (λ (v : Vec ℕ Global). v.items) (page_image mid) (drawn shape) c.in_err-samples.field-0.0 mid c.samples_here.new.decoder c.in_err-samples.ensures in
-    let told = reads_more {X = Shape} {X' = Vec ℕ Global} (λ s. s) (λ (v : Vec ℕ Global). v.items) (shape_here d) with_shape shape (Err c.in_err-samples.field-0.0) d mid c.samples_here.new.decoder c.in_ok-shape.ensures refused in
+    let refused =
+    read_refused {X = DecodingResult} {X' = Vec ℕ Global} decoded_as
+    (λ (v : Vec ℕ Global). v.items) (page_image mid) (drawn shape) c.in_err-samples.field-0.0 mid c.samples_here.new.decoder c.in_err-samples.ensures in
+    let told =
+    reads_more {X = Shape} {X' = Vec ℕ Global} (λ s. s) (λ (v : Vec ℕ Global). v.items)
+    (shape_here d) with_shape shape (Err c.in_err-samples.field-0.0) d mid c.samples_here.new.decoder c.in_ok-shape.ensures refused in
     search rules
 
 pub returns : goal.returns
@@ -37,5 +43,8 @@ returns g c =
     let d = c.args.decoder.now in
     let mid = c.shape_here.new.decoder in
     let shape = c.in_ok-shape.shape in
-    let then = read_then {X = DecodingResult} {X' = Vec ℕ Global} decoded_as (λ (v : Vec ℕ Global). v.items) (page_image mid) (drawn shape) c.in_ok-samples.samples c.draw.result mid c.samples_here.new.decoder c.in_ok-samples.ensures c.draw.ensures in
-    reads_more {X = Shape} {X' = Vec ℕ Global} (λ s. s) (λ (v : Vec ℕ Global). v.items) (shape_here d) with_shape shape c.draw.result d mid c.samples_here.new.decoder c.in_ok-shape.ensures then
+    let then =
+    read_then {X = DecodingResult} {X' = Vec ℕ Global} decoded_as
+    (λ (v : Vec ℕ Global). v.items) (page_image mid) (drawn shape) c.in_ok-samples.samples c.draw.result mid c.samples_here.new.decoder c.in_ok-samples.ensures c.draw.ensures in
+    reads_more {X = Shape} {X' = Vec ℕ Global} (λ s. s) (λ (v : Vec ℕ Global). v.items)
+    (shape_here d) with_shape shape c.draw.result d mid c.samples_here.new.decoder c.in_ok-shape.ensures then

@@ -6,4 +6,5 @@ use Rattle.tiffpage_lib.proofs.view.samples_here.Goals as goal
 
 pub returns : goal.returns
 unfolding read_image
-returns g c = reads_page decoded_as (page_image c.args.decoder.now) c.read_image.result c.args.decoder.now c.read_image.new.self c.read_image.ensures.follows
+returns g c =
+    reads_page decoded_as (page_image c.args.decoder.now) c.read_image.result c.args.decoder.now c.read_image.new.self c.read_image.ensures.follows

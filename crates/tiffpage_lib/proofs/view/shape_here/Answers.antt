@@ -13,7 +13,8 @@ use Rattle.tiffpage_lib.proofs.view.shape_here.Goals as goal
 
 -- What follows the color and the layout.
 abbrev with_layout : ColorType → Decoding → BufferLayoutPreference → Result Shape TiffError
-with_layout color d layout = (outcome.dimensions d).answer >>= λ sides. shape_of sides color layout.planes
+with_layout color d layout =
+    (outcome.dimensions d).answer >>= λ sides. shape_of sides color layout.planes
 
 abbrev with_color : Decoding → ColorType → Result Shape TiffError
 with_color d color = (outcome.image_buffer_layout d).answer >>= with_layout color d
@@ -22,7 +23,9 @@ pub returns-in_err-color : goal.returns-in_err-color
 unfolding outcome.dimensions
 returns-in_err-color g c =
     let d = c.args.decoder.now in
-    let told = read_refused {X = ColorType} {X' = Shape} (λ c. c) (λ s. s) (outcome.colortype d).answer (with_color d) c.in_err-color.field-0.0 d c.color_here.new.decoder c.in_err-color.ensures in
+    let told =
+    read_refused {X = ColorType} {X' = Shape} (λ c. c) (λ s. s) (outcome.colortype d).answer
+    (with_color d) c.in_err-color.field-0.0 d c.color_here.new.decoder c.in_err-color.ensures in
     search rules
 
 pub returns-in_err-layout : goal.returns-in_err-layout
@@ -31,8 +34,11 @@ returns-in_err-layout g c =
     let d = c.args.decoder.now in
     let mid = c.color_here.new.decoder in
     let color = c.in_ok-color.color in
-    let refused = read_refused {X = BufferLayoutPreference} {X' = Shape} (λ l. l) (λ s. s) (outcome.image_buffer_layout mid).answer (with_layout color mid) c.in_err-layout.field-0.0 mid c.layout_here.new.decoder c.in_err-layout.ensures in
-    let told = reads_more {X = ColorType} {X' = Shape} (λ c. c) (λ s. s) (outcome.colortype d).answer with_color color (Err c.in_err-layout.field-0.0) d mid c.layout_here.new.decoder c.in_ok-color.ensures refused in
+    let refused =
+    read_refused {X = BufferLayoutPreference} {X' = Shape} (λ l. l) (λ s. s)
+    (outcome.image_buffer_layout mid).answer (with_layout color mid) c.in_err-layout.field-0.0 mid c.layout_here.new.decoder c.in_err-layout.ensures in
+    let told =
+    reads_more {X = ColorType} {X' = Shape} (λ c. c) (λ s. s) (outcome.colortype d).answer with_color color (Err c.in_err-layout.field-0.0) d mid c.layout_here.new.decoder c.in_ok-color.ensures refused in
     search rules
 
 pub returns-in_err-sides : goal.returns-in_err-sides
@@ -43,9 +49,15 @@ returns-in_err-sides g c =
     let last = c.layout_here.new.decoder in
     let color = c.in_ok-color.color in
     let layout = c.in_ok-layout.layout in
-    let refused = read_refused {X = ℕ × ℕ} {X' = Shape} (λ s. s) (λ s. s) (outcome.dimensions last).answer (λ sides. shape_of sides color layout.planes) c.in_err-sides.field-0.0 last c.sides_here.new.decoder c.in_err-sides.ensures in
-    let then = reads_more {X = BufferLayoutPreference} {X' = Shape} (λ l. l) (λ s. s) (outcome.image_buffer_layout mid).answer (with_layout color) layout (Err c.in_err-sides.field-0.0) mid last c.sides_here.new.decoder c.in_ok-layout.ensures refused in
-    let told = reads_more {X = ColorType} {X' = Shape} (λ c. c) (λ s. s) (outcome.colortype d).answer with_color color (Err c.in_err-sides.field-0.0) d mid c.sides_here.new.decoder c.in_ok-color.ensures then in
+    let refused =
+    read_refused {X = ℕ × ℕ} {X' = Shape} (λ s. s) (λ s. s) (outcome.dimensions last).answer
+    (λ sides. shape_of sides color layout.planes) c.in_err-sides.field-0.0 last c.sides_here.new.decoder c.in_err-sides.ensures in
+    let then =
+    reads_more {X = BufferLayoutPreference} {X' = Shape} (λ l. l) (λ s. s)
+    (outcome.image_buffer_layout mid).answer (with_layout color) layout
+    (Err c.in_err-sides.field-0.0) mid last c.sides_here.new.decoder c.in_ok-layout.ensures refused in
+    let told =
+    reads_more {X = ColorType} {X' = Shape} (λ c. c) (λ s. s) (outcome.colortype d).answer with_color color (Err c.in_err-sides.field-0.0) d mid c.sides_here.new.decoder c.in_ok-color.ensures then in
     search rules
 
 pub returns : goal.returns
@@ -56,6 +68,10 @@ returns g c =
     let last = c.layout_here.new.decoder in
     let color = c.in_ok-color.color in
     let layout = c.in_ok-layout.layout in
-    let whole = read_then {X = ℕ × ℕ} {X' = Shape} (λ s. s) (λ s. s) (outcome.dimensions last).answer (λ sides. shape_of sides color layout.planes) c.in_ok-sides.sides c.shape_of.result last c.sides_here.new.decoder c.in_ok-sides.ensures c.shape_of.ensures in
-    let then = reads_more {X = BufferLayoutPreference} {X' = Shape} (λ l. l) (λ s. s) (outcome.image_buffer_layout mid).answer (with_layout color) layout c.shape_of.result mid last c.sides_here.new.decoder c.in_ok-layout.ensures whole in
+    let whole =
+    read_then {X = ℕ × ℕ} {X' = Shape} (λ s. s) (λ s. s) (outcome.dimensions last).answer
+    (λ sides. shape_of sides color layout.planes) c.in_ok-sides.sides c.shape_of.result last c.sides_here.new.decoder c.in_ok-sides.ensures c.shape_of.ensures in
+    let then =
+    reads_more {X = BufferLayoutPreference} {X' = Shape} (λ l. l) (λ s. s)
+    (outcome.image_buffer_layout mid).answer (with_layout color) layout c.shape_of.result mid last c.sides_here.new.decoder c.in_ok-layout.ensures whole in
     reads_more {X = ColorType} {X' = Shape} (λ c. c) (λ s. s) (outcome.colortype d).answer with_color color c.shape_of.result d mid c.sides_here.new.decoder c.in_ok-color.ensures then

@@ -18,6 +18,7 @@ returns-then-at-len-clause-ok c =
 pub returns-then-bytes-len-clause-ok : goal.returns-then-bytes-len-clause-ok
 returns-then-bytes-len-clause-ok c =
     let s = c.args.self.now in
-    let short : length c.args.bytes.now ≤ length s.link.items = (let t = c.if-bytes-len.true in let l = c.len.ensures in omega (arith, t, l)) in
+    let short : length c.args.bytes.now ≤ length s.link.items =
+    (let t = c.if-bytes-len.true in let l = c.len.ensures in omega (arith, t, l)) in
     over_written s.file.now s.at s.link.items s.more.items c.args.at c.args.bytes.now c.overwrite_in-then-bytes-len.new.items.items s.within c.if-at-self.true
     short c.overwrite_in-then-bytes-len.ensures.bytes

@@ -6,7 +6,9 @@ use Rattle.tiff_base.proofs.directory.Directory.from_entries.Goals as goal
 use Rattle.tiff_base.specs.Field.{DirectoryRecord, Field}
 
 pub invariant_of-result : goal.invariant_of-result
-invariant_of-result c = (c.in_ok-last_of_each_tag.ensures.ascending, all_are _ c.in_ok-last_of_each_tag.ensures.each)
+invariant_of-result c =
+    (c.in_ok-last_of_each_tag.ensures.ascending, all_are _ c.in_ok-last_of_each_tag.ensures.each)
 
 pub returns : goal.returns
-returns c = ap {B = DirectoryRecord} (λ (m : FinMap nat_cmp Field). record { entries = m; next = None }) c.in_ok-last_of_each_tag.ensures.last
+returns c =
+    ap {B = DirectoryRecord} (λ (m : FinMap nat_cmp Field). record { entries = m; next = None }) c.in_ok-last_of_each_tag.ensures.last

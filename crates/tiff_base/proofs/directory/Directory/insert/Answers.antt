@@ -16,9 +16,11 @@ invariant_of-self-in-Continue-1 c =
     (insert_keeps c.args.tag c.args.entry c.self.inside.entries.items c.in-Err.at c.in-Err.ensures.absent (c.fits.ensures c.args.tag c.ranges.tag.fits) c.self.invariant)
 
 pub invariant_of-self-in_err-insert-in-Err : goal.invariant_of-self-in_err-insert-in-Err
-invariant_of-self-in_err-insert-in-Err c = subst {A = Pairs} (λ es. IsAscending es × Fit es) (sym c.in_err-insert-in-Err.ensures.items) c.self.invariant
+invariant_of-self-in_err-insert-in-Err c =
+    subst {A = Pairs} (λ es. IsAscending es × Fit es) (sym c.in_err-insert-in-Err.ensures.items) c.self.invariant
 
 pub returns-in_err-insert-in-Err-clause-there : goal.returns-in_err-insert-in-Err-clause-there
 returns-in_err-insert-in-Err-clause-there c =
-    λ e. absurd (false≢true (subst {A = DirectoryRecord} (λ d. false ≡ map.contains_key d.entries c.args.tag) c.self.view_is
+    λ e. absurd (false≢true (subst {A = DirectoryRecord} (λ d. false
+    ≡ map.contains_key d.entries c.args.tag) c.self.view_is
     (contains_in_gap c.args.tag c.self.inside.entries.items c.in-Err.at c.in-Err.ensures.absent) ∙ e))

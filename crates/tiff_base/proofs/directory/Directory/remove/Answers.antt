@@ -10,7 +10,8 @@ use Rattle.tiff_base.specs.Place.{IsAscending}
 
 pub invariant_of-self : goal.invariant_of-self
 invariant_of-self c =
-    subst {A = Pairs} (λ es. IsAscending es × Fit es) (sym c.remove.ensures.items) (remove_keeps c.self.inside.entries.items c.in-Ok.at c.self.invariant)
+    subst {A = Pairs} (λ es. IsAscending es × Fit es) (sym c.remove.ensures.items)
+    (remove_keeps c.self.inside.entries.items c.in-Ok.at c.self.invariant)
 
 pub returns-in-Err-clause-taken : goal.returns-in-Err-clause-taken
 returns-in-Err-clause-taken c =

@@ -5,9 +5,11 @@ use Rattle.tiff_base.proofs.windows.Windows.in_order.Goals as goal
 
 pub invariant_of-result : goal.invariant_of-result
 invariant_of-result c = record {
-  apart = apart_if c.args.self.now c.behind_windows.result c.behind_windows.ensures.end (ap is_some c.in-Some.is);
+  apart =
+      apart_if c.args.self.now c.behind_windows.result c.behind_windows.ensures.end (ap is_some c.in-Some.is);
 }
 
 pub returns-in-Some-clause-file : goal.returns-in-Some-clause-file
 returns-in-Some-clause-file c =
-    of_their_file_if c.args.self.now c.behind_windows.result c.behind_windows.ensures.end (ap is_some c.in-Some.is) c.behind_windows.ensures.octets
+    of_their_file_if c.args.self.now c.behind_windows.result c.behind_windows.ensures.end
+    (ap is_some c.in-Some.is) c.behind_windows.ensures.octets

@@ -12,12 +12,17 @@ use Rattle.tiff_decode.proofs.decoder.Decoder.bytes_in.Goals as goal
 pub returns-in_err-n-clause-answer : goal.returns-in_err-n-clause-answer
 returns-in_err-n-clause-answer g c =
     let s = c.self.inside in
-    let d : Decoding = decoding (g.R.Source.contents s.tags.source) s.tags.kind s.tags.order s.first (g.R.Source.failures s.tags.source) s.standing.pointer s.standing.more
+    let d : Decoding =
+    decoding (g.R.Source.contents s.tags.source) s.tags.kind s.tags.order s.first
+    (g.R.Source.failures s.tags.source) s.standing.pointer s.standing.more
     (view.page s.page) s.tags.directory s.offset s.tags.limits in
     let other = option_map (λ (x : Bor DirectoryRecord). x.now) c.args.other in
     let answered = err_from_is_err_and c.from_residual.result c.from_residual.ensures.1 in
-    let has = subst (λ (x : Decoding). find_entry (reader_of x other) c.args.tag ≡ Some c.in-Some.entry) (sym c.self.view_is) (sym c.in-Some.ensures) in
+    let has =
+    subst (λ (x : Decoding). find_entry (reader_of x other) c.args.tag
+    ≡ Some c.in-Some.entry) (sym c.self.view_is) (sym c.in-Some.ensures) in
     rw (answered.1, answered.2)
-    (subst (λ (x : Decoding). IsCause ⊥ (x.failures < g.R.Source.failures c.read_part.new.source) c.in_err-n.field-0.0
+    (subst (λ (x : Decoding). IsCause ⊥ (x.failures
+    < g.R.Source.failures c.read_part.new.source) c.in_err-n.field-0.0
     ((find_tag_bytes (reader_of x other) c.args.tag c.args.buf.now c.args.at).answer ≡ Err c.in_err-n.field-0.0)) c.self.view_is
     (part_refused (reader_of d other) c.args.tag c.args.buf.now c.args.at _ c.in-Some.entry c.in_err-n.field-0.0 has c.in_err-n.ensures.answer))

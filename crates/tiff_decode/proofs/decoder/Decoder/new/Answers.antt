@@ -10,28 +10,38 @@ use Rattle.tiff_decode.proofs.decoder.Decoder.new.Goals as goal
 
 pub returns-in_err-header-clause-answer : goal.returns-in_err-header-clause-answer
 returns-in_err-header-clause-answer g c =
-    let told = begun_unread _ (FailsFrom g.R.Source.contents g.R.Source.failures c.args.source) (g.R.Source.contents c.args.source).bytes (g.R.Source.failures c.args.source) c.in_err-header.field-0.0
+    let told =
+    begun_unread _ (FailsFrom g.R.Source.contents g.R.Source.failures c.args.source)
+    (g.R.Source.contents c.args.source).bytes (g.R.Source.failures c.args.source) c.in_err-header.field-0.0
     (λ grew. record { last = c.read_first_directory.new.source; contents = c.in_err-header.ensures.kept.contents; grew = grew })
     c.in_err-header.ensures.answer in search rules
 
 pub returns-in_err-page-clause-answer : goal.returns-in_err-page-clause-answer
 returns-in_err-page-clause-answer g c =
-    let header : Header = record { order = c.in_ok-header.header.order; kind = c.in_ok-header.header.kind; first = c.in_ok-header.header.first } in
-    let told = begun_unpaged _ _ (FailsFrom g.R.Source.contents g.R.Source.failures c.args.source) (g.R.Source.contents c.args.source).bytes _ _ (g.R.Source.failures c.args.source) header header.first c.in_ok-header.directory c.in_err-page.field-0.0
+    let header : Header =
+    record { order = c.in_ok-header.header.order; kind = c.in_ok-header.header.kind; first = c.in_ok-header.header.first } in
+    let told =
+    begun_unpaged _ _ (FailsFrom g.R.Source.contents g.R.Source.failures c.args.source)
+    (g.R.Source.contents c.args.source).bytes _ _ (g.R.Source.failures c.args.source) header header.first c.in_ok-header.directory c.in_err-page.field-0.0
     (λ grew. record {
       last = c.read_page.new.tags.source;
-      contents = ap (λ t. t.source) c.in_err-page.ensures.kept.contents ∙ c.in_ok-header.ensures.kept.contents;
+      contents =
+          ap (λ t. t.source) c.in_err-page.ensures.kept.contents
+          ∙ c.in_ok-header.ensures.kept.contents;
       grew = omega (arith, c.in_ok-header.ensures.kept.failures, grew);
     })
     (same_bytes c.in_ok-header.ensures.kept.contents) c.default.ensures c.in_ok-header.ensures.answer c.in_err-page.ensures.answer in search rules
 
 pub returns-clause-answer : goal.returns-clause-answer
 returns-clause-answer g c =
-    let header : Header = record { order = c.in_ok-header.header.order; kind = c.in_ok-header.header.kind; first = c.in_ok-header.header.first } in
+    let header : Header =
+    record { order = c.in_ok-header.header.order; kind = c.in_ok-header.header.kind; first = c.in_ok-header.header.first } in
     begun_page (g.R.Source.contents c.args.source).bytes _ _ _ header header.first c.in_ok-header.directory (view.page c.in_ok-page.page)
     (same_bytes c.in_ok-header.ensures.kept.contents) c.default.ensures c.in_ok-header.ensures.answer c.in_ok-page.ensures.answer
     ∙ (λ i. Ok (record {
-      bytes = (same_bytes (sym c.in_ok-header.ensures.kept.contents ∙ ap (λ t. t.source) (sym c.in_ok-page.ensures.kept.contents))) i;
+      bytes =
+          (same_bytes (sym c.in_ok-header.ensures.kept.contents
+          ∙ ap (λ t. t.source) (sym c.in_ok-page.ensures.kept.contents))) i;
       readable = None;
       kind = (ap (λ t. t.kind) (sym c.in_ok-page.ensures.kept.contents)) i;
       order = (ap (λ t. t.order) (sym c.in_ok-page.ensures.kept.contents)) i;
@@ -43,13 +53,16 @@ returns-clause-answer g c =
         page = view.page c.in_ok-page.page;
         directory = (ap (λ t. t.directory) (sym c.in_ok-page.ensures.kept.contents)) i;
         offset = (sym c.header_end.ensures) i;
-        limits = (sym c.default.ensures ∙ ap (λ t. t.limits) (sym c.in_ok-page.ensures.kept.contents)) i;
+        limits =
+            (sym c.default.ensures ∙ ap (λ t. t.limits) (sym c.in_ok-page.ensures.kept.contents)) i;
       };
     }))
 
 pub returns-in_err-page-clause-asked : goal.returns-in_err-page-clause-asked
 returns-in_err-page-clause-asked g c =
-    let header : Header = record { order = c.in_ok-header.header.order; kind = c.in_ok-header.header.kind; first = c.in_ok-header.header.first } in
-    let answered = err_from_is_err_and c.from_residual-in_err-page.result c.from_residual-in_err-page.ensures.1 in
+    let header : Header =
+    record { order = c.in_ok-header.header.order; kind = c.in_ok-header.header.kind; first = c.in_ok-header.header.first } in
+    let answered =
+    err_from_is_err_and c.from_residual-in_err-page.result c.from_residual-in_err-page.ensures.1 in
     rw (answered.1, answered.2) (opened_page (g.R.Source.contents c.args.source) (g.R.Source.contents c.read_first_directory.new.source) header c.in_ok-header.directory c.in_err-page.field-0.0
     c.in_ok-header.ensures.kept.contents c.in_ok-header.ensures.answer c.in_err-page.ensures.asked)

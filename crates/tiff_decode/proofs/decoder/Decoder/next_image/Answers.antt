@@ -9,7 +9,9 @@ use Rattle.tiff_decode.proofs.decoder.Decoder.next_image.Goals as goal
 pub returns-in-Some-clause-follows : goal.returns-in-Some-clause-follows
 returns-in-Some-clause-follows g c =
     let s = c.self.inside in
-    let d : Decoding = decoding (g.R.Source.contents s.tags.source) s.tags.kind s.tags.order s.first (g.R.Source.failures s.tags.source) s.standing.pointer s.standing.more
+    let d : Decoding =
+    decoding (g.R.Source.contents s.tags.source) s.tags.kind s.tags.order s.first
+    (g.R.Source.failures s.tags.source) s.standing.pointer s.standing.more
     (view.page s.page) s.tags.directory s.offset s.tags.limits in
     shown_open c.enter_offset.result d _ _ c.self.view_is (cc)
     (next_known c.enter_offset.result d _ s.walk s.standing.at c.following-at.result c.in-Some.offset c.self.invariant (cc) c.following-at.ensures.number
@@ -18,9 +20,12 @@ returns-in-Some-clause-follows g c =
 pub returns-in-Ok-Some-clause-follows : goal.returns-in-Ok-Some-clause-follows
 returns-in-Ok-Some-clause-follows g c =
     let s = c.self.inside in
-    let d : Decoding = decoding (g.R.Source.contents s.tags.source) s.tags.kind s.tags.order s.first (g.R.Source.failures s.tags.source) s.standing.pointer s.standing.more
+    let d : Decoding =
+    decoding (g.R.Source.contents s.tags.source) s.tags.kind s.tags.order s.first
+    (g.R.Source.failures s.tags.source) s.standing.pointer s.standing.more
     (view.page s.page) s.tags.directory s.offset s.tags.limits in
-    let mid : Decoding = record d { bytes = (g.R.Source.contents c.enter_behind.new.source).bytes; readable = (g.R.Source.contents c.enter_behind.new.source).readable; failures = g.R.Source.failures c.enter_behind.new.source } in
+    let mid : Decoding =
+    record d { bytes = (g.R.Source.contents c.enter_behind.new.source).bytes; readable = (g.R.Source.contents c.enter_behind.new.source).readable; failures = g.R.Source.failures c.enter_behind.new.source } in
     let e = rw c.in-Ok-Some.field-0-is at c.in-Ok-Some.ensures.entered in
     shown_open c.enter_directory.result d _ _ c.self.view_is (cc)
     (next_read c.enter_directory.result d mid _ s.walk c.enter_behind.new.walk s.standing.at c.following-at.result c.in-Ok-Some.offset c.in-Ok-Some.directory
@@ -32,20 +37,25 @@ returns-in-Ok-Some-clause-follows g c =
 pub returns-in-Ok-None-clause-follows : goal.returns-in-Ok-None-clause-follows
 returns-in-Ok-None-clause-follows g c =
     let s = c.self.inside in
-    let d : Decoding = decoding (g.R.Source.contents s.tags.source) s.tags.kind s.tags.order s.first (g.R.Source.failures s.tags.source) s.standing.pointer s.standing.more
+    let d : Decoding =
+    decoding (g.R.Source.contents s.tags.source) s.tags.kind s.tags.order s.first
+    (g.R.Source.failures s.tags.source) s.standing.pointer s.standing.more
     (view.page s.page) s.tags.directory s.offset s.tags.limits in
     let e = rw c.in-Ok-None.field-0-is at c.in-Ok-None.ensures.end in
     shown_open (Err c.into-in-Ok-None.result) d _ _ c.self.view_is (cc)
     (none_found c.into-in-Ok-None.result (next_image d) (record d.state { more = false }) d _ c.into-in-Ok-None.ensures
     (next_closed d s.walk s.standing.at c.following-at.result None c.self.invariant (cc) c.following-at.ensures.number
-    (past_end s.walk.offsets c.following-at.result (sym c.get-known.ensures ∙ none_of c.get-known.result c.in_default.not-Some))
+    (past_end s.walk.offsets c.following-at.result (sym c.get-known.ensures
+    ∙ none_of c.get-known.result c.in_default.not-Some))
     (e.1 s.first c.self.invariant.begins))
     (stands_told (record d.state { more = false }) d _ _ c.enter_behind.ensures.kept.contents c.in-Ok-None.ensures.kept.swallowed))
 
 pub returns-then-keeps_state-clause-follows : goal.returns-then-keeps_state-clause-follows
 returns-then-keeps_state-clause-follows g c =
     let s = c.self.inside in
-    let d : Decoding = decoding (g.R.Source.contents s.tags.source) s.tags.kind s.tags.order s.first (g.R.Source.failures s.tags.source) s.standing.pointer s.standing.more
+    let d : Decoding =
+    decoding (g.R.Source.contents s.tags.source) s.tags.kind s.tags.order s.first
+    (g.R.Source.failures s.tags.source) s.standing.pointer s.standing.more
     (view.page s.page) s.tags.directory s.offset s.tags.limits in
     shown_open (Err c.in-Err.fault) d _ _ c.self.view_is (cc)
     (stays_refused _ c.in-Err.fault (next_image d) d (g.R.Source.contents c.enter_behind.new.source) _ (sym c.keeps_state.ensures ∙ c.if-keeps_state.true)
@@ -54,12 +64,15 @@ returns-then-keeps_state-clause-follows g c =
 pub returns-in-Err-clause-follows : goal.returns-in-Err-clause-follows
 returns-in-Err-clause-follows g c =
     let s = c.self.inside in
-    let d : Decoding = decoding (g.R.Source.contents s.tags.source) s.tags.kind s.tags.order s.first (g.R.Source.failures s.tags.source) s.standing.pointer s.standing.more
+    let d : Decoding =
+    decoding (g.R.Source.contents s.tags.source) s.tags.kind s.tags.order s.first
+    (g.R.Source.failures s.tags.source) s.standing.pointer s.standing.more
     (view.page s.page) s.tags.directory s.offset s.tags.limits in
     shown_open (Err c.in-Err.fault) d _ _ c.self.view_is (cc)
     (answered _ _ _ c.in-Err.fault (next_image d) (record d.state { more = false }) d _ (sym c.keeps_state.ensures ∙ c.if-keeps_state.false) c.in-Err.ensures.cut
     (λ ends. next_closed d s.walk s.standing.at c.following-at.result (Some c.in-Err.fault) c.self.invariant (cc) c.following-at.ensures.number
-    (past_end s.walk.offsets c.following-at.result (sym c.get-known.ensures ∙ none_of c.get-known.result c.in_default.not-Some))
+    (past_end s.walk.offsets c.following-at.result (sym c.get-known.ensures
+    ∙ none_of c.get-known.result c.in_default.not-Some))
     (ends s.first c.self.invariant.begins))
     (stands_told (record d.state { more = false }) d _ _ c.enter_behind.ensures.kept.contents
     (unfailed c.in-Err.fault _ _ (sym c.keeps_state.ensures ∙ c.if-keeps_state.false) c.in-Err.ensures.kept.swallowed)))
@@ -69,7 +82,9 @@ returns-in-Err-clause-follows g c =
 pub returns-in-Some-clause-asked : goal.returns-in-Some-clause-asked
 returns-in-Some-clause-asked g c =
     let s = c.self.inside in
-    let d : Decoding = decoding (g.R.Source.contents s.tags.source) s.tags.kind s.tags.order s.first (g.R.Source.failures s.tags.source) s.standing.pointer s.standing.more
+    let d : Decoding =
+    decoding (g.R.Source.contents s.tags.source) s.tags.kind s.tags.order s.first
+    (g.R.Source.failures s.tags.source) s.standing.pointer s.standing.more
     (view.page s.page) s.tags.directory s.offset s.tags.limits in
     next_entry d _ (g.R.Source.contents s.tags.source) c.in-Some.offset c.enter_offset.result c.self.view_is refl
     (offset_behind d s.walk s.walk s.standing.at c.following-at.result c.in-Some.offset c.self.invariant (cc) c.following-at.ensures.number c.self.invariant.begins
@@ -78,7 +93,9 @@ returns-in-Some-clause-asked g c =
 pub returns-in-Ok-Some-clause-asked : goal.returns-in-Ok-Some-clause-asked
 returns-in-Ok-Some-clause-asked g c =
     let s = c.self.inside in
-    let d : Decoding = decoding (g.R.Source.contents s.tags.source) s.tags.kind s.tags.order s.first (g.R.Source.failures s.tags.source) s.standing.pointer s.standing.more
+    let d : Decoding =
+    decoding (g.R.Source.contents s.tags.source) s.tags.kind s.tags.order s.first
+    (g.R.Source.failures s.tags.source) s.standing.pointer s.standing.more
     (view.page s.page) s.tags.directory s.offset s.tags.limits in
     let e = rw c.in-Ok-Some.field-0-is at c.in-Ok-Some.ensures.entered in
     next_entry d _ (g.R.Source.contents s.tags.source) c.in-Ok-Some.offset c.enter_directory.result c.self.view_is refl
@@ -92,7 +109,9 @@ returns-in-Ok-Some-clause-asked g c =
 pub returns-then-keeps_state-clause-asked : goal.returns-then-keeps_state-clause-asked
 returns-then-keeps_state-clause-asked g c =
     let s = c.self.inside in
-    let d : Decoding = decoding (g.R.Source.contents s.tags.source) s.tags.kind s.tags.order s.first (g.R.Source.failures s.tags.source) s.standing.pointer s.standing.more
+    let d : Decoding =
+    decoding (g.R.Source.contents s.tags.source) s.tags.kind s.tags.order s.first
+    (g.R.Source.failures s.tags.source) s.standing.pointer s.standing.more
     (view.page s.page) s.tags.directory s.offset s.tags.limits in
     next_behind d _ (g.R.Source.contents s.tags.source) s.walk c.in-Err.fault c.self.view_is refl c.self.invariant.begins
     (last_is s.walk.offsets s.standing.pointer s.standing.at c.following-at.result c.self.invariant.stands c.following-at.ensures.number
@@ -101,7 +120,9 @@ returns-then-keeps_state-clause-asked g c =
 pub returns-in-Err-clause-asked : goal.returns-in-Err-clause-asked
 returns-in-Err-clause-asked g c =
     let s = c.self.inside in
-    let d : Decoding = decoding (g.R.Source.contents s.tags.source) s.tags.kind s.tags.order s.first (g.R.Source.failures s.tags.source) s.standing.pointer s.standing.more
+    let d : Decoding =
+    decoding (g.R.Source.contents s.tags.source) s.tags.kind s.tags.order s.first
+    (g.R.Source.failures s.tags.source) s.standing.pointer s.standing.more
     (view.page s.page) s.tags.directory s.offset s.tags.limits in
     next_behind d _ (g.R.Source.contents s.tags.source) s.walk c.in-Err.fault c.self.view_is refl c.self.invariant.begins
     (last_is s.walk.offsets s.standing.pointer s.standing.at c.following-at.result c.self.invariant.stands c.following-at.ensures.number

@@ -8,7 +8,8 @@ use Rattle.tiff_decode.proofs.decoder.Decoder.next_item.Goals as goal
 pub returns-in_default-clause-item : goal.returns-in_default-clause-item
 returns-in_default-clause-item g c =
     let d : Decoding = reader_of c.args.self.now (option_map (λ d. d.now) c.args.other) in
-    let none : items_left d c.args.last.now ≡ [] = at_end d c.args.last.now c.chosen.result.now (search rules) c.in_default.ensures in
+    let none : items_left d c.args.last.now ≡ [] =
+    at_end d c.args.last.now c.chosen.result.now (search rules) c.in_default.ensures in
     (none, none, search rules)
 
 pub returns-clause-item : goal.returns-clause-item

@@ -7,13 +7,16 @@ use Rattle.tiff_decode.proofs.decoder.Decoder.open.Goals as goal
 
 pub returns-in_err-header-clause-answer : goal.returns-in_err-header-clause-answer
 returns-in_err-header-clause-answer g c =
-    let told = opened_unread _ (FailsFrom g.R.Source.contents g.R.Source.failures c.args.source) (g.R.Source.contents c.args.source).bytes (g.R.Source.failures c.args.source) c.in_err-header.field-0.0
+    let told =
+    opened_unread _ (FailsFrom g.R.Source.contents g.R.Source.failures c.args.source)
+    (g.R.Source.contents c.args.source).bytes (g.R.Source.failures c.args.source) c.in_err-header.field-0.0
     (λ grew. record { last = c.read_header.new.source; contents = c.in_err-header.ensures.kept.contents; grew = grew })
     c.in_err-header.ensures.answer in search rules
 
 pub returns-clause-answer : goal.returns-clause-answer
 returns-clause-answer g c =
-    let header : Header = record { order = c.in_ok-header.header.order; kind = c.in_ok-header.header.kind; first = c.in_ok-header.header.first } in
+    let header : Header =
+    record { order = c.in_ok-header.header.order; kind = c.in_ok-header.header.kind; first = c.in_ok-header.header.first } in
     opened_header (g.R.Source.contents c.args.source).bytes (g.R.Source.failures c.args.source) header c.in_ok-header.ensures.answer
     ∙ (λ i. Ok (record {
       bytes = (same_bytes (sym c.in_ok-header.ensures.kept.contents)) i;

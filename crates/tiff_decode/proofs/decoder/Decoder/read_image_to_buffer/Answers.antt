@@ -9,8 +9,11 @@ use Rattle.tiff_decode.proofs.decoder.Decoder.read_image_to_buffer.Goals as goal
 pub returns-in_err-layout-clause-asked : goal.returns-in_err-layout-clause-asked
 returns-in_err-layout-clause-asked g c =
     let s = c.self.inside in
-    let d : Decoding = decoding (g.R.Source.contents s.tags.source) s.tags.kind s.tags.order s.first (g.R.Source.failures s.tags.source) s.standing.pointer s.standing.more
+    let d : Decoding =
+    decoding (g.R.Source.contents s.tags.source) s.tags.kind s.tags.order s.first
+    (g.R.Source.failures s.tags.source) s.standing.pointer s.standing.more
     (view.page s.page) s.tags.directory s.offset s.tags.limits in
-    let P : Decoding → Type 0 = λ x. ImageReadable (source_of x) x.state.page (λ l. planes_within x.state.page x.state.limits l) in
+    let P : Decoding → Type 0 =
+    λ x. ImageReadable (source_of x) x.state.page (λ l. planes_within x.state.page x.state.limits l) in
     let answered = err_from_is_err_and c.from_residual.result c.from_residual.ensures.1 in
     rw (answered.1, answered.2) (asked_of P d _ c.in_err-layout.field-0.0 c.self.view_is c.in_err-layout.ensures.asked)

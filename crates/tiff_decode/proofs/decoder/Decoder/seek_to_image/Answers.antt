@@ -47,9 +47,12 @@ invariant_of-self-in-Err g c =
 pub returns-in-Ok-Some-clause-follows : goal.returns-in-Ok-Some-clause-follows
 returns-in-Ok-Some-clause-follows g c =
     let s = c.self.inside in
-    let d : Decoding = decoding (g.R.Source.contents s.tags.source) s.tags.kind s.tags.order s.first (g.R.Source.failures s.tags.source) s.standing.pointer s.standing.more
+    let d : Decoding =
+    decoding (g.R.Source.contents s.tags.source) s.tags.kind s.tags.order s.first
+    (g.R.Source.failures s.tags.source) s.standing.pointer s.standing.more
     (view.page s.page) s.tags.directory s.offset s.tags.limits in
-    let mid : Decoding = record d { bytes = (g.R.Source.contents c.offset_of.new.source).bytes; readable = (g.R.Source.contents c.offset_of.new.source).readable; failures = g.R.Source.failures c.offset_of.new.source } in
+    let mid : Decoding =
+    record d { bytes = (g.R.Source.contents c.offset_of.new.source).bytes; readable = (g.R.Source.contents c.offset_of.new.source).readable; failures = g.R.Source.failures c.offset_of.new.source } in
     let h = rw c.in-Ok-Some.field-0-is at c.in-Ok-Some.ensures.offset in
     shown (λ x. seek_to_image x c.args.ifd_index) c.enter_offset.result d _ _ c.self.view_is
     (seek_known c.enter_offset.result d mid _ c.args.ifd_index c.in-Ok-Some.offset (h s.first c.self.invariant.begins)
@@ -58,7 +61,9 @@ returns-in-Ok-Some-clause-follows g c =
 pub returns-in-Ok-None-clause-follows : goal.returns-in-Ok-None-clause-follows
 returns-in-Ok-None-clause-follows g c =
     let s = c.self.inside in
-    let d : Decoding = decoding (g.R.Source.contents s.tags.source) s.tags.kind s.tags.order s.first (g.R.Source.failures s.tags.source) s.standing.pointer s.standing.more
+    let d : Decoding =
+    decoding (g.R.Source.contents s.tags.source) s.tags.kind s.tags.order s.first
+    (g.R.Source.failures s.tags.source) s.standing.pointer s.standing.more
     (view.page s.page) s.tags.directory s.offset s.tags.limits in
     let past = c.past-self-inside in
     let next : State = record d.state { pointer = past.result.pointer; more = past.result.more } in
@@ -73,7 +78,9 @@ returns-in-Ok-None-clause-follows g c =
 pub returns-then-keeps_state-clause-follows : goal.returns-then-keeps_state-clause-follows
 returns-then-keeps_state-clause-follows g c =
     let s = c.self.inside in
-    let d : Decoding = decoding (g.R.Source.contents s.tags.source) s.tags.kind s.tags.order s.first (g.R.Source.failures s.tags.source) s.standing.pointer s.standing.more
+    let d : Decoding =
+    decoding (g.R.Source.contents s.tags.source) s.tags.kind s.tags.order s.first
+    (g.R.Source.failures s.tags.source) s.standing.pointer s.standing.more
     (view.page s.page) s.tags.directory s.offset s.tags.limits in
     shown (λ x. seek_to_image x c.args.ifd_index) (Err c.in-Err.fault) d _ _ c.self.view_is
     (stays_refused _ c.in-Err.fault (seek_to_image d c.args.ifd_index) d (g.R.Source.contents c.offset_of.new.source) _ (sym c.keeps_state.ensures ∙ c.if-keeps_state.true)
@@ -82,7 +89,9 @@ returns-then-keeps_state-clause-follows g c =
 pub returns-in-Err-clause-follows : goal.returns-in-Err-clause-follows
 returns-in-Err-clause-follows g c =
     let s = c.self.inside in
-    let d : Decoding = decoding (g.R.Source.contents s.tags.source) s.tags.kind s.tags.order s.first (g.R.Source.failures s.tags.source) s.standing.pointer s.standing.more
+    let d : Decoding =
+    decoding (g.R.Source.contents s.tags.source) s.tags.kind s.tags.order s.first
+    (g.R.Source.failures s.tags.source) s.standing.pointer s.standing.more
     (view.page s.page) s.tags.directory s.offset s.tags.limits in
     let past = c.past-self-inside-in-Err in
     let next : State = record d.state { pointer = past.result.pointer; more = past.result.more } in
@@ -97,7 +106,9 @@ returns-in-Err-clause-follows g c =
 pub returns-in-Ok-Some-clause-asked : goal.returns-in-Ok-Some-clause-asked
 returns-in-Ok-Some-clause-asked g c =
     let s = c.self.inside in
-    let d : Decoding = decoding (g.R.Source.contents s.tags.source) s.tags.kind s.tags.order s.first (g.R.Source.failures s.tags.source) s.standing.pointer s.standing.more
+    let d : Decoding =
+    decoding (g.R.Source.contents s.tags.source) s.tags.kind s.tags.order s.first
+    (g.R.Source.failures s.tags.source) s.standing.pointer s.standing.more
     (view.page s.page) s.tags.directory s.offset s.tags.limits in
     let h = rw c.in-Ok-Some.field-0-is at c.in-Ok-Some.ensures.offset in
     sought_entry d _ (g.R.Source.contents c.offset_of.new.source) c.args.ifd_index c.in-Ok-Some.offset c.enter_offset.result c.self.view_is c.offset_of.ensures.kept.contents
@@ -106,9 +117,12 @@ returns-in-Ok-Some-clause-asked g c =
 pub returns-then-keeps_state-clause-asked : goal.returns-then-keeps_state-clause-asked
 returns-then-keeps_state-clause-asked g c =
     let s = c.self.inside in
-    let d : Decoding = decoding (g.R.Source.contents s.tags.source) s.tags.kind s.tags.order s.first (g.R.Source.failures s.tags.source) s.standing.pointer s.standing.more
+    let d : Decoding =
+    decoding (g.R.Source.contents s.tags.source) s.tags.kind s.tags.order s.first
+    (g.R.Source.failures s.tags.source) s.standing.pointer s.standing.more
     (view.page s.page) s.tags.directory s.offset s.tags.limits in
-    sought_way d _ c.args.ifd_index c.in-Err.fault c.self.view_is (c.in-Err.ensures.asked s.first c.self.invariant.begins)
+    sought_way d _ c.args.ifd_index c.in-Err.fault c.self.view_is
+    (c.in-Err.ensures.asked s.first c.self.invariant.begins)
 
 pub returns-in-Ok-None-clause-asked : goal.returns-in-Ok-None-clause-asked
 returns-in-Ok-None-clause-asked g c = none_asks c.into.result c.into.ensures
@@ -116,6 +130,8 @@ returns-in-Ok-None-clause-asked g c = none_asks c.into.result c.into.ensures
 pub returns-in-Err-clause-asked : goal.returns-in-Err-clause-asked
 returns-in-Err-clause-asked g c =
     let s = c.self.inside in
-    let d : Decoding = decoding (g.R.Source.contents s.tags.source) s.tags.kind s.tags.order s.first (g.R.Source.failures s.tags.source) s.standing.pointer s.standing.more
+    let d : Decoding =
+    decoding (g.R.Source.contents s.tags.source) s.tags.kind s.tags.order s.first
+    (g.R.Source.failures s.tags.source) s.standing.pointer s.standing.more
     (view.page s.page) s.tags.directory s.offset s.tags.limits in
     sought_past d _ c.args.ifd_index c.in-Err.fault c.shown_fault.result s.standing.more c.self.view_is (c.in-Err.ensures.asked s.first c.self.invariant.begins) c.shown_fault.ensures

@@ -12,7 +12,8 @@ returns-in_err-numbers_in-clause-answer g c =
 
 pub returns-in_err-all_as-in-Some-clause-answer : goal.returns-in_err-all_as-in-Some-clause-answer
 returns-in_err-all_as-in-Some-clause-answer g c =
-    let answered = err_from_is_err_and c.from_residual-in_err-all_as-in-Some.result c.from_residual-in_err-all_as-in-Some.ensures.1 in
+    let answered =
+    err_from_is_err_and c.from_residual-in_err-all_as-in-Some.result c.from_residual-in_err-all_as-in-Some.ensures.1 in
     let found = rw c.in-Some.is at c.in_ok-numbers_in.ensures.read.answer in
     let seen = found ∙ ap (λ (ns : List ℕ). Ok (Some ns)) (sym c.deref.ensures.value) in
     rw (answered.1, answered.2) (unfit_found g.T.TryFrom.try_from_gives (reading c.args.self.now) _ c.args.tag c.deref.result.now c.in_err-all_as-in-Some.field-0.0 seen c.in_err-all_as-in-Some.ensures)

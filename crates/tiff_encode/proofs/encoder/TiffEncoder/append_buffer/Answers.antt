@@ -10,4 +10,5 @@ returns g c =
     let type = c.args.buffer.now.data_type in
     let view : ℕ → ℕ = λ n. n in
     subst (λ (b : BufferRecord). Ends view (write_data_buf b old) c.append_ordered.result old c.append_ordered.new.self)
-    (λ i. record { order = c.byte_order.ensures i; data_type = type; bytes = c.as_bytes.ensures i }) (c.append_ordered.ensures type)
+    (λ i. record { order = c.byte_order.ensures i; data_type = type; bytes = c.as_bytes.ensures i })
+    (c.append_ordered.ensures type)

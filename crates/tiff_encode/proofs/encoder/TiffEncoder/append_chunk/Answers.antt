@@ -25,6 +25,8 @@ returns-in_err-append g c =
 pub returns : goal.returns
 returns g c =
     let before = c.in-Ok.ensures.items ∙ ap (λ i. i.chunks) c.image.view_is in
-    let chunks = c.push_reserved.ensures.items ∙ (λ j. before j ++ (record { offset = c.in_ok-offset.offset; stored = length c.args.stored.now }) ∷ []) in
+    let chunks =
+    c.push_reserved.ensures.items
+    ∙ (λ j. before j ++ (record { offset = c.in_ok-offset.offset; stored = length c.args.stored.now }) ∷ []) in
     append_done c.args.self.now c.args.image.now c.args.count c.args.stored.now _ c.in_ok-offset.offset c.append.new.self _ refl c.in_ok-offset.ensures.2 c.in_ok-offset.ensures.1
     c.in_ok-append.ensures.1 (λ j. record (c.image.view_is j) { chunks = chunks j })

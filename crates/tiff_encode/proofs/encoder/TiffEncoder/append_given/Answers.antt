@@ -5,4 +5,5 @@ use Rattle.tiff_encode.proofs.encoder.TiffEncoder.append_given.Goals as goal
 pub returns-clause-leaves : goal.returns-clause-leaves
 returns-clause-leaves g c m s =
     let view : ℕ → ℕ = λ offset. offset in
-    data_leaves view c.append_value.result c.args.self.now c.append_value.new.self m (g.T.TiffValue.field_data c.args.value.now) s c.append_value.ensures
+    data_leaves view c.append_value.result c.args.self.now c.append_value.new.self m
+    (g.T.TiffValue.field_data c.args.value.now) s c.append_value.ensures

@@ -11,6 +11,7 @@ returns g c =
     let number = sample_number (type_size g.C.Inner.TiffValue.value_type) g.C.Inner.Sample.bits in
     let i = c.args.image.now in
     let numbers = map number c.args.samples.now in
-    let is_stored = subst (λ xs. IsChunkStored i xs numbers) (sym c.deref.ensures.value) c.in_ok-pack_samples.ensures in
+    let is_stored =
+    subst (λ xs. IsChunkStored i xs numbers) (sym c.deref.ensures.value) c.in_ok-pack_samples.ensures in
     chunk_stored c.args.self.now i numbers c.append_chunk.new.self c.append_chunk.new.image _ c.deref.result.now c.append_chunk.result
     (sym (length-map c.args.samples.now number)) is_stored c.append_chunk.ensures

@@ -15,7 +15,9 @@ returns-in_err-offset g c =
     let i = c.args.image.now in
     let numbers = map (sample_number size g.C.Inner.Sample.bits) c.args.samples.now in
     let long = length-map c.args.samples.now (sample_number size g.C.Inner.Sample.bits) in
-    let many = unpacked_len i numbers size (sym (ap (λ i. i.size) c.image.view_is)) c.in_ok-bytes.bytes (c.in_ok-bytes.ensures.0 ∙ ap (λ n. n * size) (sym long)) in
+    let many =
+    unpacked_len i numbers size (sym (ap (λ i. i.size) c.image.view_is)) c.in_ok-bytes.bytes
+    (c.in_ok-bytes.ensures.0 ∙ ap (λ n. n * size) (sym long)) in
     let told =
     append_refused c.args.self.now i (length c.args.samples.now) (unpacked_chunk i numbers) c.in_ok-bytes.bytes c.in_err-offset.field-0.0 many c.in_err-offset.ensures in
     search rules
@@ -34,13 +36,17 @@ returns-in_err-append_rows g c =
     let numbers = map (sample_number size g.C.Inner.Sample.bits) c.args.samples.now in
     let long = length-map c.args.samples.now (sample_number size g.C.Inner.Sample.bits) in
     let sized = sym (ap (λ i. i.size) c.image.view_is) in
-    let many = unpacked_len i numbers size sized c.in_ok-bytes.bytes (c.in_ok-bytes.ensures.0 ∙ ap (λ n. n * size) (sym long)) in
-    let same = unpacked_is i numbers size sized c.image.inside.predictor c.row_and_stride-row.result.0 c.row_and_stride-row.result.1 (sym (ap (λ i. i.predictor) c.image.view_is))
+    let many =
+    unpacked_len i numbers size sized c.in_ok-bytes.bytes (c.in_ok-bytes.ensures.0
+    ∙ ap (λ n. n * size) (sym long)) in
+    let same =
+    unpacked_is i numbers size sized c.image.inside.predictor c.row_and_stride-row.result.0 c.row_and_stride-row.result.1 (sym (ap (λ i. i.predictor) c.image.view_is))
     c.row_and_stride-row.ensures.row c.row_and_stride-row.ensures.stride in
     let chunks = c.in-Ok.ensures.items ∙ ap (λ i. i.chunks) c.image.view_is in
     let told =
     append_cut old i (length c.args.samples.now) (unpacked_chunk i numbers) c.in_ok-bytes.bytes e new _ many c.in_ok-offset.ensures.0 c.in_ok-offset.ensures.2
-    (subst (λ (xs : List ℕ). AppendIsStopped e old new ⊎ AppendIsCut xs e old new) same c.in_err-append_rows.ensures)
+    (subst (λ (xs : List ℕ). AppendIsStopped e old new
+    ⊎ AppendIsCut xs e old new) same c.in_err-append_rows.ensures)
     (λ j. record (c.image.view_is j) { chunks = chunks j }) in
     search rules
 
@@ -51,11 +57,17 @@ returns g c =
     let numbers = map (sample_number size g.C.Inner.Sample.bits) c.args.samples.now in
     let long = length-map c.args.samples.now (sample_number size g.C.Inner.Sample.bits) in
     let sized = sym (ap (λ i. i.size) c.image.view_is) in
-    let many = unpacked_len i numbers size sized c.in_ok-bytes.bytes (c.in_ok-bytes.ensures.0 ∙ ap (λ n. n * size) (sym long)) in
-    let same = unpacked_is i numbers size sized c.image.inside.predictor c.row_and_stride-row.result.0 c.row_and_stride-row.result.1 (sym (ap (λ i. i.predictor) c.image.view_is))
+    let many =
+    unpacked_len i numbers size sized c.in_ok-bytes.bytes (c.in_ok-bytes.ensures.0
+    ∙ ap (λ n. n * size) (sym long)) in
+    let same =
+    unpacked_is i numbers size sized c.image.inside.predictor c.row_and_stride-row.result.0 c.row_and_stride-row.result.1 (sym (ap (λ i. i.predictor) c.image.view_is))
     c.row_and_stride-row.ensures.row c.row_and_stride-row.ensures.stride in
     let before = c.in-Ok.ensures.items ∙ ap (λ i. i.chunks) c.image.view_is in
-    let chunks = c.push_reserved.ensures.items ∙ (λ j. before j ++ (record { offset = c.in_ok-offset.offset; stored = many j }) ∷ []) in
+    let chunks =
+    c.push_reserved.ensures.items
+    ∙ (λ j. before j ++ (record { offset = c.in_ok-offset.offset; stored = many j }) ∷ []) in
     append_done c.args.self.now i (length c.args.samples.now) (unpacked_chunk i numbers) c.in_ok-bytes.bytes c.in_ok-offset.offset c.append_rows.new.self _ many
-    c.in_ok-offset.ensures.2 c.in_ok-offset.ensures.1 (c.in_ok-append_rows.ensures.1 ∙ ap (file_with_bytes c.args.self.now) same)
+    c.in_ok-offset.ensures.2 c.in_ok-offset.ensures.1 (c.in_ok-append_rows.ensures.1
+    ∙ ap (file_with_bytes c.args.self.now) same)
     (λ j. record (c.image.view_is j) { chunks = chunks j })

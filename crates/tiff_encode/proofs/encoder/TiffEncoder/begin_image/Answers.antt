@@ -26,8 +26,11 @@ pub returns : goal.returns
 returns g c =
     let old = c.args.self.now in
     let is = c.image.view_is ∙ c.new_state-image.ensures in
-    let values = c.deref.ensures.value ∙ c.in-Ok.ensures ∙ ap (λ i. fields_of (calls.first_tags i)) c.new_state-image.ensures in
-    let done = subst (λ d. EndsAsDefined (write_fields d c.deref.result.now c.pad.new.self) (Ok c.set_tags.new.fields) c.set_tags.new.self) (ap (λ i. i.directory) is) c.in_ok-set_tags.ensures.answer in
+    let values =
+    c.deref.ensures.value ∙ c.in-Ok.ensures
+    ∙ ap (λ i. fields_of (calls.first_tags i)) c.new_state-image.ensures in
+    let done =
+    subst (λ d. EndsAsDefined (write_fields d c.deref.result.now c.pad.new.self) (Ok c.set_tags.new.fields) c.set_tags.new.self) (ap (λ i. i.directory) is) c.in_ok-set_tags.ensures.answer in
     image_begun g.C.ColorType.described (type_size g.C.Inner.TiffValue.value_type) c.args.width c.args.height old c.deref.result.now c.set_tags.new.fields _ c.pad.new.self c.set_tags.new.self
     c.in_ok-check_new_image.ensures.3 c.in_ok-check_new_image.ensures.0 c.in_ok-pad.ensures.1 values done (ap (λ i. calls.with_directory_of i c.set_tags.new.fields) is)
 
@@ -36,8 +39,11 @@ returns-in_err-set_tags g c =
     let told =
     let old = c.args.self.now in
     let is = c.image.view_is ∙ c.new_state-image.ensures in
-    let values = c.deref.ensures.value ∙ c.in-Ok.ensures ∙ ap (λ i. fields_of (calls.first_tags i)) c.new_state-image.ensures in
-    let failed = subst (λ d. CallFails (write_fields d c.deref.result.now c.pad.new.self) c.in_err-set_tags.field-0.0 c.pad.new.self c.set_tags.new.self) (ap (λ i. i.directory) is) c.in_err-set_tags.ensures.answer in
+    let values =
+    c.deref.ensures.value ∙ c.in-Ok.ensures
+    ∙ ap (λ i. fields_of (calls.first_tags i)) c.new_state-image.ensures in
+    let failed =
+    subst (λ d. CallFails (write_fields d c.deref.result.now c.pad.new.self) c.in_err-set_tags.field-0.0 c.pad.new.self c.set_tags.new.self) (ap (λ i. i.directory) is) c.in_err-set_tags.ensures.answer in
     image_untagged g.C.ColorType.described (type_size g.C.Inner.TiffValue.value_type) c.args.width c.args.height old c.deref.result.now c.in_err-set_tags.field-0.0 c.pad.new.self c.set_tags.new.self
     c.in_ok-check_new_image.ensures.3 c.in_ok-check_new_image.ensures.0 c.in_ok-pad.ensures.1 values failed in
     search rules

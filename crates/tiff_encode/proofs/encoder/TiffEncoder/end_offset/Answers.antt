@@ -4,7 +4,8 @@ use Rattle.tiff_encode.proofs.encoder.TiffEncoder.end_offset.Goals as goal
 
 pub returns-in_err-end : goal.returns-in_err-end
 returns-in_err-end g c =
-    let told = end_stopped c.args.self.now c.args.fields.now c.in_err-end.field-0.0 c.in_err-end.ensures.0 c.in_err-end.ensures.1 in
+    let told =
+    end_stopped c.args.self.now c.args.fields.now c.in_err-end.field-0.0 c.in_err-end.ensures.0 c.in_err-end.ensures.1 in
     search rules
 
 pub returns-in_err-check_end : goal.returns-in_err-check_end

@@ -23,7 +23,8 @@ pub returns-in_err-pad : goal.returns-in_err-pad
 returns-in_err-pad g c =
     let p = err_from_is_err_and c.from_residual.result c.from_residual.ensures.1 in
     let old = c.args.self.now in
-    let fails = begun_fails c.in_err-pad.field-0.0 c.args.self.now c.pad.new.self c.in_err-pad.ensures in
+    let fails =
+    begun_fails c.in_err-pad.field-0.0 c.args.self.now c.pad.new.self c.in_err-pad.ensures in
     rw (p.1, p.2) (
       (refl, (λ w. tt), (fails, λ m s. begin_leaves (λ d. d) (Err c.in_err-pad.field-0.0) old c.pad.new.self m s fails)),
       record { rests = tt; same_reference = tt; begun = tt; leaves = λ m s. tt },

@@ -11,9 +11,11 @@ returns-in_err-check_field-clause-answer g c =
     let told =
     let old = c.args.self.now in
     let v = data_in c.args.field_type c.args.bytes.now in
-    let test = data_test old c.file_kind.result c.args.field_type c.args.bytes.now c.from-size.result c.args.end c.file_kind.ensures
+    let test =
+    data_test old c.file_kind.result c.args.field_type c.args.bytes.now c.from-size.result c.args.end c.file_kind.ensures
     (c.from-size.ensures ∙ c.byte_len.ensures) c.requires.at_end in
-    refused (λ f. f) (field_cause old v) (placed_field v) old c.in_err-check_field.field-0.0 (test ∙ c.in_err-check_field.ensures) in
+    refused (λ f. f) (field_cause old v) (placed_field v) old c.in_err-check_field.field-0.0 (test
+    ∙ c.in_err-check_field.ensures) in
     search rules
 
 pub returns-clause-answer : goal.returns-clause-answer
@@ -21,7 +23,8 @@ returns-clause-answer g c =
     let old = c.args.self.now in
     let v = data_in c.args.field_type c.args.bytes.now in
     let size = c.from-size.ensures ∙ c.byte_len.ensures in
-    let test = data_test old c.file_kind.result c.args.field_type c.args.bytes.now c.from-size.result c.args.end c.file_kind.ensures
+    let test =
+    data_test old c.file_kind.result c.args.field_type c.args.bytes.now c.from-size.result c.args.end c.file_kind.ensures
     size c.requires.at_end in
     uncaused (λ f. f) (field_cause old v) (placed_field v) c.place_entry.result old c.place_entry.new.self (test ∙ c.in_ok-check_field.ensures)
     (data_placed c.args.field_type c.args.bytes.now c.from-size.result c.place_entry.result old c.place_entry.new.self size c.place_entry.ensures)
@@ -30,7 +33,9 @@ pub returns-then-not-has_room-clause-answer : goal.returns-then-not-has_room-cla
 returns-then-not-has_room-clause-answer g c =
     let old = c.args.self.now in
     let v = data_in c.args.field_type c.args.bytes.now in
-    let test = data_test old c.file_kind.result c.args.field_type c.args.bytes.now c.from-size.result c.args.end c.file_kind.ensures
+    let test =
+    data_test old c.file_kind.result c.args.field_type c.args.bytes.now c.from-size.result c.args.end c.file_kind.ensures
     (c.from-size.ensures ∙ c.byte_len.ensures) c.requires.at_end in
-    uncaused (λ f. f) (field_cause old v) (placed_field v) (Err OutOfMemory) old old (test ∙ c.in_ok-check_field.ensures)
+    uncaused (λ f. f) (field_cause old v) (placed_field v) (Err OutOfMemory) old old (test
+    ∙ c.in_ok-check_field.ensures)
     (wanting (λ f. f) (placed_field v old) OutOfMemory old c.requires.fresh refl tt)

@@ -13,5 +13,6 @@ pub returns-in_err-entry-clause-leaves : goal.returns-in_err-entry-clause-leaves
 returns-in_err-entry-clause-leaves g c m s =
     let told =
     let old = c.args.self.now in
-    failed_leaves _ c.in_err-entry.field-0.0 old c.place_value.new.self m (entry_adds (g.T.TiffValue.field_data c.args.value.now) old) c.in_err-entry.ensures.answer s in
+    failed_leaves _ c.in_err-entry.field-0.0 old c.place_value.new.self m
+    (entry_adds (g.T.TiffValue.field_data c.args.value.now) old) c.in_err-entry.ensures.answer s in
     search rules

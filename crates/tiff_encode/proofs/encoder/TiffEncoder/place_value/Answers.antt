@@ -29,7 +29,8 @@ returns-in_err-check_field-clause-answer g c =
     let type = g.T.TiffValue.value_type in
     let count = g.T.TiffValue.value_count c.args.value.now in
     let d = writable given c.in_ok-check.ensures in
-    let is : IsValue type count (Ok d.0) = subst (λ v. IsValue type count v) d.1 (g.met.T.TiffValue.sized c.args.value.now) in
+    let is : IsValue type count (Ok d.0) =
+    subst (λ v. IsValue type count v) d.1 (g.met.T.TiffValue.sized c.args.value.now) in
     entry_caused (λ f. f) given d.0 old c.in_err-check_field.field-0.0 c.in_ok-end.ensures.0 d.1
     (sym (test_is old c.file_kind.result type count d.0 c.in_ok-end.end c.count-count.result c.bytes.result c.file_kind.ensures is c.in_ok-end.ensures.1 c.count-count.ensures c.bytes.ensures)
     ∙ c.in_err-check_field.ensures) in
@@ -44,8 +45,10 @@ returns-in_err-data-clause-answer g c =
     let count = g.T.TiffValue.value_count c.args.value.now in
     let e = c.in_err-data.field-0.0 in
     let d = writable given c.in_ok-check.ensures in
-    let is : IsValue type count (Ok d.0) = subst (λ v. IsValue type count v) d.1 (g.met.T.TiffValue.sized c.args.value.now) in
-    let uncaused = sym (test_is old c.file_kind.result type count d.0 c.in_ok-end.end c.count-count.result c.bytes.result c.file_kind.ensures is c.in_ok-end.ensures.1 c.count-count.ensures c.bytes.ensures)
+    let is : IsValue type count (Ok d.0) =
+    subst (λ v. IsValue type count v) d.1 (g.met.T.TiffValue.sized c.args.value.now) in
+    let uncaused =
+    sym (test_is old c.file_kind.result type count d.0 c.in_ok-end.end c.count-count.result c.bytes.result c.file_kind.ensures is c.in_ok-end.ensures.1 c.count-count.ensures c.bytes.ensures)
     ∙ c.in_ok-check_field.ensures in
     entry_uncaused (λ f. f) given d.0 (Err e) old old c.in_ok-end.ensures.0 d.1 uncaused
     (wanting (λ f. f) (placed_field d.0 old) e old c.in_ok-end.ensures.0 (wants given e c.in_ok-check.ensures c.in_err-data.ensures) tt) in
@@ -64,11 +67,15 @@ returns-clause-answer g c =
     let given : Result FieldData TiffError = g.T.TiffValue.field_data c.args.value.now in
     let type = g.T.TiffValue.value_type in
     let count = g.T.TiffValue.value_count c.args.value.now in
-    let v : FieldData = record { field_type = c.type_and_len-field_type.result.0; count = c.count-count.result; bytes = c.deref.result.now } in
-    let is_v = made given type c.type_and_len-field_type.result.0 count c.count-count.result c.in_ok-data.data.items c.deref.result.now
+    let v : FieldData =
+    record { field_type = c.type_and_len-field_type.result.0; count = c.count-count.result; bytes = c.deref.result.now } in
+    let is_v =
+    made given type c.type_and_len-field_type.result.0 count c.count-count.result c.in_ok-data.data.items c.deref.result.now
     c.in_ok-data.ensures c.type_and_len-field_type.ensures.kind c.count-count.ensures c.deref.ensures.value in
-    let is : IsValue type count (Ok v) = subst (λ v. IsValue type count v) is_v (g.met.T.TiffValue.sized c.args.value.now) in
-    let uncaused = sym (test_is old c.file_kind.result type count v c.in_ok-end.end c.count-count.result c.bytes.result c.file_kind.ensures is c.in_ok-end.ensures.1 c.count-count.ensures c.bytes.ensures)
+    let is : IsValue type count (Ok v) =
+    subst (λ v. IsValue type count v) is_v (g.met.T.TiffValue.sized c.args.value.now) in
+    let uncaused =
+    sym (test_is old c.file_kind.result type count v c.in_ok-end.end c.count-count.result c.bytes.result c.file_kind.ensures is c.in_ok-end.ensures.1 c.count-count.ensures c.bytes.ensures)
     ∙ c.in_ok-check_field.ensures in
     let r : Result Field TiffError = c.place_entry.result in
     entry_uncaused (λ f. f) given v r old c.place_entry.new.self c.in_ok-end.ensures.0 is_v uncaused
@@ -81,8 +88,10 @@ returns-then-not-has_room-clause-answer g c =
     let type = g.T.TiffValue.value_type in
     let count = g.T.TiffValue.value_count c.args.value.now in
     let d = writable given c.in_ok-check.ensures in
-    let is : IsValue type count (Ok d.0) = subst (λ v. IsValue type count v) d.1 (g.met.T.TiffValue.sized c.args.value.now) in
-    let uncaused = sym (test_is old c.file_kind.result type count d.0 c.in_ok-end.end c.count-count.result c.bytes.result c.file_kind.ensures is c.in_ok-end.ensures.1 c.count-count.ensures c.bytes.ensures)
+    let is : IsValue type count (Ok d.0) =
+    subst (λ v. IsValue type count v) d.1 (g.met.T.TiffValue.sized c.args.value.now) in
+    let uncaused =
+    sym (test_is old c.file_kind.result type count d.0 c.in_ok-end.end c.count-count.result c.bytes.result c.file_kind.ensures is c.in_ok-end.ensures.1 c.count-count.ensures c.bytes.ensures)
     ∙ c.in_ok-check_field.ensures in
     entry_uncaused (λ f. f) given d.0 (Err OutOfMemory) old old c.in_ok-end.ensures.0 d.1 uncaused
     (wanting (λ f. f) (placed_field d.0 old) OutOfMemory old c.in_ok-end.ensures.0 refl tt)

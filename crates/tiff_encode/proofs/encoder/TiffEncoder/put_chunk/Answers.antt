@@ -18,5 +18,7 @@ returns-in-Uncompressed g c =
     let i = c.args.image.now in
     let numbers = map number c.args.samples.now in
     let packed = sym (ap (λ i. i.compression) c.image.view_is) ∙ c.in-Uncompressed.is in
-    chunk_stored c.args.self.now i numbers c.append_samples.new.self c.append_samples.new.image (length c.args.samples.now)
-    (unpacked_chunk i numbers) c.append_samples.result (sym (length-map c.args.samples.now number)) (plain_stored i numbers packed (unpacked_chunk i numbers) refl) c.append_samples.ensures
+    chunk_stored c.args.self.now i numbers c.append_samples.new.self c.append_samples.new.image
+    (length c.args.samples.now)
+    (unpacked_chunk i numbers) c.append_samples.result (sym (length-map c.args.samples.now number))
+    (plain_stored i numbers packed (unpacked_chunk i numbers) refl) c.append_samples.ensures

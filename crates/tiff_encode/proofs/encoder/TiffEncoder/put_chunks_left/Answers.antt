@@ -7,11 +7,13 @@ use Rattle.tiff_encode.proofs.Data.Written.{none_written, more_written, stops_wr
 use Rattle.tiff_encode.proofs.encoder.TiffEncoder.put_chunks_left.Goals as goal
 
 pub chunks_left-written-end-requires : goal.chunks_left-written-end-requires
-chunks_left-written-end-requires g c = data_few c.args.self.now c.args.image.now (length c.args.samples.now) c.requires
+chunks_left-written-end-requires g c =
+    data_few c.args.self.now c.args.image.now (length c.args.samples.now) c.requires
 
 pub loop-written-init : goal.loop-written-init
 loop-written-init g c =
-    let numbers = map (sample_number (type_size g.C.Inner.TiffValue.value_type) g.C.Inner.Sample.bits) c.args.samples.now in
+    let numbers =
+    map (sample_number (type_size g.C.Inner.TiffValue.value_type) g.C.Inner.Sample.bits) c.args.samples.now in
     none_written c.args.image.now numbers c.args.self.now
 
 pub write_part-requires-clause-fits : goal.write_part-requires-clause-fits
@@ -25,21 +27,27 @@ write_part-requires-clause-whole g c =
 pub returns-in_err-write_part : goal.returns-in_err-write_part
 returns-in_err-write_part g c =
     let p = err_from_is_err_and c.from_residual.result c.from_residual.ensures.1 in
-    let numbers = map (sample_number (type_size g.C.Inner.TiffValue.value_type) g.C.Inner.Sample.bits) c.args.samples.now in
-    let l : c.loop-written.written < chunks_left c.args.image.now = subst (λ n. c.loop-written.written < n) c.chunks_left-written-end.ensures c.loop-written-test.true in
+    let numbers =
+    map (sample_number (type_size g.C.Inner.TiffValue.value_type) g.C.Inner.Sample.bits) c.args.samples.now in
+    let l : c.loop-written.written < chunks_left c.args.image.now =
+    subst (λ n. c.loop-written.written < n) c.chunks_left-written-end.ensures c.loop-written-test.true in
     rw (p.1, p.2) (stops_written c.args.image.now numbers c.loop-written.written c.args.self.now c.loop-written.self c.write_part.new.self c.loop-written.image c.write_part.new.image
     l c.loop-written.invariant c.in_err-write_part.field-0.0 (data_fresh c.args.self.now c.args.image.now (length c.args.samples.now) c.requires) c.in_err-write_part.ensures)
 
 pub loop-written-preserved : goal.loop-written-preserved
 loop-written-preserved g c =
-    let numbers = map (sample_number (type_size g.C.Inner.TiffValue.value_type) g.C.Inner.Sample.bits) c.args.samples.now in
-    let l : c.loop-written.written < chunks_left c.args.image.now = subst (λ n. c.loop-written.written < n) c.chunks_left-written-end.ensures c.loop-written-test.true in
+    let numbers =
+    map (sample_number (type_size g.C.Inner.TiffValue.value_type) g.C.Inner.Sample.bits) c.args.samples.now in
+    let l : c.loop-written.written < chunks_left c.args.image.now =
+    subst (λ n. c.loop-written.written < n) c.chunks_left-written-end.ensures c.loop-written-test.true in
     more_written c.args.image.now numbers c.loop-written.written c.args.self.now c.loop-written.self c.write_part.new.self c.loop-written.image c.write_part.new.image
     l c.loop-written.invariant c.in_ok-write_part.ensures
 
 pub returns : goal.returns
 returns g c =
-    let numbers = map (sample_number (type_size g.C.Inner.TiffValue.value_type) g.C.Inner.Sample.bits) c.args.samples.now in
+    let numbers =
+    map (sample_number (type_size g.C.Inner.TiffValue.value_type) g.C.Inner.Sample.bits) c.args.samples.now in
     let n = c.chunks_left-written-end.ensures in
-    let l : c.loop-written.written ≡ chunks_left c.args.image.now = omega (arith, n, c.loop-written-test.false, c.loop-written.auto.written-end) in
+    let l : c.loop-written.written ≡ chunks_left c.args.image.now =
+    omega (arith, n, c.loop-written-test.false, c.loop-written.auto.written-end) in
     all_written c.args.image.now numbers c.loop-written.written c.args.self.now c.loop-written.self c.loop-written.image l c.loop-written.invariant

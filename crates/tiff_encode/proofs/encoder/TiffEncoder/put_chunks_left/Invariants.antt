@@ -8,5 +8,6 @@ use Rattle.tiff_encode.proofs.encoder.TiffEncoder.put_chunks_left.Given as goal
 -- the first chunks are written
 abbrev pub invariant-loop-written : goal.invariant-loop-written
 invariant-loop-written g l =
-    let numbers = map (sample_number (type_size g.C.Inner.TiffValue.value_type) g.C.Inner.Sample.bits) l.samples in
+    let numbers =
+    map (sample_number (type_size g.C.Inner.TiffValue.value_type) g.C.Inner.Sample.bits) l.samples in
     HasWritten l.fn.image (parts_left l.fn.image numbers) l.written l.fn.self l.self l.image

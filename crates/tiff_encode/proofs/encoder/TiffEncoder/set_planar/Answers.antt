@@ -6,15 +6,18 @@ use Rattle.tiff_encode.proofs.encoder.TiffEncoder.set_planar.Goals as goal
 
 pub returns-in_err-check_planar-clause-answer : goal.returns-in_err-check_planar-clause-answer
 returns-in_err-check_planar-clause-answer g c =
-    let told = set_refused Planes c.args.image.now c.args.self.now c.in_err-check_planar.field-0.0 c.in_err-check_planar.ensures in search rules
+    let told =
+    set_refused Planes c.args.image.now c.args.self.now c.in_err-check_planar.field-0.0 c.in_err-check_planar.ensures in search rules
 
 pub returns-in_err-set_tag-clause-answer : goal.returns-in_err-set_tag-clause-answer
 returns-in_err-set_tag-clause-answer g c =
-    let p = err_from_is_err_and c.from_residual-in_err-set_tag.result c.from_residual-in_err-set_tag.ensures.1 in
+    let p =
+    err_from_is_err_and c.from_residual-in_err-set_tag.result c.from_residual-in_err-set_tag.ensures.1 in
     rw (p.1, p.2) (one_fails Planes c.args.image.now c.args.self.now c.in_err-set_tag.field-0.0 c.set_tag.new.self refl
     c.in_ok-check_planar.ensures c.image.view_is c.in_err-set_tag.ensures.answer)
 
 pub returns-clause-answer : goal.returns-clause-answer
 returns-clause-answer g c =
     one_so Planes c.args.image.now c.args.self.now c.set_tag.new.fields _ c.set_tag.new.self refl
-    c.in_ok-check_planar.ensures c.image.view_is c.in_ok-set_tag.ensures.answer (ap (λ x. (row Planes).image x c.set_tag.new.fields) c.image.view_is)
+    c.in_ok-check_planar.ensures c.image.view_is c.in_ok-set_tag.ensures.answer
+    (ap (λ x. (row Planes).image x c.set_tag.new.fields) c.image.view_is)

@@ -12,7 +12,8 @@ returns-in_err-check_resolution-clause-part g c =
 
 pub returns-in_err-check_resolution-clause-answer : goal.returns-in_err-check_resolution-clause-answer
 returns-in_err-check_resolution-clause-answer g c =
-    let told = set_refused (Both c.args.unit (c.args.value.n, c.args.value.d)) c.args.image.now c.args.self.now c.in_err-check_resolution.field-0.0 c.in_err-check_resolution.ensures in
+    let told =
+    set_refused (Both c.args.unit (c.args.value.n, c.args.value.d)) c.args.image.now c.args.self.now c.in_err-check_resolution.field-0.0 c.in_err-check_resolution.ensures in
     search rules
 
 pub returns-clause-answer : goal.returns-clause-answer
@@ -27,7 +28,8 @@ returns-clause-answer g c =
 
 pub returns-in_err-set_tags-clause-part : goal.returns-in_err-set_tags-clause-part
 returns-in_err-set_tags-clause-part g c =
-    let p = err_from_is_err_and c.from_residual-in_err-set_tags.result c.from_residual-in_err-set_tags.ensures.1 in
+    let p =
+    err_from_is_err_and c.from_residual-in_err-set_tags.result c.from_residual-in_err-set_tags.ensures.1 in
     let i = c.args.image.now in
     let old = c.args.self.now in
     let d = c.image.inside.directory in

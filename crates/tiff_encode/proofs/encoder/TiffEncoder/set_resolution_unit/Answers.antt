@@ -5,7 +5,8 @@ use Rattle.tiff_encode.proofs.encoder.TiffEncoder.set_resolution_unit.Goals as g
 
 pub returns-in_err-check_resolution_unit-clause-answer : goal.returns-in_err-check_resolution_unit-clause-answer
 returns-in_err-check_resolution_unit-clause-answer g c =
-    let told = set_refused (Measure c.args.unit) c.args.image.now c.args.self.now c.in_err-check_resolution_unit.field-0.0 c.in_err-check_resolution_unit.ensures in search rules
+    let told =
+    set_refused (Measure c.args.unit) c.args.image.now c.args.self.now c.in_err-check_resolution_unit.field-0.0 c.in_err-check_resolution_unit.ensures in search rules
 
 pub returns-in_err-set_tag-clause-answer : goal.returns-in_err-set_tag-clause-answer
 returns-in_err-set_tag-clause-answer g c =
@@ -17,4 +18,5 @@ returns-in_err-set_tag-clause-answer g c =
 pub returns-clause-answer : goal.returns-clause-answer
 returns-clause-answer g c =
     one_so (Measure c.args.unit) c.args.image.now c.args.self.now c.set_tag.new.fields _ c.set_tag.new.self refl
-    c.in_ok-check_resolution_unit.ensures c.image.view_is c.in_ok-set_tag.ensures.answer (ap (λ x. (row (Measure c.args.unit)).image x c.set_tag.new.fields) c.image.view_is)
+    c.in_ok-check_resolution_unit.ensures c.image.view_is c.in_ok-set_tag.ensures.answer
+    (ap (λ x. (row (Measure c.args.unit)).image x c.set_tag.new.fields) c.image.view_is)

@@ -27,7 +27,8 @@ returns-in_err-set_tags-clause-answer g c =
     let sides = Sides c.args.width c.args.length in
     set_fails sides c.args.image.now old c.in_err-set_tags.field-0.0 d c.set_tags.new.self
     c.in_ok-check_tiles.ensures.0 (c.in_ok-fields.ensures ∙ ap (λ x. x.directory) c.image.view_is)
-    (tags_fail _ (row sides).tags (λ k. c.long.ensures k ∷ c.long-2.ensures k ∷ []) d c.in_err-set_tags.field-0.0 old c.set_tags.new.self c.in_err-set_tags.ensures.answer) in
+    (tags_fail _ (row sides).tags (λ k. c.long.ensures k ∷ c.long-2.ensures k
+    ∷ []) d c.in_err-set_tags.field-0.0 old c.set_tags.new.self c.in_err-set_tags.ensures.answer) in
     search rules
 
 pub returns-clause-answer : goal.returns-clause-answer
@@ -37,5 +38,6 @@ returns-clause-answer g c =
     let sides = Sides c.args.width c.args.length in
     set_so sides c.args.image.now old d c.set_tags.new.fields _ c.set_tags.new.self
     c.in_ok-check_tiles.ensures.0 (c.in_ok-fields.ensures ∙ ap (λ x. x.directory) c.image.view_is)
-    (tags_so _ (row sides).tags (λ k. c.long.ensures k ∷ c.long-2.ensures k ∷ []) d c.set_tags.new.fields old c.set_tags.new.self c.in_ok-set_tags.ensures.answer)
+    (tags_so _ (row sides).tags (λ k. c.long.ensures k ∷ c.long-2.ensures k
+    ∷ []) d c.set_tags.new.fields old c.set_tags.new.self c.in_ok-set_tags.ensures.answer)
     (λ k. record (c.image.view_is k) { directory = c.remove.ensures k; form = tiles_of c.args.width c.args.length (c.image.view_is k).form.planar })

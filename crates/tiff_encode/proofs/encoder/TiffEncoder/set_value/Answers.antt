@@ -19,7 +19,8 @@ returns-clause-stays g c =
     (ap (λ x. x.0) c.value.view_is)
     (c.settle.ensures c.args.fields.now c.make_room-room.ensures.state c.make_room-room.ensures.room
     (room_kept c.make_room-room.result c.is_made.result c.place_entry_bytes-placed.result c.args.self.now c.place_entry_bytes-placed.new.self c.is_made.ensures c.place_entry_bytes-placed.ensures.room)) in
-    settled_stays (λ (d : OpenDirectory). d) (λ (s d : OpenDirectory). d) (λ s d. refl) (λ s. refl) c.args.fields.now c.settle.new.self value.0 c.place_entry_bytes-placed.result c.settle.result settled
+    settled_stays (λ (d : OpenDirectory). d) (λ (s d : OpenDirectory). d) (λ s d. refl)
+    (λ s. refl) c.args.fields.now c.settle.new.self value.0 c.place_entry_bytes-placed.result c.settle.result settled
 
 pub returns-clause-answer : goal.returns-clause-answer
 returns-clause-answer g c =
@@ -30,7 +31,8 @@ returns-clause-answer g c =
     (ap (λ x. x.0) c.value.view_is)
     (c.settle.ensures c.args.fields.now c.make_room-room.ensures.state c.make_room-room.ensures.room
     (room_kept c.make_room-room.result c.is_made.result c.place_entry_bytes-placed.result c.args.self.now c.place_entry_bytes-placed.new.self c.is_made.ensures c.place_entry_bytes-placed.ensures.room)) in
-    settled_ends (λ (d : OpenDirectory). d) (λ (s d : OpenDirectory). d) (λ s d. refl) (λ s. refl) c.args.fields.now c.settle.new.self value.0 c.place_entry_bytes-placed.result
+    settled_ends (λ (d : OpenDirectory). d) (λ (s d : OpenDirectory). d) (λ s d. refl)
+    (λ s. refl) c.args.fields.now c.settle.new.self value.0 c.place_entry_bytes-placed.result
     (Given (Ok value.1)) c.args.self.now c.place_entry_bytes-placed.new.self
     (kept_ends value v.tag v.field_type v.len v.bytes c.place_entry_bytes-placed.result c.args.self.now c.place_entry_bytes-placed.new.self c.value.invariant.0 c.value.told c.value.invariant.1 c.value.view_is c.place_entry_bytes-placed.ensures.answer)
     c.settle.result settled

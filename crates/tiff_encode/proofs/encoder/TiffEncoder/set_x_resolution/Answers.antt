@@ -5,7 +5,8 @@ use Rattle.tiff_encode.proofs.encoder.TiffEncoder.set_x_resolution.Goals as goal
 
 pub returns-in_err-check_one_resolution-clause-answer : goal.returns-in_err-check_one_resolution-clause-answer
 returns-in_err-check_one_resolution-clause-answer g c =
-    let told = set_refused (Across (c.args.value.n, c.args.value.d)) c.args.image.now c.args.self.now c.in_err-check_one_resolution.field-0.0 c.in_err-check_one_resolution.ensures in search rules
+    let told =
+    set_refused (Across (c.args.value.n, c.args.value.d)) c.args.image.now c.args.self.now c.in_err-check_one_resolution.field-0.0 c.in_err-check_one_resolution.ensures in search rules
 
 pub returns-in_err-set_tag-clause-answer : goal.returns-in_err-set_tag-clause-answer
 returns-in_err-set_tag-clause-answer g c =
@@ -17,4 +18,5 @@ returns-in_err-set_tag-clause-answer g c =
 pub returns-clause-answer : goal.returns-clause-answer
 returns-clause-answer g c =
     one_so (Across (c.args.value.n, c.args.value.d)) c.args.image.now c.args.self.now c.set_tag.new.fields _ c.set_tag.new.self refl
-    c.in_ok-check_one_resolution.ensures c.image.view_is c.in_ok-set_tag.ensures.answer (ap (λ x. (row (Across (c.args.value.n, c.args.value.d))).image x c.set_tag.new.fields) c.image.view_is)
+    c.in_ok-check_one_resolution.ensures c.image.view_is c.in_ok-set_tag.ensures.answer
+    (ap (λ x. (row (Across (c.args.value.n, c.args.value.d))).image x c.set_tag.new.fields) c.image.view_is)

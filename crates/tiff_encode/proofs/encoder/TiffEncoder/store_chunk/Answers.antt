@@ -5,7 +5,8 @@ use Rattle.tiff_encode.proofs.Storing.{chunk_counted, chunk_written}
 use Rattle.tiff_encode.proofs.encoder.TiffEncoder.store_chunk.Goals as goal
 
 pub put_chunk-requires : goal.put_chunk-requires
-put_chunk-requires g c = chunk_counted c.args.self.now c.args.image.now _ 0 c.in_ok-chunk_offset.ensures.2
+put_chunk-requires g c =
+    chunk_counted c.args.self.now c.args.image.now _ 0 c.in_ok-chunk_offset.ensures.2
 
 pub returns : goal.returns
 returns g c =

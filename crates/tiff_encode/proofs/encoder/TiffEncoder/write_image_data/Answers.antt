@@ -32,8 +32,11 @@ returns-in_err-write_chunks_left g c =
     let number = sample_number (type_size g.C.Inner.TiffValue.value_type) g.C.Inner.Sample.bits in
     let numbers = map number c.args.samples.now in
     let counted = length-map c.args.samples.now number in
-    let none = ap (write_image_data_cause c.args.self.now c.args.image.now) counted ∙ c.in_ok-check_data.ensures in
+    let none =
+    ap (write_image_data_cause c.args.self.now c.args.image.now) counted
+    ∙ c.in_ok-check_data.ensures in
     let r : Result (Unit {0}) TiffError = Err c.in_err-write_chunks_left.field-0.0 in
-    let p = err_from_is_err_and c.from_residual-in_err-write_chunks_left.result c.from_residual-in_err-write_chunks_left.ensures.1 in
+    let p =
+    err_from_is_err_and c.from_residual-in_err-write_chunks_left.result c.from_residual-in_err-write_chunks_left.ensures.1 in
     rw (p.1, p.2) (subst (λ cause. WritesDataBy cause c.args.image.now numbers r c.args.self.now c.write_chunks_left.new.self) (sym none)
     (inr c.in_err-write_chunks_left.ensures))

@@ -12,9 +12,11 @@ loop-number-preserved g c =
     let size = type_size g.S.TiffValue.value_type in
     let h = c.push_reserved.ensures in
     record {
-      cut = one_cut (sample_number size g.S.Sample.bits) size c.args.numbers.now c.loop-number.samples.items c.push_reserved.new.self.items c.cut.result c.loop-number.number-index
+      cut =
+          one_cut (sample_number size g.S.Sample.bits) size c.args.numbers.now c.loop-number.samples.items c.push_reserved.new.self.items c.cut.result c.loop-number.number-index
           c.loop-number-test.true c.loop-number.invariant.cut h.items c.cut.ensures;
-      room = omega (arith, c.loop-number.invariant.room, c.loop-number-test.true, h.len, h.capacity);
+      room =
+          omega (arith, c.loop-number.invariant.room, c.loop-number-test.true, h.len, h.capacity);
     }
 
 pub returns : goal.returns

@@ -10,6 +10,7 @@ use Rattle.tiff_encode.proofs.encoder.job_samples.cut_pieces.Given as goal
 -- the first numbers are cut, and there is room for the others
 abbrev pub invariant-loop-piece : goal.invariant-loop-piece
 invariant-loop-piece g l = record {
-  cut : map (sample_number (type_size g.S.TiffValue.value_type) g.S.Sample.bits) l.samples.items ≡ cut_to (type_size g.S.TiffValue.value_type) (tabulate l.piece-index (row_number LittleEndian g.row.N l.bytes));
+  cut : map (sample_number (type_size g.S.TiffValue.value_type) g.S.Sample.bits) l.samples.items
+      ≡ cut_to (type_size g.S.TiffValue.value_type) (tabulate l.piece-index (row_number LittleEndian g.row.N l.bytes));
   room : vec_len l.samples + (length l.pieces - l.piece-index) ≤ vec_capacity l.samples;
 }

@@ -13,8 +13,10 @@ returns-in-Ok g c = λ kind known run q s.
     let mid = c.in-Ok.image.encoder.now in
     let color = g.C.ColorType.described in
     let size = type_size g.C.Inner.TiffValue.value_type in
-    image_runs j c.run_image_steps.result old mid c.run_image_steps.new.encoder _ i known run (search rules) (search rules)
-    (subst (λ call. Begun call old i mid) (job_image_is j color size (g.met.C.NamedColorType.named ∙ ap color_type (sym c.requires.named))
+    image_runs j c.run_image_steps.result old mid c.run_image_steps.new.encoder _ i known run
+    (search rules) (search rules)
+    (subst (λ call. Begun call old i mid) (job_image_is j color size (g.met.C.NamedColorType.named
+    ∙ ap color_type (sym c.requires.named))
     (ap type_size (g.met.C.NamedColorType.in_memory ∙ ap inner_type (sym c.requires.named))))
     (record { told = c.in-Ok.ensures.begun; leaves = c.in-Ok.ensures.leaves }))
     c.run_image_steps.ensures (search rules) kind q s

@@ -18,14 +18,16 @@ pub take_last-room-requires : goal.take_last-room-requires
 take_last-room-requires g c = omega (arith, c.loop-job.invariant.count, c.loop-job-test.true)
 
 pub slice_bounds-run_job-count : goal.slice_bounds-run_job-count
-slice_bounds-run_job-count g c = omega (arith, c.loop-job.invariant.behind, c.len-start.ensures, c.deref.ensures.len)
+slice_bounds-run_job-count g c =
+    omega (arith, c.loop-job.invariant.behind, c.len-start.ensures, c.deref.ensures.len)
 
 pub run_job-reply-requires : goal.run_job-reply-requires
 run_job-reply-requires g c =
     let i = c.loop-job.invariant in
     let jobs = c.args.jobs.now in
     let n = c.loop-job.job-index in
-    let count : length c.loop-job.rooms.items + n ≡ length jobs = omega (arith, i.count, c.loop-job.rooms.ok) in
+    let count : length c.loop-job.rooms.items + n ≡ length jobs =
+    omega (arith, i.count, c.loop-job.rooms.ok) in
     room_taken jobs c.loop-job.rooms.items c.take_last-room.new.items.items c.take_last-room.result c.take_last-room.ensures.items n
     c.job-item.result c.loop-job-test.true c.job-item.is count i.rooms
 
@@ -38,21 +40,25 @@ loop-job-preserved g c =
     let jobs = c.args.jobs.now in
     let n = c.loop-job.job-index in
     let start = c.len-start.result in
-    let at : start ≡ length c.args.replies.now.items = omega (arith, c.len-start.ensures, c.args.replies.now.ok) in
+    let at : start ≡ length c.args.replies.now.items =
+    omega (arith, c.len-start.ensures, c.args.replies.now.ok) in
     record {
-      moved = jobs_next jobs c.args.replies.now.items c.loop-job.replies.items c.put.new.items.items start n c.job-item.result
+      moved =
+          jobs_next jobs c.args.replies.now.items c.loop-job.replies.items c.put.new.items.items start n c.job-item.result
           c.run_job-reply.result c.args.encoder.now c.loop-job.encoder c.run_job-reply.new.encoder c.loop-job-test.true c.job-item.is at
           c.put.ensures.items i.moved
           (subst (λ xs. JobMoves c.job-item.result xs c.run_job-reply.result c.loop-job.encoder c.run_job-reply.new.encoder)
           (replies_from c.deref.result.now c.loop-job.replies.items start c.deref.ensures.value) c.run_job-reply.ensures);
       count = omega (arith, i.count, c.take_last-room.ensures.len);
-      rooms = rooms_left jobs c.loop-job.rooms.items c.take_last-room.new.items.items c.take_last-room.result c.take_last-room.ensures.items i.rooms;
+      rooms =
+          rooms_left jobs c.loop-job.rooms.items c.take_last-room.new.items.items c.take_last-room.result c.take_last-room.ensures.items i.rooms;
       room = omega (arith, i.room, c.put.ensures.len, c.put.ensures.capacity, c.loop-job-test.true);
       behind = omega (arith, i.behind, c.put.ensures.len);
     }
 
 pub returns : goal.returns
 returns g c =
-    let all = take_all c.loop-job.job-index c.args.jobs.now (omega (arith, c.loop-job-test.false)) in
+    let all =
+    take_all c.loop-job.job-index c.args.jobs.now (omega (arith, c.loop-job-test.false)) in
     subst (λ jobs. JobsMove jobs c.args.replies.now.items c.loop-job.replies.items c.args.encoder.now c.loop-job.encoder) all
     c.loop-job.invariant.moved

@@ -21,5 +21,6 @@ returns-in_err-fill_part-clause-answer g c =
 pub returns-clause-answer : goal.returns-clause-answer
 returns-clause-answer g c =
     part_read c.args.self.now.kind c.args.self.now.order (g.R.Source.contents c.args.source.now).bytes c.args.entry.now (length c.args.buf.now) c.args.at
-    c.in-Some.len _ c.min-n.result c.fill_part.new.buf _ c.in-Some.ensures.1 (omega arith) (omega arith) (omega (arith, length-take c.min-n.result c.args.buf.now))
+    c.in-Some.len _ c.min-n.result c.fill_part.new.buf _ c.in-Some.ensures.1 (omega arith)
+    (omega arith) (omega (arith, length-take c.min-n.result c.args.buf.now))
     (omega (arith, length-take c.min-n.result c.args.buf.now)) c.in_ok-fill_part.ensures.answer

@@ -15,14 +15,17 @@ way-preserved g c =
     record {
       same = c.pass_next.ensures.kept.contents ∙ i.same;
       failures = omega (arith, i.failures, c.in_ok-pass_next.ensures.kept.swallowed);
-      longer = grown_over c.args.kind c.args.order (g.R.Source.contents c.way.source).bytes c.args.self.now.offsets c.way.self c.pass_next.new.self
+      longer =
+          grown_over c.args.kind c.args.order (g.R.Source.contents c.way.source).bytes c.args.self.now.offsets c.way.self c.pass_next.new.self
           c.in_ok-pass_next.field-0 c.if-not-branch.false c.in_ok-pass_next.ensures.ok i.longer;
       no_further = λ h.
           (let one = longer_over c.args.kind c.args.order (g.R.Source.contents c.way.source).bytes c.way.self c.pass_next.new.self
           c.in_ok-pass_next.field-0 c.if-not-branch.false c.in_ok-pass_next.ensures.ok in
           omega (arith, one, c.way-test.true, c.len.ensures));
       known = λ h. absurd (omega (arith, h, longer, both, c.way-test.true, c.len.ensures));
-      begins = λ first b. begun_same c.args.kind c.args.order first c.way.self c.pass_next.new.self (same_bytes i.same) (i.begins first b) (c.pass_next.ensures.begins first);
+      begins =
+          λ first b. begun_same c.args.kind c.args.order first c.way.self c.pass_next.new.self
+          (same_bytes i.same) (i.begins first b) (c.pass_next.ensures.begins first);
     }
 
 pub returns-clause-offset : goal.returns-clause-offset
@@ -31,12 +34,15 @@ returns-clause-offset g c = λ first b.
     (c.way.invariant.begins first b) ∙ sym c.get.ensures
 
 pub returns-clause-end : goal.returns-clause-end
-returns-clause-end g c = is_there _ c.way.self.offsets c.args.index c.get.result c.get.ensures (omega (arith, c.way-test.false, c.len.ensures))
+returns-clause-end g c =
+    is_there _ c.way.self.offsets c.args.index c.get.result c.get.ensures
+    (omega (arith, c.way-test.false, c.len.ensures))
 
 pub returns-in_err-pass_next-clause-begins : goal.returns-in_err-pass_next-clause-begins
 returns-in_err-pass_next-clause-begins g c = λ first b.
     let i = c.way.invariant in
-    begun_same c.args.kind c.args.order first c.way.self c.pass_next.new.self (same_bytes i.same) (i.begins first b) (c.pass_next.ensures.begins first)
+    begun_same c.args.kind c.args.order first c.way.self c.pass_next.new.self (same_bytes i.same)
+    (i.begins first b) (c.pass_next.ensures.begins first)
 
 pub returns-in_err-pass_next-clause-asked : goal.returns-in_err-pass_next-clause-asked
 returns-in_err-pass_next-clause-asked g c = λ first b.
@@ -59,7 +65,9 @@ returns-then-not-branch-clause-there g c =
 
 pub returns-then-not-branch-clause-offset : goal.returns-then-not-branch-clause-offset
 returns-then-not-branch-clause-offset g c = λ first b.
-    none_further c.args.kind c.args.order (g.R.Source.contents c.args.source.now).bytes (g.R.Source.contents c.way.source).bytes first c.way.self None c.args.index (same_bytes c.way.invariant.same)
+    none_further c.args.kind c.args.order (g.R.Source.contents c.args.source.now).bytes
+    (g.R.Source.contents c.way.source).bytes first c.way.self None c.args.index
+    (same_bytes c.way.invariant.same)
     (c.in_ok-pass_next.ensures.end c.if-not-branch.true first
     (subst (λ (bs : List ℕ). ChainBegins c.args.kind c.args.order bs first c.way.self) (sym (same_bytes c.way.invariant.same)) (c.way.invariant.begins first b)))
     (omega (arith, c.way-test.true, c.len.ensures))

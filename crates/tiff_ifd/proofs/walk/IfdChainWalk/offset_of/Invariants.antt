@@ -11,7 +11,8 @@ invariant-way g l =
       longer : (more : List ℕ) × (l.self.offsets ≡ l.fn.self.offsets ++ more);
       no_further : length l.fn.self.offsets ≤ l.index → length l.self.offsets ≤ l.index + 1;
       known : l.index < length l.fn.self.offsets → (l.self ≡ l.fn.self) × (l.source ≡ l.fn.source);
-      begins : (first : ℕ) → ChainBegins l.kind l.order bytes first l.fn.self → ChainBegins l.kind l.order bytes first l.self;
+      begins : (first : ℕ) → ChainBegins l.kind l.order bytes first l.fn.self
+          → ChainBegins l.kind l.order bytes first l.self;
     }
 
 abbrev pub decreases-way : goal.decreases-way

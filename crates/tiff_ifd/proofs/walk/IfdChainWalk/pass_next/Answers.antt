@@ -22,13 +22,15 @@ returns-in_err-next-clause-cut g c =
 
 pub returns-in_err-add-clause-err : goal.returns-in_err-add-clause-err
 returns-in_err-add-clause-err g c =
-    let answered = err_from_is_err_and c.from_residual-in_err-add.result c.from_residual-in_err-add.ensures.1 in
+    let answered =
+    err_from_is_err_and c.from_residual-in_err-add.result c.from_residual-in_err-add.ensures.1 in
     rw (answered.1, answered.2) (refused_unpassed c.args.kind c.args.order (g.R.Source.contents c.args.source.now).bytes _ c.args.self.now c.add.new.self c.in-Some.offset
     c.in_ok-next.next c.in_err-add.field-0.0 (search rules) c.in_ok-next.ensures.answer c.in_err-add.ensures.stays c.in_err-add.ensures.err)
 
 pub returns-in_err-add-clause-cut : goal.returns-in_err-add-clause-cut
 returns-in_err-add-clause-cut g c =
-    let answered = err_from_is_err_and c.from_residual-in_err-add.result c.from_residual-in_err-add.ensures.1 in
+    let answered =
+    err_from_is_err_and c.from_residual-in_err-add.result c.from_residual-in_err-add.ensures.1 in
     rw (answered.1, answered.2) (cut_unpassed c.args.kind c.args.order (g.R.Source.contents c.args.source.now).bytes _ c.args.self.now c.in-Some.offset c.in_ok-next.next
     c.in_err-add.field-0.0 (search rules) c.in_ok-next.ensures.answer c.in_err-add.ensures.err)
 

@@ -13,5 +13,6 @@ pub returns-clause-readable : goal.returns-clause-readable
 returns-clause-readable c = λ source n r.
     let page = c.args.self.now.format.page.now in
     c.new.ensures.readable source n
-    (subst (λ (count : ℕ). AreReadable source c.get.result (if is_packed page.method then count else n)) (sym c.get-2.ensures)
+    (subst (λ (count : ℕ). AreReadable source c.get.result (if is_packed page.method then
+    count else n)) (sym c.get-2.ensures)
     (subst (λ (at : ℕ). AreReadable source at (if is_packed page.method then slice_index page.byte_counts c.args.self.now.index else n)) (sym c.get.ensures) r))

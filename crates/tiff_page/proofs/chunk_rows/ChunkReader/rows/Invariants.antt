@@ -24,7 +24,9 @@ invariant-loop-row g l =
       stands : StandsAt p l.self.index (l.row * destination.stride) l.cursor;
       position : bytes_left bytes l.cursor ≡ drop (l.row * destination.stride) stored;
       enough : l.row * destination.stride ≤ length stored;
-      written : (total : ℕ) → g.W.RowSink.whole ((destination.top + (rect p l.self.index).height) * destination.stride) ≤ total → Writes (IsIn destination.stride destination.top l.row destination.left (row_bytes p l.self.format.color (rect p l.self.index).width)) (in_rect (chunk_byte bytes l.self.format.order p l.self.format.color l.self.index) destination.stride destination.top destination.left) (filled_to total (g.W.RowSink.bytes l.fn.sink)) (filled_to total (g.W.RowSink.bytes l.sink));
+      written : (total : ℕ) → g.W.RowSink.whole ((destination.top
+          + (rect p l.self.index).height) * destination.stride) ≤ total
+          → Writes (IsIn destination.stride destination.top l.row destination.left (row_bytes p l.self.format.color (rect p l.self.index).width)) (in_rect (chunk_byte bytes l.self.format.order p l.self.format.color l.self.index) destination.stride destination.top destination.left) (filled_to total (g.W.RowSink.bytes l.fn.sink)) (filled_to total (g.W.RowSink.bytes l.sink));
     }
 
 abbrev pub decreases-loop-row : goal.decreases-loop-row

@@ -20,7 +20,10 @@ invariant-loop-row g l =
       same : g.R.Source.contents l.source ≡ g.R.Source.contents l.fn.source;
       count : g.R.Source.failures l.source ≡ g.R.Source.failures l.fn.source;
       stands : StandsAt p l.self.index (l.row * stored_row_bytes p) l.cursor;
-      position : l.row < (rect p l.self.index).height → bytes_left bytes l.cursor ≡ drop (l.row * stored_row_bytes p) stored;
-      enough : l.fn.band.from < l.row → (l.row - 1) * stored_row_bytes p + needed_of_row p l.self.format.color len ≤ length stored;
+      position : l.row < (rect p l.self.index).height
+          → bytes_left bytes l.cursor ≡ drop (l.row * stored_row_bytes p) stored;
+      enough : l.fn.band.from < l.row
+          → (l.row - 1) * stored_row_bytes p + needed_of_row p l.self.format.color len
+          ≤ length stored;
       written : Writes (IsIn l.fn.band.destination.stride l.fn.band.destination.top (l.row - l.fn.band.from) l.fn.band.destination.left len) (in_rect (λ r b. chunk_byte bytes l.self.format.order p l.self.format.color l.self.index (l.fn.band.from + r) b) l.fn.band.destination.stride l.fn.band.destination.top l.fn.band.destination.left) (g.W.RowSink.bytes l.fn.sink) (g.W.RowSink.bytes l.sink);
     }

@@ -5,4 +5,5 @@ use Rattle.tiff_page.proofs.output_row.RowFormat.read_changed_row.Goals as goal
 
 pub read_finished-requires-clause-whole : goal.read_finished-requires-clause-whole
 read_finished-requires-clause-whole g c =
-    row_of_numbers (view.page c.args.self.page.now) c.args.self.color c.args.self.width (length c.args.out.now) c.requires.read.stored c.requires.out
+    row_of_numbers (view.page c.args.self.page.now) c.args.self.color c.args.self.width
+    (length c.args.out.now) c.requires.read.stored c.requires.out

@@ -20,7 +20,8 @@ returns-in_err-form_fault-clause-answer g c =
     let p = c.args.self.now.page.now in
     let next = c.args.next in
     let i = c.from.result * c.chunks_of_plane-in_plane.result + next.index in
-    let q : i ≡ c.loop-plane.plane * chunks_of_plane (view.page p) + next.index = λ t. c.from.ensures t * c.chunks_of_plane-in_plane.ensures.count t + next.index in
+    let q : i ≡ c.loop-plane.plane * chunks_of_plane (view.page p) + next.index =
+    λ t. c.from.ensures t * c.chunks_of_plane-in_plane.ensures.count t + next.index in
     let answered = err_from_is_err_and c.from_residual.result c.from_residual.ensures.1 in
     rw (answered.1, answered.2) (form_cause (g.R.Source.contents c.args.source.now).bytes c.args.self.now.order (view.page p) c.args.self.now.limits.now next.color next.planes next.index _ c.loop-plane.plane i c.in_err-form_fault.field-0.0 q c.loop-plane-test.true c.loop-plane.invariant.none c.in_err-form_fault.ensures.answer)
 
@@ -29,20 +30,34 @@ rows-requires g c =
     let p = c.args.self.now.page.now in
     let next = c.args.next in
     let i = c.from.result * c.chunks_of_plane-in_plane.result + next.index in
-    let q : i ≡ c.loop-plane.plane * chunks_of_plane (view.page p) + next.index = λ t. c.from.ensures t * c.chunks_of_plane-in_plane.ensures.count t + next.index in
+    let q : i ≡ c.loop-plane.plane * chunks_of_plane (view.page p) + next.index =
+    λ t. c.from.ensures t * c.chunks_of_plane-in_plane.ensures.count t + next.index in
     let passed = c.in_ok-form_fault.ensures in
-    let formed = subst (λ (m : ℕ). form_fault (view.page p) c.args.self.now.limits.now next.color m ≡ Ok tt) q passed.answer in
-    let room = subst (λ (m : ℕ). HasRoom (view.page p) next.color next.first.stride next.rows next.first.top next.first.left m) (sym q) (c.requires.fits c.loop-plane.plane c.loop-plane-test.true formed) in
-    let t : c.from-in-loop-plane.result * next.rows + next.first.top ≡ c.loop-plane.plane * next.rows + next.first.top = λ z. c.from-in-loop-plane.ensures z * next.rows + next.first.top in
-    let fits = plane_room c.loop-plane.plane next.planes next.rows next.first.top (rect (view.page p) i).height next.first.stride (next.planes * (next.rows * next.first.stride)) c.loop-plane-test.true room.above (omega arith) in
-    let end : (c.from-in-loop-plane.result * next.rows + next.first.top + (rect (view.page p) i).height) * next.first.stride ≤ next.planes * (next.rows * next.first.stride) = subst (λ (m : ℕ). (m + (rect (view.page p) i).height) * next.first.stride ≤ next.planes * (next.rows * next.first.stride)) (sym t) fits in
+    let formed =
+    subst (λ (m : ℕ). form_fault (view.page p) c.args.self.now.limits.now next.color m
+    ≡ Ok tt) q passed.answer in
+    let room =
+    subst (λ (m : ℕ). HasRoom (view.page p) next.color next.first.stride next.rows next.first.top next.first.left m) (sym q) (c.requires.fits c.loop-plane.plane c.loop-plane-test.true formed) in
+    let t : c.from-in-loop-plane.result * next.rows + next.first.top
+    ≡ c.loop-plane.plane * next.rows + next.first.top =
+    λ z. c.from-in-loop-plane.ensures z * next.rows + next.first.top in
+    let fits =
+    plane_room c.loop-plane.plane next.planes next.rows next.first.top
+    (rect (view.page p) i).height next.first.stride (next.planes * (next.rows * next.first.stride)) c.loop-plane-test.true room.above (omega arith) in
+    let end : (c.from-in-loop-plane.result * next.rows + next.first.top
+    + (rect (view.page p) i).height) * next.first.stride
+    ≤ next.planes * (next.rows * next.first.stride) =
+    subst (λ (m : ℕ). (m + (rect (view.page p) i).height) * next.first.stride
+    ≤ next.planes * (next.rows * next.first.stride)) (sym t) fits in
     record {
-      read = form_read (view.page p) c.args.self.now.limits.now next.color i p.sampled c.requires.colored passed.answer;
+      read =
+          form_read (view.page p) c.args.self.now.limits.now next.color i p.sampled c.requires.colored passed.answer;
       formed = method_passed (view.page p) c.args.self.now.limits.now next.color i passed.answer;
       listed = passed.within;
       some = room.some;
       columns = room.columns;
-      room = omega (arith, end, c.requires.room, g.met.W.RowSink.room_kept c.args.sink.now c.loop-plane.sink c.loop-plane.invariant.later);
+      room =
+          omega (arith, end, c.requires.room, g.met.W.RowSink.room_kept c.args.sink.now c.loop-plane.sink c.loop-plane.invariant.later);
       few = omega (arith, end, c.requires.few);
     }
 
@@ -51,9 +66,13 @@ returns-in_err-rows-clause-answer g c =
     let p = c.args.self.now.page.now in
     let next = c.args.next in
     let i = c.from.result * c.chunks_of_plane-in_plane.result + next.index in
-    let q : i ≡ c.loop-plane.plane * chunks_of_plane (view.page p) + next.index = λ t. c.from.ensures t * c.chunks_of_plane-in_plane.ensures.count t + next.index in
-    let given = subst (λ (bytes : List ℕ). IsCause (Unit {0}) (g.R.Source.failures c.loop-plane.source < g.R.Source.failures c.rows.new.source) c.in_err-rows.field-0.0 (fail_if (is_short bytes c.args.self.now.order (view.page p) next.color i) (IoError UnexpectedEof) ≡ Err c.in_err-rows.field-0.0)) (same_bytes c.loop-plane.invariant.same) c.in_err-rows.ensures.answer in
-    let answered = err_from_is_err_and c.from_residual-in_err-rows.result c.from_residual-in_err-rows.ensures.1 in
+    let q : i ≡ c.loop-plane.plane * chunks_of_plane (view.page p) + next.index =
+    λ t. c.from.ensures t * c.chunks_of_plane-in_plane.ensures.count t + next.index in
+    let given =
+    subst (λ (bytes : List ℕ). IsCause (Unit {0}) (g.R.Source.failures c.loop-plane.source
+    < g.R.Source.failures c.rows.new.source) c.in_err-rows.field-0.0 (fail_if (is_short bytes c.args.self.now.order (view.page p) next.color i) (IoError UnexpectedEof) ≡ Err c.in_err-rows.field-0.0)) (same_bytes c.loop-plane.invariant.same) c.in_err-rows.ensures.answer in
+    let answered =
+    err_from_is_err_and c.from_residual-in_err-rows.result c.from_residual-in_err-rows.ensures.1 in
     rw (answered.1, answered.2) (rows_cause (g.R.Source.contents c.args.source.now).bytes c.args.self.now.order (view.page p) c.args.self.now.limits.now next.color next.planes next.index
     _ _ c.loop-plane.plane i c.in_err-rows.field-0.0 q (λ f. omega (arith, f, c.loop-plane.invariant.count)) c.loop-plane-test.true c.loop-plane.invariant.none c.in_ok-form_fault.ensures.answer given)
 
@@ -62,20 +81,39 @@ loop-plane-preserved g c =
     let p = c.args.self.now.page.now in
     let next = c.args.next in
     let i = c.from.result * c.chunks_of_plane-in_plane.result + next.index in
-    let q : i ≡ c.loop-plane.plane * chunks_of_plane (view.page p) + next.index = λ t. c.from.ensures t * c.chunks_of_plane-in_plane.ensures.count t + next.index in
-    let formed = subst (λ (m : ℕ). form_fault (view.page p) c.args.self.now.limits.now next.color m ≡ Ok tt) q c.in_ok-form_fault.ensures.answer in
-    let room = subst (λ (m : ℕ). HasRoom (view.page p) next.color next.first.stride next.rows next.first.top next.first.left m) (sym q) (c.requires.fits c.loop-plane.plane c.loop-plane-test.true formed) in
-    let t : c.from-in-loop-plane.result * next.rows + next.first.top ≡ c.loop-plane.plane * next.rows + next.first.top = λ z. c.from-in-loop-plane.ensures z * next.rows + next.first.top in
-    let fits = plane_room c.loop-plane.plane next.planes next.rows next.first.top (rect (view.page p) i).height next.first.stride (next.planes * (next.rows * next.first.stride)) c.loop-plane-test.true room.above (omega arith) in
-    let end : (c.from-in-loop-plane.result * next.rows + next.first.top + (rect (view.page p) i).height) * next.first.stride ≤ next.planes * (next.rows * next.first.stride) = subst (λ (m : ℕ). (m + (rect (view.page p) i).height) * next.first.stride ≤ next.planes * (next.rows * next.first.stride)) (sym t) fits in
+    let q : i ≡ c.loop-plane.plane * chunks_of_plane (view.page p) + next.index =
+    λ t. c.from.ensures t * c.chunks_of_plane-in_plane.ensures.count t + next.index in
+    let formed =
+    subst (λ (m : ℕ). form_fault (view.page p) c.args.self.now.limits.now next.color m
+    ≡ Ok tt) q c.in_ok-form_fault.ensures.answer in
+    let room =
+    subst (λ (m : ℕ). HasRoom (view.page p) next.color next.first.stride next.rows next.first.top next.first.left m) (sym q) (c.requires.fits c.loop-plane.plane c.loop-plane-test.true formed) in
+    let t : c.from-in-loop-plane.result * next.rows + next.first.top
+    ≡ c.loop-plane.plane * next.rows + next.first.top =
+    λ z. c.from-in-loop-plane.ensures z * next.rows + next.first.top in
+    let fits =
+    plane_room c.loop-plane.plane next.planes next.rows next.first.top
+    (rect (view.page p) i).height next.first.stride (next.planes * (next.rows * next.first.stride)) c.loop-plane-test.true room.above (omega arith) in
+    let end : (c.from-in-loop-plane.result * next.rows + next.first.top
+    + (rect (view.page p) i).height) * next.first.stride
+    ≤ next.planes * (next.rows * next.first.stride) =
+    subst (λ (m : ℕ). (m + (rect (view.page p) i).height) * next.first.stride
+    ≤ next.planes * (next.rows * next.first.stride)) (sym t) fits in
     let same = same_bytes c.loop-plane.invariant.same in
-    let given = subst (λ (bytes : List ℕ). fail_if (is_short bytes c.args.self.now.order (view.page p) next.color i) (IoError UnexpectedEof) ≡ Ok tt) same c.in_ok-rows.ensures.answer in
+    let given =
+    subst (λ (bytes : List ℕ). fail_if (is_short bytes c.args.self.now.order (view.page p) next.color i) (IoError UnexpectedEof) ≡ Ok tt) same c.in_ok-rows.ensures.answer in
     record {
-      later = g.met.W.RowSink.further c.args.sink.now c.loop-plane.sink c.rows.new.sink c.loop-plane.invariant.later c.in_ok-rows.ensures.later;
+      later =
+          g.met.W.RowSink.further c.args.sink.now c.loop-plane.sink c.rows.new.sink c.loop-plane.invariant.later c.in_ok-rows.ensures.later;
       same = c.in_ok-rows.ensures.kept.contents ∙ c.loop-plane.invariant.same;
       count = omega (arith, c.in_ok-rows.ensures.kept.swallowed, c.loop-plane.invariant.count);
-      none = plane_none (g.R.Source.contents c.args.source.now).bytes c.args.self.now.order (view.page p) c.args.self.now.limits.now next.color next.planes next.index c.loop-plane.plane i q c.loop-plane.invariant.none c.in_ok-form_fault.ensures.answer given;
-      written = λ total l. plane_more (g.R.Source.contents c.args.source.now).bytes c.args.self.now.order (view.page p) c.args.self.now.limits.now next.color next.planes next.index (g.R.Source.contents c.loop-plane.source).bytes c.loop-plane.plane i next.first.stride next.rows next.first.top (c.from-in-loop-plane.result * next.rows + next.first.top) next.first.left
+      none =
+          plane_none (g.R.Source.contents c.args.source.now).bytes c.args.self.now.order
+          (view.page p) c.args.self.now.limits.now next.color next.planes next.index c.loop-plane.plane i q c.loop-plane.invariant.none c.in_ok-form_fault.ensures.answer given;
+      written =
+          λ total l. plane_more (g.R.Source.contents c.args.source.now).bytes c.args.self.now.order
+          (view.page p) c.args.self.now.limits.now next.color next.planes next.index
+          (g.R.Source.contents c.loop-plane.source).bytes c.loop-plane.plane i next.first.stride next.rows next.first.top (c.from-in-loop-plane.result * next.rows + next.first.top) next.first.left
           (filled_to total (g.W.RowSink.bytes c.args.sink.now)) (filled_to total (g.W.RowSink.bytes c.loop-plane.sink)) (filled_to total (g.W.RowSink.bytes c.rows.new.sink)) same q t
           (c.loop-plane.invariant.written total l) (c.in_ok-rows.ensures.ok total (omega (arith, l, (g.met.W.RowSink.enough _ (next.planes * (next.rows * next.first.stride)) end).1)));
     }
@@ -83,7 +121,8 @@ loop-plane-preserved g c =
 pub returns-clause-ok : goal.returns-clause-ok
 returns-clause-ok g c =
     let next = c.args.next in
-    let e : c.loop-plane.plane ≡ next.planes = omega (arith, c.loop-plane-test.false, c.loop-plane.auto.plane-end) in
+    let e : c.loop-plane.plane ≡ next.planes =
+    omega (arith, c.loop-plane-test.false, c.loop-plane.auto.plane-end) in
     λ total l. subst (λ (m : ℕ). WritesPlanes (g.R.Source.contents c.args.source.now).bytes c.args.self.now.order (view.page c.args.self.now.page.now) next.color next.index next.first.stride next.rows next.first.top next.first.left m (filled_to total (g.W.RowSink.bytes c.args.sink.now)) (filled_to total (g.W.RowSink.bytes c.loop-plane.sink))) e (c.loop-plane.invariant.written total l)
 
 pub returns-in_err-rows-clause-asked : goal.returns-in_err-rows-clause-asked
@@ -91,7 +130,9 @@ returns-in_err-rows-clause-asked g c =
     let p = c.args.self.now.page.now in
     let next = c.args.next in
     let i = c.from.result * c.chunks_of_plane-in_plane.result + next.index in
-    let q : i ≡ c.loop-plane.plane * chunks_of_plane (view.page p) + next.index = λ t. c.from.ensures t * c.chunks_of_plane-in_plane.ensures.count t + next.index in
-    let answered = err_from_is_err_and c.from_residual-in_err-rows.result c.from_residual-in_err-rows.ensures.1 in
+    let q : i ≡ c.loop-plane.plane * chunks_of_plane (view.page p) + next.index =
+    λ t. c.from.ensures t * c.chunks_of_plane-in_plane.ensures.count t + next.index in
+    let answered =
+    err_from_is_err_and c.from_residual-in_err-rows.result c.from_residual-in_err-rows.ensures.1 in
     rw (answered.1, answered.2) (part_asked (view.page p) next.color (chunk_part (view.page p) next.index next.planes next.first.stride) c.loop-plane.plane 0 i _ (g.R.Source.contents c.args.source.now) (g.R.Source.contents c.loop-plane.source) c.loop-plane.invariant.same
     (q ∙ omega arith) c.loop-plane-test.true (omega arith) c.in_err-rows.ensures.asked)

@@ -23,13 +23,15 @@ returns-clause-answer g c =
     let old = c.new-sink.result.bytes.items in
     let none : old ≡ [] = ap (λ v. v.items) c.new-sink.ensures ∙ c.in_ok-bytes.ensures.none in
     rw c.into_bytes.ensures (bytes_given (g.R.Source.contents c.args.source.now).bytes c.args.self.now.order (view.page p) c.args.self.now.limits.now c.args.request (sides_of p) c.requires.laid (color_in c.args.request) type.U8 (first_in c.args.request) c.args.len
-    (filled_to c.args.len old) _ refl c.requires.typed c.in_ok-bytes.ensures.answer (none_filled c.args.len old none)
+    (filled_to c.args.len old) _ refl c.requires.typed c.in_ok-bytes.ensures.answer
+    (none_filled c.args.len old none)
     (rw (same_bytes c.in_ok-bytes.ensures.kept.contents) at (c.in_ok-requested.ensures.answer c.args.len c.requires.room ∙ ap Ok (sym c.in_ok-zeros_to.ensures.zeros))))
 
 pub returns-in_err-requested-clause-answer : goal.returns-in_err-requested-clause-answer
 returns-in_err-requested-clause-answer g c =
     let p = c.args.self.now.page.now in
-    let answered = err_from_is_err_and c.from_residual-in_err-requested.result c.from_residual-in_err-requested.ensures.1 in
+    let answered =
+    err_from_is_err_and c.from_residual-in_err-requested.result c.from_residual-in_err-requested.ensures.1 in
     rw (answered.1, answered.2) (filling_cause (g.R.Source.contents c.args.source.now).bytes c.args.self.now.order (view.page p) c.args.self.now.limits.now c.args.request (sides_of p) c.requires.laid _ _ (color_in c.args.request) type.U8 (first_in c.args.request) c.args.len
     _ c.in_err-requested.field-0.0 (λ f. omega (arith, f, c.in_ok-bytes.ensures.kept.failures)) c.requires.typed c.in_ok-bytes.ensures.answer (rw (same_bytes c.in_ok-bytes.ensures.kept.contents) at (c.in_err-requested.ensures.answer c.args.len c.requires.room)))
 
@@ -41,5 +43,6 @@ returns-in_err-bytes-clause-asked g c =
 
 pub returns-in_err-requested-clause-asked : goal.returns-in_err-requested-clause-asked
 returns-in_err-requested-clause-asked g c =
-    let answered = err_from_is_err_and c.from_residual-in_err-requested.result c.from_residual-in_err-requested.ensures.1 in
+    let answered =
+    err_from_is_err_and c.from_residual-in_err-requested.result c.from_residual-in_err-requested.ensures.1 in
     rw (answered.1, answered.2) (portion_filled c.args.self.now.order (view.page c.args.self.now.page.now) c.args.request _ (g.R.Source.contents c.args.source.now) (g.R.Source.contents c.allocate_output.new.source) c.in_ok-bytes.ensures.kept.contents c.in_err-requested.ensures.asked)

@@ -10,4 +10,6 @@ pub returns-clause-asked : goal.returns-clause-asked
 returns-clause-asked g c =
     let p = view.page c.args.self.now.page.now in
     let l = view.layout c.in_ok-layout.layout in
-    laid_asked p (planes_layout p (rect p c.args.index).width (rect p c.args.index).height) (λ l. chunk_part p c.args.index 1 l.row_bytes) l (chunk_part p c.args.index 1 l.row_bytes) (g.R.Source.contents c.args.source.now) _ c.in_ok-layout.ensures.answer refl c.read_samples.ensures.asked
+    laid_asked p (planes_layout p (rect p c.args.index).width (rect p c.args.index).height)
+    (λ l. chunk_part p c.args.index 1 l.row_bytes) l (chunk_part p c.args.index 1 l.row_bytes)
+    (g.R.Source.contents c.args.source.now) _ c.in_ok-layout.ensures.answer refl c.read_samples.ensures.asked

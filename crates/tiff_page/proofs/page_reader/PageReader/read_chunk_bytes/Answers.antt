@@ -10,9 +10,11 @@ use Rattle.tiff_page.proofs.page_reader.PageReader.read_chunk_bytes.Goals as goa
 
 pub returns-in_err-form_fault-clause-answer : goal.returns-in_err-form_fault-clause-answer
 returns-in_err-form_fault-clause-answer g c =
-    let answered = err_from_is_err_and c.from_residual-in_err-form_fault.result c.from_residual-in_err-form_fault.ensures.1 in
+    let answered =
+    err_from_is_err_and c.from_residual-in_err-form_fault.result c.from_residual-in_err-form_fault.ensures.1 in
     let l = view.layout c.in_ok-layout.layout in
-    let room : room_fault (length c.args.buf.now) l.plane_stride ≡ Ok tt = grind (arith, common_steps) in
+    let room : room_fault (length c.args.buf.now) l.plane_stride ≡ Ok tt =
+    grind (arith, common_steps) in
     rw (answered.1, answered.2)
     (chunk_form _ _ (g.R.Source.contents c.args.source.now).bytes c.args.self.now.order (view.page c.args.self.now.page.now) c.args.self.now.limits.now c.args.buf.now l c.in_err-form_fault.field-0.0 c.args.index c.in_ok-layout.ensures.answer room c.in_err-form_fault.ensures.answer)
 
@@ -20,4 +22,6 @@ pub returns-clause-asked : goal.returns-clause-asked
 returns-clause-asked g c =
     let p = view.page c.args.self.now.page.now in
     let l = view.layout c.in_ok-layout.layout in
-    laid_asked p (planes_layout p (rect p c.args.index).width (rect p c.args.index).height) (λ l. chunk_part p c.args.index 1 l.row_bytes) l (chunk_part p c.args.index 1 l.row_bytes) (g.R.Source.contents c.args.source.now) _ c.in_ok-layout.ensures.answer refl c.request_into.ensures.asked
+    laid_asked p (planes_layout p (rect p c.args.index).width (rect p c.args.index).height)
+    (λ l. chunk_part p c.args.index 1 l.row_bytes) l (chunk_part p c.args.index 1 l.row_bytes)
+    (g.R.Source.contents c.args.source.now) _ c.in_ok-layout.ensures.answer refl c.request_into.ensures.asked

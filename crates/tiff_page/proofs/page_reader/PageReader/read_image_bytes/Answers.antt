@@ -9,10 +9,13 @@ use Rattle.tiff_page.proofs.page_reader.PageReader.read_image_bytes.Goals as goa
 
 pub returns-in_err-form_fault-clause-answer : goal.returns-in_err-form_fault-clause-answer
 returns-in_err-form_fault-clause-answer g c =
-    let answered = err_from_is_err_and c.from_residual-in_err-form_fault.result c.from_residual-in_err-form_fault.ensures.1 in
+    let answered =
+    err_from_is_err_and c.from_residual-in_err-form_fault.result c.from_residual-in_err-form_fault.ensures.1 in
     let l = view.layout c.in_ok-layout.layout in
-    let room : room_fault (length c.args.buf.now) l.plane_stride ≡ Ok tt = grind (arith, common_steps) in
-    let some : 0 < planes_used (view.page c.args.self.now.page.now) l (length c.args.buf.now) = grind (arith, common_steps) in
+    let room : room_fault (length c.args.buf.now) l.plane_stride ≡ Ok tt =
+    grind (arith, common_steps) in
+    let some : 0 < planes_used (view.page c.args.self.now.page.now) l (length c.args.buf.now) =
+    grind (arith, common_steps) in
     rw (answered.1, answered.2)
     (image_form _ _ (g.R.Source.contents c.args.source.now).bytes c.args.self.now.order (view.page c.args.self.now.page.now) c.args.self.now.limits.now c.args.buf.now l c.in_err-form_fault.field-0.0 (grind (arith, common_steps)) (grind (arith, common_steps)) (grind (arith, common_steps)) (grind (arith, common_steps)) c.in_ok-layout.ensures.answer room some c.in_err-form_fault.ensures.answer)
 

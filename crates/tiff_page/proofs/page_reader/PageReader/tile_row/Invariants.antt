@@ -18,7 +18,9 @@ invariant-loop-from g l =
       count : g.R.Source.failures l.source ≡ g.R.Source.failures l.fn.source;
       below : l.from ≤ l.height;
       none : 0 < l.from → rows_fault bytes l.self.order p color l.fn.next.chunk l.from ≡ Ok tt;
-      written : (total : ℕ) → g.W.RowSink.whole l.fn.next.part.layout.plane_stride ≤ total → WritesImageRows bytes l.self.order p color l.fn.next.part.layout.row_bytes y (y + l.from) (filled_to total (g.W.RowSink.bytes l.fn.sink)) (filled_to total (g.W.RowSink.bytes l.sink));
+      written : (total : ℕ) → g.W.RowSink.whole l.fn.next.part.layout.plane_stride ≤ total
+          → WritesImageRows bytes l.self.order p color l.fn.next.part.layout.row_bytes y (y
+          + l.from) (filled_to total (g.W.RowSink.bytes l.fn.sink)) (filled_to total (g.W.RowSink.bytes l.sink));
     }
 
 abbrev pub decreases-loop-from : goal.decreases-loop-from

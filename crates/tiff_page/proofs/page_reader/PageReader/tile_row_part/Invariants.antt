@@ -20,6 +20,7 @@ invariant-loop-column g l =
       later : g.W.RowSink.goes_on l.fn.sink l.sink;
       same : g.R.Source.contents l.source ≡ g.R.Source.contents l.fn.source;
       count : g.R.Source.failures l.source ≡ g.R.Source.failures l.fn.source;
-      none : each_below (λ column. fail_if (rows_short bytes l.self.order p color (l.fn.part.first + column) l.fn.part.to) (IoError UnexpectedEof)) l.column ≡ Ok tt;
+      none : each_below (λ column. fail_if (rows_short bytes l.self.order p color (l.fn.part.first
+          + column) l.fn.part.to) (IoError UnexpectedEof)) l.column ≡ Ok tt;
       written : Writes (IsIn stride l.fn.part.top (l.fn.part.to - l.fn.part.from) 0 (edge p color l.column)) (in_rect (λ r b. image_byte p color stride bytes l.self.order (((rect p l.fn.part.first).y + l.fn.part.from + r) * stride + b)) stride l.fn.part.top 0) (g.W.RowSink.bytes l.fn.sink) (g.W.RowSink.bytes l.sink);
     }

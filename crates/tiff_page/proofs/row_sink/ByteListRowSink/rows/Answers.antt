@@ -26,13 +26,16 @@ returns-clause-row g c =
     let next = c.args.next.now in
     let p = view.page next.format.page.now in
     let file = (g.R.Source.contents c.args.source.now).bytes in
-    let failed = g.R.Source.failures c.args.source.now < g.R.Source.failures c.read_finished-2.new.source in
+    let failed =
+    g.R.Source.failures c.args.source.now < g.R.Source.failures c.read_finished-2.new.source in
     let list = c.zeros_to.new.self.bytes in
     let mid = c.deref_mut-2.result.now in
     let row = c.read_finished-2.new.out in
     let out = put_mid next.at (next.at + next.len - next.at) mid row in
     let zeros = c.in_ok-zeros_to.ensures.zeros in
-    let long = ap (λ (xs : List ℕ). length xs) zeros ∙ filled_length (next.at + next.len) c.args.self.now.bytes.items in
+    let long =
+    ap (λ (xs : List ℕ). length xs) zeros
+    ∙ filled_length (next.at + next.len) c.args.self.now.bytes.items in
     subst (λ (xs : List ℕ). RowPut file next.format.order p next.format.color c.args.cursor.now c.read_finished-2.new.cursor failed next.at next.len xs (take list.len (out ++ drop (length out) list.items)) c.read_finished-2.result) zeros
     (put_in_list file next.format.order p next.format.color c.args.cursor.now c.read_finished-2.new.cursor failed next.at next.len list.len
     list.items mid row c.read_finished-2.result (search rules) (omega (arith, long)) c.deref_mut-2.ensures.value c.deref_mut-2.ensures.len c.read_finished-2.ensures.row)
@@ -40,6 +43,9 @@ returns-clause-row g c =
 pub returns-clause-moves : goal.returns-clause-moves
 returns-clause-moves g c =
     let next = c.args.next.now in
-    let zeros = ap (λ (xs : List ℕ). length xs) c.in_ok-zeros_to.ensures.zeros ∙ filled_length (next.at + next.len) c.args.self.now.bytes.items in
-    let there : next.at + next.len ≤ length c.deref_mut-2.result.now = omega (arith, zeros, ap (λ (xs : List ℕ). length xs) c.deref_mut-2.ensures.value) in
+    let zeros =
+    ap (λ (xs : List ℕ). length xs) c.in_ok-zeros_to.ensures.zeros
+    ∙ filled_length (next.at + next.len) c.args.self.now.bytes.items in
+    let there : next.at + next.len ≤ length c.deref_mut-2.result.now =
+    omega (arith, zeros, ap (λ (xs : List ℕ). length xs) c.deref_mut-2.ensures.value) in
     subst (λ (n : ℕ). OnOk c.read_finished-2.result (Moves c.args.cursor.now n c.read_finished-2.new.cursor)) (search rules) c.read_finished-2.ensures.moves

@@ -22,7 +22,8 @@ returns-clause-row g c =
     let out = c.read_row.new.out in
     let all : length out ≡ next.len = search rules in
     let same : row ≡ out = all_of_room row out _ _ (search rules) c.deref.ensures.value in
-    let put = subst (λ (xs : List g.row.T.Denot). IsPut next.at row (bytes_of xs) (bytes_of numbers)) c.deref_mut-2.ensures.value c.put_row.ensures in
+    let put =
+    subst (λ (xs : List g.row.T.Denot). IsPut next.at row (bytes_of xs) (bytes_of numbers)) c.deref_mut-2.ensures.value c.put_row.ensures in
     subst (λ (xs : List g.row.T.Denot). PutsRow next.format.order p color left rest next.at next.len (bytes_of list.items) (bytes_of xs)) (all_written numbers list.items list.len (search rules))
     (put_from_room next.format.order p color left rest next.at next.len row (bytes_of list.items) (bytes_of numbers) (ap (λ (xs : List ℕ). length xs) same ∙ all)
     (subst (TakesRow next.format.order p color left rest) (sym same) c.in_ok-read_row.ensures.row) put)

@@ -21,7 +21,8 @@ pub loop-row-preserved : goal.loop-row-preserved
 loop-row-preserved c =
     let p = view.page c.args.self.now.page.now in
     let size = c.chunk_data_dimensions-width.ensures.size in
-    let wide : c.chunk_data_dimensions-width.result.0 ≤ p.chunk_width = omega (arith, width_within p c.args.index, ap (λ (d : ℕ × ℕ). d.0) size) in
+    let wide : c.chunk_data_dimensions-width.result.0 ≤ p.chunk_width =
+    omega (arith, width_within p c.args.index, ap (λ (d : ℕ × ℕ). d.0) size) in
     let few : c.read_len-read.result ≤ c.stored_row_bytes-step.result =
     omega (arith, read_within p c.args.self.now.color c.chunk_data_dimensions-width.result.0 c.requires.read.stored.stores wide, c.read_len-read.ensures.value, c.stored_row_bytes-step.ensures.value) in
     let from : ℕ = c.loop-row.row * c.row_len-len.result in
@@ -31,7 +32,8 @@ loop-row-preserved c =
     let room : to + c.read_len-read.result ≤ length c.loop-row.stored =
     row_room p c.args.self.now.color c.args.index c.loop-row.row c.read_len-read.result c.stored_row_bytes-step.result c.chunk_data_dimensions-width.result.1 (length c.loop-row.stored)
     (c.read_len-read.ensures.value ∙ ap (λ (d : ℕ × ℕ). needed_of_row p c.args.self.now.color (row_bytes p c.args.self.now.color d.0)) size)
-    c.stored_row_bytes-step.ensures.value (ap (λ (d : ℕ × ℕ). d.1) size) c.loop-row-test.true (omega (arith, c.requires.stored, c.loop-row.auto.stored)) in
+    c.stored_row_bytes-step.ensures.value (ap (λ (d : ℕ × ℕ). d.1) size) c.loop-row-test.true
+    (omega (arith, c.requires.stored, c.loop-row.auto.stored)) in
     rows_more c.args.self.now.order p c.args.self.now.color c.chunk_data_dimensions-width.result.0
     c.row_len-len.result c.read_len-read.result c.stored_row_bytes-step.result c.args.samples.now c.args.stored.now c.loop-row.row c.loop-row.stored c.put_row.new.row _
     few (omega arith) room (omega arith) c.loop-row.invariant
@@ -44,6 +46,7 @@ returns c =
     let size = c.chunk_data_dimensions-width.ensures.size in
     all_rows c.args.self.now.order p c.args.self.now.color c.args.index c.chunk_data_dimensions-width.result.0
     c.row_len-len.result c.read_len-read.result c.stored_row_bytes-step.result c.loop-row.row c.args.samples.now c.args.stored.now c.loop-row.stored
-    (ap (λ (d : ℕ × ℕ). d.0) size) (c.row_len-len.ensures.value ∙ ap (λ (d : ℕ × ℕ). row_bytes p c.args.self.now.color d.0) size)
+    (ap (λ (d : ℕ × ℕ). d.0) size) (c.row_len-len.ensures.value
+    ∙ ap (λ (d : ℕ × ℕ). row_bytes p c.args.self.now.color d.0) size)
     (c.read_len-read.ensures.value ∙ ap (λ (d : ℕ × ℕ). needed_of_row p c.args.self.now.color (row_bytes p c.args.self.now.color d.0)) size)
     c.stored_row_bytes-step.ensures.value (omega (arith, ap (λ (d : ℕ × ℕ). d.1) size, c.loop-row.auto.row-end, c.loop-row-test.false)) c.loop-row.invariant

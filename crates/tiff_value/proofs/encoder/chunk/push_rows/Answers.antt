@@ -11,7 +11,8 @@ use Rattle.tiff_value.proofs.encoder.chunk.push_rows.Goals as goal
 
 pub loop-at-preserved : goal.loop-at-preserved
 loop-at-preserved g c =
-    let fits : c.loop-at.at + c.args.row ≤ length c.args.samples.now = row_fits c.loop-at.at c.args.row (length c.args.samples.now) c.loop-at-test.true c.loop-at.invariant.even c.requires.whole in
+    let fits : c.loop-at.at + c.args.row ≤ length c.args.samples.now =
+    row_fits c.loop-at.at c.args.row (length c.args.samples.now) c.loop-at-test.true c.loop-at.invariant.even c.requires.whole in
     let size : ℕ = type_size g.T.TiffValue.value_type in
     let num = sample_number size g.T.Sample.bits in
     record {
@@ -28,5 +29,6 @@ pub returns : goal.returns
 returns g c =
     let size : ℕ = type_size g.T.TiffValue.value_type in
     let num = sample_number size g.T.Sample.bits in
-    let last : c.loop-at.at ≡ length (map num c.args.samples.now) = omega (arith, c.loop-at.invariant.within, c.loop-at-test.false, length-map c.args.samples.now num) in
+    let last : c.loop-at.at ≡ length (map num c.args.samples.now) =
+    omega (arith, c.loop-at.invariant.within, c.loop-at-test.false, length-map c.args.samples.now num) in
     rows_end (256 ^ size) c.args.row c.args.stride (map num c.args.samples.now) size c.loop-at.at c.args.out.now.items c.loop-at.out.items last c.loop-at.invariant.made

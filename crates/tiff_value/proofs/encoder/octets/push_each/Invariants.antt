@@ -5,6 +5,7 @@ use Rattle.tiff_value.proofs.encoder.octets.push_each.Given as goal
 
 abbrev pub invariant-loop-k : goal.invariant-loop-k
 invariant-loop-k g l = record {
-  made : l.list.items ≡ l.initial.list.items ++ flat_map g.T.LittleEndianBytes.written (take l.k l.numbers);
+  made : l.list.items ≡ l.initial.list.items
+      ++ flat_map g.T.LittleEndianBytes.written (take l.k l.numbers);
   room : vec_len l.list + (length l.numbers - l.k) * g.row.N ≤ vec_capacity l.list;
 }

@@ -3,5 +3,6 @@ use Rattle.tiff_value.proofs.encoder.octets.show_bytes.Given as goal
 
 abbrev pub invariant-loop-byte : goal.invariant-loop-byte
 invariant-loop-byte g l = record {
-  seen : g.S.ByteWitness.seen l.witness ≡ g.S.ByteWitness.seen l.fn.witness ++ take l.byte-index l.bytes;
+  seen : g.S.ByteWitness.seen l.witness ≡ g.S.ByteWitness.seen l.fn.witness
+      ++ take l.byte-index l.bytes;
 }

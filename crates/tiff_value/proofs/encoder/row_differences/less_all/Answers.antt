@@ -17,8 +17,10 @@ parts-preserved g c =
     let here : s + 16 * c.parts.k ≡ at = omega arith in
     let more : at + 16 ≡ s + 16 * (c.parts.k + 1) = omega arith in
     let part = c.less_lanes.new.out in
-    let h = subst (λ (n : ℕ). Upto g.T.Whole.bits g.T.Whole.modulus s row n c.parts.out) here c.parts.invariant in
-    subst (λ (n : ℕ). Upto g.T.Whole.bits g.T.Whole.modulus s row n (put_mid at (at + 16 - at) c.parts.out part)) more
+    let h =
+    subst (λ (n : ℕ). Upto g.T.Whole.bits g.T.Whole.modulus s row n c.parts.out) here c.parts.invariant in
+    subst (λ (n : ℕ). Upto g.T.Whole.bits g.T.Whole.modulus s row n (put_mid at (at
+    + 16 - at) c.parts.out part)) more
     (upto_lanes g.T.Whole.bits g.T.Whole.modulus s row 16 at c.parts.out part (omega arith) (omega (arith, c.parts-test.true, c.requires.whole)) c.all_below.ensures h c.less_lanes.ensures)
 
 pub rest-preserved : goal.rest-preserved

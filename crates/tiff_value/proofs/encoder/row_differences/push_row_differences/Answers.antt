@@ -21,7 +21,9 @@ returns g c =
     let xs = c.deref_mut.result.now in
     let wide : length xs ≡ end = c.deref_mut.ensures.len ∙ last in
     let many : length c.put_row_part.new.out ≡ end - start =
-    c.put_row_part.auto.out ∙ length-take-le (length xs - start) (drop start xs) (omega (arith, length-drop start xs)) ∙ ap (λ (n : ℕ). n - start) wide in
+    c.put_row_part.auto.out ∙ length-take-le (length xs - start) (drop start xs)
+    (omega (arith, length-drop start xs)) ∙ ap (λ (n : ℕ). n - start) wide in
     put_behind old c.resize.new.self.items c.deref_mut.result.now c.put_row_part.new.out _ start end c.resize.new.self.len c.deref_mut.ensures.value
-    (c.in_ok-resize.ensures.items ∙ ap (λ (n : ℕ). take end old ++ replicate {A = ℕ} (end - n) 0) (sym c.len-start.ensures)) here order last many
+    (c.in_ok-resize.ensures.items ∙ ap (λ (n : ℕ). take end old
+    ++ replicate {A = ℕ} (end - n) 0) (sym c.len-start.ensures)) here order last many
     (c.put_row_part.ensures ∙ whole_part size g.T.Whole.modulus c.args.stride numbers (length row) (omega (arith, long)) some (omega (arith, long, c.if-row-stride.false))) _

@@ -5,4 +5,5 @@ use Rattle.tiffpage_lib.proofs.InParts.{asked}
 use Rattle.tiffpage_lib.proofs.in_parts.WhichPagesQuestion.ask.Goals as goal
 
 pub returns : goal.returns
-returns g c = asked (λ file answer. AnswersWithoutSource pages_in answer (list_of file)) g.S.SeenFile.bytes c.args.seen.now.seen c.pages_seen.result c.pages_seen.ensures
+returns g c =
+    asked (λ file answer. AnswersWithoutSource pages_in answer (list_of file)) g.S.SeenFile.bytes c.args.seen.now.seen c.pages_seen.result c.pages_seen.ensures

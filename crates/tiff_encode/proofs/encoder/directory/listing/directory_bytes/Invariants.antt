@@ -8,4 +8,5 @@ use Rattle.tiff_encode.proofs.encoder.directory.listing.directory_bytes.Given as
 abbrev pub invariant-loop-tag : goal.invariant-loop-tag
 invariant-loop-tag l =
     let fields = l.directory.entries in
-    l.out.items ++ flat_map (entry_bytes l.kind) l.tag-iterator ≡ le (count_len l.kind) (len fields) ++ flat_map (entry_bytes l.kind) (entries fields)
+    l.out.items ++ flat_map (entry_bytes l.kind) l.tag-iterator ≡ le (count_len l.kind) (len fields)
+    ++ flat_map (entry_bytes l.kind) (entries fields)

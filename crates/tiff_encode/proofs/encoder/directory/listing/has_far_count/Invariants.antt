@@ -6,4 +6,5 @@ use Rattle.tiff_encode.proofs.encoder.directory.listing.has_far_count.Given as g
 
 abbrev pub invariant-loop-entry : goal.invariant-loop-entry
 invariant-loop-entry l =
-    list_any (λ entry. is_past l.kind entry.1.count) l.entry-iterator ≡ list_any (λ entry. is_past l.kind entry.1.count) (entries l.directory.entries)
+    list_any (λ entry. is_past l.kind entry.1.count) l.entry-iterator
+    ≡ list_any (λ entry. is_past l.kind entry.1.count) (entries l.directory.entries)

@@ -9,7 +9,10 @@ pub loop-column-preserved : goal.loop-column-preserved
 loop-column-preserved g c =
     let number = sample_number (type_size g.T.TiffValue.value_type) g.T.Sample.bits in
     let at = c.loop-column.column * c.args.samples + c.args.plane in
-    let w : at < length c.args.pixels.now = plane_within c.loop-column.column c.args.count c.args.samples c.args.plane (length c.args.pixels.now) c.loop-column-test.true c.requires.one c.requires.whole in
+    let w : at < length c.args.pixels.now =
+    plane_within c.loop-column.column c.args.count c.args.samples c.args.plane
+    (length c.args.pixels.now) c.loop-column-test.true c.requires.one c.requires.whole in
     one_pushed number c.args.out.now.items c.loop-column.out.items c.push.new.self.items c.index-pixels-column.result
-    (λ column. slice_index (map number c.args.pixels.now) (column * c.args.samples + c.args.plane)) c.loop-column.column c.loop-column.invariant c.in_ok-push.ensures.items
+    (λ column. slice_index (map number c.args.pixels.now) (column * c.args.samples
+    + c.args.plane)) c.loop-column.column c.loop-column.invariant c.in_ok-push.ensures.items
     (number_at number c.args.pixels.now at c.index-pixels-column.result w c.index-pixels-column.is)

@@ -6,4 +6,6 @@ use Rattle.tiff_encode.specs.FileBytes.{offset_len}
 use Rattle.tiff_encode.proofs.encoder.image.finish.push_offsets.Given as goal
 
 abbrev pub invariant-loop-chunk : goal.invariant-loop-chunk
-invariant-loop-chunk l = l.out.items ≡ l.fn.out.items ++ flat_map (le (offset_len l.kind)) (map (number_of_part l.part) (take l.chunk-index l.chunks))
+invariant-loop-chunk l =
+    l.out.items ≡ l.fn.out.items ++ flat_map (le (offset_len l.kind))
+    (map (number_of_part l.part) (take l.chunk-index l.chunks))

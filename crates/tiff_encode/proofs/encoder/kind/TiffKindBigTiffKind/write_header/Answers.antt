@@ -5,7 +5,8 @@ use Rattle.tiff_encode.proofs.encoder.kind.TiffKindBigTiffKind.write_header.Goal
 
 pub returns-in_err-write_bigtiff_header : goal.returns-in_err-write_bigtiff_header
 returns-in_err-write_bigtiff_header g c =
-    let told = mark_fails Big c.args.writer.now c.write_bigtiff_header.new.writer c.in_err-write_bigtiff_header.field-0.0 c.in_err-write_bigtiff_header.ensures in
+    let told =
+    mark_fails Big c.args.writer.now c.write_bigtiff_header.new.writer c.in_err-write_bigtiff_header.field-0.0 c.in_err-write_bigtiff_header.ensures in
     search rules
 
 pub returns : goal.returns

@@ -5,7 +5,8 @@ use Rattle.tiff_encode.proofs.encoder.kind.TiffKindStandardTiffKind.write_header
 
 pub returns-in_err-write_tiff_header : goal.returns-in_err-write_tiff_header
 returns-in_err-write_tiff_header g c =
-    let told = mark_fails Classic c.args.writer.now c.write_tiff_header.new.writer c.in_err-write_tiff_header.field-0.0 c.in_err-write_tiff_header.ensures in
+    let told =
+    mark_fails Classic c.args.writer.now c.write_tiff_header.new.writer c.in_err-write_tiff_header.field-0.0 c.in_err-write_tiff_header.ensures in
     search rules
 
 pub returns : goal.returns

@@ -5,4 +5,5 @@ use Rattle.tiff_value.proofs.encoder.horizontal_predictor.U8Sample.show_all.Goal
 pub returns : goal.returns
 returns g c =
     c.show_bytes.ensures
-    ∙ ap (λ xs. g.S.ByteWitness.seen c.args.witness.now ++ xs) (sym (bytes_alone c.args.samples.now c.type_inv.samples))
+    ∙ ap (λ xs. g.S.ByteWitness.seen c.args.witness.now
+    ++ xs) (sym (bytes_alone c.args.samples.now c.type_inv.samples))

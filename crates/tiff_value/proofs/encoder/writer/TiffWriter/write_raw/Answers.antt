@@ -12,7 +12,8 @@ returns-in_err-n g c =
     rw (answered.1, answered.2) (inr (cut_from _ _ _ c.args.bytes.now c.loop-done.done _ i.fresh c.loop-done-test.true i.same c.in_err-n.ensures.err))
 
 pub write_some-requires-clause-fresh : goal.write_some-requires-clause-fresh
-write_some-requires-clause-fresh g c = ap (λ w. w.fault) c.loop-done.invariant.same ∙ c.loop-done.invariant.fresh
+write_some-requires-clause-fresh g c =
+    ap (λ w. w.fault) c.loop-done.invariant.same ∙ c.loop-done.invariant.fresh
 
 pub loop-done-preserved : goal.loop-done-preserved
 loop-done-preserved g c =
@@ -23,8 +24,12 @@ loop-done-preserved g c =
     let n = c.in_ok-n.n in
     let i = c.loop-done.invariant in
     record {
-      within = let l : n ≤ length (drop done bytes) = rw rest at e.1 in omega (arith, length-drop done bytes);
+      within =
+          let l : n ≤ length (drop done bytes) =
+          rw rest at e.1 in omega (arith, length-drop done bytes);
       offset = i.offset;
-      same = rw rest at e.2 ∙ ap (λ w. writer_after w (take n (drop done bytes))) i.same ∙ moved_more c.args.self.now bytes done n i.offset;
+      same =
+          rw rest at e.2 ∙ ap (λ w. writer_after w (take n (drop done bytes))) i.same
+          ∙ moved_more c.args.self.now bytes done n i.offset;
       fresh = i.fresh;
     }

@@ -24,7 +24,8 @@ returns-in_err-write_raw g c =
     let size = type_size g.T.TiffValue.value_type in
     let numbers : List ℕ = map (sample_number size g.T.Sample.bits) c.args.row.now in
     let F = stored_difference Horizontal (256 ^ size) (length numbers) c.args.stride numbers in
-    let long : length numbers ≡ length c.args.row.now = length-map c.args.row.now (sample_number size g.T.Sample.bits) in
+    let long : length numbers ≡ length c.args.row.now =
+    length-map c.args.row.now (sample_number size g.T.Sample.bits) in
     let i = c.loop-at.invariant in
     let e = c.in_err-write_raw.field-0.0 in
     let mid = c.loop-at.self in
@@ -33,11 +34,16 @@ returns-in_err-write_raw g c =
     let part = c.put_part.ensures.part (record {
       order = omega arith;
       within = omega (arith, c.min.ensures, i.within, c.loop-at-test.true);
-      fills = band_long c.loop-at.room c.loop-at.at c.min.result size c.from-width.result (c.from-width.ensures ∙ c.type_and_len-kind.ensures.len) (omega (arith, c.min.ensures)) (c.loop-at.auto.room ∙ c.requires.room);
+      fills =
+          band_long c.loop-at.room c.loop-at.at c.min.result size c.from-width.result
+          (c.from-width.ensures ∙ c.type_and_len-kind.ensures.len) (omega (arith, c.min.ensures))
+          (c.loop-at.auto.room ∙ c.requires.room);
     }) in
-    let cut = subst (λ (xs : List ℕ). IsCut xs e mid new) part (not_stopped c.put_part.new.out e mid new fresh c.in_err-write_raw.ensures) in
+    let cut =
+    subst (λ (xs : List ℕ). IsCut xs e mid new) part (not_stopped c.put_part.new.out e mid new fresh c.in_err-write_raw.ensures) in
     rw (answered.1, answered.2) (subst (λ (xs : List ℕ). IsCut xs e c.args.self.now new) (sym (row_bytes size (256 ^ size) c.args.stride numbers c.requires.stride.0 (omega (arith, c.requires.stride.1, long))))
-    (band_cut size F c.args.self.now i.offset c.loop-at.at (c.loop-at.at + c.min.result) (length numbers) mid new e (omega arith)
+    (band_cut size F c.args.self.now i.offset c.loop-at.at (c.loop-at.at
+    + c.min.result) (length numbers) mid new e (omega arith)
     (omega (arith, c.min.ensures, i.within, c.loop-at-test.true, long)) i.fresh i.same cut))
 
 pub loop-at-preserved : goal.loop-at-preserved
@@ -49,13 +55,17 @@ loop-at-preserved g c =
     let part = c.put_part.ensures.part (record {
       order = omega arith;
       within = omega (arith, c.min.ensures, i.within, c.loop-at-test.true);
-      fills = band_long c.loop-at.room c.loop-at.at c.min.result size c.from-width.result (c.from-width.ensures ∙ c.type_and_len-kind.ensures.len) (omega (arith, c.min.ensures)) (c.loop-at.auto.room ∙ c.requires.room);
+      fills =
+          band_long c.loop-at.room c.loop-at.at c.min.result size c.from-width.result
+          (c.from-width.ensures ∙ c.type_and_len-kind.ensures.len) (omega (arith, c.min.ensures))
+          (c.loop-at.auto.room ∙ c.requires.room);
     }) in
     record {
       within = omega (arith, c.min.ensures, i.within, c.loop-at-test.true);
       offset = i.offset;
       same =
-          band_next size F c.args.self.now i.offset c.loop-at.at (c.loop-at.at + c.min.result) c.loop-at.self c.write_raw.new.self (omega arith) i.same
+          band_next size F c.args.self.now i.offset c.loop-at.at (c.loop-at.at
+          + c.min.result) c.loop-at.self c.write_raw.new.self (omega arith) i.same
           (c.in_ok-write_raw.ensures.1 ∙ ap (writer_after c.loop-at.self) part);
       fresh = i.fresh;
     }
@@ -65,7 +75,10 @@ returns g c =
     let size = type_size g.T.TiffValue.value_type in
     let numbers : List ℕ = map (sample_number size g.T.Sample.bits) c.args.row.now in
     let F = stored_difference Horizontal (256 ^ size) (length numbers) c.args.stride numbers in
-    let long : length numbers ≡ length c.args.row.now = length-map c.args.row.now (sample_number size g.T.Sample.bits) in
+    let long : length numbers ≡ length c.args.row.now =
+    length-map c.args.row.now (sample_number size g.T.Sample.bits) in
     let i = c.loop-at.invariant in
-    let last : c.loop-at.at ≡ length numbers = omega (arith, long, i.within, c.loop-at-test.false) in
-    i.same ∙ ap (writer_after c.args.self.now) (ap (λ n. bytes_of size F n) last ∙ sym (row_bytes size (256 ^ size) c.args.stride numbers c.requires.stride.0 (omega (arith, c.requires.stride.1, long))))
+    let last : c.loop-at.at ≡ length numbers =
+    omega (arith, long, i.within, c.loop-at-test.false) in
+    i.same ∙ ap (writer_after c.args.self.now) (ap (λ n. bytes_of size F n) last
+    ∙ sym (row_bytes size (256 ^ size) c.args.stride numbers c.requires.stride.0 (omega (arith, c.requires.stride.1, long))))

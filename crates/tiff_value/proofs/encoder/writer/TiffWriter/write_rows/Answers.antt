@@ -20,7 +20,8 @@ loop-at-init g c = record {
 }
 
 pub write_row-requires-clause-fresh : goal.write_row-requires-clause-fresh
-write_row-requires-clause-fresh g c = ap (λ w. w.fault) c.loop-at.invariant.same ∙ c.loop-at.invariant.fresh
+write_row-requires-clause-fresh g c =
+    ap (λ w. w.fault) c.loop-at.invariant.same ∙ c.loop-at.invariant.fresh
 
 pub returns-in_err-write_row : goal.returns-in_err-write_row
 returns-in_err-write_row g c =
@@ -35,9 +36,11 @@ returns-in_err-write_row g c =
     let e = c.in_err-write_row.field-0.0 in
     let mid = c.loop-at.self in
     let new = c.write_row.new.self in
-    let fits : at + row ≤ length samples = row_fits at row (length samples) c.loop-at-test.true i.even c.requires.whole in
+    let fits : at + row ≤ length samples =
+    row_fits at row (length samples) c.loop-at-test.true i.even c.requires.whole in
     let long : length (map num samples) ≡ length samples = length-map samples num in
-    let cut = subst (λ (xs : List ℕ). IsCut xs e mid new) (row_between size (256 ^ size) row c.args.stride num samples at c.requires.stride.0 c.requires.stride.1 fits i.even) c.in_err-write_row.ensures in
+    let cut =
+    subst (λ (xs : List ℕ). IsCut xs e mid new) (row_between size (256 ^ size) row c.args.stride num samples at c.requires.stride.0 c.requires.stride.1 fits i.even) c.in_err-write_row.ensures in
     rw (answered.1, answered.2) (subst (λ (xs : List ℕ). IsCut xs e c.args.self.now new) (rows_bytes size (256 ^ size) row c.args.stride num samples (length (map num samples)) refl)
     (band_cut size F c.args.self.now i.offset at (at + row) (length (map num samples)) mid new e (omega arith) (omega (arith, fits, long)) i.fresh i.same cut))
 
@@ -50,13 +53,15 @@ loop-at-preserved g c =
     let at = c.loop-at.at in
     let F = in_rows size (256 ^ size) row c.args.stride num samples in
     let i = c.loop-at.invariant in
-    let fits : at + row ≤ length samples = row_fits at row (length samples) c.loop-at-test.true i.even c.requires.whole in
+    let fits : at + row ≤ length samples =
+    row_fits at row (length samples) c.loop-at-test.true i.even c.requires.whole in
     record {
       within = fits;
       even = add-mod_right at row ∙ i.even;
       offset = i.offset;
       same =
-          band_next size F c.args.self.now i.offset at (at + row) c.loop-at.self c.write_row.new.self (omega arith) i.same
+          band_next size F c.args.self.now i.offset at (at
+          + row) c.loop-at.self c.write_row.new.self (omega arith) i.same
           (c.in_ok-write_row.ensures
           ∙ ap (writer_after c.loop-at.self) (row_between size (256 ^ size) row c.args.stride num samples at c.requires.stride.0 c.requires.stride.1 fits i.even));
       fresh = i.fresh;
@@ -69,5 +74,6 @@ returns g c =
     let samples = c.args.samples.now in
     let i = c.loop-at.invariant in
     let long : length (map num samples) ≡ length samples = length-map samples num in
-    let last : c.loop-at.at ≡ length (map num samples) = omega (arith, long, i.within, c.loop-at-test.false) in
+    let last : c.loop-at.at ≡ length (map num samples) =
+    omega (arith, long, i.within, c.loop-at-test.false) in
     i.same ∙ ap (writer_after c.args.self.now) (rows_bytes size (256 ^ size) c.args.row c.args.stride num samples c.loop-at.at last)

@@ -4,4 +4,5 @@ use Rattle.tiff_encode.proofs.encoder.directory.encoder.DirectoryEncoder+W+K+Dir
 
 pub returns-clause-leaves : goal.returns-clause-leaves
 returns-clause-leaves g c m s =
-    let view : ℕ → ℕ = λ offset. offset in data_leaves view c.append_value.result c.args.self.now.encoder.now c.append_value.new.self m (g.T.TiffValue.field_data c.args.value) s c.append_value.ensures
+    let view : ℕ → ℕ =
+    λ offset. offset in data_leaves view c.append_value.result c.args.self.now.encoder.now c.append_value.new.self m (g.T.TiffValue.field_data c.args.value) s c.append_value.ensures

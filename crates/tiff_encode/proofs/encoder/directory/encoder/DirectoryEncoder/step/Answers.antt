@@ -39,7 +39,8 @@ returns-in_ok-write_job_tag_buf-in-WriteTagBuf-clause-moves g c =
 
 pub returns-in_err-write_job_tag_buf-in-WriteTagBuf-clause-moves : goal.returns-in_err-write_job_tag_buf-in-WriteTagBuf-clause-moves
 returns-in_err-write_job_tag_buf-in-WriteTagBuf-clause-moves g c =
-    let p = err_from_is_err_and c.from_residual-in_err-write_job_tag_buf-in-WriteTagBuf.result c.from_residual-in_err-write_job_tag_buf-in-WriteTagBuf.ensures.1 in
+    let p =
+    err_from_is_err_and c.from_residual-in_err-write_job_tag_buf-in-WriteTagBuf.result c.from_residual-in_err-write_job_tag_buf-in-WriteTagBuf.ensures.1 in
     let d = g.D.HasDirectory.open_directory c.args.self.now.state in
     let e = g.D.HasDirectory.open_directory c.write_job_tag_buf.new.self.state in
     let h = c.in_err-write_job_tag_buf-in-WriteTagBuf.ensures in
@@ -57,7 +58,8 @@ returns-in_ok-offset-in-WriteData-clause-moves g c =
 
 pub returns-in_err-offset-in-WriteData-clause-moves : goal.returns-in_err-offset-in-WriteData-clause-moves
 returns-in_err-offset-in-WriteData-clause-moves g c =
-    let p = err_from_is_err_and c.from_residual-in_err-offset-in-WriteData.result c.from_residual-in_err-offset-in-WriteData.ensures.1 in
+    let p =
+    err_from_is_err_and c.from_residual-in_err-offset-in-WriteData.result c.from_residual-in_err-offset-in-WriteData.ensures.1 in
     let d = g.D.HasDirectory.open_directory c.args.self.now.state in
     let h = c.in_err-offset-in-WriteData.ensures in
     rw (p.1, p.2) (stepped_by d d (Err c.in_err-offset-in-WriteData.field-0.0) c.in-WriteData.is
@@ -74,7 +76,8 @@ returns-in_ok-offset-in-WriteDataBuf-clause-moves g c =
 
 pub returns-in_err-offset-in-WriteDataBuf-clause-moves : goal.returns-in_err-offset-in-WriteDataBuf-clause-moves
 returns-in_err-offset-in-WriteDataBuf-clause-moves g c =
-    let p = err_from_is_err_and c.from_residual-in_err-offset-in-WriteDataBuf.result c.from_residual-in_err-offset-in-WriteDataBuf.ensures.1 in
+    let p =
+    err_from_is_err_and c.from_residual-in_err-offset-in-WriteDataBuf.result c.from_residual-in_err-offset-in-WriteDataBuf.ensures.1 in
     let d = g.D.HasDirectory.open_directory c.args.self.now.state in
     let h = c.in_err-offset-in-WriteDataBuf.ensures in
     rw (p.1, p.2) (stepped_by d d (Err c.in_err-offset-in-WriteDataBuf.field-0.0) c.in-WriteDataBuf.is
@@ -91,7 +94,8 @@ returns-in_ok-entry-in-WriteEntry-clause-moves g c =
 
 pub returns-in_err-entry-in-WriteEntry-clause-moves : goal.returns-in_err-entry-in-WriteEntry-clause-moves
 returns-in_err-entry-in-WriteEntry-clause-moves g c =
-    let p = err_from_is_err_and c.from_residual-in_err-entry-in-WriteEntry.result c.from_residual-in_err-entry-in-WriteEntry.ensures.1 in
+    let p =
+    err_from_is_err_and c.from_residual-in_err-entry-in-WriteEntry.result c.from_residual-in_err-entry-in-WriteEntry.ensures.1 in
     let d = g.D.HasDirectory.open_directory c.args.self.now.state in
     let h = c.in_err-entry-in-WriteEntry.ensures in
     rw (p.1, p.2) (stepped_by d d (Err c.in_err-entry-in-WriteEntry.field-0.0) c.in-WriteEntry.is
@@ -108,7 +112,8 @@ returns-in_ok-entry-in-WriteEntryBuf-clause-moves g c =
 
 pub returns-in_err-entry-in-WriteEntryBuf-clause-moves : goal.returns-in_err-entry-in-WriteEntryBuf-clause-moves
 returns-in_err-entry-in-WriteEntryBuf-clause-moves g c =
-    let p = err_from_is_err_and c.from_residual-in_err-entry-in-WriteEntryBuf.result c.from_residual-in_err-entry-in-WriteEntryBuf.ensures.1 in
+    let p =
+    err_from_is_err_and c.from_residual-in_err-entry-in-WriteEntryBuf.result c.from_residual-in_err-entry-in-WriteEntryBuf.ensures.1 in
     let d = g.D.HasDirectory.open_directory c.args.self.now.state in
     let h = c.in_err-entry-in-WriteEntryBuf.ensures in
     rw (p.1, p.2) (stepped_by d d (Err c.in_err-entry-in-WriteEntryBuf.field-0.0) c.in-WriteEntryBuf.is
@@ -128,7 +133,8 @@ returns-in_ok-entry-in-WriteEntryBytes-clause-moves g c =
 
 pub returns-in_err-entry-in-WriteEntryBytes-clause-moves : goal.returns-in_err-entry-in-WriteEntryBytes-clause-moves
 returns-in_err-entry-in-WriteEntryBytes-clause-moves g c =
-    let p = err_from_is_err_and c.from_residual-in_err-entry-in-WriteEntryBytes.result c.from_residual-in_err-entry-in-WriteEntryBytes.ensures.1 in
+    let p =
+    err_from_is_err_and c.from_residual-in_err-entry-in-WriteEntryBytes.result c.from_residual-in_err-entry-in-WriteEntryBytes.ensures.1 in
     let d = g.D.HasDirectory.open_directory c.args.self.now.state in
     let e = g.D.HasDirectory.open_directory c.write_entry_bytes.new.self.state in
     let h = c.in_err-entry-in-WriteEntryBytes.ensures in

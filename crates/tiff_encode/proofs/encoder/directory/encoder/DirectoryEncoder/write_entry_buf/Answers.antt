@@ -11,5 +11,6 @@ returns-clause-leaves g c m s =
 pub returns-in_err-entry-clause-leaves : goal.returns-in_err-entry-clause-leaves
 returns-in_err-entry-clause-leaves g c m s =
     let told =
-    failed_leaves _ c.in_err-entry.field-0.0 c.args.self.now.encoder.now c.place_buffer.new.self m (entry_buf_adds c.args.buffer.now c.args.self.now.encoder.now) c.in_err-entry.ensures.answer s in
+    failed_leaves _ c.in_err-entry.field-0.0 c.args.self.now.encoder.now c.place_buffer.new.self m
+    (entry_buf_adds c.args.buffer.now c.args.self.now.encoder.now) c.in_err-entry.ensures.answer s in
     search rules

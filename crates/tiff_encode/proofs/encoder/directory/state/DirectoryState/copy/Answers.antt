@@ -6,5 +6,7 @@ use Rattle.tiff_encode.proofs.encoder.directory.state.DirectoryState.copy.Goals 
 pub returns : goal.returns
 returns c =
     let inside = c.self.inside in
-    let d : OpenDirectory = record { fields = inside.directory.entries; parent = inside.parent; chained = inside.chained } in
-    copied d c.args.self.now c.extend_from.new.self c.empty.result.entries c.self.view_is (ap (λ x. x.entries) c.empty.ensures) c.in_ok-extend_from.ensures.set
+    let d : OpenDirectory =
+    record { fields = inside.directory.entries; parent = inside.parent; chained = inside.chained } in
+    copied d c.args.self.now c.extend_from.new.self c.empty.result.entries c.self.view_is
+    (ap (λ x. x.entries) c.empty.ensures) c.in_ok-extend_from.ensures.set

@@ -9,5 +9,6 @@ use Rattle.tiff_encode.proofs.encoder.directory.state.DirectoryState.give_up.Goa
 pub returns-in-Held : goal.returns-in-Held
 returns-in-Held c d e is =
     c.remove.ensures
-    ∙ ap (λ (s : OpenDirectory). without_field s c.args.tag) (subst (λ (r : Room). c.args.self.now ≡ with_room d c.args.tag r) c.in-Held.is e)
+    ∙ ap (λ (s : OpenDirectory). without_field s c.args.tag) (subst (λ (r : Room). c.args.self.now
+    ≡ with_room d c.args.tag r) c.in-Held.is e)
     ∙ room_left c.args.tag d (subst (λ (r : Room). IsRoomFor c.args.tag d r) c.in-Held.is is)

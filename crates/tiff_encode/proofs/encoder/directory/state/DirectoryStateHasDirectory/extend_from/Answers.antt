@@ -16,14 +16,16 @@ loop-tag-preserved c =
     let i = c.loop-tag.invariant in
     let done : List (ℕ × Field) = i.0 in
     let inside = c.loop-tag.self-inside in
-    let now : OpenDirectory = record { fields = inside.directory.entries; parent = inside.parent; chained = inside.chained } in
+    let now : OpenDirectory =
+    record { fields = inside.directory.entries; parent = inside.parent; chained = inside.chained } in
     let field : Field = c.in-Some.entry.now in
     let number : ℕ = tag_number c.in-Some.tag in
     let same : c.new_u64-copy.result ≡ field =
     c.new_u64-copy.ensures
     ∙ (λ k. record { field_type = c.field_type.ensures k; count = c.count.ensures k; value = c.value.ensures k }) in
     let fields : c.insert.new.self.entries ≡ insert inside.directory.entries number field =
-    ap (λ d. d.entries) c.in-Ok.ensures.ok ∙ ap (λ n. insert inside.directory.entries n c.new_u64-copy.result) c.to_u16.ensures
+    ap (λ d. d.entries) c.in-Ok.ensures.ok
+    ∙ ap (λ n. insert inside.directory.entries n c.new_u64-copy.result) c.to_u16.ensures
     ∙ ap (insert inside.directory.entries number) same in (
       done ++ (number, field) ∷ [],
       (
@@ -38,8 +40,10 @@ pub returns-in-Err-clause-set : goal.returns-in-Err-clause-set
 returns-in-Err-clause-set c =
     let i = c.loop-tag.invariant in
     let inside = c.loop-tag.self-inside in
-    let now : OpenDirectory = record { fields = c.insert.new.self.entries; parent = inside.parent; chained = inside.chained } in
-    let fields : c.insert.new.self.entries ≡ inside.directory.entries = ap (λ d. d.entries) c.in-Err.ensures.err in
+    let now : OpenDirectory =
+    record { fields = c.insert.new.self.entries; parent = inside.parent; chained = inside.chained } in
+    let fields : c.insert.new.self.entries ≡ inside.directory.entries =
+    ap (λ d. d.entries) c.in-Err.ensures.err in
     let same : now ≡ calls.extend_from c.args.self.now i.0 =
     (λ k. record { fields = fields k; parent = inside.parent; chained = inside.chained }) ∙ i.1.1 in
     (refl, some_taken c.args.self.now now i.0 c.loop-tag.tag-iterator _ i.1.0 same)
@@ -47,5 +51,7 @@ returns-in-Err-clause-set c =
 pub returns-clause-set : goal.returns-clause-set
 returns-clause-set c =
     let i = c.loop-tag.invariant in
-    let whole : i.0 ≡ _ = sym (append-nil i.0) ∙ (ap (λ rest. i.0 ++ rest) (sym c.in-None.ensures.steps.0.0) ∙ i.1.0) in
+    let whole : i.0 ≡ _ =
+    sym (append-nil i.0) ∙ (ap (λ rest. i.0 ++ rest) (sym c.in-None.ensures.steps.0.0)
+    ∙ i.1.0) in
     i.1.1 ∙ ap (calls.extend_from c.args.self.now) whole

@@ -13,4 +13,5 @@ invariant-loop-tag l =
       parent = l.self-inside.parent;
       chained = l.self-inside.chained;
     } in
-    (done : List (ℕ × Field)) × ((done ++ l.tag-iterator ≡ entries l.directory.entries) × (now ≡ calls.extend_from l.fn.self done))
+    (done : List (ℕ × Field)) × ((done ++ l.tag-iterator ≡ entries l.directory.entries)
+    × (now ≡ calls.extend_from l.fn.self done))

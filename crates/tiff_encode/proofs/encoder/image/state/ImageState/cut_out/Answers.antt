@@ -15,7 +15,8 @@ push_row-requires-clause-part g c =
     let sides : HasSides p =
     subst (λ i. HasSides (image_page i)) c.self.view_is
     (record { wide = held.wide.0; high = held.high.0; chunk_wide = held.cut.wide.0; chunk_high = held.cut.high.0 }) in
-    subst (λ r. IsPatch p r) (sym c.chunk_area-chunk_area.ensures) (is_patch p c.args.chunk sides c.requires.one)
+    subst (λ r. IsPatch p r) (sym c.chunk_area-chunk_area.ensures)
+    (is_patch p c.args.chunk sides c.requires.one)
 
 pub loop-at-preserved : goal.loop-at-preserved
 loop-at-preserved g c =
@@ -30,5 +31,6 @@ returns g c =
     let numbers = map number c.args.samples.now in
     let last : c.rows_of-rows.result ≤ c.loop-at.at = c.loop-at-test.false in
     let within = c.loop-at.auto.at-end in
-    let rows : c.loop-at.at ≡ chunk_rows p c.args.chunk = (let same : c.loop-at.at ≡ c.rows_of-rows.result = omega (arith, last, within) in same ∙ c.rows_of-rows.ensures.count) in
+    let rows : c.loop-at.at ≡ chunk_rows p c.args.chunk =
+    (let same : c.loop-at.at ≡ c.rows_of-rows.result = omega (arith, last, within) in same ∙ c.rows_of-rows.ensures.count) in
     c.loop-at.invariant ∙ ap (λ n. tabulate (n * row_samples p) (by_row p numbers c.args.chunk)) rows ∙ all_rows p numbers c.args.chunk

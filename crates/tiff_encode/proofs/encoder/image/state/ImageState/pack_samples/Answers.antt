@@ -22,7 +22,8 @@ returns-in-PackbitsRows g c =
     let same =
     unpacked_is i numbers size sized c.self.inside.predictor c.row_and_stride-row.result.0 c.row_and_stride-row.result.1
     (sym (ap (λ i. i.predictor) c.self.view_is)) row c.row_and_stride-row.ensures.stride in
-    rows_stored i numbers c.pack_rows.new.self.packed.items _ c.pack_rows.result same (c.row_and_stride-row.result.0 * size) (λ j. row j * sym sized j)
+    rows_stored i numbers c.pack_rows.new.self.packed.items _ c.pack_rows.result same
+    (c.row_and_stride-row.result.0 * size) (λ j. row j * sym sized j)
     (sym (ap (λ i. i.compression) c.self.view_is) ∙ c.in-PackbitsRows.is) c.pack_rows.ensures
 
 pub returns-in_default : goal.returns-in_default
@@ -35,4 +36,5 @@ returns-in_default g c =
     (sym (ap (λ i. i.predictor) c.self.view_is)) c.row_and_stride-row.ensures.row c.row_and_stride-row.ensures.stride in
     let kept = ap (λ i. i.compression) c.self.view_is in
     whole_stored i numbers c.pack.new.self.packed.items _ c.pack.result same
-    (packs_whole i.compression c.requires.packed (λ e. c.in_default.not-PackbitsRows (kept ∙ e))) c.pack.ensures
+    (packs_whole i.compression c.requires.packed (λ e. c.in_default.not-PackbitsRows (kept
+    ∙ e))) c.pack.ensures

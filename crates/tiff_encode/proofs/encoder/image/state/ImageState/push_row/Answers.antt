@@ -11,10 +11,12 @@ returns g c =
     let number = sample_number (type_size g.C.Inner.TiffValue.value_type) g.C.Inner.Sample.bits in
     let p = image_page c.args.self.now in
     let r = rect_of c.args.chunk_area in
-    let wide : c.from.result ≡ p.chunk_width = c.from.ensures ∙ ap (λ i. i.form.chunk_width) c.self.view_is in
+    let wide : c.from.result ≡ p.chunk_width =
+    c.from.ensures ∙ ap (λ i. i.form.chunk_width) c.self.view_is in
     let stored = c.stored_samples-stored.ensures.count in
     let some : c.args.row < r.height = c.if-row-chunk_area.false in
     told_on _ c.push_zeros-2.result
     (row_pushed p (map number c.args.samples.now) r c.args.row (c.from.result * c.stored_samples-stored.result - r.width * c.stored_samples-stored.result)
-    (map number c.args.out.now.items) (map number c.push_pixels.new.out.items) (map number c.push_zeros-2.new.out.items) some c.requires.part.narrow
+    (map number c.args.out.now.items) (map number c.push_pixels.new.out.items)
+    (map number c.push_zeros-2.new.out.items) some c.requires.part.narrow
     (λ j. wide j * stored j - r.width * stored j) c.in_ok-push_pixels.ensures) c.push_zeros-2.ensures

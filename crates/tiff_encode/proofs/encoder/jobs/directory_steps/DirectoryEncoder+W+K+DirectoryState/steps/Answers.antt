@@ -12,12 +12,17 @@ pub loop-step-init : goal.loop-step-init
 loop-step-init g c =
     let d = c.args.self.now.state in
     let steps : List DirectoryStep = c.args.steps.now in
-    let P : List (Result StepReply TiffError) → FileAndModel → FileAndModel → Type 0 = λ rs s t. AllStepped DirectoryStepped s d (take 0 steps) rs t d in
+    let P : List (Result StepReply TiffError) → FileAndModel → FileAndModel → Type 0 =
+    λ rs s t. AllStepped DirectoryStepped s d (take 0 steps) rs t d in
     record {
       same = refl;
-      count = (let v = c.args.replies.now.ok in let e = ap (λ xs. length xs) c.requires.none in omega (arith, v, e));
+      count =
+          (let v = c.args.replies.now.ok in let e = ap (λ xs. length xs) c.requires.none in
+          omega (arith, v, e));
       room = omega arith;
-      moves = moves_none (P c.args.replies.now.items) c.args.self.now.encoder.now (λ s. subst (λ rs. P rs s s) (sym c.requires.none) (all_none DirectoryStepped s d));
+      moves =
+          moves_none (P c.args.replies.now.items) c.args.self.now.encoder.now
+          (λ s. subst (λ rs. P rs s s) (sym c.requires.none) (all_none DirectoryStepped s d));
     }
 
 pub put-requires : goal.put-requires
@@ -36,14 +41,17 @@ loop-step-preserved g c =
     let r : Result StepReply TiffError = c.step-reply.result in
     let now = c.loop-step.self.state in
     let next = c.step-reply.new.self.state in
-    let P : FileAndModel → FileAndModel → Type 0 = λ s t. AllStepped DirectoryStepped s d (take n steps) rs t now in
+    let P : FileAndModel → FileAndModel → Type 0 =
+    λ s t. AllStepped DirectoryStepped s d (take n steps) rs t now in
     let Q : FileAndModel → FileAndModel → Type 0 = λ s t. DirectoryStepped s now step r t next in
-    let R : List (Result StepReply TiffError) → FileAndModel → FileAndModel → Type 0 = λ rs s t. AllStepped DirectoryStepped s d (take (n + 1) steps) rs t next in
+    let R : List (Result StepReply TiffError) → FileAndModel → FileAndModel → Type 0 =
+    λ rs s t. AllStepped DirectoryStepped s d (take (n + 1) steps) rs t next in
     record {
       same = c.step-reply.ensures.same_reference ∙ i.same;
       count = omega (arith, i.count, c.put.ensures.len);
       room = omega (arith, i.room, c.put.ensures.capacity);
-      moves = moves_joined P Q (R c.put.new.items.items) c.args.self.now.encoder.now c.loop-step.self.encoder.now c.step-reply.new.self.encoder.now
+      moves =
+          moves_joined P Q (R c.put.new.items.items) c.args.self.now.encoder.now c.loop-step.self.encoder.now c.step-reply.new.self.encoder.now
           (λ s m t p q. subst (λ rs. R rs s t) (sym c.put.ensures.items)
           (all_next DirectoryStepped s m t d now next steps step n rs r c.loop-step-test.true c.step-item.is p q)) i.moves c.step-reply.ensures.moves;
     }
@@ -53,5 +61,6 @@ returns-clause-same_reference g c = c.loop-step.invariant.same
 
 pub returns-clause-moves : goal.returns-clause-moves
 returns-clause-moves g c =
-    let all = take_all c.loop-step.step-index c.args.steps.now (omega (arith, c.loop-step-test.false)) in
+    let all =
+    take_all c.loop-step.step-index c.args.steps.now (omega (arith, c.loop-step-test.false)) in
     subst (λ steps. Moves (λ s t. AllStepped DirectoryStepped s c.args.self.now.state steps c.loop-step.replies.items t c.loop-step.self.state) c.args.self.now.encoder.now c.loop-step.self.encoder.now) all c.loop-step.invariant.moves

@@ -7,7 +7,8 @@ pub returns : goal.returns
 returns g c =
     offsets_told c.args.self.state c.args.self.encoder.now c.finish_with_offsets.new.self.0
     (directory_ending c.args.self.state c.args.self.encoder.now c.finish_with_offsets.new.self.0 c.fits-2.ensures.entries c.fits-2.ensures.few c.fits.ensures)
-    c.in_ok-offsets.offsets c.offsets.inside.pointer.0 c.link.result (sym (ap (λ o. o.pointer) c.offsets.view_is)) (sym c.link.ensures) c.in_ok-offsets.ensures.answer
+    c.in_ok-offsets.offsets c.offsets.inside.pointer.0 c.link.result
+    (sym (ap (λ o. o.pointer) c.offsets.view_is)) (sym c.link.ensures) c.in_ok-offsets.ensures.answer
 
 pub returns-in_err-offsets : goal.returns-in_err-offsets
 returns-in_err-offsets g c =

@@ -9,5 +9,7 @@ pub returns : goal.returns
 returns g c =
     let number = sample_number (type_size g.C.Inner.TiffValue.value_type) g.C.Inner.Sample.bits in
     let cut : ℕ → List ℕ = λ size. cut_to size c.args.numbers.now in
-    cut_moves c.args.self.state c.write_samples.result (map number c.as_slice.result.now) (cut c.args.self.state.size) c.args.self.encoder.now c.write_samples.new.self.0
-    (ap (map number) c.as_slice.ensures ∙ c.in-Ok.ensures ∙ sym (ap cut c.is_of_type.ensures)) c.write_samples.ensures
+    cut_moves c.args.self.state c.write_samples.result (map number c.as_slice.result.now)
+    (cut c.args.self.state.size) c.args.self.encoder.now c.write_samples.new.self.0
+    (ap (map number) c.as_slice.ensures ∙ c.in-Ok.ensures
+    ∙ sym (ap cut c.is_of_type.ensures)) c.write_samples.ensures

@@ -9,7 +9,8 @@ use Rattle.tiff_encode.proofs.encoder.jobs.finish.DirectoryEncoder+W+K+ImageStat
 
 pub returns : goal.returns
 returns g c =
-    let samples = map (sample_number (type_size g.C.Inner.TiffValue.value_type) g.C.Inner.Sample.bits) c.args.samples.now in
+    let samples =
+    map (sample_number (type_size g.C.Inner.TiffValue.value_type) g.C.Inner.Sample.bits) c.args.samples.now in
     data_told c.args.self.state samples c.args.self.encoder.now c.write_data.new.self.0 c.fits.ensures
     (subst (λ size. AreNumbers size samples) (sym c.is_of_type.ensures) (are_numbers (type_size g.C.Inner.TiffValue.value_type) g.C.Inner.Sample.bits c.args.samples.now))
     c.in_ok-write_data.ensures.short c.in_ok-write_data.ensures.answer
@@ -17,7 +18,8 @@ returns g c =
 pub returns-in_err-write_data : goal.returns-in_err-write_data
 returns-in_err-write_data g c =
     let p = err_from_is_err_and c.from_residual.result c.from_residual.ensures.1 in
-    let samples = map (sample_number (type_size g.C.Inner.TiffValue.value_type) g.C.Inner.Sample.bits) c.args.samples.now in
+    let samples =
+    map (sample_number (type_size g.C.Inner.TiffValue.value_type) g.C.Inner.Sample.bits) c.args.samples.now in
     rw (p.1, p.2) (data_failed c.args.self.state samples c.args.self.encoder.now c.write_data.new.self.0 c.fits.ensures
     (subst (λ size. AreNumbers size samples) (sym c.is_of_type.ensures) (are_numbers (type_size g.C.Inner.TiffValue.value_type) g.C.Inner.Sample.bits c.args.samples.now))
     c.in_err-write_data.ensures.short c.in_err-write_data.field-0.0 c.in_err-write_data.ensures.answer)

@@ -21,8 +21,10 @@ returns-clause-draws g c =
     let number = sample_number (type_size g.C.Inner.TiffValue.value_type) g.C.Inner.Sample.bits in
     let r = c.write_chunk-answer.result in
     let cut : cut_to i.size c.args.numbers.now ≡ map number c.as_slice.result.now =
-    ap (λ z. cut_to z c.args.numbers.now) c.is_of_type.ensures ∙ sym c.in_ok-samples.ensures ∙ ap (map number) (sym c.as_slice.ensures) in
-    let count : length c.as_slice.result.now ≡ length (map number c.as_slice.result.now) = sym (length-map c.as_slice.result.now number) in
+    ap (λ z. cut_to z c.args.numbers.now) c.is_of_type.ensures ∙ sym c.in_ok-samples.ensures
+    ∙ ap (map number) (sym c.as_slice.ensures) in
+    let count : length c.as_slice.result.now ≡ length (map number c.as_slice.result.now) =
+    sym (length-map c.as_slice.result.now number) in
     subst (λ y. ChunkDraws i c.args.numbers.now y c.args.self.now.encoder.now c.write_chunk-answer.new.self.encoder.now c.write_chunk-answer.new.self.state)
     (sym c.replied.ensures)
     (cut_draws write_chunk (λ file i n. write_chunk_cause file i n 0) chunks_store i c.write_chunk-answer.new.self.state c.args.numbers.now (map number c.as_slice.result.now) (length c.as_slice.result.now) r

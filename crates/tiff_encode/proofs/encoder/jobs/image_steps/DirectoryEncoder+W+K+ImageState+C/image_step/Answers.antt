@@ -15,7 +15,8 @@ use Rattle.tiff_encode.proofs.Image.Table.{Extra, Rows, Sides, Planes, Across, D
 use Rattle.tiff_encode.proofs.encoder.jobs.image_steps.DirectoryEncoder+W+K+ImageState+C.image_step.Goals as goal
 
 -- equal steps with equal replies do the same
-so : {i j : OpenImage} {old new : FileState} {step one : ImageStep} {r said : Result StepReply TiffError} → step ≡ one → r ≡ said
+so : {i j : OpenImage} {old new : FileState} {step one : ImageStep}
+    {r said : Result StepReply TiffError} → step ≡ one → r ≡ said
     → KeepsImage i one said old new j → KeepsImage i step r old new j
 so {i = i} {j = j} {old = old} {new = new} {one = one} {r = r} s q d =
     subst (λ x. KeepsImage i x r old new j) (sym s) (subst (λ y. KeepsImage i one y old new j) (sym q) d)
@@ -83,7 +84,8 @@ returns-in-ResolutionUnit-clause-draws g c =
     let old = c.args.self.now in
     let new = c.resolution_unit.new.self in
     let e = c.resolution_unit.ensures in
-    so c.in-ResolutionUnit.is c.replied-in-ResolutionUnit.ensures (setting_draws (Measure c.in-ResolutionUnit.unit) old.state new.state c.resolution_unit.result old.encoder.now new.encoder.now tt e.stays e.answer e.leaves)
+    so c.in-ResolutionUnit.is c.replied-in-ResolutionUnit.ensures
+    (setting_draws (Measure c.in-ResolutionUnit.unit) old.state new.state c.resolution_unit.result old.encoder.now new.encoder.now tt e.stays e.answer e.leaves)
 
 pub returns-in-XResolution-clause-draws : goal.returns-in-XResolution-clause-draws
 returns-in-XResolution-clause-draws g c =

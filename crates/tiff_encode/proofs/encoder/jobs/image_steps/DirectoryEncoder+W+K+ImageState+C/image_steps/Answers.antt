@@ -14,9 +14,13 @@ loop-step-init g c =
     record {
       same = refl;
       kind = refl;
-      count = (let v = c.args.replies.now.ok in let e = ap (λ xs. length xs) c.requires.none in omega (arith, v, e));
+      count =
+          (let v = c.args.replies.now.ok in let e = ap (λ xs. length xs) c.requires.none in
+          omega (arith, v, e));
       room = omega arith;
-      draws = subst (λ rs. StepsDraw i (take 0 c.args.steps.now) rs file file i) (sym c.requires.none) (none_drawn i file);
+      draws =
+          subst (λ rs. StepsDraw i (take 0 c.args.steps.now) rs file file i) (sym c.requires.none)
+          (none_drawn i file);
     }
 
 pub put-requires : goal.put-requires
@@ -39,7 +43,9 @@ loop-step-preserved g c =
       kind = c.is_of_kind-in-loop-step.ensures ∙ sym c.is_of_kind.ensures;
       count = omega (arith, i.count, c.put.ensures.len);
       room = omega (arith, i.room, c.put.ensures.capacity);
-      draws = subst (λ rs. StepsDraw first.state (take (n + 1) steps) rs first.encoder.now next.encoder.now next.state) (sym c.put.ensures.items)
+      draws =
+          subst (λ rs. StepsDraw first.state (take (n
+          + 1) steps) rs first.encoder.now next.encoder.now next.state) (sym c.put.ensures.items)
           (next_drawn first.state now.state next.state first.encoder.now now.encoder.now next.encoder.now steps c.step-item.result n rs r i.kind
           c.loop-step-test.true c.step-item.is i.draws c.image_step-reply.ensures.draws);
     }
@@ -51,5 +57,6 @@ pub returns-clause-draws : goal.returns-clause-draws
 returns-clause-draws g c =
     let first = c.args.self.now in
     let last = c.loop-step.self in
-    let all = take_all c.loop-step.step-index c.args.steps.now (omega (arith, c.loop-step-test.false)) in
+    let all =
+    take_all c.loop-step.step-index c.args.steps.now (omega (arith, c.loop-step-test.false)) in
     subst (λ steps. StepsDraw first.state steps c.loop-step.replies.items first.encoder.now last.encoder.now last.state) all c.loop-step.invariant.draws

@@ -14,6 +14,8 @@ pub returns : goal.returns
 returns g c =
     let size = type_size g.T.TiffValue.value_type in
     let samples = c.args.self.now.samples.now in
-    let whole = each_whole size g.T.TiffScalar.spelled (λ x. ap length (g.met.T.Sample.by_bits x) ∙ length-le 0 size (g.T.Sample.bits x)) samples in
+    let whole =
+    each_whole size g.T.TiffScalar.spelled (λ x. ap length (g.met.T.Sample.by_bits x)
+    ∙ length-le 0 size (g.T.Sample.bits x)) samples in
     let width : c.from.result ≡ size = c.from.ensures ∙ c.type_and_len-kind.ensures.len in
     is_product c.checked_mul.result _ _ _ c.checked_mul.ensures (ap (λ (m : ℕ). length samples * m) width ∙ sym whole)
