@@ -1,6 +1,7 @@
 //! Writes TIFF files.
 
 mod directory;
+mod facts;
 mod image;
 mod job_samples;
 mod jobs;

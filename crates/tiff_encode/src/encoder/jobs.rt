@@ -298,8 +298,8 @@ pub(crate) fn run_job<W: Sink, K: TiffKind>(
     requires { IsEmptyWithRoom (step_count job.now) steps }
     ensures { JobMoves job.now earlier.now result encoder.old encoder.new }
 {
-    encoder.is_of_kind();
+    encoder.fact_kind();
     let reply = run_by_kind(encoder, job, earlier, steps);
-    encoder.is_of_kind();
+    encoder.fact_kind();
     reply
 }

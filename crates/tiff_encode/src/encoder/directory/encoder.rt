@@ -3,7 +3,6 @@
 ghost use Rattle.std.specs.Prelude.{◌≡◌, ℕ, ◌^◌, ◌<◌, length, IfOk, OnErr, Ok, None, Some};
 ghost use Rattle.std.specs.FinMap as map;
 ghost use Rattle.tiff_encode.specs.Calls as calls;
-ghost use Rattle.tiff_encode.specs.Causes.{end_of};
 ghost use Rattle.tiff_encode.specs.WriteOps.{model_after};
 ghost use Rattle.tiff_encode.specs.Ends.{Ends, EndsSilently, EndsAsDefined};
 ghost use Rattle.tiff_encode.specs.Extending.{Extends};
@@ -36,20 +35,6 @@ pub struct DirectoryEncoder<'a, W: Sink, K: TiffKind = TiffKindStandard, D = Dir
 impl<W: Sink, K: TiffKind> TiffEncoder<W, K> {
     ghost use Rattle.std.specs.Borrow.{sem};
     ghost use Rattle.tiff_encode.specs.Lending.{image_rests, extra_rests};
-
-    // States that the file is shorter than 2^64 bytes if no write failed.
-    pub(crate) fn fits(&self)
-        ensures { self.now.fault ≡ None → end_of self.now < 2 ^ 64 }
-    {
-        let _end = self.writer.offset();
-    }
-
-    // States that the file is shorter than 2^64 bytes, also after a failed write.
-    pub(crate) fn is_short(&self)
-        ensures { end_of self.now < 2 ^ 64 }
-    {
-        let _len = self.writer.len();
-    }
 
     /// Begins a directory of the IFD chain, and appends padding up to a multiple of 4 bytes. When
     /// the directory ends, the last link of the chain points to it, and its own link becomes the
@@ -142,7 +127,7 @@ impl<'a, W: Sink, K: TiffKind, D: HasDirectory> DirectoryEncoder<'a, W, K, D> {
             self.old.encoder.now self.new.encoder.now m }
     {
         let entry = self.encoder.place_value(&value, true)?;
-        self.encoder.fits();
+        self.encoder.fact_fits();
         Ok(entry)
     }
 
@@ -165,7 +150,7 @@ impl<'a, W: Sink, K: TiffKind, D: HasDirectory> DirectoryEncoder<'a, W, K, D> {
     {
         fits_short(buffer);
         let entry = self.encoder.place_buffer(buffer, true)?;
-        self.encoder.fits();
+        self.encoder.fact_fits();
         Ok(entry)
     }
 
@@ -188,7 +173,7 @@ impl<'a, W: Sink, K: TiffKind, D: HasDirectory> DirectoryEncoder<'a, W, K, D> {
             self.old.encoder.now self.new.encoder.now m }
     {
         let entry = self.encoder.place_entry_bytes(field_type, bytes, true)?;
-        self.encoder.fits();
+        self.encoder.fact_fits();
         Ok(entry)
     }
 
@@ -215,7 +200,7 @@ impl<'a, W: Sink, K: TiffKind, D: HasDirectory> DirectoryEncoder<'a, W, K, D> {
     {
         let room = self.state.make_room(tag);
         let placed = self.encoder.place_value(&value, room.is_made());
-        self.encoder.fits();
+        self.encoder.fact_fits();
         self.state.settle(tag, room, placed)
     }
 
@@ -243,7 +228,7 @@ impl<'a, W: Sink, K: TiffKind, D: HasDirectory> DirectoryEncoder<'a, W, K, D> {
         fits_short(buffer);
         let room = self.state.make_room(tag);
         let placed = self.encoder.place_buffer(buffer, room.is_made());
-        self.encoder.fits();
+        self.encoder.fact_fits();
         self.state.settle(tag, room, placed)
     }
 
@@ -331,8 +316,8 @@ impl<'a, W: Sink, K: TiffKind> DirectoryEncoder<'a, W, K, DirectoryState> {
             self.entry.encoder.now self.exit.0.now m }
     {
         let DirectoryEncoder { encoder, state } = self;
-        encoder.fits();
-        state.fits();
+        encoder.fact_fits();
+        state.fact_fits();
         encoder.finish_directory(&state)?;
         Ok(())
     }
@@ -354,8 +339,8 @@ impl<'a, W: Sink, K: TiffKind> DirectoryEncoder<'a, W, K, DirectoryState> {
             self.entry.encoder.now self.exit.0.now m }
     {
         let DirectoryEncoder { encoder, state } = self;
-        encoder.fits();
-        state.fits();
+        encoder.fact_fits();
+        state.fact_fits();
         encoder.finish_directory(&state)
     }
 
@@ -378,8 +363,8 @@ impl<'a, W: Sink, K: TiffKind> DirectoryEncoder<'a, W, K, DirectoryState> {
             encoder,
             state: discarded,
         } = self;
-        encoder.fits();
-        discarded.fits();
+        encoder.fact_fits();
+        discarded.fact_fits();
         encoder.finish_directory(&discarded)?;
         Ok(())
     }

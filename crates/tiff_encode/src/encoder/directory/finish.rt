@@ -47,14 +47,6 @@ impl<W: Sink, K: TiffKind> TiffEncoder<W, K> {
         self.link(offset, directory)
     }
 
-    // States that the file is of the kind of the encoder.
-    pub(crate) fn is_of_kind(&self)
-        ensures { self.now.kind ≡ K.kind }
-    {
-        // A use of a field opens the encoder: its view takes the kind from `K`.
-        let _chain = &self.chain;
-    }
-
     // Returns the end of the file, where the directory is appended, or the first error of `finish`
     // that applies.
     fn end_offset(&self, fields: &DirectoryState) -> TiffResult<u64>
@@ -63,7 +55,7 @@ impl<W: Sink, K: TiffKind> TiffEncoder<W, K> {
             × (finish_cause self.now fields.now ≡ None))
             (λ e. finish_cause self.now fields.now ≡ Some e) }
     {
-        self.is_of_kind();
+        self.fact_kind();
         let end = self.end()?;
         check_end(K::file_kind(), end, fields)?;
         Ok(end)
@@ -87,7 +79,7 @@ impl<W: Sink, K: TiffKind> TiffEncoder<W, K> {
     ) -> TiffResult<DirectoryOffset<K>>
         ensures { Ends (λ d. d) (calls.finish fields.now self.old) result self.old self.new }
     {
-        self.is_of_kind();
+        self.fact_kind();
         let end = self.end_offset(fields)?;
         let link = self.append_listed(fields)?;
         // Last, so that what is linked is whole, also where the sink fails on the way.

@@ -1,9 +1,8 @@
 //! The state of an open directory.
 
-ghost use Rattle.std.specs.Prelude.{◌≡◌, ◌^◌, ◌<◌, IfOk, MatchResult, Some, true};
+ghost use Rattle.std.specs.Prelude.{◌≡◌, IfOk, MatchResult, Some, true};
 ghost use Rattle.std.specs.FinMap as map;
 ghost use Rattle.tiff_base.specs.declared.error.TiffError.TheVariants.{OutOfMemory};
-ghost use Rattle.tiff_base.specs.Field.{AreEntries};
 ghost use Rattle.tiff_encode.specs.Calls.{with_field, without_field};
 ghost use Rattle.tiff_encode.specs.Extending.{Extends};
 ghost use Rattle.tiff_encode.specs.Machine.{OpenDirectory};
@@ -185,15 +184,5 @@ impl DirectoryState {
         };
         copy.extend_from(&self.directory)?;
         Ok(copy)
-    }
-
-    /// States that the fields are entries that a directory can have, and that they are fewer than
-    /// 2^64.
-    pub(crate) fn fits(&self)
-        ensures entries { AreEntries self.now.fields }
-        ensures few { map.len self.now.fields < 2 ^ 64 }
-    {
-        self.directory.entries_fit();
-        let _count = self.directory.len();
     }
 }

@@ -68,7 +68,7 @@ impl<W: Sink, K: TiffKind> TiffEncoder<W, K> {
             self.entry.now))) }
     {
         let image = self.begin_image::<C>(width, height)?;
-        self.fits();
+        self.fact_fits();
         Ok(DirectoryEncoder {
             encoder: self,
             state: image,
@@ -100,7 +100,7 @@ impl<W: Sink, K: TiffKind> TiffEncoder<W, K> {
     {
         let _compression = &self.compression;
         let answer = self.write_new_image::<C>(width, height, samples);
-        self.is_short();
+        self.fact_short();
         answer
     }
 }
@@ -154,14 +154,14 @@ impl<'a, W: Sink, K: TiffKind, C: ColorType> DirectoryEncoder<'a, W, K, ImageSta
             (map (sample_number (type_size C.Inner.value_type) C.Inner.bits) samples.now) result
             self.old.encoder.now self.new.encoder.now self.new.state m }
     {
-        self.state.fits();
+        self.state.fact_fits();
         match self.encoder.store_chunk(&mut self.state, samples) {
             Ok(()) => {
-                self.encoder.is_short();
+                self.encoder.fact_short();
                 return Ok(());
             }
             Err(fault) => {
-                self.encoder.is_short();
+                self.encoder.fact_short();
                 return Err(fault);
             }
         }
@@ -184,14 +184,14 @@ impl<'a, W: Sink, K: TiffKind, C: ColorType> DirectoryEncoder<'a, W, K, ImageSta
             (map (sample_number (type_size C.Inner.value_type) C.Inner.bits) samples.now) result
             self.old.encoder.now self.new.encoder.now self.new.state m }
     {
-        self.state.fits();
+        self.state.fact_fits();
         match self.encoder.store_strip(&mut self.state, samples) {
             Ok(()) => {
-                self.encoder.is_short();
+                self.encoder.fact_short();
                 return Ok(());
             }
             Err(fault) => {
-                self.encoder.is_short();
+                self.encoder.fact_short();
                 return Err(fault);
             }
         }
@@ -232,15 +232,15 @@ impl<'a, W: Sink, K: TiffKind, C: ColorType> DirectoryEncoder<'a, W, K, ImageSta
         ensures short { end_of self.exit.0.now < 2 ^ 64 }
     {
         let DirectoryEncoder { encoder, mut state } = self;
-        state.fits();
-        encoder.fits();
+        state.fact_fits();
+        encoder.fact_fits();
         match encoder.finish_image(&mut state) {
             Ok(_) => {
-                encoder.is_short();
+                encoder.fact_short();
                 return Ok(());
             }
             Err(fault) => {
-                encoder.is_short();
+                encoder.fact_short();
                 return Err(fault);
             }
         }
@@ -275,15 +275,15 @@ impl<'a, W: Sink, K: TiffKind, C: ColorType> DirectoryEncoder<'a, W, K, ImageSta
         ensures short { end_of self.exit.0.now < 2 ^ 64 }
     {
         let DirectoryEncoder { encoder, mut state } = self;
-        state.fits();
-        encoder.fits();
+        state.fact_fits();
+        encoder.fact_fits();
         match encoder.finish_image(&mut state) {
             Ok(_) => {
-                encoder.is_short();
+                encoder.fact_short();
                 return Ok(());
             }
             Err(fault) => {
-                encoder.is_short();
+                encoder.fact_short();
                 return Err(fault);
             }
         }
@@ -319,15 +319,15 @@ impl<'a, W: Sink, K: TiffKind, C: ColorType> DirectoryEncoder<'a, W, K, ImageSta
         ensures short { end_of self.exit.0.now < 2 ^ 64 }
     {
         let DirectoryEncoder { encoder, mut state } = self;
-        state.fits();
-        state.is_of_type();
+        state.fact_fits();
+        state.fact_type();
         match encoder.write_image_data(&mut state, samples) {
             Ok(()) => {
-                encoder.is_short();
+                encoder.fact_short();
                 return Ok(());
             }
             Err(fault) => {
-                encoder.is_short();
+                encoder.fact_short();
                 return Err(fault);
             }
         }

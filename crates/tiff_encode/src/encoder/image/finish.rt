@@ -311,7 +311,7 @@ impl<W: Sink, K: TiffKind> TiffEncoder<W, K> {
         ensures { Ends (λ _. image.new.directory) (write_fields image.old.directory
             (fields_of (calls.last_tags self.old.kind image.old)) self.old) result self.old self.new }
     {
-        self.is_of_kind();
+        self.fact_kind();
         let extra = image.extra.len();
         let chunk_type = image.form.chunk_type;
         self.set_samples(

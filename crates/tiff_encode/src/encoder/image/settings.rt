@@ -368,9 +368,9 @@ impl<'a, W: Sink, K: TiffKind, C: ColorType> DirectoryEncoder<'a, W, K, ImageSta
             → Leaves (calls.extra_samples self.old.state extra.now self.old.encoder.now) result
             self.old.encoder.now self.new.encoder.now m }
     {
-        self.state.fits();
+        self.state.fact_fits();
         let answer = self.encoder.set_extra_samples(&mut self.state, extra);
-        self.encoder.fits();
+        self.encoder.fact_fits();
         answer
     }
 
@@ -391,9 +391,9 @@ impl<'a, W: Sink, K: TiffKind, C: ColorType> DirectoryEncoder<'a, W, K, ImageSta
             → Leaves (calls.set_rows_per_strip self.old.state value self.old.encoder.now) result
             self.old.encoder.now self.new.encoder.now m }
     {
-        self.state.fits();
+        self.state.fact_fits();
         let answer = self.encoder.set_rows_per_strip(&mut self.state, value);
-        self.encoder.fits();
+        self.encoder.fact_fits();
         answer
     }
 
@@ -414,9 +414,9 @@ impl<'a, W: Sink, K: TiffKind, C: ColorType> DirectoryEncoder<'a, W, K, ImageSta
             → Leaves (calls.tiles self.old.state width length self.old.encoder.now) result
             self.old.encoder.now self.new.encoder.now m }
     {
-        self.state.fits();
+        self.state.fact_fits();
         let answer = self.encoder.set_tiles(&mut self.state, width, length);
-        self.encoder.fits();
+        self.encoder.fact_fits();
         answer
     }
 
@@ -435,9 +435,9 @@ impl<'a, W: Sink, K: TiffKind, C: ColorType> DirectoryEncoder<'a, W, K, ImageSta
             → Leaves (calls.planar self.old.state self.old.encoder.now) result self.old.encoder.now
             self.new.encoder.now m }
     {
-        self.state.fits();
+        self.state.fact_fits();
         let answer = self.encoder.set_planar(&mut self.state);
-        self.encoder.fits();
+        self.encoder.fact_fits();
         answer
     }
 
@@ -460,9 +460,9 @@ impl<'a, W: Sink, K: TiffKind, C: ColorType> DirectoryEncoder<'a, W, K, ImageSta
             → Leaves (calls.resolution self.old.state unit (value.n, value.d) self.old.encoder.now)
             result self.old.encoder.now self.new.encoder.now m }
     {
-        self.state.fits();
+        self.state.fact_fits();
         let answer = self.encoder.set_resolution(&mut self.state, unit, value);
-        self.encoder.fits();
+        self.encoder.fact_fits();
         answer
     }
 
@@ -482,9 +482,9 @@ impl<'a, W: Sink, K: TiffKind, C: ColorType> DirectoryEncoder<'a, W, K, ImageSta
             → Leaves (calls.x_resolution self.old.state (value.n, value.d) self.old.encoder.now)
             result self.old.encoder.now self.new.encoder.now m }
     {
-        self.state.fits();
+        self.state.fact_fits();
         let answer = self.encoder.set_x_resolution(&mut self.state, value);
-        self.encoder.fits();
+        self.encoder.fact_fits();
         answer
     }
 
@@ -504,9 +504,9 @@ impl<'a, W: Sink, K: TiffKind, C: ColorType> DirectoryEncoder<'a, W, K, ImageSta
             → Leaves (calls.y_resolution self.old.state (value.n, value.d) self.old.encoder.now)
             result self.old.encoder.now self.new.encoder.now m }
     {
-        self.state.fits();
+        self.state.fact_fits();
         let answer = self.encoder.set_y_resolution(&mut self.state, value);
-        self.encoder.fits();
+        self.encoder.fact_fits();
         answer
     }
 
@@ -524,9 +524,9 @@ impl<'a, W: Sink, K: TiffKind, C: ColorType> DirectoryEncoder<'a, W, K, ImageSta
             → Leaves (calls.resolution_unit self.old.state unit self.old.encoder.now) result
             self.old.encoder.now self.new.encoder.now m }
     {
-        self.state.fits();
+        self.state.fact_fits();
         let answer = self.encoder.set_resolution_unit(&mut self.state, unit);
-        self.encoder.fits();
+        self.encoder.fact_fits();
         answer
     }
 }

@@ -1,8 +1,6 @@
 //! The state of an open image.
 
 ghost use Rattle.std.specs.Prelude.{◌≡◌, ℕ, ◌^◌, ◌<◌, ◌≤◌, MatchOption, false};
-ghost use Rattle.tiff_base.specs.Field.{AreEntries};
-ghost use Rattle.tiff_base.specs.Types.{type_size};
 ghost use Rattle.tiff_value.specs.ColorType as color_type;
 ghost use Rattle.tiff_page.specs.Counts.{all_chunks, parts, planes_of};
 ghost use Rattle.tiff_page.specs.Pixels.{stored_samples};
@@ -112,20 +110,6 @@ impl<C: ColorType> HasDirectory for ImageState<C> {
 }
 
 impl<C: ColorType> ImageState<C> {
-    /// States that the fields of the image's directory are entries that a directory can have.
-    pub(crate) fn fits(&self)
-        ensures { AreEntries self.now.directory.fields }
-    {
-        self.directory.fits();
-    }
-
-    /// States that a sample of the image has as many bytes as one of its color type.
-    pub(crate) fn is_of_type(&self)
-        ensures { self.now.size ≡ type_size C.Inner.value_type }
-    {
-        let _form = &self.form;
-    }
-
     /// Returns the number of samples of a pixel, with the extra samples.
     pub(crate) fn samples(&self) -> u64
         ensures count { result ≡ all_samples self.now }

@@ -26,8 +26,8 @@ impl<'a, W: Sink, K: TiffKind> DirectoryEncoder<'a, W, K, DirectoryState> {
             (λ s t offset. FinishesWith (calls.finish self.entry.state s.file) result s t offset)
             self.entry.state.parent self.entry.encoder.now self.exit.0.now (λ s t offset. Unit {0}) }
     {
-        self.encoder.fits();
-        self.state.fits();
+        self.encoder.fact_fits();
+        self.state.fact_fits();
         let offsets = self.finish_with_offsets()?;
         Ok(EndReply::Offsets {
             pointer: offsets.pointer.0,
@@ -42,8 +42,8 @@ impl<'a, W: Sink, K: TiffKind> DirectoryEncoder<'a, W, K, DirectoryState> {
             FinishesSilently (calls.finish self.entry.state s.file) result s t offset)
             self.entry.state.parent self.entry.encoder.now self.exit.0.now (λ s t offset. Unit {0}) }
     {
-        self.encoder.fits();
-        self.state.fits();
+        self.encoder.fact_fits();
+        self.state.fact_fits();
         self.discard()?;
         Ok(EndReply::Nothing)
     }
@@ -81,8 +81,8 @@ impl<'a, W: Sink, K: TiffKind, C: ColorType> DirectoryEncoder<'a, W, K, ImageSta
             (DataHeld self.entry.state
             (map (sample_number (type_size C.Inner.value_type) C.Inner.bits) samples.now)) }
     {
-        self.state.fits();
-        self.state.is_of_type();
+        self.state.fact_fits();
+        self.state.fact_type();
         self.write_data(samples)?;
         Ok(EndReply::Nothing)
     }
@@ -97,7 +97,7 @@ impl<'a, W: Sink, K: TiffKind, C: ColorType> DirectoryEncoder<'a, W, K, ImageSta
             t offset) self.entry.state.directory.parent self.entry.encoder.now self.exit.0.now
             (DataHeld self.entry.state (cut_to self.entry.state.size numbers.now)) }
     {
-        self.state.is_of_type();
+        self.state.fact_type();
         let samples = match numbers.cut::<C::Inner>(self.encoder.alloc()) {
             Ok(samples) => samples,
             Err(fault) => {
@@ -114,7 +114,7 @@ impl<'a, W: Sink, K: TiffKind, C: ColorType> DirectoryEncoder<'a, W, K, ImageSta
             (λ s t offset. ImageEnds s self.entry.state ImageEnd.Finish result t offset)
             self.entry.state.directory.parent self.entry.encoder.now self.exit.0.now (ImageHeld self.entry.state ImageEnd.Finish) }
     {
-        self.state.fits();
+        self.state.fact_fits();
         self.finish()?;
         Ok(EndReply::Nothing)
     }
@@ -126,7 +126,7 @@ impl<'a, W: Sink, K: TiffKind, C: ColorType> DirectoryEncoder<'a, W, K, ImageSta
             self.entry.state.directory.parent self.entry.encoder.now self.exit.0.now
             (ImageHeld self.entry.state ImageEnd.Discard) }
     {
-        self.state.fits();
+        self.state.fact_fits();
         self.discard()?;
         Ok(EndReply::Nothing)
     }

@@ -40,12 +40,12 @@ impl<'a, W: Sink, K: TiffKind, C: ColorType> DirectoryEncoder<'a, W, K, ImageSta
         ensures draws { StripDraws self.old.state numbers.now result self.old.encoder.now self.new.encoder.now
             self.new.state }
     {
-        self.state.is_of_type();
+        self.state.fact_type();
         numbers.are_few();
         let samples = numbers.cut::<C::Inner>(self.encoder.alloc())?;
-        self.encoder.is_short();
+        self.encoder.fact_short();
         let answer = self.write_strip(samples.as_slice());
-        self.encoder.is_short();
+        self.encoder.fact_short();
         replied(answer)
     }
 
@@ -55,12 +55,12 @@ impl<'a, W: Sink, K: TiffKind, C: ColorType> DirectoryEncoder<'a, W, K, ImageSta
         ensures draws { ChunkDraws self.old.state numbers.now result self.old.encoder.now self.new.encoder.now
             self.new.state }
     {
-        self.state.is_of_type();
+        self.state.fact_type();
         numbers.are_few();
         let samples = numbers.cut::<C::Inner>(self.encoder.alloc())?;
-        self.encoder.is_short();
+        self.encoder.fact_short();
         let answer = self.write_chunk(samples.as_slice());
-        self.encoder.is_short();
+        self.encoder.fact_short();
         replied(answer)
     }
 
@@ -71,9 +71,9 @@ impl<'a, W: Sink, K: TiffKind, C: ColorType> DirectoryEncoder<'a, W, K, ImageSta
             self.new.encoder.now
             self.new.state }
     {
-        self.state.fits();
+        self.state.fact_fits();
         let answer = self.resolution(unit, value);
-        self.encoder.is_short();
+        self.encoder.fact_short();
         replied(answer)
     }
 
@@ -116,10 +116,10 @@ impl<'a, W: Sink, K: TiffKind, C: ColorType> DirectoryEncoder<'a, W, K, ImageSta
         ensures draws { StepsDraw self.old.state steps.now replies.new.items self.old.encoder.now
             self.new.encoder.now self.new.state }
     {
-        self.encoder.is_of_kind();
+        self.encoder.fact_kind();
         for step in steps {
             let reply = self.image_step(step);
-            self.encoder.is_of_kind();
+            self.encoder.fact_kind();
             put(replies, reply);
         }
     }

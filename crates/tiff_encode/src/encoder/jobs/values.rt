@@ -158,7 +158,7 @@ impl<W: Sink, K: TiffKind> TiffEncoder<W, K> {
             m }
     {
         let entry = self.place_value(value, has_room)?;
-        self.fits();
+        self.fact_fits();
         Ok(entry)
     }
 
@@ -210,7 +210,7 @@ impl<W: Sink, K: TiffKind> TiffEncoder<W, K> {
             self.new m }
     {
         let entry = self.place_ordered(buffer.order, buffer.data_type, &buffer.bytes, has_room)?;
-        self.fits();
+        self.fact_fits();
         Ok(entry)
     }
 

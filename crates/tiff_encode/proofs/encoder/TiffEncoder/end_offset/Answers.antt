@@ -11,7 +11,7 @@ returns-in_err-end g c =
 pub returns-in_err-check_end : goal.returns-in_err-check_end
 returns-in_err-check_end g c =
     let told =
-    sym (end_cause c.args.self.now c.args.fields.now c.file_kind.result c.in_ok-end.end c.in_ok-end.ensures.0 (c.file_kind.ensures ∙ sym c.is_of_kind.ensures) c.in_ok-end.ensures.1)
+    sym (end_cause c.args.self.now c.args.fields.now c.file_kind.result c.in_ok-end.end c.in_ok-end.ensures.0 (c.file_kind.ensures ∙ sym c.fact_kind.ensures) c.in_ok-end.ensures.1)
     ∙ c.in_err-check_end.ensures in
     search rules
 
@@ -19,6 +19,6 @@ pub returns : goal.returns
 returns g c = (
   c.in_ok-end.ensures.0,
   c.in_ok-end.ensures.1,
-  sym (end_cause c.args.self.now c.args.fields.now c.file_kind.result c.in_ok-end.end c.in_ok-end.ensures.0 (c.file_kind.ensures ∙ sym c.is_of_kind.ensures) c.in_ok-end.ensures.1)
+  sym (end_cause c.args.self.now c.args.fields.now c.file_kind.result c.in_ok-end.end c.in_ok-end.ensures.0 (c.file_kind.ensures ∙ sym c.fact_kind.ensures) c.in_ok-end.ensures.1)
       ∙ c.in_ok-check_end.ensures,
 )

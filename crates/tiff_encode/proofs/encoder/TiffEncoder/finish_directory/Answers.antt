@@ -24,12 +24,12 @@ link_from-requires-clause-within g c =
     let d : OpenDirectory = c.args.fields.now in
     within_grown c.args.self.now c.append_listed.new.self d g.K.TiffKind.kind
     (directory_bytes c.args.self.now.kind d.fields) c.fields.inside.parent
-    c.is_of_kind.ensures c.in_ok-end.ensures.0 c.in_ok-end.ensures.2 c.in_ok-link.ensures.listed.1
+    c.fact_kind.ensures c.in_ok-end.ensures.0 c.in_ok-end.ensures.2 c.in_ok-link.ensures.listed.1
     (ap {A = OpenDirectory} (λ x. x.parent) c.fields.view_is)
 
 pub link_from-requires-clause-near : goal.link_from-requires-clause-near
 link_from-requires-clause-near g c =
-    (λ i. is_past (sym c.is_of_kind.ensures i) (c.in_ok-end.ensures.1 i))
+    (λ i. is_past (sym c.fact_kind.ensures i) (c.in_ok-end.ensures.1 i))
     ∙ near c.args.self.now c.args.fields.now c.in_ok-end.ensures.2
 
 pub returns-in_err-link_from : goal.returns-in_err-link_from
@@ -42,7 +42,7 @@ returns-in_err-link_from g c =
 
 pub at-requires : goal.at-requires
 at-requires g c =
-    (λ i. is_past (sym c.is_of_kind.ensures i) (c.in_ok-end.ensures.1 i))
+    (λ i. is_past (sym c.fact_kind.ensures i) (c.in_ok-end.ensures.1 i))
     ∙ near c.args.self.now c.args.fields.now c.in_ok-end.ensures.2
 
 pub returns : goal.returns

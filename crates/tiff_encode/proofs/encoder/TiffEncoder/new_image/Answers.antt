@@ -13,7 +13,7 @@ returns g c = (
     begun = c.in_ok-image.ensures;
     leaves =
         λ m s. new_left g.C.ColorType.described (type_size g.C.Inner.TiffValue.value_type) c.args.width c.args.height (λ i. i) (Ok c.in_ok-image.image)
-        c.args.self.now c.begin_image.new.self m c.fits.ensures s c.in_ok-image.ensures;
+        c.args.self.now c.begin_image.new.self m c.fact_fits.ensures s c.in_ok-image.ensures;
   },
 )
 

@@ -7,7 +7,7 @@ use Rattle.tiff_encode.proofs.encoder.TiffEncoder.place_given.Goals as goal
 pub returns-clause-leaves : goal.returns-clause-leaves
 returns-clause-leaves g c m s =
     let value = c.args.value.now in
-    entry_left (Given (g.T.TiffValue.field_data value)) c.in_ok-entry.entry c.args.self.now c.place_value.new.self m (g.T.TiffValue.value_type, (g.T.TiffValue.value_count value, g.met.T.TiffValue.sized value)) c.fits.ensures c.in_ok-entry.ensures.answer s
+    entry_left (Given (g.T.TiffValue.field_data value)) c.in_ok-entry.entry c.args.self.now c.place_value.new.self m (g.T.TiffValue.value_type, (g.T.TiffValue.value_count value, g.met.T.TiffValue.sized value)) c.fact_fits.ensures c.in_ok-entry.ensures.answer s
 
 pub returns-in_err-entry-clause-leaves : goal.returns-in_err-entry-clause-leaves
 returns-in_err-entry-clause-leaves g c m s =

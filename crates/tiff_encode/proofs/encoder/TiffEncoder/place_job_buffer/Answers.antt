@@ -19,7 +19,7 @@ returns-clause-leaves g c m s =
     let r : Result Field TiffError = Ok c.in_ok-entry.entry in
     let v = c.args.buffer.now.bytes in
     let short : length b.bytes < 2 ^ 64 = omega (arith, v.ok, v.small) in
-    entry_left (Lent b) c.in_ok-entry.entry old new m short c.fits.ensures
+    entry_left (Lent b) c.in_ok-entry.entry old new m short c.fact_fits.ensures
     (subst (λ (bytes : List ℕ). Ends view (write_entry_buf (record b { bytes = bytes }) old) r old new) c.deref.ensures.value c.in_ok-entry.ensures.answer) s
 
 pub returns-in_err-entry-clause-leaves : goal.returns-in_err-entry-clause-leaves

@@ -21,7 +21,7 @@ returns g c =
     ∙ ap (λ i. i.color.bits) is) (c.sample_formats.ensures ∙ ap (λ i. i.color.formats) is)
     (c.len-extra.ensures ∙ c.image.inside.extra.ok.0
     ∙ ap (λ i. length i.extra) is) (λ d. d) c.set_samples.new.fields g.K.TiffKind.kind c.image.inside.form.chunk_type c.deref.result.now
-    (Ok c.set_lists.new.fields) c.args.self.now c.set_samples.new.self c.set_lists.new.self c.is_of_kind.ensures (ap (λ i. i.form.chunk_type) is)
+    (Ok c.set_lists.new.fields) c.args.self.now c.set_samples.new.self c.set_lists.new.self c.fact_kind.ensures (ap (λ i. i.form.chunk_type) is)
     (c.deref.ensures.value ∙ ap (λ i. i.chunks) is) c.in_ok-set_samples.ensures c.in_ok-set_lists.ensures
 
 pub returns-in_err-set_lists : goal.returns-in_err-set_lists
@@ -33,6 +33,6 @@ returns-in_err-set_lists g c =
     ∙ ap (λ i. i.color.bits) is) (c.sample_formats.ensures ∙ ap (λ i. i.color.formats) is)
     (c.len-extra.ensures ∙ c.image.inside.extra.ok.0
     ∙ ap (λ i. length i.extra) is) (λ d. d) c.set_samples.new.fields g.K.TiffKind.kind c.image.inside.form.chunk_type c.deref.result.now
-    (Err c.in_err-set_lists.field-0.0) c.args.self.now c.set_samples.new.self c.set_lists.new.self c.is_of_kind.ensures (ap (λ i. i.form.chunk_type) is)
+    (Err c.in_err-set_lists.field-0.0) c.args.self.now c.set_samples.new.self c.set_lists.new.self c.fact_kind.ensures (ap (λ i. i.form.chunk_type) is)
     (c.deref.ensures.value ∙ ap (λ i. i.chunks) is) c.in_ok-set_samples.ensures c.in_err-set_lists.ensures in
     search rules

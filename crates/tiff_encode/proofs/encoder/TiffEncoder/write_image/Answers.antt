@@ -11,4 +11,4 @@ returns-clause-leaves g c m s l =
     image_leaves_by parts_show g.C.ColorType.described (type_size g.C.Inner.TiffValue.value_type) c.args.width c.args.height (map (sample_number (type_size g.C.Inner.TiffValue.value_type) g.C.Inner.Sample.bits) c.args.samples.now)
     c.write_new_image-answer.result c.args.self.now c.write_new_image-answer.new.self m
     (omega arith) (omega arith)
-    (are_numbers (type_size g.C.Inner.TiffValue.value_type) g.C.Inner.Sample.bits c.args.samples.now) c.is_short.ensures s l c.write_new_image-answer.ensures
+    (are_numbers (type_size g.C.Inner.TiffValue.value_type) g.C.Inner.Sample.bits c.args.samples.now) c.fact_short.ensures s l c.write_new_image-answer.ensures

@@ -6,7 +6,7 @@ use Rattle.tiff_encode.proofs.encoder.directory.encoder.DirectoryEncoder.write_e
 
 pub returns-clause-leaves : goal.returns-clause-leaves
 returns-clause-leaves g c m s =
-    entry_left (Given (g.T.TiffValue.field_data c.args.value)) c.in_ok-entry.entry c.args.self.now.encoder.now c.place_value.new.self m (g.T.TiffValue.value_type, (g.T.TiffValue.value_count c.args.value, g.met.T.TiffValue.sized c.args.value)) c.fits.ensures c.in_ok-entry.ensures.answer s
+    entry_left (Given (g.T.TiffValue.field_data c.args.value)) c.in_ok-entry.entry c.args.self.now.encoder.now c.place_value.new.self m (g.T.TiffValue.value_type, (g.T.TiffValue.value_count c.args.value, g.met.T.TiffValue.sized c.args.value)) c.fact_fits.ensures c.in_ok-entry.ensures.answer s
 
 pub returns-in_err-entry-clause-leaves : goal.returns-in_err-entry-clause-leaves
 returns-in_err-entry-clause-leaves g c m s =

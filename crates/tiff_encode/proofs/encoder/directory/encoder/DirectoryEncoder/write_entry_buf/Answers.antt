@@ -6,7 +6,7 @@ use Rattle.tiff_encode.proofs.encoder.directory.encoder.DirectoryEncoder.write_e
 
 pub returns-clause-leaves : goal.returns-clause-leaves
 returns-clause-leaves g c m s =
-    entry_left (Lent c.args.buffer.now) c.in_ok-entry.entry c.args.self.now.encoder.now c.place_buffer.new.self m c.fits_short.ensures c.fits.ensures c.in_ok-entry.ensures.answer s
+    entry_left (Lent c.args.buffer.now) c.in_ok-entry.entry c.args.self.now.encoder.now c.place_buffer.new.self m c.fits_short.ensures c.fact_fits.ensures c.in_ok-entry.ensures.answer s
 
 pub returns-in_err-entry-clause-leaves : goal.returns-in_err-entry-clause-leaves
 returns-in_err-entry-clause-leaves g c m s =

@@ -6,7 +6,7 @@ use Rattle.tiff_encode.proofs.encoder.directory.encoder.DirectoryEncoder.write_e
 
 pub returns-clause-leaves : goal.returns-clause-leaves
 returns-clause-leaves g c m s =
-    entry_left (Bytes c.args.field_type c.args.bytes.now) c.in_ok-entry.entry c.args.self.now.encoder.now c.place_entry_bytes.new.self m (omega arith) c.fits.ensures c.in_ok-entry.ensures.answer s
+    entry_left (Bytes c.args.field_type c.args.bytes.now) c.in_ok-entry.entry c.args.self.now.encoder.now c.place_entry_bytes.new.self m (omega arith) c.fact_fits.ensures c.in_ok-entry.ensures.answer s
 
 pub returns-in_err-entry-clause-leaves : goal.returns-in_err-entry-clause-leaves
 returns-in_err-entry-clause-leaves g c m s =

@@ -39,4 +39,4 @@ returns-clause-leaves g c m s =
     (room_kept c.make_room-room.result c.is_made.result c.place_value-placed.result c.args.self.now.encoder.now c.place_value-placed.new.self c.is_made.ensures c.place_value-placed.ensures.room) in
     settled_leaves g.D.HasDirectory.open_directory g.D.HasDirectory.with_directory g.met.D.HasDirectory.given_directory g.met.D.HasDirectory.with_its_own c.args.self.now.state c.settle.new.self c.args.tag c.place_value-placed.result
     (Given (g.T.TiffValue.field_data c.args.value)) c.args.self.now.encoder.now c.place_value-placed.new.self c.place_value-placed.ensures.answer c.settle.result m
-    (entry_leaves (Given (g.T.TiffValue.field_data c.args.value)) c.place_value-placed.result c.args.self.now.encoder.now c.place_value-placed.new.self m (g.T.TiffValue.value_type, (g.T.TiffValue.value_count c.args.value, g.met.T.TiffValue.sized c.args.value)) c.fits.ensures c.place_value-placed.ensures.answer s) settled
+    (entry_leaves (Given (g.T.TiffValue.field_data c.args.value)) c.place_value-placed.result c.args.self.now.encoder.now c.place_value-placed.new.self m (g.T.TiffValue.value_type, (g.T.TiffValue.value_count c.args.value, g.met.T.TiffValue.sized c.args.value)) c.fact_fits.ensures c.place_value-placed.ensures.answer s) settled

@@ -39,4 +39,4 @@ returns-clause-leaves g c m s =
     (room_kept c.make_room-room.result c.is_made.result c.place_buffer-placed.result c.args.self.now.encoder.now c.place_buffer-placed.new.self c.is_made.ensures c.place_buffer-placed.ensures.room) in
     settled_leaves g.D.HasDirectory.open_directory g.D.HasDirectory.with_directory g.met.D.HasDirectory.given_directory g.met.D.HasDirectory.with_its_own c.args.self.now.state c.settle.new.self c.args.tag c.place_buffer-placed.result
     (Lent c.args.buffer.now) c.args.self.now.encoder.now c.place_buffer-placed.new.self c.place_buffer-placed.ensures.answer c.settle.result m
-    (entry_leaves (Lent c.args.buffer.now) c.place_buffer-placed.result c.args.self.now.encoder.now c.place_buffer-placed.new.self m c.fits_short.ensures c.fits.ensures c.place_buffer-placed.ensures.answer s) settled
+    (entry_leaves (Lent c.args.buffer.now) c.place_buffer-placed.result c.args.self.now.encoder.now c.place_buffer-placed.new.self m c.fits_short.ensures c.fact_fits.ensures c.place_buffer-placed.ensures.answer s) settled

@@ -8,10 +8,10 @@ use Rattle.tiff_encode.proofs.encoder.image.encoder.DirectoryEncoder+W+K+ImageSt
 
 pub returns-in-Ok-clause-leaves : goal.returns-in-Ok-clause-leaves
 returns-in-Ok-clause-leaves g c m s p =
-    data_leaves c.args.self.state (map (sample_number (type_size g.C.Inner.TiffValue.value_type) g.C.Inner.Sample.bits) c.args.samples.now) (Ok tt) c.args.self.encoder.now c.write_image_data.new.self m c.fits.ensures
-    (subst (λ size. AreNumbers size (map (sample_number (type_size g.C.Inner.TiffValue.value_type) g.C.Inner.Sample.bits) c.args.samples.now)) (sym c.is_of_type.ensures) (are_numbers (type_size g.C.Inner.TiffValue.value_type) g.C.Inner.Sample.bits c.args.samples.now)) c.is_short.ensures s p c.in-Ok.ensures
+    data_leaves c.args.self.state (map (sample_number (type_size g.C.Inner.TiffValue.value_type) g.C.Inner.Sample.bits) c.args.samples.now) (Ok tt) c.args.self.encoder.now c.write_image_data.new.self m c.fact_fits.ensures
+    (subst (λ size. AreNumbers size (map (sample_number (type_size g.C.Inner.TiffValue.value_type) g.C.Inner.Sample.bits) c.args.samples.now)) (sym c.fact_type.ensures) (are_numbers (type_size g.C.Inner.TiffValue.value_type) g.C.Inner.Sample.bits c.args.samples.now)) c.fact_short.ensures s p c.in-Ok.ensures
 
 pub returns-in-Err-clause-leaves : goal.returns-in-Err-clause-leaves
 returns-in-Err-clause-leaves g c m s p =
-    data_leaves c.args.self.state (map (sample_number (type_size g.C.Inner.TiffValue.value_type) g.C.Inner.Sample.bits) c.args.samples.now) (Err c.in-Err.fault) c.args.self.encoder.now c.write_image_data.new.self m c.fits.ensures
-    (subst (λ size. AreNumbers size (map (sample_number (type_size g.C.Inner.TiffValue.value_type) g.C.Inner.Sample.bits) c.args.samples.now)) (sym c.is_of_type.ensures) (are_numbers (type_size g.C.Inner.TiffValue.value_type) g.C.Inner.Sample.bits c.args.samples.now)) c.is_short-in-Err.ensures s p c.in-Err.ensures
+    data_leaves c.args.self.state (map (sample_number (type_size g.C.Inner.TiffValue.value_type) g.C.Inner.Sample.bits) c.args.samples.now) (Err c.in-Err.fault) c.args.self.encoder.now c.write_image_data.new.self m c.fact_fits.ensures
+    (subst (λ size. AreNumbers size (map (sample_number (type_size g.C.Inner.TiffValue.value_type) g.C.Inner.Sample.bits) c.args.samples.now)) (sym c.fact_type.ensures) (are_numbers (type_size g.C.Inner.TiffValue.value_type) g.C.Inner.Sample.bits c.args.samples.now)) c.fact_short-in-Err.ensures s p c.in-Err.ensures

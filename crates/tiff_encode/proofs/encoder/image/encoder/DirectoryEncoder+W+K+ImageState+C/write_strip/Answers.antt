@@ -8,9 +8,9 @@ use Rattle.tiff_encode.proofs.encoder.image.encoder.DirectoryEncoder+W+K+ImageSt
 pub returns-in-Ok-clause-leaves : goal.returns-in-Ok-clause-leaves
 returns-in-Ok-clause-leaves g c m s =
     strip_left c.args.self.now.state (map (sample_number (type_size g.C.Inner.TiffValue.value_type) g.C.Inner.Sample.bits) c.args.samples.now) c.args.self.now.encoder.now c.store_strip.new.self c.store_strip.new.image m
-    (write_strip_cause c.args.self.now.encoder.now c.args.self.now.state (length c.args.samples.now) 0) (Ok tt) c.fits.ensures c.is_short.ensures s c.in-Ok.ensures
+    (write_strip_cause c.args.self.now.encoder.now c.args.self.now.state (length c.args.samples.now) 0) (Ok tt) c.fact_fits.ensures c.fact_short.ensures s c.in-Ok.ensures
 
 pub returns-in-Err-clause-leaves : goal.returns-in-Err-clause-leaves
 returns-in-Err-clause-leaves g c m s =
     strip_left c.args.self.now.state (map (sample_number (type_size g.C.Inner.TiffValue.value_type) g.C.Inner.Sample.bits) c.args.samples.now) c.args.self.now.encoder.now c.store_strip.new.self c.store_strip.new.image m
-    (write_strip_cause c.args.self.now.encoder.now c.args.self.now.state (length c.args.samples.now) 0) (Err c.in-Err.fault) c.fits.ensures c.is_short-in-Err.ensures s c.in-Err.ensures
+    (write_strip_cause c.args.self.now.encoder.now c.args.self.now.state (length c.args.samples.now) 0) (Err c.in-Err.fault) c.fact_fits.ensures c.fact_short-in-Err.ensures s c.in-Err.ensures

@@ -4,4 +4,4 @@ use Rattle.tiff_encode.proofs.encoder.image.settings.DirectoryEncoder+W+K+ImageS
 
 pub returns-clause-leaves : goal.returns-clause-leaves
 returns-clause-leaves g c m s =
-    setting_left (λ _. c.set_resolution-answer.new.image) c.set_resolution-answer.result c.args.self.now.encoder.now c.set_resolution-answer.new.self m c.fits-2.ensures s c.args.self.now.state c.fits.ensures (Both c.args.unit (c.args.value.n, c.args.value.d)) c.set_resolution-answer.ensures.answer
+    setting_left (λ _. c.set_resolution-answer.new.image) c.set_resolution-answer.result c.args.self.now.encoder.now c.set_resolution-answer.new.self m c.fact_fits-2.ensures s c.args.self.now.state c.fact_fits.ensures (Both c.args.unit (c.args.value.n, c.args.value.d)) c.set_resolution-answer.ensures.answer

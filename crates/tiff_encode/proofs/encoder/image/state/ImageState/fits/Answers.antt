@@ -4,4 +4,4 @@ use Rattle.tiff_encode.proofs.encoder.image.state.ImageState.fits.Goals as goal
 
 pub returns : goal.returns
 returns g c =
-    subst (λ fields. AreEntries fields) (ap (λ i. i.directory.fields) c.self.view_is) c.fits.ensures.entries
+    subst (λ fields. AreEntries fields) (ap (λ i. i.directory.fields) c.self.view_is) c.fact_fits.ensures.entries

@@ -12,4 +12,4 @@ returns g c =
     cut_moves c.args.self.state c.write_samples.result (map number c.as_slice.result.now)
     (cut c.args.self.state.size) c.args.self.encoder.now c.write_samples.new.self.0
     (ap (map number) c.as_slice.ensures ∙ c.in-Ok.ensures
-    ∙ sym (ap cut c.is_of_type.ensures)) c.write_samples.ensures
+    ∙ sym (ap cut c.fact_type.ensures)) c.write_samples.ensures

@@ -11,8 +11,8 @@ pub returns : goal.returns
 returns g c =
     let samples =
     map (sample_number (type_size g.C.Inner.TiffValue.value_type) g.C.Inner.Sample.bits) c.args.samples.now in
-    data_told c.args.self.state samples c.args.self.encoder.now c.write_data.new.self.0 c.fits.ensures
-    (subst (λ size. AreNumbers size samples) (sym c.is_of_type.ensures) (are_numbers (type_size g.C.Inner.TiffValue.value_type) g.C.Inner.Sample.bits c.args.samples.now))
+    data_told c.args.self.state samples c.args.self.encoder.now c.write_data.new.self.0 c.fact_fits.ensures
+    (subst (λ size. AreNumbers size samples) (sym c.fact_type.ensures) (are_numbers (type_size g.C.Inner.TiffValue.value_type) g.C.Inner.Sample.bits c.args.samples.now))
     c.in_ok-write_data.ensures.short c.in_ok-write_data.ensures.answer
 
 pub returns-in_err-write_data : goal.returns-in_err-write_data
@@ -20,6 +20,6 @@ returns-in_err-write_data g c =
     let p = err_from_is_err_and c.from_residual.result c.from_residual.ensures.1 in
     let samples =
     map (sample_number (type_size g.C.Inner.TiffValue.value_type) g.C.Inner.Sample.bits) c.args.samples.now in
-    rw (p.1, p.2) (data_failed c.args.self.state samples c.args.self.encoder.now c.write_data.new.self.0 c.fits.ensures
-    (subst (λ size. AreNumbers size samples) (sym c.is_of_type.ensures) (are_numbers (type_size g.C.Inner.TiffValue.value_type) g.C.Inner.Sample.bits c.args.samples.now))
+    rw (p.1, p.2) (data_failed c.args.self.state samples c.args.self.encoder.now c.write_data.new.self.0 c.fact_fits.ensures
+    (subst (λ size. AreNumbers size samples) (sym c.fact_type.ensures) (are_numbers (type_size g.C.Inner.TiffValue.value_type) g.C.Inner.Sample.bits c.args.samples.now))
     c.in_err-write_data.ensures.short c.in_err-write_data.field-0.0 c.in_err-write_data.ensures.answer)

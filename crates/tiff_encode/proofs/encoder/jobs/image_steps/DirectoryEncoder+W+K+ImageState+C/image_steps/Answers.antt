@@ -40,7 +40,7 @@ loop-step-preserved g c =
     let r : Result StepReply TiffError = c.image_step-reply.result in
     record {
       same = c.image_step-reply.ensures.same_reference ∙ i.same;
-      kind = c.is_of_kind-in-loop-step.ensures ∙ sym c.is_of_kind.ensures;
+      kind = c.fact_kind-in-loop-step.ensures ∙ sym c.fact_kind.ensures;
       count = omega (arith, i.count, c.put.ensures.len);
       room = omega (arith, i.room, c.put.ensures.capacity);
       draws =

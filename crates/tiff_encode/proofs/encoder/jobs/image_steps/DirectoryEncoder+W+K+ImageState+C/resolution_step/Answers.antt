@@ -10,4 +10,4 @@ returns-clause-draws g c =
     let new = c.resolution-answer.new.self in
     let e = c.resolution-answer.ensures in
     subst (λ y. ResolutionDraws old.state c.args.unit value y old.encoder.now new.encoder.now new.state) (sym c.replied.ensures)
-    (resolution_draws old.state new.state c.args.unit value c.resolution-answer.result old.encoder.now new.encoder.now c.fits.ensures c.is_short.ensures e.part e.answer e.leaves)
+    (resolution_draws old.state new.state c.args.unit value c.resolution-answer.result old.encoder.now new.encoder.now c.fact_fits.ensures c.fact_short.ensures e.part e.answer e.leaves)

@@ -21,7 +21,7 @@ returns-clause-draws g c =
     let number = sample_number (type_size g.C.Inner.TiffValue.value_type) g.C.Inner.Sample.bits in
     let r = c.write_strip-answer.result in
     let cut : cut_to i.size c.args.numbers.now ≡ map number c.as_slice.result.now =
-    ap (λ z. cut_to z c.args.numbers.now) c.is_of_type.ensures ∙ sym c.in_ok-samples.ensures
+    ap (λ z. cut_to z c.args.numbers.now) c.fact_type.ensures ∙ sym c.in_ok-samples.ensures
     ∙ ap (map number) (sym c.as_slice.ensures) in
     let count : length c.as_slice.result.now ≡ length (map number c.as_slice.result.now) =
     sym (length-map c.as_slice.result.now number) in
@@ -29,4 +29,4 @@ returns-clause-draws g c =
     (sym c.replied.ensures)
     (cut_draws write_strip (λ file i n. write_strip_cause file i n 0) strips_store i c.write_strip-answer.new.self.state c.args.numbers.now (map number c.as_slice.result.now) (length c.as_slice.result.now) r
     c.args.self.now.encoder.now c.write_strip-answer.new.self.encoder.now cut count
-    c.are_few.ensures c.is_short.ensures c.is_short-2.ensures c.write_strip-answer.ensures.answer c.write_strip-answer.ensures.leaves)
+    c.are_few.ensures c.fact_short.ensures c.fact_short-2.ensures c.write_strip-answer.ensures.answer c.write_strip-answer.ensures.leaves)
