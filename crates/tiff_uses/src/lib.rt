@@ -57,8 +57,7 @@ pub fn page_chunk(
 /// The width of a page, in pixels, and how many rows each of its strips has; or the first error.
 /// `page` counts from 0. The function has no contract: that it is proved says that no file makes it
 /// abort, read past an end or run on.
-pub fn strips_of(alloc: Global, file: Vec<u8>, page: usize) -> TiffResult<(u32, u32)> {
-    let mut decoder = Decoder::new(alloc, MemorySource::new(file))?;
+pub fn strips_of<R: Source>(decoder: &mut Decoder<R>, page: usize) -> TiffResult<(u32, u32)> {
     decoder.seek_to_image(page)?;
     let (width, _) = decoder.dimensions()?;
     let rows = decoder.get_tag_u32(Tag::RowsPerStrip)?;
