@@ -1,6 +1,6 @@
 use Rattle.std.proofs.Common.{ap, subst}
 use Rattle.tiff_base.specs.Field.{AreEntries}
-use Rattle.tiff_encode.proofs.encoder.directory.state.DirectoryState.fits.Goals as goal
+use Rattle.tiff_encode.proofs.encoder.directory.state.DirectoryState.fact_fits.Goals as goal
 
 pub returns-clause-entries : goal.returns-clause-entries
 returns-clause-entries c =

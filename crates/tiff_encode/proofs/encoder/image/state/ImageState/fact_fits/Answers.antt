@@ -1,6 +1,6 @@
 use Rattle.std.proofs.Common.{ap, subst}
 use Rattle.tiff_base.specs.Field.{AreEntries}
-use Rattle.tiff_encode.proofs.encoder.image.state.ImageState.fits.Goals as goal
+use Rattle.tiff_encode.proofs.encoder.image.state.ImageState.fact_fits.Goals as goal
 
 pub returns : goal.returns
 returns g c =
