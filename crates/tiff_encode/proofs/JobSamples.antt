@@ -14,6 +14,7 @@ use Rattle.tiff_base.specs.Types.{type_size}
 use Rattle.tiff_page.specs.Pixels.{tabulate, width_of, row_number, numbers_in}
 use Rattle.tiff_page.proofs.NumberBytes.{numbers_are}
 use Rattle.tiff_page.proofs.Rows.{by_size, each_at, number_lt}
+use Rattle.tiff_encode.specs.ImageData.{AreNumbers}
 use Rattle.tiff_encode.specs.JobValues.{cut_to}
 use Rattle.tiff_encode.proofs.Shown.Color.{size_of_type}
 
@@ -114,3 +115,9 @@ whole_cut type bytes fit =
     let size : ℕ = type_size type in
     low_numbers (256 ^ size) (row_number LittleEndian size bytes) (div_ceil (length bytes) size) 0
     (λ k. number_lt size bytes k (size_of_type type) (λ i. let f = fit i in omega (arith, f)))
+
+-- Numbers that fit so many bytes stay as they are cut to these.
+pub small_cut : (size : ℕ) (xs : List ℕ) → AreNumbers size xs → cut_to size xs ≡ xs
+small_cut size [] small = refl
+small_cut size (x ∷ xs) small =
+    λ i. mod-eq_of_lt (small 0) i ∷ small_cut size xs (λ k. small (suc k)) i

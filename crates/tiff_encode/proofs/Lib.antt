@@ -38,6 +38,8 @@ pub mod Data
 pub mod EndLinks
 pub mod Running
 pub mod Samples
+pub mod NumbersIn
+pub mod StoredBytes
 pub mod JobSamples
 pub mod Stepped
 pub mod Appending

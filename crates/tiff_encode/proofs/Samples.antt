@@ -9,7 +9,7 @@ use Rattle.tiff_encode.specs.Machine.{compression_method}
 use Rattle.tiff_encode.specs.ImageData.{AreNumbers}
 
 -- a number of bytes has at least one value
-some_bytes : (size : ℕ) → 0 < 256 ^ size
+pub some_bytes : (size : ℕ) → 0 < 256 ^ size
 some_bytes zero = lit< tt
 some_bytes (suc n) = let l = some_bytes n in omega (arith, l)
 

@@ -202,11 +202,11 @@ pub left_plain : (m l s : ℕ) (ns : List ℕ) → differences predictor.None m 
 unfolding differences
 left_plain m l s ns = sym (fill_by_all (λ k. get_or ns k 0) ns (length ns) 0 refl (λ k h. refl))
 
-module _ {V : Type 0} (bytes : V → List ℕ) (i : OpenImage) (samples : List ℕ) (size : ℕ)
+module _ (i : OpenImage) (samples : List ℕ) (size : ℕ)
     (packed : i.compression ≡ Uncompressed)
     (differs : i.predictor ≡ predictor.None) (sized : i.size ≡ size) where
   -- the bytes of the samples are those of the chunk
-  lent : (xs : List ℕ) → xs ≡ flat_map (le size) samples → IsChunkStored i xs samples
+  pub lent : (xs : List ℕ) → xs ≡ flat_map (le size) samples → IsChunkStored i xs samples
   unfolding unpacked_chunk
   lent xs h =
       let p = image_page i in
@@ -216,11 +216,14 @@ module _ {V : Type 0} (bytes : V → List ℕ) (i : OpenImage) (samples : List �
       ∙ ap (λ n. flat_map (le n) samples) sized in
       plain_stored i samples packed xs (h ∙ sym plain)
 
+module _ {V : Type 0} (bytes : V → List ℕ) (i : OpenImage) (samples : List ℕ) (size : ℕ)
+    (packed : i.compression ≡ Uncompressed)
+    (differs : i.predictor ≡ predictor.None) (sized : i.size ≡ size) where
   -- borrowed bytes, if there are some, are those of the chunk
   pub lent_some : (o : Option V) → IfSome o (λ b. bytes b ≡ flat_map (le size) samples)
       → IfSome o (λ b. IsChunkStored i (bytes b) samples)
   lent_some None h = h
-  lent_some (Some b) h = lent (bytes b) h
+  lent_some (Some b) h = lent i samples size packed differs sized (bytes b) h
 
 -- ---- samples that are packed
 

@@ -30,6 +30,7 @@ pub mod Extending
 pub mod Tagging
 pub mod LastTags
 pub mod ImageData
+pub mod Given
 pub mod ReadsBack
 pub mod Parts
 pub mod Stepping

@@ -8,8 +8,8 @@ use Rattle.std.specs.List.{flat_map}
 use Rattle.tiff_base.specs.declared.tags.ByteOrder.TheVariants.{LittleEndian}
 use Rattle.tiff_base.specs.Number.{number, le}
 use Rattle.tiff_page.specs.Pixels.{tabulate, width_of}
+use Rattle.tiff_page.specs.Row.{IsSize}
 use Rattle.tiff_encode.proofs.Slices.{number-le, length-le}
-use Rattle.tiff_encode.proofs.Shown.Color.{IsSize}
 
 -- one byte is read as its number
 byte_back : (x : ℕ) → x < 256 → number LittleEndian w8 (le 1 x) ≡ x
@@ -47,7 +47,7 @@ bytes_there size x at bytes rest f e h =
     ∙ get_or_append_left (le size x) rest 0 j (omega (arith, c, k)))
 
 -- the bytes of numbers contain number k at its offset
-stands_there : (n : ℕ) (numbers rest : List ℕ) (k : ℕ) → k < length numbers
+pub stands_there : (n : ℕ) (numbers rest : List ℕ) (k : ℕ) → k < length numbers
     → (tail : List ℕ) × (drop (k * n) (flat_map (le n) numbers ++ rest) ≡ le n (get_or numbers k 0)
     ++ tail)
 stands_there n [] rest k h = Prim.absurd (omega (arith, h))

@@ -19,14 +19,11 @@ use Rattle.tiff_value.specs.ColorTypes as family
 use Rattle.tiff_page.specs.Page.{PageRecord}
 use Rattle.tiff_page.specs.Layout.{first_is_alpha, photometric, color_from, color_of}
 use Rattle.tiff_page.specs.Pixels.{shown_number}
+use Rattle.tiff_page.specs.Row.{IsSize}
 use Rattle.tiff_encode.specs.Machine.{OpenImage}
 use Rattle.tiff_encode.specs.Chunks.{all_samples, image_page}
 
 -- ---- the form of a color type
-
--- the number of bytes that a sample may have
-abbrev pub IsSize : ℕ → Type 0
-IsSize size = (size ≡ 1) ⊎ ((size ≡ 2) ⊎ ((size ≡ 4) ⊎ (size ≡ 8)))
 
 -- a sample has all bits of its bytes; or pixels of one gray sample are packed into bytes
 abbrev pub IsDeep : ℕ → Family → ℕ → Type 0

@@ -6,5 +6,6 @@ pub(crate) mod chunks;
 pub(crate) mod data;
 pub(crate) mod encoder;
 pub(crate) mod finish;
+pub(crate) mod samples;
 pub(crate) mod settings;
 pub(crate) mod state;

@@ -1,7 +1,7 @@
 //! The samples of jobs: numbers, or bytes that the caller lends.
 
 ghost use Rattle.std.specs.Int.{w8, w16, w32, w64};
-ghost use Rattle.std.specs.Prelude.{◌≡◌, ◌-◌, ◌^◌, ◌%◌, ◌<◌, ◌≤◌, length, map, MatchResult};
+ghost use Rattle.std.specs.Prelude.{◌≡◌, ◌-◌, ◌^◌, ◌%◌, ◌<◌, ◌≤◌, length, map, IfSome, MatchResult};
 ghost use Rattle.tiff_base.specs.Number.{number};
 ghost use Rattle.tiff_base.specs.Types.{type_size};
 ghost use Rattle.tiff_base.specs.declared.tags.ByteOrder.TheVariants.{LittleEndian};
@@ -223,6 +223,17 @@ impl<'a> JobSamples<'a> {
                 return Ok(CutSamples::Own(samples));
             }
             SamplesHeld::Bytes(ty, bytes) => return cut_values(alloc, *ty, bytes),
+        }
+    }
+
+    /// Returns the lent bytes, if they are values of `size` bytes. Returns `None` for other samples.
+    pub(crate) fn lent(&self, size: usize) -> Option<&[u8]>
+        ensures numbers { IfSome result (λ bytes. self.now ≡ numbers_in size bytes.now) }
+        ensures whole { IfSome result (λ bytes. length bytes.now % size ≡ 0) }
+    {
+        match &self.held {
+            SamplesHeld::Bytes(ty, bytes) if usize::from(ty.byte_len()) == size => Some(bytes),
+            _ => None,
         }
     }
 

@@ -359,14 +359,7 @@ impl<'a, W: Sink, K: TiffKind> DirectoryEncoder<'a, W, K, DirectoryState> {
             → LeavesLinked (calls.finish self.entry.state self.entry.encoder.now) result
             self.entry.encoder.now self.exit.0.now m }
     {
-        let DirectoryEncoder {
-            encoder,
-            state: discarded,
-        } = self;
-        encoder.fact_fits();
-        discarded.fact_fits();
-        encoder.finish_directory(&discarded)?;
-        Ok(())
+        self.finish()
     }
 }
 

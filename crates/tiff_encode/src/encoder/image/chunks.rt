@@ -1,13 +1,14 @@
 //! Writes chunks.
 
-ghost use Rattle.std.specs.Prelude.{◌≡◌, ℕ, ◌-◌, ◌*◌, ◌^◌, ◌<◌, ◌≤◌, length, map, IfSome, MatchResult, None, Some};
+ghost use Rattle.std.specs.Prelude.{◌≡◌, ℕ, ◌-◌, ◌*◌, ◌%◌, ◌^◌, ◌<◌, ◌≤◌, length, map, IfSome, MatchResult, None, Some};
 ghost use Rattle.tiff_base.specs.Types.{type_size};
 ghost use Rattle.tiff_value.specs.ColorType.{sample_number};
 ghost use Rattle.tiff_base.specs.declared.tags.CompressionMethod.TheVariants as method;
 ghost use Rattle.tiff_encode.specs.Calls as calls;
 ghost use Rattle.tiff_encode.specs.Causes.{end_of, write_chunk_cause, write_strip_cause};
-ghost use Rattle.tiff_page.specs.Pixels.{stored_samples};
+ghost use Rattle.tiff_page.specs.Pixels.{numbers_in, stored_samples};
 ghost use Rattle.tiff_encode.specs.Chunks.{image_page, next_chunk_sample_count, row_samples};
+ghost use Rattle.tiff_encode.specs.Given.{given_count, given_numbers, IsChunkStorable, StoresBytes};
 ghost use Rattle.tiff_encode.specs.Placing.{Checks};
 ghost use Rattle.tiff_encode.specs.Storing.{chunk_test, AppendsChunk, StoresChunk, WritesStoredChunk};
 ghost use Rattle.tiff_encode.specs.Machine.{compression_method};
@@ -16,6 +17,7 @@ ghost use Rattle.tiff_encode.specs.Stored.{IsChunkStored};
 
 use crate::encoder::TiffEncoder;
 use crate::encoder::image::chunk_scratch::ChunkScratch;
+use crate::encoder::image::samples::ImageSamples;
 use crate::encoder::image::state::{Chunk, ImageState};
 use crate::encoder::kind::TiffKind;
 use crate::encoder::limits::is_past_offset;
@@ -133,8 +135,8 @@ impl<W: Sink, K: TiffKind> TiffEncoder<W, K> {
         Ok(end)
     }
 
-    // Appends a chunk of `count` samples, which is stored as the bytes `stored`.
-    fn append_chunk<C: ColorType>(
+    /// Appends a chunk of `count` samples, which is stored as the bytes `stored`.
+    pub(crate) fn append_chunk<C: ColorType>(
         &mut self,
         image: &mut ImageState<C>,
         count: usize,
@@ -243,20 +245,57 @@ impl<W: Sink, K: TiffKind> TiffEncoder<W, K> {
         }
     }
 
+    /// Appends the next chunk, whose samples are stored as these bytes.
+    pub(crate) fn put_bytes<C: ColorType>(
+        &mut self,
+        image: &mut ImageState<C>,
+        bytes: &[u8],
+    ) -> TiffResult<()>
+        requires stores { StoresBytes image.old }
+        requires whole { length bytes.now % type_size C.Inner.value_type ≡ 0 }
+        ensures { StoresChunk calls.write_chunk image.old
+            (numbers_in (type_size C.Inner.value_type) bytes.now) result self.old self.new image.new }
+    {
+        image.fact_type();
+        let samples = ImageSamples::<C::Inner>::Stored(bytes);
+        self.append_chunk(image, samples.count(), bytes)
+    }
+
+    // Appends the next chunk. Bytes that are stored as they are go to the sink directly.
+    fn put_given<C: ColorType>(
+        &mut self,
+        image: &mut ImageState<C>,
+        samples: ImageSamples<'_, C::Inner>,
+    ) -> TiffResult<()>
+        requires storable { IsChunkStorable (type_size C.Inner.value_type) image.old samples }
+        requires next { given_count (type_size C.Inner.value_type) samples
+            ≡ next_chunk_sample_count image.old }
+        ensures { StoresChunk calls.write_chunk image.old
+            (given_numbers (type_size C.Inner.value_type) C.Inner.bits samples.entry) result self.old
+            self.new image.new }
+    {
+        match samples {
+            ImageSamples::Typed(samples) => self.put_chunk(image, samples),
+            ImageSamples::Stored(bytes) => self.put_bytes(image, bytes),
+        }
+    }
+
     /// `write_chunk`. It returns the errors that don't depend on the compressed bytes before it
     /// compresses the samples.
     pub(crate) fn store_chunk<C: ColorType>(
         &mut self,
         image: &mut ImageState<C>,
-        samples: &[C::Inner],
+        samples: ImageSamples<'_, C::Inner>,
     ) -> TiffResult<()>
+        requires { IsChunkStorable (type_size C.Inner.value_type) image.old samples }
         ensures { WritesStoredChunk calls.write_chunk
-            (write_chunk_cause self.old image.old (length samples.now) 0) image.old
-            (map (sample_number (type_size C.Inner.value_type) C.Inner.bits) samples.now) result
+            (write_chunk_cause self.old image.old
+            (given_count (type_size C.Inner.value_type) samples.entry) 0) image.old
+            (given_numbers (type_size C.Inner.value_type) C.Inner.bits samples.entry) result
             self.old self.new image.new }
     {
-        self.chunk_offset(image, samples.len(), 0)?;
-        self.put_chunk(image, samples)
+        self.chunk_offset(image, samples.count(), 0)?;
+        self.put_given(image, samples)
     }
 
     // `write_strip`. For an image of tiles it returns `UsageError(InvalidChunkType)`.
@@ -277,6 +316,6 @@ impl<W: Sink, K: TiffKind> TiffEncoder<W, K> {
                 ChunkType::Tile,
             )));
         }
-        self.store_chunk(image, samples)
+        self.store_chunk(image, ImageSamples::Typed(samples))
     }
 }

@@ -3,16 +3,18 @@
 ghost use Rattle.std.specs.Prelude.{◌≡◌, ℕ, ◌+◌, ◌*◌, ◌^◌, ◌<◌, ◌≤◌, ◌++◌, length, map, replicate, slice_index, MatchResult, None, Some, false, true};
 ghost use Rattle.tiff_base.specs.Types.{type_size};
 ghost use Rattle.tiff_page.specs.Counts.{all_chunks};
-ghost use Rattle.tiff_page.specs.Pixels.{tabulate, stored_samples};
+ghost use Rattle.tiff_page.specs.Pixels.{numbers_in, tabulate, stored_samples};
 ghost use Rattle.tiff_page.specs.Rect.{rect};
 ghost use Rattle.tiff_value.specs.ColorType.{sample_number};
 ghost use Rattle.tiff_encode.specs.Causes.{image_samples, write_image_data_cause};
-ghost use Rattle.tiff_encode.specs.Chunks.{image_page, is_in_order, is_left, next_chunk_sample_count, parts_left, row_samples};
+ghost use Rattle.tiff_encode.specs.Chunks.{chunk_samples, image_page, is_in_order, is_left, next_chunk_sample_count, parts_left, row_samples};
 ghost use Rattle.tiff_encode.specs.Chunks as chunks;
+ghost use Rattle.tiff_encode.specs.Given.{given_numbers, AreStorable, IsPlain};
 ghost use Rattle.tiff_encode.specs.ImageData.{WritesChunks, WritesImage, WritesImageData};
 ghost use Rattle.tiff_encode.specs.Parts.{next_part, next_slice, pixel_sample, rect_of, row_sample, IsPatch, WritesPart};
 
 use crate::encoder::TiffEncoder;
+use crate::encoder::image::samples::ImageSamples;
 use crate::encoder::image::state::{ImageState, parts_of};
 use crate::encoder::kind::TiffKind;
 use crate::encoder::settings::Compression;
@@ -188,7 +190,28 @@ impl<C: ColorType> ImageState<C> {
         Ok(out)
     }
 
-    // Returns the samples of the next chunk out of samples in row order, after `written` chunks of
+    // Returns where the samples of the next strip begin and end among samples in row order, after
+    // `written` strips of them were written.
+    fn next_range(&self, written: u64) -> (u64, u64)
+        requires order { is_in_order self.now.form ≡ true }
+        requires left { is_left self.now ≡ true }
+        requires known { written ≤ length self.now.chunks }
+        requires fits { image_samples self.now < 2 ^ 64 }
+        ensures start { result.0 ≡ written
+            * (self.now.form.chunk_height * row_samples (image_page self.now)) }
+        ensures end { result.1 ≡ result.0 + chunk_samples (image_page self.now)
+            (length self.now.chunks) }
+        ensures count { next_chunk_sample_count self.now ≡ chunk_samples (image_page self.now)
+            (length self.now.chunks) }
+        ensures within { result.1 ≤ image_samples self.now }
+    {
+        let row = u64::from(self.form.chunk_width) * self.stored_samples();
+        let start = written * u64::from(self.form.chunk_height) * row;
+        let end = start + self.next_samples();
+        (start, end)
+    }
+
+    // Returns the samples of the next strip out of samples in row order, after `written` strips of
     // them were written.
     fn slice_out<'a>(&self, samples: &'a [C::Inner], written: u64) -> &'a [C::Inner]
         requires order { is_in_order self.now.form ≡ true }
@@ -199,16 +222,33 @@ impl<C: ColorType> ImageState<C> {
         ensures part { result.now ≡ next_slice self.now samples.now written }
         ensures count { length result.now ≡ next_chunk_sample_count self.now }
     {
-        let row = u64::from(self.form.chunk_width) * self.stored_samples();
-        let start = written * u64::from(self.form.chunk_height) * row;
-        let end = start + self.next_samples();
+        let (start, end) = self.next_range(written);
         &samples[start as usize..end as usize]
+    }
+
+    // Returns the bytes of the next strip out of the bytes of samples in row order, after `written`
+    // strips of them were written.
+    fn bytes_out<'a>(&self, bytes: &'a [u8], written: u64) -> &'a [u8]
+        requires order { is_in_order self.now.form ≡ true }
+        requires left { is_left self.now ≡ true }
+        requires known { written ≤ length self.now.chunks }
+        requires fits { image_samples self.now < 2 ^ 64 }
+        requires whole { image_samples self.now * type_size C.Inner.value_type ≤ length bytes.now }
+        ensures part { numbers_in (type_size C.Inner.value_type) result.now
+            ≡ next_slice self.now (numbers_in (type_size C.Inner.value_type) bytes.now) written }
+        ensures count { length result.now ≡ next_chunk_sample_count self.now
+            * type_size C.Inner.value_type }
+    {
+        let (_kind, len) = C::Inner::type_and_len();
+        let size = usize::from(len);
+        let (start, end) = self.next_range(written);
+        &bytes[start as usize * size..end as usize * size]
     }
 }
 
 impl<W: Sink, K: TiffKind> TiffEncoder<W, K> {
     // Writes the next chunk out of all samples, after `written` chunks of them were written.
-    fn write_part<C: ColorType>(
+    fn write_typed<C: ColorType>(
         &mut self,
         image: &mut ImageState<C>,
         samples: &[C::Inner],
@@ -234,16 +274,64 @@ impl<W: Sink, K: TiffKind> TiffEncoder<W, K> {
         self.put_chunk(image, &part)
     }
 
+    // Writes the next strip out of the bytes of all samples, after `written` strips of them were
+    // written.
+    fn write_stored<C: ColorType>(
+        &mut self,
+        image: &mut ImageState<C>,
+        bytes: &[u8],
+        written: u64,
+    ) -> TiffResult<()>
+        requires plain { IsPlain image.old }
+        requires left { is_left image.old ≡ true }
+        requires known { written ≤ length image.old.chunks }
+        requires fits { image_samples image.old < 2 ^ 64 }
+        requires whole { image_samples image.old * type_size C.Inner.value_type ≤ length bytes.now }
+        ensures { WritesPart image.old
+            (next_part image.old (numbers_in (type_size C.Inner.value_type) bytes.now) written)
+            result self.old self.new image.new }
+    {
+        let part = image.bytes_out(bytes, written);
+        self.put_bytes(image, part)
+    }
+
+    // Writes the next chunk out of all samples, after `written` chunks of them were written. Bytes
+    // that are stored as they are go to the sink directly.
+    fn write_part<C: ColorType>(
+        &mut self,
+        image: &mut ImageState<C>,
+        samples: ImageSamples<'_, C::Inner>,
+        written: u64,
+    ) -> TiffResult<()>
+        requires storable { AreStorable (type_size C.Inner.value_type) image.old samples }
+        requires left { is_left image.old ≡ true }
+        requires known { written ≤ length image.old.chunks }
+        requires fits { image_samples image.old < 2 ^ 64 }
+        requires whole { image_samples image.old ≤ length
+            (given_numbers (type_size C.Inner.value_type) C.Inner.bits samples) }
+        ensures { WritesPart image.old
+            (next_part image.old
+            (given_numbers (type_size C.Inner.value_type) C.Inner.bits samples.entry) written)
+            result self.old self.new image.new }
+    {
+        match samples {
+            ImageSamples::Typed(samples) => self.write_typed(image, samples, written),
+            ImageSamples::Stored(bytes) => self.write_stored(image, bytes, written),
+        }
+    }
+
     // Writes the chunks that are left, one after another. After an error the chunks before the one
     // that failed are in the file.
     fn put_chunks_left<C: ColorType>(
         &mut self,
         image: &mut ImageState<C>,
-        samples: &[C::Inner],
+        samples: ImageSamples<'_, C::Inner>,
     ) -> TiffResult<()>
-        requires { write_image_data_cause self.old image.old (length samples.now) ≡ None }
+        requires storable { AreStorable (type_size C.Inner.value_type) image.old samples }
+        requires uncaused { write_image_data_cause self.old image.old (length
+            (given_numbers (type_size C.Inner.value_type) C.Inner.bits samples)) ≡ None }
         ensures { WritesChunks image.old (parts_left image.old
-            (map (sample_number (type_size C.Inner.value_type) C.Inner.bits) samples.now)) result
+            (given_numbers (type_size C.Inner.value_type) C.Inner.bits samples.entry)) result
             self.old self.new image.new }
     {
         for written in 0..image.chunks_left() {
@@ -270,11 +358,13 @@ impl<W: Sink, K: TiffKind> TiffEncoder<W, K> {
     fn write_chunks_left<C: ColorType>(
         &mut self,
         image: &mut ImageState<C>,
-        samples: &[C::Inner],
+        samples: ImageSamples<'_, C::Inner>,
     ) -> TiffResult<()>
-        requires { write_image_data_cause self.old image.old (length samples.now) ≡ None }
+        requires storable { AreStorable (type_size C.Inner.value_type) image.old samples }
+        requires uncaused { write_image_data_cause self.old image.old (length
+            (given_numbers (type_size C.Inner.value_type) C.Inner.bits samples)) ≡ None }
         ensures { WritesChunks image.old (parts_left image.old
-            (map (sample_number (type_size C.Inner.value_type) C.Inner.bits) samples.now)) result
+            (given_numbers (type_size C.Inner.value_type) C.Inner.bits samples.entry)) result
             self.old self.new image.new }
     {
         self.reserve_data(image);
@@ -310,13 +400,14 @@ impl<W: Sink, K: TiffKind> TiffEncoder<W, K> {
     pub(crate) fn write_image_data<C: ColorType>(
         &mut self,
         image: &mut ImageState<C>,
-        samples: &[C::Inner],
+        samples: ImageSamples<'_, C::Inner>,
     ) -> TiffResult<()>
+        requires { AreStorable (type_size C.Inner.value_type) image.old samples }
         ensures { WritesImageData image.old
-            (map (sample_number (type_size C.Inner.value_type) C.Inner.bits) samples.now) result
+            (given_numbers (type_size C.Inner.value_type) C.Inner.bits samples.entry) result
             self.old self.new }
     {
-        self.check_data(image, samples.len())?;
+        self.check_data(image, samples.count())?;
         self.write_chunks_left(image, samples)?;
         self.finish_image(image)?;
         Ok(())
@@ -334,7 +425,7 @@ impl<W: Sink, K: TiffKind> TiffEncoder<W, K> {
             self.old self.new }
     {
         let mut image = self.begin_image::<C>(width, height)?;
-        self.write_image_data(&mut image, samples)?;
+        self.write_image_data(&mut image, ImageSamples::Typed(samples))?;
         Ok(())
     }
 }

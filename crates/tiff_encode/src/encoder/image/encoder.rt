@@ -7,6 +7,7 @@ ghost use Rattle.tiff_encode.specs.Calls as calls;
 ghost use Rattle.tiff_encode.specs.Causes.{end_of, write_chunk_cause, write_strip_cause};
 ghost use Rattle.tiff_encode.specs.Chunks as chunks;
 ghost use Rattle.tiff_encode.specs.Ends.{EndsSilently, EndsAsDefined};
+ghost use Rattle.tiff_encode.specs.Given.{given_count, given_numbers, AreStorable, IsChunkStorable};
 ghost use Rattle.tiff_encode.specs.ImageData.{LeavesChunk, LeavesData, LeavesNewImage, ShowsFinished, WritesImage, WritesImageData};
 ghost use Rattle.tiff_encode.specs.Leaves.{LeavesLinked};
 ghost use Rattle.tiff_encode.specs.Model.{IsLink, Model, FileContains};
@@ -15,6 +16,7 @@ ghost use Rattle.tiff_encode.specs.Storing.{WritesStoredChunk};
 
 use crate::encoder::TiffEncoder;
 use crate::encoder::directory::encoder::DirectoryEncoder;
+use crate::encoder::image::samples::ImageSamples;
 use crate::encoder::image::state::ImageState;
 use crate::encoder::kind::{TiffKind, TiffKindStandard};
 use tiff_base::error::TiffResult;
@@ -154,6 +156,29 @@ impl<'a, W: Sink, K: TiffKind, C: ColorType> DirectoryEncoder<'a, W, K, ImageSta
             (map (sample_number (type_size C.Inner.value_type) C.Inner.bits) samples.now) result
             self.old.encoder.now self.new.encoder.now self.new.state m }
     {
+        self.write_given_chunk(ImageSamples::Typed(samples))
+    }
+
+    /// `write_chunk` of samples in the number type of the color type, or of bytes that are stored as
+    /// they are.
+    pub(crate) fn write_given_chunk(
+        &mut self,
+        samples: ImageSamples<'_, C::Inner>,
+    ) -> TiffResult<()>
+        requires { IsChunkStorable (type_size C.Inner.value_type) self.old.state samples }
+        ensures same_reference { self.new.encoder.ghost_name ≡ self.old.encoder.ghost_name }
+        ensures answer { WritesStoredChunk calls.write_chunk
+            (write_chunk_cause self.old.encoder.now self.old.state
+            (given_count (type_size C.Inner.value_type) samples.entry) 0) self.old.state
+            (given_numbers (type_size C.Inner.value_type) C.Inner.bits samples.entry)
+            result self.old.encoder.now self.new.encoder.now self.new.state }
+
+        // What `write_chunk` leaves in the file.
+        ensures leaves { (m : Model) → FileContains self.old.encoder.now.kind self.old.encoder.now.bytes m
+            → LeavesChunk calls.write_chunk self.old.state
+            (given_numbers (type_size C.Inner.value_type) C.Inner.bits samples.entry) result
+            self.old.encoder.now self.new.encoder.now self.new.state m }
+    {
         self.state.fact_fits();
         match self.encoder.store_chunk(&mut self.state, samples) {
             Ok(()) => {
@@ -274,19 +299,7 @@ impl<'a, W: Sink, K: TiffKind, C: ColorType> DirectoryEncoder<'a, W, K, ImageSta
         // The file is shorter than 2^64 bytes.
         ensures short { end_of self.exit.0.now < 2 ^ 64 }
     {
-        let DirectoryEncoder { encoder, mut state } = self;
-        state.fact_fits();
-        encoder.fact_fits();
-        match encoder.finish_image(&mut state) {
-            Ok(_) => {
-                encoder.fact_short();
-                return Ok(());
-            }
-            Err(fault) => {
-                encoder.fact_short();
-                return Err(fault);
-            }
-        }
+        self.finish()
     }
 
     /// Writes all samples of the image, row by row and pixel by pixel, and ends it as `finish`
@@ -318,9 +331,33 @@ impl<'a, W: Sink, K: TiffKind, C: ColorType> DirectoryEncoder<'a, W, K, ImageSta
         // The file is shorter than 2^64 bytes.
         ensures short { end_of self.exit.0.now < 2 ^ 64 }
     {
+        self.write_given(ImageSamples::Typed(samples))
+    }
+
+    /// `write_data` of samples in the number type of the color type, or of bytes that are stored as
+    /// they are.
+    pub(crate) fn write_given(self, samples: ImageSamples<'_, C::Inner>) -> TiffResult<()>
+        requires { AreStorable (type_size C.Inner.value_type) self.state samples }
+        ensures answer { WritesImageData self.entry.state
+            (given_numbers (type_size C.Inner.value_type) C.Inner.bits samples.entry) result
+            self.entry.encoder.now self.exit.0.now }
+
+        // What `write_data` leaves in the file.
+        ensures leaves { (m : Model)
+            → FileContains self.entry.encoder.now.kind self.entry.encoder.now.bytes m
+            → ((offset : ℕ) → self.entry.state.directory.parent ≡ Some offset
+            → IsLink self.entry.encoder.now.kind m offset)
+            → LeavesData self.entry.state
+            (given_numbers (type_size C.Inner.value_type) C.Inner.bits samples.entry) result
+            self.entry.encoder.now self.exit.0.now m }
+
+        // The file is shorter than 2^64 bytes.
+        ensures short { end_of self.exit.0.now < 2 ^ 64 }
+    {
         let DirectoryEncoder { encoder, mut state } = self;
         state.fact_fits();
         state.fact_type();
+        samples.fact_numbers();
         match encoder.write_image_data(&mut state, samples) {
             Ok(()) => {
                 encoder.fact_short();

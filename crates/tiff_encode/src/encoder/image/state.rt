@@ -1,12 +1,13 @@
 //! The state of an open image.
 
-ghost use Rattle.std.specs.Prelude.{◌≡◌, ℕ, ◌^◌, ◌<◌, ◌≤◌, MatchOption, false};
+ghost use Rattle.std.specs.Prelude.{◌≡◌, ℕ, ◌^◌, ◌<◌, ◌≤◌, MatchOption, false, true};
 ghost use Rattle.tiff_value.specs.ColorType as color_type;
 ghost use Rattle.tiff_page.specs.Counts.{all_chunks, parts, planes_of};
 ghost use Rattle.tiff_page.specs.Pixels.{stored_samples};
 ghost use Rattle.tiff_page.specs.Rect.{chunks_of_plane};
 ghost use Rattle.tiff_encode.specs.Causes.{image_samples, is_past_chunks};
 ghost use Rattle.tiff_encode.specs.Chunks.{all_samples, chunk_rows, chunks_left, image_page, is_begun, is_in_order, is_left, next_chunk_sample_count, next_strip_sample_count};
+ghost use Rattle.tiff_encode.specs.Given.{StoresBytes};
 
 use crate::encoder::directory::state::{DirectoryState, HasDirectory, Room};
 use crate::encoder::image::chunk_scratch::ChunkScratch;
@@ -202,6 +203,15 @@ impl<C: ColorType> ImageState<C> {
     {
         matches!(self.form.chunk_type, ChunkType::Strip)
             && matches!(self.form.planar, PlanarConfiguration::Chunky)
+    }
+
+    /// Returns whether each chunk is stored as the bytes of its samples: the image is neither
+    /// compressed nor stored as differences.
+    pub(crate) fn stores_bytes(&self) -> bool
+        ensures { result ≡ true → StoresBytes self.now }
+    {
+        matches!(self.compression, Compression::Uncompressed)
+            && matches!(self.predictor, Predictor::None)
     }
 
     /// Returns the number of samples of the image, or `None` if it is 2^64 or more.

@@ -1,9 +1,10 @@
 //! Ends jobs.
 
-ghost use Rattle.std.specs.Prelude.{◌≡◌, map};
+ghost use Rattle.std.specs.Prelude.{◌≡◌, ◌%◌, length, IfSome};
 ghost use Rattle.tiff_base.specs.Types.{type_size};
-ghost use Rattle.tiff_value.specs.ColorType.{sample_number};
+ghost use Rattle.tiff_page.specs.Pixels.{numbers_in};
 ghost use Rattle.tiff_encode.specs.Calls as calls;
+ghost use Rattle.tiff_encode.specs.Given.{given_numbers, AreStorable, IsPlain, StoresBytes};
 ghost use Rattle.tiff_encode.specs.JobEnding.{DataHeld};
 ghost use Rattle.tiff_encode.specs.JobValues.{cut_to};
 ghost use Rattle.tiff_encode.specs.Jobs.{DirectoryEnds, FinishesSilently, FinishesWith, ImageEnds, WritesData, WritesDataIfFound};
@@ -11,13 +12,14 @@ ghost use Rattle.tiff_encode.specs.Stepping.{EndMoves, ImageHeld};
 
 use crate::encoder::directory::encoder::DirectoryEncoder;
 use crate::encoder::directory::state::DirectoryState;
+use crate::encoder::image::samples::ImageSamples;
 use crate::encoder::image::state::ImageState;
 use crate::encoder::kind::TiffKind;
 use crate::encoder::script::{DirectoryEnd, EndReply, ImageEnd, JobSamples};
 use tiff_base::error::TiffResult;
 use tiff_base::io::Sink;
 use tiff_value::encoder::colortype::ColorType;
-use tiff_value::encoder::tiff_value::TiffScalar;
+use tiff_value::encoder::tiff_value::{TiffScalar, TiffValue};
 
 impl<'a, W: Sink, K: TiffKind> DirectoryEncoder<'a, W, K, DirectoryState> {
     // `finish_with_offsets`
@@ -61,6 +63,35 @@ impl<'a, W: Sink, K: TiffKind> DirectoryEncoder<'a, W, K, DirectoryState> {
     }
 }
 
+impl<C: ColorType> ImageState<C> {
+    /// Returns the bytes of samples, if the image stores them as they are in a chunk.
+    pub(crate) fn chunk_bytes<'b>(&self, samples: &'b JobSamples<'_>) -> Option<&'b [u8]>
+        ensures storable { IfSome result (λ bytes. StoresBytes self.now
+            × (length bytes.now % type_size C.Inner.value_type ≡ 0)) }
+        ensures same { IfSome result (λ bytes. samples.now
+            ≡ numbers_in (type_size C.Inner.value_type) bytes.now) }
+    {
+        if !self.stores_bytes() {
+            return None;
+        }
+        let (_kind, len) = C::Inner::type_and_len();
+        samples.lent(usize::from(len))
+    }
+
+    // Returns the bytes of samples, if the image stores them as they are, one strip after another.
+    fn storable_bytes<'b>(&self, samples: &'b JobSamples<'_>) -> Option<&'b [u8]>
+        ensures storable { IfSome result (λ bytes. IsPlain self.now
+            × (length bytes.now % type_size C.Inner.value_type ≡ 0)) }
+        ensures same { IfSome result (λ bytes. samples.now
+            ≡ numbers_in (type_size C.Inner.value_type) bytes.now) }
+    {
+        if !self.is_in_order() {
+            return None;
+        }
+        self.chunk_bytes(samples)
+    }
+}
+
 impl<'a, W: Sink, K: TiffKind, C: ColorType> DirectoryEncoder<'a, W, K, ImageState<C>> {
     // Drops an open image. It writes no directory.
     fn abandon(self)
@@ -73,22 +104,25 @@ impl<'a, W: Sink, K: TiffKind, C: ColorType> DirectoryEncoder<'a, W, K, ImageSta
     }
 
     // `write_data`
-    fn write_samples(self, samples: &[C::Inner]) -> TiffResult<EndReply>
+    fn write_samples(self, samples: ImageSamples<'_, C::Inner>) -> TiffResult<EndReply>
+        requires { AreStorable (type_size C.Inner.value_type) self.state samples }
         ensures { EndMoves (λ s t offset. WritesData self.entry.state
-            (map (sample_number (type_size C.Inner.value_type) C.Inner.bits) samples.now) result s t
+            (given_numbers (type_size C.Inner.value_type) C.Inner.bits samples.entry) result s t
             offset)
             self.entry.state.directory.parent self.entry.encoder.now self.exit.0.now
             (DataHeld self.entry.state
-            (map (sample_number (type_size C.Inner.value_type) C.Inner.bits) samples.now)) }
+            (given_numbers (type_size C.Inner.value_type) C.Inner.bits samples.entry)) }
     {
         self.state.fact_fits();
         self.state.fact_type();
-        self.write_data(samples)?;
+        samples.fact_numbers();
+        self.write_given(samples)?;
         Ok(EndReply::Nothing)
     }
 
-    // `write_data` of samples, each of which is the lowest bits of a number. It returns
-    // `OutOfMemory` if there is no memory for the samples.
+    // `write_data` of samples, each of which is the lowest bits of a number. Bytes that can be
+    // stored as they are go to the sink directly; else it makes a list of samples, and returns
+    // `OutOfMemory` if there is no memory for it.
     fn write_numbers(self, numbers: &JobSamples<'_>) -> TiffResult<EndReply>
         ensures { EndMoves
             (λ s t offset.
@@ -98,6 +132,11 @@ impl<'a, W: Sink, K: TiffKind, C: ColorType> DirectoryEncoder<'a, W, K, ImageSta
             (DataHeld self.entry.state (cut_to self.entry.state.size numbers.now)) }
     {
         self.state.fact_type();
+        if let Some(bytes) = self.state.storable_bytes(numbers) {
+            let samples = ImageSamples::<C::Inner>::Stored(bytes);
+            samples.fact_numbers();
+            return self.write_samples(samples);
+        }
         let samples = match numbers.cut::<C::Inner>(self.encoder.alloc()) {
             Ok(samples) => samples,
             Err(fault) => {
@@ -105,7 +144,7 @@ impl<'a, W: Sink, K: TiffKind, C: ColorType> DirectoryEncoder<'a, W, K, ImageSta
                 return Err(fault);
             }
         };
-        self.write_samples(samples.as_slice())
+        self.write_samples(ImageSamples::Typed(samples.as_slice()))
     }
 
     // `finish`

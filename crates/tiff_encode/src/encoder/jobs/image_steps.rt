@@ -1,10 +1,14 @@
 //! Runs the steps of a job in an image.
 
-ghost use Rattle.std.specs.Prelude.{◌≡◌, [], ◌≤◌, length, vec_capacity};
+ghost use Rattle.std.specs.Prelude.{◌≡◌, ℕ, ◌-◌, ◌^◌, ◌<◌, ◌≤◌, List, [], length, vec_capacity};
+ghost use Rattle.tiff_base.specs.Types.{type_size};
+ghost use Rattle.tiff_encode.specs.Given.{given_numbers, IsChunkStorable};
 ghost use Rattle.tiff_encode.specs.ImageStepping.{ChunkDraws, ResolutionDraws, StripDraws, reply_to};
+ghost use Rattle.tiff_encode.specs.JobValues.{cut_to};
 ghost use Rattle.tiff_encode.specs.Stepping.{KeepsImage, StepsDraw};
 
 use crate::encoder::directory::encoder::DirectoryEncoder;
+use crate::encoder::image::samples::ImageSamples;
 use crate::encoder::image::state::ImageState;
 use crate::encoder::jobs::directory_steps::put;
 use crate::encoder::kind::TiffKind;
@@ -49,7 +53,25 @@ impl<'a, W: Sink, K: TiffKind, C: ColorType> DirectoryEncoder<'a, W, K, ImageSta
         replied(answer)
     }
 
-    // `write_chunk` of samples, each of which is the lowest bits of a number.
+    // `write_chunk` of samples, which are the lowest bits of any numbers.
+    fn given_step(&mut self, samples: ImageSamples<'_, C::Inner>) -> TiffResult<StepReply>
+        requires { IsChunkStorable (type_size C.Inner.value_type) self.old.state samples }
+        ensures same_reference { self.new.encoder.ghost_name ≡ self.old.encoder.ghost_name }
+        ensures draws { (numbers : List ℕ)
+            → cut_to self.old.state.size numbers
+            ≡ given_numbers (type_size C.Inner.value_type) C.Inner.bits samples.entry
+            → length numbers < 2 ^ 64 - 1
+            → ChunkDraws self.old.state numbers result self.old.encoder.now self.new.encoder.now
+            self.new.state }
+    {
+        self.encoder.fact_short();
+        let answer = self.write_given_chunk(samples);
+        self.encoder.fact_short();
+        replied(answer)
+    }
+
+    // `write_chunk` of samples, each of which is the lowest bits of a number. Bytes that can be
+    // stored as they are go to the sink directly; else it makes a list of samples.
     fn chunk_step(&mut self, numbers: &JobSamples<'_>) -> TiffResult<StepReply>
         ensures same_reference { self.new.encoder.ghost_name ≡ self.old.encoder.ghost_name }
         ensures draws { ChunkDraws self.old.state numbers.now result self.old.encoder.now self.new.encoder.now
@@ -57,11 +79,13 @@ impl<'a, W: Sink, K: TiffKind, C: ColorType> DirectoryEncoder<'a, W, K, ImageSta
     {
         self.state.fact_type();
         numbers.are_few();
+        if let Some(bytes) = self.state.chunk_bytes(numbers) {
+            let samples = ImageSamples::<C::Inner>::Stored(bytes);
+            samples.fact_numbers();
+            return self.given_step(samples);
+        }
         let samples = numbers.cut::<C::Inner>(self.encoder.alloc())?;
-        self.encoder.fact_short();
-        let answer = self.write_chunk(samples.as_slice());
-        self.encoder.fact_short();
-        replied(answer)
+        self.given_step(ImageSamples::Typed(samples.as_slice()))
     }
 
     // `resolution`. After an error the first of its tags can be set.

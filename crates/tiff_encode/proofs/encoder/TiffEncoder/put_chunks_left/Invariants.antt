@@ -1,7 +1,6 @@
-use Rattle.std.proofs.Common.{map}
 use Rattle.tiff_base.specs.Types.{type_size}
-use Rattle.tiff_value.specs.ColorType.{sample_number}
 use Rattle.tiff_encode.specs.Chunks.{parts_left}
+use Rattle.tiff_encode.specs.Given.{given_numbers}
 use Rattle.tiff_encode.proofs.Data.Written.{HasWritten}
 use Rattle.tiff_encode.proofs.encoder.TiffEncoder.put_chunks_left.Given as goal
 
@@ -9,5 +8,5 @@ use Rattle.tiff_encode.proofs.encoder.TiffEncoder.put_chunks_left.Given as goal
 abbrev pub invariant-loop-written : goal.invariant-loop-written
 invariant-loop-written g l =
     let numbers =
-    map (sample_number (type_size g.C.Inner.TiffValue.value_type) g.C.Inner.Sample.bits) l.samples in
+    given_numbers (type_size g.C.Inner.TiffValue.value_type) g.C.Inner.Sample.bits l.samples in
     HasWritten l.fn.image (parts_left l.fn.image numbers) l.written l.fn.self l.self l.image

@@ -1,39 +1,35 @@
-use Rattle.std.proofs.Common.{rules, length, map, Result, Err, inr, ap, sym, ◌∙◌, subst}
+use Rattle.std.proofs.Common.{rules, Result, Err, inr, ap, sym, ◌∙◌, subst}
 use Rattle.std.proofs.lemmas.Result.{err_from_is_err_and}
-use Rattle.std.proofs.lemmas.List.{length-map}
 use Rattle.tiff_base.specs.declared.error.TiffError.{TiffError}
 use Rattle.tiff_base.specs.Types.{type_size}
-use Rattle.tiff_value.specs.ColorType.{sample_number}
 use Rattle.tiff_encode.specs.Causes.{write_image_data_cause}
+use Rattle.tiff_encode.specs.Given.{given_numbers}
 use Rattle.tiff_encode.specs.ImageData.{WritesDataBy}
 use Rattle.tiff_encode.proofs.Data.Written.{data_done, data_fails}
 use Rattle.tiff_encode.proofs.encoder.TiffEncoder.write_image_data.Goals as goal
 
 pub returns : goal.returns
 returns g c =
-    let number = sample_number (type_size g.C.Inner.TiffValue.value_type) g.C.Inner.Sample.bits in
-    let numbers = map number c.args.samples.now in
-    let counted = sym (length-map c.args.samples.now number) in
-    data_done c.args.image.now numbers (length c.args.samples.now) counted c.args.self.now c.write_chunks_left.new.self c.finish_image.new.self c.write_chunks_left.new.image
+    let numbers =
+    given_numbers (type_size g.C.Inner.TiffValue.value_type) g.C.Inner.Sample.bits c.args.samples in
+    data_done c.args.image.now numbers c.count.result c.count.ensures.numbers c.args.self.now c.write_chunks_left.new.self c.finish_image.new.self c.write_chunks_left.new.image
     c.in_ok-check_data.ensures c.in_ok-write_chunks_left.ensures c.in_ok-finish_image.field-0 c.in_ok-finish_image.ensures
 
 pub returns-in_err-finish_image : goal.returns-in_err-finish_image
 returns-in_err-finish_image g c =
     let told =
-    let number = sample_number (type_size g.C.Inner.TiffValue.value_type) g.C.Inner.Sample.bits in
-    let numbers = map number c.args.samples.now in
-    let counted = sym (length-map c.args.samples.now number) in
-    data_fails c.args.image.now numbers (length c.args.samples.now) counted c.args.self.now c.write_chunks_left.new.self c.finish_image.new.self c.write_chunks_left.new.image
+    let numbers =
+    given_numbers (type_size g.C.Inner.TiffValue.value_type) g.C.Inner.Sample.bits c.args.samples in
+    data_fails c.args.image.now numbers c.count.result c.count.ensures.numbers c.args.self.now c.write_chunks_left.new.self c.finish_image.new.self c.write_chunks_left.new.image
     c.in_ok-check_data.ensures c.in_ok-write_chunks_left.ensures c.in_err-finish_image.field-0.0 c.in_err-finish_image.ensures in
     search rules
 
 pub returns-in_err-write_chunks_left : goal.returns-in_err-write_chunks_left
 returns-in_err-write_chunks_left g c =
-    let number = sample_number (type_size g.C.Inner.TiffValue.value_type) g.C.Inner.Sample.bits in
-    let numbers = map number c.args.samples.now in
-    let counted = length-map c.args.samples.now number in
+    let numbers =
+    given_numbers (type_size g.C.Inner.TiffValue.value_type) g.C.Inner.Sample.bits c.args.samples in
     let none =
-    ap (write_image_data_cause c.args.self.now c.args.image.now) counted
+    ap (write_image_data_cause c.args.self.now c.args.image.now) (sym c.count.ensures.numbers)
     ∙ c.in_ok-check_data.ensures in
     let r : Result (Unit {0}) TiffError = Err c.in_err-write_chunks_left.field-0.0 in
     let p =

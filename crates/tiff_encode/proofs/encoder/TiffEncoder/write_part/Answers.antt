@@ -1,43 +1,19 @@
-use Rattle.std.proofs.Common.{◌≡◌, ◌<◌, ◌-◌, ◌^◌, length, map, ap, sym, ◌∙◌, arith}
+use Rattle.std.proofs.Common.{rules, ◌≡◌, ◌≤◌, length, subst}
 use Rattle.tiff_base.specs.Types.{type_size}
-use Rattle.tiff_value.specs.ColorType.{sample_number}
-use Rattle.tiff_encode.specs.Parts.{next_part}
-use Rattle.tiff_encode.proofs.Data.Pieces.{slice_part, cut_part, cut_count, part_written}
+use Rattle.tiff_page.specs.Pixels.{numbers_in}
+use Rattle.tiff_encode.specs.declared.encoder.image.samples.ImageSamples.TheVariants.{Stored}
+use Rattle.tiff_encode.specs.Causes.{image_samples}
+use Rattle.tiff_encode.specs.Given.{given_numbers, AreStorable}
+use Rattle.tiff_encode.proofs.NumbersIn.{bytes_enough}
 use Rattle.tiff_encode.proofs.encoder.TiffEncoder.write_part.Goals as goal
 
-pub returns-then-is_in_order : goal.returns-then-is_in_order
-returns-then-is_in_order g c =
-    let number = sample_number (type_size g.C.Inner.TiffValue.value_type) g.C.Inner.Sample.bits in
+pub write_stored-requires-clause-whole : goal.write_stored-requires-clause-whole
+write_stored-requires-clause-whole g c =
+    let size = type_size g.C.Inner.TiffValue.value_type in
     let i = c.args.image.now in
-    let same =
-    slice_part number i c.args.samples.now c.args.written c.slice_out-part.result.now
-    (sym c.is_in_order.ensures ∙ c.if-is_in_order.true)
-    c.slice_out-part.ensures.part in
-    part_written i (map number c.slice_out-part.result.now) (next_part i (map number c.args.samples.now) c.args.written) same c.args.self.now
-    c.put_chunk.new.self c.put_chunk.new.image c.put_chunk.result c.put_chunk.ensures
-
-pub put_chunk-requires-2 : goal.put_chunk-requires-2
-put_chunk-requires-2 g c =
-    let number = sample_number (type_size g.C.Inner.TiffValue.value_type) g.C.Inner.Sample.bits in
-    let i = c.args.image.now in
-    let len : c.len.result ≡ length c.image.inside.chunks.items =
-    omega (arith, c.len.ensures, c.image.inside.chunks.ok) in
-    let at : c.len.result ≡ length i.chunks = len ∙ ap (λ i. length i.chunks) c.image.view_is in
-    let few : length c.in_ok-part.part.items < 2 ^ 64 - 1 =
-    omega (arith, c.len-2.ensures, c.len-2.type_inv, c.in_ok-part.part.ok, c.if-len.false) in
-    ap (λ xs. length xs) c.deref.ensures.value
-    ∙ cut_count number i c.args.samples.now c.args.written c.in_ok-part.part.items c.len.result c.requires.left at few c.in_ok-part.ensures
-
-pub returns : goal.returns
-returns g c =
-    let number = sample_number (type_size g.C.Inner.TiffValue.value_type) g.C.Inner.Sample.bits in
-    let i = c.args.image.now in
-    let len : c.len.result ≡ length c.image.inside.chunks.items =
-    omega (arith, c.len.ensures, c.image.inside.chunks.ok) in
-    let at : c.len.result ≡ length i.chunks = len ∙ ap (λ i. length i.chunks) c.image.view_is in
-    let same =
-    ap (map number) c.deref.ensures.value
-    ∙ cut_part number i c.args.samples.now c.args.written c.in_ok-part.part.items c.len.result
-    (sym c.is_in_order.ensures ∙ c.if-is_in_order.false) at c.in_ok-part.ensures in
-    part_written i (map number c.deref.result.now) (next_part i (map number c.args.samples.now) c.args.written) same c.args.self.now
-    c.put_chunk-2.new.self c.put_chunk-2.new.image c.put_chunk-2.result c.put_chunk-2.ensures
+    let bytes = c.in-Stored.bytes in
+    let is : c.args.samples ≡ Stored bytes = first_of (search rules, cc) in
+    let many : image_samples i ≤ length (numbers_in size bytes.now) =
+    subst (λ s. image_samples i ≤ length (given_numbers size g.C.Inner.Sample.bits s)) is c.requires.whole in
+    let storable = subst (λ s. AreStorable size i s) is c.requires.storable in
+    bytes_enough size (image_samples i) bytes.now storable.1 many

@@ -1,13 +1,22 @@
-use Rattle.std.proofs.Common.{rules, ◌≡◌, length, map, ap, sym, ◌∙◌, subst}
-use Rattle.std.proofs.lemmas.List.{length-map}
+use Rattle.std.proofs.Common.{rules, ℕ, List, map, ap, sym, ◌∙◌}
 use Rattle.tiff_base.specs.Types.{type_size}
+use Rattle.tiff_page.specs.Pixels.{numbers_in}
 use Rattle.tiff_value.specs.ColorType.{sample_number}
-use Rattle.tiff_encode.specs.JobValues.{cut_to}
 use Rattle.tiff_encode.specs.Calls.{write_chunk}
 use Rattle.tiff_encode.specs.Causes.{write_chunk_cause}
-use Rattle.tiff_encode.specs.ImageStepping.{ChunkDraws}
-use Rattle.tiff_encode.proofs.Image.StepsStored.{cut_draws, unfound_draws, chunks_store}
+use Rattle.tiff_encode.specs.JobValues.{cut_to}
+use Rattle.tiff_encode.proofs.Image.StepsStored.{unfound_draws}
+use Rattle.tiff_encode.proofs.JobSamples.{small_cut}
 use Rattle.tiff_encode.proofs.encoder.jobs.image_steps.DirectoryEncoder+W+K+ImageState+C.chunk_step.Goals as goal
+
+pub returns-in-Some-clause-draws : goal.returns-in-Some-clause-draws
+returns-in-Some-clause-draws g c =
+    let size = type_size g.C.Inner.TiffValue.value_type in
+    let cut : ℕ → List ℕ = λ size. cut_to size c.args.numbers.now in
+    c.given_step.ensures.draws c.args.numbers.now
+    (ap cut c.fact_type.ensures ∙ ap (cut_to size) c.in-Some.ensures.same
+    ∙ small_cut size (numbers_in size c.in-Some.bytes.now) c.fact_numbers.ensures)
+    c.are_few.ensures
 
 pub returns-in_err-samples-clause-draws : goal.returns-in_err-samples-clause-draws
 returns-in_err-samples-clause-draws g c =
@@ -17,16 +26,9 @@ returns-in_err-samples-clause-draws g c =
 
 pub returns-clause-draws : goal.returns-clause-draws
 returns-clause-draws g c =
-    let i = c.args.self.now.state in
     let number = sample_number (type_size g.C.Inner.TiffValue.value_type) g.C.Inner.Sample.bits in
-    let r = c.write_chunk-answer.result in
-    let cut : cut_to i.size c.args.numbers.now ≡ map number c.as_slice.result.now =
-    ap (λ z. cut_to z c.args.numbers.now) c.fact_type.ensures ∙ sym c.in_ok-samples.ensures
-    ∙ ap (map number) (sym c.as_slice.ensures) in
-    let count : length c.as_slice.result.now ≡ length (map number c.as_slice.result.now) =
-    sym (length-map c.as_slice.result.now number) in
-    subst (λ y. ChunkDraws i c.args.numbers.now y c.args.self.now.encoder.now c.write_chunk-answer.new.self.encoder.now c.write_chunk-answer.new.self.state)
-    (sym c.replied.ensures)
-    (cut_draws write_chunk (λ file i n. write_chunk_cause file i n 0) chunks_store i c.write_chunk-answer.new.self.state c.args.numbers.now (map number c.as_slice.result.now) (length c.as_slice.result.now) r
-    c.args.self.now.encoder.now c.write_chunk-answer.new.self.encoder.now cut count
-    c.are_few.ensures c.fact_short.ensures c.fact_short-2.ensures c.write_chunk-answer.ensures.answer c.write_chunk-answer.ensures.leaves)
+    let cut : ℕ → List ℕ = λ size. cut_to size c.args.numbers.now in
+    c.given_step-2.ensures.draws c.args.numbers.now
+    (ap cut c.fact_type.ensures ∙ sym c.in_ok-samples.ensures
+    ∙ ap (map number) (sym c.as_slice.ensures))
+    c.are_few.ensures
