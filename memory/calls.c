@@ -366,6 +366,46 @@ static tiff_status refused_pages(const struct input *on, struct result *to) {
     return pages_into(on, to, 5, 0);
 }
 
+/* Two pages one of which has a tag of one's own, as the bytes of the frame and the samples one behind
+   the other: where memory is short, all bytes are in the frame. */
+static tiff_status pages_frame(const struct input *on, struct result *to) {
+    static const uint8_t words[] = "words", samples[] = {1, 2, 3, 4};
+    static const uint16_t none[1];
+    static uint8_t around[ROOM];
+    const struct tiff_new_tag tag = {270, 2, sizeof words, words, sizeof words};
+    struct tiff_new_page pages[2] = {{.color = TIFF_GRAY8,
+                                      .width = 2,
+                                      .height = 1,
+                                      .method = TIFF_UNCOMPRESSED,
+                                      .predictor = TIFF_NO_PREDICTOR,
+                                      .planar = TIFF_CHUNKY,
+                                      .extra_samples = none,
+                                      .tags = &tag,
+                                      .tags_len = 1,
+                                      .samples = samples,
+                                      .samples_len = 2}};
+    size_t fronts[2] = {0, 0}, from = 0;
+    struct tiff_pages_frame frame;
+    pages[1] = pages[0];
+    pages[1].height = 2;
+    pages[1].samples_len = 4;
+    tiff_status status = tiff_pages_frame(on->image.version, pages, 2, around, on->size, fronts, 2,
+                                          &frame, &to->pages_end);
+    if (status != TIFF_DONE && status != TIFF_INSUFFICIENT_OUTPUT_BUFFER_SIZE) return status;
+    to->number = frame.around;
+    for (size_t i = 0; i < frame.framed; i++) to->number += pages[i].samples_len;
+    if (status != TIFF_DONE) return status;
+    uint8_t *at = to->bytes;
+    for (size_t i = 0; i < frame.framed; i++) {
+        memcpy(at, around + from, fronts[i]);
+        memcpy(at + fronts[i], samples, pages[i].samples_len);
+        at += fronts[i] + pages[i].samples_len;
+        from += fronts[i];
+    }
+    memcpy(at, around + from, frame.around - from);
+    return status;
+}
+
 static tiff_status append_pages(const struct input *on, struct result *to) {
     return pages_into(on, to, TIFF_PACKBITS, 1);
 }
@@ -426,6 +466,7 @@ static const struct call job_writers[] = {
     {"tiff_write_jobs (refused)", BUT_END, refused_jobs},
     {"tiff_write_pages", BUT_PAGE, write_pages},
     {"tiff_write_pages (refused)", BUT_PAGE, refused_pages},
+    {"tiff_pages_frame", BUT_PAGE, pages_frame},
 };
 
 /* == A request that is refused */

@@ -9,7 +9,7 @@ const NAME: &str = "mangohatch_tiff";
 const FOLDER: &str = "MANGOHATCH_TIFF_LIB_DIR";
 
 /// The first version of the C library that has all calls which this package makes.
-const VERSION: &str = "8";
+const VERSION: &str = "9";
 
 fn main() {
     println!("cargo:rerun-if-changed=build.rs");

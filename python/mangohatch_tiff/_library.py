@@ -369,6 +369,7 @@ class PageToWrite(Structure):
         ("samples", c_void_p),
         ("samples_len", c_size_t),
         ("parent", c_size_t),
+        ("tile_bytes", c_size_t),
     ]
 
 
@@ -379,6 +380,15 @@ class PagesEnd(Structure):
     field: int
 
     _fields_ = [("page", c_size_t), ("field", c_uint32)]
+
+
+class PagesFrame(Structure):
+    """How many bytes of a file aren't samples, and of how many of its pages the samples are apart."""
+
+    around: int
+    framed: int
+
+    _fields_ = [("around", c_size_t), ("framed", c_size_t)]
 
 
 class Appended(Structure):
@@ -557,6 +567,17 @@ WRITE_PAGES = _declare(
     c_size_t,
     *_BYTES,
     POINTER(c_size_t),
+    POINTER(PagesEnd),
+)
+PAGES_FRAME = _declare(
+    "tiff_pages_frame",
+    c_uint16,
+    POINTER(PageToWrite),
+    c_size_t,
+    *_BYTES,
+    POINTER(c_size_t),
+    c_size_t,
+    POINTER(PagesFrame),
     POINTER(PagesEnd),
 )
 APPEND_PAGES = _declare(

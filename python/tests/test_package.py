@@ -79,6 +79,7 @@ STRUCTS = {
     "tiff_new_tag": "TagToWrite",
     "tiff_new_page": "PageToWrite",
     "tiff_pages_end": "PagesEnd",
+    "tiff_pages_frame": "PagesFrame",
     "tiff_appended": "Appended",
 }
 ENUMERATIONS = {"TIFF_": ("Status", "Found", "ColorKind"), "TIFF_FIELD_": ("PageField",)}

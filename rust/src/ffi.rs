@@ -193,6 +193,7 @@ mod c {
         pub(super) samples: *const u8,
         pub(super) samples_len: usize,
         pub(super) parent: usize,
+        pub(super) tile_bytes: usize,
     }
 
     /// `struct tiff_pages_end`.
@@ -551,6 +552,7 @@ impl NewPage {
             samples: self.samples.as_ptr(),
             samples_len: self.samples.len(),
             parent: 0,
+            tile_bytes: 0,
         }
     }
 
@@ -697,7 +699,7 @@ mod tests {
         assert_eq!((size_of::<ListedPage>(), align_of::<ListedPage>()), (56, 8));
         assert_eq!((size_of::<c::Image>(), align_of::<c::Image>()), (20, 4));
         assert_eq!((size_of::<c::NewTag>(), size_of::<c::PagesEnd>()), (32, 16));
-        assert_eq!((size_of::<c::NewPage>(), align_of::<c::NewPage>()), (104, 8));
+        assert_eq!((size_of::<c::NewPage>(), align_of::<c::NewPage>()), (112, 8));
     }
 
     #[test]

@@ -47,8 +47,8 @@ pub fn grow(items: &mut Vec<u8>, bytes: &[u8]) -> Result<(), SinkFault>
     Ok(())
 }
 
-// Overwrites bytes of a list.
-fn overwrite_in(items: &mut Vec<u8>, from: usize, bytes: &[u8])
+/// Overwrites bytes of a list.
+pub fn overwrite_in(items: &mut Vec<u8>, from: usize, bytes: &[u8])
     requires { from + length bytes.now ≤ length items.old.items }
     ensures bytes { items.new.items ≡ put items.old.items from bytes.now }
     ensures len { length items.new.items ≡ length items.old.items }

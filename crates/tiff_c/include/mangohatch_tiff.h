@@ -37,7 +37,7 @@ DESCRIPTION
     leaves a struct or a number as it was; what it leaves in a buffer of bytes is not specified.
     tiff_list_pages, tiff_list_directories, tiff_list_tags, tiff_tag_numbers, tiff_tag_floats,
     tiff_tag_text, tiff_rewrite_chunk, tiff_write_image, tiff_image_frame, tiff_write_jobs,
-    tiff_write_pages and tiff_append_pages specify more.
+    tiff_write_pages, tiff_pages_frame and tiff_append_pages specify more.
 
     A file may claim any size: call tiff_page_layout and check its result before you allocate for an
     image. The calls that read pixels have no limit for the size of a chunk in the file: they write
@@ -68,7 +68,7 @@ LINKING
 #ifndef MANGOHATCH_TIFF_H
 #define MANGOHATCH_TIFF_H
 
-#define MANGOHATCH_TIFF_VERSION 8
+#define MANGOHATCH_TIFF_VERSION 9
 
 /* A PAGE that is the directory at an offset of the file. */
 #define TIFF_AT(offset) ((size_t)(offset) | (size_t)1 << 63)
@@ -806,7 +806,9 @@ struct tiff_new_tag {
    tiles are set behind them. SAMPLES are the samples row by row from the top, those of a pixel side
    by side, also of a planar page, each with its lowest byte first. PARENT is 0 for a page in the
    file's chain of directories, or the number, counted from 1, of an earlier page: then that page's
-   tag SubIFDs (330) lists this one, behind earlier pages with the same PARENT. */
+   tag SubIFDs (330) lists this one, behind earlier pages with the same PARENT. TILE_BYTES is 0; or
+   how many bytes a tile has: then SAMPLES are those of the tiles, one tile after another as in the
+   file, of a planar page all tiles of a plane before the next plane, each with its padding. */
 enum {
     TIFF_CHUNKY = 1,
     TIFF_PLANAR = 2,
@@ -836,6 +838,7 @@ struct tiff_new_page {
     const uint8_t *samples;
     size_t samples_len;
     size_t parent;
+    size_t tile_bytes;
 };
 
 /* Where a list of pages was refused: the number of the page, counted from 1, and its field. 0 is
@@ -874,7 +877,8 @@ struct tiff_pages_end {
                                         unless the unit is TIFF_NO_RESOLUTION
        write_tag_buf NUMBER BUFFER      for each of TAGS
        write_tag_buf 330 BUFFER         with a zero for each page that has this one as its PARENT
-       write_data SAMPLES
+       write_data SAMPLES               unless there are TILE_BYTES
+       write_chunk SAMPLES              for each tile, if there are TILE_BYTES; finish
 
    The pages with a PARENT are written behind those, in their order: the jobs of each go on behind
    the file at its zero, which they overwrite, as those of tiff_append_pages do at the last link.
@@ -891,20 +895,50 @@ struct tiff_pages_end {
    none, and an extra sample that is none, TIFF_INVALID_INPUT; of TAGS, a type that is none,
    TIFF_UNSUPPORTED_DATA_TYPE, values_len that is not as many bytes as COUNT values have,
    TIFF_MISMATCHED_ENTRY_LENGTH, and SubIFDs of a page that is a PARENT, TIFF_INVALID_INPUT;
-   samples_len that is no whole number of samples, TIFF_MISMATCHED_ENTRY_LENGTH; a PARENT that is no
-   earlier page, TIFF_INVALID_INPUT. Then, with the number of the first such page in END->page, of
+   samples_len that is not TILE_BYTES for each tile of the page, if there are TILE_BYTES,
+   TIFF_INVALID_DATA, and bytes that are no whole number of samples, TIFF_MISMATCHED_ENTRY_LENGTH; a
+   PARENT that is no earlier page, TIFF_INVALID_INPUT. Then, with the number of the first such page in END->page, of
    those of the chain and then of the others, the first error of that page. With 0 in END->field: a
    side of 0, TIFF_INVALID_DIMENSIONS; the predictors that tiff_write_image refuses; too few
    samples, TIFF_INVALID_DATA; a file that its kind can't hold, TIFF_INT_SIZE_ERROR. With
    TIFF_FIELD_LAYOUT: sides of tiles that are 0 or no multiples of 16, and ROWS_PER_STRIP beside
-   tiles, TIFF_INVALID_INPUT. With the field of what is set: TIFF_INT_SIZE_ERROR. At last a BUFFER
-   that is too short, with 0 in both.
+   tiles, TIFF_INVALID_INPUT. With TIFF_FIELD_SAMPLES: TILE_BYTES that a tile doesn't have,
+   TIFF_INVALID_DATA. With the field of what is set: TIFF_INT_SIZE_ERROR. At last a BUFFER that is
+   too short, with 0 in both.
 
-   The call allocates the file, the bytes of TAGS, the samples of one page at a time if they have
-   more than one byte or a sign, and a few numbers for each page; of pages with a PARENT also the
-   offsets of all pages, and the directory of one PARENT at a time. */
+   The call allocates the file, the bytes of TAGS, and a few numbers for each page, and for each tile
+   of one with TILE_BYTES; where a page has tiles, planes, a compression or a predictor, also its
+   samples, one such page at a time, or with TILE_BYTES one tile, if they have more than one byte or
+   a sign (with TILE_BYTES not without a compression and a predictor); of pages with a PARENT also
+   the offsets of all pages, and the directory of one PARENT at a time. */
 tiff_status tiff_write_pages(uint16_t version, const struct tiff_new_page *pages, size_t count,
                              uint8_t *buffer, size_t size, size_t *len, struct tiff_pages_end *end);
+
+/* How many bytes of a file aren't samples that were passed, and of how many of its first pages the
+   samples are those. */
+struct tiff_pages_frame {
+    size_t around;
+    size_t framed;
+};
+
+/* As tiff_write_pages, but without a copy of the samples of its first pages: puts into BUFFER, of
+   SIZE bytes, only the bytes of the file that aren't these samples, one behind the other, and what
+   there is into *FRAME. The file is, for each of the first FRAME->framed pages, the next FRONTS[i]
+   bytes of BUFFER and then the samples of page i, counted from 0; and at its end what is left of
+   the first FRAME->around bytes of BUFFER. FRONTS has FRONTS_LEN places: there are at most as many
+   such pages.
+
+   Such a page has neither a compression nor a predictor, exactly the samples of its image, and no
+   tiles and no planes, unless it has TILE_BYTES; and each page before it is one too. Where a page has a PARENT, or memory is
+   short, FRAME->framed is 0, and BUFFER gets the whole file. Strips take 8 bytes each in BUFFER, or
+   16 in a BigTIFF file; 4096 bytes a page, and those of TAGS, are enough for a few strips.
+
+   Errors are those of tiff_write_pages, as is what they leave; FRONTS stays if BUFFER does, unless
+   BUFFER alone is too short. The call allocates what BUFFER gets, and what tiff_write_pages allocates
+   besides its file. */
+tiff_status tiff_pages_frame(uint16_t version, const struct tiff_new_page *pages, size_t count,
+                             uint8_t *buffer, size_t size, size_t *fronts, size_t fronts_len,
+                             struct tiff_pages_frame *frame, struct tiff_pages_end *end);
 
 /* What tiff_append_pages found. LEN is how many bytes the file gets at its end. LINK is the offset
    of the last link of the file's chain of directories, which has WIDTH bytes, 4 in a classic file

@@ -16,6 +16,7 @@ ghost use Rattle.tiff_ffi.specs.InWindows.{SeenTells};
 ghost use Rattle.tiff_ffi.specs.Jobs.{JobsTell};
 ghost use Rattle.tiff_ffi.specs.List.{ListTells};
 ghost use Rattle.tiff_ffi.specs.Pages.{PagesTell};
+ghost use Rattle.tiff_ffi.specs.PagesFrame.{PagesFrameTells};
 ghost use Rattle.tiff_ffi.specs.Plan as plans;
 ghost use Rattle.tiff_ffi.specs.Plan.{ReadsPage};
 ghost use Rattle.tiff_ffi.specs.Rewrite as rewriting;
@@ -38,7 +39,7 @@ use tiff_ffi::pages::{NewPage, PagesEnd};
 use tiff_ffi::plan::PlannedPage;
 use tiff_ffi::rewrite::PlacedChunk;
 use tiff_ffi::writer::NewImage;
-use tiff_ffi::{FrameLengths, VERSION};
+use tiff_ffi::{FrameLengths, PagesLengths, VERSION};
 
 /// Puts the width and the height of a page, in pixels, into `sides`. Returns 0, or the number of
 /// the error that refuses the file or the page. An error leaves `sides` as it was.
@@ -699,10 +700,11 @@ pub extern "C" fn tiff_write_jobs(
 /// `UnknownPredictor`; the planar configuration, `UnknownPlanarConfiguration`; the unit of the
 /// resolutions, `IoError(InvalidInput)`; an extra sample, `IoError(InvalidInput)`; a tag,
 /// `UnsupportedDataType` for its type and `MismatchedEntryLength` for bytes that are not as many
-/// values as it says; samples with a part of one left over, `MismatchedEntryLength`. An error leaves
-/// `buffer` as it was, and `len` too, unless only the buffer is too short. The call allocates the
-/// file, the bytes of the tags, and the samples of one page at a time if they have more than one
-/// byte or a sign.
+/// values as it says; samples that aren't as many tiles as the page has, if they are given by tiles,
+/// `IoError(InvalidData)`; samples with a part of one left over, `MismatchedEntryLength`. An error
+/// leaves `buffer` as it was, and `len` too, unless only the buffer is too short. The call allocates
+/// the file and the bytes of the tags; and where a page has tiles, planes, a method or a predictor,
+/// its samples, one such page at a time, or one tile, if they have more than one byte or a sign.
 #[unsafe(no_mangle)]
 pub extern "C" fn tiff_write_pages(
     alloc: Global,
@@ -719,6 +721,34 @@ pub extern "C" fn tiff_write_pages(
     tiff_ffi::write_pages(alloc, version, pages, buffer, len, end)
 }
 
+/// As `tiff_write_pages`, but puts into `buffer` only the bytes of the file that aren't the samples of
+/// the first `frame.framed` pages, one behind the other, and how many these bytes are into
+/// `frame.around`. The file has, for each of these pages, as many bytes of `buffer` as `fronts` says,
+/// behind those of the page before, and then the samples of the page; and at its end the bytes of
+/// `buffer` that are left. A page that is compressed, or has differences, or has tiles or planes
+/// and isn't given by its tiles, or has more samples than its image, isn't one of these pages, nor is
+/// any page behind it; nor is one where `fronts` has no place for it. If a page has a parent, or memory is short, `frame.framed` is 0. The
+/// errors are those of `tiff_write_pages`; an error leaves `buffer` and `fronts` as they were, and
+/// `frame` too, unless only the buffer is too short. The call allocates what it puts into `buffer`,
+/// and what `tiff_write_pages` allocates besides its file.
+#[unsafe(no_mangle)]
+pub extern "C" fn tiff_pages_frame(
+    alloc: Global,
+    version: u16,
+    pages: &[NewPage<'_>],
+    buffer: &mut [u8],
+    fronts: &mut [usize],
+    frame: &mut PagesLengths,
+    end: &mut PagesEnd,
+) -> u32
+    ensures answer { PagesFrameTells version pages.now result
+        (record { buffer = buffer.old; fronts = fronts.old; lengths = frame.old })
+        (record { buffer = buffer.new; fronts = fronts.new; lengths = frame.new }) end.new }
+    ensures stays { (result ≡ 0) ⊎ (buffer.new ≡ buffer.old) }
+{
+    tiff_ffi::pages_frame(alloc, version, pages, buffer, fronts, frame, end)
+}
+
 /// Writes these pages behind a little-endian TIFF file, classic or BigTIFF: puts the bytes to append
 /// to the file into `buffer`, and what they are, and the last link of the file's chain of
 /// directories, into `appended`. The caller's file has the pages once it has these bytes at its end,
@@ -729,8 +759,8 @@ pub extern "C" fn tiff_write_pages(
 /// short, `InsufficientOutputBufferSize`. An error leaves `buffer` as it was. For a buffer that is
 /// too short, `appended` is as without an error; after another error it has 0 everywhere, but for
 /// where the list of pages is refused. The call neither copies nor changes the file. It allocates
-/// the bytes to append, 8 bytes for the link, the bytes of the tags, the offsets of the file's
-/// directories, and the samples of one page at a time if they have more than one byte or a sign.
+/// the bytes to append, 8 bytes for the link, the offsets of the file's directories, and what
+/// `tiff_write_pages` allocates besides its file.
 #[unsafe(no_mangle)]
 pub extern "C" fn tiff_append_pages(
     alloc: Global,

@@ -29,6 +29,7 @@ nothing = record {
   tags = record { ref_ptr = (0, 0); now = [] };
   samples = record { ref_ptr = (0, 0); now = [] };
   parent = 0;
+  tile_bytes = 0;
 }
 
 abbrev has_parent : ℕ → NewPage → Bool

@@ -1,21 +1,19 @@
 -- The file of an image of zeros makes the file of each image of as many samples: its frame around
 -- their bytes.
-use Rattle.std.proofs.Common.{◌≡◌, ℕ, zero, suc, ◌+◌, ◌*◌, ◌^◌, ◌<◌, ◌≤◌, ⊎_elim, inl, inr, List, ◌++◌, get_or, Fits, w8, lit<, length, take, drop, None, Ok, refl, sym, ap, subst, ◌∙◌, arith, length-append}
+use Rattle.std.proofs.Common.{◌≡◌, ℕ, ◌+◌, ◌*◌, ◌^◌, ◌<◌, inl, inr, List, ◌++◌, get_or, Fits, w8, length, take, drop, None, Ok, refl, sym, ap, subst, ◌∙◌, arith, length-append}
 use Rattle.std.proofs.Math.Seq.{take-append_seam, drop-append_seam}
-use Rattle.std.proofs.Math.Nat.{mul-div_cancel, mul-mod_left}
-use Rattle.std.proofs.lemmas.Bool.{cases_lt}
-use Rattle.std.proofs.lemmas.List.{get_or_past, length-replicate}
-use Rattle.std.proofs.lemmas.List.FromFn.{get_or-map-range_with_len, length-map-range_with_len}
-use Rattle.std.specs.Prelude.{◌/◌, ◌%◌, min, slice_index}
-use Rattle.std.specs.Int.{div_ceil}
+use Rattle.std.proofs.Math.Nat.{mul-mod_left}
+use Rattle.std.proofs.lemmas.List.{length-replicate}
+use Rattle.std.specs.Prelude.{◌%◌}
 use Rattle.std.specs.List.{flat_map}
 use Rattle.tiff_encode.specs.declared.encoder.settings.Compression.TheVariants.{Uncompressed}
-use Rattle.tiff_base.specs.declared.tags.ByteOrder.TheVariants.{LittleEndian}
-use Rattle.tiff_base.specs.Number.{le, number}
+use Rattle.tiff_base.specs.Number.{le}
 use Rattle.tiff_base.specs.SourceAndSink.{AreOctets}
 use Rattle.tiff_value.specs.ColorType.{ColorTypeRecord, columns_of}
 use Rattle.tiff_value.specs.ColorTypes.{color_type, inner_size}
-use Rattle.tiff_page.specs.Pixels.{tabulate, width_of, row_number, numbers_in}
+use Rattle.tiff_page.specs.Pixels.{numbers_in}
+use Rattle.tiff_page.specs.Row.{IsSize}
+use Rattle.tiff_page.proofs.Rows.{some_size}
 use Rattle.tiff_encode.specs.Model.{header_model}
 use Rattle.tiff_encode.specs.Machine.{FileState, OpenImage}
 use Rattle.tiff_encode.specs.Causes.{end_of, image_samples}
@@ -25,7 +23,8 @@ use Rattle.tiff_encode.specs.Open.{IsOpen}
 use Rattle.tiff_encode.specs.Shows.{ShowsFirst}
 use Rattle.tiff_encode.proofs.Header.{header_stands}
 use Rattle.tiff_encode.proofs.Shown.Bytes.{length_written}
-use Rattle.tiff_encode.proofs.Shown.Color.{IsSize, of_family}
+use Rattle.tiff_encode.proofs.NumbersIn.{numbers_small, whole_numbers}
+use Rattle.tiff_encode.proofs.Shown.Color.{of_family}
 use Rattle.tiff_encode.proofs.Shown.Parts.{parts_show}
 use Rattle.tiff_encode.proofs.Open.Begun.{begins_open}
 use Rattle.tiff_encode.proofs.Data.Begun.{new_adding, new_is}
@@ -171,73 +170,6 @@ module _ (s : Settings) (width height failures : ℕ) (samples : List ℕ) (last
 
 -- ---- samples that are bytes
 
-octet_number : (f : ℕ → ℕ) → ((j : ℕ) → f j < 256)
-    → number LittleEndian (width_of 1) (tabulate 1 f) < 256 ^ 1
-unfolding number
-octet_number f h = omega (arith, h 0)
-
-short_number : (f : ℕ → ℕ) → ((j : ℕ) → f j < 256)
-    → number LittleEndian (width_of 2) (tabulate 2 f) < 256 ^ 2
-unfolding number
-short_number f h = omega (arith, h 0, h 1)
-
-long_number : (f : ℕ → ℕ) → ((j : ℕ) → f j < 256)
-    → number LittleEndian (width_of 4) (tabulate 4 f) < 256 ^ 4
-unfolding number
-long_number f h = omega (arith, h 0, h 1, h 2, h 3)
-
-long8_number : (f : ℕ → ℕ) → ((j : ℕ) → f j < 256)
-    → number LittleEndian (width_of 8) (tabulate 8 f) < 256 ^ 8
-unfolding number
-long8_number f h = omega (arith, h 0, h 1, h 2, h 3, h 4, h 5, h 6, h 7)
-
-number_fits : (size : ℕ) → IsSize size → (f : ℕ → ℕ) → ((j : ℕ) → f j < 256)
-    → number LittleEndian (width_of size) (tabulate size f) < 256 ^ size
-number_fits size (inl e) f h =
-    subst (λ n. number LittleEndian (width_of n) (tabulate n f)
-    < 256 ^ n) (sym e) (octet_number f h)
-number_fits size (inr (inl e)) f h =
-    subst (λ n. number LittleEndian (width_of n) (tabulate n f)
-    < 256 ^ n) (sym e) (short_number f h)
-number_fits size (inr (inr (inl e))) f h =
-    subst (λ n. number LittleEndian (width_of n) (tabulate n f) < 256 ^ n) (sym e) (long_number f h)
-number_fits size (inr (inr (inr e))) f h =
-    subst (λ n. number LittleEndian (width_of n) (tabulate n f)
-    < 256 ^ n) (sym e) (long8_number f h)
-
-some_size : (size : ℕ) → IsSize size → 0 < size
-some_size size (inl e) = subst (λ n. 0 < n) (sym e) (lit< tt)
-some_size size (inr (inl e)) = subst (λ n. 0 < n) (sym e) (lit< tt)
-some_size size (inr (inr (inl e))) = subst (λ n. 0 < n) (sym e) (lit< tt)
-some_size size (inr (inr (inr e))) = subst (λ n. 0 < n) (sym e) (lit< tt)
-
-some_power : (n : ℕ) → 0 < 256 ^ n
-some_power zero = lit< tt
-some_power (suc n) = let p = some_power n in omega (arith, p)
-
--- the numbers that bytes are have their number of bytes
-numbers_fit : (size : ℕ) → IsSize size → (bytes : List ℕ) → AreOctets bytes
-    → AreNumbers size (numbers_in size bytes)
-unfolding numbers_in
-numbers_fit size is bytes octets n =
-    let many : ℕ = div_ceil (length bytes) size in
-    let f : ℕ → ℕ = row_number LittleEndian size bytes in
-    ⊎_elim
-    (λ (l : n < many). subst (λ k. k < 256 ^ size) (sym (get_or-map-range_with_len f 0 many n n 0 l (omega arith))) (number_fits size is (λ j. slice_index bytes (n * size + j)) (λ j. octets (n * size + j))))
-    (λ (g : many ≤ n). subst (λ k. k < 256 ^ size) (sym (get_or_past (tabulate many f) n 0 (omega (arith, g, length-map-range_with_len f 0 many)))) (some_power size))
-    (cases_lt n many)
-
--- so many samples are in bytes
-numbers_many : (size all : ℕ) → 0 < size → (bytes : List ℕ) → length bytes ≡ all * size
-    → length (numbers_in size bytes) ≡ all
-unfolding numbers_in
-numbers_many size all pos bytes h =
-    let whole : all * size / size ≡ all = mul-div_cancel all pos in
-    let none : all * size % size ≡ 0 = mul-mod_left all size in
-    length-map-range_with_len (row_number LittleEndian size bytes) 0 (div_ceil (length bytes) size)
-    ∙ ap (λ n. n / size + min 1 (n % size)) h
-    ∙ (let e : all * size / size + min 1 (all * size % size) ≡ all = omega (arith, whole, none) in e)
-
 -- The frame around the bytes of an image is the file that shows them.
 pub around_written : (s : Settings) (width height failures : ℕ) (bytes : List ℕ)
     (old last : FileState) (color : ColorTypeRecord) (size : ℕ)
@@ -263,7 +195,7 @@ around_written s width height failures bytes old last color size is colored size
     let octets : AreOctets bytes = λ k. (let h = fit k in omega (arith, h)) in
     let samples : List ℕ = numbers_in n bytes in
     let none : length bytes % n ≡ 0 = ap (λ k. k % n) are.whole ∙ mul-mod_left all n in
-    let many : length samples ≡ all = numbers_many n all (some_size n is_size) bytes are.whole in
+    let many : length samples ≡ all = whole_numbers n all bytes (some_size n is_size) are.whole in
     whole_by s width height bytes (Ok (framed frame)) none
     (framed_written s width height failures samples last zeros wide tall are.few (record { packs = are.packs; differs = are.differs; whole = many }) frame contents bytes
-    (numbers_fit n is_size bytes octets) (bytes_back s.color n bytes samples refl fit none refl) is_told short f)
+    (numbers_small n bytes is_size octets) (bytes_back s.color n bytes samples refl fit none refl) is_told short f)

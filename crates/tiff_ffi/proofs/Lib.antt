@@ -22,9 +22,15 @@ pub mod Counts
 pub mod ParentsRan
 pub mod BehindRan
 pub mod PagesRan
+pub mod FramedPages
 pub mod Links
 pub mod ToldBehind
 mod Plans
 mod Rewritten
 mod SeenFiles
 mod Parts
+mod SameSamples
+mod Spliced
+mod Stored
+mod Stretches
+mod Tiles

@@ -6,6 +6,9 @@ pub mod List
 pub mod Jobs
 pub mod Values
 pub mod Frame
+pub mod Spliced
+pub mod PagesSink
+pub mod PagesFrame
 pub mod Zeros
 pub mod Entries
 pub mod Pages

@@ -1,5 +1,5 @@
 -- Pages that C passes: the jobs of the encoder that they stand for, and what C gets for them.
-use Rattle.std.specs.Prelude.{◌≡◌, ◌⊎◌, ℕ, ◌+◌, ◌-◌, ◌*◌, ◌<◌, ◌≤◌, max, ◌==◌, ◌&&◌, ◌++◌, List, [], ◌∷◌, length, map, take, replicate, count_by, slice_get, slice_index, slice_set, nat_lt, nat_le, if◌then◌else◌, Option, None, Some, Result, Ok, Err}
+use Rattle.std.specs.Prelude.{◌≡◌, ◌⊎◌, ℕ, ◌+◌, ◌-◌, ◌*◌, ◌<◌, ◌≤◌, max, ◌==◌, ◌&&◌, not, ◌++◌, List, [], ◌∷◌, length, map, drop, take, replicate, Bool, count_by, slice_get, slice_index, slice_set, nat_lt, nat_le, if◌then◌else◌, Option, None, Some, Result, Ok, Err}
 use Rattle.std.specs.FinMap.{entries, get}
 use Rattle.std.specs.Int.{div_ceil}
 use Rattle.std.specs.List.{list_any}
@@ -8,7 +8,7 @@ use Rattle.tiff_base.specs.declared.error.TiffError.TheVariants.{FormatError, Un
 use Rattle.tiff_base.specs.declared.error.TiffFormatError.TheVariants.{TiffSignatureInvalid, UnknownPlanarConfiguration, ImageFileDirectoryNotFound, RequiredTagNotFound}
 use Rattle.tiff_base.specs.declared.error.TiffUnsupportedError.TheVariants.{UnsupportedDataType}
 use Rattle.tiff_base.specs.declared.error.UsageError.TheVariants.{MismatchedEntryLength}
-use Rattle.tiff_base.specs.declared.io.IoKind.TheVariants.{InvalidInput}
+use Rattle.tiff_base.specs.declared.io.IoKind.TheVariants.{InvalidData, InvalidInput}
 use Rattle.tiff_base.specs.declared.tags.ByteOrder.TheVariants.{LittleEndian}
 use Rattle.tiff_base.specs.declared.tags.ExtraSamples.{ExtraSamples}
 use Rattle.tiff_base.specs.declared.tags.FileKind.{FileKind}
@@ -29,6 +29,9 @@ use Rattle.tiff_base.specs.Number.{number_at}
 use Rattle.tiff_base.specs.Tags.{extra_of, planar_of, tag_number, tag_of, type_of, unit_of}
 use Rattle.tiff_base.specs.Types.{type_size}
 use Rattle.tiff_value.specs.declared.encoder.colortype.ColorTypeName.{ColorTypeName}
+use Rattle.tiff_value.specs.ColorTypes.{color_type}
+use Rattle.tiff_page.specs.Counts.{planes_of}
+use Rattle.tiff_page.specs.Pixels.{tabulate}
 use Rattle.tiff_append.specs.Behind.{RunsAt}
 use Rattle.tiff_ifd.specs.Chain.{Chain, chain}
 use Rattle.tiff_ifd.specs.TagLookup.{ok_or_fault}
@@ -76,6 +79,7 @@ pub data PageStep : Type 0 where
   x_resolution : ℕ × ℕ → PageStep
   y_resolution : ℕ × ℕ → PageStep
   write_tag_buf : Tag → BufferRecord → PageStep
+  write_chunk : List ℕ → PageStep
   other_step : PageStep
 
 abbrev pub step_view : ImageStep → PageStep
@@ -87,15 +91,27 @@ step_view (istep.ResolutionUnit unit) = resolution_unit unit
 step_view (istep.XResolution x) = x_resolution (x.n, x.d)
 step_view (istep.YResolution y) = y_resolution (y.n, y.d)
 step_view (istep.Directory (step.WriteTagBuf tag buffer)) = write_tag_buf tag (buffer_in buffer)
+step_view (istep.WriteChunk samples) = write_chunk samples
 step_view _ = other_step
 
--- an image, the calls before its samples, and its samples, which `write_data` is passed
+-- how an image ends: `write_data` of these samples, `finish` or `discard`
+pub data PageEnd : Type 0 where
+  writes : List ℕ → PageEnd
+  finishes : PageEnd
+  discards : PageEnd
+
+abbrev pub end_view : ImageEnd → PageEnd
+end_view (iend.WriteData samples) = writes samples
+end_view iend.Finish = finishes
+end_view iend.Discard = discards
+
+-- an image, the calls before its end, and its end
 pub record PageImage : Type 0 where
   pub color : ColorTypeName
   pub width : ℕ
   pub height : ℕ
   pub steps : List PageStep
-  pub samples : List ℕ
+  pub end : PageEnd
 
 pub data PageJob : Type 0 where
   sets_predictor : Predictor → PageJob
@@ -103,21 +119,19 @@ pub data PageJob : Type 0 where
   writes_image : PageImage → PageJob
   other_job : PageJob
 
--- an image by how it ends
-abbrev pub image_view : ImageJob → ImageEnd → PageJob
-image_view image (iend.WriteData samples) = writes_image (record {
+abbrev pub image_view : ImageJob → PageJob
+image_view image = writes_image (record {
   color = image.color;
   width = image.width;
   height = image.height;
   steps = map step_view image.steps.items;
-  samples = samples;
+  end = end_view image.end;
 })
-image_view image _ = other_job
 
 abbrev pub job_view : Job → PageJob
 job_view (job.Predictor predictor) = sets_predictor predictor
 job_view (job.Compression compression) = sets_compression compression
-job_view (job.Image image) = image_view image image.end
+job_view (job.Image image) = image_view image
 job_view _ = other_job
 
 -- ---- results
@@ -290,20 +304,67 @@ abbrev pub settings_steps : NewPage → PageNames → List ExtraSamples → List
 settings_steps page names extra =
     extra_steps extra ++ (layout_steps page names.planar ++ resolution_steps page names.unit)
 
+-- how many tiles a page has, in all planes
+abbrev pub tiles_of : NewPage → PageNames → ℕ
+tiles_of page names =
+    div_ceil page.width page.tile_width * div_ceil page.height page.tile_length
+    * planes_of names.planar
+    (length (color_type names.color).bits + length page.extra_samples.now)
+
+-- the samples of a page are those of its tiles, which have so many bytes each
+abbrev pub are_tiles : NewPage → PageNames → Bool
+are_tiles page names =
+    not (page.tile_width == 0) && not (page.tile_length == 0)
+    && length page.samples.now == tiles_of page names * page.tile_bytes
+
+-- bytes in so many pieces of a size
+abbrev pub pieces : ℕ → ℕ → List ℕ → List (List ℕ)
+pieces count size bytes = tabulate count (λ k. take size (drop (k * size) bytes))
+
+-- the call that writes a tile
+abbrev pub tile_step : ColorTypeName → List ℕ → Result PageStep TiffError
+tile_step color bytes = do
+  samples ← samples_from_bytes color bytes
+  Ok (write_chunk samples)
+
+-- calls, and how the image ends: by `write_data` of all samples
+abbrev pub with_rows : ColorTypeName → List ℕ → List PageStep
+    → Result (List PageStep × PageEnd) TiffError
+with_rows color bytes steps = do
+  samples ← samples_from_bytes color bytes
+  Ok (steps, writes samples)
+
+-- calls, behind them those that write tiles, and how the image ends: by `finish`
+abbrev pub with_tiles : ColorTypeName → List (List ℕ) → List PageStep
+    → Result (List PageStep × PageEnd) TiffError
+with_tiles color parts steps = do
+  all ← appended steps (each (tile_step color) parts)
+  Ok (all, finishes)
+
+-- the calls with those that write the samples of a page, and how its image ends
+abbrev pub with_samples : NewPage → PageNames → List PageStep
+    → Result (List PageStep × PageEnd) TiffError
+with_samples page names steps =
+    if page.tile_bytes == 0 then with_rows names.color page.samples.now steps
+    else if are_tiles page names
+    then with_tiles names.color
+    (pieces (tiles_of page names) page.tile_bytes page.samples.now) steps
+    else Err (IoError InvalidData)
+
 -- the image of a page with so many children, or the first of its lists that is refused
 abbrev pub page_image : FileKind → ℕ → NewPage → PageNames → Result PageJob Refusal
 page_image kind children page names = do
   extra ← in_field field.ExtraSamples (each extra_named page.extra_samples.now)
   own ← in_field field.Tags
       (appended (settings_steps page names extra) (each tag_step page.tags.now))
-  steps ← in_field field.Tags (with_links kind children page.tags.now own)
-  samples ← in_field field.Samples (samples_from_bytes names.color page.samples.now)
+  linked ← in_field field.Tags (with_links kind children page.tags.now own)
+  given ← in_field field.Samples (with_samples page names linked)
   Ok (writes_image (record {
     color = names.color;
     width = page.width;
     height = page.height;
-    steps = steps;
-    samples = samples;
+    steps = given.0;
+    end = given.1;
   }))
 
 -- the predictor, the compression and the image of a page
@@ -421,6 +482,7 @@ step_field (resolution_unit unit) = field.Resolution
 step_field (x_resolution x) = field.Resolution
 step_field (y_resolution y) = field.Resolution
 step_field (write_tag_buf tag buffer) = field.Tags
+step_field (write_chunk samples) = field.Samples
 step_field other_step = field.Whole
 
 -- the field of a step, if there is one

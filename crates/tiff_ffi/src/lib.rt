@@ -17,6 +17,7 @@ ghost use Rattle.tiff_ffi.specs.Entries.{list_tags};
 ghost use Rattle.tiff_ffi.specs.Jobs.{JobsTell};
 ghost use Rattle.tiff_ffi.specs.List.{ListTells};
 ghost use Rattle.tiff_ffi.specs.Pages.{PagesTell};
+ghost use Rattle.tiff_ffi.specs.PagesFrame.{PagesFrameTells};
 ghost use Rattle.tiff_ffi.specs.Plan as plans;
 ghost use Rattle.tiff_ffi.specs.Plan.{ReadsPage};
 ghost use Rattle.tiff_ffi.specs.Rewrite as rewriting;
@@ -28,6 +29,7 @@ ghost use Rattle.tiff_ffi.specs.Writer as writer;
 ghost use Rattle.tiff_ffi.specs.Writer.{IsShown};
 
 pub use crate::frame::FrameLengths;
+pub use crate::pages_around::PagesLengths;
 use std::alloc::Global;
 pub use tiff_script::VERSION;
 
@@ -37,10 +39,13 @@ mod children;
 pub mod directories;
 pub mod entries;
 mod frame;
+mod image_samples;
 pub mod in_windows;
 pub mod jobs;
 pub mod list;
 pub mod pages;
+mod pages_around;
+mod pages_sink;
 pub mod parents;
 pub mod plan;
 mod range;
@@ -61,6 +66,7 @@ pub use crate::in_windows::{
 use crate::jobs::{JobsEnd, put_jobs, run_version};
 use crate::list::{ListedPage, list_into};
 use crate::pages::{NewPage, PagesEnd, run_pages, tell_pages};
+use crate::pages_around::{frame_pages, tell_framed};
 use crate::plan::PlannedPage;
 use crate::rewrite::PlacedChunk;
 use crate::status::{put_value, unit_status};
@@ -544,11 +550,13 @@ pub fn write_jobs(
 /// unit of the resolutions, `IoError(InvalidInput)`; an extra sample, `IoError(InvalidInput)`; a tag,
 /// `UnsupportedDataType` for its type and `MismatchedEntryLength` for bytes that are not as many
 /// values as it says, and `IoError(InvalidInput)` for SubIFDs of a page that is a parent; samples
-/// with a part of one left over, `MismatchedEntryLength`; a parent that is no earlier page,
+/// that aren't as many tiles as the page has, if they are given by tiles, `IoError(InvalidData)`;
+/// samples with a part of one left over, `MismatchedEntryLength`; a parent that is no earlier page,
 /// `IoError(InvalidInput)`. An error leaves `buffer` as it was, and `len` too, unless only the buffer
-/// is too short. The call allocates the file, the bytes of the tags, and the samples of one page at a
-/// time if they have more than one byte or a sign. Where a page has a parent, the call allocates the
-/// offsets of the pages too, and the fields of a parent's directory at a time.
+/// is too short. The call allocates the file and the bytes of the tags; and where a page has tiles,
+/// planes, a method or a predictor, its samples, one such page at a time, or one tile, if they have
+/// more than one byte or a sign. Where a page has a parent, the call allocates the offsets of the
+/// pages too, and the fields of a parent's directory at a time.
 #[tactic(auto, using(crate::proofs::Delivered::told_pages, crate::proofs::Delivered::kept_pages))]
 pub fn write_pages(
     alloc: Global,
@@ -565,6 +573,35 @@ pub fn write_pages(
     tell_pages(run_pages(alloc, version, pages), buffer, len, end)
 }
 
+/// As `write_pages`, but puts into `buffer` only the bytes of the file that aren't the samples of
+/// the first `frame.framed` pages, one behind the other, and how many these bytes are into
+/// `frame.around`. The file has, for each of these pages, as many bytes of `buffer` as `fronts` says,
+/// behind those of the page before, and then the samples of the page; and at its end the bytes of
+/// `buffer` that are left. A page that is compressed, or has differences, or has tiles or planes
+/// and isn't given by its tiles, or has more samples than its image, isn't one of these pages, nor is
+/// any page behind it; nor is one where `fronts` has no place for it. If a page has a parent, or memory is short, `frame.framed` is 0. The
+/// errors are those of `write_pages`; an error leaves `buffer` and `fronts` as they were, and `frame`
+/// too, unless only the buffer is too short. The call allocates what it puts into `buffer`, and what
+/// `write_pages` allocates besides its file.
+#[tactic(auto, using(crate::proofs::FramedPages::told_frame, crate::proofs::FramedPages::kept_frame))]
+pub fn pages_frame(
+    alloc: Global,
+    version: u16,
+    pages: &[NewPage<'_>],
+    buffer: &mut [u8],
+    fronts: &mut [usize],
+    frame: &mut PagesLengths,
+    end: &mut PagesEnd,
+) -> u32
+    ensures answer { PagesFrameTells version pages.now result
+        (record { buffer = buffer.old; fronts = fronts.old; lengths = frame.old })
+        (record { buffer = buffer.new; fronts = fronts.new; lengths = frame.new }) end.new }
+    ensures stays { (result ≡ 0) ⊎ (buffer.new ≡ buffer.old) }
+{
+    let answer = frame_pages(alloc, version, pages, fronts.len());
+    tell_framed(answer, buffer, fronts, frame, end)
+}
+
 /// Writes these pages behind a little-endian TIFF file, classic or BigTIFF: puts the bytes to append
 /// to the file into `buffer`, and what they are, and the last link of the file's chain of
 /// directories, into `appended`. The caller's file has the pages once it has these bytes at its end,
@@ -575,8 +612,8 @@ pub fn write_pages(
 /// short, `InsufficientOutputBufferSize`. An error leaves `buffer` as it was. For a buffer that is
 /// too short, `appended` is as without an error; after another error it has 0 everywhere, but for
 /// where the list of pages is refused. The call neither copies nor changes the file. It allocates
-/// the bytes to append, 8 bytes for the link, the bytes of the tags, the offsets of the file's
-/// directories, and the samples of one page at a time if they have more than one byte or a sign.
+/// the bytes to append, 8 bytes for the link, the offsets of the file's directories, and what
+/// `write_pages` allocates besides its file.
 #[tactic(auto, using(crate::proofs::ToldBehind::told_appended, crate::proofs::ToldBehind::kept_appended))]
 pub fn append_pages(
     alloc: Global,

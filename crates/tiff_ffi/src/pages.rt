@@ -9,6 +9,7 @@ ghost use Rattle.tiff_ffi.specs.Writer as writer;
 
 use crate::children::{add_links, count_page, counts_of, no_counts};
 use crate::frame::NewFile;
+use crate::image_samples::add_samples;
 use crate::jobs::run;
 use crate::parents::{Links, go_on};
 use crate::status::fault_number;
@@ -20,13 +21,10 @@ use tiff_base::io::IoKind;
 use tiff_base::tags::{
     ByteOrder, ExtraSamples, FileKind, PlanarConfiguration, Predictor, ResolutionUnit, Tag, Type,
 };
-use tiff_encode::encoder::script::{
-    DirectoryStep, ImageEnd, ImageJob, ImageStep, Job, JobBuffer, JobSamples,
-};
+use tiff_encode::encoder::script::{DirectoryStep, ImageJob, ImageStep, Job, JobBuffer};
 use tiff_encode::encoder::{Compression, TiffKind, TiffKindBig, TiffKindStandard};
-use tiff_value::encoder::color_visitor::{ColorVisitor, by_name};
-use tiff_value::encoder::colortype::{ColorTypeName, NamedColorType};
-use tiff_value::encoder::tiff_value::{Rational, TiffValue};
+use tiff_value::encoder::colortype::ColorTypeName;
+use tiff_value::encoder::tiff_value::Rational;
 
 /// A tag for a page: its number, the number of the type of its values, how many there are, and
 /// their bytes, of each number the lowest byte first.
@@ -52,8 +50,10 @@ pub struct Fraction {
 /// and the length of a tile, or 0 and 0; the values of the tags Compression, Predictor and
 /// PlanarConfiguration; the unit of the resolutions, or 0 for none, and both resolutions; the values
 /// of the tag ExtraSamples; the tags of the caller's own; the samples, of each the lowest byte
-/// first, row by row, the samples of a pixel side by side; and 0 for a page in the chain of
-/// directories, or the number, from 1, of the earlier page whose tag SubIFDs lists the page.
+/// first, row by row, the samples of a pixel side by side; 0 for a page in the chain of directories,
+/// or the number, from 1, of the earlier page whose tag SubIFDs lists the page; and 0, or how many
+/// bytes a tile has, if the samples are those of the tiles, one tile after another as in the file,
+/// each with its padding.
 #[derive(Clone, Copy)]
 #[repr(C)]
 pub struct NewPage<'a> {
@@ -73,6 +73,7 @@ pub struct NewPage<'a> {
     pub tags: &'a [NewTag<'a>],
     pub samples: &'a [u8],
     pub parent: usize,
+    pub tile_bytes: usize,
 }
 
 /// The field of a page that is refused. The numbers are those of `tiff_page_field` in
@@ -366,33 +367,6 @@ fn settings_of<'a>(
     Ok(steps)
 }
 
-// ---- samples
-
-// Gives the type of the samples of a color type.
-struct SampleType;
-
-impl ColorVisitor<(), (), Type> for SampleType {
-    ghost use Rattle.std.specs.Prelude.{◌≡◌};
-    ghost use Rattle.tiff_value.specs.ColorTypes.{inner_type};
-
-    ghost takes = { λ _ _ _. Unit };
-
-    ghost visits = { λ name _ _ answer _. answer ≡ inner_type name };
-
-    fn visit<C: NamedColorType>(_none: &mut (), _input: ()) -> Type {
-        let (ty, _len) = C::Inner::type_and_len();
-        ty
-    }
-}
-
-// The samples that bytes are, which are lent.
-fn samples_of<'a>(color: ColorTypeName, bytes: &'a [u8]) -> TiffResult<JobSamples<'a>>
-    ensures { result ≡ writer.samples_from_bytes color bytes.now }
-{
-    let ty = by_name::<(), (), Type, SampleType>(color, &mut (), ());
-    JobSamples::from_bytes(ty, bytes)
-}
-
 // ---- jobs
 
 // The image of a page that has so many children.
@@ -403,7 +377,7 @@ fn image_of<'a>(
     page: &NewPage<'a>,
     names: &PageNames,
 ) -> Result<ImageJob<'a>, Refusal>
-    ensures { Makes IsOutAt (λ image. spec.image_view image image.end) result
+    ensures { Makes IsOutAt (λ image. spec.image_view image) result
         (spec.page_image kind children page.now names.now) }
 {
     let extra = in_field(
@@ -416,20 +390,20 @@ fn image_of<'a>(
         PageField::Tags,
         add_links(alloc, kind, children, page.tags, &mut steps),
     )?;
-    let samples = in_field(PageField::Samples, samples_of(names.color, page.samples))?;
+    let end = in_field(PageField::Samples, add_samples(page, names, &mut steps))?;
     Ok(ImageJob {
         color: names.color,
         width: page.width,
         height: page.height,
         steps,
-        end: ImageEnd::WriteData(samples),
+        end,
     })
 }
 
 // Puts the settings and the image of a page behind the other jobs.
 fn add_jobs<'a>(names: &PageNames, image: ImageJob<'a>, jobs: &mut Vec<Job<'a>>) -> TiffResult<()>
     ensures { MatchResult result (λ _. map job_view jobs.new.items ≡ map job_view jobs.old.items
-        ++ spec.jobs_named names.now (spec.image_view image.entry image.entry.end)) IsOut }
+        ++ spec.jobs_named names.now (spec.image_view image.entry)) IsOut }
 {
     jobs.push(Job::Predictor(names.predictor))?;
     jobs.push(Job::Compression(names.compression))?;
@@ -597,6 +571,7 @@ fn step_field(step: &ImageStep<'_>) -> PageField
             PageField::Resolution
         }
         ImageStep::Directory(DirectoryStep::WriteTagBuf(_, _)) => PageField::Tags,
+        ImageStep::WriteChunk(_) => PageField::Samples,
         _ => PageField::Whole,
     }
 }
@@ -663,7 +638,11 @@ fn run_new<K: TiffKind>(alloc: Global, jobs: &PagesJobs<'_>) -> TiffResult<Writt
 }
 
 // Runs the jobs of pages in a new file of a kind.
-fn run_in(alloc: Global, kind: FileKind, jobs: &PagesJobs<'_>) -> TiffResult<WrittenPages>
+pub(crate) fn run_in(
+    alloc: Global,
+    kind: FileKind,
+    jobs: &PagesJobs<'_>,
+) -> TiffResult<WrittenPages>
     ensures { spec.EndsPages (spec.RanPages kind jobs.now) result }
 {
     match kind {

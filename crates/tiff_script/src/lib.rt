@@ -13,4 +13,4 @@ mod words;
 
 /// The version of the calls for C, which is `MANGOHATCH_TIFF_VERSION` of their header. It is raised
 /// when a call or a word of a list of jobs changes or is added.
-pub const VERSION: u32 = 8;
+pub const VERSION: u32 = 9;
