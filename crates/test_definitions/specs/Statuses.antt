@@ -1,3 +1,4 @@
 -- Worked examples of the definitions of `tiff_ffi`.
 pub mod InWindows
 pub mod Parents
+pub mod Tiles

@@ -5,6 +5,7 @@
 mod altered;
 mod appended;
 mod file;
+mod framed;
 mod jobs;
 mod page;
 mod pages;
@@ -15,6 +16,7 @@ mod written;
 use altered::{print_claim, print_cut, print_refused, print_retyped};
 use appended::print_all_appended;
 use file::{print_file, print_list, print_text, print_tree};
+use framed::print_all_frames;
 use jobs::print_all_jobs;
 use page::{
     print_by_plans, print_chunks, print_parts, print_pixels, print_plan, print_ranges_by_plans,
@@ -83,6 +85,7 @@ pub fn print_calls(rt: &HostRuntime) -> io::Result<()> {
     print_files(rt, file)?;
     print_all_jobs(rt)?;
     print_all_pages(rt)?;
+    print_all_frames(rt)?;
     print_all_appended(rt)?;
     println!(rt; "version: {}", tiff_ffi::version())?;
     print_text(rt, 0)?;

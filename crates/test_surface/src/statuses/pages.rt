@@ -31,9 +31,11 @@ pub const GRAY: NewPage<'static> = NewPage {
     tags: &[],
     samples: &[1, 2],
     parent: 0,
+    tile_bytes: 0,
 };
 
-const WORDS: NewTag<'static> = NewTag {
+/// A tag of six characters.
+pub const WORDS: NewTag<'static> = NewTag {
     number: DESCRIPTION,
     value_type: 2,
     count: 6,
