@@ -1,7 +1,8 @@
 """Pages as the library writes them, with their tags. It needs numpy.
 
-`_write_pages` is the one place that writes arrays: by tiff_image_frame where that is enough, since
-it doesn't copy the samples, and by tiff_write_pages for everything else.
+`_write_pages` is the one place that writes arrays: by tiff_image_frame where that is enough, which
+doesn't look at the samples; by tiff_pages_frame where the samples are in the file as they are, or
+tile by tile, which doesn't copy them; and by tiff_write_pages for everything else.
 """
 from __future__ import annotations
 
@@ -20,10 +21,12 @@ from ._library import (
     Image,
     PagesEnd,
     PagesError,
+    PagesFrame,
     PageToWrite,
     Status,
     TagToWrite,
 )
+from ._parts import each, threads
 
 if TYPE_CHECKING:
     from collections.abc import Iterator
@@ -56,6 +59,8 @@ AROUND_SAMPLES = 4096
 PLACE = 16
 # A call writes so many bytes of short pages: the heap keeps memory of this size for the next call.
 BATCH = 1 << 24
+# From so many bytes of samples a page on, to write them apart takes less time than to copy them.
+APART = 1 << 16
 
 
 @dataclass(frozen=True)
@@ -94,7 +99,8 @@ class NewPage:
     The samples have rows, columns and the samples of a pixel; of packed pixels, rows, the bytes of
     a row and 1, and `columns` is how many pixels a row has. The resolution is the unit, and two
     fractions along a row and along a column. A SubIFD has the number of its page, which comes
-    before it in the list, as `parent`; pages are numbered from 1.
+    before it in the list, as `parent`; pages are numbered from 1. `tiles` are the samples of each
+    tile, one tile after another, if these are written in place of `samples`.
     """
 
     color: tuple[str, str]
@@ -104,6 +110,7 @@ class NewPage:
     resolution: tuple[int, tuple[int, int], tuple[int, int]] | None = None
     columns: int | None = None
     parent: int = 0
+    tiles: NDArray[Any] | None = None
 
     @property
     def sides(self) -> tuple[int, int]:
@@ -126,6 +133,52 @@ class NewPage:
     def is_kept(self) -> bool:
         """Whether the bytes of the samples are in the file as they are, if the page is plain."""
         return self.layout.method == 1 and self.layout.predictor == 1
+
+    @property
+    def is_framed(self) -> bool:
+        """Whether the bytes of the samples are in the file as they are, one behind the other, if the
+        samples of tiles are put tile by tile."""
+        apart = self.layout.planar or self.parent
+        return self.is_kept and not apart
+
+    def tiled(self) -> NewPage:
+        """Returns the page with the samples of its tiles, if it has tiles."""
+        tile = self.layout.tile
+        return replace(self, tiles=by_tiles(self.samples, tile)) if tile else self
+
+    @property
+    def given(self) -> NDArray[Any]:
+        """The samples in the order in which they are written."""
+        return self.samples if self.tiles is None else self.tiles
+
+
+def by_tiles(samples: NDArray[Any], tile: tuple[int, int]) -> NDArray[Any]:
+    """Returns the samples of an image tile by tile, with zeros beyond its edges."""
+    (height, width, count), (length, breadth) = samples.shape, tile
+    across, whole = -(-width // breadth), width // breadth
+    inside = whole * breadth
+    tiles = numpy.empty((-(-height // length), across, length, breadth, count), samples.dtype)
+
+    def put(down: int) -> None:
+        row, band = tiles[down], samples[down * length : (down + 1) * length]
+        rows = len(band)
+        row[:whole, :rows] = band[:, :inside].reshape(rows, whole, breadth, count).swapaxes(0, 1)
+        if inside < width:
+            row[whole, :rows, : width - inside] = band[:, inside:]
+            row[whole, :rows, width - inside :] = 0
+        row[:, rows:] = 0
+
+    each(put, list(range(len(tiles))), threads(None))
+    return tiles
+
+
+def around_of(page: NewPage) -> int:
+    """Returns how many bytes most pages have in a file besides their samples."""
+    height, rows = page.samples.shape[0], page.layout.rowsperstrip
+    # A strip that the library chooses has a million bytes at least, or is the last.
+    strips = -(-height // rows) if rows else 1 + page.samples.nbytes // 1_000_000
+    chunks = strips if page.tiles is None else page.tiles.shape[0] * page.tiles.shape[1]
+    return PLACE * chunks + AROUND_SAMPLES + sum(len(tag.data) for tag in page.tags)
 
 
 def capacity_of(page: NewPage) -> int:
@@ -154,6 +207,7 @@ def page_to_write(page: NewPage) -> PageToWrite:
     """Returns a page as the library takes it; its samples stay in the array of the page."""
     layout, (height, width) = page.layout, page.sides
     tile_length, tile_width = layout.tile or (0, 0)
+    tiles = page.tiles
     unit, across, down = page.resolution or NO_RESOLUTION
     return PageToWrite(
         color=COLORS[page.color],
@@ -172,9 +226,10 @@ def page_to_write(page: NewPage) -> PageToWrite:
         extra_samples_len=len(layout.extra),
         tags=(TagToWrite * len(page.tags))(*map(tag_to_write, page.tags)),
         tags_len=len(page.tags),
-        samples=page.samples.ctypes.data,
-        samples_len=page.samples.nbytes,
+        samples=page.given.ctypes.data,
+        samples_len=page.given.nbytes,
         parent=page.parent,
+        tile_bytes=0 if tiles is None else tiles[0, 0].nbytes,
     )
 
 
@@ -274,6 +329,23 @@ def write_pages_into(size: int, pages: list[NewPage], version: int) -> Written:
     return Written(Status.DONE, [file[:length].data], length, PagesEnd())
 
 
+def write_around(size: int, pages: list[NewPage], version: int) -> Written:
+    """Writes a file of pages around their samples, and puts what isn't samples into a new buffer."""
+    given, fronts = (PageToWrite * len(pages))(*map(page_to_write, pages)), (c_size_t * len(pages))()
+    around, frame, end = numpy.empty(size, numpy.uint8), PagesFrame(), PagesEnd()
+    place = around.ctypes.data
+    status = _library.PAGES_FRAME(
+        version, given, len(pages), place, size, fronts, len(pages), byref(frame), byref(end)
+    )
+    parts, at = [], 0
+    if status == Status.DONE:
+        for front, page in zip(fronts[: frame.framed], pages):
+            parts += [around[at : at + front].data, page.given.reshape(-1).view(numpy.uint8).data]
+            at += front
+        parts.append(around[at : frame.around].data)
+    return Written(status, parts, frame.around, end)
+
+
 def _write_pages(pages: list[NewPage], big: bool) -> list[memoryview]:
     """Returns the bytes of a file of pages, in parts. One that is longer than the first buffer is
     written again.
@@ -281,13 +353,21 @@ def _write_pages(pages: list[NewPage], big: bool) -> list[memoryview]:
     A page that is refused raises `PagesError`.
     """
     version, single = BIG if big else CLASSIC, len(pages) == 1 and pages[0].is_plain
+    long = sum(page.samples.nbytes for page in pages) >= APART * len(pages)
+    framed = long and not single and all(page.is_framed for page in pages)
+    if framed:
+        pages = [page.tiled() for page in pages]
 
     def write(size: int) -> Written:
         if single:
             return write_image_into(size, pages[0], version)
-        return write_pages_into(size, pages, version)
+        return (write_around if framed else write_pages_into)(size, pages, version)
 
-    made = write(AROUND_SAMPLES if single and pages[0].is_kept else sum(map(capacity_of, pages)))
+    if single and pages[0].is_kept:
+        size = AROUND_SAMPLES
+    else:
+        size = sum(map(around_of if framed else capacity_of, pages))
+    made = write(size)
     while made.status == Status.INSUFFICIENT_OUTPUT_BUFFER_SIZE:
         made = write(made.length)
     if made.status:

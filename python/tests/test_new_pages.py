@@ -114,6 +114,55 @@ def test_a_buffer_that_is_too_short(monkeypatch: pytest.MonkeyPatch) -> None:
         assert_same(list(PAGES.values()), big)
 
 
+FRAMED = [page for page in PAGES.values() if page.is_framed]
+
+
+@pytest.mark.parametrize("big", [False, True])
+def test_pages_around_their_samples(big: bool, monkeypatch: pytest.MonkeyPatch) -> None:
+    """The file around the samples of pages is that of jobs too, and no page's samples are copied."""
+    monkeypatch.setattr(_new_pages, "APART", 0)
+    for pages in (FRAMED, *([page] for page in FRAMED), [*FRAMED, *FRAMED]):
+        assert_same(pages, big)
+        parts = _new_pages._write_pages(pages, big)
+        assert len(parts) == 2 * len(pages) + 1
+        apart = sum(map(len, parts[1::2]))
+        assert apart == sum(page.tiled().given.nbytes for page in pages)
+
+
+@pytest.mark.parametrize("count", [1, 1000, 1961, 6000])
+def test_bytes_that_are_as_the_samples(count: int, monkeypatch: pytest.MonkeyPatch) -> None:
+    """Where bytes in front of the samples are as the samples, the file is that of jobs too."""
+    monkeypatch.setattr(_new_pages, "APART", 0)
+    black = replace(page_of("u1"), samples=numpy.zeros((37, 53, 1), "u1"))
+    page = replace(black, tags=(NewTag(65000, 1, 9, bytes(9)), NewTag(65001, 1, count, bytes(count))))
+    for pages in ([page], [page, page], [black, page, black]):
+        assert_same(pages, False)
+        assert_same(pages, True)
+
+
+@pytest.mark.parametrize("shape", [(32, 48, 1), (33, 48, 3), (32, 47, 4), (5, 7, 2), (100, 16, 1)])
+def test_samples_by_tiles(shape: tuple[int, int, int]) -> None:
+    """Each tile has its part of the image, and zeros where that ends."""
+    image = samples(shape, "u2")
+    tiles = _new_pages.by_tiles(image, (32, 16))
+    rows, columns = -(-shape[0] // 32), -(-shape[1] // 16)
+    assert tiles.shape == (rows, columns, 32, 16, shape[2])
+    whole = numpy.zeros((rows * 32, columns * 16, shape[2]), "u2")
+    whole[: shape[0], : shape[1]] = image
+    for row in range(rows):
+        for column in range(columns):
+            part = whole[row * 32 : row * 32 + 32, column * 16 : column * 16 + 16]
+            numpy.testing.assert_array_equal(tiles[row, column], part)
+
+
+def test_a_frame_that_is_too_long(monkeypatch: pytest.MonkeyPatch) -> None:
+    """A frame that is longer than its first buffer is written again."""
+    monkeypatch.setattr(_new_pages, "APART", 0)
+    monkeypatch.setattr(_new_pages, "around_of", lambda page: 10)
+    for big in (False, True):
+        assert_same(FRAMED, big)
+
+
 def test_many_pages() -> None:
     stack = samples((1000, 5, 7), "u2")
     stack[:, 0, 0] = numpy.arange(1000)
